@@ -1,0 +1,9 @@
+pub mod Cases
+pub mod Digits
+pub mod Marks
+pub mod Doubles
+pub mod Suffixes
+pub mod Grammars
+pub mod Values
+pub mod Meanings
+pub mod Examples

@@ -1,0 +1,60 @@
+ghost use Rattle.std.specs.Prelude.{◌≡◌, ◌<◌, length, MatchOption};
+ghost use Rattle.oim_cells.specs.Blanks.{is_blank as is_blank_byte, without_front, without_back, trimmed};
+
+/// Whether the byte is a space, a tab, a carriage return or a line feed.
+fn is_blank(byte: u8) -> bool
+    ensures { result ≡ is_blank_byte byte }
+{
+    matches!(byte, b' ' | b'\t' | b'\r' | b'\n')
+}
+
+/// What follows a blank that begins the text.
+fn after_blank(text: &str) -> Option<&str>
+    ensures { MatchOption result (without_front text.now ≡ text.now)
+        (λ r. (without_front text.now ≡ without_front r.now) × (length r.now < length text.now)) }
+{
+    match text.as_bytes() {
+        [first, ..] if is_blank(*first) => Some(&text[1..]),
+        _ => None,
+    }
+}
+
+/// What stands before a blank that ends the text.
+fn before_blank(text: &str) -> Option<&str>
+    ensures { MatchOption result (without_back text.now ≡ text.now)
+        (λ r. (without_back text.now ≡ without_back r.now) × (length r.now < length text.now)) }
+{
+    match text.as_bytes() {
+        [.., last] if is_blank(*last) => Some(&text[..text.len() - 1]),
+        _ => None,
+    }
+}
+
+/// The text without blanks in front.
+fn trim_front(text: &str) -> &str
+    ensures { result.now ≡ without_front text.now }
+{
+    let mut trimmed = text;
+    while let Some(rest) = after_blank(trimmed) {
+        trimmed = rest;
+    }
+    trimmed
+}
+
+/// The text without blanks behind.
+fn trim_back(text: &str) -> &str
+    ensures { result.now ≡ without_back text.now }
+{
+    let mut trimmed = text;
+    while let Some(rest) = before_blank(trimmed) {
+        trimmed = rest;
+    }
+    trimmed
+}
+
+/// The text without blanks at its ends.
+pub fn trim(text: &str) -> &str
+    ensures { result.now ≡ trimmed text.now }
+{
+    trim_back(trim_front(text))
+}

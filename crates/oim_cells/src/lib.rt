@@ -1,0 +1,21 @@
+//! What the text of a cell, of a parameter or of a literal means, as xBRL-CSV 1.0 and the Open Information Model 1.0 have it.
+//!
+//! The crate promises, and proves:
+//!
+//! - [`meaning`] tells the special values (`#none`, `#nil`, `#empty`, a doubled `#`) from plain text, each text in exactly one way.
+//! - [`split_numeral`] finds the numeral of a text and the decimals behind it, as in `1250.5d-2`, exactly where there is one.
+//!   No text is split in two ways.
+//! - [`decimals`] reads `INF` or a number of places, exactly where the text is one.
+//!
+//! No call takes memory, and none fails: a text that is no numeral gives `None`.
+#![tactic(auto)]
+
+mod blanks;
+mod cells;
+mod numeral;
+
+pub use cells::{Accuracy, CellMeaning, NumberKind, meaning};
+pub use numeral::{decimals, split_numeral};
+
+#[cfg(test)]
+mod tests;

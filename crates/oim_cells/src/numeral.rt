@@ -1,0 +1,142 @@
+ghost use Rattle.std.specs.Prelude.{◌≡◌, ◌↔◌, ◌+◌, ◌<◌, IsTrue, Some, length, List, ℕ, Option, IfSome, IsSomeAnd};
+ghost use Rattle.std.specs.Str.Parse.{without_leading_sign};
+ghost use Rattle.std.specs.List.{All};
+ghost use Rattle.std.specs.Int.{IsInRange};
+ghost use Rattle.std.specs.Option.{option_map};
+ghost use Rattle.oim_cells.specs.declared.cells.Accuracy.{Accuracy as Decimals};
+ghost use Rattle.oim_cells.specs.Blanks.{trimmed};
+ghost use Rattle.oim_cells.specs.Cells.{accuracy_of, numeral_of, seen_numeral};
+ghost use Rattle.oim_cells.specs.Numeral.{IsDecimals, IsInteger, IsDecimal, IsDouble, IsNumeralOf, IsSplit, IsSplitOnce};
+
+use crate::blanks;
+use crate::cells::{Accuracy, NumberKind};
+
+/// How exact a number is that states these decimals (Open Information Model 1.0, decimals).
+///
+/// `INF` is `Infinite`. An optional `+` or `-` and one or more digits, with a value from -2147483648 to 2147483647, are that
+/// number of `Places`; leading zeros do not count. All other texts give `None`. It takes no memory.
+pub fn decimals(text: &str) -> Option<Accuracy>
+    ensures means { (a : Decimals) → (result ≡ Some a) ↔ IsDecimals text.now a }
+    ensures value { result ≡ accuracy_of text.now }
+{
+    match text {
+        "INF" => Some(Accuracy::Infinite),
+        _ => match text.parse::<i32>() {
+            Ok(places) => Some(Accuracy::Places(places)),
+            Err(_) => None,
+        },
+    }
+}
+
+/// The text without a `+` or `-` in front.
+fn without_sign(text: &str) -> &str
+    ensures { result.now ≡ without_leading_sign text.now }
+{
+    if let Some(rest) = text.strip_prefix('-') {
+        return rest;
+    }
+    match text.strip_prefix('+') {
+        Some(rest) => rest,
+        None => text,
+    }
+}
+
+/// Whether all characters are digits.
+fn are_digits(text: &str) -> bool
+    ensures { IsTrue result ↔ All (IsInRange 48 57) text.now }
+{
+    text.as_bytes().iter().all(|byte| byte.is_ascii_digit())
+}
+
+/// Whether the text is an optional sign and one or more digits.
+fn is_integer(text: &str) -> bool
+    ensures { IsTrue result ↔ IsInteger text.now }
+{
+    let digits = without_sign(text);
+    !digits.is_empty() && are_digits(digits)
+}
+
+/// Whether the text is an optional sign and digits with at most one point, at least one digit in all.
+fn is_decimal(text: &str) -> bool
+    ensures { IsTrue result ↔ IsDecimal text.now }
+{
+    let digits = without_sign(text);
+    match digits.split_once('.') {
+        Some((before, after)) => is_pointed(before, after),
+        None => !digits.is_empty() && are_digits(digits),
+    }
+}
+
+/// Whether what stands before a point and what stands behind it are digits, at least one in all.
+fn is_pointed(before: &str, after: &str) -> bool
+    ensures { IsTrue result ↔ ((0 < length before.now + length after.now)
+        × All (IsInRange 48 57) before.now × All (IsInRange 48 57) after.now) }
+{
+    !(before.is_empty() && after.is_empty()) && are_digits(before) && are_digits(after)
+}
+
+/// Whether the text is a decimal, with a power of ten or without.
+fn is_double(text: &str) -> bool
+    ensures { IsTrue result ↔ IsDouble text.now }
+{
+    if let Some((front, back)) = text.split_once('e') {
+        return has_power(front, back);
+    }
+    match text.split_once('E') {
+        Some((front, back)) => has_power(front, back),
+        None => is_decimal(text),
+    }
+}
+
+/// Whether a decimal stands before the mark of a power, and an integer behind it.
+fn has_power(front: &str, back: &str) -> bool
+    ensures { IsTrue result ↔ (IsDecimal front.now × IsInteger back.now) }
+{
+    is_decimal(front) && is_integer(back)
+}
+
+/// Whether the text is a numeral of the kind.
+fn is_numeral(kind: NumberKind, text: &str) -> bool
+    ensures { IsTrue result ↔ IsNumeralOf kind text.now }
+{
+    match kind {
+        NumberKind::Integer => is_integer(text),
+        NumberKind::Decimal => is_decimal(text),
+        NumberKind::Double => is_double(text),
+    }
+}
+
+/// A text without outer blanks as a numeral and the decimals after it.
+fn split(kind: NumberKind, text: &str) -> Option<(&str, Option<Accuracy>)>
+    ensures numeral { IfSome result (λ r. IsSplit kind text.now r.0.now r.1) }
+    ensures only { (v : List ℕ) (a : Option Decimals) → IsSplit kind text.now v a
+        → IsSomeAnd result (λ r. (r.0.now ≡ v) × (r.1 ≡ a)) }
+{
+    let Some((numeral, suffix)) = text.split_once('d') else {
+        return if is_numeral(kind, text) {
+            Some((text, None))
+        } else {
+            None
+        };
+    };
+    if !is_numeral(kind, numeral) {
+        return None;
+    }
+    let accuracy = decimals(suffix)?;
+    Some((numeral, Some(accuracy)))
+}
+
+/// The numeral of this kind that a text writes, and how exact the text says that it is (xBRL-CSV 1.0, decimals suffix).
+///
+/// Spaces, tabs, carriage returns and line feeds at both ends are passed over. If the rest is a numeral, the letter `d` and a
+/// text of decimals, as in `1250.5d-2`, the answer is the numeral and what [`decimals`] says of the text behind the `d`.
+/// Else, if the rest is a numeral, the answer is the rest and no accuracy. Else it is `None`. There is never more than one
+/// way to split a text. It takes no memory, and the numeral is a part of `text`.
+pub fn split_numeral(kind: NumberKind, text: &str) -> Option<(&str, Option<Accuracy>)>
+    ensures means { (v : List ℕ) (a : Option Decimals)
+        → (option_map seen_numeral result ≡ Some (v, a)) ↔ IsSplit kind (trimmed text.now) v a }
+    ensures only { IsSplitOnce kind (trimmed text.now) }
+    ensures value { option_map seen_numeral result ≡ numeral_of kind text.now }
+{
+    split(kind, blanks::trim(text))
+}

@@ -1,0 +1,12 @@
+use Rattle.std.proofs.Common.{◌≡◌, ◌≢◌, ◌∙◌, sym, subst, rules, length}
+use Rattle.std.specs.Prelude.{Ok, Err}
+use Rattle.oim_convert.specs.Serial.{HasBegun}
+use Rattle.oim_convert.specs.declared.fault.ConvertFault.TheVariants as fault
+use Rattle.oim_convert.proofs.serial.convert_serial.Goals as goal
+
+pub returns-clause-readers : goal.returns-clause-readers
+returns-clause-readers g c =
+    let same : length c.args.readers.items ≡ length c.args.report.now.tables = search rules in (
+      λ wrong equal. subst HasBegun wrong c.write_document.ensures.begun,
+      λ differ. absurd (differ same),
+    )

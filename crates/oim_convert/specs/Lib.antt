@@ -1,0 +1,5 @@
+pub mod Files
+pub mod Answer
+pub mod FaultNames
+pub mod Steps
+pub mod Serial

@@ -1,0 +1,58 @@
+//! Why a conversion ends without a whole document.
+
+ghost use Rattle.std.specs.Prelude.{◌≡◌};
+ghost use Rattle.oim_convert.specs.FaultNames.{number_of, name_of};
+
+use oim_json::WriteFault;
+use oim_rows::TableFault;
+
+/// Why a conversion ends without a whole document.
+#[derive(Clone, Copy, Debug, PartialEq, Eq)]
+pub enum ConvertFault {
+    /// 50: the workers are not 1 to 64.
+    BadWorkers,
+    /// 51: the ring's size is not 1 to 65,536.
+    BadSize,
+    /// 52: the readers are not as many as the tables.
+    WrongReaders,
+    /// 53: a growth was refused before anything was written.
+    Memory,
+    /// 54: the end of a ring was lost.
+    Lost,
+    /// 55: a table has a fault.
+    Table(TableFault),
+    /// 56: a write failed.
+    Write(WriteFault),
+}
+
+impl ConvertFault {
+    /// The fault's number, 50 to 56.
+    pub fn number(&self) -> u32
+        ensures { result ≡ number_of self.now }
+    {
+        match self {
+            ConvertFault::BadWorkers => 50,
+            ConvertFault::BadSize => 51,
+            ConvertFault::WrongReaders => 52,
+            ConvertFault::Memory => 53,
+            ConvertFault::Lost => 54,
+            ConvertFault::Table(_) => 55,
+            ConvertFault::Write(_) => 56,
+        }
+    }
+
+    /// The fault's name, as it is printed.
+    pub fn name(&self) -> &'static str
+        ensures { result.now ≡ name_of self.now }
+    {
+        match self {
+            ConvertFault::BadWorkers => "BadWorkers",
+            ConvertFault::BadSize => "BadSize",
+            ConvertFault::WrongReaders => "WrongReaders",
+            ConvertFault::Memory => "Memory",
+            ConvertFault::Lost => "Lost",
+            ConvertFault::Table(_) => "Table",
+            ConvertFault::Write(_) => "Write",
+        }
+    }
+}

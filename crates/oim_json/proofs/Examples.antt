@@ -1,0 +1,67 @@
+-- The worked texts of facts and of the head.
+use Rattle.std.proofs.Common.{◌≡◌, ℕ, List, [], ◌∷◌, ◌++◌, Some, None, refl, codes, pos, negsuc}
+use Rattle.std.specs.Fmt.{digits}
+use Rattle.oim_meta.specs.ReportValue.{ReportValue}
+use Rattle.oim_resolve.specs.declared.fact.Fact.{Fact}
+use Rattle.oim_json.specs.JsonText.{escaped_byte, quoted, value_text, dimension_text, decimals_text, member_text, namespace_text, base_url_text, head_text}
+
+cash : Fact
+cash =
+    record {
+      id = codes "t1.r_1.cash";
+      value = Some (codes "100");
+      decimals = None;
+      dimensions =
+          (codes "concept", Some (codes "eg:Cash")) ∷ (codes "entity", Some (codes "eg:A1"))
+          ∷ (codes "period", Some (codes "2021-01-01T00:00:00/2022-01-01T00:00:00")) ∷ (codes "unit", Some (codes "iso4217:EUR")) ∷ [];
+    }
+
+cash_text : member_text cash ≡ codes "\"t1.r_1.cash\":{\"dimensions\":{\"concept\":\"eg:Cash\",\"entity\":\"eg:A1\",\"period\":\"2021-01-01T00:00:00/2022-01-01T00:00:00\",\"unit\":\"iso4217:EUR\"},\"value\":\"100\"}"
+unfolding cash escaped_byte quoted value_text dimension_text decimals_text member_text
+cash_text = refl
+
+note : Fact
+note =
+    record {
+      id = codes "t1.r_1.note";
+      value = Some (codes "first");
+      decimals = None;
+      dimensions =
+          (codes "concept", Some (codes "eg:Note")) ∷ (codes "entity", Some (codes "eg:A1"))
+          ∷ (codes "period", Some (codes "2021-01-01T00:00:00/2022-01-01T00:00:00")) ∷ [];
+    }
+
+note_text : member_text note ≡ codes "\"t1.r_1.note\":{\"dimensions\":{\"concept\":\"eg:Note\",\"entity\":\"eg:A1\",\"period\":\"2021-01-01T00:00:00/2022-01-01T00:00:00\"},\"value\":\"first\"}"
+unfolding note escaped_byte quoted value_text dimension_text decimals_text member_text
+note_text = refl
+
+-- decimals below zero, a nil value and a nil dimension
+other : Fact
+other = record { id = codes "a.1.b"; value = None; decimals = Some (negsuc 1); dimensions = (codes "eg:Branch", None) ∷ [] }
+
+other_text : member_text other ≡ codes "\"a.1.b\":{\"decimals\":-2,\"dimensions\":{\"eg:Branch\":null},\"value\":null}"
+unfolding digits other escaped_byte quoted value_text dimension_text decimals_text member_text
+other_text = refl
+
+-- what is escaped
+escapes : quoted (codes "say \"hi\" \\" ++ 10 ∷ 195 ∷ 169 ∷ 1 ∷ []) ≡ codes "\"say \\\"hi\\\" \\\\\\n" ++ 195 ∷ 169 ∷ codes "\\u0001\""
+unfolding escaped_byte quoted
+escapes = refl
+
+sample : ReportValue
+sample =
+    record {
+      info = record { base_url = None; taxonomy = codes "http://example.com/eg.xsd" ∷ [] };
+      namespaces =
+          (codes "eg", codes "http://example.com/eg") ∷ (codes "iso4217", codes "http://www.xbrl.org/2003/iso4217")
+          ∷ (codes "xbrli", codes "http://www.xbrl.org/2003/instance") ∷ [];
+      types = [];
+      level = record { dimensions = []; decimals = None };
+      templates = [];
+      tables = [];
+      parameters = [];
+    }
+
+sample_head : head_text sample ≡ codes "{\"documentInfo\":{\"documentType\":\"https://xbrl.org/2021/xbrl-json\",\"namespaces\":{\"eg\":\"http://example.com/eg\",\"iso4217\":\"http://www.xbrl.org/2003/iso4217\",\"xbrli\":\"http://www.xbrl.org/2003/instance\"},\"taxonomy\":[\"http://example.com/eg.xsd\"]},\"facts\":{"
+unfolding sample escaped_byte quoted namespace_text base_url_text head_text
+sample_head = refl

@@ -1,0 +1,4 @@
+pub mod Quoted
+pub mod Joined
+mod Examples
+pub mod Writes

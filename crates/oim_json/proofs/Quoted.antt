@@ -1,0 +1,39 @@
+-- A text in quotes is what serde_json writes for it.
+use Rattle.std.proofs.Common.{◌≡◌, ℕ, ◌+◌, ◌/◌, ◌%◌, List, [], ◌∷◌, ◌++◌, Bool, true, false, cond, ◌||◌, ◌==◌, nat_lt, eqb, ltb, refl, sym, ap, ◌∙◌, subst, arith, codes}
+use Rattle.std.specs.List.{flat_map}
+use Rattle.std.specs.Char.{digit_char}
+use Rattle.std.proofs.lemmas.Bool.{eqb-true}
+use Rattle.serde_json.specs.Data.{string}
+use Rattle.serde_json.specs.Written.{compact_text}
+use Rattle.serde_json.proofs.OnLiterals.{serde_json_on_literals}
+use Rattle.oim_json.specs.JsonText.{escaped_byte, quoted}
+
+abbrev letter : ℕ → ℕ
+letter x = cond ((x == 34) || (x == 92)) x (cond (x == 8) 98 (cond (x == 12) 102 (cond (x == 10) 110 (cond (x == 13) 114 (cond (x == 9) 116 0)))))
+
+abbrev kit_byte : ℕ → List ℕ
+kit_byte x =
+    cond (nat_lt 0 (letter x)) (92 ∷ letter x ∷ [])
+    (cond (nat_lt x 32) (92 ∷ 117 ∷ 48 ∷ 48 ∷ digit_char (x / 16) ∷ digit_char (x % 16) ∷ []) (x ∷ []))
+
+abbrev same : ℕ → Type 0
+same x = kit_byte x ≡ escaped_byte x
+
+-- at n, or where the test for n is false
+at : (n x : ℕ) (b : Bool) → (x == n) ≡ b → same n → ((x == n) ≡ false → same x) → same x
+at n x true e here other = subst same (sym (eqb-true x n e)) here
+at n x false e here other = other e
+
+flat_map-same : (f g : ℕ → List ℕ) → ((x : ℕ) → f x ≡ g x) → (s : List ℕ) → flat_map f s ≡ flat_map g s
+flat_map-same f g h [] = refl
+flat_map-same f g h (x ∷ s) = rw (h x, flat_map-same f g h s) refl
+
+same_byte : (x : ℕ) → same x
+unfolding escaped_byte
+same_byte x =
+    at 34 x _ refl refl (λ e34. at 92 x _ refl refl (λ e92. at 8 x _ refl refl (λ e8. at 12 x _ refl refl (λ e12. at 10 x _ refl refl (λ e10. at 13 x _ refl refl (λ e13. at 9 x _ refl refl (λ e9.
+    simp (e34, e92, e8, e12, e10, e13, e9))))))))
+
+pub compact_text-string : (s : List ℕ) → compact_text (string s) ≡ quoted s
+unfolding serde_json_on_literals quoted
+compact_text-string s = ap (λ t. 34 ∷ (t ++ 34 ∷ [])) (flat_map-same kit_byte escaped_byte same_byte s)

@@ -1,0 +1,44 @@
+-- Writes one after another.
+use Rattle.std.specs.Prelude.{◌≡◌, ℕ, ◌+◌, ◌-◌, ◌≤◌, List, [], ◌∷◌, ◌++◌, Option, Some, None, length, take, drop}
+use Rattle.std.proofs.Common.{arith, sym, ap, ◌∙◌, append_assoc, append-nil, subst, length-drop}
+use Rattle.std.proofs.Math.Seq.{take-add, take-length}
+use Rattle.std.specs.Io.KnownBytes.{Appends, Keeps}
+use Rattle.std.proofs.lemmas.List.{take-append-drop}
+use Rattle.oim_json.specs.Sinks.{AppendsPrefix}
+
+pub appends_nothing : (a : Option (List ℕ)) → Appends a a []
+appends_nothing None = tt
+appends_nothing (Some xs) = sym (append-nil xs)
+
+pub appends_twice : (a b c : Option (List ℕ)) (xs ys : List ℕ) → Appends a b xs → Appends b c ys → Appends a c (xs ++ ys)
+appends_twice None b c xs ys p q = tt
+appends_twice (Some a) None c xs ys p q = absurd p
+appends_twice (Some a) (Some b) None xs ys p q = absurd q
+appends_twice (Some a) (Some b) (Some c) xs ys p q = q ∙ (ap (λ l. l ++ ys) p ∙ append_assoc a xs ys)
+
+pub keeps_appends : (a b c : Option (List ℕ)) (xs : List ℕ) → Appends a b xs → Keeps b c → Appends a c xs
+keeps_appends None b c xs p q = tt
+keeps_appends (Some a) None c xs p q = absurd p
+keeps_appends (Some a) (Some b) None xs p q = absurd q
+keeps_appends (Some a) (Some b) (Some c) xs p q = q ∙ p
+
+-- the first n bytes, and then k more
+pub appends_more : (a b c : Option (List ℕ)) (xs : List ℕ) (n k : ℕ) → Appends a b (take n xs) → Appends b c (take k (drop n xs)) → Appends a c (take (n + k) xs)
+appends_more a b c xs n k p q =
+    subst (λ (l : List ℕ). Appends a c l) (sym (take-add n k xs)) (appends_twice a b c (take n xs) (take k (drop n xs)) p q)
+
+-- the rest from i on, as the code slices it
+pub slice_rest : (i : ℕ) (xs : List ℕ) → take (length xs - i) (drop i xs) ≡ drop i xs
+slice_rest i xs = subst (λ (n : ℕ). take n (drop i xs) ≡ drop i xs) (length-drop i xs) (take-length (drop i xs))
+
+-- a write of n bytes of the rest from i on
+pub writes_more : (a b c : Option (List ℕ)) (xs : List ℕ) (i n : ℕ) → i ≤ length xs → n ≤ length (take (length xs - i) (drop i xs)) → Appends a b (take i xs) → Appends b c (take n (take (length xs - i) (drop i xs)))
+    → (i + n ≤ length xs) × Appends a c (take (i + n) xs)
+writes_more a b c xs i n le at p q =
+    let at' : n ≤ length (drop i xs) = subst (λ (l : List ℕ). n ≤ length l) (slice_rest i xs) at in
+    let q' : Appends b c (take n (drop i xs)) = subst (λ (l : List ℕ). Appends b c (take n l)) (slice_rest i xs) q in
+    (omega (arith, length-drop i xs), appends_more a b c xs i n p q')
+
+-- a write that took nothing, once the first i bytes are out
+pub stops : (a b c : Option (List ℕ)) (xs : List ℕ) (i : ℕ) → Appends a b (take i xs) → Keeps b c → AppendsPrefix a c xs
+stops a b c xs i p q = (take i xs, (drop i xs, take-append-drop i xs), keeps_appends a b c (take i xs) p q)

@@ -1,0 +1,4 @@
+pub mod JsonText
+pub mod Document
+pub mod Sinks
+pub mod FaultNames

@@ -1,0 +1,85 @@
+ghost use Rattle.std.specs.Prelude.{◌≡◌, ◌++◌, IfOk, OnOk};
+ghost use Rattle.oim_json.specs.JsonText.{decimals_text, member_text};
+
+use crate::write::{JsonText, push_integer, push_joined, push_text};
+use oim_resolve::Fact;
+use std::alloc::{AllocError, Global};
+use std::marker::Model;
+use std::snapshot::Snapshot;
+
+/// The text of a fact. A contract sees the fact, which no code holds any more.
+#[derive(Drop)]
+pub struct Member {
+    bytes: Vec<u8>,
+    fact: Snapshot<Fact>,
+}
+
+impl Model for Member {
+    ghost use Rattle.std.specs.Prelude.{◌≡◌};
+    ghost use Rattle.oim_resolve.specs.declared.fact.Fact.{Fact as FactValue};
+    ghost use Rattle.oim_resolve.specs.contracts.fact.Fact.{the_row};
+    ghost use Rattle.oim_json.specs.JsonText.{member_text};
+
+    ghost Value = { FactValue };
+
+    ghost coded = { the_row.coded };
+
+    ghost view = { λ m. m.fact.value };
+
+    ghost invariant = { λ m. m.bytes.items ≡ member_text m.fact.value };
+}
+
+/// The member of a fact (xBRL-JSON 1.0, the facts object). Fails where memory is short.
+pub fn member_of(alloc: Global, fact: &Fact) -> Result<Member, AllocError>
+    ensures { IfOk result (λ m. m ≡ fact.now) }
+{
+    let mut bytes = Vec::new(alloc);
+    push_member(alloc, &mut bytes, fact)?;
+    Ok(Member {
+        bytes,
+        fact: Snapshot::of(fact),
+    })
+}
+
+impl Member {
+    /// The text of the fact: its identifier and its object.
+    pub fn bytes(&self) -> &[u8]
+        ensures { result.now ≡ member_text self.now }
+    {
+        self.bytes.as_slice()
+    }
+}
+
+#[tactic(auto, using(std::proofs::Common::append_assoc), unfolding(crate::specs::JsonText::member_text))]
+fn push_member(alloc: Global, out: &mut Vec<u8>, fact: &Fact) -> Result<(), AllocError>
+    ensures { OnOk result (out.new.items ≡ out.old.items ++ member_text fact.now) }
+{
+    push_text(alloc, out, fact.id.as_str())?;
+    out.extend_from_slice(b":{")?;
+    push_decimals(out, fact.decimals)?;
+    out.extend_from_slice(b"\"dimensions\":{")?;
+    push_joined(alloc, out, fact.dimensions.as_slice())?;
+    out.extend_from_slice(b"},\"value\":")?;
+    fact.value.push_to(alloc, out)?;
+    out.push(b'}')?;
+    Ok(())
+}
+
+impl JsonText for Fact {
+    ghost text = { member_text };
+
+    fn push_to(&self, alloc: Global, out: &mut Vec<u8>) -> Result<(), AllocError> {
+        push_member(alloc, out, self)
+    }
+}
+
+fn push_decimals(out: &mut Vec<u8>, decimals: Option<i32>) -> Result<(), AllocError>
+    ensures { OnOk result (out.new.items ≡ out.old.items ++ decimals_text decimals) }
+{
+    if let Some(places) = decimals {
+        out.extend_from_slice(b"\"decimals\":")?;
+        push_integer(out, places)?;
+        out.push(b',')?;
+    }
+    Ok(())
+}

@@ -1,0 +1,74 @@
+//! Sinks that take bytes.
+
+ghost use Rattle.std.specs.Prelude.{◌≡◌, ℕ, ◌<◌, List, Option, length};
+ghost use Rattle.oim_json.specs.declared.mark.Mark.{Mark};
+ghost use Rattle.oim_json.specs.declared.mark.Mark.TheVariants.{Fine};
+ghost use Rattle.oim_json.specs.Sinks.{WritesSome, WritesAll};
+
+use crate::mark::{Mark, WriteFault};
+use std::io;
+use std::io::Write;
+
+/// What takes bytes, and remembers whether a write failed.
+pub trait Sink {
+    /// The bytes that the sink holds, where it tells them.
+    ghost told: { Self → Option (List ℕ) };
+
+    ghost mark: { Self → Mark };
+
+    /// Writes some of the bytes, and answers how many.
+    fn write_some(&mut self, bytes: &[u8]) -> io::Result<usize>
+        requires { 0 < length bytes.now }
+        ensures { WritesSome (mark self.old) (mark self.new) (told self.old) (told self.new) result bytes.now };
+}
+
+/// A sink over a writer.
+#[derive(Drop)]
+pub struct Marked<W> {
+    writer: W,
+    mark: Mark,
+}
+
+impl<W: Write> Marked<W> {
+    /// A sink that holds what the writer holds, and is marked Fine.
+    pub fn new(writer: W) -> Marked<W>
+        ensures told { ⟦<Marked<W> as Sink>⟧.told result ≡ W.contents writer }
+        ensures fine { ⟦<Marked<W> as Sink>⟧.mark result ≡ Fine }
+    {
+        Marked {
+            writer,
+            mark: Mark::Fine,
+        }
+    }
+}
+
+impl<W: Write> Sink for Marked<W> {
+    ghost told = { λ s. W.contents s.writer };
+
+    ghost mark = { λ s. s.mark };
+
+    fn write_some(&mut self, bytes: &[u8]) -> io::Result<usize> {
+        let answer = self.writer.write(bytes);
+        match &answer {
+            Ok(0) => self.mark = Mark::Zero,
+            Ok(_) => {}
+            Err(_) => self.mark = Mark::Failed,
+        }
+        answer
+    }
+}
+
+/// Writes all the bytes, or says why it could not.
+pub fn write_all_of<W: Sink>(sink: &mut W, bytes: &[u8]) -> Result<(), WriteFault>
+    ensures { WritesAll (W.mark sink.old) (W.mark sink.new) (W.told sink.old) (W.told sink.new) result bytes.now }
+{
+    let mut at = 0;
+    while at < bytes.len() {
+        match sink.write_some(&bytes[at..]) {
+            Ok(0) => return Err(WriteFault::Zero),
+            Ok(n) => at += n,
+            Err(_) => return Err(WriteFault::Failed),
+        }
+    }
+    Ok(())
+}

@@ -1,0 +1,55 @@
+-- What a file of entries gives, record by record.
+use Rattle.std.proofs.Common.{◌≡◌, ◌∙◌, ◌<◌, ◌+◌, ℕ, List, [], ◌∷◌, Option, Some, None, Result, Ok, Err, Bool, true, false, refl, sym, ap, nat_le, arith, option_map, IfSome, subst}
+use Rattle.std.proofs.lemmas.Bool.{leb-false, lt-leb}
+use Rattle.std.specs.Option.{ok_or}
+use Rattle.oim_meta.specs.CsvFiles.{EntryFile, OrOutside, all_of}
+use Rattle.oim_meta.specs.Grid.{Record, grid}
+use Rattle.oim_meta.specs.Taking.{TakesRecord}
+use Rattle.oim_meta.specs.declared.fault.MetaFault.{MetaFault}
+use Rattle.oim_meta.specs.declared.fault.MetaFault.TheVariants as fault
+
+-- after n records, with s, the records left give the answer
+abbrev pub Leaves : {S : Type 0} → EntryFile S → Result S MetaFault → ℕ → S → Option (List Record) → Type 0
+Leaves f answer n s None = ⊥
+Leaves f answer n s (Some rest) = answer ≡ all_of f n s rest
+
+below : (n m : ℕ) → n < m → nat_le m n ≡ false
+below n m h = lt-leb m n h
+
+same : (n : ℕ) → nat_le n n ≡ true
+same n = by (nat_le n n) refl
+  where
+    by : (b : Bool) → nat_le n n ≡ b → nat_le n n ≡ true
+    by true e = e
+    by false e = let less : n < n = leb-false n n e in absurd (omega arith)
+
+module _ {S : Type 0} (f : EntryFile S) (answer : Result S MetaFault) (s : S) (r : Record) where
+  pub leaves_more : (n : ℕ) (left after : Option (List Record)) (t : S) → n < f.limit → Leaves f answer n s left → TakesRecord left true r after → ok_or (f.after s r) f.bad ≡ Ok t → Leaves f answer (n + 1) t after
+  unfolding all_of
+  leaves_more n None after t less given takes good = absurd given
+  leaves_more n (Some []) after t less given takes good = cc takes
+  leaves_more n (Some (x ∷ rest)) after t less given takes good = rw takes.2 (given ∙ rw (← takes.1, below n f.limit less, good) refl)
+
+  pub leaves_bad : (n : ℕ) (left after : Option (List Record)) (e : MetaFault) → n < f.limit → Leaves f answer n s left → TakesRecord left true r after → ok_or (f.after s r) f.bad ≡ Err e → answer ≡ Err e
+  unfolding all_of
+  leaves_bad n None after e less given takes bad = absurd given
+  leaves_bad n (Some []) after e less given takes bad = cc takes
+  leaves_bad n (Some (x ∷ rest)) after e less given takes bad = given ∙ rw (← takes.1, below n f.limit less, bad) refl
+
+  pub leaves_too_many : (left after : Option (List Record)) → Leaves f answer f.limit s left → TakesRecord left true r after → answer ≡ Err fault.TooLarge
+  unfolding all_of
+  leaves_too_many None after given takes = absurd given
+  leaves_too_many (Some []) after given takes = cc takes
+  leaves_too_many (Some (x ∷ rest)) after given takes = given ∙ rw (same f.limit) refl
+
+  pub leaves_end : (n : ℕ) (left after : Option (List Record)) → Leaves f answer n s left → TakesRecord left false r after → answer ≡ Ok s
+  unfolding all_of
+  leaves_end n None after given takes = absurd given
+  leaves_end n (Some []) after given takes = given
+  leaves_end n (Some (x ∷ rest)) after given takes = let wrong = takes.0 in cc wrong
+
+-- what holds of the records of a file holds of its bytes
+pub whole_file : {A : Type 0} (text : Option (List ℕ)) (left : Option (List Record)) (result : Result A MetaFault) (answer : List Record → Result A MetaFault) → left ≡ option_map grid text
+    → IfSome left (λ rs. OrOutside result (answer rs)) → IfSome text (λ bytes. OrOutside result (answer (grid bytes)))
+whole_file None left result answer e h = tt
+whole_file (Some bytes) left result answer e h = subst (λ (l : Option (List Record)). IfSome l (λ rs. OrOutside result (answer rs))) e h

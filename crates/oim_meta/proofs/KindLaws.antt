@@ -1,0 +1,107 @@
+-- The types of a table say of a name just what its records say.
+use Rattle.std.proofs.Common.{◌≡◌, ◌∙◌, ◌+◌, ℕ, List, [], ◌∷◌, ◌++◌, Option, Some, None, Result, Ok, Err, Bool, true, false, ◌&&◌, if◌then◌else◌, refl, sym, ap, nat_le}
+use Rattle.std.proofs.lemmas.Slice.Eq.{bytes_eq-Decides}
+use Rattle.std.proofs.lemmas.Cmp.{nat_list_eq_equiv}
+use Rattle.std.specs.Option.{is_none, ok_or, option_and_then, option_or}
+use Rattle.std.specs.Str.{bytes_eq}
+use Rattle.oim_names.specs.Lookup.{value_at}
+use Rattle.oim_names.specs.Names.{is_ncname}
+use Rattle.oim_meta.specs.CsvFiles.{all_of, one_more, three_texts, unless_bad}
+use Rattle.oim_meta.specs.Grid.{Field, Record}
+use Rattle.oim_meta.specs.Named.{pushed_under}
+use Rattle.oim_meta.specs.Types.{TypesValue, kind_in}
+use Rattle.oim_meta.specs.TypesFile.{kind_of_word, type_after, types_file, with_kind, with_type}
+use Rattle.oim_meta.specs.WholeFile.{kind_by, kind_said}
+use Rattle.oim_meta.specs.declared.fault.MetaFault.{MetaFault}
+use Rattle.oim_meta.specs.declared.fault.MetaFault.TheVariants as fault
+use Rattle.oim_meta.specs.declared.kind.Kind.{Kind}
+
+-- one entry more is found where none of that name is before it
+value-pushed : {V : Type 0} (name key : List ℕ) (v : V) (es : List (List ℕ × V)) → value_at name (es ++ (key, v) ∷ []) ≡ option_or (value_at name es) (if bytes_eq key name then Some v else None)
+value-pushed name key v [] = refl
+value-pushed {V} name key v (e ∷ es) = by (bytes_eq e.0 name) refl (value-pushed name key v es)
+  where
+    by : (b : Bool) → bytes_eq e.0 name ≡ b → value_at name (es ++ (key, v) ∷ []) ≡ option_or (value_at name es) (if bytes_eq key name then Some v else None)
+        → value_at name ((e ∷ es) ++ (key, v) ∷ []) ≡ option_or (value_at name (e ∷ es)) (if bytes_eq key name then Some v else None)
+    by true h more = rw h refl
+    by false h more = rw h more
+
+or-none : {A : Type 0} (o : Option A) → option_or o None ≡ o
+or-none None = refl
+or-none (Some x) = refl
+
+or-assoc : {A : Type 0} (a b c : Option A) → option_or (option_or a b) c ≡ option_or a (option_or b c)
+or-assoc None b c = refl
+or-assoc (Some x) b c = refl
+
+same-bytes : (a b : List ℕ) → bytes_eq a b ≡ true → a ≡ b
+same-bytes a b e = (bytes_eq-Decides a b).0 e
+
+-- a text that is equal to one and not to the other
+apart-bytes : (e u v : List ℕ) → bytes_eq e u ≡ false → bytes_eq e v ≡ true → bytes_eq u v ≡ false
+apart-bytes e u v unlike like = by (bytes_eq u v) refl
+  where
+    by : (b : Bool) → bytes_eq u v ≡ b → bytes_eq u v ≡ false
+    by true h = let eu : e ≡ u = same-bytes e v like ∙ sym (same-bytes u v h) in
+        let wrong : bytes_eq u u ≡ false = rw eu at unlike in
+        let right : bytes_eq u u ≡ true = nat_list_eq_equiv.refl u in
+        cc (wrong, right)
+    by false h = h
+
+-- the kinds after one name more
+said-more : (types : TypesValue) (u l uri local : List ℕ) (k : Kind) → kind_in (pushed_under types u l k) uri local ≡ option_or (kind_in types uri local) (if bytes_eq u uri && bytes_eq l local then Some k else None)
+said-more [] u l uri local k = by (bytes_eq u uri) refl
+  where
+    by : (b : Bool) → bytes_eq u uri ≡ b → kind_in (pushed_under [] u l k) uri local ≡ (if bytes_eq u uri && bytes_eq l local then Some k else None)
+    by true h = rw h refl
+    by false h = rw h refl
+said-more (e ∷ es) u l uri local k = by (bytes_eq e.0 u) (bytes_eq e.0 uri) refl refl (said-more es u l uri local k)
+  where
+    by : (a b : Bool) → bytes_eq e.0 u ≡ a → bytes_eq e.0 uri ≡ b
+        → kind_in (pushed_under es u l k) uri local ≡ option_or (kind_in es uri local) (if bytes_eq u uri && bytes_eq l local then Some k else None)
+        → kind_in (pushed_under (e ∷ es) u l k) uri local ≡ option_or (kind_in (e ∷ es) uri local) (if bytes_eq u uri && bytes_eq l local then Some k else None)
+    by true true h i more =
+        let same : bytes_eq u uri ≡ true = rw (same-bytes e.0 u h) at i in
+        rw (h, i, same) (value-pushed local l k e.1)
+    by true false h i more =
+        let apart : bytes_eq u uri ≡ false = rw (same-bytes e.0 u h) at i in
+        rw (h, i, apart) (sym (or-none (kind_in es uri local)))
+    by false true h i more =
+        let apart : bytes_eq u uri ≡ false = apart-bytes e.0 u uri h i in
+        rw (h, i, apart) (sym (or-none (value_at local e.1)))
+    by false false h i more = rw (h, i) more
+
+-- what one record more says
+said-after : (types after : TypesValue) (r : Record) (uri local : List ℕ) → type_after types r ≡ Some after → kind_in after uri local ≡ option_or (kind_in types uri local) (option_and_then (kind_by uri local) (three_texts r))
+said-after types after r uri local e = of (three_texts r) refl
+  where
+    word : (p : Field × Field × Field) (o : Option Kind) → kind_of_word p.2 ≡ o → option_and_then (λ k. Some (with_kind types p.0 p.1 k)) o ≡ Some after → kind_in after uri local ≡ option_or (kind_in types uri local) (kind_by uri local p)
+    word p None h e2 = cc e2
+    word p (Some k) h e2 = let same : pushed_under types p.0 p.1 k ≡ after = cc e2 in rw (← same, h) (said-more types p.0 p.1 uri local k)
+
+    good : (p : Field × Field × Field) (b : Bool) → (is_ncname p.1 && is_none (kind_in types p.0 p.1)) ≡ b → with_type types p ≡ Some after → kind_in after uri local ≡ option_or (kind_in types uri local) (kind_by uri local p)
+    good p true h e2 = word p (kind_of_word p.2) refl (rw h at e2)
+    good p false h e2 = let none : None ≡ Some after = rw h at e2 in cc none
+
+    of : (o : Option (Field × Field × Field)) → three_texts r ≡ o → kind_in after uri local ≡ option_or (kind_in types uri local) (option_and_then (kind_by uri local) (three_texts r))
+    of None h = let none : None ≡ Some after = rw h at e in cc none
+    of (Some p) h = rw h (good p (is_ncname p.1 && is_none (kind_in types p.0 p.1)) refl (rw h at e))
+
+pub said-all : (n : ℕ) (before types : TypesValue) (rs : List Record) (uri local : List ℕ) → all_of types_file n before rs ≡ Ok types → kind_in types uri local ≡ option_or (kind_in before uri local) (kind_said rs uri local)
+unfolding all_of
+said-all n before types [] uri local e = let same : before ≡ types = cc e in rw same (sym (or-none (kind_in types uri local)))
+said-all n before types (r ∷ rs) uri local e = past (nat_le 1048576 n) refl (λ t. said-all (n + 1) t types rs uri local)
+  where
+    taken : (o : Option TypesValue) → type_after before r ≡ o → unless_bad (λ t. all_of types_file (n + 1) t rs) (ok_or o fault.BadTypes) ≡ Ok types
+        → ((t : TypesValue) → all_of types_file (n + 1) t rs ≡ Ok types → kind_in types uri local ≡ option_or (kind_in t uri local) (kind_said rs uri local))
+        → kind_in types uri local ≡ option_or (kind_in before uri local) (kind_said (r ∷ rs) uri local)
+    taken None h e2 more = cc e2
+    taken (Some t) h e2 more =
+        more t e2 ∙ ap (λ (o : Option Kind). option_or o (kind_said rs uri local)) (said-after before t r uri local h)
+        ∙ or-assoc (kind_in before uri local) (option_and_then (kind_by uri local) (three_texts r)) (kind_said rs uri local)
+
+    past : (b : Bool) → nat_le 1048576 n ≡ b
+        → ((t : TypesValue) → all_of types_file (n + 1) t rs ≡ Ok types → kind_in types uri local ≡ option_or (kind_in t uri local) (kind_said rs uri local))
+        → kind_in types uri local ≡ option_or (kind_in before uri local) (kind_said (r ∷ rs) uri local)
+    past true h more = let bad : Err fault.TooLarge ≡ Ok types = rw h at e in cc bad
+    past false h more = taken (type_after before r) refl (rw h at e) more

@@ -1,0 +1,18 @@
+mod PlaceFacts
+pub mod GridFacts
+pub mod Strips
+pub mod Rising
+pub mod Counted
+pub mod Bound
+pub mod NamedFacts
+pub mod FieldFacts
+pub mod EntryFacts
+pub mod ParameterFacts
+pub mod TypeFacts
+pub mod WholeFileLaws
+pub mod KindLaws
+pub mod Unrepeated
+pub mod Placed
+pub mod OwnUris
+mod Examples
+mod FaultExamples

@@ -1,0 +1,7 @@
+use Rattle.std.proofs.Common.{◌≡◌, ◌++◌, drop}
+use Rattle.serde_json.specs.View.{items_view}
+use Rattle.oim_meta.specs.Members.{map_items, text_of}
+use Rattle.oim_meta.proofs.build.made.texts.Given as goal
+
+abbrev pub invariant-loop-item : goal.invariant-loop-item
+invariant-loop-item l = l.made.items ++ map_items text_of (items_view (drop l.item-index l.items)) ≡ map_items text_of (items_view l.items)

@@ -1,0 +1,10 @@
+use Rattle.std.proofs.Common.{◌≡◌, ◌++◌}
+use Rattle.serde_json.specs.View.{members_view}
+use Rattle.oim_meta.specs.Members.{map_members}
+use Rattle.oim_meta.specs.Value.{column_of}
+use Rattle.oim_meta.proofs.build.templates.vec_of_columns.Given as goal
+
+abbrev pub invariant-loop-name : goal.invariant-loop-name
+invariant-loop-name l =
+    let of = column_of (members_view l.columns.entries) in
+    l.made.items ++ map_members of (members_view l.name-iterator) ≡ map_members of (members_view l.columns.entries)

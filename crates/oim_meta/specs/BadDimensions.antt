@@ -1,0 +1,83 @@
+-- Dimensions that are none (xBRL-CSV 1.0: dimensions and their values; special values; references).
+use Rattle.std.specs.Prelude.{ℕ, List, Bool, true, false, not, ◌||◌, ◌&&◌, bytes_eq, Option, Some, None, option_and_then, codes, if◌then◌else◌}
+use Rattle.serde_json.specs.Data.{Data}
+use Rattle.oim_names.specs.Bindings.{Bindings}
+use Rattle.oim_names.specs.Names.{is_identifier}
+use Rattle.oim_names.specs.QName.{qname_of}
+use Rattle.oim_cells.specs.Cells.{Meaning, meaning_of}
+use Rattle.oim_cells.specs.Cells as meaning
+use Rattle.oim_meta.specs.Types.{TypesValue, kind_in}
+use Rattle.oim_meta.specs.declared.kind.Kind.{Kind}
+use Rattle.oim_meta.specs.declared.kind.Kind.TheVariants.{Number, Text, Other, Explicit, Typed}
+use Rattle.oim_meta.specs.Members.{is_text, text_of, section, any_member}
+use Rattle.oim_meta.specs.Levels.{any_level}
+use Rattle.oim_meta.specs.Prefixes.{prefixes_of}
+use Rattle.oim_meta.specs.Written.{strip_front, strip_back}
+
+-- a dimension that every report has
+abbrev pub is_core : List ℕ → Bool
+is_core key =
+    bytes_eq key (codes "concept") || bytes_eq key (codes "entity") || bytes_eq key (codes "period") || bytes_eq key (codes "unit") || bytes_eq key (codes "language")
+
+-- the kind of the concept or dimension that a key names as a QName
+abbrev pub kind_named : TypesValue → Bindings → List ℕ → Option Kind
+kind_named types names key = option_and_then (λ n. kind_in types n.0 n.1) (qname_of names key)
+
+abbrev pub is_typed : Option Kind → Bool
+is_typed None = false
+is_typed (Some (Number n)) = false
+is_typed (Some Text) = false
+is_typed (Some Other) = false
+is_typed (Some Explicit) = false
+is_typed (Some Typed) = true
+
+abbrev pub is_dimension : Option Kind → Bool
+is_dimension None = false
+is_dimension (Some (Number n)) = false
+is_dimension (Some Text) = false
+is_dimension (Some Other) = false
+is_dimension (Some Explicit) = true
+is_dimension (Some Typed) = true
+
+-- no special value, or nil or empty where it may not stand
+abbrev pub is_bad_meaning : Option Kind → Meaning → Bool
+is_bad_meaning kind meaning.Absent = false
+is_bad_meaning kind meaning.Nil = not (is_typed kind)
+is_bad_meaning kind meaning.Empty = not (is_typed kind)
+is_bad_meaning kind (meaning.Text t) = false
+is_bad_meaning kind meaning.Unknown = true
+
+abbrev pub front_name : List ℕ → Option (List ℕ) → Option (List ℕ) → List ℕ
+front_name name (Some front) end = front
+front_name name None (Some front) = front
+front_name name None None = name
+
+-- the name of a reference: only in period it may have a side
+unfoldable pub name_in : List ℕ → List ℕ → List ℕ
+name_in key name = if bytes_eq key (codes "period") then front_name name (strip_back (codes "@start") name) (strip_back (codes "@end") name) else name
+
+-- after a dollar sign: a second one begins a literal text, anything else has to be a reference
+abbrev pub is_bad_reference : List ℕ → List ℕ → Option (List ℕ) → Bool
+is_bad_reference key rest (Some doubled) = false
+is_bad_reference key rest None = not (is_identifier (name_in key rest))
+
+abbrev pub is_bad_by_dollar : Option Kind → List ℕ → List ℕ → Option (List ℕ) → Bool
+is_bad_by_dollar kind key s (Some rest) = is_bad_reference key rest (strip_front (codes "$") rest)
+is_bad_by_dollar kind key s None = is_bad_meaning kind (meaning_of s)
+
+-- a text that is neither a reference nor a literal of the key
+abbrev pub is_bad_text : Option Kind → List ℕ → List ℕ → Bool
+is_bad_text kind key s = is_bad_by_dollar kind key s (strip_front (codes "$") s)
+
+-- neither core nor a dimension of the types; no text; neither a reference nor a literal
+unfoldable pub is_bad_dimension : TypesValue → Bindings → List ℕ → Data → Bool
+is_bad_dimension types names key d =
+    (not (is_core key) && not (is_dimension (kind_named types names key))) || not (is_text d) || is_bad_text (kind_named types names key) key (text_of d)
+
+-- a bad one among the dimensions of one level
+abbrev pub has_bad_dimension : TypesValue → Bindings → Data → Bool
+has_bad_dimension types names d = any_member (is_bad_dimension types names) (section (codes "dimensions") d)
+
+-- 11: a bad dimension of report, template, column or property group
+unfoldable pub has_bad_dimensions : TypesValue → Data → Bool
+has_bad_dimensions types d = any_level (has_bad_dimension types (prefixes_of d)) (has_bad_dimension types (prefixes_of d)) d

@@ -1,0 +1,35 @@
+-- Parameters that are none (xBRL-CSV 1.0: parameters of report and tables, parameterURL).
+use Rattle.std.specs.Prelude.{ℕ, List, Bool, true, not, ◌||◌, is_some, option_map, unwrap_or, codes}
+use Rattle.serde_json.specs.Data.{Data}
+use Rattle.serde_json.specs.Find.{get, as_str}
+use Rattle.oim_names.specs.Lookup.{value_at}
+use Rattle.oim_names.specs.Names.{is_identifier}
+use Rattle.oim_meta.specs.Parameters.{ParametersValue}
+use Rattle.oim_meta.specs.Members.{is_text, section, any_member, if_there, no_object_or}
+use Rattle.oim_meta.specs.PlainPath.{is_plain_path}
+
+-- a name that is no identifier, or a value that is no text
+abbrev pub is_bad_parameter : List ℕ → Data → Bool
+is_bad_parameter name d = not (is_identifier name) || not (is_text d)
+
+-- parameters of a report or a table that are no texts by identifiers
+abbrev pub has_bad_parameters : Data → Bool
+has_bad_parameters d = if_there (no_object_or (any_member is_bad_parameter)) (get (codes "parameters") d)
+
+-- the parameters file has the name
+abbrev pub is_given : ParametersValue → List ℕ → Data → Bool
+is_given given name _ = is_some (value_at name given)
+
+-- it is no text that is a plain path
+abbrev pub is_no_plain_path : Data → Bool
+is_no_plain_path d = unwrap_or (option_map (λ path. not (is_plain_path path)) (as_str d)) true
+
+-- the parameters file's name is no plain path
+unfoldable pub has_bad_parameter_url : Data → Bool
+has_bad_parameter_url d = if_there is_no_plain_path (get (codes "parameterURL") d)
+
+-- 13: bad parameters of report or table, a name of the parameters file among the report's, a bad name of that file
+unfoldable pub has_bad_parameter : ParametersValue → Data → Bool
+has_bad_parameter given d =
+    has_bad_parameters d || any_member (λ _ t. has_bad_parameters t) (section (codes "tables") d) || any_member (is_given given) (section (codes "parameters") d)
+    || has_bad_parameter_url d

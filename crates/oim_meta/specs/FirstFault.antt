@@ -1,0 +1,45 @@
+-- The faults that a metadata has, with the limits, the parameters file's parameters and the types, and the first of them.
+use Rattle.std.specs.Prelude.{Bool, false, Option, [], ◌∷◌, codes, find}
+use Rattle.serde_json.specs.Data.{Data}
+use Rattle.serde_json.specs.Find.{get}
+use Rattle.oim_meta.specs.declared.fault.MetaFault.{MetaFault}
+use Rattle.oim_meta.specs.declared.fault.MetaFault.TheVariants.{Syntax, NotReport, BadNamespaces, BadTaxonomy, Unsupported, BadIdentifier, BadTemplate, ColumnKinds, UnknownTemplate, UnknownColumn, BadDimension, BadDecimals, BadParameter, BadTypes, TooLarge, Memory, Read}
+use Rattle.oim_meta.specs.declared.limits.Limits.{Limits}
+use Rattle.oim_meta.specs.Parameters.{ParametersValue}
+use Rattle.oim_meta.specs.Types.{TypesValue}
+use Rattle.oim_meta.specs.Members.{if_there}
+use Rattle.oim_meta.specs.Faults.{has_no_report, has_bad_namespaces, has_bad_taxonomy, is_unsupported, has_bad_identifier, has_bad_shape, has_mixed_column, has_unknown_template}
+use Rattle.oim_meta.specs.UnknownColumn.{has_unknown_column}
+use Rattle.oim_meta.specs.BadDimensions.{has_bad_dimensions}
+use Rattle.oim_meta.specs.BadDecimals.{has_bad_decimals}
+use Rattle.oim_meta.specs.BadParameters.{has_bad_parameter}
+use Rattle.oim_meta.specs.Counts.{has_too_many}
+
+-- whether a metadata has this fault
+abbrev pub has_fault : Limits → ParametersValue → TypesValue → Data → MetaFault → Bool
+has_fault limits given types d Syntax = false
+has_fault limits given types d NotReport = has_no_report d
+has_fault limits given types d BadNamespaces = if_there has_bad_namespaces (get (codes "documentInfo") d)
+has_fault limits given types d BadTaxonomy = if_there has_bad_taxonomy (get (codes "documentInfo") d)
+has_fault limits given types d Unsupported = is_unsupported d
+has_fault limits given types d BadIdentifier = has_bad_identifier d
+has_fault limits given types d BadTemplate = has_bad_shape d
+has_fault limits given types d ColumnKinds = has_mixed_column d
+has_fault limits given types d UnknownTemplate = has_unknown_template d
+has_fault limits given types d UnknownColumn = has_unknown_column d
+has_fault limits given types d BadDimension = has_bad_dimensions types d
+has_fault limits given types d BadDecimals = has_bad_decimals d
+has_fault limits given types d BadParameter = has_bad_parameter given d
+has_fault limits given types d BadTypes = false
+has_fault limits given types d TooLarge = has_too_many limits d
+has_fault limits given types d Memory = false
+has_fault limits given types d Read = false
+
+-- the first of those that take the types, the parameters file's parameters or the limits
+abbrev pub late_fault : Limits → ParametersValue → TypesValue → Data → Option MetaFault
+late_fault limits given types d = find (has_fault limits given types d) (BadDimension ∷ BadDecimals ∷ BadParameter ∷ TooLarge ∷ [])
+
+-- the first that it has, in the order of their numbers, and last the counts
+abbrev pub first_fault : Limits → ParametersValue → TypesValue → Data → Option MetaFault
+first_fault limits given types d =
+    find (has_fault limits given types d) (NotReport ∷ BadNamespaces ∷ BadTaxonomy ∷ Unsupported ∷ BadIdentifier ∷ BadTemplate ∷ ColumnKinds ∷ UnknownTemplate ∷ UnknownColumn ∷ BadDimension ∷ BadDecimals ∷ BadParameter ∷ TooLarge ∷ [])

@@ -1,0 +1,22 @@
+-- Members in order, and one text under two names.
+use Rattle.std.specs.Prelude.{ℕ, List, Bool, not, ◌&&◌, bytes_eq}
+use Rattle.std.specs.Ordering.{nat_cmp}
+use Rattle.std.specs.Cmp.Lexicographic.{slice_cmp}
+use Rattle.std.specs.List.Sorted.{IsStrictlySortedBy}
+use Rattle.serde_json.specs.Data.{Members}
+use Rattle.oim_meta.specs.Members.{text_of, any_member, map_members}
+
+abbrev pub names_of : Members → List (List ℕ)
+names_of = map_members (λ k _. k)
+
+-- each name is below those after it, in byte order
+abbrev pub IsRising : List (List ℕ) → Type 0
+IsRising = IsStrictlySortedBy (slice_cmp nat_cmp)
+
+-- another name has this text
+abbrev pub has_other : List ℕ → List ℕ → Members → Bool
+has_other name text = any_member (λ other d. not (bytes_eq name other) && bytes_eq text (text_of d))
+
+-- one text under two names
+abbrev pub repeats_text : Members → Bool
+repeats_text ms = any_member (λ name d. has_other name (text_of d) ms) ms

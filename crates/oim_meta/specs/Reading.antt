@@ -1,0 +1,72 @@
+-- What reading a metadata answers, from its bytes. A mark EF BB BF at their start is passed over.
+use Rattle.std.specs.Prelude.{◌≡◌, ◌<◌, ◌≤◌, ◌⊎◌, ℕ, List, length, take, drop, [], ◌∷◌, Bool, false, nat_eq, if◌then◌else◌, Option, Some, None, IsUtf8, codes, find}
+use Rattle.std.specs.Cmp.Lexicographic.{pointwise}
+use Rattle.serde_json.specs.Data.{Data}
+use Rattle.serde_json.specs.Read.{read}
+use Rattle.oim_meta.specs.declared.fault.MetaFault.{MetaFault}
+use Rattle.oim_meta.specs.declared.fault.MetaFault.TheVariants.{Syntax, NotReport, BadParameter, TooLarge, Memory}
+use Rattle.oim_meta.specs.declared.limits.Limits.{Limits}
+use Rattle.oim_meta.specs.Parameters.{ParametersValue}
+use Rattle.oim_meta.specs.Types.{TypesValue}
+use Rattle.oim_meta.specs.ReportValue.{ReportValue}
+use Rattle.oim_meta.specs.Members.{text_at}
+use Rattle.oim_meta.specs.Faults.{has_no_report}
+use Rattle.oim_meta.specs.BadParameters.{has_bad_parameter_url}
+use Rattle.oim_meta.specs.FirstFault.{first_fault}
+use Rattle.oim_meta.specs.Value.{report_of}
+
+-- the bytes after a leading mark
+abbrev pub after_mark : List ℕ → List ℕ
+after_mark bytes = if pointwise nat_eq (take 3 bytes) (239 ∷ 187 ∷ 191 ∷ []) then drop 3 bytes else bytes
+
+-- the bytes are JSON for d
+abbrev pub IsJson : List ℕ → Data → Type 0
+IsJson bytes d = IsUtf8 (after_mark bytes) × (read (after_mark bytes) ≡ Some d)
+
+-- the bytes are JSON for no value
+abbrev pub HasNoJson : List ℕ → Type 0
+HasNoJson bytes = (d : Data) → IsJson bytes d → ⊥
+
+-- no memory, or there is no JSON
+abbrev pub IsNoJson : List ℕ → MetaFault → Type 0
+IsNoJson bytes Syntax = HasNoJson bytes
+IsNoJson bytes Memory = Unit {0}
+IsNoJson bytes f = ⊥
+
+-- the report that the bytes say
+abbrev pub SaysReport : Limits → ParametersValue → TypesValue → List ℕ → ReportValue → Type 0
+SaysReport limits given types bytes r = (length bytes ≤ limits.metadata) × ((d : Data) × IsJson bytes d × (first_fault limits given types d ≡ None) × (r ≡ report_of given types d))
+
+-- the first fault of the value that the bytes are
+abbrev pub HasFirst : Limits → ParametersValue → TypesValue → List ℕ → MetaFault → Type 0
+HasFirst limits given types bytes f = (length bytes ≤ limits.metadata) × ((d : Data) × IsJson bytes d × (first_fault limits given types d ≡ Some f))
+
+-- the first fault of the bytes; want of memory says nothing of them
+abbrev pub IsFault : Limits → ParametersValue → TypesValue → List ℕ → MetaFault → Type 0
+IsFault limits given types bytes TooLarge = (limits.metadata < length bytes) ⊎ HasFirst limits given types bytes TooLarge
+IsFault limits given types bytes Syntax = (length bytes ≤ limits.metadata) × HasNoJson bytes
+IsFault limits given types bytes Memory = Unit {0}
+IsFault limits given types bytes f = HasFirst limits given types bytes f
+
+-- the faults that are looked for with the name of the parameters file
+abbrev pub has_url_fault : Data → MetaFault → Bool
+has_url_fault d NotReport = has_no_report d
+has_url_fault d BadParameter = has_bad_parameter_url d
+has_url_fault d f = false
+
+abbrev pub first_url_fault : Data → Option MetaFault
+first_url_fault d = find (has_url_fault d) (NotReport ∷ BadParameter ∷ [])
+
+-- the name of the parameters file that the bytes say, if any
+abbrev pub SaysUrl : Limits → List ℕ → Option (List ℕ) → Type 0
+SaysUrl limits bytes url = (length bytes ≤ limits.metadata) × ((d : Data) × IsJson bytes d × (first_url_fault d ≡ None) × (url ≡ text_at (codes "parameterURL") d))
+
+abbrev pub HasFirstUrlFault : Limits → List ℕ → MetaFault → Type 0
+HasFirstUrlFault limits bytes f = (length bytes ≤ limits.metadata) × ((d : Data) × IsJson bytes d × (first_url_fault d ≡ Some f))
+
+-- the first of these faults; want of memory says nothing of the bytes
+abbrev pub IsUrlFault : Limits → List ℕ → MetaFault → Type 0
+IsUrlFault limits bytes TooLarge = limits.metadata < length bytes
+IsUrlFault limits bytes Syntax = (length bytes ≤ limits.metadata) × HasNoJson bytes
+IsUrlFault limits bytes Memory = Unit {0}
+IsUrlFault limits bytes f = HasFirstUrlFault limits bytes f

@@ -1,0 +1,51 @@
+-- A column that is not there (xBRL-CSV 1.0: rowIdColumn and propertiesFrom). A part of the wrong
+-- shape has only the fault of its shape.
+use Rattle.std.specs.Prelude.{ℕ, List, Bool, true, false, not, ◌||◌, ◌&&◌, Option, option_map, option_and_then, unwrap_or, is_none, codes}
+use Rattle.serde_json.specs.Data.{Data}
+use Rattle.serde_json.specs.Find.{get, as_str}
+use Rattle.oim_meta.specs.declared.data.ColumnKind.{ColumnKind}
+use Rattle.oim_meta.specs.declared.data.ColumnKind.TheVariants.{Fact, Groups, Comment, Plain}
+use Rattle.oim_meta.specs.Members.{text_at, section, items_at, any_member, any_item, if_there}
+use Rattle.oim_meta.specs.Value.{kind_of}
+
+abbrev pub is_fact : ColumnKind → Bool
+is_fact Fact = true
+is_fact Groups = false
+is_fact Comment = false
+is_fact Plain = false
+
+abbrev pub is_groups : ColumnKind → Bool
+is_groups Fact = false
+is_groups Groups = true
+is_groups Comment = false
+is_groups Plain = false
+
+-- the column of a template that has the name
+abbrev pub column_at : Data → List ℕ → Option Data
+column_at t name = option_and_then (get name) (get (codes "columns") t)
+
+abbrev pub lacks_column : Data → List ℕ → Bool
+lacks_column t name = is_none (column_at t name)
+
+-- the name is not that of a property group column
+abbrev pub lacks_groups : Data → List ℕ → Bool
+lacks_groups t name = not (if_there (λ c. is_groups (kind_of c)) (column_at t name))
+
+-- rowIdColumn names no column
+abbrev pub has_unknown_row_id : Data → Bool
+has_unknown_row_id t = unwrap_or (option_map (lacks_column t) (text_at (codes "rowIdColumn") t)) false
+
+-- a text that names no property group column
+abbrev pub is_unknown_source : Data → Data → Bool
+is_unknown_source t d = unwrap_or (option_map (lacks_groups t) (as_str d)) false
+
+-- propertiesFrom of a fact column names no property group column
+abbrev pub has_unknown_source : Data → Data → Bool
+has_unknown_source t c = is_fact (kind_of c) && any_item (is_unknown_source t) (items_at (codes "propertiesFrom") c)
+
+abbrev pub lacks_named_column : Data → Bool
+lacks_named_column t = has_unknown_row_id t || any_member (λ _ c. has_unknown_source t c) (section (codes "columns") t)
+
+-- 10: a template names a column that it has not
+unfoldable pub has_unknown_column : Data → Bool
+has_unknown_column d = any_member (λ _ t. lacks_named_column t) (section (codes "tableTemplates") d)

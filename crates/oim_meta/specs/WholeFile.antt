@@ -1,0 +1,31 @@
+-- A CSV file (RFC 4180) of entries, said of all its records at once.
+use Rattle.std.specs.Prelude.{ℕ, ◌+◌, ◌≤◌, ◌≡◌, ◌&&◌, if◌then◌else◌, List, [], ◌∷◌, Bool, true, zero, suc, Option, Some, None, Result, Ok, Err, MatchResult, length, map, take}
+use Rattle.std.specs.List.{All}
+use Rattle.std.specs.Option.{is_some, option_and_then, option_or}
+use Rattle.std.specs.Str.{bytes_eq, is_utf8}
+use Rattle.oim_names.specs.Names.{is_identifier}
+use Rattle.oim_meta.specs.CsvFiles.{EntryFile, all_of, one_more, three_texts}
+use Rattle.oim_meta.specs.Grid.{Field, Record}
+use Rattle.oim_meta.specs.Parameters.{ParametersValue}
+use Rattle.oim_meta.specs.TypesFile.{kind_of_word}
+use Rattle.oim_meta.specs.declared.fault.MetaFault.{MetaFault}
+use Rattle.oim_meta.specs.declared.kind.Kind.{Kind}
+
+-- the record at a place
+abbrev pub record_at : List Record → ℕ → Option Record
+record_at [] m = None
+record_at (r ∷ rs) zero = Some r
+record_at (r ∷ rs) (suc m) = record_at rs m
+
+-- all records before a place are good, and the one there has this fault after them
+abbrev pub IsEarliestBad : {S : Type 0} → EntryFile S → ℕ → S → List Record → MetaFault → Type 0
+IsEarliestBad {S} f n s rs e = (m : ℕ) × (r : Record) × (t : S) × (record_at rs m ≡ Some r) × (all_of f n s (take m rs) ≡ Ok t) × (one_more f (n + m) t r ≡ Err e)
+
+-- the kind that a record gives to a name of a namespace
+abbrev pub kind_by : List ℕ → List ℕ → Field × Field × Field → Option Kind
+kind_by uri local p = if bytes_eq p.0 uri && bytes_eq p.1 local then kind_of_word p.2 else None
+
+-- the kind that the records give to a name of a namespace, the first that does
+abbrev pub kind_said : List Record → List ℕ → List ℕ → Option Kind
+kind_said [] uri local = None
+kind_said (r ∷ rs) uri local = option_or (option_and_then (kind_by uri local) (three_texts r)) (kind_said rs uri local)

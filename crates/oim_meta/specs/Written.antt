@@ -1,0 +1,53 @@
+-- A dimension's value as the metadata writes it (xBRL-CSV 1.0: literals, parameter references and
+-- row numbers; its special values).
+use Rattle.std.specs.Prelude.{ℕ, ◌-◌, List, bytes_eq, nat_eq, length, take, drop, Option, Some, None, codes, if◌then◌else◌}
+use Rattle.std.specs.List.{starts_with, ends_with}
+use Rattle.oim_cells.specs.Cells.{Meaning, meaning_of}
+use Rattle.oim_cells.specs.Cells as meaning
+use Rattle.oim_meta.specs.declared.data.Side.{Side}
+use Rattle.oim_meta.specs.declared.data.Side.TheVariants.{Whole, Start, End}
+use Rattle.oim_meta.specs.declared.data.Written.{Written}
+use Rattle.oim_meta.specs.declared.data.Written.TheVariants.{Absent, Nil, Empty, Text, RowNumber, Named}
+
+-- what stands after p
+unfoldable pub strip_front : List ℕ → List ℕ → Option (List ℕ)
+strip_front p s = if starts_with nat_eq s p then Some (drop (length p) s) else None
+
+-- what stands before p
+unfoldable pub strip_back : List ℕ → List ℕ → Option (List ℕ)
+strip_back p s = if ends_with nat_eq s p then Some (take (length s - length p) s) else None
+
+-- the number of the row, or what a name gives
+abbrev pub named : List ℕ → Side → Written
+named name side = if bytes_eq name (codes "rowNumber") then RowNumber side else Named name side
+
+abbrev pub or_whole : List ℕ → Option (List ℕ) → Option (List ℕ) → Written
+or_whole name (Some front) end = named front Start
+or_whole name None (Some front) = named front End
+or_whole name None None = named name Whole
+
+-- a reference without its dollar sign: only in period it may have a side
+unfoldable pub reference_of : List ℕ → List ℕ → Written
+reference_of key name =
+    if bytes_eq key (codes "period") then or_whole name (strip_back (codes "@start") name) (strip_back (codes "@end") name) else named name Whole
+
+-- a meaning, written; one that there is not has a fault of its own
+abbrev pub literal_by : Meaning → Written
+literal_by meaning.Absent = Absent
+literal_by meaning.Nil = Nil
+literal_by meaning.Empty = Empty
+literal_by (meaning.Text s) = Text s
+literal_by meaning.Unknown = Absent
+
+abbrev pub unless_dollar : List ℕ → List ℕ → Option (List ℕ) → Written
+unless_dollar key rest (Some doubled) = Text rest
+unless_dollar key rest None = reference_of key rest
+
+abbrev pub by_dollar : List ℕ → List ℕ → Option (List ℕ) → Written
+by_dollar key s (Some rest) = unless_dollar key rest (strip_front (codes "$") rest)
+by_dollar key s None = literal_by (meaning_of s)
+
+-- what a text says at a dimension's key: after two dollar signs a text, after one a reference,
+-- else a literal
+abbrev pub written_of : List ℕ → List ℕ → Written
+written_of key s = by_dollar key s (strip_front (codes "$") s)

@@ -1,0 +1,104 @@
+ghost use Rattle.std.specs.Prelude.{◌≡◌, ℕ, List, IfOk, OnOk, option_map};
+ghost use Rattle.serde_json.specs.Data.{Data};
+ghost use Rattle.serde_json.specs.View.{view, items_view, members_view};
+ghost use Rattle.oim_meta.specs.Members.{section, items_at, map_members, map_items, text_of as text_in};
+ghost use Rattle.oim_meta.specs.Order.{names_of, IsRising};
+ghost use Rattle.oim_meta.specs.Value.{flag_at, named_text};
+
+use crate::json::{list_at, object_at};
+use oim_names::{Items, Text};
+use serde_json::{Map, Value};
+use std::alloc::{AllocError, Global};
+
+/// A value that is made from an object's member.
+pub(crate) trait FromMember {
+    ghost of: { List ℕ → Data → Self };
+
+    fn from_member(alloc: Global, name: &str, value: &Value) -> Result<Self, AllocError>
+    where
+        Self: Sized,
+        ensures { IfOk result (λ made. made ≡ of name.now (view value.now)) };
+}
+
+/// What an object's members make, in their order, which is that of their names.
+pub(crate) fn vec_of<T: FromMember + Drop>(
+    alloc: Global,
+    members: &Map<String, Value>,
+) -> Result<Vec<T>, AllocError>
+    ensures made { IfOk result
+        (λ made. made.items ≡ map_members T.of (members_view members.now.entries)) }
+    ensures rising { OnOk result (IsRising (names_of (members_view members.now.entries))) }
+{
+    let mut made = Vec::with_capacity(alloc, members.len())?;
+    for (name, member) in members.iter() {
+        made.push(T::from_member(alloc, name.as_str(), member)?)?;
+    }
+    Ok(made)
+}
+
+/// What the members of the object at a key make, in their order.
+pub(crate) fn list_from<T: FromMember + Drop>(
+    alloc: Global,
+    value: &Value,
+    key: &str,
+) -> Result<Items<T>, AllocError>
+    ensures { IfOk result (λ made. made ≡ map_members T.of (section key.now (view value.now))) }
+{
+    match object_at(value, key) {
+        Some(members) => Ok(Items::from_vec(vec_of(alloc, members)?)),
+        None => Ok(Items::new(alloc)),
+    }
+}
+
+/// The text, or the empty one where the value is no text.
+fn text_of(alloc: Global, value: &Value) -> Result<Text, AllocError>
+    ensures { IfOk result (λ made. made ≡ text_in (view value.now)) }
+{
+    Text::from_str(alloc, value.as_str().unwrap_or(""))
+}
+
+impl FromMember for (Text, Text) {
+    ghost of = { named_text };
+
+    fn from_member(alloc: Global, name: &str, value: &Value) -> Result<(Text, Text), AllocError> {
+        let name = Text::from_str(alloc, name)?;
+        Ok((name, text_of(alloc, value)?))
+    }
+}
+
+/// The truth value at a key; false where there is none.
+pub(crate) fn flag(value: &Value, key: &str) -> bool
+    ensures { result ≡ flag_at key.now (view value.now) }
+{
+    value.get(key).and_then(Value::as_bool).unwrap_or(false)
+}
+
+fn texts(alloc: Global, items: &[Value]) -> Result<Vec<Text>, AllocError>
+    ensures { IfOk result (λ made. made.items ≡ map_items text_in (items_view items.now)) }
+{
+    let mut made = Vec::new(alloc);
+    for item in items {
+        made.push(text_of(alloc, item)?)?;
+    }
+    Ok(made)
+}
+
+/// The texts of the list at a key, in its order.
+pub(crate) fn texts_at(alloc: Global, value: &Value, key: &str) -> Result<Items<Text>, AllocError>
+    ensures { IfOk result (λ made. made ≡ map_items text_in (items_at key.now (view value.now))) }
+{
+    match list_at(value, key) {
+        Some(items) => Ok(Items::from_vec(texts(alloc, items)?)),
+        None => Ok(Items::new(alloc)),
+    }
+}
+
+/// A copy of a text, where there is one.
+pub(crate) fn copied(alloc: Global, text: Option<&str>) -> Result<Option<Text>, AllocError>
+    ensures { IfOk result (λ made. made ≡ option_map (λ s. s.now) text.entry) }
+{
+    match text {
+        Some(text) => Ok(Some(Text::from_str(alloc, text)?)),
+        None => Ok(None),
+    }
+}

@@ -1,0 +1,74 @@
+ghost use Rattle.std.specs.Prelude.{◌≡◌, IfOk, OnOk};
+ghost use Rattle.serde_json.specs.Find.{as_str};
+ghost use Rattle.serde_json.specs.View.{view, items_view, members_view};
+ghost use Rattle.oim_meta.specs.Members.{section};
+ghost use Rattle.oim_meta.specs.Value.{place_of, add_new, add_place, places_of};
+
+use crate::json::object_at;
+use serde_json::{Map, Value};
+use std::alloc::{AllocError, Global};
+
+/// The place of a name among the members; how many there are where it isn't there.
+fn place(members: &Map<String, Value>, name: &str) -> usize
+    ensures { result ≡ place_of name.now (members_view members.now.entries) }
+{
+    let mut place = 0;
+    for (key, _) in members.iter() {
+        if name == key.as_str() {
+            return place;
+        }
+        place += 1;
+    }
+    place
+}
+
+/// The place of a name among the members of the object at a key.
+pub(crate) fn place_at(value: &Value, key: &str, name: &str) -> usize
+    ensures { result ≡ place_of name.now (section key.now (view value.now)) }
+{
+    match object_at(value, key) {
+        Some(members) => place(members, name),
+        None => 0,
+    }
+}
+
+/// Appends a place, unless it is there.
+fn push_new(made: &mut Vec<usize>, place: usize) -> Result<(), AllocError>
+    ensures { OnOk result (made.new.items ≡ add_new made.old.items place) }
+{
+    if !made.contains(&place) {
+        made.push(place)?;
+    }
+    Ok(())
+}
+
+/// Appends the place of a name, unless it is there.
+fn push_place(
+    made: &mut Vec<usize>,
+    columns: &Map<String, Value>,
+    name: &Value,
+) -> Result<(), AllocError>
+    ensures { OnOk result (made.new.items
+        ≡ add_place (members_view columns.now.entries) made.old.items (as_str (view name.now))) }
+{
+    match name.as_str() {
+        Some(name) => push_new(made, place(columns, name)),
+        None => Ok(()),
+    }
+}
+
+/// The places of names among columns, each at its first place alone.
+pub(crate) fn places(
+    alloc: Global,
+    columns: &Map<String, Value>,
+    names: &[Value],
+) -> Result<Vec<usize>, AllocError>
+    ensures { IfOk result
+        (λ made. made.items ≡ places_of (members_view columns.now.entries) (items_view names.now)) }
+{
+    let mut made = Vec::new(alloc);
+    for name in names {
+        push_place(&mut made, columns, name)?;
+    }
+    Ok(made)
+}

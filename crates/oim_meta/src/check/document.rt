@@ -1,0 +1,189 @@
+//! The faults of the document as a whole: its type, its namespaces, its taxonomy, and what is not
+//! supported.
+
+ghost use Rattle.std.specs.Prelude.{◌≡◌, codes, true};
+ghost use Rattle.serde_json.specs.Find.{get};
+ghost use Rattle.serde_json.specs.View.{view, items_view, members_view};
+ghost use Rattle.oim_meta.specs.Members.{any_item, if_there, no_object_or};
+ghost use Rattle.oim_meta.specs.Faults.{is_csv, has_no_report, has_bad_prefix, has_bad_namespaces, has_no_text, is_no_texts as not_texts, is_no_text as not_text, has_bad_taxonomy, is_no_empty_list as not_empty_list, info_at as at_info, is_unsupported};
+
+use crate::json::text_at;
+use crate::members::{MemberTest, any_member, is_no_object_or_any};
+use crate::order::repeats_text;
+use oim_names::is_ncname;
+use serde_json::{Map, Value};
+
+fn is_csv_type(info: &Value) -> bool
+    ensures { result ≡ is_csv (view info.now) }
+{
+    match text_at(info, "documentType") {
+        Some(text) => text == "https://xbrl.org/2021/xbrl-csv",
+        None => false,
+    }
+}
+
+/// Whether there is no document information, or another type of document.
+#[tactic(auto, unfolding(crate::specs::Faults::has_no_report))]
+pub(crate) fn no_report(report: &Value) -> bool
+    ensures { result ≡ has_no_report (view report.now) }
+{
+    match report.get("documentInfo") {
+        Some(info) => !is_csv_type(info),
+        None => true,
+    }
+}
+
+/// A prefix that is no NCName, or a URI that is no text.
+struct BadPrefix;
+
+impl MemberTest for BadPrefix {
+    ghost use Rattle.oim_meta.specs.Faults.{is_bad_prefix};
+
+    ghost test = { λ _. is_bad_prefix };
+
+    fn passes(&self, prefix: &str, uri: &Value) -> bool {
+        !is_ncname(prefix) || !uri.is_string()
+    }
+}
+
+fn bad_prefixes(members: &Map<String, Value>) -> bool
+    ensures { result ≡ has_bad_prefix (members_view members.now.entries) }
+{
+    any_member(&BadPrefix, members) || repeats_text(members)
+}
+
+fn bad_namespace_map(namespaces: &Value) -> bool
+    ensures { result ≡ no_object_or has_bad_prefix (view namespaces.now) }
+{
+    match namespaces.as_object() {
+        Some(members) => bad_prefixes(members),
+        None => true,
+    }
+}
+
+/// Whether the namespaces of the document information have a fault.
+#[tactic(auto, unfolding(crate::specs::Faults::has_bad_namespaces))]
+fn bad_namespaces(info: &Value) -> bool
+    ensures { result ≡ has_bad_namespaces (view info.now) }
+{
+    match info.get("namespaces") {
+        Some(namespaces) => bad_namespace_map(namespaces),
+        None => false,
+    }
+}
+
+/// Whether there is document information with such a fault.
+pub(crate) fn bad_namespaces_in(report: &Value) -> bool
+    ensures { result
+        ≡ if_there has_bad_namespaces (get (codes "documentInfo") (view report.now)) }
+{
+    match report.get("documentInfo") {
+        Some(info) => bad_namespaces(info),
+        None => false,
+    }
+}
+
+fn lacks_text(items: &[Value]) -> bool
+    ensures { result ≡ has_no_text (items_view items.now) }
+{
+    for item in items {
+        if !item.is_string() {
+            return true;
+        }
+    }
+    false
+}
+
+/// Whether a value is no list of texts.
+pub(crate) fn is_no_texts(value: &Value) -> bool
+    ensures { result ≡ not_texts (view value.now) }
+{
+    match value.as_array() {
+        Some(items) => lacks_text(items),
+        None => true,
+    }
+}
+
+/// Whether there is a value at a key that is no text.
+pub(crate) fn is_no_text_at(value: &Value, key: &str) -> bool
+    ensures { result ≡ if_there not_text (get key.now (view value.now)) }
+{
+    match value.get(key) {
+        Some(value) => !value.is_string(),
+        None => false,
+    }
+}
+
+/// Whether the taxonomy or the base URL of the document information has a fault.
+#[tactic(auto, unfolding(crate::specs::Faults::has_bad_taxonomy))]
+fn bad_taxonomy(info: &Value) -> bool
+    ensures { result ≡ has_bad_taxonomy (view info.now) }
+{
+    let lacks_list = match info.get("taxonomy") {
+        Some(taxonomy) => is_no_texts(taxonomy),
+        None => true,
+    };
+    lacks_list || is_no_text_at(info, "baseURL")
+}
+
+/// Whether there is document information with such a fault.
+pub(crate) fn bad_taxonomy_in(report: &Value) -> bool
+    ensures { result ≡ if_there has_bad_taxonomy (get (codes "documentInfo") (view report.now)) }
+{
+    match report.get("documentInfo") {
+        Some(info) => bad_taxonomy(info),
+        None => false,
+    }
+}
+
+fn has_item(items: &[Value]) -> bool
+    ensures { result ≡ any_item (λ _. true) (items_view items.now) }
+{
+    matches!(items, [_, ..])
+}
+
+fn is_no_empty_list(value: &Value) -> bool
+    ensures { result ≡ not_empty_list (view value.now) }
+{
+    match value.as_array() {
+        Some(items) => has_item(items),
+        None => true,
+    }
+}
+
+/// Any member at all.
+struct Anything;
+
+impl MemberTest for Anything {
+    ghost use Rattle.oim_meta.specs.Faults.{is_anything};
+
+    ghost test = { λ _. is_anything };
+
+    fn passes(&self, _name: &str, _value: &Value) -> bool {
+        true
+    }
+}
+
+fn extends_another(report: &Value) -> bool
+    ensures { result ≡ if_there not_empty_list (at_info (codes "extends") (view report.now)) }
+{
+    match report
+        .get("documentInfo")
+        .and_then(|info| info.get("extends"))
+    {
+        Some(extended) => is_no_empty_list(extended),
+        None => false,
+    }
+}
+
+/// Whether the metadata extends another, or has links.
+#[tactic(auto, unfolding(crate::specs::Faults::is_unsupported))]
+pub(crate) fn unsupported(report: &Value) -> bool
+    ensures { result ≡ is_unsupported (view report.now) }
+{
+    let has_links = match report.get("links") {
+        Some(links) => is_no_object_or_any(&Anything, links),
+        None => false,
+    };
+    extends_another(report) || has_links
+}

@@ -1,0 +1,58 @@
+//! The prefixes of a metadata, for the names in it.
+
+ghost use Rattle.std.specs.Prelude.{◌≡◌, IfOk, codes, false};
+ghost use Rattle.serde_json.specs.Find.{get};
+ghost use Rattle.serde_json.specs.View.{view, members_view};
+ghost use Rattle.oim_meta.specs.Members.{if_there, section};
+ghost use Rattle.oim_meta.specs.Faults.{has_bad_prefix, has_bad_namespaces};
+ghost use Rattle.oim_meta.specs.Prefixes.{bindings_of, prefixes_of};
+
+use crate::json::object_at;
+use oim_names::{Items, Namespaces, Text};
+use serde_json::{Map, Value};
+use std::alloc::{AllocError, Global};
+
+fn bindings(alloc: Global, members: &Map<String, Value>) -> Result<Vec<(Text, Text)>, AllocError>
+    ensures { IfOk result (λ made. made.items ≡ bindings_of (members_view members.now.entries)) }
+{
+    let mut made = Vec::new(alloc);
+    for (prefix, uri) in members.iter() {
+        let prefix = Text::from_str(alloc, prefix.as_str())?;
+        made.push((prefix, Text::from_str(alloc, uri.as_str().unwrap_or(""))?))?;
+    }
+    Ok(made)
+}
+
+/// The prefixes of an object of URIs.
+#[tactic(auto, using(crate::proofs::Bound::namespaces_are))]
+fn namespaces(alloc: Global, members: &Map<String, Value>) -> Result<Namespaces, AllocError>
+    requires { has_bad_prefix (members_view members.now.entries) ≡ false }
+    ensures { IfOk result (λ names. names ≡ bindings_of (members_view members.now.entries)) }
+{
+    let _count = members.len();
+    let made = bindings(alloc, members)?;
+    Ok(Namespaces::from_bindings(alloc, Items::from_vec(made)))
+}
+
+#[tactic(auto, unfolding(crate::specs::Faults::has_bad_namespaces))]
+fn namespaces_in(alloc: Global, info: &Value) -> Result<Namespaces, AllocError>
+    requires { has_bad_namespaces (view info.now) ≡ false }
+    ensures { IfOk result
+        (λ names. names ≡ bindings_of (section (codes "namespaces") (view info.now))) }
+{
+    match object_at(info, "namespaces") {
+        Some(members) => namespaces(alloc, members),
+        None => Ok(Namespaces::new(alloc)),
+    }
+}
+
+/// The prefixes that the document information gives.
+pub(crate) fn prefixes(alloc: Global, report: &Value) -> Result<Namespaces, AllocError>
+    requires { if_there has_bad_namespaces (get (codes "documentInfo") (view report.now)) ≡ false }
+    ensures { IfOk result (λ names. names ≡ prefixes_of (view report.now)) }
+{
+    match report.get("documentInfo") {
+        Some(info) => namespaces_in(alloc, info),
+        None => Ok(Namespaces::new(alloc)),
+    }
+}

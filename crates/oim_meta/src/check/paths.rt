@@ -1,0 +1,54 @@
+//! Plain paths.
+
+ghost use Rattle.std.specs.Prelude.{◌≡◌};
+ghost use Rattle.std.specs.List.{list_any};
+ghost use Rattle.oim_meta.specs.PlainPath.{is_barred as barred, is_bad_segment as bad_segment, first_segment, later_segments, is_plain_path as plain_path};
+
+fn is_barred(byte: u8) -> bool
+    ensures { result ≡ barred byte }
+{
+    byte < 32 || byte == b'\\' || byte == b':' || byte == b'?' || byte == b'#' || byte == b'%'
+}
+
+fn has_barred(path: &[u8]) -> bool
+    ensures { result ≡ list_any barred path.now }
+{
+    for byte in path {
+        if is_barred(*byte) {
+            return true;
+        }
+    }
+    false
+}
+
+/// Whether the segment that a text begins with is empty, `.` or `..`.
+fn begins_badly(text: &[u8]) -> bool
+    ensures { result ≡ bad_segment (first_segment text.now) }
+{
+    matches!(
+        text,
+        [] | [b'/', ..] | [b'.'] | [b'.', b'/', ..] | [b'.', b'.'] | [b'.', b'.', b'/', ..]
+    )
+}
+
+/// Whether such a segment follows a slash.
+fn goes_on_badly(path: &[u8]) -> bool
+    ensures { result ≡ list_any bad_segment (later_segments path.now) }
+{
+    for i in 0..path.len() {
+        if path[i] == b'/' && begins_badly(&path[i + 1..]) {
+            return true;
+        }
+    }
+    false
+}
+
+/// Whether a path is relative and plain: no character in it that a URL would read, and no empty
+/// segment, `.` or `..`.
+#[tactic(auto, unfolding(crate::specs::PlainPath::is_plain_path))]
+pub(crate) fn is_plain_path(path: &str) -> bool
+    ensures { result ≡ plain_path path.now }
+{
+    let bytes = path.as_bytes();
+    !has_barred(bytes) && !begins_badly(bytes) && !goes_on_badly(bytes)
+}

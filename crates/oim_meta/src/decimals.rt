@@ -1,0 +1,69 @@
+ghost use Rattle.std.specs.Prelude.{◌≡◌, IfOk};
+ghost use Rattle.serde_json.specs.View.{view};
+ghost use Rattle.oim_cells.specs.Cells.{accuracy_of};
+ghost use Rattle.oim_meta.specs.Decimals.{in_range as range_of, whole_of, named_decimals, fixed_by, text_decimals as decimals_in, decimals_of};
+
+use crate::data::WrittenDecimals;
+use crate::written::strip_front;
+use oim_cells::Accuracy;
+use oim_names::Text;
+use serde_json::Value;
+use std::alloc::{AllocError, Global};
+
+fn in_range(number: i64) -> Option<i32>
+    ensures { result ≡ range_of number }
+{
+    i32::try_from(number).ok()
+}
+
+/// The whole number of a value, where it fits 32 bits.
+pub(crate) fn whole(value: &Value) -> Option<i32>
+    ensures { result ≡ whole_of (view value.now) }
+{
+    match value.as_i64() {
+        Some(number) => in_range(number),
+        None => None,
+    }
+}
+
+fn named(alloc: Global, name: &str) -> Result<WrittenDecimals, AllocError>
+    ensures { IfOk result (λ made. made ≡ named_decimals name.now) }
+{
+    if name == "rowNumber" {
+        Ok(WrittenDecimals::RowNumber)
+    } else {
+        Ok(WrittenDecimals::Named(Text::from_str(alloc, name)?))
+    }
+}
+
+fn fixed(text: &str) -> WrittenDecimals
+    ensures { result ≡ fixed_by (accuracy_of text.now) }
+{
+    match oim_cells::decimals(text) {
+        Some(accuracy) => WrittenDecimals::Fixed(accuracy),
+        None => WrittenDecimals::Absent,
+    }
+}
+
+#[tactic(auto, unfolding(crate::specs::Decimals::text_decimals))]
+fn text_decimals(alloc: Global, text: &str) -> Result<WrittenDecimals, AllocError>
+    ensures { IfOk result (λ made. made ≡ decimals_in text.now) }
+{
+    if text == "#none" {
+        return Ok(WrittenDecimals::Absent);
+    }
+    match strip_front(text, "$") {
+        Some(name) => named(alloc, name),
+        None => Ok(fixed(text)),
+    }
+}
+
+/// What a value says as decimals.
+pub(crate) fn written_decimals(alloc: Global, value: &Value) -> Result<WrittenDecimals, AllocError>
+    ensures { IfOk result (λ made. made ≡ decimals_of (view value.now)) }
+{
+    match whole(value) {
+        Some(places) => Ok(WrittenDecimals::Fixed(Accuracy::Places(places))),
+        None => text_decimals(alloc, value.as_str().unwrap_or("")),
+    }
+}

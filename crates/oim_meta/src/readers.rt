@@ -1,0 +1,154 @@
+ghost use Rattle.std.specs.Prelude.{◌≡◌, ◌<◌, length, IfOk, IfSome};
+ghost use Rattle.std.specs.List.{All};
+ghost use Rattle.std.specs.Option.{option_map};
+ghost use Rattle.oim_meta.specs.Places.{HasColumns};
+ghost use Rattle.oim_meta.specs.Readers.{table_of, template_of, columns_of, column_of, parameter_of, kind_of};
+
+use crate::data::{Column, Info, Level, Table, Template};
+use crate::kind::Kind;
+use crate::report::Report;
+use oim_names::{Namespaces, find};
+use std::alloc::AllocError;
+
+impl Report {
+    /// What the document says of itself.
+    pub fn info(&self) -> &Info
+        ensures { result.now ≡ self.now.info }
+    {
+        &self.info
+    }
+
+    /// The prefixes with their URIs.
+    pub fn namespaces(&self) -> &Namespaces
+        ensures { result.now ≡ self.now.namespaces }
+    {
+        &self.namespaces
+    }
+
+    /// How many tables there are.
+    pub fn tables(&self) -> usize
+        ensures { result ≡ length self.now.tables }
+    {
+        self.tables.len()
+    }
+
+    fn table(&self, i: usize) -> &Table
+        requires { i < length self.now.tables }
+        ensures { result.now ≡ table_of self.now i }
+    {
+        &self.tables.as_slice()[i]
+    }
+
+    #[tactic(auto, using(crate::proofs::PlaceFacts::template_is_there, crate::proofs::PlaceFacts::template_has_columns))]
+    fn template(&self, i: usize) -> &Template
+        requires { i < length self.now.tables }
+        ensures template { result.now ≡ template_of self.now i }
+        ensures places { HasColumns result.now }
+    {
+        &self.templates.as_slice()[self.table(i).template]
+    }
+
+    /// The identifier of the table at a place, counted from 0 in byte order of identifier.
+    pub fn table_id(&self, i: usize) -> &str
+        requires { i < length self.now.tables }
+        ensures { result.now ≡ (table_of self.now i).id }
+    {
+        self.table(i).id.as_str()
+    }
+
+    /// The URL of a table's file, a plain relative path.
+    pub fn table_url(&self, i: usize) -> &str
+        requires { i < length self.now.tables }
+        ensures { result.now ≡ (table_of self.now i).url }
+    {
+        self.table(i).url.as_str()
+    }
+
+    /// Whether a table's file may be missing.
+    pub fn is_optional(&self, i: usize) -> bool
+        requires { i < length self.now.tables }
+        ensures { result ≡ (table_of self.now i).is_optional }
+    {
+        self.table(i).is_optional
+    }
+
+    /// How many columns the template of a table has.
+    pub fn columns(&self, i: usize) -> usize
+        requires { i < length self.now.tables }
+        ensures { result ≡ length (columns_of self.now i) }
+    {
+        self.template(i).columns.len()
+    }
+
+    /// The columns of a table's template, in byte order of identifier.
+    pub fn template_columns(&self, i: usize) -> &[Column]
+        requires { i < length self.now.tables }
+        ensures { result.now ≡ columns_of self.now i }
+    {
+        self.template(i).columns.as_slice()
+    }
+
+    /// The column at a place of a table's template.
+    #[tactic(auto, using(crate::proofs::PlaceFacts::from_is_there))]
+    pub fn column(&self, i: usize, c: usize) -> &Column
+        requires table { i < length self.now.tables }
+        requires column { c < length (columns_of self.now i) }
+        ensures column { result.now ≡ column_of self.now i c }
+        ensures places { All (λ k. k < length (columns_of self.now i)) result.now.from }
+    {
+        &self.template(i).columns.as_slice()[c]
+    }
+
+    /// The place of the column of row identifiers, where the table's template names one.
+    #[tactic(auto, using(crate::proofs::PlaceFacts::row_id_is_there))]
+    pub fn row_id_column(&self, i: usize) -> Option<usize>
+        requires { i < length self.now.tables }
+        ensures column { result ≡ (template_of self.now i).row_id_column }
+        ensures place { IfSome result (λ c. c < length (columns_of self.now i)) }
+    {
+        self.template(i).row_id_column
+    }
+
+    /// What a table's template writes.
+    pub fn template_level(&self, i: usize) -> &Level
+        requires { i < length self.now.tables }
+        ensures { result.now ≡ (template_of self.now i).level }
+    {
+        &self.template(i).level
+    }
+
+    /// What the report writes.
+    pub fn report_level(&self) -> &Level
+        ensures { result.now ≡ self.now.level }
+    {
+        &self.level
+    }
+
+    /// The table's parameter of a name, else the report's.
+    pub fn parameter(&self, i: usize, name: &str) -> Option<&str>
+        requires { i < length self.now.tables }
+        ensures { option_map (λ t. t.now) result ≡ parameter_of self.now i name.now }
+    {
+        if let Some(text) = find(self.table(i).parameters.as_slice(), name) {
+            return Some(text.as_str());
+        }
+        match find(self.parameters.as_slice(), name) {
+            Some(text) => Some(text.as_str()),
+            None => None,
+        }
+    }
+
+    /// The kind of the concept or dimension of a URI and a local part.
+    pub fn kind_of(&self, uri: &str, local: &str) -> Option<Kind>
+        ensures { result ≡ kind_of self.now uri.now local.now }
+    {
+        self.types.kind_of(uri, local)
+    }
+
+    /// An equal report. The first stays as it is. Fails where memory is short.
+    pub fn clone_report(&self) -> Result<Report, AllocError>
+        ensures { IfOk result (λ copy. copy ≡ self.now) }
+    {
+        self.clone()
+    }
+}

@@ -1,0 +1,9 @@
+pub mod Begins
+pub mod Truth
+pub mod Bound
+pub mod Parentheses
+pub mod Measures
+pub mod Tags
+pub mod Cut
+pub mod Colons
+pub mod Examples

@@ -1,0 +1,7 @@
+pub mod Lookup
+pub mod Bindings
+pub mod QName
+pub mod Names
+pub mod Unit
+pub mod Language
+pub mod Fault

@@ -1,0 +1,64 @@
+ghost use Rattle.std.specs.Prelude.{◌≡◌, ◌↔◌, IfOk, IsSome};
+ghost use Rattle.std.specs.Int.{is_in_range};
+ghost use Rattle.std.specs.Option.{option_map};
+ghost use Rattle.std.specs.String.{string_bytes};
+ghost use Rattle.oim_names.specs.Language.{IsLanguage, is_letter as letter, is_letter_or_digit as letter_or_digit, is_part, is_language as language_text, language_of};
+
+use std::alloc::{AllocError, Global};
+
+fn is_letter(byte: u8) -> bool
+    ensures { result ≡ letter byte }
+{
+    matches!(byte, b'A'..=b'Z' | b'a'..=b'z')
+}
+
+fn is_letter_or_digit(byte: u8) -> bool
+    ensures { result ≡ letter_or_digit byte }
+{
+    is_letter(byte) || matches!(byte, b'0'..=b'9')
+}
+
+fn is_part_length(length: usize) -> bool
+    ensures { result ≡ is_in_range 1 8 length }
+{
+    matches!(length, 1..=8)
+}
+
+/// Whether a text is 1 to 8 letters.
+fn is_first_part(text: &str) -> bool
+    ensures { result ≡ is_part letter text.now }
+{
+    is_part_length(text.len()) && text.as_bytes().iter().all(|byte| is_letter(*byte))
+}
+
+/// Whether a text is 1 to 8 letters or digits.
+fn is_other_part(text: &str) -> bool
+    ensures { result ≡ is_part letter_or_digit text.now }
+{
+    is_part_length(text.len()) && text.as_bytes().iter().all(|byte| is_letter_or_digit(*byte))
+}
+
+/// Whether a text is a language tag by its form.
+fn is_language(text: &str) -> bool
+    ensures { result ≡ language_text text.now }
+{
+    match text.split_once('-') {
+        Some((first, others)) => is_first_part(first)
+            && others.split('-').all(|part| is_other_part(part)),
+        None => is_first_part(text),
+    }
+}
+
+/// A language as it is written: 1 to 8 letters of `A` to `Z` and `a` to `z`, then any number of groups of `-` and 1 to 8
+/// such letters or digits (BCP 47; xBRL-JSON 1.0, language), with its letters in lower case. None for any other text.
+/// Fails where memory is short.
+pub fn language(alloc: Global, text: &str) -> Result<Option<String>, AllocError>
+    ensures grammar { IfOk result (λ o. IsSome o ↔ IsLanguage text.now) }
+    ensures value { IfOk result (λ o. option_map string_bytes o ≡ language_of text.now) }
+{
+    if is_language(text) {
+        Ok(Some(text.to_ascii_lowercase(alloc)?))
+    } else {
+        Ok(None)
+    }
+}

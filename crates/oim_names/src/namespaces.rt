@@ -1,0 +1,169 @@
+ghost use Rattle.std.specs.Prelude.{◌≡◌, ◌↔◌, ◌<◌, [], option_map, length, true, false, ◌||◌, is_some, OnOk, OnErr, Err, Some, slice_get};
+ghost use Rattle.std.specs.List.{prefix_len};
+ghost use Rattle.oim_names.specs.Names.{is_ncname as ncname};
+ghost use Rattle.oim_names.specs.Fault.{number_of, name_of};
+ghost use Rattle.oim_names.specs.Bindings.{AreInOrder, HaveOwnUris, uri_of, has_uri as uri_in, is_before, bound, Extends, IsNamespaces};
+
+use crate::is_ncname;
+use crate::text::{Items, Text, find};
+use std::alloc::{AllocError, Global};
+use std::marker::Model;
+
+/// Why a prefix can't be bound.
+#[derive(Clone, Copy, Debug, PartialEq, Eq)]
+pub enum NameFault {
+    /// The prefix is no name without a colon.
+    BadPrefix,
+    /// The prefix or the URI is there already.
+    Repeated,
+    /// Memory is short.
+    Memory,
+}
+
+impl NameFault {
+    /// The fault's number: 60 for BadPrefix, 61 for Repeated, 62 for Memory.
+    pub fn number(&self) -> u32
+        ensures { result ≡ number_of self.now }
+    {
+        match self {
+            NameFault::BadPrefix => 60,
+            NameFault::Repeated => 61,
+            NameFault::Memory => 62,
+        }
+    }
+
+    /// The fault's name, as it is written in the code.
+    pub fn name(&self) -> &'static str
+        ensures { result.now ≡ name_of self.now }
+    {
+        match self {
+            NameFault::BadPrefix => "BadPrefix",
+            NameFault::Repeated => "Repeated",
+            NameFault::Memory => "Memory",
+        }
+    }
+}
+
+/// The namespaces of a report: prefixes with their URIs, each prefix and each URI once. A prefix is a name without a colon
+/// (XML 1.0; Namespaces in XML 1.0), a URI any text. A contract sees the list of them in byte order of prefix.
+#[derive(Drop)]
+pub struct Namespaces {
+    bindings: Items<(Text, Text)>,
+    alloc: Global,
+}
+
+impl Model for Namespaces {
+    ghost use Rattle.oim_names.specs.Bindings.{Bindings, AreInOrder, HaveOwnUris};
+
+    ghost Value = { Bindings };
+
+    ghost view = { λ n. n.bindings };
+
+    ghost invariant = { λ n. AreInOrder n.bindings × HaveOwnUris n.bindings };
+}
+
+impl Clone for Namespaces {
+    ghost is_clone = { λ v w. w ≡ v };
+
+    fn clone(&self) -> Result<Namespaces, AllocError> {
+        Ok(Namespaces {
+            bindings: self.bindings.clone()?,
+            alloc: self.alloc,
+        })
+    }
+}
+
+/// How many prefixes stand before one in byte order.
+fn place_of(bindings: &[(Text, Text)], prefix: &str) -> usize
+    ensures { result ≡ prefix_len (λ e. is_before e.0 prefix.now) bindings.now }
+{
+    bindings
+        .iter()
+        .take_while(|binding| binding.0.as_str() < prefix)
+        .count()
+}
+
+/// Whether some prefix has the URI.
+fn any_uri(bindings: &[(Text, Text)], uri: &str) -> bool
+    ensures { result ≡ uri_in bindings.now uri.now }
+{
+    bindings.iter().any(|binding| binding.1.as_str() == uri)
+}
+
+impl Namespaces {
+    /// No prefixes at all. It takes no memory; the allocator is kept for `add`.
+    pub fn new(alloc: Global) -> Self
+        ensures { result ≡ [] }
+    {
+        Namespaces {
+            bindings: Items::new(alloc),
+            alloc,
+        }
+    }
+
+    /// The namespaces of a list whose prefixes rise strictly in byte order and in which no URI stands twice. It takes no
+    /// memory.
+    pub fn from_bindings(alloc: Global, bindings: Items<(Text, Text)>) -> Self
+        requires { IsNamespaces bindings }
+        ensures { result ≡ bindings }
+    {
+        Namespaces { bindings, alloc }
+    }
+
+    /// How many prefixes there are. They rise strictly in byte order, and no URI stands twice. It takes no memory.
+    pub fn len(&self) -> usize
+        ensures count { result ≡ length self.now }
+        ensures in_order { AreInOrder self.now }
+        ensures own_uris { HaveOwnUris self.now }
+    {
+        self.bindings.len()
+    }
+
+    /// The URI of a prefix, None where the prefix isn't bound. It takes no memory.
+    pub fn uri(&self, prefix: &str) -> Option<&str>
+        ensures { option_map (λ u. u.now) result ≡ uri_of self.now prefix.now }
+    {
+        match find(self.bindings.as_slice(), prefix) {
+            Some(uri) => Some(uri.as_str()),
+            None => None,
+        }
+    }
+
+    /// The prefix and the URI at a place, counted from 0, in byte order of prefix. It takes no memory.
+    pub fn at(&self, i: usize) -> (&str, &str)
+        requires { i < length self.now }
+        ensures { slice_get self.now i ≡ Some (result.0.now, result.1.now) }
+    {
+        let binding = self.bindings.get(i);
+        (binding.0.as_str(), binding.1.as_str())
+    }
+
+    /// Binds a prefix to a URI. BadPrefix where the prefix is no name without a colon, else Repeated where the prefix or
+    /// the URI is there already, else Memory where memory is short. A refusal changes nothing.
+    pub fn add(&mut self, prefix: &str, uri: &str) -> Result<(), NameFault>
+        ensures bad_prefix { (result ≡ Err NameFault.BadPrefix) ↔ (ncname prefix.now ≡ false) }
+        ensures repeated { (result ≡ Err NameFault.Repeated)
+            ↔ ((ncname prefix.now ≡ true) × ((is_some (uri_of self.old prefix.now) || uri_in self.old uri.now) ≡ true)) }
+        ensures ok { OnOk result (self.new ≡ bound self.old prefix.now uri.now) }
+        ensures extends { OnOk result (Extends self.old prefix.now uri.now self.new) }
+        ensures err { OnErr result (self.new ≡ self.old) }
+    {
+        if !is_ncname(prefix) {
+            return Err(NameFault::BadPrefix);
+        }
+        if self.uri(prefix).is_some() || any_uri(self.bindings.as_slice(), uri) {
+            return Err(NameFault::Repeated);
+        }
+        let Ok(key) = Text::from_str(self.alloc, prefix) else {
+            return Err(NameFault::Memory);
+        };
+        let Ok(value) = Text::from_str(self.alloc, uri) else {
+            return Err(NameFault::Memory);
+        };
+        let place = place_of(self.bindings.as_slice(), prefix);
+        match self.bindings.insert(place, (key, value)) {
+            Ok(_) => Ok(()),
+            Err(_) => Err(NameFault::Memory),
+        }
+    }
+}

@@ -1,0 +1,156 @@
+//! Texts and lists that a contract sees as the list of their bytes, the list of their items.
+
+ghost use Rattle.std.specs.Prelude.{◌≡◌, ◌++◌, ◌∷◌, [], ◌<◌, ◌≤◌, length, Some, IfOk, is_ok, if◌then◌else◌, slice_get};
+ghost use Rattle.std.specs.List.{insert as inserted};
+ghost use Rattle.std.specs.Option.{option_map};
+ghost use Rattle.std.specs.String.{string_bytes};
+ghost use Rattle.oim_names.specs.Lookup.{value_at};
+
+use std::alloc::{AllocError, AllocFailed, Global};
+use std::marker::Model;
+
+/// A text. A contract sees its bytes.
+#[derive(Drop)]
+pub struct Text {
+    string: String,
+}
+
+impl Model for Text {
+    ghost use Rattle.std.specs.Prelude.{ℕ, List};
+    ghost use Rattle.std.specs.String.{string_bytes};
+
+    ghost Value = { List ℕ };
+
+    ghost view = { λ a. string_bytes a.string };
+}
+
+impl Text {
+    /// The same text, without a copy.
+    pub fn new(string: String) -> Text
+        ensures { result ≡ string_bytes string }
+    {
+        Text { string }
+    }
+
+    /// A copy of a text. Fails where memory is short.
+    pub fn from_str(alloc: Global, text: &str) -> Result<Text, AllocError>
+        ensures { IfOk result (λ t. t ≡ text.now) }
+    {
+        Ok(Text {
+            string: String::from_str(alloc, text)?,
+        })
+    }
+
+    /// The same text, without a copy.
+    pub fn into_string(self) -> String
+        ensures { string_bytes result ≡ self }
+    {
+        self.string
+    }
+
+    /// The text, lent.
+    pub fn as_str(&self) -> &str
+        ensures { result.now ≡ self.now }
+    {
+        self.string.as_str()
+    }
+}
+
+impl Clone for Text {
+    ghost is_clone = { λ v w. w ≡ v };
+
+    fn clone(&self) -> Result<Text, AllocError> {
+        Ok(Text {
+            string: self.string.clone()?,
+        })
+    }
+}
+
+/// A list. A contract sees its items.
+#[derive(Clone, Drop)]
+pub struct Items<T> {
+    items: Vec<T>,
+}
+
+impl<T> Model for Items<T> {
+    ghost use Rattle.std.specs.Prelude.{List};
+
+    ghost Value = { List T };
+
+    ghost view = { λ a. a.items.items };
+}
+
+impl<T> Items<T> {
+    /// The empty list. It takes no memory.
+    pub fn new(alloc: Global) -> Items<T>
+        ensures { result ≡ [] }
+    {
+        Items {
+            items: Vec::new(alloc),
+        }
+    }
+
+    /// The same list, without a copy.
+    pub fn from_vec(items: Vec<T>) -> Items<T>
+        ensures { result ≡ items.items }
+    {
+        Items { items }
+    }
+
+    /// The same list, without a copy.
+    pub fn into_vec(self) -> Vec<T>
+        ensures { result.items ≡ self }
+    {
+        self.items
+    }
+
+    /// Appends an item, which comes back where memory is short.
+    pub fn push(&mut self, item: T) -> Result<(), AllocFailed<T>>
+        ensures { self.new ≡ (if is_ok result then self.old ++ item ∷ [] else self.old) }
+    {
+        self.items.push(item)
+    }
+
+    /// Puts an item at a place, counted from 0; those from there on stand one place later. The item comes back where
+    /// memory is short.
+    pub fn insert(&mut self, place: usize, item: T) -> Result<(), AllocFailed<T>>
+        requires { place ≤ length self.old }
+        ensures { self.new ≡ (if is_ok result then inserted self.old place item else self.old) }
+    {
+        self.items.insert(place, item)
+    }
+
+    /// How many items there are.
+    pub fn len(&self) -> usize
+        ensures { result ≡ length self.now }
+    {
+        self.items.len()
+    }
+
+    /// The item at a place, counted from 0.
+    pub fn get(&self, i: usize) -> &T
+        requires { i < length self.now }
+        ensures { slice_get self.now i ≡ Some result.now }
+    {
+        &self.items[i]
+    }
+
+    /// The items, lent.
+    pub fn as_slice(&self) -> &[T]
+        ensures { result.now ≡ self.now }
+    {
+        self.items.as_slice()
+    }
+}
+
+/// The value beside a name, the first where the name stands twice. None where it doesn't stand there. It takes no memory.
+pub fn find<'a, V>(entries: &'a [(Text, V)], name: &str) -> Option<&'a V>
+    ensures { option_map (λ v. v.now) result ≡ value_at name.now entries.now }
+{
+    for (key, value) in entries {
+        if key.as_str() == name {
+            return Some(value);
+        }
+    }
+    None
+}

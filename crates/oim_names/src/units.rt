@@ -1,0 +1,72 @@
+ghost use Rattle.std.specs.Prelude.{◌≡◌, ◌↔◌, Some, IsSome, is_some};
+ghost use Rattle.oim_names.specs.QName.{qname_of};
+ghost use Rattle.oim_names.specs.Unit.{HasMeasures, IsPure, inside as text_inside, is_side as side_in, is_unit as unit_in, is_pure_name, unit_of};
+
+use crate::{Namespaces, UnitKind, qname};
+
+/// The text without one pair of parentheses that stands round it.
+fn inside(text: &str) -> &str
+    ensures { result.now ≡ text_inside text.now }
+{
+    let Some(rest) = text.strip_prefix('(') else {
+        return text;
+    };
+    match rest.strip_suffix(')') {
+        Some(inner) => inner,
+        None => text,
+    }
+}
+
+/// Whether a text is a QName.
+fn is_measure(names: &Namespaces, text: &str) -> bool
+    ensures { result ≡ is_some (qname_of names.now text.now) }
+{
+    qname(names, text).is_some()
+}
+
+/// Whether a text is QNames joined by `*`, bare or in one pair of parentheses.
+fn is_side(names: &Namespaces, text: &str) -> bool
+    ensures { result ≡ side_in names.now text.now }
+{
+    inside(text)
+        .split('*')
+        .all(|measure| is_measure(names, measure))
+}
+
+/// Whether a text is a side, or two sides with `/` between them.
+fn is_unit(names: &Namespaces, text: &str) -> bool
+    ensures { result ≡ unit_in names.now text.now }
+{
+    match text.split_once('/') {
+        Some((above, below)) => is_side(names, above) && is_side(names, below),
+        None => is_side(names, text),
+    }
+}
+
+/// Whether a text is the measure of a pure number, bare or in parentheses.
+fn is_pure(names: &Namespaces, text: &str) -> bool
+    ensures { result ≡ is_pure_name (qname_of names.now (text_inside text.now)) }
+{
+    match qname(names, inside(text)) {
+        Some((uri, local)) => uri == "http://www.xbrl.org/2003/instance" && local == "pure",
+        None => false,
+    }
+}
+
+/// The kind of a unit: one side or two with `/` between them, where a side is QNames joined by `*`, bare or in one pair
+/// of parentheses (xBRL-JSON 1.0, unit). It is Pure where its one measure is `pure` of
+/// `http://www.xbrl.org/2003/instance`, and else Written. None for any other text. It takes no memory.
+pub fn unit(names: &Namespaces, text: &str) -> Option<UnitKind>
+    ensures grammar { IsSome result ↔ HasMeasures names.now text.now }
+    ensures pure { (result ≡ Some UnitKind.Pure) ↔ IsPure names.now text.now }
+    ensures value { result ≡ unit_of names.now text.now }
+{
+    if !is_unit(names, text) {
+        return None;
+    }
+    if is_pure(names, text) {
+        Some(UnitKind::Pure)
+    } else {
+        Some(UnitKind::Written)
+    }
+}

@@ -1,0 +1,5 @@
+pub mod Calendar
+pub mod Digits
+pub mod Periods
+pub mod Table
+pub mod Reads

@@ -1,0 +1,11 @@
+ghost use Rattle.std.specs.Prelude.{◌<◌};
+ghost use Rattle.oim_period.specs.Calendar.{day_limit};
+
+/// Days, from the first up to the one before `after`.
+#[derive(Clone, Copy, Debug, PartialEq, Eq)]
+pub struct Days {
+    pub first: u32,
+    pub after: u32,
+    pub ghost ordered: { first < after },
+    pub ghost within: { after < day_limit },
+}

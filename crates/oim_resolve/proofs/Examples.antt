@@ -1,0 +1,310 @@
+-- Cells whose results are known, found by computing the definitions.
+use Rattle.std.proofs.Common.{◌≡◌, ℕ, ℤ, List, [], ◌∷◌, ◌++◌, Option, Some, None, Result, Ok, Err, codes, refl, false, pos, negsuc}
+use Rattle.std.specs.Str.{chars}
+use Rattle.oim_names.specs.Bindings.{Bindings}
+use Rattle.oim_names.specs.Names.{is_ncname, is_name_char, is_name_start}
+use Rattle.oim_names.specs.QName.{qname_of, sqname_of}
+use Rattle.oim_names.specs.Unit.{unit_of}
+use Rattle.oim_names.specs.Language.{language_of}
+use Rattle.oim_cells.specs.Cells.{meaning_of, numeral_of, accuracy_of}
+use Rattle.oim_cells.specs.declared.cells.NumberKind.TheVariants as number
+use Rattle.oim_cells.specs.declared.cells.Accuracy.TheVariants as accuracy
+use Rattle.oim_period.specs.Calendar.{days_of_years, days_of_months, day_number, is_date, is_week, is_clock}
+use Rattle.oim_period.specs.Digits.{one_at, two_at, four_at}
+use Rattle.oim_period.specs.Periods.{start_of, end_of, found, first_some, moment_by, moment_of, days_by, days_of, whole_days, in_order, pair_of, duration_of, without, period_of, first_number, year_of, month_of, date_in_year, day_text, moment_text, period_text}
+use Rattle.oim_meta.specs.ReportValue.{ReportValue}
+use Rattle.oim_meta.specs.declared.data.Column.{Column}
+use Rattle.oim_meta.specs.declared.data.ColumnKind.TheVariants as column
+use Rattle.oim_meta.specs.declared.data.Level.{Level}
+use Rattle.oim_meta.specs.declared.data.Side.TheVariants as side
+use Rattle.oim_meta.specs.declared.data.Table.{Table}
+use Rattle.oim_meta.specs.declared.data.Template.{Template}
+use Rattle.oim_meta.specs.declared.data.Written.{Written}
+use Rattle.oim_meta.specs.declared.data.Written.TheVariants as w
+use Rattle.oim_meta.specs.declared.data.WrittenDecimals.{WrittenDecimals}
+use Rattle.oim_meta.specs.declared.data.WrittenDecimals.TheVariants as d
+use Rattle.oim_meta.specs.declared.kind.Kind.{Kind}
+use Rattle.oim_meta.specs.declared.kind.Kind.TheVariants as kind
+use Rattle.oim_resolve.specs.declared.fact.Row.{Row}
+use Rattle.oim_resolve.specs.declared.fact.Fact.{Fact}
+use Rattle.oim_resolve.specs.declared.fact.CellFault.{CellFault}
+use Rattle.oim_resolve.specs.declared.fact.CellFault.TheVariants as fault
+use Rattle.oim_resolve.specs.Cell.{Cell}
+use Rattle.oim_resolve.specs.Facts.{cell_result, rest_faults, fact_of}
+
+abbrev names : Bindings
+names =
+    (codes "eg", codes "http://example.com/eg")
+    ∷ (codes "iso4217", codes "http://www.xbrl.org/2003/iso4217")
+    ∷ (codes "xbrli", codes "http://www.xbrl.org/2003/instance")
+    ∷ []
+
+abbrev types : List (List ℕ × List (List ℕ × Kind))
+types = (
+  codes "http://example.com/eg",
+  (codes "Branch", kind.Typed) ∷ (codes "Cash", kind.Number number.Integer) ∷ (codes "Mass", kind.Number number.Double)
+      ∷ (codes "Note", kind.Text) ∷ (codes "Rate", kind.Number number.Decimal) ∷ (codes "Region", kind.Explicit) ∷ [],
+) ∷ []
+
+-- a text, and a reference
+abbrev text : List ℕ → Written
+text t = w.Text t
+
+abbrev reference : List ℕ → Written
+reference n = w.Named n side.Whole
+
+abbrev level : List (List ℕ × Written) → Level
+level dimensions = record { dimensions = dimensions; decimals = None }
+
+abbrev base_level : List (List ℕ × Written)
+base_level = (codes "entity", text (codes "eg:A1")) ∷ (codes "period", text (codes "2021Q4")) ∷ (codes "unit", text (codes "iso4217:EUR")) ∷ []
+
+abbrev fact_column : List ℕ → List (List ℕ × Written) → List ℕ → Column
+fact_column id dimensions from = record { id = id; kind = column.Fact; level = level dimensions; groups = []; from = from }
+
+abbrev plain_column : List ℕ → Column
+plain_column id = record { id = id; kind = column.Plain; level = level []; groups = []; from = [] }
+
+abbrev template : List Column → Template
+template columns = record { id = codes "p"; columns = columns; row_id_column = None; level = level [] }
+
+abbrev table : List (List ℕ × List ℕ) → Table
+table parameters = record { id = codes "t1"; url = codes "t1.csv"; is_optional = false; template = 0; parameters = parameters }
+
+-- a report of one table t1: report dimensions and decimals, columns, the table's and the report's parameters
+abbrev report : (dimensions : List (List ℕ × Written)) → Option WrittenDecimals → (columns : List Column) → (of_table of_report : List (List ℕ × List ℕ)) → ReportValue
+report dimensions decimals columns of_table of_report = record {
+  info = record { base_url = None; taxonomy = [] };
+  namespaces = names;
+  types = types;
+  level = record { dimensions = dimensions; decimals = decimals };
+  templates = template columns ∷ [];
+  tables = table of_table ∷ [];
+  parameters = of_report;
+}
+
+abbrev row : List (List ℕ) → Row
+row cells = record { number = 1; id = codes "r_1"; cells = cells }
+
+-- what a cell of a report of these parts gives
+abbrev gives : (dimensions : List (List ℕ × Written)) → Option WrittenDecimals → (columns : List Column) → (of_table of_report : List (List ℕ × List ℕ)) → List (List ℕ) → ℕ → Result (Option Fact) CellFault
+gives dimensions decimals columns of_table of_report cells column =
+    cell_result (record { report = report dimensions decimals columns of_table of_report; table = 0; row = row cells; column = column })
+
+abbrev entry : List ℕ → List ℕ → List ℕ × Option (List ℕ)
+entry n t = (n, Some t)
+
+-- concept, entity and period of each fact
+abbrev common : List ℕ → List (List ℕ × Option (List ℕ))
+common concept = entry (codes "concept") concept ∷ entry (codes "entity") (codes "eg:A1") ∷ []
+
+abbrev period : List ℕ → List (List ℕ × Option (List ℕ))
+period t = entry (codes "period") t ∷ []
+
+abbrev quarter : List ℕ
+quarter = codes "2021-10-01T00:00:00/2022-01-01T00:00:00"
+
+abbrev with_period : List ℕ → List (List ℕ × Option (List ℕ))
+with_period concept = common concept ++ period quarter
+
+abbrev unit : List ℕ → List (List ℕ × Option (List ℕ))
+unit u = entry (codes "unit") u ∷ []
+
+abbrev fact : List ℕ → Option (List ℕ) → Option ℤ → List (List ℕ × Option (List ℕ)) → Result (Option Fact) CellFault
+fact column value decimals dimensions = Ok (Some (record { id = codes "t1.r_1." ++ column; value = value; decimals = decimals; dimensions = dimensions }))
+
+abbrev cash : List ℕ → List ℕ → List (List ℕ × Option (List ℕ)) → Result (Option Fact) CellFault
+cash column value more = fact column (Some value) None (with_period (codes "eg:Cash") ++ more)
+
+abbrev concept : List ℕ → List ℕ × Written
+concept t = (codes "concept", text t)
+
+-- a cell of one column of a concept
+abbrev in_base : List ℕ → List ℕ → Result (Option Fact) CellFault
+in_base c t = gives base_level None (fact_column (codes "x") (concept c ∷ []) [] ∷ []) [] [] (t ∷ []) 0
+
+abbrev note : Option (List ℕ) → Result (Option Fact) CellFault
+note value = fact (codes "x") value None (with_period (codes "eg:Note"))
+
+plain_number : in_base (codes "eg:Cash") (codes "100") ≡ cash (codes "x") (codes "100") (unit (codes "iso4217:EUR"))
+unfolding cell_result rest_faults fact_of meaning_of numeral_of accuracy_of chars is_ncname is_name_char is_name_start qname_of sqname_of unit_of language_of days_of_years days_of_months day_number is_date is_week is_clock one_at two_at four_at start_of end_of found first_some moment_by moment_of days_by days_of whole_days in_order pair_of duration_of without period_of first_number year_of month_of date_in_year day_text moment_text period_text
+plain_number = refl
+
+text_cell : in_base (codes "eg:Note") (codes "first") ≡ note (Some (codes "first"))
+unfolding cell_result rest_faults fact_of meaning_of numeral_of accuracy_of chars is_ncname is_name_char is_name_start qname_of sqname_of unit_of language_of days_of_years days_of_months day_number is_date is_week is_clock one_at two_at four_at start_of end_of found first_some moment_by moment_of days_by days_of whole_days in_order pair_of duration_of without period_of first_number year_of month_of date_in_year day_text moment_text period_text
+text_cell = refl
+
+-- SPECIAL VALUES in a text column
+
+special_empty : in_base (codes "eg:Note") (codes "#empty") ≡ note (Some [])
+unfolding cell_result rest_faults fact_of meaning_of numeral_of accuracy_of chars is_ncname is_name_char is_name_start qname_of sqname_of unit_of language_of days_of_years days_of_months day_number is_date is_week is_clock one_at two_at four_at start_of end_of found first_some moment_by moment_of days_by days_of whole_days in_order pair_of duration_of without period_of first_number year_of month_of date_in_year day_text moment_text period_text
+special_empty = refl
+
+special_nil : in_base (codes "eg:Note") (codes "#nil") ≡ note None
+unfolding cell_result rest_faults fact_of meaning_of numeral_of accuracy_of chars is_ncname is_name_char is_name_start qname_of sqname_of unit_of language_of days_of_years days_of_months day_number is_date is_week is_clock one_at two_at four_at start_of end_of found first_some moment_by moment_of days_by days_of whole_days in_order pair_of duration_of without period_of first_number year_of month_of date_in_year day_text moment_text period_text
+special_nil = refl
+
+special_doubled : in_base (codes "eg:Note") (codes "##x") ≡ note (Some (codes "#x"))
+unfolding cell_result rest_faults fact_of meaning_of numeral_of accuracy_of chars is_ncname is_name_char is_name_start qname_of sqname_of unit_of language_of days_of_years days_of_months day_number is_date is_week is_clock one_at two_at four_at start_of end_of found first_some moment_by moment_of days_by days_of whole_days in_order pair_of duration_of without period_of first_number year_of month_of date_in_year day_text moment_text period_text
+special_doubled = refl
+
+special_none : in_base (codes "eg:Note") (codes "#none") ≡ Ok None
+unfolding cell_result rest_faults fact_of meaning_of numeral_of accuracy_of chars is_ncname is_name_char is_name_start qname_of sqname_of unit_of language_of days_of_years days_of_months day_number is_date is_week is_clock one_at two_at four_at start_of end_of found first_some moment_by moment_of days_by days_of whole_days in_order pair_of duration_of without period_of first_number year_of month_of date_in_year day_text moment_text period_text
+special_none = refl
+
+special_nothing : in_base (codes "eg:Note") ([]) ≡ Ok None
+unfolding cell_result rest_faults fact_of meaning_of numeral_of accuracy_of chars is_ncname is_name_char is_name_start qname_of sqname_of unit_of language_of days_of_years days_of_months day_number is_date is_week is_clock one_at two_at four_at start_of end_of found first_some moment_by moment_of days_by days_of whole_days in_order pair_of duration_of without period_of first_number year_of month_of date_in_year day_text moment_text period_text
+special_nothing = refl
+
+special_unknown : in_base (codes "eg:Note") (codes "#foo") ≡ Err fault.UnknownSpecial
+unfolding cell_result rest_faults fact_of meaning_of numeral_of accuracy_of chars is_ncname is_name_char is_name_start qname_of sqname_of unit_of language_of days_of_years days_of_months day_number is_date is_week is_clock one_at two_at four_at start_of end_of found first_some moment_by moment_of days_by days_of whole_days in_order pair_of duration_of without period_of first_number year_of month_of date_in_year day_text moment_text period_text
+special_unknown = refl
+
+-- NUMERALS, with report decimals 0
+abbrev in_rate : List ℕ → Result (Option Fact) CellFault
+in_rate t = gives base_level (Some (d.Fixed (accuracy.Places (pos 0)))) (fact_column (codes "x") (concept (codes "eg:Rate") ∷ []) [] ∷ []) [] [] (t ∷ []) 0
+
+abbrev rate : List ℕ → Option ℤ → Result (Option Fact) CellFault
+rate value decimals = fact (codes "x") (Some value) decimals (with_period (codes "eg:Rate") ++ unit (codes "iso4217:EUR"))
+
+numeral_suffix : in_rate (codes "1250.5d-2") ≡ rate (codes "1250.5") (Some (negsuc 1))
+unfolding cell_result rest_faults fact_of meaning_of numeral_of accuracy_of chars is_ncname is_name_char is_name_start qname_of sqname_of unit_of language_of days_of_years days_of_months day_number is_date is_week is_clock one_at two_at four_at start_of end_of found first_some moment_by moment_of days_by days_of whole_days in_order pair_of duration_of without period_of first_number year_of month_of date_in_year day_text moment_text period_text
+numeral_suffix = refl
+
+numeral_plain : in_rate (codes " 7 ") ≡ rate (codes "7") (Some (pos 0))
+unfolding cell_result rest_faults fact_of meaning_of numeral_of accuracy_of chars is_ncname is_name_char is_name_start qname_of sqname_of unit_of language_of days_of_years days_of_months day_number is_date is_week is_clock one_at two_at four_at start_of end_of found first_some moment_by moment_of days_by days_of whole_days in_order pair_of duration_of without period_of first_number year_of month_of date_in_year day_text moment_text period_text
+numeral_plain = refl
+
+numeral_exact : in_rate (codes "1dINF") ≡ rate (codes "1") None
+unfolding cell_result rest_faults fact_of meaning_of numeral_of accuracy_of chars is_ncname is_name_char is_name_start qname_of sqname_of unit_of language_of days_of_years days_of_months day_number is_date is_week is_clock one_at two_at four_at start_of end_of found first_some moment_by moment_of days_by days_of whole_days in_order pair_of duration_of without period_of first_number year_of month_of date_in_year day_text moment_text period_text
+numeral_exact = refl
+
+numeral_bad : in_rate (codes "d3") ≡ Err fault.BadNumber
+unfolding cell_result rest_faults fact_of meaning_of numeral_of accuracy_of chars is_ncname is_name_char is_name_start qname_of sqname_of unit_of language_of days_of_years days_of_months day_number is_date is_week is_clock one_at two_at four_at start_of end_of found first_some moment_by moment_of days_by days_of whole_days in_order pair_of duration_of without period_of first_number year_of month_of date_in_year day_text moment_text period_text
+numeral_bad = refl
+
+numeral_empty : in_rate (codes "#empty") ≡ Err fault.BadNumber
+unfolding cell_result rest_faults fact_of meaning_of numeral_of accuracy_of chars is_ncname is_name_char is_name_start qname_of sqname_of unit_of language_of days_of_years days_of_months day_number is_date is_week is_clock one_at two_at four_at start_of end_of found first_some moment_by moment_of days_by days_of whole_days in_order pair_of duration_of without period_of first_number year_of month_of date_in_year day_text moment_text period_text
+numeral_empty = refl
+
+-- GROUPS: a has no unit of its own accord, b takes the group's, c keeps its own; g names the group
+abbrev group_columns : List Column
+group_columns =
+    fact_column (codes "a") (concept (codes "eg:Cash") ∷ (codes "unit", w.Absent) ∷ []) (3 ∷ [])
+    ∷ fact_column (codes "b") (concept (codes "eg:Cash") ∷ []) (3 ∷ [])
+    ∷ fact_column (codes "c") (concept (codes "eg:Cash") ∷ (codes "unit", text (codes "iso4217:GBP")) ∷ []) (3 ∷ [])
+    ∷ record { id = codes "g"; kind = column.Groups; level = level []; groups = (codes "usd", level ((codes "unit", text (codes "iso4217:USD")) ∷ [])) ∷ []; from = [] }
+    ∷ []
+
+abbrev in_groups : List ℕ → List ℕ → ℕ → Result (Option Fact) CellFault
+in_groups g t = gives base_level None group_columns [] [] (t ∷ t ∷ t ∷ g ∷ [])
+
+group_unit_taken_away : in_groups (codes "usd") (codes "1") 0 ≡ cash (codes "a") (codes "1") []
+unfolding cell_result rest_faults fact_of meaning_of numeral_of accuracy_of chars is_ncname is_name_char is_name_start qname_of sqname_of unit_of language_of days_of_years days_of_months day_number is_date is_week is_clock one_at two_at four_at start_of end_of found first_some moment_by moment_of days_by days_of whole_days in_order pair_of duration_of without period_of first_number year_of month_of date_in_year day_text moment_text period_text
+group_unit_taken_away = refl
+
+group_unit_taken : in_groups (codes "usd") (codes "2") 1 ≡ cash (codes "b") (codes "2") (unit (codes "iso4217:USD"))
+unfolding cell_result rest_faults fact_of meaning_of numeral_of accuracy_of chars is_ncname is_name_char is_name_start qname_of sqname_of unit_of language_of days_of_years days_of_months day_number is_date is_week is_clock one_at two_at four_at start_of end_of found first_some moment_by moment_of days_by days_of whole_days in_order pair_of duration_of without period_of first_number year_of month_of date_in_year day_text moment_text period_text
+group_unit_taken = refl
+
+group_below_column : in_groups (codes "usd") (codes "3") 2 ≡ cash (codes "c") (codes "3") (unit (codes "iso4217:GBP"))
+unfolding cell_result rest_faults fact_of meaning_of numeral_of accuracy_of chars is_ncname is_name_char is_name_start qname_of sqname_of unit_of language_of days_of_years days_of_months day_number is_date is_week is_clock one_at two_at four_at start_of end_of found first_some moment_by moment_of days_by days_of whole_days in_order pair_of duration_of without period_of first_number year_of month_of date_in_year day_text moment_text period_text
+group_below_column = refl
+
+group_not_named : in_groups [] (codes "2") 1 ≡ cash (codes "b") (codes "2") (unit (codes "iso4217:EUR"))
+unfolding cell_result rest_faults fact_of meaning_of numeral_of accuracy_of chars is_ncname is_name_char is_name_start qname_of sqname_of unit_of language_of days_of_years days_of_months day_number is_date is_week is_clock one_at two_at four_at start_of end_of found first_some moment_by moment_of days_by days_of whole_days in_order pair_of duration_of without period_of first_number year_of month_of date_in_year day_text moment_text period_text
+group_not_named = refl
+
+group_unknown : in_groups (codes "gbp") (codes "2") 1 ≡ Err fault.UnknownGroup
+unfolding cell_result rest_faults fact_of meaning_of numeral_of accuracy_of chars is_ncname is_name_char is_name_start qname_of sqname_of unit_of language_of days_of_years days_of_months day_number is_date is_week is_clock one_at two_at four_at start_of end_of found first_some moment_by moment_of days_by days_of whole_days in_order pair_of duration_of without period_of first_number year_of month_of date_in_year day_text moment_text period_text
+group_unknown = refl
+
+group_unknown_of_no_fact : in_groups (codes "gbp") [] 1 ≡ Ok None
+unfolding cell_result rest_faults fact_of meaning_of numeral_of accuracy_of chars is_ncname is_name_char is_name_start qname_of sqname_of unit_of language_of days_of_years days_of_months day_number is_date is_week is_clock one_at two_at four_at start_of end_of found first_some moment_by moment_of days_by days_of whole_days in_order pair_of duration_of without period_of first_number year_of month_of date_in_year day_text moment_text period_text
+group_unknown_of_no_fact = refl
+
+-- an unknown special value comes before an unknown group
+
+group_order : in_groups (codes "gbp") (codes "#foo") 1 ≡ Err fault.UnknownSpecial
+unfolding cell_result rest_faults fact_of meaning_of numeral_of accuracy_of chars is_ncname is_name_char is_name_start qname_of sqname_of unit_of language_of days_of_years days_of_months day_number is_date is_week is_clock one_at two_at four_at start_of end_of found first_some moment_by moment_of days_by days_of whole_days in_order pair_of duration_of without period_of first_number year_of month_of date_in_year day_text moment_text period_text
+group_order = refl
+
+-- REFERENCES: the concept of x is what column c, or the parameter c, says
+abbrev referring : (of_table of_report : List (List ℕ × List ℕ)) → List ℕ → Result (Option Fact) CellFault
+referring of_table of_report c =
+    gives base_level None (plain_column (codes "c") ∷ fact_column (codes "x") ((codes "concept", reference (codes "c")) ∷ []) [] ∷ []) of_table of_report (c ∷ codes "1" ∷ []) 1
+
+abbrev parameter : List ℕ → List (List ℕ × List ℕ)
+parameter t = (codes "c", t) ∷ []
+
+reference_row_first : referring (parameter (codes "eg:Mass")) [] (codes "eg:Cash") ≡ cash (codes "x") (codes "1") (unit (codes "iso4217:EUR"))
+unfolding cell_result rest_faults fact_of meaning_of numeral_of accuracy_of chars is_ncname is_name_char is_name_start qname_of sqname_of unit_of language_of days_of_years days_of_months day_number is_date is_week is_clock one_at two_at four_at start_of end_of found first_some moment_by moment_of days_by days_of whole_days in_order pair_of duration_of without period_of first_number year_of month_of date_in_year day_text moment_text period_text
+reference_row_first = refl
+
+reference_table_first : referring (parameter (codes "eg:Cash")) (parameter (codes "eg:Mass")) [] ≡ cash (codes "x") (codes "1") (unit (codes "iso4217:EUR"))
+unfolding cell_result rest_faults fact_of meaning_of numeral_of accuracy_of chars is_ncname is_name_char is_name_start qname_of sqname_of unit_of language_of days_of_years days_of_months day_number is_date is_week is_clock one_at two_at four_at start_of end_of found first_some moment_by moment_of days_by days_of whole_days in_order pair_of duration_of without period_of first_number year_of month_of date_in_year day_text moment_text period_text
+reference_table_first = refl
+
+reference_none : referring (parameter (codes "eg:Cash")) [] (codes "#none") ≡ Err fault.NoConcept
+unfolding cell_result rest_faults fact_of meaning_of numeral_of accuracy_of chars is_ncname is_name_char is_name_start qname_of sqname_of unit_of language_of days_of_years days_of_months day_number is_date is_week is_clock one_at two_at four_at start_of end_of found first_some moment_by moment_of days_by days_of whole_days in_order pair_of duration_of without period_of first_number year_of month_of date_in_year day_text moment_text period_text
+reference_none = refl
+
+reference_unknown_name : referring [] [] (codes "eg:Region") ≡ Err fault.UnknownName
+unfolding cell_result rest_faults fact_of meaning_of numeral_of accuracy_of chars is_ncname is_name_char is_name_start qname_of sqname_of unit_of language_of days_of_years days_of_months day_number is_date is_week is_clock one_at two_at four_at start_of end_of found first_some moment_by moment_of days_by days_of whole_days in_order pair_of duration_of without period_of first_number year_of month_of date_in_year day_text moment_text period_text
+reference_unknown_name = refl
+
+-- WHAT A CONCEPT DROPS: units of texts and languages of numbers, before they are read
+abbrev spoken : Written → List ℕ → List ℕ → Result (Option Fact) CellFault
+spoken u c t =
+    gives ((codes "entity", text (codes "eg:A1")) ∷ (codes "language", text (codes "en-GB")) ∷ (codes "period", text (codes "2021Q4")) ∷ (codes "unit", u) ∷ []) None
+    (plain_column (codes "u") ∷ fact_column (codes "x") (concept c ∷ []) [] ∷ []) [] [] (codes "#foo" ∷ t ∷ []) 1
+
+dropped_unit_is_not_read : spoken (reference (codes "u")) (codes "eg:Note") (codes "say") ≡ fact (codes "x") (Some (codes "say")) None (common (codes "eg:Note") ++ entry (codes "language") (codes "en-gb") ∷ period quarter)
+unfolding cell_result rest_faults fact_of meaning_of numeral_of accuracy_of chars is_ncname is_name_char is_name_start qname_of sqname_of unit_of language_of days_of_years days_of_months day_number is_date is_week is_clock one_at two_at four_at start_of end_of found first_some moment_by moment_of days_by days_of whole_days in_order pair_of duration_of without period_of first_number year_of month_of date_in_year day_text moment_text period_text
+dropped_unit_is_not_read = refl
+
+kept_unit_is_read : spoken (reference (codes "u")) (codes "eg:Cash") (codes "1") ≡ Err fault.UnknownSpecial
+unfolding cell_result rest_faults fact_of meaning_of numeral_of accuracy_of chars is_ncname is_name_char is_name_start qname_of sqname_of unit_of language_of days_of_years days_of_months day_number is_date is_week is_clock one_at two_at four_at start_of end_of found first_some moment_by moment_of days_by days_of whole_days in_order pair_of duration_of without period_of first_number year_of month_of date_in_year day_text moment_text period_text
+kept_unit_is_read = refl
+
+pure_unit : spoken (text (codes "xbrli:pure")) (codes "eg:Cash") (codes "1") ≡ cash (codes "x") (codes "1") []
+unfolding cell_result rest_faults fact_of meaning_of numeral_of accuracy_of chars is_ncname is_name_char is_name_start qname_of sqname_of unit_of language_of days_of_years days_of_months day_number is_date is_week is_clock one_at two_at four_at start_of end_of found first_some moment_by moment_of days_by days_of whole_days in_order pair_of duration_of without period_of first_number year_of month_of date_in_year day_text moment_text period_text
+pure_unit = refl
+
+-- TYPED AND EXPLICIT DIMENSIONS, AND SIDES; b is the plain column
+abbrev with_b : List (List ℕ × Written) → List ℕ → Result (Option Fact) CellFault
+with_b dimensions b = gives dimensions None (plain_column (codes "b") ∷ fact_column (codes "x") (concept (codes "eg:Cash") ∷ []) [] ∷ []) [] [] (b ∷ codes "1" ∷ []) 1
+
+abbrev typed : List ℕ → List (List ℕ × Written)
+typed region = (codes "eg:Branch", reference (codes "b")) ∷ (codes "eg:Region", text region) ∷ base_level
+
+abbrev sided : List (List ℕ × Written)
+sided = (codes "entity", text (codes "eg:A1")) ∷ (codes "period", w.Named (codes "b") side.End) ∷ (codes "unit", text (codes "iso4217:EUR")) ∷ []
+
+typed_nil : with_b (typed (codes "eg:North")) (codes "#nil") ≡ fact (codes "x") (Some (codes "1")) None (entry (codes "concept") (codes "eg:Cash") ∷ (codes "eg:Branch", None) ∷ entry (codes "eg:Region") (codes "eg:North") ∷ entry (codes "entity") (codes "eg:A1") ∷ period quarter ++ unit (codes "iso4217:EUR"))
+unfolding cell_result rest_faults fact_of meaning_of numeral_of accuracy_of chars is_ncname is_name_char is_name_start qname_of sqname_of unit_of language_of days_of_years days_of_months day_number is_date is_week is_clock one_at two_at four_at start_of end_of found first_some moment_by moment_of days_by days_of whole_days in_order pair_of duration_of without period_of first_number year_of month_of date_in_year day_text moment_text period_text
+typed_nil = refl
+
+explicit_bad : with_b (typed (codes "North")) [] ≡ Err fault.BadValue
+unfolding cell_result rest_faults fact_of meaning_of numeral_of accuracy_of chars is_ncname is_name_char is_name_start qname_of sqname_of unit_of language_of days_of_years days_of_months day_number is_date is_week is_clock one_at two_at four_at start_of end_of found first_some moment_by moment_of days_by days_of whole_days in_order pair_of duration_of without period_of first_number year_of month_of date_in_year day_text moment_text period_text
+explicit_bad = refl
+
+side_end : with_b sided (codes "2021Q4") ≡ fact (codes "x") (Some (codes "1")) None (common (codes "eg:Cash") ++ period (codes "2022-01-01T00:00:00") ++ unit (codes "iso4217:EUR"))
+unfolding cell_result rest_faults fact_of meaning_of numeral_of accuracy_of chars is_ncname is_name_char is_name_start qname_of sqname_of unit_of language_of days_of_years days_of_months day_number is_date is_week is_clock one_at two_at four_at start_of end_of found first_some moment_by moment_of days_by days_of whole_days in_order pair_of duration_of without period_of first_number year_of month_of date_in_year day_text moment_text period_text
+side_end = refl
+
+side_of_an_instant : with_b sided (codes "2021-12-31T00:00:00") ≡ Err fault.NotDuration
+unfolding cell_result rest_faults fact_of meaning_of numeral_of accuracy_of chars is_ncname is_name_char is_name_start qname_of sqname_of unit_of language_of days_of_years days_of_months day_number is_date is_week is_clock one_at two_at four_at start_of end_of found first_some moment_by moment_of days_by days_of whole_days in_order pair_of duration_of without period_of first_number year_of month_of date_in_year day_text moment_text period_text
+side_of_an_instant = refl
+
+-- A BAD PERIOD in the report: a fault where a cell has a fact, and not where it has none; and it comes before a bad number
+abbrev bad_period : List ℕ → Result (Option Fact) CellFault
+bad_period t = gives ((codes "period", text (codes "nope")) ∷ []) None (fact_column (codes "x") (concept (codes "eg:Cash") ∷ []) [] ∷ []) [] [] (t ∷ []) 0
+
+bad_period_met : bad_period (codes "x") ≡ Err fault.BadPeriod
+unfolding cell_result rest_faults fact_of meaning_of numeral_of accuracy_of chars is_ncname is_name_char is_name_start qname_of sqname_of unit_of language_of days_of_years days_of_months day_number is_date is_week is_clock one_at two_at four_at start_of end_of found first_some moment_by moment_of days_by days_of whole_days in_order pair_of duration_of without period_of first_number year_of month_of date_in_year day_text moment_text period_text
+bad_period_met = refl
+
+bad_period_not_met : bad_period [] ≡ Ok None
+unfolding cell_result rest_faults fact_of meaning_of numeral_of accuracy_of chars is_ncname is_name_char is_name_start qname_of sqname_of unit_of language_of days_of_years days_of_months day_number is_date is_week is_clock one_at two_at four_at start_of end_of found first_some moment_by moment_of days_by days_of whole_days in_order pair_of duration_of without period_of first_number year_of month_of date_in_year day_text moment_text period_text
+bad_period_not_met = refl

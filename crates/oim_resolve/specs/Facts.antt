@@ -1,0 +1,294 @@
+-- The result of a cell: no fact, a fault, or the fact. (xBRL-CSV 1.0, from cells to facts; Open Information Model 1.0, simple facts and their dimensions)
+-- The faults of each step are a set, and a cell has the fault of the least number of the first step that has one.
+use Rattle.std.specs.Prelude.{ℕ, ℤ, List, [], ◌∷◌, ◌++◌, Bool, true, false, ◌&&◌, ◌||◌, not, Option, Some, None, is_none, is_some, Result, Ok, Err, codes, if◌then◌else◌}
+use Rattle.std.specs.List.{list_any, flat_map}
+use Rattle.std.specs.Option.{option_map, option_and_then, option_map_or, option_to_list, unwrap_or}
+use Rattle.std.specs.Str.{bytes_eq}
+use Rattle.oim_names.specs.Lookup.{value_at}
+use Rattle.oim_cells.specs.Cells.{Meaning, numeral_of, accuracy_of}
+use Rattle.oim_cells.specs.Cells as m
+use Rattle.oim_names.specs.QName.{qname_of, sqname_of}
+use Rattle.oim_names.specs.Unit.{unit_of}
+use Rattle.oim_names.specs.Language.{language_of}
+use Rattle.oim_period.specs.Periods.{period_of, start_of, end_of, period_text}
+use Rattle.oim_meta.specs.Readers.{column_of, table_of, kind_of}
+use Rattle.oim_cells.specs.declared.cells.Accuracy.{Accuracy}
+use Rattle.oim_cells.specs.declared.cells.Accuracy.TheVariants.{Infinite, Places}
+use Rattle.oim_names.specs.declared.unit_kind.UnitKind.{UnitKind}
+use Rattle.oim_names.specs.declared.unit_kind.UnitKind.TheVariants as unit
+use Rattle.oim_period.specs.Periods.{Reading}
+use Rattle.oim_meta.specs.declared.kind.Kind.{Kind}
+use Rattle.oim_meta.specs.declared.kind.Kind.TheVariants as kind
+use Rattle.oim_meta.specs.ReportValue.{ReportValue}
+use Rattle.oim_meta.specs.declared.data.WrittenDecimals.{WrittenDecimals}
+use Rattle.oim_meta.specs.declared.data.Side.{Side}
+use Rattle.oim_meta.specs.declared.data.Side.TheVariants as side
+use Rattle.oim_resolve.specs.declared.fact.Fact.{Fact}
+use Rattle.oim_resolve.specs.declared.fact.CellFault.{CellFault}
+use Rattle.oim_resolve.specs.declared.fact.CellFault.TheVariants.{UnknownSpecial, UnknownGroup, NoConcept, UnknownName, BadReference, BadValue, BadPeriod, NotDuration, BadDecimals, BadNumber}
+use Rattle.oim_resolve.specs.declared.role.Role.{Role}
+use Rattle.oim_resolve.specs.declared.role.Role.TheVariants as role
+use Rattle.oim_resolve.specs.Cell.{Cell, column, text_at, meaning_at}
+use Rattle.oim_resolve.specs.Written.{levels, written, written_decimals, names, group_named}
+use Rattle.oim_resolve.specs.Values.{value, side_of, decimals_value, Stated, Fixed, Read}
+use Rattle.oim_resolve.specs.Faults.{fault_if, least, unless}
+
+abbrev pub is_absent : Meaning → Bool
+is_absent m.Absent = true
+is_absent _ = false
+
+abbrev pub is_unknown : Meaning → Bool
+is_unknown m.Unknown = true
+is_unknown _ = false
+
+abbrev pub is_nil : Meaning → Bool
+is_nil m.Nil = true
+is_nil _ = false
+
+abbrev pub is_nil_or_empty : Meaning → Bool
+is_nil_or_empty m.Nil = true
+is_nil_or_empty m.Empty = true
+is_nil_or_empty _ = false
+
+-- it is a text, and the text passes the test
+abbrev pub is_text : (List ℕ → Bool) → Meaning → Bool
+is_text test (m.Text t) = test t
+is_text test _ = false
+
+-- what the fact cell means
+abbrev pub fact_meaning : Cell → Meaning
+fact_meaning c = meaning_at c c.column
+
+-- STEP 1
+
+-- a group cell says something, and names no group of its column
+abbrev pub names_no_group : Cell → ℕ → Bool
+names_no_group c i =
+    is_nil_or_empty (meaning_at c i)
+    || is_text (λ t. is_none (value_at t (column_of c.report c.table i).groups)) (meaning_at c i)
+
+abbrev pub cell_and_group_faults : Cell → List CellFault
+cell_and_group_faults c =
+    fault_if UnknownSpecial (is_unknown (fact_meaning c) || list_any (λ i. is_unknown (meaning_at c i)) (column c).from)
+    ++ fault_if UnknownGroup (list_any (names_no_group c) (column c).from)
+
+-- STEP 2
+
+-- what the row gives for a dimension: Absent where no level writes it
+abbrev pub given : Cell → List ℕ → Meaning
+given c n = option_map_or (value c) (written (levels c) n) m.Absent
+
+abbrev pub side_given : Cell → List ℕ → Side
+side_given c n = option_map_or side_of (written (levels c) n) side.Whole
+
+-- numbers, texts and others are concepts
+abbrev pub concept_type : Kind → Option Kind
+concept_type (kind.Number n) = Some (kind.Number n)
+concept_type kind.Text = Some kind.Text
+concept_type kind.Other = Some kind.Other
+concept_type _ = None
+
+-- the concept type of a declared QName
+abbrev pub concept_type_of : ReportValue → List ℕ → Option Kind
+concept_type_of r t = option_and_then concept_type (option_and_then (λ q. kind_of r q.0 q.1) (qname_of r.namespaces t))
+
+-- the faults of a concept's value
+abbrev pub concept_faults_of : ReportValue → Meaning → List CellFault
+concept_faults_of r v =
+    fault_if UnknownSpecial (is_unknown v)
+    ++ fault_if NoConcept (is_absent v)
+    ++ fault_if BadReference (is_nil_or_empty v)
+    ++ fault_if UnknownName (is_text (λ t. is_none (concept_type_of r t)) v)
+
+abbrev pub concept_faults : Cell → List CellFault
+concept_faults c = concept_faults_of c.report (given c (codes "concept"))
+
+-- the kind of the cell's concept, where it has one
+abbrev pub text_kind : ReportValue → Meaning → Kind
+text_kind r (m.Text t) = unwrap_or (concept_type_of r t) kind.Other
+text_kind r _ = kind.Other
+
+abbrev pub concept_kind : Cell → Kind
+concept_kind c = text_kind c.report (given c (codes "concept"))
+
+-- STEP 3
+
+abbrev pub is_numeric : Kind → Bool
+is_numeric (kind.Number n) = true
+is_numeric _ = false
+
+-- a dimension of the taxonomy is typed or explicit
+abbrev pub taxonomy_role : Option Kind → Role
+taxonomy_role (Some kind.Typed) = role.Typed
+taxonomy_role _ = role.Explicit
+
+-- what a dimension's name stands for
+abbrev pub role_of : ReportValue → List ℕ → Role
+role_of r n =
+    if bytes_eq n (codes "concept") then role.Concept
+    else if bytes_eq n (codes "entity") then role.Entity
+    else if bytes_eq n (codes "period") then role.Period
+    else if bytes_eq n (codes "unit") then role.Unit
+    else if bytes_eq n (codes "language") then role.Language
+    else taxonomy_role (option_and_then (λ q. kind_of r q.0 q.1) (qname_of r.namespaces n))
+
+abbrev pub is_typed : Role → Bool
+is_typed role.Typed = true
+is_typed _ = false
+
+abbrev pub is_period : Role → Bool
+is_period role.Period = true
+is_period _ = false
+
+-- a unit is dropped where the concept is not numeric, a language where it is not text
+abbrev pub is_dropped : Kind → Role → Bool
+is_dropped k role.Unit = not (is_numeric k)
+is_dropped kind.Text role.Language = false
+is_dropped k role.Language = true
+is_dropped k _ = false
+
+-- the form that entity, unit, language and explicit dimensions have
+abbrev pub has_form : ReportValue → Role → List ℕ → Bool
+has_form r role.Entity t = is_some (sqname_of r.namespaces t)
+has_form r role.Unit t = is_some (unit_of r.namespaces t)
+has_form r role.Language t = is_some (language_of t)
+has_form r role.Explicit t = is_some (qname_of r.namespaces t)
+has_form r _ t = true
+
+-- the side of a period: nothing where a side is asked of an instant
+abbrev pub sided : Side → Reading → Option Reading
+sided side.Whole p = Some p
+sided side.Start p = start_of p
+sided side.End p = end_of p
+
+-- the faults of a dimension that is not dropped
+abbrev pub value_faults_of : ReportValue → Role → Side → Meaning → List CellFault
+value_faults_of r o s v =
+    fault_if UnknownSpecial (is_unknown v)
+    ++ fault_if BadReference (is_nil_or_empty v && not (is_typed o))
+    ++ fault_if BadValue (is_text (λ t. not (has_form r o t)) v)
+    ++ fault_if BadPeriod (is_period o && is_text (λ t. is_none (period_of t)) v)
+    ++ fault_if NotDuration (is_period o && is_text (λ t. option_map_or (λ p. is_none (sided s p)) (period_of t) false) v)
+
+-- what a dimension gives a fact: nothing, or nil, or a text
+abbrev pub entry_of : Role → Side → Meaning → Option (Option (List ℕ))
+entry_of o s m.Absent = None
+entry_of o s m.Unknown = None
+entry_of o s m.Nil = Some None
+entry_of o s m.Empty = Some (Some [])
+entry_of role.Period s (m.Text t) = option_map (λ p. Some (period_text p)) (option_and_then (sided s) (period_of t))
+entry_of role.Language s (m.Text t) = option_map Some (language_of t)
+entry_of o s (m.Text t) = Some (Some t)
+
+abbrev is_pure_unit : UnitKind → Bool
+is_pure_unit unit.Pure = true
+is_pure_unit unit.Written = false
+
+-- a Pure unit is left out
+abbrev pub is_pure : ReportValue → Role → Meaning → Bool
+is_pure r role.Unit (m.Text t) = option_map_or is_pure_unit (unit_of r.namespaces t) false
+is_pure r _ _ = false
+
+-- what a dimension that is not dropped gives a fact
+abbrev pub entry_given : ReportValue → Role → Side → Meaning → Option (Option (List ℕ))
+entry_given r o s v = if is_pure r o v then None else entry_of o s v
+
+abbrev pub dimension_faults : Cell → Kind → List ℕ → List CellFault
+dimension_faults c k n =
+    if is_dropped k (role_of c.report n) then [] else value_faults_of c.report (role_of c.report n) (side_given c n) (given c n)
+
+abbrev pub dimension_entry : Cell → Kind → List ℕ → Option (Option (List ℕ))
+dimension_entry c k n =
+    if is_dropped k (role_of c.report n) then None else entry_given c.report (role_of c.report n) (side_given c n) (given c n)
+
+-- the numeral of a numeric concept's cell, and the decimals that it states
+abbrev pub numeral : Kind → Meaning → Option (List ℕ × Option Accuracy)
+numeral (kind.Number n) (m.Text t) = numeral_of n t
+numeral k v = None
+
+abbrev pub suffix : Kind → Meaning → Option Accuracy
+suffix k v = option_and_then (λ p. p.1) (numeral k v)
+
+abbrev pub looks_at_decimals : Kind → Meaning → Bool
+looks_at_decimals k v = is_numeric k && not (is_nil v) && is_none (suffix k v)
+
+abbrev pub stated_by : Cell → Option WrittenDecimals → Stated
+stated_by c o = option_map_or (decimals_value c) o (Read m.Absent)
+
+abbrev pub stated : Cell → Stated
+stated c = stated_by c (written_decimals (levels c))
+
+abbrev pub stated_faults : Stated → List CellFault
+stated_faults (Fixed a) = []
+stated_faults (Read v) =
+    fault_if UnknownSpecial (is_unknown v)
+    ++ fault_if BadDecimals (is_nil_or_empty v || is_text (λ t. is_none (accuracy_of t)) v)
+
+abbrev pub stated_accuracy : Stated → Option Accuracy
+stated_accuracy (Fixed a) = Some a
+stated_accuracy (Read (m.Text t)) = accuracy_of t
+stated_accuracy (Read v) = None
+
+abbrev pub decimals_faults : Cell → Kind → List CellFault
+decimals_faults c k = if looks_at_decimals k (fact_meaning c) then stated_faults (stated c) else []
+
+abbrev pub is_empty : Meaning → Bool
+is_empty m.Empty = true
+is_empty _ = false
+
+abbrev pub number_faults : Cell → Kind → List CellFault
+number_faults c k =
+    fault_if BadNumber (is_numeric k && (is_empty (fact_meaning c) || is_text (λ t. is_none (numeral k (m.Text t))) (fact_meaning c)))
+
+unfoldable pub rest_faults : Cell → Kind → List CellFault
+rest_faults c k = flat_map (dimension_faults c k) (names (levels c)) ++ decimals_faults c k ++ number_faults c k
+
+-- THE FACT
+
+-- nil for Nil, the numeral of a numeric concept, else the text
+abbrev pub value_text : Kind → Meaning → Option (List ℕ)
+value_text k m.Empty = Some []
+value_text (kind.Number n) (m.Text t) = option_map (λ p. p.0) (numeral_of n t)
+value_text k (m.Text t) = Some t
+value_text k _ = None
+
+-- an accuracy of some places
+abbrev pub places : Accuracy → Option ℤ
+places (Places n) = Some n
+places Infinite = None
+
+-- the suffix, else the property
+abbrev pub decimals_given : Kind → Meaning → Stated → Option ℤ
+decimals_given k v s =
+    if is_numeric k && not (is_nil v)
+    then option_and_then places (if is_none (suffix k v) then stated_accuracy s else suffix k v)
+    else None
+
+abbrev pub fact_decimals : Cell → Kind → Option ℤ
+fact_decimals c k = decimals_given k (fact_meaning c) (stated c)
+
+-- a name and its entry
+abbrev pub named_entry : List ℕ → Option (Option (List ℕ)) → List (List ℕ × Option (List ℕ))
+named_entry n (Some v) = (n, v) ∷ []
+named_entry n None = []
+
+-- table, row and column
+abbrev pub id_of : Cell → List ℕ
+id_of c = (table_of c.report c.table).id ++ codes "." ++ c.row.id ++ codes "." ++ (column c).id
+
+unfoldable pub fact_of : Cell → Fact
+fact_of c = record {
+  id = id_of c;
+  value = value_text (concept_kind c) (fact_meaning c);
+  decimals = fact_decimals c (concept_kind c);
+  dimensions = flat_map (λ n. named_entry n (dimension_entry c (concept_kind c) n)) (names (levels c));
+}
+
+-- RESULT
+
+unfoldable pub cell_result : Cell → Result (Option Fact) CellFault
+cell_result c =
+    if is_absent (fact_meaning c) then Ok None
+    else unless (least (cell_and_group_faults c))
+    (unless (least (concept_faults c))
+    (unless (least (rest_faults c (concept_kind c))) (Ok (Some (fact_of c)))))

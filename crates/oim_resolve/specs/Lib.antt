@@ -1,0 +1,15 @@
+pub mod Cell
+pub mod Written
+pub mod Values
+pub mod Faults
+pub mod Facts
+pub mod Place
+pub mod PlaceOf
+pub mod Given
+pub mod Seen
+pub mod Order
+pub mod Merged
+pub mod Planned
+pub mod Met
+pub mod Rows
+pub mod Plans

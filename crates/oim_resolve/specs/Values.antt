@@ -1,0 +1,55 @@
+-- What a written property gives in a row: a literal, the row number, or what the row, else a parameter, says.
+-- (xBRL-CSV 1.0, column and parameter references, special values)
+use Rattle.std.specs.Prelude.{ℕ, List, [], ◌∷◌, Option, Some, None, decimal}
+use Rattle.std.specs.List.{position}
+use Rattle.std.specs.Option.{option_map, option_or, option_and_then, option_map_or}
+use Rattle.std.specs.Str.{bytes_eq}
+use Rattle.oim_cells.specs.Cells.{Meaning, meaning_of}
+use Rattle.oim_cells.specs.Cells as m
+use Rattle.oim_meta.specs.Readers.{columns_of, parameter_of}
+use Rattle.oim_cells.specs.declared.cells.Accuracy.{Accuracy}
+use Rattle.oim_meta.specs.declared.data.Side.{Side}
+use Rattle.oim_meta.specs.declared.data.Side.TheVariants as side
+use Rattle.oim_meta.specs.declared.data.Written.{Written}
+use Rattle.oim_meta.specs.declared.data.Written.TheVariants as w
+use Rattle.oim_meta.specs.declared.data.WrittenDecimals.{WrittenDecimals}
+use Rattle.oim_meta.specs.declared.data.WrittenDecimals.TheVariants as d
+use Rattle.oim_resolve.specs.Cell.{Cell, text_at}
+
+-- a text, unless it is empty
+abbrev pub not_empty : List ℕ → Option (List ℕ)
+not_empty [] = None
+not_empty (b ∷ bs) = Some (b ∷ bs)
+
+-- the text of the row's cell in the column of a name, where it is not empty
+abbrev pub text_in_row : Cell → List ℕ → Option (List ℕ)
+text_in_row c n = option_and_then (λ i. not_empty (text_at c i)) (position (λ k. bytes_eq k.id n) (columns_of c.report c.table))
+
+-- the meaning of what a reference names: the row's cell, else the table's parameter, else the report's
+abbrev pub referred : Cell → List ℕ → Meaning
+referred c n = option_map_or meaning_of (option_or (text_in_row c n) (parameter_of c.report c.table n)) m.Absent
+
+abbrev pub value : Cell → Written → Meaning
+value c w.Absent = m.Absent
+value c w.Nil = m.Nil
+value c w.Empty = m.Empty
+value c (w.Text t) = m.Text t
+value c (w.RowNumber s) = m.Text (decimal c.row.number)
+value c (w.Named n s) = referred c n
+
+-- the side of a duration that a reference asks for
+abbrev pub side_of : Written → Side
+side_of (w.RowNumber s) = s
+side_of (w.Named n s) = s
+side_of _ = side.Whole
+
+-- written decimals give an accuracy, or a text that is read as one
+pub data Stated : Type 0 where
+  Fixed : Accuracy → Stated
+  Read : Meaning → Stated
+
+abbrev pub decimals_value : Cell → WrittenDecimals → Stated
+decimals_value c d.Absent = Read m.Absent
+decimals_value c (d.Fixed a) = Fixed a
+decimals_value c d.RowNumber = Read (m.Text (decimal c.row.number))
+decimals_value c (d.Named n) = Read (referred c n)

@@ -1,0 +1,7 @@
+mod Places
+mod FactLists
+mod StreamLaws
+mod WholeLaw
+mod DotFacts
+mod FactIds
+mod Examples

@@ -1,0 +1,67 @@
+-- The stream of a table, row by row, is that of its rows at once.
+use Rattle.std.proofs.Common.{List, [], ◌∷◌, ◌++◌, ◌≡◌, ℕ, zero, suc, ◌+◌, Option, Some, None, Result, Ok, Err, length, take, refl, sym, append_assoc, length-append, arith}
+use Rattle.std.proofs.lemmas.List.{append-nil, map-append}
+use Rattle.std.specs.Prelude.{MatchOption, unwrap_or}
+use Rattle.csv.specs.Records.{field_at}
+use Rattle.oim_meta.specs.Grid.{Record}
+use Rattle.oim_resolve.specs.declared.fact.Fact.{Fact}
+use Rattle.oim_rows.specs.RowFacts.{Reading, id_place_of, ids_after}
+use Rattle.oim_rows.specs.Streams.{Stream, ending, row_in_front, stream_from}
+use Rattle.oim_rows.specs.WholeTable.{Gives, IsStreamOf, ids_of, row_after, row_at}
+use Rattle.oim_rows.specs.declared.fault.TableFault.{TableFault}
+
+pub ids_of-more : (p : Option ℕ) (earlier : List Record) (r : Record) → ids_after p (ids_of p earlier) r ≡ ids_of p (earlier ++ r ∷ [])
+ids_of-more None earlier r = refl
+ids_of-more (Some p) earlier r = sym (map-append (λ (q : Record). unwrap_or (field_at q p) []) earlier (r ∷ []))
+
+-- a row after the first is one of the rows after it
+gives_later : (g : Reading) (earlier rows : List Record) (r : Record) (m : ℕ) (answer : Result (List Fact) TableFault) → Gives g (earlier ++ r ∷ []) rows m answer → Gives g earlier (r ∷ rows) (suc m) answer
+gives_later g earlier rows r m answer h = (h.0, h.1, rw (append_assoc earlier (r ∷ []) (take m rows)) at h.2)
+
+gives_first : (g : Reading) (earlier rows : List Record) (r : Record) (answer : Result (List Fact) TableFault) → row_after g earlier r ≡ answer → Gives g earlier (r ∷ rows) zero answer
+gives_first g earlier rows r answer e = (r, refl, rw (append-nil earlier) e)
+
+good_rows : (g : Reading) (earlier rows : List Record) (r : Record) (first : List Fact) (s : Stream) → row_after g earlier r ≡ Ok first → IsStreamOf g (earlier ++ r ∷ []) rows s
+    → (m : ℕ) (facts : List Fact) → row_at (first ∷ s.rows) m ≡ Some facts → Gives g earlier (r ∷ rows) m (Ok facts)
+good_rows g earlier rows r first s e h zero facts at = let same : first ≡ facts = cc in gives_first g earlier rows r (Ok facts) (rw (← same) e)
+good_rows g earlier rows r first s e h (suc m) facts at = gives_later g earlier rows r m (Ok facts) (h.good m facts at)
+
+end_row : (g : Reading) (earlier rows : List Record) (r : Record) (first : List Fact) (more : List (List Fact)) (o : Option TableFault)
+    → MatchOption o (length more ≡ length rows) (λ x. Gives g (earlier ++ r ∷ []) rows (length more) (Err x))
+    → MatchOption o (length (first ∷ more) ≡ length (r ∷ rows)) (λ x. Gives g earlier (r ∷ rows) (length (first ∷ more)) (Err x))
+end_row g earlier rows r first more None h = omega arith
+end_row g earlier rows r first more (Some x) h = gives_later g earlier rows r (length more) (Err x) h
+
+-- the row in front, and the rows after it
+row_first : (g : Reading) (earlier rows : List Record) (r : Record) (first : List Fact) (s : Stream) → row_after g earlier r ≡ Ok first → IsStreamOf g (earlier ++ r ∷ []) rows s
+    → IsStreamOf g earlier (r ∷ rows) (row_in_front (Ok first) s)
+row_first g earlier rows r first s e h = record { good = good_rows g earlier rows r first s e h; end = end_row g earlier rows r first s.rows s.fault h.end }
+
+bad_first : (g : Reading) (earlier rows : List Record) (r : Record) (x : TableFault) → row_after g earlier r ≡ Err x → IsStreamOf g earlier (r ∷ rows) (ending (Some x))
+bad_first g earlier rows r x e = record { good = λ m facts at. cc at; end = gives_first g earlier rows r (Err x) e }
+
+abbrev stream_after : Reading → List Record → List Record → Stream
+stream_after g earlier rows = stream_from g (length earlier + 1) (ids_of (id_place_of g) earlier) rows
+
+stream_after-row : (g : Reading) (earlier rows : List Record) (r : Record) → stream_after g earlier (r ∷ rows) ≡ row_in_front (row_after g earlier r) (stream_after g (earlier ++ r ∷ []) rows)
+unfolding stream_from
+stream_after-row g earlier rows r =
+    let longer : length earlier + 1 ≡ length (earlier ++ r ∷ []) = sym (length-append earlier (r ∷ [])) in
+    rw (ids_of-more (id_place_of g) earlier r, longer) refl
+
+pub stream_is_whole : (g : Reading) (earlier rows : List Record) → IsStreamOf g earlier rows (stream_after g earlier rows)
+unfolding stream_from
+stream_is_whole g earlier [] = record { good = λ m facts at. cc at; end = refl }
+stream_is_whole g earlier (r ∷ rows) = rw (stream_after-row g earlier rows r) (by (row_after g earlier r) refl (stream_is_whole g (earlier ++ r ∷ []) rows))
+  where
+    by : (o : Result (List Fact) TableFault) → row_after g earlier r ≡ o → IsStreamOf g (earlier ++ r ∷ []) rows (stream_after g (earlier ++ r ∷ []) rows)
+        → IsStreamOf g earlier (r ∷ rows) (row_in_front (row_after g earlier r) (stream_after g (earlier ++ r ∷ []) rows))
+    by (Ok first) e h = rw e (row_first g earlier rows r first (stream_after g (earlier ++ r ∷ []) rows) e h)
+    by (Err x) e h = rw e (bad_first g earlier rows r x e)
+
+ids_of-none : (p : Option ℕ) → ids_of p [] ≡ []
+ids_of-none None = refl
+ids_of-none (Some p) = refl
+
+pub stream_is_of_all_rows : (g : Reading) (rows : List Record) → IsStreamOf g [] rows (stream_from g 1 [] rows)
+stream_is_of_all_rows g rows = rw (ids_of-none (id_place_of g)) at (stream_is_whole g [] rows)

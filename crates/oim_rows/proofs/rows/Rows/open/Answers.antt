@@ -1,0 +1,15 @@
+use Rattle.std.proofs.lemmas.Option.{IfSome_then}
+use Rattle.oim_rows.proofs.StreamLaws.{opened_stream}
+use Rattle.oim_rows.proofs.rows.Rows.open.Goals as goal
+
+pub returns-clause-stream : goal.returns-clause-stream
+returns-clause-stream g c =
+    let both = opened_stream c.args.report.now c.args.table c.args.limits.rows (g.R.Read.remaining c.args.reader) c.new-records.result c.read_header.new.records c.in-Ok.header.items c.in-Ok-new.decoder c.new-2.result
+    c.new-records.ensures c.in-Ok.ensures.header c.in-Ok-new.ensures c.new-2.ensures in
+    IfSome_then (g.R.Read.remaining c.args.reader) both (λ bytes h. h.0)
+
+pub returns-clause-header : goal.returns-clause-header
+returns-clause-header g c =
+    let both = opened_stream c.args.report.now c.args.table c.args.limits.rows (g.R.Read.remaining c.args.reader) c.new-records.result c.read_header.new.records c.in-Ok.header.items c.in-Ok-new.decoder c.new-2.result
+    c.new-records.ensures c.in-Ok.ensures.header c.in-Ok-new.ensures c.new-2.ensures in
+    IfSome_then (g.R.Read.remaining c.args.reader) both (λ bytes h. h.1)

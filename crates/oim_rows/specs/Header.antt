@@ -1,0 +1,79 @@
+-- The header of a table's file, its first record: what its cells name, and its first fault.
+-- xBRL-CSV 1.0, table files: a header cell is the identifier of a column of the table's template, in any order. An empty cell is passed over.
+use Rattle.std.specs.Prelude.{List, [], ◌∷◌, ◌++◌, ℕ, ◌+◌, ◌-◌, ◌^◌, min, Bool, true, false, not, ◌&&◌, ◌==◌, if◌then◌else◌, Option, Some, None, is_none, option_map, map}
+use Rattle.std.specs.List.{list_any, position_from}
+use Rattle.std.specs.Str.{bytes_eq}
+use Rattle.oim_meta.specs.Grid.{Field, Record}
+use Rattle.oim_meta.specs.Readers.{columns_of, template_of}
+use Rattle.oim_meta.specs.ReportValue.{ReportValue}
+use Rattle.oim_meta.specs.declared.data.Column.{Column}
+use Rattle.oim_rows.specs.declared.fault.TableFault.{TableFault}
+use Rattle.oim_rows.specs.declared.fault.TableKind.{TableKind}
+use Rattle.oim_rows.specs.declared.fault.TableKind.TheVariants as kind
+
+-- for each header cell the place of its column in the template; an empty cell has none
+abbrev pub Header : Type 0
+Header = List (Option ℕ)
+
+-- a fault of a table at a row and at a place in the header, each from 1; a place above the greatest 32-bit number is given as that
+abbrev pub fault_at : ℕ → ℕ → ℕ → TableKind → TableFault
+fault_at table row column k = record { table = table; row = row; column = min column (2 ^ 32 - 1); kind = k }
+
+-- a fault of a file as a whole
+abbrev pub file_fault : ℕ → TableKind → TableFault
+file_fault table k = record { table = table; row = 0; column = 0; kind = k }
+
+abbrev pub is_empty : Field → Bool
+is_empty [] = true
+is_empty (b ∷ bs) = false
+
+-- the first of two faults
+abbrev pub or_else : {A : Type 0} → Option A → Option A → Option A
+or_else None b = b
+or_else (Some a) b = Some a
+
+-- the place of the column with this identifier
+abbrev pub place_of : List Column → Field → Option ℕ
+place_of columns f = position_from (λ c. bytes_eq c.id f) 0 columns
+
+-- the place of the column that a header cell names
+abbrev pub named_column : List Column → Field → Option ℕ
+named_column columns f = if is_empty f then None else place_of columns f
+
+abbrev pub header_of : List Column → Record → Header
+header_of columns r = map (named_column columns) r
+
+-- a cell that isn't empty and names no column
+abbrev pub is_unknown : List Column → Field → Bool
+is_unknown columns f = not (is_empty f) && is_none (place_of columns f)
+
+abbrev pub is_column : ℕ → Option ℕ → Bool
+is_column c None = false
+is_column c (Some d) = c == d
+
+-- whether a cell's column stands in the header's front
+abbrev pub repeats : Header → Option ℕ → Bool
+repeats front None = false
+repeats front (Some c) = list_any (is_column c) front
+
+-- the first place, from n on, of a column that stands at an earlier place too
+abbrev pub repeat_from : ℕ → Header → Header → Option ℕ
+repeat_from n front [] = None
+repeat_from n front (o ∷ h) = if repeats front o then Some n else repeat_from (n + 1) (front ++ o ∷ []) h
+
+-- whether the template's column of row identifiers, if it has one, is in the header
+abbrev pub names_row_id : Option ℕ → Header → Bool
+names_row_id None h = true
+names_row_id (Some c) h = list_any (is_column c) h
+
+-- the first fault of a table's header: a cell that names no column, a column twice, no column of row identifiers
+abbrev pub header_fault : ReportValue → ℕ → Record → Option TableFault
+header_fault report table r =
+    or_else (option_map (λ p. fault_at table 0 (p + 1) kind.UnknownHeader) (position_from (is_unknown (columns_of report table)) 0 r))
+    (or_else (option_map (λ p. fault_at table 0 (p + 1) kind.RepeatedHeader) (repeat_from 0 [] (header_of (columns_of report table) r)))
+    (if names_row_id (template_of report table).row_id_column (header_of (columns_of report table) r) then None else Some (file_fault table kind.NoRowIdColumn)))
+
+-- the first fault of a table's file before its rows
+abbrev pub file_header_fault : ReportValue → ℕ → List Record → Option TableFault
+file_header_fault report table [] = Some (file_fault table kind.NoHeader)
+file_header_fault report table (r ∷ rows) = header_fault report table r

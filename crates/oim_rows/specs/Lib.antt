@@ -1,0 +1,9 @@
+pub mod FaultNames
+pub mod Header
+pub mod RowFacts
+pub mod Streams
+pub mod Left
+pub mod Decoding
+pub mod Progressing
+pub mod WholeTable
+pub mod Identifiers

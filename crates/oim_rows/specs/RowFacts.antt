@@ -1,0 +1,155 @@
+-- The facts of one row of a table, or its first fault.
+-- xBRL-CSV 1.0, table files: a row has a cell for each column of the header; the row identifier is the text of the template's column for it.
+use Rattle.std.specs.Prelude.{⊤, ◌≡◌, List, [], ◌∷◌, ◌++◌, ℕ, ◌+◌, Bool, true, false, not, ◌==◌, nat_lt, if◌then◌else◌, Option, Some, None, option_map, map, length, Result, Ok, Err, codes, decimal, unwrap_or, slice_get}
+use Rattle.std.specs.List.{list_any, position_from, range_with_len}
+use Rattle.std.specs.Option.{option_map_or}
+use Rattle.std.specs.Str.{bytes_eq, is_utf8}
+use Rattle.csv.specs.Records.{field_at}
+use Rattle.oim_names.specs.Names.{is_row_identifier}
+use Rattle.oim_meta.specs.Grid.{Field, Record}
+use Rattle.oim_meta.specs.Readers.{columns_of, template_of}
+use Rattle.oim_meta.specs.ReportValue.{ReportValue}
+use Rattle.oim_meta.specs.declared.data.Column.{Column}
+use Rattle.oim_meta.specs.declared.data.ColumnKind.{ColumnKind}
+use Rattle.oim_meta.specs.declared.data.ColumnKind.TheVariants as content
+use Rattle.oim_resolve.specs.Cell.{cell_of}
+use Rattle.oim_resolve.specs.Facts.{cell_result}
+use Rattle.oim_resolve.specs.declared.fact.CellFault.{CellFault}
+use Rattle.oim_resolve.specs.declared.fact.CellFault.TheVariants as cell
+use Rattle.oim_resolve.specs.declared.fact.Fact.{Fact}
+use Rattle.oim_resolve.specs.declared.fact.Row.{Row}
+use Rattle.oim_rows.specs.Header.{Header, fault_at, is_column, is_empty, or_else}
+use Rattle.oim_rows.specs.declared.fault.TableFault.{TableFault}
+use Rattle.oim_rows.specs.declared.fault.TableKind.{TableKind}
+use Rattle.oim_rows.specs.declared.fault.TableKind.TheVariants as kind
+
+-- what the rows of a table are read by: its report and its place there, the most rows that it may have, and its header
+pub record Reading : Type 0 where
+  pub report : ReportValue
+  pub table : ℕ
+  pub limit : ℕ
+  pub header : Header
+
+-- the place in the header of a column of the template
+abbrev pub source_of_column : Header → ℕ → Option ℕ
+source_of_column h c = position_from (is_column c) 0 h
+
+abbrev pub field_or_empty : Record → Option ℕ → Field
+field_or_empty r None = []
+field_or_empty r (Some p) = unwrap_or (field_at r p) []
+
+-- the cell of a column: the empty text where the header omits the column
+abbrev pub cell_at : Header → Record → ℕ → Field
+cell_at h r c = field_or_empty r (source_of_column h c)
+
+abbrev pub is_not_text : Field → Bool
+is_not_text f = not (is_utf8 f)
+
+-- each field is text
+abbrev pub IsTextRecord : Record → Type 0
+IsTextRecord r = position_from is_not_text 0 r ≡ None
+
+-- the place in the header of the row identifier, where the template has a column for it
+abbrev pub row_id_place : Option ℕ → Header → Option ℕ
+row_id_place None h = None
+row_id_place (Some c) h = source_of_column h c
+
+-- the place in the header of a table's row identifier
+abbrev pub id_place_of : Reading → Option ℕ
+id_place_of g = row_id_place (template_of g.report g.table).row_id_column g.header
+
+-- the identifier of row n: the text at its place, or `r_` and the row number where the table has no column for it
+abbrev pub row_id_text : Option ℕ → ℕ → Record → Field
+row_id_text None n r = codes "r_" ++ decimal n
+row_id_text (Some p) n r = unwrap_or (field_at r p) []
+
+-- row n as the resolution of cells takes it: a cell for each column of the template, in the template's order
+abbrev pub row_of : Reading → ℕ → Record → Row
+row_of g n r = record {
+  number = n;
+  id = row_id_text (id_place_of g) n r;
+  cells = map (cell_at g.header r) (range_with_len 0 (length (columns_of g.report g.table)));
+}
+
+-- what is wrong with a row identifier, beside those of the earlier rows
+abbrev pub id_kind : List Field → Field → Option TableKind
+id_kind ids f =
+    if is_empty f then Some kind.MissingRowId
+    else if not (is_row_identifier f) then Some kind.BadRowId
+    else if list_any (bytes_eq f) ids then Some kind.RepeatedRowId else None
+
+abbrev pub id_fault : Reading → Option ℕ → ℕ → List Field → Record → Option TableFault
+id_fault g None n ids r = None
+id_fault g (Some p) n ids r = option_map (fault_at g.table n (p + 1)) (id_kind ids (unwrap_or (field_at r p) []))
+
+-- the first fault of a row, but for its cells: another length, no text, above the limit, the row identifier
+abbrev pub row_fault : Reading → ℕ → List Field → Record → Option TableFault
+row_fault g n ids r =
+    if not (length r == length g.header) then Some (fault_at g.table n 0 kind.Ragged)
+    else or_else (option_map (λ p. fault_at g.table n (p + 1) kind.NotUtf8) (position_from is_not_text 0 r))
+    (if nat_lt g.limit n then Some (fault_at g.table n 0 kind.TooManyRows)
+    else id_fault g (id_place_of g) n ids r)
+
+-- a fault of a cell as a fault of the table
+abbrev pub kind_of_cell : CellFault → TableKind
+kind_of_cell cell.UnknownSpecial = kind.UnknownSpecial
+kind_of_cell cell.UnknownGroup = kind.UnknownGroup
+kind_of_cell cell.NoConcept = kind.NoConcept
+kind_of_cell cell.UnknownName = kind.UnknownName
+kind_of_cell cell.BadReference = kind.BadReference
+kind_of_cell cell.BadValue = kind.BadValue
+kind_of_cell cell.BadPeriod = kind.BadPeriod
+kind_of_cell cell.NotDuration = kind.NotDuration
+kind_of_cell cell.BadDecimals = kind.BadDecimals
+kind_of_cell cell.BadNumber = kind.BadNumber
+kind_of_cell cell.Memory = kind.Memory
+
+abbrev pub holds_facts : ColumnKind → Bool
+holds_facts content.Fact = true
+holds_facts content.Groups = false
+holds_facts content.Comment = false
+holds_facts content.Plain = false
+
+-- the place is that of a column that holds facts
+abbrev pub is_fact_column : List Column → ℕ → Bool
+is_fact_column columns c = option_map_or (λ (x : Column). holds_facts x.kind) (slice_get columns c) false
+
+-- a result of a cell of row n under place p of the header, from 1
+abbrev pub at_place : ℕ → ℕ → ℕ → Result (Option Fact) CellFault → Result (Option Fact) TableFault
+at_place table n p (Ok o) = Ok o
+at_place table n p (Err k) = Err (fault_at table n p (kind_of_cell k))
+
+-- what the header cell at place p gives in a row: nothing where its column holds no facts
+abbrev pub fact_at : ReportValue → ℕ → Row → ℕ → Option ℕ → Result (Option Fact) TableFault
+fact_at report table row p None = Ok None
+fact_at report table row p (Some c) = if is_fact_column (columns_of report table) c then at_place table row.number (p + 1) (cell_result (cell_of report table row c)) else Ok None
+
+-- one more answer in front
+abbrev pub in_front : Result (Option Fact) TableFault → Result (List Fact) TableFault → Result (List Fact) TableFault
+in_front (Err e) r = Err e
+in_front (Ok None) r = r
+in_front (Ok (Some f)) (Ok fs) = Ok (f ∷ fs)
+in_front (Ok (Some f)) (Err e) = Err e
+
+-- the facts of a row in header order, from place p on, or the fault of the first cell that has one
+abbrev pub facts_from : ReportValue → ℕ → Row → ℕ → Header → Result (List Fact) TableFault
+facts_from report table row p [] = Ok []
+facts_from report table row p (o ∷ h) = in_front (fact_at report table row p o) (facts_from report table row (p + 1) h)
+
+abbrev pub checked : Option TableFault → Result (List Fact) TableFault → Result (List Fact) TableFault
+checked (Some e) r = Err e
+checked None r = r
+
+-- row n, where the rows before it have these row identifiers: its facts, or its first fault
+abbrev pub row_result : Reading → ℕ → List Field → Record → Result (List Fact) TableFault
+row_result g n ids r = checked (row_fault g n ids r) (facts_from g.report g.table (row_of g n r) 0 g.header)
+
+-- the row identifiers after row r, where the table has a column for them
+abbrev pub ids_after : Option ℕ → List Field → Record → List Field
+ids_after None ids r = ids
+ids_after (Some p) ids r = ids ++ unwrap_or (field_at r p) [] ∷ []
+
+-- no earlier row has the row's identifier
+abbrev pub IsNewId : Option ℕ → List Field → Record → Type 0
+IsNewId None ids r = ⊤
+IsNewId (Some p) ids r = list_any (bytes_eq (unwrap_or (field_at r p) [])) ids ≡ false

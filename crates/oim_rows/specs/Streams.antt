@@ -1,0 +1,78 @@
+-- A table's stream: all its facts, row by row, up to its first fault.
+-- xBRL-CSV 1.0, table files: the first record is the header, row n is the nth record after it.
+use Rattle.std.specs.Prelude.{⊤, List, [], ◌∷◌, ◌≡◌, ◌⊎◌, ℕ, ◌+◌, if◌then◌else◌, Option, Some, None, Result, Ok, Err}
+use Rattle.oim_meta.specs.Grid.{Field, Record, grid}
+use Rattle.oim_meta.specs.Readers.{columns_of, table_of}
+use Rattle.oim_meta.specs.ReportValue.{ReportValue}
+use Rattle.oim_resolve.specs.declared.fact.Fact.{Fact}
+use Rattle.oim_rows.specs.Header.{Header, file_fault, header_fault, header_of}
+use Rattle.oim_rows.specs.RowFacts.{Reading, id_place_of, ids_after, row_result}
+use Rattle.oim_rows.specs.declared.fault.TableFault.{TableFault}
+use Rattle.oim_rows.specs.declared.fault.TableKind.TheVariants as kind
+
+-- the facts of each row before the first bad one, and the first fault
+pub record Stream : Type 0 where
+  pub rows : List (List Fact)
+  pub fault : Option TableFault
+
+abbrev pub ending : Option TableFault → Stream
+ending f = record { rows = []; fault = f }
+
+abbrev pub row_in_front : Result (List Fact) TableFault → Stream → Stream
+row_in_front (Err e) s = ending (Some e)
+row_in_front (Ok facts) s = record { rows = facts ∷ s.rows; fault = s.fault }
+
+-- the rows from number n on, where the rows before them have these row identifiers
+unfoldable pub stream_from : Reading → ℕ → List Field → List Record → Stream
+stream_from g n ids [] = ending None
+stream_from g n ids (r ∷ rows) = row_in_front (row_result g n ids r) (stream_from g (n + 1) (ids_after (id_place_of g) ids r) rows)
+
+-- how the rows under this header record are read
+abbrev pub reading_of : ReportValue → ℕ → ℕ → Record → Reading
+reading_of report table limit r = record { report = report; table = table; limit = limit; header = header_of (columns_of report table) r }
+
+-- the stream of a table whose file has these records, with a limit of rows
+abbrev pub stream_of : ReportValue → ℕ → ℕ → List Record → Stream
+stream_of report table limit [] = ending (Some (file_fault table kind.NoHeader))
+stream_of report table limit (r ∷ rows) = under (header_fault report table r)
+  where
+    under : Option TableFault → Stream
+    under (Some e) = ending (Some e)
+    under None = stream_from (reading_of report table limit r) 1 [] rows
+
+-- the stream of a table whose file has these bytes, or that has no file: then it is empty, and a fault unless the table is optional
+abbrev pub table_stream : ReportValue → ℕ → ℕ → Option (List ℕ) → Stream
+table_stream report table limit None = ending (if (table_of report table).is_optional then None else Some (file_fault table kind.NoFile))
+table_stream report table limit (Some bytes) = stream_of report table limit (grid bytes)
+
+-- the reader failed, or a growth was refused
+abbrev pub IsOutside : ℕ → TableFault → Type 0
+IsOutside table e = (e ≡ file_fault table kind.Read) ⊎ (e ≡ file_fault table kind.Memory)
+
+-- the answer, unless a growth was refused
+abbrev pub OrNoMemory : {A : Type 0} → ℕ → Result A TableFault → Result A TableFault → Type 0
+OrNoMemory table result answer = (result ≡ Err (file_fault table kind.Memory)) ⊎ (result ≡ answer)
+
+-- an answer of a table with this stream: the next row of it, with the stream after it, or its end or its fault, unless
+-- the reader failed or a growth was refused
+abbrev pub GivesNext : ℕ → Stream → Result (Option (List Fact)) TableFault → Option Stream → Type 0
+GivesNext table s (Ok (Some facts)) None = ⊥
+GivesNext table s (Ok (Some facts)) (Some rest) = s ≡ row_in_front (Ok facts) rest
+GivesNext table s (Ok None) after = s ≡ ending None
+GivesNext table s (Err e) after = IsOutside table e ⊎ (s ≡ ending (Some e))
+
+-- what is answered again after an answer
+abbrev pub kept_answer : Result (Option (List Fact)) TableFault → Option (Option TableFault)
+kept_answer (Ok (Some facts)) = None
+kept_answer (Ok None) = Some None
+kept_answer (Err e) = Some (Some e)
+
+abbrev pub answer_of : Option TableFault → Result (Option (List Fact)) TableFault
+answer_of None = Ok None
+answer_of (Some e) = Err e
+
+-- the columns of the first of the records left, a header with no fault
+abbrev pub TakesHeader : ReportValue → ℕ → Option (List Record) → Header → Option (List Record) → Type 0
+TakesHeader report table None h after = ⊤
+TakesHeader report table (Some []) h after = ⊥
+TakesHeader report table (Some (r ∷ rows)) h after = (header_fault report table r ≡ None) × (h ≡ header_of (columns_of report table) r) × (after ≡ Some rows)

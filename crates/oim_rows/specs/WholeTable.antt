@@ -1,0 +1,33 @@
+-- A table's stream, said of all its rows at once: the facts of each row before the first bad one, and that row's fault.
+-- xBRL-CSV 1.0, table files: row n is the nth record after the header.
+use Rattle.std.specs.Prelude.{List, [], ◌∷◌, ◌++◌, ◌≡◌, ℕ, ◌+◌, zero, suc, Option, Some, None, MatchOption, Result, Ok, Err, length, map, take, unwrap_or}
+use Rattle.csv.specs.Records.{field_at}
+use Rattle.oim_meta.specs.Grid.{Field, Record}
+use Rattle.oim_resolve.specs.declared.fact.Fact.{Fact}
+use Rattle.oim_rows.specs.RowFacts.{Reading, id_place_of, row_result}
+use Rattle.oim_rows.specs.Streams.{Stream}
+use Rattle.oim_rows.specs.declared.fault.TableFault.{TableFault}
+
+-- the row at a place
+abbrev pub row_at : {A : Type 0} → List A → ℕ → Option A
+row_at [] m = None
+row_at (r ∷ rows) zero = Some r
+row_at (r ∷ rows) (suc m) = row_at rows m
+
+-- the row identifiers of these rows, where the table has a column for them
+abbrev pub ids_of : Option ℕ → List Record → List Field
+ids_of None rows = []
+ids_of (Some p) rows = map (λ r. unwrap_or (field_at r p) []) rows
+
+-- what a row gives after the earlier rows of its table
+abbrev pub row_after : Reading → List Record → Record → Result (List Fact) TableFault
+row_after g earlier r = row_result g (length earlier + 1) (ids_of (id_place_of g) earlier) r
+
+-- what the row at a place gives, if there is one
+abbrev pub Gives : Reading → List Record → List Record → ℕ → Result (List Fact) TableFault → Type 0
+Gives g earlier rows m answer = (r : Record) × (row_at rows m ≡ Some r) × (row_after g (earlier ++ take m rows) r ≡ answer)
+
+-- each of the stream's rows is given by the row at its place, and the row after them has the stream's fault, or there is none
+pub record IsStreamOf (g : Reading) (earlier rows : List Record) (s : Stream) : Type 0 where
+  pub good : (m : ℕ) (facts : List Fact) → row_at s.rows m ≡ Some facts → Gives g earlier rows m (Ok facts)
+  pub end : MatchOption s.fault (length s.rows ≡ length rows) (λ e. Gives g earlier rows (length s.rows) (Err e))

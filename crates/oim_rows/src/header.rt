@@ -1,0 +1,192 @@
+//! The header of a table file.
+
+ghost use Rattle.std.specs.Prelude.{◌≡◌, ◌≤◌, ◌<◌, ◌+◌, [], IfOk, None, Some, take, length};
+ghost use Rattle.std.specs.List.{list_any, position_from};
+ghost use Rattle.std.specs.Str.{bytes_eq};
+ghost use Rattle.csv.specs.Records.{field_at, fields_of};
+ghost use Rattle.oim_meta.specs.Readers.{columns_of as columns_in, template_of};
+ghost use Rattle.oim_rows.specs.Header.{named_column, fault_at, header_fault, header_of, is_column, is_unknown, names_row_id, place_of, repeat_from};
+
+use crate::fault::{TableFault, TableKind};
+use csv::ByteRecord;
+use oim_meta::{Column, Report};
+use std::alloc::{AllocError, Global};
+
+/// The field at a place.
+pub fn field(row: &ByteRecord, i: usize) -> &[u8]
+    requires { i < length (fields_of row.now) }
+    ensures { field_at (fields_of row.now) i ≡ Some result.now }
+{
+    match row.get(i) {
+        Some(cell) => cell,
+        None => unreachable!(),
+    }
+}
+
+fn same_bytes(text: &str, bytes: &[u8]) -> bool
+    ensures { result ≡ bytes_eq text.now bytes.now }
+{
+    text.as_bytes() == bytes
+}
+
+/// The place of the column with this identifier.
+fn place_of_cell(columns: &[Column], cell: &[u8]) -> Option<usize>
+    ensures { result ≡ place_of columns.now cell.now }
+{
+    columns
+        .iter()
+        .position(|column| same_bytes(column.id.as_str(), cell))
+}
+
+/// The place of the column that a header cell names.
+fn column_of_cell(columns: &[Column], cell: &[u8]) -> Option<usize>
+    ensures { result ≡ named_column columns.now cell.now }
+{
+    if cell.is_empty() {
+        None
+    } else {
+        place_of_cell(columns, cell)
+    }
+}
+
+fn is_unknown_cell(columns: &[Column], cell: &[u8]) -> bool
+    ensures { result ≡ is_unknown columns.now cell.now }
+{
+    !cell.is_empty() && place_of_cell(columns, cell).is_none()
+}
+
+/// The first header cell that isn't empty and names no column.
+fn first_unknown(columns: &[Column], row: &ByteRecord) -> Option<usize>
+    ensures { result ≡ position_from (is_unknown columns.now) 0 (fields_of row.now) }
+{
+    for i in 0..row.len() {
+        if is_unknown_cell(columns, field(row, i)) {
+            return Some(i);
+        }
+    }
+    None
+}
+
+/// The column of each header cell.
+pub fn columns_of(
+    alloc: Global,
+    columns: &[Column],
+    row: &ByteRecord,
+) -> Result<Vec<Option<usize>>, AllocError>
+    ensures { IfOk result (λ h. h.items ≡ header_of columns.now (fields_of row.now)) }
+{
+    let mut header = Vec::new(alloc);
+    for i in 0..row.len() {
+        header.push(column_of_cell(columns, field(row, i)))?;
+    }
+    Ok(header)
+}
+
+fn is_place(place: Option<usize>, column: usize) -> bool
+    ensures { result ≡ is_column column place }
+{
+    match place {
+        Some(c) => column == c,
+        None => false,
+    }
+}
+
+/// The place of a column in a header, or in its front.
+pub fn source_of(header: &[Option<usize>], column: usize) -> Option<usize>
+    ensures { result ≡ position_from (is_column column) 0 header.now }
+{
+    header.iter().position(|place| is_place(*place, column))
+}
+
+ghost use Rattle.oim_rows.specs.Header.{repeats};
+
+fn has_column(header: &[Option<usize>], column: usize) -> bool
+    ensures { result ≡ list_any (is_column column) header.now }
+{
+    header.iter().any(|place| is_place(*place, column))
+}
+
+/// Whether a cell's column stands in this front of the header.
+fn repeats_in(front: &[Option<usize>], place: Option<usize>) -> bool
+    ensures { result ≡ repeats front.now place }
+{
+    match place {
+        Some(column) => has_column(front, column),
+        None => false,
+    }
+}
+
+/// The first place whose column stands at an earlier place too.
+fn first_repeated(header: &[Option<usize>]) -> Option<usize>
+    ensures { result ≡ repeat_from 0 [] header.now }
+{
+    for i in 0..header.len() {
+        if repeats_in(&header[..i], header[i]) {
+            return Some(i);
+        }
+    }
+    None
+}
+
+/// The fault of a place in the header, from 0.
+pub fn fault_at_place(table: usize, row: u32, place: usize, kind: TableKind) -> TableFault
+    ensures { result ≡ fault_at table row (place + 1) kind }
+{
+    let column = if place < u32::MAX as usize {
+        place as u32 + 1
+    } else {
+        u32::MAX
+    };
+    TableFault {
+        table,
+        row,
+        column,
+        kind,
+    }
+}
+
+fn names_row_id_column(column: Option<usize>, header: &[Option<usize>]) -> bool
+    ensures { result ≡ names_row_id column header.now }
+{
+    match column {
+        Some(column) => has_column(header, column),
+        None => true,
+    }
+}
+
+ghost use Rattle.oim_rows.specs.Header.{file_fault};
+
+/// The fault of a file as a whole.
+pub fn whole_fault(table: usize, kind: TableKind) -> TableFault
+    ensures { result ≡ file_fault table kind }
+{
+    TableFault {
+        table,
+        row: 0,
+        column: 0,
+        kind,
+    }
+}
+
+/// The first fault of a header record, whose columns are `header`.
+pub fn fault_of(
+    report: &Report,
+    table: usize,
+    row: &ByteRecord,
+    header: &[Option<usize>],
+) -> Option<TableFault>
+    requires place { table < length report.now.tables }
+    requires header { header.now ≡ header_of (columns_in report.now table) (fields_of row.now) }
+    ensures { result ≡ header_fault report.now table (fields_of row.now) }
+{
+    if let Some(place) = first_unknown(report.template_columns(table), row) {
+        return Some(fault_at_place(table, 0, place, TableKind::UnknownHeader));
+    }
+    if let Some(place) = first_repeated(header) {
+        return Some(fault_at_place(table, 0, place, TableKind::RepeatedHeader));
+    }
+    if !names_row_id_column(report.row_id_column(table), header) {
+        return Some(whole_fault(table, TableKind::NoRowIdColumn));
+    }
+    None
+}

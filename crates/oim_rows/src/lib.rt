@@ -1,0 +1,23 @@
+//! The facts of one table, row by row.
+//!
+//! `Rows` reads a table's file record by record, and keeps none of them: the first record is the
+//! header, and each further record is a row. What it gives is exactly the table's stream: the
+//! facts of each row before the first bad one, in header order, and then the end or the table's
+//! first fault, with its row and its place in the header. A row with any fault gives no fact.
+//! A failed read and want of memory apart, which may end a table at any row. After the end or a
+//! fault it answers the same again and reads nothing. A table ends at the limit of rows at the
+//! latest.
+//!
+//! Table files are those of xBRL-CSV 1.0.
+#![tactic(auto)]
+
+mod decoder;
+mod fault;
+mod header;
+mod ids;
+mod laws;
+mod rows;
+
+pub use fault::{TableFault, TableKind};
+pub use laws::{fact_identifiers_differ, stream_is_of_all_rows, table_identifiers_differ};
+pub use rows::{RowFacts, Rows};

@@ -1,0 +1,210 @@
+//! The rows of one table, one at a time.
+
+ghost use Rattle.std.specs.Prelude.{◌≡◌, ◌⊎◌, ◌≤◌, ◌<◌, ◌+◌, ◌∷◌, [], IfOk, IfErr, IfSome, OnSome, None, Some, option_map, length};
+ghost use Rattle.csv.specs.Records.{fields_of};
+ghost use Rattle.oim_meta.specs.Grid.{grid};
+ghost use Rattle.oim_rows.specs.Header.{file_header_fault};
+ghost use Rattle.oim_rows.specs.Streams.{GivesNext, IsOutside, TakesHeader, answer_of, kept_answer, stream_from, stream_of};
+
+use crate::decoder::Decoder;
+use crate::fault::{TableFault, TableKind};
+use crate::header::{columns_of, fault_of, whole_fault};
+use crate::ids::RowIds;
+use csv::ByteRecord;
+use oim_meta::{Limits, ReadFault, Records, Report};
+use oim_names::Items;
+use oim_resolve::Fact;
+use std::alloc::Global;
+use std::io::Read;
+use std::marker::Model;
+
+/// The facts of one row, in header order.
+pub type RowFacts = Items<Fact>;
+
+/// What `next` does.
+#[derive(Clone, Copy)]
+enum Progress {
+    Reading,
+    Ended,
+    Failed(TableFault),
+}
+
+/// The rows of one table that are left. It borrows the table's report. A contract sees the table's
+/// place, the limit, how many rows were given, what is answered again once it is settled, the
+/// stream that is left where the reader tells its bytes, and the records that are unread.
+#[derive(Drop)]
+pub struct Rows<'a, R: Read> {
+    alloc: Global,
+    decoder: Decoder<'a>,
+    records: Records<R>,
+    row: ByteRecord,
+    ids: RowIds,
+    given: u32,
+    progress: Progress,
+}
+
+impl<'a, R: Read> Model for Rows<'a, R> {
+    ghost use Rattle.std.specs.Prelude.{◌≤◌, ◌<◌, ◌^◌, ◌-◌, ◌+◌};
+    ghost use Rattle.oim_rows.specs.Left.{RowsLeft};
+
+    ghost Value = { RowsLeft };
+
+    ghost use Rattle.oim_rows.specs.Progressing.{answered_of, left_of};
+
+    ghost view = { λ a. record {
+      table = a.decoder.table;
+      limit = a.decoder.limit;
+      given = a.given;
+      answered = answered_of a.progress;
+      left = left_of a.progress a.decoder (a.given + 1) a.ids a.records;
+      unread = a.records;
+    } };
+
+    ghost invariant = { λ a. (a.given ≤ a.decoder.limit) × (a.decoder.limit < 2 ^ 32 - 1) };
+}
+
+fn fault_of_read(table: usize, fault: ReadFault) -> TableFault
+    ensures { IsOutside table result }
+{
+    match fault {
+        ReadFault::Read => whole_fault(table, TableKind::Read),
+        ReadFault::Memory => whole_fault(table, TableKind::Memory),
+    }
+}
+
+/// The columns of a table's header, the first record.
+fn read_header<R: Read>(
+    alloc: Global,
+    report: &Report,
+    table: usize,
+    records: &mut Records<R>,
+    row: &mut ByteRecord,
+) -> Result<Vec<Option<usize>>, TableFault>
+    requires { table < length report.now.tables }
+    ensures header { IfOk result (λ h. TakesHeader report.now table records.old h.items records.new) }
+    ensures fault { IfErr result (λ e. IsOutside table e ⊎ IfSome records.old (λ rs. file_header_fault report.now table rs ≡ Some e)) }
+{
+    match records.read(row) {
+        Ok(true) => {}
+        Ok(false) => return Err(whole_fault(table, TableKind::NoHeader)),
+        Err(fault) => return Err(fault_of_read(table, fault)),
+    }
+    let Ok(header) = columns_of(alloc, report.template_columns(table), row) else {
+        return Err(whole_fault(table, TableKind::Memory));
+    };
+    match fault_of(report, table, row, header.as_slice()) {
+        Some(fault) => Err(fault),
+        None => Ok(header),
+    }
+}
+
+/// The facts of row `number`, if there is one.
+fn read_row<R: Read>(
+    alloc: Global,
+    decoder: &Decoder,
+    records: &mut Records<R>,
+    row: &mut ByteRecord,
+    ids: &mut RowIds,
+    number: u32,
+) -> Result<Option<RowFacts>, TableFault>
+    ensures next { IfSome records.old (λ rs. GivesNext (decoder.now).table (stream_from decoder.now number ids.old rs) result (option_map (stream_from decoder.now (number + 1) ids.new) records.new)) }
+    ensures within { IfOk result (λ o. OnSome o (number ≤ (decoder.now).limit)) }
+{
+    match records.read(row) {
+        Ok(true) => match decoder.facts(alloc, number, ids, row) {
+            Ok(facts) => Ok(Some(facts)),
+            Err(fault) => Err(fault),
+        },
+        Ok(false) => Ok(None),
+        Err(fault) => Err(fault_of_read(decoder.table(), fault)),
+    }
+}
+
+impl<'a, R: Read + Drop> Rows<'a, R> {
+    /// Reads the header of the table at this place of a report, past one byte-order mark. The rows
+    /// are at most `limits.rows`, itself at most 4,294,967,294.
+    ///
+    /// Fails with the header's first fault, in this order: NoHeader, UnknownHeader, RepeatedHeader,
+    /// NoRowIdColumn. Fails with Read where the reader failed, and with Memory where memory is
+    /// short.
+    pub fn open(
+        alloc: Global,
+        report: &'a Report,
+        table: usize,
+        reader: R,
+        limits: Limits,
+    ) -> Result<Rows<'a, R>, TableFault>
+        requires place { table < length report.now.tables }
+        requires rows { limits.rows ≤ 4294967294 }
+
+        // The rows of the table, where its header has no fault.
+        ensures start { IfOk result (λ rows. (rows.table ≡ table) × (rows.limit ≡ limits.rows) × (rows.given ≡ 0) × (rows.answered ≡ None)) }
+        ensures stream { IfSome (R.remaining reader) (λ bytes. IfOk result (λ rows. rows.left ≡ Some (stream_of report.now table limits.rows (grid bytes)))) }
+        ensures header { IfSome (R.remaining reader) (λ bytes. IfOk result (λ _. file_header_fault report.now table (grid bytes) ≡ None)) }
+
+        // Its fault, unless the reader failed or a growth was refused.
+        ensures fault { IfSome (R.remaining reader) (λ bytes. IfErr result (λ e. IsOutside table e ⊎ (file_header_fault report.now table (grid bytes) ≡ Some e))) }
+    {
+        let mut records = Records::new(alloc, reader);
+        let mut row = ByteRecord::new(alloc);
+        let header = match read_header(alloc, report, table, &mut records, &mut row) {
+            Ok(header) => header,
+            Err(fault) => return Err(fault),
+        };
+        let Ok(decoder) = Decoder::new(alloc, report, table, limits.rows, header) else {
+            return Err(whole_fault(table, TableKind::Memory));
+        };
+        Ok(Rows {
+            alloc,
+            decoder,
+            records,
+            row,
+            ids: RowIds::new(alloc),
+            given: 0,
+            progress: Progress::Reading,
+        })
+    }
+
+    /// The facts of the next row in header order, none of them where the row has none, or None at
+    /// the end. After the end or a fault it answers the same again and reads nothing.
+    ///
+    /// Fails with the first fault of the first bad row, in this order: Ragged, NotUtf8,
+    /// TooManyRows, MissingRowId, BadRowId, RepeatedRowId, then the faults of its cells from left
+    /// to right. Fails with Read where the reader failed, and with Memory where memory is short.
+    pub fn next(&mut self) -> Result<Option<RowFacts>, TableFault>
+        ensures next { IfSome self.old.left (λ stream. GivesNext self.old.table stream result self.new.left) }
+        ensures kept { self.old.answered ≡ None → self.new.answered ≡ kept_answer result }
+        ensures again { IfSome self.old.answered (λ kept. (result ≡ answer_of kept) × (self.new ≡ self.old)) }
+
+        ensures same { (self.new.table ≡ self.old.table) × (self.new.limit ≡ self.old.limit) }
+        ensures counts { IfOk result (λ o. OnSome o ((self.new.given ≡ self.old.given + 1) × (self.new.given ≤ self.new.limit))) }
+    {
+        match self.progress {
+            Progress::Reading => {}
+            Progress::Ended => return Ok(None),
+            Progress::Failed(fault) => return Err(fault),
+        }
+        let number = self.given + 1;
+        match read_row(
+            self.alloc,
+            &self.decoder,
+            &mut self.records,
+            &mut self.row,
+            &mut self.ids,
+            number,
+        ) {
+            Ok(Some(facts)) => {
+                self.given = number;
+                Ok(Some(facts))
+            }
+            Ok(None) => {
+                self.progress = Progress::Ended;
+                Ok(None)
+            }
+            Err(fault) => {
+                self.progress = Progress::Failed(fault);
+                Err(fault)
+            }
+        }
+    }
+}

@@ -1,0 +1,97 @@
+-- What becomes of a report whose files are given by their bytes.
+-- xBRL-CSV 1.0 (the metadata and the table files), xBRL-JSON 1.0 (the document).
+use Rattle.std.specs.Prelude.{⊤, ◌≡◌, ◌≢◌, ◌↔◌, length, ℕ, List, [], Option, Some, None, Result, Ok, Err}
+use Rattle.std.specs.Io.KnownBytes.{Keeps}
+use Rattle.oim_meta.specs.CsvFiles.{OrOutside}
+use Rattle.oim_meta.specs.Grid.{grid}
+use Rattle.oim_meta.specs.Readers.{table_of}
+use Rattle.oim_meta.specs.Reading.{SaysReport, IsFault}
+use Rattle.oim_meta.specs.ReportValue.{ReportValue}
+use Rattle.oim_meta.specs.Types.{TypesValue}
+use Rattle.oim_meta.specs.TypesFile.{types_result}
+use Rattle.oim_meta.specs.declared.fault.MetaFault.{MetaFault}
+use Rattle.oim_meta.specs.declared.limits.Limits.{Limits}
+use Rattle.oim_json.specs.declared.mark.WriteFault.TheVariants as write
+use Rattle.oim_convert.specs.Answer.{streams}
+use Rattle.oim_convert.specs.Serial.{Converts}
+use Rattle.oim_convert.specs.Steps.{SinkView}
+use Rattle.oim_convert.specs.declared.fault.ConvertFault.{ConvertFault}
+use Rattle.oim_convert.specs.declared.fault.ConvertFault.TheVariants as fault
+use Rattle.xbrl_json_cli.specs.declared.outcome.Outcome.{Outcome}
+use Rattle.xbrl_json_cli.specs.declared.outcome.Outcome.TheVariants as outcome
+use Rattle.xbrl_json_cli.specs.declared.outcome.Source.TheVariants as source
+
+-- the limits of this profile
+abbrev pub profile : Limits
+profile = record { rows = 100_000_000; tables = 4_096; columns = 4_096; metadata = 67_108_864 }
+
+-- a report's limits, and the bytes of its metadata, of its types table and of the files of its tables
+pub record Texts : Type 0 where
+  pub limits : Limits
+  pub metadata : List ℕ
+  pub types : List ℕ
+  pub files : List (Option (List ℕ))
+
+abbrev pub texts : Limits → (metadata types : List ℕ) → List (Option (List ℕ)) → Texts
+texts limits metadata types files = record { limits = limits; metadata = metadata; types = types; files = files }
+
+-- the report that a metadata says with the types of a types table, and with no parameters of a file
+pub record SaysWith (limits : Limits) (metadata types : List ℕ) (report : ReportValue) : Type 0 where
+  pub known : TypesValue
+  pub typed : types_result (grid types) ≡ Ok known
+  pub says : SaysReport limits [] known metadata report
+
+-- nothing is written
+abbrev pub Unwritten : SinkView → SinkView → Type 0
+Unwritten old new = (new.mark ≡ old.mark) × Keeps old.told new.told
+
+-- the fault of the types table
+abbrev pub IsTypesFault : (types : List ℕ) → MetaFault → Type 0
+IsTypesFault types f = OrOutside (Err f) (types_result (grid types))
+
+-- the fault of the metadata, where the types table has none
+pub record HasReportFault (limits : Limits) (metadata types : List ℕ) (f : MetaFault) : Type 0 where
+  pub known : TypesValue
+  pub typed : types_result (grid types) ≡ Ok known
+  pub fault : IsFault limits [] known metadata f
+
+-- a table's identifier, unless there was no memory for it
+abbrev pub NamesTable : ReportValue → ℕ → Option (List ℕ) → Type 0
+NamesTable report i None = ⊤
+NamesTable report i (Some id) = id ≡ (table_of report i).id
+
+-- what reading the metadata and the types table answers
+abbrev pub Reads : Limits → (metadata types : List ℕ) → Result ReportValue Outcome → Type 0
+Reads limits metadata types (Ok report) = SaysWith limits metadata types report
+Reads limits metadata types (Err (outcome.Report source.Report f)) = HasReportFault limits metadata types f
+Reads limits metadata types (Err (outcome.Report source.Types f)) = IsTypesFault types f
+Reads limits metadata types (Err o) = ⊥
+
+-- the outcome of a conversion that answered so
+abbrev pub IsOutcomeOf : ReportValue → Result (Unit {0}) ConvertFault → Outcome → Type 0
+IsOutcomeOf report (Ok u) o = o ≡ outcome.Done
+IsOutcomeOf report (Err (fault.Table e)) o = (id : Option (List ℕ)) × (o ≡ outcome.Table id e) × NamesTable report e.table id
+IsOutcomeOf report (Err (fault.Write w)) o = o ≡ outcome.Output w
+IsOutcomeOf report (Err f) o = o ≡ outcome.Run f
+
+-- the outcome is that of the conversion of the report that the texts say; it lacks readers exactly where the files are not as
+-- many as the tables
+pub record Converted (given : Texts) (old new : SinkView) (o : Outcome) : Type 0 where
+  pub report : ReportValue
+  pub says : SaysWith given.limits given.metadata given.types report
+  pub answer : Result (Unit {0}) ConvertFault
+  pub converts : Converts report (streams report given.limits.rows given.files) old.mark new.mark old.told new.told answer
+  pub counts : (answer ≡ Err fault.WrongReaders) ↔ (length given.files ≢ length report.tables)
+  pub ending : IsOutcomeOf report answer o
+
+-- the outcome of a run over these texts
+abbrev pub Ends : Texts → SinkView → SinkView → Outcome → Type 0
+Ends given old new (outcome.Report source.Report f) = Unwritten old new × HasReportFault given.limits given.metadata given.types f
+Ends given old new (outcome.Report source.Types f) = Unwritten old new × IsTypesFault given.types f
+Ends given old new (outcome.Run fault.Memory) = Unwritten old new
+Ends given old new o = Converted given old new o
+
+-- a flush that failed is a failed write
+abbrev pub flushed : Outcome → Outcome
+flushed outcome.Done = outcome.Output write.Failed
+flushed o = o

@@ -1,0 +1,98 @@
+//! How a run ended, with its exit status and its line on standard error.
+
+ghost use Rattle.std.specs.Prelude.{◌≡◌, IfOk, Some, string_bytes};
+ghost use Rattle.xbrl_json_cli.specs.Lines.{fault_text, line_of, source_name, status_of, table_text};
+
+use oim_convert::ConvertFault;
+use oim_json::WriteFault;
+use oim_meta::MetaFault;
+use oim_names::Text;
+use oim_rows::TableFault;
+use std::alloc::{AllocError, Global};
+
+/// The file that is at fault.
+#[derive(Clone, Copy)]
+pub enum Source {
+    /// The metadata.
+    Report,
+    /// The types table.
+    Types,
+}
+
+impl Source {
+    /// The word that the line names the file by.
+    fn name(&self) -> &'static str
+        ensures { result.now ≡ source_name self.now }
+    {
+        match self {
+            Source::Report => "report",
+            Source::Types => "types",
+        }
+    }
+}
+
+/// How a run ended.
+#[derive(Drop)]
+pub enum Outcome {
+    /// The whole document is written.
+    Done,
+    /// There are arguments, and none is understood.
+    Words,
+    /// The metadata or the types table has a fault; nothing is written.
+    Report(Source, MetaFault),
+    /// A table has a fault; the document is unfinished. The text is the table's identifier, `None`
+    /// where there was no memory for it.
+    Table(Option<Text>, TableFault),
+    /// The conversion could not begin; nothing is written.
+    Run(ConvertFault),
+    /// A write failed; a beginning of the document is written.
+    Output(WriteFault),
+}
+
+/// The exit status: 0 where the document is written, 1 for a fault of the report, 2 for a command
+/// line that is not understood, 3 where memory or the output failed.
+pub fn status(outcome: &Outcome) -> u8
+    ensures { result ≡ status_of outcome.now }
+{
+    match outcome {
+        Outcome::Done => 0,
+        Outcome::Words => 2,
+        Outcome::Report(_, _) | Outcome::Table(_, _) => 1,
+        Outcome::Run(_) | Outcome::Output(_) => 3,
+    }
+}
+
+/// The line of a fault in what is named.
+fn fault_line(alloc: Global, place: &str, name: &str, number: u32) -> Result<String, AllocError>
+    ensures { IfOk result (λ s. string_bytes s ≡ fault_text place.now name.now number) }
+{
+    format!(in alloc; "xbrl-json: {place}: {name} ({number})\n")
+}
+
+/// The line of a fault in a table.
+fn table_line(alloc: Global, id: &str, fault: &TableFault) -> Result<String, AllocError>
+    ensures { IfOk result (λ s. string_bytes s ≡ table_text id.now fault.now) }
+{
+    let row = fault.row;
+    let column = fault.column;
+    let place = format!(in alloc; "table {id}, row {row}, column {column}")?;
+    fault_line(alloc, place.as_str(), fault.name(), fault.number())
+}
+
+/// The line on standard error, with its line feed; empty where the document is written. Fails where
+/// memory is short, now or when a table's identifier was kept.
+pub fn line(alloc: Global, outcome: &Outcome) -> Result<String, AllocError>
+    ensures { IfOk result (λ s. Some (string_bytes s) ≡ line_of outcome.now) }
+{
+    match outcome {
+        Outcome::Done => Ok(String::new(alloc)),
+        Outcome::Words => String::from_str(alloc, "xbrl-json: no arguments yet\n"),
+        Outcome::Report(source, fault) => {
+            fault_line(alloc, source.name(), fault.name(), fault.number())
+        }
+        Outcome::Table(Some(id), fault) => table_line(alloc, id.as_str(), fault),
+        Outcome::Table(None, _) => Err(AllocError),
+        Outcome::Run(fault) => fault_line(alloc, "run", fault.name(), fault.number()),
+        Outcome::Output(_) => String::from_str(alloc, "xbrl-json: output: Write (56)\n"),
+    }
+}

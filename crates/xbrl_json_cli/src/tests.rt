@@ -1,0 +1,512 @@
+//! Whole reports to their documents, and the line of the fault where there is one.
+
+use crate::conversion::{convert_held, convert_texts};
+use crate::held::{METADATA, TABLE, TYPES};
+use crate::outcome::{Outcome, line, status};
+use oim_convert::{ConvertFault, convert_serial};
+use oim_json::{Marked, WriteFault};
+use oim_meta::{Limits, Parameters, Report, read_report, read_types};
+use oim_rows::{Rows, TableFault, TableKind};
+use std::alloc::{AllocError, Global};
+use std::io;
+use std::io::Write;
+use std::process::Abort;
+use std::test::Fail;
+
+/// What stands before the facts of each document here.
+const HEAD: &str =
+    r#"{"documentInfo":{"documentType":"https://xbrl.org/2021/xbrl-json","namespaces":{"eg":"http://example.com/eg","iso4217":"http://www.xbrl.org/2003/iso4217","xbrli":"http://www.xbrl.org/2003/instance"},"taxonomy":["http://example.com/eg.xsd"]},"facts":{"#;
+
+/// Texts of the held metadata, each with what stands in its place.
+type Edits<'a> = &'a [(&'a str, &'a str)];
+
+/// The held metadata with each text replaced.
+fn edited(alloc: Global, edits: Edits<'_>) -> Result<String, AllocError> {
+    let mut metadata = String::from_str(alloc, METADATA)?;
+    for (from, to) in edits {
+        metadata = metadata.as_str().replace(alloc, *from, to)?;
+    }
+    Ok(metadata)
+}
+
+fn readers<'a>(alloc: Global, tables: &[Option<&'a [u8]>]) -> Result<Vec<Option<&'a [u8]>>, Fail> {
+    let mut readers = Vec::new(alloc);
+    for table in tables {
+        readers.push(*table)?;
+    }
+    Ok(readers)
+}
+
+/// The document and the line of a conversion with a limit of two rows.
+fn converted(
+    alloc: Global,
+    metadata: &str,
+    tables: &[Option<&[u8]>],
+) -> Result<(Vec<u8>, String), Fail> {
+    let limits = Limits {
+        rows: 2,
+        ..Limits::profile()
+    };
+    let mut document = Vec::new(alloc);
+    let outcome = convert_texts(
+        alloc,
+        metadata.as_bytes(),
+        TYPES.as_bytes(),
+        readers(alloc, tables)?,
+        limits,
+        &mut Marked::new(&mut document),
+    );
+    Ok((document, line(alloc, &outcome)?))
+}
+
+/// The first word, and the text behind it.
+fn first_word(text: &str) -> (&str, &str) {
+    text.split_once(' ').unwrap_or((text, ""))
+}
+
+/// A member of this name and value, unless the value is `-`.
+fn member(alloc: Global, name: &str, value: &str) -> Result<String, AllocError> {
+    if value == "-" {
+        return Ok(String::new(alloc));
+    }
+    format!(in alloc; "\"{name}\":{value},")
+}
+
+/// The text of a fact, given as `ID DECIMALS CONCEPT UNIT VALUE`, where `-` stands for none.
+fn fact_of(alloc: Global, fact: &str) -> Result<String, AllocError> {
+    let (id, rest) = first_word(fact);
+    let (decimals, rest) = first_word(rest);
+    let (concept, rest) = first_word(rest);
+    let (unit, value) = first_word(rest);
+    let decimals = member(alloc, "decimals", decimals)?;
+    let unit = match unit {
+        "-" => String::new(alloc),
+        unit => format!(in alloc; ",\"unit\":\"iso4217:{unit}\"")?,
+    };
+    let value = match value {
+        "null" => String::from_str(alloc, value)?,
+        value => format!(in alloc; "\"{value}\"")?,
+    };
+    format!(in alloc;
+        "\"{id}\":{{{decimals}\"dimensions\":{{\"concept\":\"eg:{concept}\",\"entity\":\"eg:A1\",\"period\":\"2021-01-01T00:00:00/2022-01-01T00:00:00\"{unit}}},\"value\":{value}}}"
+    )
+}
+
+/// The document of these facts, with `; ` between them, finished where there is no fault.
+fn document_of(alloc: Global, facts: &str, fault: &str) -> Result<String, AllocError> {
+    let mut document = String::from_str(alloc, HEAD)?;
+    for fact in facts.split("; ") {
+        if !fact.is_empty() {
+            if document.len() > HEAD.len() {
+                document.push(',')?;
+            }
+            document.push_str(fact_of(alloc, fact)?.as_str())?;
+        }
+    }
+    if fault.is_empty() {
+        document.push_str("}}\n")?;
+    }
+    Ok(document)
+}
+
+fn line_of(alloc: Global, fault: &str) -> Result<String, AllocError> {
+    if fault.is_empty() {
+        return Ok(String::new(alloc));
+    }
+    format!(in alloc; "xbrl-json: table {fault}\n")
+}
+
+/// Converts a report, and compares its document and its line, given as `FACTS => FAULT`.
+fn check(
+    rt: &(impl Abort + AllocGlobal),
+    edits: Edits<'_>,
+    tables: &[Option<&[u8]>],
+    expected: &str,
+) -> Result<(), Fail> {
+    let alloc = rt.alloc();
+    let (facts, fault) = expected.split_once(" => ").ok_or("no fault")?;
+    let metadata = edited(alloc, edits)?;
+    let (document, line) = converted(alloc, metadata.as_str(), tables)?;
+    let wanted = line_of(alloc, fault)?;
+    assert_eq!(rt; line.as_str(), wanted.as_str(), "of {expected}");
+    let expected = document_of(alloc, facts, fault)?;
+    assert_eq!(rt;
+        document.as_slice(),
+        expected.as_bytes(),
+        "where the line is {line}"
+    );
+    Ok(())
+}
+
+/// Does so for reports of one table, each given as `FILE => FACTS => FAULT`.
+fn check_all(
+    rt: &(impl Abort + AllocGlobal),
+    edits: Edits<'_>,
+    cases: &[&str],
+) -> Result<(), Fail> {
+    for case in cases {
+        let (table, expected) = case.split_once(" => ").ok_or("no facts")?;
+        check(rt, edits, &[Some(table.as_bytes())], expected)?;
+    }
+    Ok(())
+}
+
+const THREE: Edits<'static> = &[(
+    r#"{"t1":{"url":"t1.csv","template":"p"}}"#,
+    r#"{"t1":{"url":"t1.csv","template":"p"},"t2":{"url":"t2.csv","template":"p"},"t3":{"url":"t3.csv","template":"p"}}"#,
+)];
+
+const NO_TABLES: Edits<'static> = &[(r#"{"t1":{"url":"t1.csv","template":"p"}}"#, "{}")];
+
+const OPTIONAL: Edits<'static> = &[(r#""template":"p"}"#, r#""template":"p","optional":true}"#)];
+
+const IDENTIFIED: Edits<'static> = &[(
+    r#"{"columns":{"#,
+    r#"{"rowIdColumn":"k","columns":{"k":{},"#,
+)];
+
+const PURE: Edits<'static> = &[("iso4217:EUR", "xbrli:pure")];
+
+const RATE: Edits<'static> = &[
+    (
+        r#""dimensions":{"entity""#,
+        r#""decimals":0,"dimensions":{"entity""#,
+    ),
+    (
+        r#""cash":{"dimensions":{"concept":"eg:Cash"}}"#,
+        r#""rate":{"dimensions":{"concept":"eg:Rate"}}"#,
+    ),
+];
+
+const GROUPS: Edits<'static> = &[(
+    r#""cash":{"dimensions":{"concept":"eg:Cash"}}"#,
+    r##""g":{"propertyGroups":{"usd":{"dimensions":{"unit":"iso4217:USD"}}}},"a":{"dimensions":{"concept":"eg:Cash","unit":"#none"},"propertiesFrom":["g"]},"b":{"dimensions":{"concept":"eg:Cash"},"propertiesFrom":["g"]},"c":{"dimensions":{"concept":"eg:Cash","unit":"iso4217:GBP"},"propertiesFrom":["g"]}"##,
+)];
+
+const BY_NAME: (&str, &str) = (r#""concept":"eg:Cash"}}"#, r#""concept":"$c"}},"c":{}"#);
+
+const OF_REPORT: (&str, &str) = (
+    r#""dimensions":{"entity""#,
+    r#""parameters":{"c":"eg:Mass"},"dimensions":{"entity""#,
+);
+
+const OF_TABLE: (&str, &str) = (
+    r#""template":"p"}"#,
+    r#""template":"p","parameters":{"c":"eg:Cash"}}"#,
+);
+
+const OF_NEITHER: Edits<'static> = &[BY_NAME];
+
+const BY_REPORT: Edits<'static> = &[BY_NAME, OF_REPORT];
+
+const BY_TABLE: Edits<'static> = &[BY_NAME, OF_TABLE];
+
+const BY_BOTH: Edits<'static> = &[BY_NAME, OF_REPORT, OF_TABLE];
+
+const BY_NIL: Edits<'static> = &[
+    BY_NAME,
+    OF_TABLE,
+    (r#"{"c":"eg:Cash"}"#, r##"{"c":"#nil"}"##),
+];
+
+const BY_MEMBER: Edits<'static> = &[
+    BY_NAME,
+    OF_TABLE,
+    (r#"{"c":"eg:Cash"}"#, r#"{"c":"eg:Region"}"#),
+];
+
+#[test]
+fn rows_of_a_table(rt: HostRuntime) -> Result<(), Fail> {
+    check_all(
+        &rt,
+        &[],
+        &[
+            "cash,note\n100,first\n200,second\n => t1.r_1.cash - Cash EUR 100; t1.r_1.note - Note - first; t1.r_2.cash - Cash EUR 200; t1.r_2.note - Note - second => ",
+            "note,,cash\nn,zzz,5\n => t1.r_1.note - Note - n; t1.r_1.cash - Cash EUR 5 => ",
+            "\u{feff}note,,cash\nn,zzz,5\n => t1.r_1.note - Note - n; t1.r_1.cash - Cash EUR 5 => ",
+            "cash,note\n1,#foo\n =>  => t1, row 1, column 2: UnknownSpecial (31)",
+            "cash,note\n100,first\n200,second\n300,third\n => t1.r_1.cash - Cash EUR 100; t1.r_1.note - Note - first; t1.r_2.cash - Cash EUR 200; t1.r_2.note - Note - second => t1, row 3, column 0: TooManyRows (41)",
+        ],
+    )?;
+    Ok(())
+}
+
+#[test]
+fn tables_of_a_report(rt: HostRuntime) -> Result<(), Fail> {
+    check(
+        &rt,
+        THREE,
+        &[
+            Some(b"cash\n5\n".as_slice()),
+            Some(b"cash\n1\nx\n".as_slice()),
+            Some(b"nope\n1\n".as_slice()),
+        ],
+        "t1.r_1.cash - Cash EUR 5; t2.r_1.cash - Cash EUR 1 => t2, row 2, column 1: BadNumber (40)",
+    )?;
+    check(
+        &rt,
+        THREE,
+        &[
+            Some(b"cash\n".as_slice()),
+            Some(b"cash\n1\n".as_slice()),
+            Some(b"cash\n2\n".as_slice()),
+        ],
+        "t2.r_1.cash - Cash EUR 1; t3.r_1.cash - Cash EUR 2 => ",
+    )?;
+    check(&rt, NO_TABLES, &[], " => ")?;
+    check(&rt, &[], &[None], " => t1, row 0, column 0: NoFile (20)")?;
+    check(&rt, OPTIONAL, &[None], " => ")?;
+    Ok(())
+}
+
+#[test]
+fn faults_of_a_table_file(rt: HostRuntime) -> Result<(), Fail> {
+    check_all(
+        &rt,
+        &[],
+        &[
+            " =>  => t1, row 0, column 0: NoHeader (22)",
+            "\u{feff} =>  => t1, row 0, column 0: NoHeader (22)",
+            "cash,nope\n =>  => t1, row 0, column 2: UnknownHeader (23)",
+            "cash,cash\n =>  => t1, row 0, column 2: RepeatedHeader (24)",
+            "cash,note\n1\n =>  => t1, row 1, column 0: Ragged (26)",
+        ],
+    )?;
+    check(
+        &rt,
+        &[],
+        &[Some(b"cash,note\n100,\xff\n200,second\n".as_slice())],
+        " => t1, row 1, column 2: NotUtf8 (27)",
+    )?;
+    Ok(())
+}
+
+#[test]
+fn row_identifiers(rt: HostRuntime) -> Result<(), Fail> {
+    check_all(
+        &rt,
+        IDENTIFIED,
+        &[
+            "k,cash\nx,1\ny,2\n => t1.x.cash - Cash EUR 1; t1.y.cash - Cash EUR 2 => ",
+            "k,cash\nx,1\nx,3\n => t1.x.cash - Cash EUR 1 => t1, row 2, column 1: RepeatedRowId (30)",
+            "k,cash\n7,1\n => t1.7.cash - Cash EUR 1 => ",
+            "k,cash\na.b,1\n =>  => t1, row 1, column 1: BadRowId (29)",
+            "k,cash\n#none,1\n =>  => t1, row 1, column 1: BadRowId (29)",
+            "k,cash\n,1\n =>  => t1, row 1, column 1: MissingRowId (28)",
+            "cash\n1\n =>  => t1, row 0, column 0: NoRowIdColumn (25)",
+        ],
+    )?;
+    Ok(())
+}
+
+#[test]
+fn cells(rt: HostRuntime) -> Result<(), Fail> {
+    check_all(
+        &rt,
+        &[],
+        &[
+            "note\n#empty\n => t1.r_1.note - Note -  => ",
+            "note\n#nil\n => t1.r_1.note - Note - null => ",
+            "note\n##x\n##\n => t1.r_1.note - Note - #x; t1.r_2.note - Note - # => ",
+            "note\na#\n => t1.r_1.note - Note - a# => ",
+            "note\n\"\"\n#none\n =>  => ",
+            "note\n#\n =>  => t1, row 1, column 1: UnknownSpecial (31)",
+        ],
+    )?;
+    check_all(
+        &rt,
+        RATE,
+        &[
+            "rate\n1250.5d-2\n => t1.r_1.rate -2 Rate EUR 1250.5 => ",
+            "rate\n1dINF\n => t1.r_1.rate - Rate EUR 1 => ",
+            "rate\n-0d+1\n => t1.r_1.rate 1 Rate EUR -0 => ",
+            "rate\n 7 \n#nil\n => t1.r_1.rate 0 Rate EUR 7; t1.r_2.rate - Rate EUR null => ",
+            "rate\n1d2d3\n =>  => t1, row 1, column 1: BadNumber (40)",
+            "rate\nd3\n =>  => t1, row 1, column 1: BadNumber (40)",
+            "rate\n1e2\n =>  => t1, row 1, column 1: BadNumber (40)",
+            "rate\n#empty\n =>  => t1, row 1, column 1: BadNumber (40)",
+            "rate\n \n =>  => t1, row 1, column 1: BadNumber (40)",
+        ],
+    )?;
+    Ok(())
+}
+
+#[test]
+fn groups_and_parameters(rt: HostRuntime) -> Result<(), Fail> {
+    check_all(
+        &rt,
+        GROUPS,
+        &[
+            "g,a,b,c\nusd,1,2,3\n => t1.r_1.a - Cash - 1; t1.r_1.b - Cash USD 2; t1.r_1.c - Cash GBP 3 => ",
+            "g,a,b,c\n,1,2,3\n => t1.r_1.a - Cash - 1; t1.r_1.b - Cash EUR 2; t1.r_1.c - Cash GBP 3 => ",
+            "g,a,b,c\ngbp,,2,\n =>  => t1, row 1, column 3: UnknownGroup (32)",
+            "g,a,b,c\ngbp,,,\n =>  => ",
+        ],
+    )?;
+    check_all(
+        &rt,
+        BY_REPORT,
+        &["cash\n1\n => t1.r_1.cash - Mass EUR 1 => "],
+    )?;
+    check_all(
+        &rt,
+        BY_TABLE,
+        &["cash\n1\n => t1.r_1.cash - Cash EUR 1 => "],
+    )?;
+    check_all(&rt, BY_BOTH, &["cash\n1\n => t1.r_1.cash - Cash EUR 1 => "])?;
+    check_all(
+        &rt,
+        OF_NEITHER,
+        &["cash\n1\n =>  => t1, row 1, column 1: NoConcept (33)"],
+    )?;
+    check_all(
+        &rt,
+        BY_TABLE,
+        &["cash,c\n1,#none\n =>  => t1, row 1, column 1: NoConcept (33)"],
+    )?;
+    check_all(
+        &rt,
+        BY_NIL,
+        &["cash\n1\n =>  => t1, row 1, column 1: BadReference (35)"],
+    )?;
+    check_all(
+        &rt,
+        BY_MEMBER,
+        &["cash\n1\n =>  => t1, row 1, column 1: UnknownName (34)"],
+    )?;
+    check_all(&rt, PURE, &["cash\n1\n => t1.r_1.cash - Cash - 1 => "])?;
+    Ok(())
+}
+
+#[test]
+fn escapes_and_language(rt: HostRuntime) -> Result<(), Fail> {
+    let alloc = rt.alloc();
+    let language = (
+        r#""dimensions":{"entity""#,
+        r#""dimensions":{"language":"en-GB","entity""#,
+    );
+    let metadata = edited(alloc, &[language])?;
+    let table = b"note\n\"say \"\"hi\"\" \\\n\xc3\xa9\x01\"\n".as_slice();
+    let (document, line) = converted(alloc, metadata.as_str(), &[Some(table)])?;
+    assert_eq!(rt; line.as_str(), "");
+    let mut expected = String::from_str(alloc, HEAD)?;
+    expected.push_str(
+        "\"t1.r_1.note\":{\"dimensions\":{\"concept\":\"eg:Note\",\"entity\":\"eg:A1\",\"language\":\"en-gb\",\"period\":\"2021-01-01T00:00:00/2022-01-01T00:00:00\"},\"value\":\"say \\\"hi\\\" \\\\\\n\u{e9}\\u0001\"}}}\n",
+    )?;
+    assert_eq!(rt; document.as_slice(), expected.as_bytes());
+    Ok(())
+}
+
+/// A writer that takes at most `most` bytes a call, and once `room` bytes are out no more: it fails
+/// then, or answers 0.
+#[derive(Drop)]
+struct Narrow {
+    taken: Vec<u8>,
+    most: usize,
+    room: usize,
+    fails: bool,
+}
+
+impl Write for Narrow {
+    fn write(&mut self, bytes: &[u8]) -> io::Result<usize> {
+        if self.taken.len() >= self.room {
+            if self.fails {
+                return Err(io::Error::from(io::ErrorKind::Other));
+            }
+            return Ok(0);
+        }
+        let count = bytes.len().min(self.most).min(self.room - self.taken.len());
+        self.taken.extend_from_slice(&bytes[..count])?;
+        Ok(count)
+    }
+
+    fn flush(&mut self) -> io::Result<()> {
+        Ok(())
+    }
+}
+
+#[test]
+fn narrow_writers(rt: HostRuntime) -> Result<(), Fail> {
+    let alloc = rt.alloc();
+    let mut whole = Vec::new(alloc);
+    let outcome = convert_held(alloc, &mut Marked::new(&mut whole));
+    assert_eq!(rt; status(&outcome), 0);
+    for (most, room, fails, ending) in [
+        (1, 4096, true, None),
+        (7, 40, true, Some(WriteFault::Failed)),
+        (64, 40, false, Some(WriteFault::Zero)),
+    ] {
+        let taken = Vec::new(alloc);
+        let mut narrow = Narrow {
+            taken,
+            most,
+            room,
+            fails,
+        };
+        let outcome = convert_held(alloc, &mut Marked::new(&mut narrow));
+        let fault = match outcome {
+            Outcome::Output(fault) => Some(fault),
+            _ => None,
+        };
+        assert_eq!(rt; fault, ending);
+        assert_eq!(rt; status(&outcome), if ending.is_some() { 3 } else { 0 });
+        let expected = match ending {
+            Some(_) => b"{\"documentInfo\":{\"documentType\":\"https:/".as_slice(),
+            None => whole.as_slice(),
+        };
+        assert_eq!(rt; narrow.taken.as_slice(), expected);
+    }
+    Ok(())
+}
+
+/// The held report.
+fn report_of(alloc: Global) -> Result<Report, Fail> {
+    let types = read_types(alloc, TYPES.as_bytes())?;
+    let parameters = Parameters::none(alloc);
+    Ok(read_report(
+        alloc,
+        METADATA.as_bytes(),
+        parameters,
+        types,
+        &Limits::profile(),
+    )?)
+}
+
+#[test]
+fn the_same_fault_again(rt: HostRuntime) -> Result<(), Fail> {
+    let report = report_of(rt.alloc())?;
+    assert_eq!(rt; report.tables(), 1);
+    let reader = b"cash\n1\nx\n2\n".as_slice();
+    let mut rows = Rows::open(rt.alloc(), &report, 0, reader, Limits::profile())?;
+    assert!(rt; rows.next()?.is_some());
+    let fault = TableFault {
+        table: 0,
+        row: 2,
+        column: 1,
+        kind: TableKind::BadNumber,
+    };
+    for _ in 0..3 {
+        assert_eq!(rt; rows.next().err(), Some(fault));
+    }
+    Ok(())
+}
+
+#[test]
+fn other_numbers_of_readers(rt: HostRuntime) -> Result<(), Fail> {
+    let alloc = rt.alloc();
+    let report = report_of(alloc)?;
+    for tables in [[].as_slice(), [Some(TABLE.as_bytes()), None].as_slice()] {
+        let mut document = Vec::new(alloc);
+        let sink = &mut Marked::new(&mut document);
+        let answer = convert_serial(
+            alloc,
+            &report,
+            readers(alloc, tables)?,
+            Limits::profile(),
+            sink,
+        );
+        assert_eq!(rt; answer.err(), Some(ConvertFault::WrongReaders));
+        assert!(rt; document.is_empty());
+    }
+    Ok(())
+}
