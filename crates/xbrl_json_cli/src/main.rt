@@ -19,6 +19,10 @@ mod held;
 mod outcome;
 #[cfg(test)]
 mod tests;
+#[cfg(test)]
+mod tests_files;
+#[cfg(test)]
+mod tests_metadata;
 
 use conversion::convert_to;
 use outcome::Outcome;
