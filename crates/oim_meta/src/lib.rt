@@ -1,4 +1,16 @@
-//! The metadata of a report, its parameters and its types.
+//! The metadata of a report in xBRL-CSV 1.0, its parameters and its types.
+//!
+//! What the crate promises:
+//! - `read_report` answers a report exactly where the metadata has no fault, and then the report
+//!   that its JSON spells out (`specs/Value.antt`); else exactly its first fault, in the order of
+//!   `specs/FirstFault.antt`, one predicate for each fault number;
+//! - `parameter_url`, `read_parameters` and `read_types` answer their value exactly where there is
+//!   no fault of theirs, and else the first; a parameters file or types table has the fault of its
+//!   earliest bad record;
+//! - the readers of a `Report` give its parts, and `clone_report` an equal report;
+//! - `Records` gives the records of a CSV file one at a time, past one byte-order mark.
+//!
+//! Want of memory and a reader that fails apart. The layers above never meet a half-checked report.
 #![tactic(auto)]
 
 mod build;

@@ -18,10 +18,10 @@ const HEAD: &str =
     r#"{"documentInfo":{"documentType":"https://xbrl.org/2021/xbrl-json","namespaces":{"eg":"http://example.com/eg","iso4217":"http://www.xbrl.org/2003/iso4217","xbrli":"http://www.xbrl.org/2003/instance"},"taxonomy":["http://example.com/eg.xsd"]},"facts":{"#;
 
 /// Texts of the held metadata, each with what stands in its place.
-type Edits<'a> = &'a [(&'a str, &'a str)];
+pub(crate) type Edits<'a> = &'a [(&'a str, &'a str)];
 
 /// The held metadata with each text replaced.
-fn edited(alloc: Global, edits: Edits<'_>) -> Result<String, AllocError> {
+pub(crate) fn edited(alloc: Global, edits: Edits<'_>) -> Result<String, AllocError> {
     let mut metadata = String::from_str(alloc, METADATA)?;
     for (from, to) in edits {
         metadata = metadata.as_str().replace(alloc, *from, to)?;
@@ -178,7 +178,7 @@ const RATE: Edits<'static> = &[
     ),
 ];
 
-const GROUPS: Edits<'static> = &[(
+pub(crate) const GROUPS: Edits<'static> = &[(
     r#""cash":{"dimensions":{"concept":"eg:Cash"}}"#,
     r##""g":{"propertyGroups":{"usd":{"dimensions":{"unit":"iso4217:USD"}}}},"a":{"dimensions":{"concept":"eg:Cash","unit":"#none"},"propertiesFrom":["g"]},"b":{"dimensions":{"concept":"eg:Cash"},"propertiesFrom":["g"]},"c":{"dimensions":{"concept":"eg:Cash","unit":"iso4217:GBP"},"propertiesFrom":["g"]}"##,
 )];
@@ -472,22 +472,42 @@ fn report_of(alloc: Global) -> Result<Report, Fail> {
     )?)
 }
 
+fn gives_a_row(rows: &mut Rows<'_, &[u8]>) -> bool {
+    matches!(&rows.next(), Ok(Some(_)))
+}
+
+/// Whether the rows answer this fault three times.
+fn keeps_to(rows: &mut Rows<'_, &[u8]>, fault: TableFault) -> bool {
+    for _ in 0..3 {
+        if rows.next().err() != Some(fault) {
+            return false;
+        }
+    }
+    true
+}
+
+/// Whether a table gives its first row, and then this fault again and again.
+fn answers_again(alloc: Global, report: &Report, table: &[u8], fault: TableFault) -> bool {
+    if report.tables() == 0 {
+        return false;
+    }
+    match Rows::open(alloc, report, 0, table, Limits::profile()) {
+        Ok(mut rows) => gives_a_row(&mut rows) && keeps_to(&mut rows, fault),
+        Err(_) => false,
+    }
+}
+
 #[test]
 fn the_same_fault_again(rt: HostRuntime) -> Result<(), Fail> {
     let report = report_of(rt.alloc())?;
-    assert_eq!(rt; report.tables(), 1);
-    let reader = b"cash\n1\nx\n2\n".as_slice();
-    let mut rows = Rows::open(rt.alloc(), &report, 0, reader, Limits::profile())?;
-    assert!(rt; rows.next()?.is_some());
     let fault = TableFault {
         table: 0,
         row: 2,
         column: 1,
         kind: TableKind::BadNumber,
     };
-    for _ in 0..3 {
-        assert_eq!(rt; rows.next().err(), Some(fault));
-    }
+    let again = answers_again(rt.alloc(), &report, b"cash\n1\nx\n2\n".as_slice(), fault);
+    assert!(rt; again);
     Ok(())
 }
 
