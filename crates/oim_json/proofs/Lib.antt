@@ -1,4 +1,5 @@
 pub mod Quoted
 pub mod Joined
+pub mod Lines
 mod Examples
 pub mod Writes

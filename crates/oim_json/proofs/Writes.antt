@@ -1,5 +1,5 @@
 -- Writes one after another.
-use Rattle.std.specs.Prelude.{◌≡◌, ℕ, ◌+◌, ◌-◌, ◌≤◌, List, [], ◌∷◌, ◌++◌, Option, Some, None, length, take, drop}
+use Rattle.std.specs.Prelude.{◌≡◌, ℕ, ◌+◌, ◌-◌, ◌≤◌, List, [], ◌++◌, Option, Some, None, length, take, drop}
 use Rattle.std.proofs.Common.{arith, sym, ap, ◌∙◌, append_assoc, append-nil, subst, length-drop}
 use Rattle.std.proofs.Math.Seq.{take-add, take-length}
 use Rattle.std.specs.Io.KnownBytes.{Appends, Keeps}

@@ -1,5 +1,5 @@
 -- The document of a report: head, the facts' members joined by commas, tail (xBRL-JSON 1.0, the report object).
-use Rattle.std.specs.Prelude.{ℕ, List, [], ◌∷◌, ◌++◌, map, codes}
+use Rattle.std.specs.Prelude.{ℕ, List, ◌++◌, map, codes}
 use Rattle.oim_meta.specs.ReportValue.{ReportValue}
 use Rattle.oim_resolve.specs.declared.fact.Fact.{Fact}
 use Rattle.oim_json.specs.JsonText.{head_text, joined, member_text}

@@ -1,4 +1,5 @@
 pub mod JsonText
 pub mod Document
+pub mod Lines
 pub mod Sinks
 pub mod FaultNames

@@ -1,5 +1,6 @@
 ghost use Rattle.std.specs.Prelude.{◌≡◌, ◌≤◌, length, IfOk};
 ghost use Rattle.oim_json.specs.Document.{facts_text};
+ghost use Rattle.oim_json.specs.Lines.{IsOneLine};
 
 use crate::write::push_joined;
 use oim_names::Items;
@@ -55,9 +56,10 @@ impl Block {
         self.count
     }
 
-    /// The texts of the facts, joined by commas.
+    /// The texts of the facts, joined by commas, without a line feed.
     pub fn bytes(&self) -> &[u8]
-        ensures { result.now ≡ facts_text self.now }
+        ensures text { result.now ≡ facts_text self.now }
+        ensures one_line { IsOneLine result.now }
     {
         self.bytes.as_slice()
     }

@@ -11,6 +11,7 @@
 
 mod block;
 mod document;
+mod laws;
 mod mark;
 mod member;
 mod sink;
@@ -18,6 +19,7 @@ mod write;
 
 pub use block::{Block, block_of};
 pub use document::{TAIL, head, tail};
+pub use laws::{fact_lists_are_one_line, facts_are_one_line};
 pub use mark::{Mark, WriteFault};
 pub use member::{Member, member_of};
 pub use sink::{Marked, Sink, write_all_of};

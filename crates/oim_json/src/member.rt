@@ -1,5 +1,6 @@
 ghost use Rattle.std.specs.Prelude.{◌≡◌, ◌++◌, IfOk, OnOk};
 ghost use Rattle.oim_json.specs.JsonText.{decimals_text, member_text};
+ghost use Rattle.oim_json.specs.Lines.{IsOneLine};
 
 use crate::write::{JsonText, push_integer, push_joined, push_text};
 use oim_resolve::Fact;
@@ -42,9 +43,10 @@ pub fn member_of(alloc: Global, fact: &Fact) -> Result<Member, AllocError>
 }
 
 impl Member {
-    /// The text of the fact: its identifier and its object.
+    /// The text of the fact: its identifier and its object, without a line feed.
     pub fn bytes(&self) -> &[u8]
-        ensures { result.now ≡ member_text self.now }
+        ensures text { result.now ≡ member_text self.now }
+        ensures one_line { IsOneLine result.now }
     {
         self.bytes.as_slice()
     }

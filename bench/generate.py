@@ -1,0 +1,146 @@
+#!/usr/bin/env python3
+"""Writes a large valid xBRL-CSV report into a folder, the same bytes for the same words.
+
+    generate.py FOLDER [--megabytes 64] [--tables 8] [--row-ids]
+
+FOLDER gets meta.json, types.csv, t01.csv and so on, and sizes.json (bytes of CSV, rows and facts). The tables are of one
+size, together just above the megabytes (of 1,000,000 bytes) asked for. Each row has five fact columns: an amount in the
+row's currency, a price with the unit of a property group, a count, a rate with an exponent and its own decimals, and a
+text with quotes and letters beyond ASCII. Its period is a reference to a cell, its counterparty a typed dimension and its
+region an explicit one. With --row-ids the rows have identifiers of their own, which the converter must keep in memory to
+see that none comes twice.
+"""
+import argparse
+import json
+from pathlib import Path
+
+NAMESPACE = "https://example.org/bench"
+TYPES = """namespace,name,type
+https://example.org/bench,Amount,decimal
+https://example.org/bench,Price,decimal
+https://example.org/bench,Count,integer
+https://example.org/bench,Rate,double
+https://example.org/bench,Remark,text
+https://example.org/bench,Counterparty,typed
+https://example.org/bench,Region,explicit
+"""
+PERIODS = ["2025-01", "2025Q2", "2025H1", "2025W07", "2025-03-14", "2025-02-01..2025-02-14", "2025-01-01T00:00:00/2025-07-01T00:00:00"]
+CURRENCIES = ["EUR", "USD", "DKK", "JPY"]
+MARKETS = ["paris", "oslo", ""]
+REGIONS = ["North", "South", "East", "West", "Überall"]
+REMARKS = ["", "settled", "awaiting the broker's reply", "\"urgent\", see page 3", "Größe geprüft", "C:\\files\\scan.pdf", "##2 of 3", "#nil"]
+
+
+class Numbers:
+    """A linear congruential generator of 64 bits, so that no version of Python changes the bytes."""
+
+    def __init__(self, seed):
+        self.state = seed
+
+    def below(self, n):
+        self.state = (self.state * 6364136223846793005 + 1442695040888963407) % 2**64
+        return (self.state >> 33) % n
+
+
+def metadata(tables, row_ids):
+    group = lambda unit, decimals: {"dimensions": {"unit": unit}, "decimals": decimals}
+    columns = {
+        "period": {},
+        "currency": {},
+        "party": {},
+        "region": {},
+        "market": {"propertyGroups": {"paris": group("iso4217:EUR/xbrli:shares", 3), "oslo": group("iso4217:NOK/xbrli:shares", 2)}},
+        "amount": {"dimensions": {"concept": "b:Amount", "unit": "$currency"}, "decimals": 2},
+        "price": {"dimensions": {"concept": "b:Price"}, "propertiesFrom": ["market"]},
+        "count": {"dimensions": {"concept": "b:Count", "unit": "xbrli:pure"}, "decimals": "INF"},
+        "rate": {"dimensions": {"concept": "b:Rate", "unit": "xbrli:pure"}},
+        "remark": {"dimensions": {"concept": "b:Remark", "language": "en"}},
+    }
+    template = {
+        "dimensions": {"period": "$period", "b:Counterparty": "$party", "b:Region": "$region"},
+        "columns": {"id": {}, **columns} if row_ids else columns,
+    }
+    if row_ids:
+        template["rowIdColumn"] = "id"
+    return {
+        "documentInfo": {
+            "documentType": "https://xbrl.org/2021/xbrl-csv",
+            "namespaces": {
+                "b": NAMESPACE,
+                "e": "https://example.org/entities",
+                "iso4217": "http://www.xbrl.org/2003/iso4217",
+                "xbrli": "http://www.xbrl.org/2003/instance",
+            },
+            "taxonomy": [NAMESPACE + "/bench.xsd"],
+        },
+        "parameters": {"unit": "iso4217:EUR"},
+        "dimensions": {"entity": "e:BANK-1", "unit": "$unit"},
+        "decimals": 0,
+        "tableTemplates": {"positions": template},
+        "tables": {t: {"url": f"{t}.csv", "template": "positions"} for t in tables},
+    }
+
+
+def cell(text):
+    return '"' + text.replace('"', '""') + '"' if any(c in text for c in '",\n') else text
+
+
+def row(numbers, n, row_ids):
+    """A row's line, and how many facts it has."""
+    amount = numbers.below(10**11)
+    price = numbers.below(10**6)
+    rate = numbers.below(10**5)
+    remark = REMARKS[numbers.below(len(REMARKS))]
+    cells = [f"{n:x}-{numbers.below(10**6)}"] if row_ids else []
+    cells += [
+        PERIODS[numbers.below(len(PERIODS))],
+        "iso4217:" + CURRENCIES[numbers.below(len(CURRENCIES))],
+        f"P{numbers.below(50000):05}",
+        "b:" + REGIONS[numbers.below(len(REGIONS))],
+        MARKETS[numbers.below(len(MARKETS))],
+        f"{'-' if amount % 3 == 0 else ''}{amount // 100}.{amount % 100:02}",
+        f"{price // 1000}.{price % 1000:03}",
+        str(numbers.below(100000)),
+        f"{rate // 10000}.{rate % 10000:04}e-2d6",
+        remark,
+    ]
+    return ",".join(map(cell, cells)) + "\n", 4 if remark == "" else 5
+
+
+def write_table(path, numbers, size, row_ids):
+    header = "period,currency,party,region,market,amount,price,count,rate,remark\n"
+    header = "id," + header if row_ids else header
+    written, rows, facts = len(header), 0, 0
+    with open(path, "wb") as file:
+        file.write(header.encode())
+        while written < size:
+            line, more = row(numbers, rows + 1, row_ids)
+            line = line.encode()
+            file.write(line)
+            written, rows, facts = written + len(line), rows + 1, facts + more
+    return {"bytes": written, "rows": rows, "facts": facts}
+
+
+def main():
+    parser = argparse.ArgumentParser(description=__doc__, formatter_class=argparse.RawDescriptionHelpFormatter)
+    parser.add_argument("folder", type=Path)
+    parser.add_argument("--megabytes", type=float, default=64.0)
+    parser.add_argument("--tables", type=int, default=8)
+    parser.add_argument("--row-ids", action="store_true")
+    options = parser.parse_args()
+    if options.tables < 1:
+        parser.error("--tables is 1 at least")
+    options.folder.mkdir(parents=True, exist_ok=True)
+    tables = [f"t{i:02}" for i in range(1, options.tables + 1)]
+    (options.folder / "meta.json").write_bytes((json.dumps(metadata(tables, options.row_ids), indent=1) + "\n").encode())
+    (options.folder / "types.csv").write_bytes(TYPES.encode())
+    sizes = {"bytes": 0, "rows": 0, "facts": 0}
+    for place, table in enumerate(tables):
+        part = write_table(options.folder / f"{table}.csv", Numbers(place), options.megabytes * 1e6 / options.tables, options.row_ids)
+        sizes = {name: sizes[name] + part[name] for name in sizes}
+    (options.folder / "sizes.json").write_bytes((json.dumps({"tables": options.tables, **sizes}) + "\n").encode())
+    print(f"{options.tables} tables, {sizes['bytes']} bytes of CSV, {sizes['rows']} rows, {sizes['facts']} facts")
+
+
+if __name__ == "__main__":
+    main()
