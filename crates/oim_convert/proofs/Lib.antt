@@ -1,1 +1,5 @@
 pub mod Going
+pub mod Sums
+pub mod Keeps
+pub mod Shares
+pub mod Popped

@@ -7,11 +7,23 @@
 //! - a write fault leaves a beginning of the defined bytes, and is the sink's mark;
 //! - WrongReaders comes exactly where the readers are not as many as the tables; it and Memory
 //!   write nothing.
+//!
+//! What it promises of `Claims`, by which threads share numbered items out among themselves:
+//! - a draw gives a number and the item at its place, and no seat draws that number again; no draw
+//!   waits or takes memory (`specs/Claims.antt`);
+//! - once a seat was answered None, all seats together have drawn each number once
+//!   (`specs/Numbers.antt`).
 #![tactic(auto)]
 
+mod claims;
+mod deal;
 mod fault;
 mod halt;
+mod seat;
 mod serial;
+mod view;
 
+pub use claims::Claims;
 pub use fault::ConvertFault;
+pub use seat::Seat;
 pub use serial::convert_serial;

@@ -1,0 +1,52 @@
+//! A seat of the claims, by which one thread draws.
+
+ghost use Rattle.std.specs.Prelude.{◌≡◌, false, cond};
+ghost use Rattle.oim_convert.specs.Views.{drawer};
+
+use crate::view::Token;
+use std::marker::Model;
+
+/// Draws from one `Claims`. Contracts see which claims they are, the numbers that it drew, in
+/// order, and whether it was answered that none are left.
+#[derive(Drop)]
+pub struct Seat<V> {
+    pub(crate) token: Token<V>,
+    pub(crate) finished: bool,
+}
+
+impl<V> Model for Seat<V> {
+    ghost use Rattle.std.specs.Prelude.{◌≡◌, cond};
+    ghost use Rattle.oim_convert.specs.Claims.{Drawer, drawer_coded};
+
+    ghost Value = { Drawer V };
+
+    ghost coded = { drawer_coded V.code };
+
+    ghost use Rattle.oim_convert.specs.Views.{drawer};
+
+    ghost view = { λ s. drawer s.token.table_id s.token.me.0 s.finished };
+
+    ghost invariant = { λ s. (s.token.me.0.share ≡ 1) × (s.token.me.0.finished ≡ cond s.finished 1 0) };
+}
+
+impl<V> Seat<V> {
+    /// A seat that has drawn nothing.
+    pub(crate) fn of(token: Token<V>) -> Seat<V>
+        requires { (token.me.0.share ≡ 1) × (token.me.0.finished ≡ 0) }
+        ensures { result ≡ drawer token.table_id token.me.0 false }
+    {
+        Seat {
+            token,
+            finished: false,
+        }
+    }
+
+    /// What the seat knows.
+    pub(crate) fn into_token(self) -> Token<V>
+        ensures view { drawer result.table_id result.me.0 self.finished ≡ self }
+        ensures one { (result.me.0.share ≡ 1) × (result.me.0.finished ≡ cond self.finished 1 0) }
+    {
+        let Seat { token, finished: _ } = self;
+        token
+    }
+}

@@ -1,0 +1,91 @@
+//! What a seat at the table knows, and the steps that it takes.
+
+use atomic_table::{Join, Play, Shared, Split, Table, TableRule};
+use std::alloc::Global;
+use std::collections::LinkedList;
+use std::snapshot::Snapshot;
+
+/// What a seat knows. It stands in proofs alone: no value of it is made.
+pub struct View<V> {
+    /// The items that there were at first.
+    pub items: LinkedList<V>,
+    /// How many seats there were at first.
+    pub workers: usize,
+    /// The numbers that were drawn.
+    pub drawn: LinkedList<usize>,
+    /// How many of the seats this view stands for.
+    pub share: usize,
+    /// How many of these found that none are left.
+    pub finished: usize,
+}
+
+/// What the table is told when it is made.
+#[derive(Drop)]
+pub struct Plan<V> {
+    /// The items, remembered in proofs alone.
+    pub items: Snapshot<Vec<V>>,
+    /// How many seats there are.
+    pub workers: usize,
+}
+
+/// The rule of the claims: each number below the word was drawn once, and each other item waits.
+pub struct Drawing;
+
+impl<V> TableRule<Option<V>, View<V>, Plan<V>> for Drawing {
+    ghost use Rattle.oim_convert.specs.Views.{Claimed, opening_view};
+
+    ghost holds = { λ plan. Claimed plan.items.value.items plan.workers };
+
+    ghost first = { λ plan. opening_view plan.items.value.items plan.workers };
+}
+
+/// The word of the claims, and a slot for each item.
+pub type Board<V> = Table<Option<V>, View<V>, Plan<V>, Drawing, Global>;
+
+/// The part of the board that threads share.
+pub type Steps<V> = Shared<Option<V>, View<V>, Plan<V>, Drawing>;
+
+/// A place at the board.
+pub type Token<V> = atomic_table::Seat<Option<V>, View<V>>;
+
+/// The step of a draw.
+pub struct Draw;
+
+impl<V> Play<Option<V>, View<V>> for Draw {
+    ghost use Rattle.oim_convert.specs.Views.{Told};
+
+    ghost then = { λ _. Told };
+}
+
+/// Of the seats that one view stands for, one gets a view of its own.
+pub struct Cut;
+
+impl<V> Split<View<V>> for Cut {
+    ghost use Rattle.oim_convert.specs.Views.{one_less, one_seat};
+
+    ghost left = { one_less };
+
+    ghost right = { one_seat };
+}
+
+/// The whole view goes over to a place that holds no slot.
+pub struct Shed;
+
+impl<V> Split<View<V>> for Shed {
+    ghost use Rattle.oim_convert.specs.Views.{spent};
+
+    ghost left = { λ _. spent };
+
+    ghost right = { λ v. v };
+}
+
+/// Two views become one.
+pub struct Gather;
+
+impl<V> Join<View<V>> for Gather {
+    ghost use Rattle.oim_convert.specs.Views.{joined, spent};
+
+    ghost both = { joined };
+
+    ghost spent = { spent };
+}
