@@ -5,3 +5,4 @@ pub mod Names
 pub mod Unit
 pub mod Language
 pub mod Fault
+pub mod Texts

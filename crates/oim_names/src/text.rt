@@ -8,20 +8,28 @@ ghost use Rattle.oim_names.specs.Lookup.{value_at};
 
 use std::alloc::{AllocError, AllocFailed, Global};
 use std::marker::Model;
+use std::sync::ArcStr;
+
+/// Where a text lies: held alone, or shared with its copies.
+#[derive(Drop)]
+enum Body {
+    Alone(String),
+    Shared(ArcStr),
+}
 
 /// A text. A contract sees its bytes.
 #[derive(Drop)]
 pub struct Text {
-    string: String,
+    body: Body,
 }
 
 impl Model for Text {
     ghost use Rattle.std.specs.Prelude.{ℕ, List};
-    ghost use Rattle.std.specs.String.{string_bytes};
+    ghost use Rattle.oim_names.specs.Texts.{bytes_in};
 
     ghost Value = { List ℕ };
 
-    ghost view = { λ a. string_bytes a.string };
+    ghost view = { λ a. bytes_in a.body };
 }
 
 impl Text {
@@ -29,30 +37,40 @@ impl Text {
     pub fn new(string: String) -> Text
         ensures { result ≡ string_bytes string }
     {
-        Text { string }
+        Text {
+            body: Body::Alone(string),
+        }
     }
 
     /// A copy of a text. Fails where memory is short.
     pub fn from_str(alloc: Global, text: &str) -> Result<Text, AllocError>
         ensures { IfOk result (λ t. t ≡ text.now) }
     {
-        Ok(Text {
-            string: String::from_str(alloc, text)?,
-        })
+        Ok(Text::new(String::from_str(alloc, text)?))
     }
 
-    /// The same text, without a copy.
-    pub fn into_string(self) -> String
-        ensures { string_bytes result ≡ self }
+    /// The same text, whose clones take no more memory. Fails where memory is short.
+    pub fn share(self) -> Result<Text, AllocError>
+        ensures { IfOk result (λ t. t ≡ self) }
     {
-        self.string
+        match self.body {
+            Body::Alone(string) => Ok(Text {
+                body: Body::Shared(ArcStr::from_string(string)?),
+            }),
+            Body::Shared(text) => Ok(Text {
+                body: Body::Shared(text),
+            }),
+        }
     }
 
     /// The text, lent.
     pub fn as_str(&self) -> &str
         ensures { result.now ≡ self.now }
     {
-        self.string.as_str()
+        match &self.body {
+            Body::Alone(string) => string.as_str(),
+            Body::Shared(text) => text.as_str(),
+        }
     }
 }
 
@@ -60,9 +78,14 @@ impl Clone for Text {
     ghost is_clone = { λ v w. w ≡ v };
 
     fn clone(&self) -> Result<Text, AllocError> {
-        Ok(Text {
-            string: self.string.clone()?,
-        })
+        match &self.body {
+            Body::Alone(string) => Ok(Text {
+                body: Body::Alone(string.clone()?),
+            }),
+            Body::Shared(text) => Ok(Text {
+                body: Body::Shared(text.clone()?),
+            }),
+        }
     }
 }
 
