@@ -1,5 +1,5 @@
 -- Where no text stands under two names, the members' texts are namespaces.
-use Rattle.std.proofs.Common.{◌≡◌, List, false, ◌||◌, Bool, true, String, Global, string_cmp, refl}
+use Rattle.std.proofs.Common.{◌≡◌, List, false, String, Global, string_cmp}
 use Rattle.std.specs.List.Sorted.{IsStrictlySortedBy}
 use Rattle.std.specs.Map.{keys_of}
 use Rattle.serde_json.specs.View.{members_view}

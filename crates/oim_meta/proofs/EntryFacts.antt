@@ -1,5 +1,5 @@
 -- What a file of entries gives, record by record.
-use Rattle.std.proofs.Common.{◌≡◌, ◌∙◌, ◌<◌, ◌+◌, ℕ, List, [], ◌∷◌, Option, Some, None, Result, Ok, Err, Bool, true, false, refl, sym, ap, nat_le, arith, option_map, IfSome, subst}
+use Rattle.std.proofs.Common.{◌≡◌, ◌∙◌, ◌<◌, ◌+◌, ℕ, List, [], ◌∷◌, Option, Some, None, Result, Ok, Err, Bool, true, false, refl, nat_le, arith, option_map, IfSome, subst}
 use Rattle.std.proofs.lemmas.Bool.{leb-false, lt-leb}
 use Rattle.std.specs.Option.{ok_or}
 use Rattle.oim_meta.specs.CsvFiles.{EntryFile, OrOutside, all_of}

@@ -1,18 +1,17 @@
 -- The types of a table say of a name just what its records say.
-use Rattle.std.proofs.Common.{◌≡◌, ◌∙◌, ◌+◌, ℕ, List, [], ◌∷◌, ◌++◌, Option, Some, None, Result, Ok, Err, Bool, true, false, ◌&&◌, if◌then◌else◌, refl, sym, ap, nat_le}
+use Rattle.std.proofs.Common.{◌≡◌, ◌∙◌, ◌+◌, ℕ, List, [], ◌∷◌, ◌++◌, Option, Some, None, Ok, Err, Bool, true, false, ◌&&◌, if◌then◌else◌, refl, sym, ap, nat_le}
 use Rattle.std.proofs.lemmas.Slice.Eq.{bytes_eq-Decides}
 use Rattle.std.proofs.lemmas.Cmp.{nat_list_eq_equiv}
 use Rattle.std.specs.Option.{is_none, ok_or, option_and_then, option_or}
 use Rattle.std.specs.Str.{bytes_eq}
 use Rattle.oim_names.specs.Lookup.{value_at}
 use Rattle.oim_names.specs.Names.{is_ncname}
-use Rattle.oim_meta.specs.CsvFiles.{all_of, one_more, three_texts, unless_bad}
+use Rattle.oim_meta.specs.CsvFiles.{all_of, three_texts, unless_bad}
 use Rattle.oim_meta.specs.Grid.{Field, Record}
 use Rattle.oim_meta.specs.Named.{pushed_under}
 use Rattle.oim_meta.specs.Types.{TypesValue, kind_in}
 use Rattle.oim_meta.specs.TypesFile.{kind_of_word, type_after, types_file, with_kind, with_type}
 use Rattle.oim_meta.specs.WholeFile.{kind_by, kind_said}
-use Rattle.oim_meta.specs.declared.fault.MetaFault.{MetaFault}
 use Rattle.oim_meta.specs.declared.fault.MetaFault.TheVariants as fault
 use Rattle.oim_meta.specs.declared.kind.Kind.{Kind}
 

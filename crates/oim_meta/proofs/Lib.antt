@@ -13,6 +13,8 @@ pub mod WholeFileLaws
 pub mod KindLaws
 pub mod Unrepeated
 pub mod Placed
+pub mod ReadOrder
+pub mod Ordered
 pub mod OwnUris
 mod Examples
 mod FaultExamples

@@ -1,5 +1,5 @@
 -- Looking up in values by name, adding one more, and adding one to a group.
-use Rattle.std.proofs.Common.{◌≡◌, ◌∙◌, ◌<◌, ◌+◌, ℕ, zero, suc, List, [], ◌∷◌, ◌++◌, Option, Some, None, Bool, true, false, not, nat_lt, if◌then◌else◌, refl, sym, ap, arith, length, slice_get}
+use Rattle.std.proofs.Common.{◌≡◌, ◌<◌, ◌+◌, ℕ, zero, suc, List, [], ◌∷◌, ◌++◌, Option, Some, None, Bool, true, false, nat_lt, if◌then◌else◌, refl, ap, arith, length, slice_get}
 use Rattle.std.proofs.lemmas.Cmp.{nat_list_eq_equiv}
 use Rattle.std.specs.List.{AllZip, position, position_or_len}
 use Rattle.std.specs.Option.{is_some, option_and_then}

@@ -1,11 +1,11 @@
 -- Where no text stands under two names, the namespaces that an object gives stand in order, and
 -- each has a URI of its own.
-use Rattle.std.proofs.Common.{◌≡◌, ℕ, List, ◌∷◌, [], false, not, ◌||◌, ◌&&◌, Less, refl, ap, bytes_eq, nat_cmp}
+use Rattle.std.proofs.Common.{◌≡◌, ℕ, List, ◌∷◌, false, not, ◌&&◌, Less, refl, ap, bytes_eq, nat_cmp}
 use Rattle.std.specs.List.{AllByRecursion, IsDistinct}
 use Rattle.std.specs.List.Sorted.{IsStrictlySortedBy}
 use Rattle.std.specs.Map.{keys_of, values_of}
 use Rattle.std.specs.Cmp.Lexicographic.{slice_cmp}
-use Rattle.serde_json.specs.Data.{Data, Members, no_members, member}
+use Rattle.serde_json.specs.Data.{Members, no_members, member}
 use Rattle.oim_names.specs.Bindings.{IsNamespaces}
 use Rattle.oim_meta.specs.Members.{text_of, any_member, map_members}
 use Rattle.oim_meta.specs.Order.{names_of, IsRising, has_other, repeats_text}

@@ -1,7 +1,5 @@
 -- Where no text stands under two names, the namespaces that an object gives have no URI twice.
-use Rattle.std.proofs.Common.{◌≡◌, ℕ, List, ◌∷◌, Bool, true, false, not, ◌||◌, ◌&&◌, Less, refl, sym, ap, ◌∙◌, map, bytes_eq, nat_cmp}
-use Rattle.std.specs.List.{AllByRecursion}
-use Rattle.std.specs.List.Sorted.{IsStrictlySortedBy}
+use Rattle.std.proofs.Common.{◌≡◌, ℕ, List, Bool, true, false, not, ◌||◌, ◌&&◌, Less, refl, sym, ap, ◌∙◌, bytes_eq, nat_cmp}
 use Rattle.std.specs.Ordering.{is_eq}
 use Rattle.std.specs.Bool.{Decides}
 use Rattle.std.proofs.lemmas.Slice.Eq.{bytes_eq-Decides}
@@ -10,10 +8,10 @@ use Rattle.std.proofs.lemmas.Map.Text.{is_eq-slice_cmp}
 use Rattle.std.specs.Prelude.{Option, Some, None, option_and_then, unwrap_or, codes}
 use Rattle.serde_json.specs.Data.{Data, null, boolean, number, string, array, object, Members, no_members, member}
 use Rattle.serde_json.specs.Find.{get, as_object}
-use Rattle.oim_meta.specs.Members.{text_of, section, any_member, map_members, if_there, no_object_or}
+use Rattle.oim_meta.specs.Members.{section, any_member, if_there, no_object_or}
 use Rattle.oim_meta.specs.Faults.{is_bad_prefix, has_bad_prefix, has_bad_namespaces}
-use Rattle.oim_meta.specs.Order.{names_of, IsRising, has_other, repeats_text}
-use Rattle.oim_meta.specs.Value.{named_text, document_info}
+use Rattle.oim_meta.specs.Order.{repeats_text}
+use Rattle.oim_meta.specs.Value.{document_info}
 
 pub left : (a b : Bool) → (a || b) ≡ false → a ≡ false
 left true b h = absurd cc

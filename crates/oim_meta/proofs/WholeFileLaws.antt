@@ -1,10 +1,8 @@
 -- What a file of entries gives, of all its records at once.
-use Rattle.std.proofs.Common.{◌≡◌, ◌∙◌, ◌+◌, ℕ, zero, suc, List, [], ◌∷◌, ◌++◌, Option, Some, None, Result, Ok, Err, Bool, true, false, ◌&&◌, if◌then◌else◌, refl, sym, ap, add-zero, arith, take}
-use Rattle.std.specs.Option.{is_none, is_some, ok_or, option_and_then, option_or}
-use Rattle.std.specs.Str.{bytes_eq}
-use Rattle.oim_meta.specs.CsvFiles.{EntryFile, all_of, one_more, unless_bad}
+use Rattle.std.proofs.Common.{◌≡◌, ◌∙◌, ◌+◌, ℕ, suc, List, [], ◌∷◌, Result, Ok, Err, refl, add-zero, arith}
+use Rattle.oim_meta.specs.CsvFiles.{EntryFile, all_of, one_more}
 use Rattle.oim_meta.specs.Grid.{Record}
-use Rattle.oim_meta.specs.WholeFile.{IsEarliestBad, record_at}
+use Rattle.oim_meta.specs.WholeFile.{IsEarliestBad}
 use Rattle.oim_meta.specs.declared.fault.MetaFault.{MetaFault}
 
 -- the fault of a file is that of its earliest bad record

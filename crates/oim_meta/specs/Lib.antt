@@ -12,6 +12,7 @@ pub mod ParametersFile
 pub mod WholeFile
 pub mod Members
 pub mod Order
+pub mod InOrder
 pub mod Written
 pub mod Decimals
 pub mod FaultNames

@@ -1,9 +1,11 @@
 -- Members in order, and one text under two names.
-use Rattle.std.specs.Prelude.{ℕ, List, Bool, not, ◌&&◌, bytes_eq}
+use Rattle.std.specs.Prelude.{⊤, ◌≡◌, ℕ, List, Bool, not, ◌&&◌, bytes_eq}
+use Rattle.std.specs.List.{AllByRecursion}
 use Rattle.std.specs.Ordering.{nat_cmp}
+use Rattle.std.specs.declared.cmp.Ordering.TheVariants.{Less}
 use Rattle.std.specs.Cmp.Lexicographic.{slice_cmp}
 use Rattle.std.specs.List.Sorted.{IsStrictlySortedBy}
-use Rattle.serde_json.specs.Data.{Members}
+use Rattle.serde_json.specs.Data.{Data, null, boolean, number, string, array, object, Members, no_members, member}
 use Rattle.oim_meta.specs.Members.{text_of, any_member, map_members}
 
 abbrev pub names_of : Members → List (List ℕ)
@@ -20,3 +22,21 @@ has_other name text = any_member (λ other d. not (bytes_eq name other) && bytes
 -- one text under two names
 abbrev pub repeats_text : Members → Bool
 repeats_text ms = any_member (λ name d. has_other name (text_of d) ms) ms
+
+-- a name is below each of these members' names
+abbrev pub IsAbove : List ℕ → Members → Type 0
+IsAbove name ms = AllByRecursion (λ other. slice_cmp nat_cmp name other ≡ Less) (names_of ms)
+
+-- the names of an object rise, and those of each object that is a member's value
+abbrev mutual
+  pub IsInOrder : Data → Type 0
+  IsInOrder null = ⊤
+  IsInOrder (boolean b) = ⊤
+  IsInOrder (number n) = ⊤
+  IsInOrder (string s) = ⊤
+  IsInOrder (array ds) = ⊤
+  IsInOrder (object ms) = AreInOrder ms
+
+  pub AreInOrder : Members → Type 0
+  AreInOrder no_members = ⊤
+  AreInOrder (member name d ms) = IsAbove name ms × IsInOrder d × AreInOrder ms

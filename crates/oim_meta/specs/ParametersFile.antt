@@ -1,5 +1,5 @@
 -- The parameters file, a CSV file (RFC 4180) of names with their values (xBRL-CSV 1.0, parameters).
-use Rattle.std.specs.Prelude.{ℕ, List, [], ◌∷◌, ◌++◌, Bool, false, ◌&&◌, Option, Some, None, is_none, if◌then◌else◌, Result, codes}
+use Rattle.std.specs.Prelude.{List, [], ◌∷◌, ◌++◌, Bool, false, ◌&&◌, Option, Some, None, is_none, if◌then◌else◌, Result, codes}
 use Rattle.std.specs.Option.{option_and_then, option_map_or}
 use Rattle.std.specs.Str.{bytes_eq}
 use Rattle.oim_names.specs.Lookup.{value_at}

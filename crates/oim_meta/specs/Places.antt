@@ -1,6 +1,8 @@
--- The places that a report's parts name.
-use Rattle.std.specs.Prelude.{◌<◌, ◌≡◌, ℕ, List, Option, IfSome, length}
+-- What is true of the parts of any report: the places that they name, their order, and their identifiers.
+use Rattle.std.specs.Prelude.{◌<◌, List, IfSome, length}
 use Rattle.std.specs.List.{All}
+use Rattle.oim_meta.specs.InOrder.{PartsRise, HaveIdentifiers}
+use Rattle.oim_meta.specs.declared.data.Level.{Level}
 use Rattle.oim_meta.specs.declared.data.Table.{Table}
 use Rattle.oim_meta.specs.declared.data.Template.{Template}
 
@@ -8,6 +10,8 @@ use Rattle.oim_meta.specs.declared.data.Template.{Template}
 unfoldable pub HasColumns : Template → Type 0
 HasColumns t = All (λ c. All (λ i. i < length t.columns) c.from) t.columns × IfSome t.row_id_column (λ i. i < length t.columns)
 
--- each table's template is there, and each column that a template names
-unfoldable pub IsReport : List Template → List Table → Type 0
-IsReport templates tables = All (λ (t : Table). t.template < length templates) tables × All HasColumns templates
+-- each table's template is there, and each column that a template names; the parts stand in order, with identifiers
+unfoldable pub IsReport : Level → List Template → List Table → Type 0
+IsReport level templates tables =
+    All (λ (t : Table). t.template < length templates) tables × All HasColumns templates
+    × PartsRise level templates tables × HaveIdentifiers templates tables

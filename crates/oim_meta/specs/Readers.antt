@@ -1,7 +1,6 @@
 -- What the readers of a report answer, with something for places that are out of range.
-use Rattle.std.specs.Prelude.{◌<◌, ℕ, List, [], Option, Some, None, false, length, slice_index_or}
-use Rattle.std.specs.List.{All}
-use Rattle.std.specs.Option.{option_or, option_and_then}
+use Rattle.std.specs.Prelude.{ℕ, List, [], Option, None, false, slice_index_or}
+use Rattle.std.specs.Option.{option_or}
 use Rattle.oim_names.specs.Lookup.{value_at}
 use Rattle.oim_meta.specs.Types.{kind_in}
 use Rattle.oim_meta.specs.ReportValue.{ReportValue}

@@ -1,6 +1,6 @@
 -- The types table, a CSV file (RFC 4180) with a record for each concept and dimension: its namespace, its name and its
 -- type. It stands for the taxonomy (XBRL 2.1, XBRL Dimensions 1.0).
-use Rattle.std.specs.Prelude.{ℕ, List, [], ◌∷◌, ◌++◌, Bool, false, ◌&&◌, Option, Some, None, is_none, if◌then◌else◌, Result, codes}
+use Rattle.std.specs.Prelude.{ℕ, List, [], ◌∷◌, Bool, false, ◌&&◌, Option, Some, None, is_none, if◌then◌else◌, Result, codes}
 use Rattle.std.specs.Option.{option_and_then, option_map_or}
 use Rattle.std.specs.Str.{bytes_eq}
 use Rattle.oim_names.specs.Lookup.{value_at}

@@ -1,12 +1,9 @@
 -- A CSV file (RFC 4180) of entries, said of all its records at once.
-use Rattle.std.specs.Prelude.{ℕ, ◌+◌, ◌≤◌, ◌≡◌, ◌&&◌, if◌then◌else◌, List, [], ◌∷◌, Bool, true, zero, suc, Option, Some, None, Result, Ok, Err, MatchResult, length, map, take}
-use Rattle.std.specs.List.{All}
-use Rattle.std.specs.Option.{is_some, option_and_then, option_or}
-use Rattle.std.specs.Str.{bytes_eq, is_utf8}
-use Rattle.oim_names.specs.Names.{is_identifier}
+use Rattle.std.specs.Prelude.{ℕ, ◌+◌, ◌≡◌, ◌&&◌, if◌then◌else◌, List, [], ◌∷◌, zero, suc, Option, Some, None, Ok, Err, take}
+use Rattle.std.specs.Option.{option_and_then, option_or}
+use Rattle.std.specs.Str.{bytes_eq}
 use Rattle.oim_meta.specs.CsvFiles.{EntryFile, all_of, one_more, three_texts}
 use Rattle.oim_meta.specs.Grid.{Field, Record}
-use Rattle.oim_meta.specs.Parameters.{ParametersValue}
 use Rattle.oim_meta.specs.TypesFile.{kind_of_word}
 use Rattle.oim_meta.specs.declared.fault.MetaFault.{MetaFault}
 use Rattle.oim_meta.specs.declared.kind.Kind.{Kind}

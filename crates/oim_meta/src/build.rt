@@ -6,8 +6,8 @@ ghost use Rattle.serde_json.specs.Find.{get};
 ghost use Rattle.serde_json.specs.View.{view};
 ghost use Rattle.oim_meta.specs.Members.{section, map_members, if_there};
 ghost use Rattle.oim_meta.specs.Value.{info_of, namespaces_of, named_text, document_info, report_of};
-ghost use Rattle.oim_meta.specs.Faults.{has_bad_namespaces, has_unknown_template};
-ghost use Rattle.oim_meta.specs.Order.{repeats_text};
+ghost use Rattle.oim_meta.specs.Faults.{has_bad_identifier, has_bad_namespaces, has_unknown_template};
+ghost use Rattle.oim_meta.specs.Order.{IsInOrder, repeats_text};
 ghost use Rattle.oim_meta.specs.UnknownColumn.{has_unknown_column};
 
 mod levels;
@@ -20,7 +20,7 @@ use crate::build::levels::level;
 use crate::build::made::{copied, list_from, texts_at, vec_of};
 use crate::build::tables::tables;
 use crate::data::Info;
-use crate::json::{object_at, text_at};
+use crate::lookup::{object_at, text_at};
 use crate::parameters::Parameters;
 use crate::report::Report;
 use crate::types::Types;
@@ -87,6 +87,8 @@ pub(crate) fn report(
         ≡ false }
     requires templates { has_unknown_template (view value.now) ≡ false }
     requires columns { has_unknown_column (view value.now) ≡ false }
+    requires order { IsInOrder (view value.now) }
+    requires identifiers { has_bad_identifier (view value.now) ≡ false }
     ensures { IfOk result (λ r. r ≡ report_of parameters types (view value.now)) }
 {
     let nothing = Value::Null;

@@ -7,7 +7,7 @@ ghost use Rattle.oim_meta.specs.UnknownColumn.{column_at as column_named, lacks_
 
 use crate::build::kind_of;
 use crate::data::ColumnKind;
-use crate::json::{list_at, object_at, text_at};
+use crate::lookup::{list_at, object_at, text_at};
 use serde_json::{Map, Value};
 
 /// The column of a template that has a name.

@@ -8,6 +8,8 @@
 //!   no fault of theirs, and else the first; a parameters file or types table has the fault of its
 //!   earliest bad record;
 //! - the readers of a `Report` give its parts, and `clone_report` an equal report;
+//! - the parts of any `Report` stand in byte order of name, and its tables, templates and columns have
+//!   identifiers (`stands_in_order`, `specs/InOrder.antt`);
 //! - `Records` gives the records of a CSV file one at a time, past one byte-order mark.
 //!
 //! Want of memory and a reader that fails apart. The layers above never meet a half-checked report.
@@ -23,9 +25,9 @@ mod entries;
 mod fault;
 mod fields;
 mod file_laws;
-mod json;
 mod kind;
 mod limits;
+mod lookup;
 mod members;
 mod named;
 mod order;

@@ -7,7 +7,7 @@ ghost use Rattle.serde_json.specs.Find.{get};
 ghost use Rattle.oim_meta.specs.Members.{any_member as some_member, if_there, no_object_or, section};
 ghost use Rattle.oim_meta.specs.Faults.{any_column as some_column};
 
-use crate::json::object_at;
+use crate::lookup::object_at;
 use serde_json::{Map, Value};
 
 /// A test of a member of an object.

@@ -5,7 +5,8 @@ ghost use Rattle.serde_json.specs.Find.{get};
 ghost use Rattle.serde_json.specs.View.{view};
 ghost use Rattle.oim_meta.specs.declared.fault.MetaFault.TheVariants.{Memory};
 ghost use Rattle.oim_meta.specs.Members.{if_there};
-ghost use Rattle.oim_meta.specs.Faults.{has_bad_namespaces, has_unknown_template};
+ghost use Rattle.oim_meta.specs.Faults.{has_bad_identifier, has_bad_namespaces, has_unknown_template};
+ghost use Rattle.oim_meta.specs.Order.{IsInOrder};
 ghost use Rattle.oim_meta.specs.UnknownColumn.{has_unknown_column};
 ghost use Rattle.oim_meta.specs.FirstFault.{first_fault, late_fault};
 ghost use Rattle.oim_meta.specs.Reading.{IsJson, IsNoJson, SaysReport, IsFault, SaysUrl, IsUrlFault, first_url_fault};
@@ -23,8 +24,8 @@ use crate::check::shapes::bad_shape;
 use crate::check::templates::unknown_template;
 use crate::columns::unknown_column;
 use crate::fault::MetaFault;
-use crate::json::text_at;
 use crate::limits::Limits;
+use crate::lookup::text_at;
 use crate::parameters::Parameters;
 use crate::report::Report;
 use crate::types::Types;
@@ -34,6 +35,7 @@ use std::alloc::{AllocError, Global};
 
 fn parse(alloc: Global, bytes: &[u8]) -> Result<Value, MetaFault>
     ensures json { IfOk result (λ v. IsJson bytes.now (view v)) }
+    ensures order { IfOk result (λ v. IsInOrder (view v)) }
     ensures none { IfErr result (IsNoJson bytes.now) }
 {
     let text = bytes.strip_prefix(b"\xef\xbb\xbf").unwrap_or(bytes);
@@ -88,6 +90,7 @@ fn check(
         (if_there has_bad_namespaces (get (codes "documentInfo") (view report.now)) ≡ false) }
     ensures templates { OnOk result (has_unknown_template (view report.now) ≡ false) }
     ensures columns { OnOk result (has_unknown_column (view report.now) ≡ false) }
+    ensures identifiers { OnOk result (has_bad_identifier (view report.now) ≡ false) }
     ensures sound { OnOk result (first_fault limits.now parameters.now types.now (view report.now) ≡ None) }
     ensures fault { IfErr result (λ fault. (fault ≡ Memory)
         ⊎ (first_fault limits.now parameters.now types.now (view report.now) ≡ Some fault)) }

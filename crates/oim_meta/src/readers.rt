@@ -1,6 +1,7 @@
 ghost use Rattle.std.specs.Prelude.{◌≡◌, ◌<◌, length, IfOk, IfSome};
 ghost use Rattle.std.specs.List.{All};
 ghost use Rattle.std.specs.Option.{option_map};
+ghost use Rattle.oim_meta.specs.InOrder.{PartsRise, HaveIdentifiers};
 ghost use Rattle.oim_meta.specs.Places.{HasColumns};
 ghost use Rattle.oim_meta.specs.Readers.{table_of, template_of, columns_of, column_of, parameter_of, kind_of};
 
@@ -143,6 +144,16 @@ impl Report {
         ensures { result ≡ kind_of self.now uri.now local.now }
     {
         self.types.kind_of(uri, local)
+    }
+
+    /// The parts of any report stand in byte order of name, and its tables, templates and columns have
+    /// identifiers. It does nothing.
+    #[tactic(auto, using(crate::proofs::PlaceFacts::parts_rise, crate::proofs::PlaceFacts::have_identifiers))]
+    pub fn stands_in_order(&self)
+        ensures order { PartsRise self.now.level self.now.templates self.now.tables }
+        ensures identifiers { HaveIdentifiers self.now.templates self.now.tables }
+    {
+        let _level = &self.level;
     }
 
     /// An equal report. The first stays as it is. Fails where memory is short.

@@ -31,5 +31,5 @@ impl Model for Report {
       parameters = r.parameters;
     } };
 
-    ghost invariant = { λ r. IsReport r.templates r.tables };
+    ghost invariant = { λ r. IsReport r.level r.templates r.tables };
 }

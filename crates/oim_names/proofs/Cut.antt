@@ -1,12 +1,12 @@
 -- A text is cut at a mark, and what a name can't hold.
-use Rattle.std.proofs.Common.{◌≡◌, ◌≢◌, ℕ, suc, ◌+◌, ◌<◌, List, [], ◌∷◌, ◌++◌, take, drop, length-append, refl, sym, ap, subst, ◌∙◌, arith, length, get_or, Bool, true, false, ◌==◌, ◌&&◌}
+use Rattle.std.proofs.Common.{◌≡◌, ◌≢◌, ℕ, suc, ◌+◌, ◌<◌, List, [], ◌∷◌, ◌++◌, take, drop, length-append, refl, sym, ap, subst, ◌∙◌, arith, length, get_or, Bool, true, false, not, ◌==◌, ◌&&◌}
 use Rattle.std.specs.List.{list_all, position_or_len, before_first, after_first}
-use Rattle.std.specs.Str.{chars, IsUtf8, NonePass, NoCharPasses}
+use Rattle.std.specs.Str.{chars, IsUtf8, is_utf8, NonePass, NoCharPasses}
 use Rattle.std.proofs.lemmas.Bool.{eqb-true, eq-eqb}
-use Rattle.std.proofs.lemmas.Str.{encodes-chars, IsUtf8-take, IsUtf8-drop, IsCharBoundary-before_ascii, IsCharBoundary-after_ascii}
+use Rattle.std.proofs.lemmas.Str.{encodes-chars, IsUtf8-from_is_utf8, IsUtf8-take, IsUtf8-drop, IsCharBoundary-before_ascii, IsCharBoundary-after_ascii}
 use Rattle.std.proofs.lemmas.Str.Pattern.{NoCharPasses-char}
 use Rattle.std.proofs.Math.Seq.{take-append_seam, get_or-append_seam, drop-append-add}
-use Rattle.oim_names.specs.Names.{is_name_start, is_name_char, is_ncname, begins_and_goes_on}
+use Rattle.oim_names.specs.Names.{is_name_start, is_name_char, is_plain_char, is_ncname, is_identifier, is_row_identifier, begins_and_goes_on}
 use Rattle.oim_names.specs.QName.{Lacks}
 
 pub eqb_of : (a b : ℕ) → (a ≡ b → ⊥) → (a == b) ≡ false
@@ -61,6 +61,56 @@ unfolding is_ncname
 name_lacks m s l f u n =
     let p : NoCharPasses (λ c. c == m) s = (chars s, encodes-chars s u, name_passes m (chars s) f n) in
     lacks_by_index m s (λ i k. NoCharPasses-char m s i p l k)
+
+-- a plain character is no point
+plain_differs : (c : ℕ) → is_plain_char c ≡ true → (c == 46) ≡ false
+unfolding is_plain_char
+plain_differs c h = by (is_name_char c) (c == 46) refl h
+  where
+    by : (a b : Bool) → (c == 46) ≡ b → (a && not b) ≡ true → (c == 46) ≡ false
+    by true true e k = absurd cc
+    by true false e k = e
+    by false b e k = absurd cc
+
+no_points : (cs : List ℕ) → list_all is_plain_char cs ≡ true → NonePass (λ c. c == 46) cs
+no_points [] h = tt
+no_points (c ∷ cs) h = by (is_plain_char c) refl h (no_points cs)
+  where
+    by : (b : Bool) → is_plain_char c ≡ b → (b && list_all is_plain_char cs) ≡ true → (list_all is_plain_char cs ≡ true → NonePass (λ c. c == 46) cs) → NonePass (λ c. c == 46) (c ∷ cs)
+    by true e k r = (plain_differs c e, r k)
+    by false e k r = absurd cc
+
+-- a text of which the first character passes a test that no point passes, and the others are plain
+text_lacks_point : (first : ℕ → Bool) (text : List ℕ) → ((c : ℕ) → first c ≡ true → (c == 46) ≡ false)
+    → (is_utf8 text && begins_and_goes_on first is_plain_char (chars text)) ≡ true → Lacks 46 text
+text_lacks_point first text misses h = by (is_utf8 text) refl h
+  where
+    passes : (cs : List ℕ) → begins_and_goes_on first is_plain_char cs ≡ true → NonePass (λ c. c == 46) cs
+    passes [] k = absurd cc
+    passes (c ∷ cs) k = begun (first c) refl k
+      where
+        begun : (b : Bool) → first c ≡ b → (b && list_all is_plain_char cs) ≡ true → NonePass (λ c. c == 46) (c ∷ cs)
+        begun true e k = (misses c e, no_points cs k)
+        begun false e k = absurd cc
+
+    by : (b : Bool) → is_utf8 text ≡ b → (b && begins_and_goes_on first is_plain_char (chars text)) ≡ true → Lacks 46 text
+    by false e k = absurd cc
+    by true e k =
+        let p : NoCharPasses (λ c. c == 46) text = (chars text, encodes-chars text (IsUtf8-from_is_utf8 text e), passes (chars text) k) in
+        lacks_by_index 46 text (λ i l. NoCharPasses-char 46 text i p (omega arith) l)
+
+start_no_point : (c : ℕ) → is_name_start c ≡ true → (c == 46) ≡ false
+unfolding is_name_start
+start_no_point c h = eqb_of c 46 (λ e. let k : is_name_start 46 ≡ true = ap is_name_start (sym e) ∙ h in absurd cc)
+
+-- an identifier holds no point, and a row identifier none
+pub identifier_lacks_point : (text : List ℕ) → is_identifier text ≡ true → Lacks 46 text
+unfolding is_identifier
+identifier_lacks_point text h = text_lacks_point is_name_start text start_no_point h
+
+pub row_identifier_lacks_point : (text : List ℕ) → is_row_identifier text ≡ true → Lacks 46 text
+unfolding is_row_identifier
+row_identifier_lacks_point text h = text_lacks_point is_plain_char text plain_differs h
 
 -- the parts before and after an ASCII mark of a text are texts
 mark_at : (m : ℕ) (x s t : List ℕ) → x ≡ s ++ m ∷ t → (get_or x (length s) 0 ≡ m) × (length s < length x)

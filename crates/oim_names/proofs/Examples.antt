@@ -1,6 +1,7 @@
 -- The definitions on examples.
 use Rattle.std.proofs.Common.{◌≡◌, [], ◌∷◌, Some, None, true, false, refl, codes}
-use Rattle.std.specs.Str.{chars}
+use Rattle.std.specs.Str.{chars, is_utf8}
+use lib.Utf8.{encode}
 use Rattle.oim_names.specs.Names.{is_name_start, is_name_char, is_plain_char, is_ncname, is_identifier, is_row_identifier}
 use Rattle.oim_names.specs.Bindings.{Bindings, bound}
 use Rattle.oim_names.specs.QName.{qname_of, sqname_of}
@@ -9,27 +10,31 @@ use Rattle.oim_names.specs.Language.{language_of}
 use Rattle.oim_names.specs.declared.unit_kind.UnitKind.TheVariants.{Pure, Written}
 
 identifier : is_identifier (codes "a-b_1") ≡ true
-unfolding is_identifier is_plain_char is_name_char is_name_start chars
+unfolding is_identifier is_plain_char is_name_char is_name_start chars is_utf8 encode
 identifier = refl
 
 letter_with_accent : is_identifier (0xC3 ∷ 0xA9 ∷ []) ≡ true
-unfolding is_identifier is_plain_char is_name_char is_name_start chars
+unfolding is_identifier is_plain_char is_name_char is_name_start chars is_utf8 encode
 letter_with_accent = refl
 
 digit_first : is_identifier (codes "1a") ≡ false
-unfolding is_identifier is_plain_char is_name_char is_name_start chars
+unfolding is_identifier is_plain_char is_name_char is_name_start chars is_utf8 encode
 digit_first = refl
 
 point : is_identifier (codes "a.b") ≡ false
-unfolding is_identifier is_plain_char is_name_char is_name_start chars
+unfolding is_identifier is_plain_char is_name_char is_name_start chars is_utf8 encode
 point = refl
 
+no_utf8 : is_identifier (0xC3 ∷ 46 ∷ []) ≡ false
+unfolding is_identifier is_plain_char is_name_char is_name_start chars is_utf8 encode
+no_utf8 = refl
+
 empty : is_identifier [] ≡ false
-unfolding is_identifier is_plain_char is_name_char is_name_start chars
+unfolding is_identifier is_plain_char is_name_char is_name_start chars is_utf8 encode
 empty = refl
 
 row_of_digits : is_row_identifier (codes "1a") ≡ true
-unfolding is_row_identifier is_plain_char is_name_char is_name_start chars
+unfolding is_row_identifier is_plain_char is_name_char is_name_start chars is_utf8 encode
 row_of_digits = refl
 
 name_with_point : is_ncname (codes "a.b") ≡ true

@@ -2,6 +2,7 @@
 use Rattle.std.specs.Prelude.{ℕ, List, [], ◌∷◌, Bool, false, not, ◌&&◌, ◌||◌, ◌==◌, chars}
 use Rattle.std.specs.Int.{is_in_range}
 use Rattle.std.specs.List.{list_all}
+use Rattle.std.specs.Str.{is_utf8}
 
 -- the characters that may begin a name: letters, `_`, and the letters and signs of other scripts
 unfoldable pub is_name_start : ℕ → Bool
@@ -31,10 +32,10 @@ begins_and_goes_on first other (x ∷ xs) = first x && list_all other xs
 unfoldable pub is_ncname : List ℕ → Bool
 is_ncname t = begins_and_goes_on is_name_start is_name_char (chars t)
 
--- an identifier of xBRL-CSV 1.0: such a name without `.`
+-- an identifier of xBRL-CSV 1.0: a text that is such a name without `.`; what isn't UTF-8 is no text
 unfoldable pub is_identifier : List ℕ → Bool
-is_identifier t = begins_and_goes_on is_name_start is_plain_char (chars t)
+is_identifier t = is_utf8 t && begins_and_goes_on is_name_start is_plain_char (chars t)
 
--- the identifier of a row: one or more characters of names, none of them `.`
+-- the identifier of a row: a text of one or more characters of names, none of them `.`
 unfoldable pub is_row_identifier : List ℕ → Bool
-is_row_identifier t = begins_and_goes_on is_plain_char is_plain_char (chars t)
+is_row_identifier t = is_utf8 t && begins_and_goes_on is_plain_char is_plain_char (chars t)

@@ -9,7 +9,18 @@ use Rattle.std.proofs.lemmas.Slice.Eq.{bytes_eq-Decides}
 use Rattle.std.proofs.lemmas.Str.Parse.{digit_at}
 use Rattle.std.specs.Str.Parse.{AllDigits}
 use Rattle.oim_meta.specs.declared.data.Column.{Column}
-use Rattle.oim_rows.specs.Identifiers.{HasDistinctColumns, HasNoDot, fact_id}
+use Rattle.oim_names.specs.QName.{Lacks}
+
+-- no byte of the text is a dot
+abbrev pub HasNoDot : List ℕ → Type 0
+HasNoDot = Lacks 46
+
+abbrev pub fact_id : List ℕ → List ℕ → List ℕ → List ℕ
+fact_id table row column = table ++ codes "." ++ row ++ codes "." ++ column
+
+-- no two columns have one identifier
+abbrev pub HasDistinctColumns : List Column → Type 0
+HasDistinctColumns columns = IsDistinct bytes_eq (map (λ (c : Column). c.id) columns)
 
 pub differing : (b : Bool) → b ≡ true → b ≡ false → ⊥
 differing b t f = let no : true ≡ false = rw t at f in cc no

@@ -1,5 +1,5 @@
--- The identifiers of a table's facts differ.
-use Rattle.std.proofs.Common.{◌≡◌, ◌++◌, ◌∷◌, [], ◌==◌, ◌<◌, ◌≤◌, ◌+◌, ◌^◌, ◌⊎◌, ℕ, List, Option, Some, None, Bool, true, false, not, Result, Ok, Err, map, codes, decimal, refl, sym, inl, inr, slice_get, slice_index_or, arith, length, bytes_eq, unwrap_or, option_map, IsUtf8, nat_lt, le_refl, ◌∙◌, ◌≢◌, if◌then◌else◌}
+-- The identifiers of a report's facts differ.
+use Rattle.std.proofs.Common.{◌≡◌, ◌++◌, ◌∷◌, [], ◌==◌, ◌<◌, ◌≤◌, ◌+◌, ◌^◌, ◌⊎◌, ℕ, List, Option, Some, None, Bool, true, false, not, Result, Ok, Err, map, codes, decimal, refl, sym, inl, inr, slice_get, slice_index_or, arith, length, bytes_eq, unwrap_or, option_map, IsUtf8, nat_lt, le_refl, ◌∙◌, ◌≢◌, if◌then◌else◌, zero, suc, Less, nat_cmp}
 use Rattle.std.proofs.lemmas.List.{append_cancel_left, map-append}
 use Rattle.std.proofs.lemmas.Bool.{eq-eqb, ltb-false}
 use Rattle.std.proofs.lemmas.Bool.Decides.{eqb_tells}
@@ -8,24 +8,32 @@ use Rattle.std.proofs.lemmas.Option.{get_or_from_slice_get}
 use Rattle.std.specs.List.{AllByRecursion, IsDistinct, list_any, position_from}
 use Rattle.std.specs.Option.{option_map_or}
 use Rattle.csv.specs.Records.{field_at}
-use Rattle.oim_names.specs.Names.{is_row_identifier}
-use Rattle.oim_meta.specs.Grid.{Field, Record}
-use Rattle.oim_meta.specs.Readers.{columns_of, no_column, table_of, template_of}
+use Rattle.std.specs.List.Sorted.{IsStrictlySortedBy}
+use Rattle.std.specs.Cmp.Lexicographic.{slice_cmp}
+use Rattle.oim_names.specs.Names.{is_identifier, is_row_identifier}
+use Rattle.oim_names.proofs.Cut.{identifier_lacks_point, row_identifier_lacks_point}
+use Rattle.oim_meta.specs.Grid.{Field, Record, grid}
+use Rattle.oim_meta.specs.InOrder.{PartsRise, TemplateRises, HaveIdentifiers}
+use Rattle.oim_meta.specs.Order.{IsRising}
+use Rattle.oim_meta.proofs.Unrepeated.{below-differs}
+use Rattle.oim_meta.specs.Readers.{columns_of, no_column, no_table, no_template, table_of, template_of}
 use Rattle.oim_meta.specs.ReportValue.{ReportValue}
 use Rattle.oim_meta.specs.declared.data.Column.{Column}
+use Rattle.oim_meta.specs.declared.data.Table.{Table}
+use Rattle.oim_meta.specs.declared.data.Template.{Template}
 use Rattle.oim_resolve.specs.Cell.{cell_of}
 use Rattle.oim_resolve.specs.Facts.{cell_result}
 use Rattle.oim_resolve.specs.declared.fact.CellFault.{CellFault}
 use Rattle.oim_resolve.specs.declared.fact.Fact.{Fact}
 use Rattle.oim_resolve.specs.declared.fact.Row.{Row}
 use Rattle.oim_rows.specs.Header.{Header, header_fault, header_of, is_column, is_empty, is_unknown, file_fault, names_row_id, or_else, repeat_from, repeats, fault_at}
-use Rattle.oim_rows.specs.Identifiers.{FactsHaveIds, HasDistinctColumns, HasDistinctIds, HasNoDot, HasOtherIds, RowIdsHaveNoDot, fact_id, facts_of}
-use Rattle.oim_rows.specs.RowFacts.{Reading, IsTextRecord, at_place, checked, fact_at, facts_from, holds_facts, id_fault, id_kind, id_place_of, ids_after, is_fact_column, is_not_text, row_fault, row_id_text, row_of, row_result}
-use Rattle.oim_rows.specs.Streams.{Stream, reading_of, row_in_front, stream_from, stream_of}
+use Rattle.oim_resolve.proofs.FactFacts as resolved
+use Rattle.oim_rows.specs.Identifiers.{HaveOwnIds, facts_of, facts_of_tables}
+use Rattle.oim_rows.specs.RowFacts.{Reading, at_place, checked, fact_at, facts_from, holds_facts, id_fault, id_kind, id_place_of, ids_after, is_fact_column, is_not_text, row_fault, row_id_text, row_of, row_result}
+use Rattle.oim_rows.specs.Streams.{Stream, reading_of, row_in_front, stream_from, stream_of, table_stream}
 use Rattle.oim_rows.specs.declared.fault.TableFault.{TableFault}
 use Rattle.oim_rows.specs.declared.fault.TableKind.TheVariants as kind
-use Rattle.oim_rows.proofs.DotFacts.{all_append, all_mapped, all_weaker, any_front, any_grown, any_last, bytes_apart, bytes_same, column_at, differing, ids_apart, tables_apart, numbered-no_dot, or_true}
-use Rattle.oim_rows.proofs.Places.{utf8-field_at}
+use Rattle.oim_rows.proofs.DotFacts.{HasDistinctColumns, HasNoDot, fact_id, all_append, all_mapped, all_weaker, any_front, any_grown, any_last, bytes_apart, bytes_same, column_at, differing, ids_apart, tables_apart, numbered-no_dot, or_true}
 
 -- A HEADER WITHOUT A REPEATED COLUMN
 
@@ -68,25 +76,25 @@ column_there : (o : Option Column) → option_map_or (λ (x : Column). holds_fac
 column_there None e = cc e
 column_there (Some x) e = (x, refl)
 
-fact_of_column : FactsHaveIds → (report : ReportValue) (table : ℕ) (row : Row) (p c : ℕ) (f : Fact) → fact_at report table row p (Some c) ≡ Ok (Some f)
+fact_of_column : (report : ReportValue) (table : ℕ) (row : Row) (p c : ℕ) (f : Fact) → fact_at report table row p (Some c) ≡ Ok (Some f)
     → (x : Column) × (slice_get (columns_of report table) c ≡ Some x) × (f.id ≡ fact_id (table_of report table).id row.id x.id)
-fact_of_column named report table row p c f e = by (is_fact_column (columns_of report table) c) refl
+fact_of_column report table row p c f e = by (is_fact_column (columns_of report table) c) refl
   where
     by : (b : Bool) → is_fact_column (columns_of report table) c ≡ b → (x : Column) × (slice_get (columns_of report table) c ≡ Some x) × (f.id ≡ fact_id (table_of report table).id row.id x.id)
     by true is =
         let answer = at_place-ok table row.number (p + 1) (cell_result (cell_of report table row c)) f (rw is at e) in
         let there = column_there (slice_get (columns_of report table) c) is in
         let same : slice_index_or (columns_of report table) c no_column ≡ there.0 = get_or_from_slice_get (columns_of report table) c there.0 no_column there.1 in
-        (there.0, there.1, rw same at (named (cell_of report table row c) f answer))
+        (there.0, there.1, rw same at (resolved.fact_id (cell_of report table row c) f answer))
     by false is = let none : Ok None ≡ Ok (Some f) = rw is at e in cc none
 
-row_facts : FactsHaveIds → (report : ReportValue) (table : ℕ) → HasDistinctColumns (columns_of report table) → (row : Row) → HasNoDot row.id
+row_facts : (report : ReportValue) (table : ℕ) → HasDistinctColumns (columns_of report table) → (row : Row) → HasNoDot row.id
     → (p n : ℕ) (front h : Header) → repeat_from n front h ≡ None → (fs : List Fact) → facts_from report table row p h ≡ Ok fs
-    → AllByRecursion (IsFactUnder (table_of report table).id row.id (columns_of report table) h) fs × HasDistinctIds fs
+    → AllByRecursion (IsFactUnder (table_of report table).id row.id (columns_of report table) h) fs × HaveOwnIds fs
 unfolding IsDistinct
-row_facts named report table distinct row plain p n front [] none fs e = let same : [] ≡ fs = cc in rw (← same) (tt, tt)
-row_facts named report table distinct row plain p n front (o ∷ h) none fs e =
-    by (fact_at report table row p o) refl (facts_from report table row (p + 1) h) refl (row_facts named report table distinct row plain (p + 1) (n + 1) (front ++ o ∷ []) h (repeat_tail n front o h none))
+row_facts report table distinct row plain p n front [] none fs e = let same : [] ≡ fs = cc in rw (← same) (tt, tt)
+row_facts report table distinct row plain p n front (o ∷ h) none fs e =
+    by (fact_at report table row p o) refl (facts_from report table row (p + 1) h) refl (row_facts report table distinct row plain (p + 1) (n + 1) (front ++ o ∷ []) h (repeat_tail n front o h none))
   where
     columns : List Column
     columns = columns_of report table
@@ -95,7 +103,7 @@ row_facts named report table distinct row plain p n front (o ∷ h) none fs e =
     later f (c, x, at, place, is) = (c, x, rw at (or_true (is_column c o)), place, is)
 
     Goal : List Fact → Type 0
-    Goal gs = AllByRecursion (IsFactUnder (table_of report table).id row.id columns (o ∷ h)) gs × HasDistinctIds gs
+    Goal gs = AllByRecursion (IsFactUnder (table_of report table).id row.id columns (o ∷ h)) gs × HaveOwnIds gs
 
     apart : (c : ℕ) (x : Column) (f : Fact) → slice_get columns c ≡ Some x → f.id ≡ fact_id (table_of report table).id row.id x.id → list_any (is_column c) h ≡ false
         → (g : Fact) → IsFactUnder (table_of report table).id row.id columns h g → bytes_eq f.id g.id ≡ false
@@ -105,10 +113,10 @@ row_facts named report table distinct row plain p n front (o ∷ h) none fs e =
         differing (list_any (is_column d) h) there (rw one at nowhere))
 
     first : (f : Fact) (gs : List Fact) → (k : Option ℕ) → o ≡ k → fact_at report table row p k ≡ Ok (Some f)
-        → AllByRecursion (IsFactUnder (table_of report table).id row.id columns h) gs × HasDistinctIds gs → Goal (f ∷ gs)
+        → AllByRecursion (IsFactUnder (table_of report table).id row.id columns h) gs × HaveOwnIds gs → Goal (f ∷ gs)
     first f gs None ok is more = cc is
     first f gs (Some c) ok is more =
-        let it = fact_of_column named report table row p c f is in
+        let it = fact_of_column report table row p c f is in
         let nowhere : list_any (is_column c) h ≡ false = repeat_head n front c h (rw ok at none) in
         let here : list_any (is_column c) (o ∷ h) ≡ true = rw (ok, eq-eqb c c refl) refl in (
           ((c, it.0, here, it.1, it.2), all_weaker (IsFactUnder (table_of report table).id row.id columns h) (IsFactUnder (table_of report table).id row.id columns (o ∷ h)) later gs more.0),
@@ -116,7 +124,7 @@ row_facts named report table distinct row plain p n front (o ∷ h) none fs e =
         )
 
     by : (a : Result (Option Fact) TableFault) → fact_at report table row p o ≡ a → (b : Result (List Fact) TableFault) → facts_from report table row (p + 1) h ≡ b
-        → ((gs : List Fact) → facts_from report table row (p + 1) h ≡ Ok gs → AllByRecursion (IsFactUnder (table_of report table).id row.id columns h) gs × HasDistinctIds gs)
+        → ((gs : List Fact) → facts_from report table row (p + 1) h ≡ Ok gs → AllByRecursion (IsFactUnder (table_of report table).id row.id columns h) gs × HaveOwnIds gs)
         → Goal fs
     by (Err x) ea b eb more = let bad : Err x ≡ Ok fs = rw ea at e in cc bad
     by (Ok None) ea b eb more =
@@ -169,41 +177,34 @@ later_apart None limit n ids r t small within (m, low, high, is) same =
 later_apart (Some p) limit n ids r t small within h same =
     differing (list_any (bytes_eq t) (ids ++ unwrap_or (field_at r p) [] ∷ [])) (any_last (bytes_eq t) ids (unwrap_or (field_at r p) []) (bytes_same t (unwrap_or (field_at r p) []) (sym same))) h
 
-text_of_field : (r : Record) (p : ℕ) → IsTextRecord r → is_empty (unwrap_or (field_at r p) []) ≡ false → IsUtf8 (unwrap_or (field_at r p) [])
-text_of_field r p text full = by (field_at r p) refl
-  where
-    by : (o : Option Field) → field_at r p ≡ o → IsUtf8 (unwrap_or (field_at r p) [])
-    by None e = let none : is_empty [] ≡ false = rw e at full in cc none
-    by (Some f) e = rw e (utf8-field_at 0 p r f text e)
-
-id_kind_ok : RowIdsHaveNoDot → (ids : List Field) (f : Field) → (is_empty f ≡ false → IsUtf8 f) → id_kind ids f ≡ None → HasNoDot f × (list_any (bytes_eq f) ids ≡ false)
-id_kind_ok plain ids f text e =
+id_kind_ok : (ids : List Field) (f : Field) → id_kind ids f ≡ None → HasNoDot f × (list_any (bytes_eq f) ids ≡ false)
+id_kind_ok ids f e =
     let full = if_none (is_empty f) kind.MissingRowId (if not (is_row_identifier f) then Some kind.BadRowId else if list_any (bytes_eq f) ids then Some kind.RepeatedRowId else None) e in
     let named = if_none (not (is_row_identifier f)) kind.BadRowId (if list_any (bytes_eq f) ids then Some kind.RepeatedRowId else None) full.1 in
     let fresh = if_none (list_any (bytes_eq f) ids) kind.RepeatedRowId None named.1 in
-    (plain f (text full.0) (not_false (is_row_identifier f) named.0), fresh.0)
+    (row_identifier_lacks_point f (not_false (is_row_identifier f) named.0), fresh.0)
 
 small_number : (n limit : ℕ) → n ≤ limit → limit < 2 ^ 32 → n < 2 ^ 64
 small_number n limit a b = omega arith
 
-id_ok : RowIdsHaveNoDot → (g : Reading) (o : Option ℕ) (n : ℕ) (ids : List Field) (r : Record) → IsTextRecord r → n ≤ g.limit → g.limit < 2 ^ 32 → id_fault g o n ids r ≡ None
+id_ok : (g : Reading) (o : Option ℕ) (n : ℕ) (ids : List Field) (r : Record) → n ≤ g.limit → g.limit < 2 ^ 32 → id_fault g o n ids r ≡ None
     → HasNoDot (row_id_text o n r) × IsLaterId o g.limit n ids (row_id_text o n r)
-id_ok plain g None n ids r text within small e = (numbered-no_dot n (small_number n g.limit within small), (n, le_refl n, within, refl))
-id_ok plain g (Some p) n ids r text within small e =
-    id_kind_ok plain ids (unwrap_or (field_at r p) []) (text_of_field r p text) (mapped_none (fault_at g.table n (p + 1)) (id_kind ids (unwrap_or (field_at r p) [])) e)
+id_ok g None n ids r within small e = (numbered-no_dot n (small_number n g.limit within small), (n, le_refl n, within, refl))
+id_ok g (Some p) n ids r within small e =
+    id_kind_ok ids (unwrap_or (field_at r p) []) (mapped_none (fault_at g.table n (p + 1)) (id_kind ids (unwrap_or (field_at r p) [])) e)
 
-row_ok : (g : Reading) (n : ℕ) (ids : List Field) (r : Record) → row_fault g n ids r ≡ None → IsTextRecord r × (n ≤ g.limit) × (id_fault g (id_place_of g) n ids r ≡ None)
+row_ok : (g : Reading) (n : ℕ) (ids : List Field) (r : Record) → row_fault g n ids r ≡ None → (n ≤ g.limit) × (id_fault g (id_place_of g) n ids r ≡ None)
 row_ok g n ids r e =
     let last = if nat_lt g.limit n then Some (fault_at g.table n 0 kind.TooManyRows) else id_fault g (id_place_of g) n ids r in
     let texts = option_map (λ p. fault_at g.table n (p + 1) kind.NotUtf8) (position_from is_not_text 0 r) in
     let long = if_none (not (length r == length g.header)) (fault_at g.table n 0 kind.Ragged) (or_else texts last) e in
     let both = first_none texts last long.1 in
     let few = if_none (nat_lt g.limit n) (fault_at g.table n 0 kind.TooManyRows) (id_fault g (id_place_of g) n ids r) both.1 in
-    (mapped_none (λ p. fault_at g.table n (p + 1) kind.NotUtf8) (position_from is_not_text 0 r) both.0, ltb-false g.limit n few.0, few.1)
+    (ltb-false g.limit n few.0, few.1)
 
 -- facts of two lists that differ, each from each
-joined : (P Q : Fact → Type 0) → ((f g : Fact) → P f → Q g → bytes_eq f.id g.id ≡ false) → (fs gs : List Fact) → AllByRecursion P fs → AllByRecursion Q gs → HasDistinctIds fs → HasDistinctIds gs
-    → HasDistinctIds (fs ++ gs)
+joined : (P Q : Fact → Type 0) → ((f g : Fact) → P f → Q g → bytes_eq f.id g.id ≡ false) → (fs gs : List Fact) → AllByRecursion P fs → AllByRecursion Q gs → HaveOwnIds fs → HaveOwnIds gs
+    → HaveOwnIds (fs ++ gs)
 unfolding IsDistinct
 joined P Q h [] gs a b c d = d
 joined P Q h (f ∷ fs) gs a b c d = (
@@ -216,19 +217,19 @@ joined P Q h (f ∷ fs) gs a b c d = (
 abbrev IsLaterFact : Reading → ℕ → List Field → Fact → Type 0
 IsLaterFact g n ids f = (t : Field) × (k : List ℕ) × HasNoDot t × IsLaterId (id_place_of g) g.limit n ids t × (f.id ≡ fact_id (table_of g.report g.table).id t k)
 
-step : FactsHaveIds → RowIdsHaveNoDot → (g : Reading) → g.limit < 2 ^ 32 → HasDistinctColumns (columns_of g.report g.table) → repeat_from 0 [] g.header ≡ None
+step : (g : Reading) → g.limit < 2 ^ 32 → HasDistinctColumns (columns_of g.report g.table) → repeat_from 0 [] g.header ≡ None
     → (n : ℕ) (ids : List Field) (r : Record) (a : Result (List Fact) TableFault) (s : Stream) → row_result g n ids r ≡ a
-    → AllByRecursion (IsLaterFact g (n + 1) (ids_after (id_place_of g) ids r)) (facts_of s) → HasDistinctIds (facts_of s)
-    → AllByRecursion (IsLaterFact g n ids) (facts_of (row_in_front a s)) × HasDistinctIds (facts_of (row_in_front a s))
+    → AllByRecursion (IsLaterFact g (n + 1) (ids_after (id_place_of g) ids r)) (facts_of s) → HaveOwnIds (facts_of s)
+    → AllByRecursion (IsLaterFact g n ids) (facts_of (row_in_front a s)) × HaveOwnIds (facts_of (row_in_front a s))
 unfolding IsDistinct
-step named plain g small distinct none n ids r (Err x) s e all apart = (tt, tt)
-step named plain g small distinct none n ids r (Ok fs) s e all apart =
+step g small distinct none n ids r (Err x) s e all apart = (tt, tt)
+step g small distinct none n ids r (Ok fs) s e all apart =
     let both = checked_ok (row_fault g n ids r) (facts_from g.report g.table (row_of g n r) 0 g.header) fs e in
     let ok = row_ok g n ids r both.0 in
-    let id = id_ok plain g (id_place_of g) n ids r ok.0 ok.1 small ok.2 in
-    let row = row_facts named g.report g.table distinct (row_of g n r) id.0 0 0 [] g.header none fs both.1 in (
+    let id = id_ok g (id_place_of g) n ids r ok.0 small ok.1 in
+    let row = row_facts g.report g.table distinct (row_of g n r) id.0 0 0 [] g.header none fs both.1 in (
       all_append (IsLaterFact g n ids) fs (facts_of s) (all_weaker Under (IsLaterFact g n ids) (here id.0 id.1) fs row.0) (all_weaker Later (IsLaterFact g n ids) later (facts_of s) all),
-      joined Under Later (differ id.0 ok.1) fs (facts_of s) row.0 all row.1 apart,
+      joined Under Later (differ id.0 ok.0) fs (facts_of s) row.0 all row.1 apart,
     )
   where
     table_id : List ℕ
@@ -253,14 +254,14 @@ step named plain g small distinct none n ids r (Ok fs) s e all apart =
     differ dotless within f h (c, x, there, at, is) (t, k, plain2, fresh, is2) = bytes_apart f.id h.id (λ same.
         later_apart (id_place_of g) g.limit n ids r t small within fresh (ids_apart table_id row_id x.id t k dotless plain2 (sym is ∙ same ∙ is2)).0)
 
-table_facts : FactsHaveIds → RowIdsHaveNoDot → (g : Reading) → g.limit < 2 ^ 32 → HasDistinctColumns (columns_of g.report g.table) → repeat_from 0 [] g.header ≡ None
+table_facts : (g : Reading) → g.limit < 2 ^ 32 → HasDistinctColumns (columns_of g.report g.table) → repeat_from 0 [] g.header ≡ None
     → (n : ℕ) (ids : List Field) (rows : List Record)
-    → AllByRecursion (IsLaterFact g n ids) (facts_of (stream_from g n ids rows)) × HasDistinctIds (facts_of (stream_from g n ids rows))
+    → AllByRecursion (IsLaterFact g n ids) (facts_of (stream_from g n ids rows)) × HaveOwnIds (facts_of (stream_from g n ids rows))
 unfolding stream_from IsDistinct
-table_facts named plain g small distinct none n ids [] = (tt, tt)
-table_facts named plain g small distinct none n ids (r ∷ rows) =
-    let more = table_facts named plain g small distinct none (n + 1) (ids_after (id_place_of g) ids r) rows in
-    step named plain g small distinct none n ids r (row_result g n ids r) (stream_from g (n + 1) (ids_after (id_place_of g) ids r) rows) refl more.0 more.1
+table_facts g small distinct none n ids [] = (tt, tt)
+table_facts g small distinct none n ids (r ∷ rows) =
+    let more = table_facts g small distinct none (n + 1) (ids_after (id_place_of g) ids r) rows in
+    step g small distinct none n ids r (row_result g n ids r) (stream_from g (n + 1) (ids_after (id_place_of g) ids r) rows) refl more.0 more.1
 
 header_ok : (report : ReportValue) (table : ℕ) (r : Record) → header_fault report table r ≡ None → repeat_from 0 [] (header_of (columns_of report table) r) ≡ None
 header_ok report table r e =
@@ -271,24 +272,24 @@ header_ok report table r e =
     let two = first_none again last one.1 in
     mapped_none (λ p. fault_at table 0 (p + 1) kind.RepeatedHeader) (repeat_from 0 [] header) two.0
 
-pub fact_ids_differ : FactsHaveIds → RowIdsHaveNoDot → (report : ReportValue) (table limit : ℕ) (records : List Record) → limit < 2 ^ 32
-    → HasDistinctColumns (columns_of report table) → HasDistinctIds (facts_of (stream_of report table limit records))
+fact_ids_differ : (report : ReportValue) (table limit : ℕ) (records : List Record) → limit < 2 ^ 32
+    → HasDistinctColumns (columns_of report table) → HaveOwnIds (facts_of (stream_of report table limit records))
 unfolding IsDistinct
-fact_ids_differ named plain report table limit [] small distinct = tt
-fact_ids_differ named plain report table limit (r ∷ rows) small distinct = by (header_fault report table r) refl
+fact_ids_differ report table limit [] small distinct = tt
+fact_ids_differ report table limit (r ∷ rows) small distinct = by (header_fault report table r) refl
   where
-    by : (o : Option TableFault) → header_fault report table r ≡ o → HasDistinctIds (facts_of (stream_of report table limit (r ∷ rows)))
+    by : (o : Option TableFault) → header_fault report table r ≡ o → HaveOwnIds (facts_of (stream_of report table limit (r ∷ rows)))
     by (Some x) e = rw e tt
-    by None e = rw e ((table_facts named plain (reading_of report table limit r) small distinct (header_ok report table r e) 1 [] rows).1)
+    by None e = rw e ((table_facts (reading_of report table limit r) small distinct (header_ok report table r e) 1 [] rows).1)
 
 -- a fact with the identifier of this table
 abbrev IsFactOf : List ℕ → Fact → Type 0
 IsFactOf table f = (t : List ℕ) × (k : List ℕ) × (f.id ≡ fact_id table t k)
 
-facts_of_table : FactsHaveIds → RowIdsHaveNoDot → (report : ReportValue) (table limit : ℕ) (records : List Record) → limit < 2 ^ 32
+facts_of_table : (report : ReportValue) (table limit : ℕ) (records : List Record) → limit < 2 ^ 32
     → HasDistinctColumns (columns_of report table) → AllByRecursion (IsFactOf (table_of report table).id) (facts_of (stream_of report table limit records))
-facts_of_table named plain report table limit [] small distinct = tt
-facts_of_table named plain report table limit (r ∷ rows) small distinct = by (header_fault report table r) refl
+facts_of_table report table limit [] small distinct = tt
+facts_of_table report table limit (r ∷ rows) small distinct = by (header_fault report table r) refl
   where
     known : (f : Fact) → IsLaterFact (reading_of report table limit r) 1 [] f → IsFactOf (table_of report table).id f
     known f (t, k, dotless, fresh, is) = (t, k, is)
@@ -296,18 +297,94 @@ facts_of_table named plain report table limit (r ∷ rows) small distinct = by (
     by : (o : Option TableFault) → header_fault report table r ≡ o → AllByRecursion (IsFactOf (table_of report table).id) (facts_of (stream_of report table limit (r ∷ rows)))
     by (Some x) e = rw e tt
     by None e = rw e (all_weaker (IsLaterFact (reading_of report table limit r) 1 []) (IsFactOf (table_of report table).id) known (facts_of (stream_from (reading_of report table limit r) 1 [] rows))
-        (table_facts named plain (reading_of report table limit r) small distinct (header_ok report table r e) 1 [] rows).0)
+        (table_facts (reading_of report table limit r) small distinct (header_ok report table r e) 1 [] rows).0)
 
-pub table_ids_differ : FactsHaveIds → RowIdsHaveNoDot → (report : ReportValue) (i j limit : ℕ) (records others : List Record) → limit < 2 ^ 32
-    → HasDistinctColumns (columns_of report i) → HasDistinctColumns (columns_of report j)
-    → HasNoDot (table_of report i).id → HasNoDot (table_of report j).id → (table_of report i).id ≢ (table_of report j).id
-    → HasOtherIds (facts_of (stream_of report i limit records)) (facts_of (stream_of report j limit others))
-table_ids_differ named plain report i j limit records others small di dj ni nj other =
-    all_weaker (IsFactOf (table_of report i).id) (λ (f : Fact). AllByRecursion (λ (g : Fact). bytes_eq f.id g.id ≡ false) (facts_of (stream_of report j limit others))) each
-    (facts_of (stream_of report i limit records)) (facts_of_table named plain report i limit records small di)
+-- THE FACTS OF A REPORT
+
+-- names that rise differ
+names_apart : (names : List (List ℕ)) → IsRising names → IsDistinct bytes_eq names
+unfolding IsStrictlySortedBy IsDistinct
+names_apart [] h = tt
+names_apart (x ∷ xs) h = (all_weaker (λ y. slice_cmp nat_cmp x y ≡ Less) (λ y. bytes_eq x y ≡ false) (below-differs x) xs h.0, names_apart xs h.1)
+
+-- what is so of all is so at each place, where it is so of what stands for a place out of range
+each_at : {X : Type 0} (P : X → Type 0) (xs : List X) (d : X) → AllByRecursion P xs → P d → (k : ℕ) → P (slice_index_or xs k d)
+each_at P [] d all other k = other
+each_at P (x ∷ xs) d all other zero = all.0
+each_at P (x ∷ xs) d all other (suc k) = each_at P xs d all.1 other k
+
+unmapped : {X Y : Type 0} (f : X → Y) (P : Y → Type 0) (xs : List X) → AllByRecursion P (map f xs) → AllByRecursion (λ x. P (f x)) xs
+unmapped f P [] all = tt
+unmapped f P (x ∷ xs) all = (all.0, unmapped f P xs all.1)
+
+columns_apart : (report : ReportValue) → PartsRise report.level report.templates report.tables → (i : ℕ) → HasDistinctColumns (columns_of report i)
+unfolding PartsRise IsDistinct
+columns_apart report h i =
+    each_at (λ (t : Template). HasDistinctColumns t.columns) report.templates no_template
+    (all_weaker TemplateRises (λ (t : Template). HasDistinctColumns t.columns) (λ t r. names_apart (map (λ (c : Column). c.id) t.columns) r.1) report.templates h.4) tt (table_of report i).template
+
+tables_dotless : (report : ReportValue) → HaveIdentifiers report.templates report.tables → (i : ℕ) → HasNoDot (table_of report i).id
+unfolding HaveIdentifiers
+tables_dotless report h i =
+    each_at (λ (t : Table). HasNoDot t.id) report.tables no_table
+    (all_weaker (λ (t : Table). is_identifier t.id ≡ true) (λ (t : Table). HasNoDot t.id) (λ t good. identifier_lacks_point t.id good) report.tables (unmapped (λ (t : Table). t.id) (λ name. is_identifier name ≡ true) report.tables h.0)) tt i
+
+tables_apart_by_name : (report : ReportValue) → PartsRise report.level report.templates report.tables → IsDistinct bytes_eq (map (λ (t : Table). t.id) report.tables)
+unfolding PartsRise
+tables_apart_by_name report h = names_apart (map (λ (t : Table). t.id) report.tables) h.1
+
+other_table : (name : List ℕ) (tables : List Table) (j : ℕ) (d : Table) → AllByRecursion (λ y. bytes_eq name y ≡ false) (map (λ (t : Table). t.id) tables) → j < length tables → bytes_eq name (slice_index_or tables j d).id ≡ false
+other_table name [] j d all within = absurd (omega arith)
+other_table name (t ∷ ts) zero d all within = all.0
+other_table name (t ∷ ts) (suc j) d all within = other_table name ts j d all.1 (omega arith)
+
+tables_differ : (tables : List Table) → IsDistinct bytes_eq (map (λ (t : Table). t.id) tables) → (i j : ℕ) (d : Table) → i < j → j < length tables → bytes_eq (slice_index_or tables i d).id (slice_index_or tables j d).id ≡ false
+unfolding IsDistinct
+tables_differ [] h i j d low within = absurd (omega arith)
+tables_differ (t ∷ ts) h zero zero d low within = absurd (omega arith)
+tables_differ (t ∷ ts) h zero (suc j) d low within = other_table t.id ts j d h.0 (omega arith)
+tables_differ (t ∷ ts) h (suc i) zero d low within = absurd (omega arith)
+tables_differ (t ∷ ts) h (suc i) (suc j) d low within = tables_differ ts h.1 i j d (omega arith) (omega arith)
+
+table_facts_are : (report : ReportValue) (i limit : ℕ) (file : Option (List ℕ)) → limit < 2 ^ 32 → HasDistinctColumns (columns_of report i)
+    → AllByRecursion (IsFactOf (table_of report i).id) (facts_of (table_stream report i limit file)) × HaveOwnIds (facts_of (table_stream report i limit file))
+unfolding IsDistinct
+table_facts_are report i limit None small distinct = (tt, tt)
+table_facts_are report i limit (Some bytes) small distinct = (facts_of_table report i limit (grid bytes) small distinct, fact_ids_differ report i limit (grid bytes) small distinct)
+
+-- a fact of a table from place i on
+abbrev IsFactFrom : ReportValue → ℕ → Fact → Type 0
+IsFactFrom report i f = (k : ℕ) × (i ≤ k) × (k < length report.tables) × IsFactOf (table_of report k).id f
+
+pub report_ids_differ : (report : ReportValue) → PartsRise report.level report.templates report.tables → HaveIdentifiers report.templates report.tables
+    → (limit i : ℕ) (files : List (Option (List ℕ))) → limit < 2 ^ 32 → i + length files ≤ length report.tables
+    → AllByRecursion (IsFactFrom report i) (facts_of_tables report limit i files) × HaveOwnIds (facts_of_tables report limit i files)
+unfolding IsDistinct
+report_ids_differ report rise good limit i [] small within = (tt, tt)
+report_ids_differ report rise good limit i (file ∷ files) small within =
+    let more = report_ids_differ report rise good limit (i + 1) files small (omega arith) in
+    let these = table_facts_are report i limit file small (columns_apart report rise i) in (
+      all_append (IsFactFrom report i) facts others (all_weaker Here (IsFactFrom report i) (λ f h. (i, le_refl i, omega arith, h)) facts these.0) (all_weaker Later (IsFactFrom report i) later others more.0),
+      joined Here Later differ facts others these.0 more.0 these.1 more.1,
+    )
   where
-    pair : (f g : Fact) → IsFactOf (table_of report i).id f → IsFactOf (table_of report j).id g → bytes_eq f.id g.id ≡ false
-    pair f g (t, k, is) (t2, k2, is2) = bytes_apart f.id g.id (λ same. other (tables_apart (table_of report i).id t k (table_of report j).id t2 k2 ni nj (sym is ∙ same ∙ is2)))
+    facts : List Fact
+    facts = facts_of (table_stream report i limit file)
 
-    each : (f : Fact) → IsFactOf (table_of report i).id f → AllByRecursion (λ (g : Fact). bytes_eq f.id g.id ≡ false) (facts_of (stream_of report j limit others))
-    each f h = all_weaker (IsFactOf (table_of report j).id) (λ (g : Fact). bytes_eq f.id g.id ≡ false) (λ g k. pair f g h k) (facts_of (stream_of report j limit others)) (facts_of_table named plain report j limit others small dj)
+    others : List Fact
+    others = facts_of_tables report limit (i + 1) files
+
+    Here : Fact → Type 0
+    Here = IsFactOf (table_of report i).id
+
+    Later : Fact → Type 0
+    Later = IsFactFrom report (i + 1)
+
+    later : (f : Fact) → Later f → IsFactFrom report i f
+    later f (k, low, high, h) = (k, omega arith, high, h)
+
+    differ : (f g : Fact) → Here f → Later g → bytes_eq f.id g.id ≡ false
+    differ f g (t, c, is) (k, low, high, t2, c2, is2) = bytes_apart f.id g.id (λ same.
+        let one = tables_apart (table_of report i).id t c (table_of report k).id t2 c2 (tables_dotless report good i) (tables_dotless report good k) (sym is ∙ same ∙ is2) in
+        differing (bytes_eq (table_of report i).id (table_of report k).id) (bytes_same (table_of report i).id (table_of report k).id one)
+        (tables_differ report.tables (tables_apart_by_name report rise) i k no_table (omega arith) high))

@@ -19,5 +19,5 @@ mod laws;
 mod rows;
 
 pub use fault::{TableFault, TableKind};
-pub use laws::{fact_identifiers_differ, stream_is_of_all_rows, table_identifiers_differ};
+pub use laws::{fact_identifiers_differ, stream_is_of_all_rows};
 pub use rows::{RowFacts, Rows};

@@ -5,7 +5,7 @@ ghost use Rattle.oim_meta.specs.Members.{section, items_at, map_members, map_ite
 ghost use Rattle.oim_meta.specs.Order.{names_of, IsRising};
 ghost use Rattle.oim_meta.specs.Value.{flag_at, named_text};
 
-use crate::json::{list_at, object_at};
+use crate::lookup::{list_at, object_at};
 use oim_names::{Items, Text};
 use serde_json::{Map, Value};
 use std::alloc::{AllocError, Global};

@@ -4,7 +4,7 @@ ghost use Rattle.serde_json.specs.View.{view, items_view, members_view};
 ghost use Rattle.oim_meta.specs.Members.{section};
 ghost use Rattle.oim_meta.specs.Value.{place_of, add_new, add_place, places_of};
 
-use crate::json::object_at;
+use crate::lookup::object_at;
 use serde_json::{Map, Value};
 use std::alloc::{AllocError, Global};
 

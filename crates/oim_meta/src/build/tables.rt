@@ -6,7 +6,7 @@ ghost use Rattle.oim_meta.specs.Value.{table_of, tables_of};
 use crate::build::made::{flag, list_from};
 use crate::build::places::place_at;
 use crate::data::Table;
-use crate::json::{object_at, text_at};
+use crate::lookup::{object_at, text_at};
 use oim_names::{Items, Text};
 use serde_json::{Map, Value};
 use std::alloc::{AllocError, Global};

@@ -7,7 +7,7 @@ use crate::build::levels::{level, no_level};
 use crate::build::made::{FromMember, flag, list_from};
 use crate::build::places::{place_at, places};
 use crate::data::{Column, ColumnKind, Level, Template};
-use crate::json::{list_at, object_at, text_at};
+use crate::lookup::{list_at, object_at, text_at};
 use oim_names::{Items, Text};
 use serde_json::{Map, Value};
 use std::alloc::{AllocError, Global};

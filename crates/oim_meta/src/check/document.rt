@@ -7,7 +7,7 @@ ghost use Rattle.serde_json.specs.View.{view, items_view, members_view};
 ghost use Rattle.oim_meta.specs.Members.{any_item, if_there, no_object_or};
 ghost use Rattle.oim_meta.specs.Faults.{is_csv, has_no_report, has_bad_prefix, has_bad_namespaces, has_no_text, is_no_texts as not_texts, is_no_text as not_text, has_bad_taxonomy, is_no_empty_list as not_empty_list, info_at as at_info, is_unsupported};
 
-use crate::json::text_at;
+use crate::lookup::text_at;
 use crate::members::{MemberTest, any_member, is_no_object_or_any};
 use crate::order::repeats_text;
 use oim_names::is_ncname;

@@ -7,7 +7,7 @@ ghost use Rattle.oim_meta.specs.Members.{if_there, section};
 ghost use Rattle.oim_meta.specs.Faults.{has_bad_prefix, has_bad_namespaces};
 ghost use Rattle.oim_meta.specs.Prefixes.{bindings_of, prefixes_of};
 
-use crate::json::object_at;
+use crate::lookup::object_at;
 use oim_names::{Items, Namespaces, Text};
 use serde_json::{Map, Value};
 use std::alloc::{AllocError, Global};

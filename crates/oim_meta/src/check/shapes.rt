@@ -8,7 +8,7 @@ ghost use Rattle.oim_meta.specs.Faults.{is_no_flag as not_flag, has_bad_section,
 
 use crate::check::document::{is_no_text_at, is_no_texts};
 use crate::check::paths::is_plain_path;
-use crate::json::text_at;
+use crate::lookup::text_at;
 use crate::members::{MemberTest, is_bad_object_at, is_no_object_or_any};
 use serde_json::Value;
 

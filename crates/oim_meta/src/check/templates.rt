@@ -4,7 +4,7 @@ ghost use Rattle.std.specs.Prelude.{◌≡◌};
 ghost use Rattle.serde_json.specs.View.{view};
 ghost use Rattle.oim_meta.specs.Faults.{has_unknown_template};
 
-use crate::json::text_at;
+use crate::lookup::text_at;
 use crate::members::{MemberTest, any_member_at};
 use serde_json::Value;
 

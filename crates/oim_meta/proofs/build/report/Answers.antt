@@ -7,4 +7,6 @@ pub namespaces-requires : goal.namespaces-requires
 namespaces-requires c = rw c.document_of-document.ensures (document_unrepeated (view c.args.value.now) c.requires.namespaces)
 
 pub invariant_of-result : goal.invariant_of-result
-invariant_of-result c = rw (c.in_ok-list_from.ensures, c.in_ok-tables.ensures) (all_placed (view c.args.value.now) c.requires.templates c.requires.columns)
+invariant_of-result c =
+    rw (c.in_ok-level.ensures, c.in_ok-list_from.ensures, c.in_ok-tables.ensures)
+    (all_placed (view c.args.value.now) c.requires.templates c.requires.columns c.requires.order c.requires.identifiers)

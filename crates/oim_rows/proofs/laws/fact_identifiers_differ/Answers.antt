@@ -1,5 +1,6 @@
-use Rattle.oim_rows.proofs.FactIds.{fact_ids_differ}
+use Rattle.std.proofs.Common.{arith}
+use Rattle.oim_rows.proofs.FactIds.{report_ids_differ}
 use Rattle.oim_rows.proofs.laws.fact_identifiers_differ.Goals as goal
 
 pub returns : goal.returns
-returns c = fact_ids_differ
+returns c = λ limit files small within. (report_ids_differ c.args.report.now c.stands_in_order.ensures.order c.stands_in_order.ensures.identifiers limit 0 files small (omega (arith, within))).1

@@ -1,10 +1,7 @@
-use Rattle.std.proofs.Common.{◌≡◌, ◌∙◌, ◌++◌, ◌∷◌, [], None, Some, sym}
-use Rattle.std.specs.Map.{values_of}
+use Rattle.std.proofs.Common.{◌≡◌, ◌∙◌, ◌++◌, ◌∷◌, [], sym}
 use Rattle.std.specs.String.{string_bytes}
 use Rattle.indexmap.proofs.MapLemmas.{OnOk-map}
-use Rattle.indexmap.specs.IndexMap.{set_value_at}
-use Rattle.oim_names.specs.Lookup.{value_at}
-use Rattle.oim_meta.specs.Named.{pushed_under, renamed}
+use Rattle.oim_meta.specs.Named.{renamed}
 use Rattle.oim_meta.proofs.NamedFacts.{lacks-under, lookup-renamed, none-found, under-found, under-new}
 use Rattle.oim_meta.proofs.named.Named+Named+V.push_under.Goals as goal
 

@@ -1,4 +1,4 @@
-use Rattle.std.proofs.Common.{rules, ◌≡◌, ◌<◌, length, ℕ, List, sym, subst, slice_index_or, ◌∙◌, ap}
+use Rattle.std.proofs.Common.{rules, ◌<◌, length, sym, subst, slice_index_or, ◌∙◌, ap}
 use Rattle.std.specs.List.{All}
 use Rattle.oim_meta.specs.declared.data.Column.{Column}
 use Rattle.oim_meta.proofs.PlaceFacts.{from_is_there}

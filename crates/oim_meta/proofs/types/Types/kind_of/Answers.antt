@@ -1,4 +1,4 @@
-use Rattle.std.proofs.Common.{◌≡◌, sym, ap, ◌∙◌, rules}
+use Rattle.std.proofs.Common.{ap}
 use Rattle.std.specs.Option.{option_and_then}
 use Rattle.oim_names.specs.Lookup.{value_at}
 use Rattle.oim_meta.proofs.types.Types.kind_of.Goals as goal
