@@ -62,13 +62,13 @@ module _ (ks : List (Bor Planned)) (i : ℕ) (n k : Bor Planned) (h : i < length
   from : PutsEntryFrom (map lent ks) i (lent n)
   from = subst (λ xs. PutsEntryFrom xs i (lent n)) (seen-is ks) p
 
-  ordered : (o : Ordering) → slice_cmp nat_cmp n.now.name.now k.now.name.now ≡ o → slice_cmp nat_cmp (lent n).0 (get_or (map lent ks) i (lent k)).0 ≡ o
-  ordered o e = ap (λ (x : Keyed). slice_cmp nat_cmp n.now.name.now x.0) entry-at ∙ e
+  ordered : (o : Ordering) → slice_cmp nat_cmp n.now.name k.now.name ≡ o → slice_cmp nat_cmp (lent n).0 (get_or (map lent ks) i (lent k)).0 ≡ o
+  ordered o e = ap (λ (x : Keyed). slice_cmp nat_cmp n.now.name x.0) entry-at ∙ e
 
   around : (x : Bor Planned) (rest : List (Bor Planned)) → seen (take i ks ++ x ∷ rest) ≡ take i (map lent ks) ++ lent x ∷ map lent rest
   around x rest = seen-is (take i ks ++ x ∷ rest) ∙ map-append lent (take i ks) (x ∷ rest) ∙ ap (λ xs. xs ++ lent x ∷ map lent rest) (sym (take-map lent i ks))
 
-  pub entry_less : slice_cmp nat_cmp n.now.name.now k.now.name.now ≡ Less → seen (insert ks i n) ≡ put_entry (seen ks) (lent n)
+  pub entry_less : slice_cmp nat_cmp n.now.name k.now.name ≡ Less → seen (insert ks i n) ≡ put_entry (seen ks) (lent n)
   entry_less e =
       around n (drop i ks) ∙ ap (λ xs. take i (map lent ks) ++ lent n ∷ xs) (sym (drop-map lent i ks))
       ∙ sym (put_entry_less (map lent ks) i (lent n) (lent k) in_range (ordered Less e) from) ∙ ap (λ xs. put_entry xs (lent n)) (sym (seen-is ks))
@@ -76,19 +76,19 @@ module _ (ks : List (Bor Planned)) (i : ℕ) (n k : Bor Planned) (h : i < length
   settled_is : (b : Bool) → k.now.is_own ≡ b → settled (get_or (map lent ks) i (lent k)) (lent n) ≡ cond b (lent k) (lent n)
   settled_is b e = ap (λ (x : Keyed). settled x (lent n)) entry-at ∙ ap (λ q. cond q (lent k) (lent n)) e
 
-  pub entry_kept : slice_cmp nat_cmp n.now.name.now k.now.name.now ≡ Equal → k.now.is_own ≡ true → seen ks ≡ put_entry (seen ks) (lent n)
+  pub entry_kept : slice_cmp nat_cmp n.now.name k.now.name ≡ Equal → k.now.is_own ≡ true → seen ks ≡ put_entry (seen ks) (lent n)
   entry_kept e own =
       seen-is ks ∙ sym (take-append-drop i (map lent ks)) ∙ ap (λ xs. take i (map lent ks) ++ xs) (at_drop_more (λ xs. xs) (map lent ks) i (lent k) in_range)
       ∙ ap (λ x. take i (map lent ks) ++ x ∷ drop (i + 1) (map lent ks)) (entry-at ∙ sym (settled_is true own))
       ∙ sym (put_entry_equal (map lent ks) i (lent n) (lent k) in_range (ordered Equal e) from) ∙ ap (λ xs. put_entry xs (lent n)) (sym (seen-is ks))
 
-  pub entry_replaced : slice_cmp nat_cmp n.now.name.now k.now.name.now ≡ Equal → k.now.is_own ≡ false → seen (take i ks ++ n ∷ drop (i + 1) ks) ≡ put_entry (seen ks) (lent n)
+  pub entry_replaced : slice_cmp nat_cmp n.now.name k.now.name ≡ Equal → k.now.is_own ≡ false → seen (take i ks ++ n ∷ drop (i + 1) ks) ≡ put_entry (seen ks) (lent n)
   entry_replaced e own =
       around n (drop (i + 1) ks) ∙ ap (λ xs. take i (map lent ks) ++ lent n ∷ xs) (sym (drop-map lent (i + 1) ks))
       ∙ ap (λ x. take i (map lent ks) ++ x ∷ drop (i + 1) (map lent ks)) (sym (settled_is false own))
       ∙ sym (put_entry_equal (map lent ks) i (lent n) (lent k) in_range (ordered Equal e) from) ∙ ap (λ xs. put_entry xs (lent n)) (sym (seen-is ks))
 
-  pub entry_more : slice_cmp nat_cmp n.now.name.now k.now.name.now ≡ Greater → PutsEntryFrom (seen ks) (i + 1) (lent n)
+  pub entry_more : slice_cmp nat_cmp n.now.name k.now.name ≡ Greater → PutsEntryFrom (seen ks) (i + 1) (lent n)
   entry_more e = subst (λ xs. PutsEntryFrom xs (i + 1) (lent n)) (sym (seen-is ks)) (put_entry_more (map lent ks) i (lent n) (lent k) in_range (ordered Greater e) from)
 
 pub entry_last : (ks : List (Bor Planned)) (i : ℕ) (n : Bor Planned) → i ≡ length ks → PutsEntryFrom (seen ks) i (lent n) → seen (ks ++ n ∷ []) ≡ put_entry (seen ks) (lent n)

@@ -96,10 +96,10 @@ abbrev pub seen_reference : Reference → Option ℕ × Option (List ℕ)
 seen_reference x = (x.place, option_map (λ t. t.now) x.parameter)
 
 abbrev pub seen_planned : Planned → Entry
-seen_planned p = record { name = p.name.now; side = p.side; role = p.role; literal = p.literal; reference = option_map seen_reference p.reference }
+seen_planned p = record { name = p.name; side = p.side; role = p.role; literal = p.literal; reference = option_map seen_reference p.reference }
 
 abbrev pub seen_keyed : Planned → Keyed
-seen_keyed p = (p.name.now, (seen_planned p, p.is_own))
+seen_keyed p = (p.name, (seen_planned p, p.is_own))
 
 abbrev pub Grouped : Type 0
 Grouped = List ℕ × (Level × List Keyed)

@@ -198,7 +198,7 @@ impl<'a> Place<'a> {
         for i in 0..entries.len() {
             let entry = entries.at(i);
             if let Some(value) = self.entry_value(alloc, kind, entry)? {
-                values.push((Text::from_str(alloc, entry.name)?, value))?;
+                values.push((entry.name.clone()?, value))?;
             }
         }
         Ok(values)

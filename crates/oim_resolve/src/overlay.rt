@@ -16,7 +16,7 @@ fn put_entry<'a>(
 {
     for i in 0..entries.len() {
         let current = entries[i];
-        match entry.name.cmp(current.name) {
+        match entry.name.as_str().cmp(current.name.as_str()) {
             Ordering::Less => {
                 entries.insert(i, entry)?;
                 return Ok(());

@@ -27,7 +27,8 @@ pub(crate) struct Reference<'a> {
 /// reference it is the number of the row.
 #[derive(Drop)]
 pub(crate) struct Planned<'a> {
-    pub(crate) name: &'a str,
+    /// Its bytes are shared by all facts that have it.
+    pub(crate) name: Text,
     /// Whether the column itself writes it, or a group.
     pub(crate) is_own: bool,
     pub(crate) side: Side,

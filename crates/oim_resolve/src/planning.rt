@@ -12,7 +12,7 @@ use crate::role::Role;
 use crate::value::{place_of, side_of};
 use oim_cells::CellMeaning;
 use oim_meta::{Column, Level, Report, Side, Written};
-use oim_names::find;
+use oim_names::{Text, find};
 use std::alloc::{AllocError, Global};
 
 /// The meaning of a literal.
@@ -28,6 +28,17 @@ fn literal_of(written: &Written) -> Option<CellMeaning<'_>>
     }
 }
 
+/// The same entry, its text shared by all facts that have it.
+fn shared(entry: Option<Option<Text>>) -> Result<Option<Option<Text>>, AllocError>
+    ensures { IfOk result (λ e. e ≡ entry) }
+{
+    match entry {
+        Some(Some(text)) => Ok(Some(Some(text.share()?))),
+        Some(None) => Ok(Some(None)),
+        None => Ok(None),
+    }
+}
+
 /// What a literal gives each row.
 fn literal_in(
     alloc: Global,
@@ -39,7 +50,7 @@ fn literal_in(
     ensures { IfOk result (λ l. l ≡ literal_in report.now role side (seen_meaning value.entry)) }
 {
     let fault = value_fault(alloc, report, role, side, value)?;
-    let entry = entry_given(alloc, report, role, side, value)?;
+    let entry = shared(entry_given(alloc, report, role, side, value)?)?;
     Ok(Literal {
         fault,
         entry,
@@ -68,7 +79,7 @@ fn plan<'a>(
     alloc: Global,
     report: &'a Report,
     table: usize,
-    name: &'a str,
+    name: &str,
     written: &'a Written,
     is_own: bool,
 ) -> Result<Planned<'a>, AllocError>
@@ -83,7 +94,7 @@ fn plan<'a>(
     };
     let reference = reference_of(report, table, written);
     Ok(Planned {
-        name,
+        name: Text::from_str(alloc, name)?.share()?,
         is_own,
         side,
         role,
