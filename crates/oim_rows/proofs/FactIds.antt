@@ -282,7 +282,7 @@ fact_ids_differ report table limit (r ∷ rows) small distinct = by (header_faul
     by (Some x) e = rw e tt
     by None e = rw e ((table_facts (reading_of report table limit r) small distinct (header_ok report table r e) 1 [] rows).1)
 
--- a fact with the identifier of this table
+-- a fact with an identifier of this table
 abbrev IsFactOf : List ℕ → Fact → Type 0
 IsFactOf table f = (t : List ℕ) × (k : List ℕ) × (f.id ≡ fact_id table t k)
 
@@ -384,7 +384,7 @@ report_ids_differ report rise good limit i (file ∷ files) small within =
     later f (k, low, high, h) = (k, omega arith, high, h)
 
     differ : (f g : Fact) → Here f → Later g → bytes_eq f.id g.id ≡ false
-    differ f g (t, c, is) (k, low, high, t2, c2, is2) = bytes_apart f.id g.id (λ same.
-        let one = tables_apart (table_of report i).id t c (table_of report k).id t2 c2 (tables_dotless report good i) (tables_dotless report good k) (sym is ∙ same ∙ is2) in
+    differ f g (t, c, is) (k, low, high, at) = bytes_apart f.id g.id (λ same.
+        let one = tables_apart (table_of report i).id t c (table_of report k).id at.0 at.1 (tables_dotless report good i) (tables_dotless report good k) (sym is ∙ same ∙ at.2) in
         differing (bytes_eq (table_of report i).id (table_of report k).id) (bytes_same (table_of report i).id (table_of report k).id one)
         (tables_differ report.tables (tables_apart_by_name report rise) i k no_table (omega arith) high))
