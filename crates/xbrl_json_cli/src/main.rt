@@ -20,6 +20,8 @@ mod outcome;
 #[cfg(test)]
 mod tests;
 #[cfg(test)]
+mod tests_cells;
+#[cfg(test)]
 mod tests_files;
 #[cfg(test)]
 mod tests_metadata;
