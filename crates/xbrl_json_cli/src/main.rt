@@ -23,6 +23,8 @@ mod tests;
 mod tests_files;
 #[cfg(test)]
 mod tests_metadata;
+#[cfg(test)]
+mod tests_rings;
 
 use conversion::convert_to;
 use outcome::Outcome;
