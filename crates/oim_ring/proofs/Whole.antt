@@ -1,6 +1,6 @@
 -- A list that begins a whole one.
 use Rattle.std.specs.Prelude.{◌≡◌, true, false, List, [], ◌∷◌, ◌++◌}
-use Rattle.std.proofs.Common.{refl, sym, ◌∙◌}
+use Rattle.std.proofs.Common.{refl, sym, ap, ◌∙◌}
 use Rattle.oim_resolve.specs.declared.fact.Fact.{Fact}
 use Rattle.oim_ring.specs.declared.item.Ending.{Ending}
 use Rattle.oim_ring.specs.declared.item.Item.{Item}
@@ -31,3 +31,12 @@ pub blocks_more : (sent : List Item) (facts : List Fact) → blocks_only sent �
 blocks_more [] facts only = refl
 blocks_more (items.Block b ∷ rest) facts only = blocks_more rest facts only
 blocks_more (items.Ending e ∷ rest) facts only = only
+
+-- what has an ending last has an ending
+pub ended : (taken : List Item) (e : Ending) → blocks_only (taken ++ items.Ending e ∷ []) ≡ false
+ended [] e = refl
+ended (items.Block facts ∷ rest) e = ended rest e
+ended (items.Ending f ∷ rest) e = refl
+
+pub once_ended : (taken : List Item) → EndsOnce taken → blocks_only taken ≡ false
+once_ended taken once = ap blocks_only once.is ∙ ended once.before once.ending

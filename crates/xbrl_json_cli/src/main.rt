@@ -25,6 +25,8 @@ mod tests_cells;
 mod tests_files;
 #[cfg(test)]
 mod tests_metadata;
+#[cfg(test)]
+mod tests_rings;
 
 use conversion::convert_to;
 use outcome::Outcome;
