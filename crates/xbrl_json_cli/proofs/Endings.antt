@@ -1,6 +1,6 @@
 -- How a run ends, from how its conversion does.
-use Rattle.std.specs.Prelude.{◌≡◌, ◌≢◌, ◌↔◌, ◌⊎◌, ℕ, suc, List, [], ◌∷◌, ◌++◌, map, take, ◌+◌, ◌<◌, Option, Some, None, IfSome, Result, Ok, Err, length, slice_index_or, inl, inr}
-use Rattle.std.proofs.Common.{refl, sym, ap, subst, ◌∙◌}
+use Rattle.std.specs.Prelude.{◌≡◌, ◌≢◌, ◌↔◌, ◌⊎◌, ℕ, suc, List, [], ◌∷◌, ◌++◌, map, take, ◌+◌, ◌<◌, Option, Some, None, IfSome, Result, Ok, Err, length, slice_index_or}
+use Rattle.std.proofs.Common.{refl, sym, ap, subst, ◌∙◌, inl, inr}
 use Rattle.std.proofs.lemmas.List.{map_more}
 use Rattle.std.proofs.Math.ListN.{get_or-map}
 use Rattle.std.specs.Io.KnownBytes.{Keeps}
@@ -160,7 +160,7 @@ pub runs : {R : Type 0} (told : R → Option (List ℕ)) (known : Option Files) 
     → IfSome known (λ files. AreFilesOf told readers (table_files files base report))
     → ((files : List (Option (List ℕ))) → AreFilesOf told readers files → ConvertsTo report profile.rows files old new o)
     → IfSome known (λ files. EndsOver files meta types old new o)
-runs told None base meta types old new o report readers folder is are ends = tt
+runs told None base meta types old new o report readers folder is are converts = tt
 runs told (Some files) base meta types old new o report readers folder is are converts =
     record {
       base = base;

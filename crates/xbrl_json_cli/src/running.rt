@@ -56,9 +56,10 @@ pub fn run<R: Read + Drop, F: Folder<R>, W: Sink>(
     ensures { IfSome (F.files folder.old) (λ files.
         EndsOver files settings.now.meta settings.now.types (sink_at (W.mark sink.old) (W.told sink.old)) (sink_at (W.mark sink.new) (W.told sink.new)) result) }
 {
-    let base = folder_of(settings.meta.as_str());
     let meta = settings.meta.as_str();
-    let report = match report_of(alloc, folder, base, meta, settings.types.as_str()) {
+    let types = settings.types.as_str();
+    let base = folder_of(meta);
+    let report = match report_of(alloc, folder, base, meta, types) {
         Ok(report) => report,
         Err(outcome) => return outcome,
     };
