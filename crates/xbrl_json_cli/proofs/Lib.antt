@@ -1,1 +1,5 @@
+mod CommandLine
 mod Endings
+mod FolderFacts
+mod MetadataFacts
+mod StepFacts

@@ -1,6 +1,6 @@
 -- What becomes of a report whose files are given by their bytes.
 -- xBRL-CSV 1.0 (the metadata and the table files), xBRL-JSON 1.0 (the document).
-use Rattle.std.specs.Prelude.{⊤, ◌≡◌, ◌≢◌, ◌↔◌, length, ℕ, List, [], Option, Some, None, Result, Ok, Err}
+use Rattle.std.specs.Prelude.{◌≡◌, ◌≢◌, ◌↔◌, ◌⊎◌, length, map, slice_index_or, ℕ, List, [], Option, Some, None, Result, Ok, Err}
 use Rattle.std.specs.Io.KnownBytes.{Keeps}
 use Rattle.oim_meta.specs.CsvFiles.{OrOutside}
 use Rattle.oim_meta.specs.Grid.{grid}
@@ -55,11 +55,6 @@ pub record HasReportFault (limits : Limits) (metadata types : List ℕ) (f : Met
   pub typed : types_result (grid types) ≡ Ok known
   pub fault : IsFault limits [] known metadata f
 
--- a table's identifier, unless there was no memory for it
-abbrev pub NamesTable : ReportValue → ℕ → Option (List ℕ) → Type 0
-NamesTable report i None = ⊤
-NamesTable report i (Some id) = id ≡ (table_of report i).id
-
 -- what reading the metadata and the types table answers
 abbrev pub Reads : Limits → (metadata types : List ℕ) → Result ReportValue Outcome → Type 0
 Reads limits metadata types (Ok report) = SaysWith limits metadata types report
@@ -67,29 +62,47 @@ Reads limits metadata types (Err (outcome.Report source.Report f)) = HasReportFa
 Reads limits metadata types (Err (outcome.Report source.Types f)) = IsTypesFault types f
 Reads limits metadata types (Err o) = ⊥
 
--- the outcome of a conversion that answered so
-abbrev pub IsOutcomeOf : ReportValue → Result (Unit {0}) ConvertFault → Outcome → Type 0
-IsOutcomeOf report (Ok u) o = o ≡ outcome.Done
-IsOutcomeOf report (Err (fault.Table e)) o = (id : Option (List ℕ)) × (o ≡ outcome.Table id e) × NamesTable report e.table id
-IsOutcomeOf report (Err (fault.Write w)) o = o ≡ outcome.Output w
-IsOutcomeOf report (Err f) o = o ≡ outcome.Run f
+-- the identifiers of a report's tables, and the one at a place
+abbrev pub table_ids : ReportValue → List (List ℕ)
+table_ids report = map (λ t. t.id) report.tables
 
--- the outcome is that of the conversion of the report that the texts say; it lacks readers exactly where the files are not as
--- many as the tables
-pub record Converted (given : Texts) (old new : SinkView) (o : Outcome) : Type 0 where
+abbrev pub name_in : List (List ℕ) → ℕ → List ℕ
+name_in names i = slice_index_or names i []
+
+-- the outcome of a conversion that answered so, where the table at each place has this name
+abbrev pub outcome_by : (ℕ → List ℕ) → Result (Unit {0}) ConvertFault → Outcome
+outcome_by name (Ok u) = outcome.Done
+outcome_by name (Err (fault.Table e)) = outcome.Table (name e.table) e
+outcome_by name (Err (fault.Write w)) = outcome.Output w
+outcome_by name (Err f) = outcome.Run f
+
+abbrev pub outcome_of : ReportValue → Result (Unit {0}) ConvertFault → Outcome
+outcome_of report = outcome_by (λ i. (table_of report i).id)
+
+-- the outcome is that of the conversion of this report, whose tables have these files; it lacks readers exactly where the files
+-- are not as many as the tables
+pub record Converted (report : ReportValue) (limit : ℕ) (files : List (Option (List ℕ))) (old new : SinkView) (o : Outcome) : Type 0 where
+  pub answer : Result (Unit {0}) ConvertFault
+  pub converts : Converts report (streams report limit files) old.mark new.mark old.told new.told answer
+  pub counts : (answer ≡ Err fault.WrongReaders) ↔ (length files ≢ length report.tables)
+  pub ending : o ≡ outcome_of report answer
+
+-- the outcome of a conversion, for which there may be no memory before it begins
+abbrev pub ConvertsTo : ReportValue → ℕ → List (Option (List ℕ)) → SinkView → SinkView → Outcome → Type 0
+ConvertsTo report limit files old new o = ((o ≡ outcome.Run fault.Memory) × Unwritten old new) ⊎ Converted report limit files old new o
+
+-- the conversion of the report that the texts say
+pub record ConvertedTexts (given : Texts) (old new : SinkView) (o : Outcome) : Type 0 where
   pub report : ReportValue
   pub says : SaysWith given.limits given.metadata given.types report
-  pub answer : Result (Unit {0}) ConvertFault
-  pub converts : Converts report (streams report given.limits.rows given.files) old.mark new.mark old.told new.told answer
-  pub counts : (answer ≡ Err fault.WrongReaders) ↔ (length given.files ≢ length report.tables)
-  pub ending : IsOutcomeOf report answer o
+  pub converted : Converted report given.limits.rows given.files old new o
 
 -- the outcome of a run over these texts
 abbrev pub Ends : Texts → SinkView → SinkView → Outcome → Type 0
 Ends given old new (outcome.Report source.Report f) = Unwritten old new × HasReportFault given.limits given.metadata given.types f
 Ends given old new (outcome.Report source.Types f) = Unwritten old new × IsTypesFault given.types f
 Ends given old new (outcome.Run fault.Memory) = Unwritten old new
-Ends given old new o = Converted given old new o
+Ends given old new o = ConvertedTexts given old new o
 
 -- a flush that failed is a failed write
 abbrev pub flushed : Outcome → Outcome

@@ -1,2 +1,7 @@
-pub mod Lines
+pub mod CommandLine
 pub mod Conversion
+pub mod Folders
+pub mod Lines
+pub mod Metadata
+pub mod Runs
+pub mod Steps

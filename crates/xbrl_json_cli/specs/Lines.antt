@@ -1,5 +1,5 @@
 -- What the program says of each outcome: its exit status, and its line on standard error.
-use Rattle.std.specs.Prelude.{ℕ, List, [], ◌∷◌, ◌++◌, Option, Some, None, codes}
+use Rattle.std.specs.Prelude.{ℕ, List, [], ◌∷◌, ◌++◌, codes}
 use Rattle.std.specs.Fmt.{decimal}
 use Rattle.oim_meta.specs.FaultNames.{fault_name, fault_number}
 use Rattle.oim_rows.specs.FaultNames as table_fault
@@ -12,14 +12,16 @@ use Rattle.xbrl_json_cli.specs.declared.outcome.Source.TheVariants as source
 
 abbrev pub status_of : Outcome → ℕ
 status_of outcome.Done = 0
-status_of outcome.Words = 2
 status_of (outcome.Report s f) = 1
 status_of (outcome.Table id f) = 1
+status_of (outcome.CannotRead path) = 3
+status_of (outcome.CannotWrite path) = 3
 status_of (outcome.Run f) = 3
 status_of (outcome.Output f) = 3
 
 abbrev pub source_name : Source → List ℕ
 source_name source.Report = codes "report"
+source_name source.Parameters = codes "parameters"
 source_name source.Types = codes "types"
 
 -- the line of a fault in what is named
@@ -32,12 +34,16 @@ table_text id f =
     fault_text (codes "table " ++ (id ++ (codes ", row " ++ (decimal f.row ++ (codes ", column " ++ decimal f.column)))))
     (table_fault.name_of f.kind) (table_fault.number_of f.kind)
 
--- there is no line of a table whose identifier could not be kept
-abbrev pub line_of : Outcome → Option (List ℕ)
-line_of outcome.Done = Some []
-line_of outcome.Words = Some (codes "xbrl-json: no arguments yet" ++ 10 ∷ [])
-line_of (outcome.Report s f) = Some (fault_text (source_name s) (fault_name f) (fault_number f))
-line_of (outcome.Table (Some id) f) = Some (table_text id f)
-line_of (outcome.Table None f) = None
-line_of (outcome.Run f) = Some (fault_text (codes "run") (convert_fault.name_of f) (convert_fault.number_of f))
-line_of (outcome.Output f) = Some (codes "xbrl-json: output: Write (56)" ++ 10 ∷ [])
+-- the line of a file that cannot be read or written
+abbrev pub path_text : List ℕ → List ℕ → List ℕ
+path_text what path = codes "xbrl-json: cannot " ++ (what ++ (codes " " ++ (path ++ 10 ∷ [])))
+
+-- a finished document has no line
+abbrev pub line_of : Outcome → List ℕ
+line_of outcome.Done = []
+line_of (outcome.Report s f) = fault_text (source_name s) (fault_name f) (fault_number f)
+line_of (outcome.Table id f) = table_text id f
+line_of (outcome.CannotRead path) = path_text (codes "read") path
+line_of (outcome.CannotWrite path) = path_text (codes "write") path
+line_of (outcome.Run f) = fault_text (codes "run") (convert_fault.name_of f) (convert_fault.number_of f)
+line_of (outcome.Output f) = codes "xbrl-json: output: Write (56)" ++ 10 ∷ []

@@ -1,9 +1,10 @@
-//! The conversion of a report whose files are given by their bytes.
+//! The conversion of a report, whose tables are given by readers, or all of whose files are given by
+//! their bytes.
 
-ghost use Rattle.std.specs.Prelude.{◌≡◌, ◌≤◌, ◌<◌, ℕ, List, [], ◌∷◌, Option, Some, None, length, is_err, if◌then◌else◌};
+ghost use Rattle.std.specs.Prelude.{◌≡◌, ◌≤◌, ◌<◌, ℕ, List, [], ◌∷◌, Option, Some, None, IfOk, is_err, if◌then◌else◌};
 ghost use Rattle.oim_convert.specs.Files.{AreFilesOf};
 ghost use Rattle.oim_convert.specs.Steps.{sink_at};
-ghost use Rattle.xbrl_json_cli.specs.Conversion.{Ends, IsOutcomeOf, NamesTable, Reads, flushed, profile, texts};
+ghost use Rattle.xbrl_json_cli.specs.Conversion.{ConvertsTo, Ends, Reads, flushed, name_in, outcome_by, profile, table_ids, texts};
 
 use crate::held::{METADATA, TABLE, TYPES};
 use crate::outcome::{Outcome, Source};
@@ -11,7 +12,7 @@ use oim_convert::{ConvertFault, convert_serial};
 use oim_json::{Marked, Sink, WriteFault};
 use oim_meta::{Limits, Parameters, Report, read_report, read_types};
 use oim_names::Text;
-use std::alloc::Global;
+use std::alloc::{AllocError, Global};
 use std::io;
 use std::io::{BufWriter, Read, Write};
 
@@ -35,28 +36,63 @@ pub fn read_texts(
     }
 }
 
-/// A table's identifier, unless there is no memory for it.
-fn name_of(alloc: Global, report: &Report, table: usize) -> Option<Text>
-    ensures { NamesTable report.now table result }
+/// The identifiers of the tables, in table order.
+fn names_of(alloc: Global, report: &Report) -> Result<Vec<Text>, AllocError>
+    ensures { IfOk result (λ names. names.items ≡ table_ids report.now) }
 {
-    if table >= report.tables() {
-        return None;
+    let mut names = Vec::new(alloc);
+    for table in 0..report.tables() {
+        let name = Text::from_str(alloc, report.table_id(table))?;
+        names.push(name)?;
     }
-    Text::from_str(alloc, report.table_id(table)).ok()
+    Ok(names)
 }
 
-/// The outcome of a conversion that answered so.
-fn ending(alloc: Global, report: &Report, answer: Result<(), ConvertFault>) -> Outcome
-    ensures { IsOutcomeOf report.now answer result }
+/// The name at a place, empty where the place is out of range.
+fn name_at(alloc: Global, names: Vec<Text>, place: usize) -> Text
+    ensures { result ≡ name_in names.items place }
+{
+    let mut names = names;
+    if place < names.len() {
+        return names.swap_remove(place);
+    }
+    Text::new(String::new(alloc))
+}
+
+/// The outcome of a conversion that answered so, where the tables have these names.
+fn ending(alloc: Global, names: Vec<Text>, answer: Result<(), ConvertFault>) -> Outcome
+    ensures { result ≡ outcome_by (name_in names.items) answer }
 {
     match answer {
         Ok(()) => Outcome::Done,
         Err(ConvertFault::Table(fault)) => {
-            Outcome::Table(name_of(alloc, report, fault.table), fault)
+            Outcome::Table(name_at(alloc, names, fault.table), fault)
         }
         Err(ConvertFault::Write(fault)) => Outcome::Output(fault),
         Err(fault) => Outcome::Run(fault),
     }
+}
+
+/// Converts a report, given a reader of the file of each table, in table order, where `None` is a
+/// table without a file. Writes its document in xBRL-JSON 1.0 to the sink, and answers how the
+/// conversion ended. The names that an outcome needs are made first. `limits.rows` is at most
+/// 4,294,967,294.
+pub fn convert_report<R: Read + Drop, W: Sink>(
+    alloc: Global,
+    report: &Report,
+    readers: Vec<Option<R>>,
+    limits: Limits,
+    sink: &mut W,
+) -> Outcome
+    requires { limits.rows ≤ 4294967294 }
+    ensures { (files : List (Option (List ℕ))) → AreFilesOf R.remaining readers.items files
+        → ConvertsTo report.now limits.rows files (sink_at (W.mark sink.old) (W.told sink.old)) (sink_at (W.mark sink.new) (W.told sink.new)) result }
+{
+    let Ok(names) = names_of(alloc, report) else {
+        return Outcome::Run(ConvertFault::Memory);
+    };
+    let answer = convert_serial(alloc, report, readers, limits, sink);
+    ending(alloc, names, answer)
 }
 
 /// Converts a report, given by the bytes of its metadata and of its types table and by a reader of
@@ -79,8 +115,7 @@ pub fn convert_texts<R: Read + Drop, W: Sink>(
         Ok(report) => report,
         Err(outcome) => return outcome,
     };
-    let answer = convert_serial(alloc, &report, tables, limits, sink);
-    ending(alloc, &report, answer)
+    convert_report(alloc, &report, tables, limits, sink)
 }
 
 /// Converts the report that the program holds, within the limits of this profile.
@@ -103,7 +138,7 @@ pub fn convert_held<W: Sink>(alloc: Global, sink: &mut W) -> Outcome
 
 /// The outcome once what is written was flushed, where it could be. A flush that fails after a
 /// whole document is a failed write.
-fn after_flush(outcome: Outcome, flush: io::Result<()>) -> Outcome
+pub fn after_flush(outcome: Outcome, flush: io::Result<()>) -> Outcome
     ensures { result ≡ (if is_err flush then flushed outcome else outcome) }
 {
     match (outcome, flush) {

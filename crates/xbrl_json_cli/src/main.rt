@@ -1,22 +1,33 @@
 //! `xbrl-json`: converts a report in xBRL-CSV 1.0 to xBRL-JSON 1.0.
 //!
-//! In this first form the program takes no arguments. Without them it converts the report that it
-//! holds to standard output; with any it says so on standard error and ends with status 2.
+//! `xbrl-json META --types FILE [--workers N] [--ring K] [--out FILE]` converts the report whose
+//! metadata file is META to standard output, or to the file of `--out`. With no words at all the
+//! program converts the report that it holds to standard output.
 //!
 //! What the crate promises:
-//! - `convert_texts` ends as the files' bytes say: the types table's fault, else the metadata's,
-//!   and then nothing is written; else as the conversion of the report that they say ends, with
-//!   just the document or the unfinished document written that this conversion gives;
-//! - `convert_held` does so for the held texts, within the limits of this profile;
+//! - `job` that is Ok has the values that the words give, and the defaults for those that they
+//!   leave out; workers are 1 to 64, a ring's size 1 to 65,536;
+//! - `run`, over any folder that tells its bytes honestly, ends as the folder's files say: by the
+//!   first fault of the metadata, the types table and the parameters file, in the order in which
+//!   they are read, and then nothing is written; else as the conversion of the report that they
+//!   give, with just the document or the unfinished document written that this conversion gives;
+//! - `convert_texts` says the same of a report whose files are given by their bytes, and
+//!   `convert_held` of the held texts;
 //! - `status` and `line` are the exit status and the line on standard error of each outcome, and a
 //!   flush that fails after a whole document is a failed write.
 //!
-//! What the system's output takes, and what it says of the arguments, is not claimed.
+//! What the system's files hold, what its output takes, and what it says of the arguments, is not
+//! claimed.
 #![tactic(auto)]
 
 mod conversion;
+mod folder;
 mod held;
 mod outcome;
+mod output;
+mod running;
+mod settings;
+mod steps;
 #[cfg(test)]
 mod tests;
 #[cfg(test)]
@@ -27,40 +38,72 @@ mod tests_files;
 mod tests_metadata;
 #[cfg(test)]
 mod tests_rings;
+#[cfg(test)]
+mod tests_runs;
 
 use conversion::convert_to;
+use oim_convert::ConvertFault;
 use outcome::Outcome;
+use output::convert_as;
 use std::alloc::Global;
 use std::io;
-use std::io::ErrorKind;
+use std::io::{ErrorKind, Read, Write};
 use std::process::ExitCode;
-use std::rt::Env;
+use std::rt::{Env, Files};
 
-/// Whether there are arguments. Fails where memory is short.
-fn has_words<H: Env + AllocGlobal>(rt: &H) -> Result<bool, ErrorKind> {
-    match std::env::args(rt) {
-        Ok(words) => Ok(words.skip(1).next().is_some()),
-        Err(error) => Err(error.kind()),
-    }
-}
-
-/// How a run ended.
-fn outcome_of<H: Env + Print + AllocGlobal>(rt: &H, alloc: Global) -> Outcome {
-    match has_words(rt) {
-        Ok(false) => convert_to(alloc, io::writer(rt)),
-        Err(ErrorKind::OutOfMemory) => Outcome::Run(oim_convert::ConvertFault::Memory),
-        _ => Outcome::Words,
-    }
-}
-
-/// The program's exit status. What cannot be printed is left out.
-fn program<H: Env + Print + Eprint + AllocGlobal>(rt: &H) -> u8 {
-    let alloc = rt.alloc();
-    let outcome = outcome_of(rt, alloc);
-    if let Ok(line) = outcome::line(alloc, &outcome) {
+/// The status of an outcome, whose line is printed. What cannot be printed is left out.
+fn told<H: Eprint>(rt: &H, alloc: Global, outcome: &Outcome) -> u8 {
+    if let Ok(line) = outcome::line(alloc, outcome) {
         let _ = rt.eprint(line.as_str());
     }
-    outcome::status(&outcome)
+    outcome::status(outcome)
+}
+
+/// The status of a command line that is not understood, or asks for help.
+fn explained<H: Print + Eprint>(rt: &H, error: &clap::Error) -> u8 {
+    let _ = error.print(rt);
+    if error.use_stderr() { 2 } else { 0 }
+}
+
+/// The status of a run with these words, without the program's name.
+fn started<H: Files + Print + Eprint>(rt: &H, alloc: Global, words: &[&str]) -> u8
+where
+    H::File: Read + Write + Drop,
+{
+    if words.is_empty() {
+        return told(rt, alloc, &convert_to(alloc, io::writer(rt)));
+    }
+    match settings::job(alloc, words) {
+        Ok(settings) => told(rt, alloc, &convert_as(rt, alloc, &settings)),
+        Err(error) => explained(rt, &error),
+    }
+}
+
+/// The status of a run with these arguments, the program's name among them.
+fn program<H: Files + Env + Print + Eprint + AllocGlobal>(rt: &H) -> u8
+where
+    H::File: Read + Write + Drop,
+{
+    let alloc = rt.alloc();
+    let no_memory = Outcome::Run(ConvertFault::Memory);
+    let args = match std::env::args(rt) {
+        Ok(args) => args,
+        Err(error) if error.kind() == ErrorKind::OutOfMemory => {
+            return told(rt, alloc, &no_memory);
+        }
+        Err(_) => {
+            let _ = rt.eprintln("error: an argument is not UTF-8");
+            return 2;
+        }
+    };
+    let Ok(args) = args.skip(1).collect::<Vec<String>>(alloc) else {
+        return told(rt, alloc, &no_memory);
+    };
+    let words = args.iter().map(|word| word.as_str());
+    match words.collect::<Vec<&str>>(alloc) {
+        Ok(words) => started(rt, alloc, words.as_slice()),
+        Err(_) => told(rt, alloc, &no_memory),
+    }
 }
 
 fn main(rt: HostRuntime) -> ExitCode {

@@ -1,7 +1,7 @@
 //! How a run ended, with its exit status and its line on standard error.
 
-ghost use Rattle.std.specs.Prelude.{◌≡◌, IfOk, Some, string_bytes};
-ghost use Rattle.xbrl_json_cli.specs.Lines.{fault_text, line_of, source_name, status_of, table_text};
+ghost use Rattle.std.specs.Prelude.{◌≡◌, IfOk, string_bytes};
+ghost use Rattle.xbrl_json_cli.specs.Lines.{fault_text, line_of, path_text, source_name, status_of, table_text};
 
 use oim_convert::ConvertFault;
 use oim_json::WriteFault;
@@ -15,6 +15,8 @@ use std::alloc::{AllocError, Global};
 pub enum Source {
     /// The metadata.
     Report,
+    /// The parameters file.
+    Parameters,
     /// The types table.
     Types,
 }
@@ -26,6 +28,7 @@ impl Source {
     {
         match self {
             Source::Report => "report",
+            Source::Parameters => "parameters",
             Source::Types => "types",
         }
     }
@@ -36,29 +39,32 @@ impl Source {
 pub enum Outcome {
     /// The whole document is written.
     Done,
-    /// There are arguments, and none is understood.
-    Words,
-    /// The metadata or the types table has a fault; nothing is written.
+    /// The metadata, the parameters file or the types table has a fault; nothing is written.
     Report(Source, MetaFault),
-    /// A table has a fault; the document is unfinished. The text is the table's identifier, `None`
-    /// where there was no memory for it.
-    Table(Option<Text>, TableFault),
+    /// A table has a fault; the document is unfinished. The text is the table's identifier.
+    Table(Text, TableFault),
+    /// The metadata, the types table or the parameters file, at this path, cannot be opened; nothing
+    /// is written.
+    CannotRead(Text),
+    /// The document's file, at this path, cannot be made.
+    CannotWrite(Text),
     /// The conversion could not begin; nothing is written.
     Run(ConvertFault),
     /// A write failed; a beginning of the document is written.
     Output(WriteFault),
 }
 
-/// The exit status: 0 where the document is written, 1 for a fault of the report, 2 for a command
-/// line that is not understood, 3 where memory or the output failed.
+/// The exit status: 0 where the document is written, 1 for a fault of the report, 3 where a file,
+/// memory or the output failed.
 pub fn status(outcome: &Outcome) -> u8
     ensures { result ≡ status_of outcome.now }
 {
     match outcome {
         Outcome::Done => 0,
-        Outcome::Words => 2,
         Outcome::Report(_, _) | Outcome::Table(_, _) => 1,
-        Outcome::Run(_) | Outcome::Output(_) => 3,
+        Outcome::CannotRead(_) | Outcome::CannotWrite(_) | Outcome::Run(_) | Outcome::Output(_) => {
+            3
+        }
     }
 }
 
@@ -79,19 +85,26 @@ fn table_line(alloc: Global, id: &str, fault: &TableFault) -> Result<String, All
     fault_line(alloc, place.as_str(), fault.name(), fault.number())
 }
 
+/// The line of a file that cannot be opened or made.
+fn path_line(alloc: Global, what: &str, path: &str) -> Result<String, AllocError>
+    ensures { IfOk result (λ s. string_bytes s ≡ path_text what.now path.now) }
+{
+    format!(in alloc; "xbrl-json: cannot {what} {path}\n")
+}
+
 /// The line on standard error, with its line feed; empty where the document is written. Fails where
-/// memory is short, now or when a table's identifier was kept.
+/// memory is short.
 pub fn line(alloc: Global, outcome: &Outcome) -> Result<String, AllocError>
-    ensures { IfOk result (λ s. Some (string_bytes s) ≡ line_of outcome.now) }
+    ensures { IfOk result (λ s. string_bytes s ≡ line_of outcome.now) }
 {
     match outcome {
         Outcome::Done => Ok(String::new(alloc)),
-        Outcome::Words => String::from_str(alloc, "xbrl-json: no arguments yet\n"),
         Outcome::Report(source, fault) => {
             fault_line(alloc, source.name(), fault.name(), fault.number())
         }
-        Outcome::Table(Some(id), fault) => table_line(alloc, id.as_str(), fault),
-        Outcome::Table(None, _) => Err(AllocError),
+        Outcome::Table(id, fault) => table_line(alloc, id.as_str(), fault),
+        Outcome::CannotRead(path) => path_line(alloc, "read", path.as_str()),
+        Outcome::CannotWrite(path) => path_line(alloc, "write", path.as_str()),
         Outcome::Run(fault) => fault_line(alloc, "run", fault.name(), fault.number()),
         Outcome::Output(_) => String::from_str(alloc, "xbrl-json: output: Write (56)\n"),
     }

@@ -14,7 +14,7 @@ use std::process::Abort;
 use std::test::Fail;
 
 /// What stands before the facts of each document here.
-const HEAD: &str =
+pub(crate) const HEAD: &str =
     r#"{"documentInfo":{"documentType":"https://xbrl.org/2021/xbrl-json","namespaces":{"eg":"http://example.com/eg","iso4217":"http://www.xbrl.org/2003/iso4217","xbrli":"http://www.xbrl.org/2003/instance"},"taxonomy":["http://example.com/eg.xsd"]},"facts":{"#;
 
 /// Texts of the held metadata, each with what stands in its place.
@@ -93,7 +93,7 @@ fn fact_of(alloc: Global, fact: &str) -> Result<String, AllocError> {
 }
 
 /// The document of these facts, with `; ` between them, finished where there is no fault.
-fn document_of(alloc: Global, facts: &str, fault: &str) -> Result<String, AllocError> {
+pub(crate) fn document_of(alloc: Global, facts: &str, fault: &str) -> Result<String, AllocError> {
     let mut document = String::from_str(alloc, HEAD)?;
     for fact in facts.split("; ") {
         if !fact.is_empty() {
@@ -151,7 +151,7 @@ fn check_all(
     Ok(())
 }
 
-const THREE: Edits<'static> = &[(
+pub(crate) const THREE: Edits<'static> = &[(
     r#"{"t1":{"url":"t1.csv","template":"p"}}"#,
     r#"{"t1":{"url":"t1.csv","template":"p"},"t2":{"url":"t2.csv","template":"p"},"t3":{"url":"t3.csv","template":"p"}}"#,
 )];

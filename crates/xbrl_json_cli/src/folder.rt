@@ -1,0 +1,77 @@
+//! Where the named files come from.
+
+ghost use Rattle.std.specs.Prelude.{◌≡◌, ℕ, List, Option, Some, None, IfSome, option_map};
+ghost use Rattle.oim_convert.specs.Files.{IsFileOf};
+ghost use Rattle.xbrl_json_cli.specs.Folders.{IsFolderOf, first_at};
+
+use std::io::Read;
+use std::rt::Files;
+
+/// Files by their paths, which stay as they are while they are opened.
+pub trait Folder<R: Read> {
+    /// The bytes of the file at each path, where the folder tells them.
+    ghost files: { Self → Option (List ℕ → Option (List ℕ)) } = { λ _. None };
+
+    /// A reader of the file at the path, of just its bytes, or `None` exactly where there is none.
+    fn open(&mut self, path: &str) -> Option<R>
+        ensures same { files self.new ≡ files self.old }
+        ensures opens { IfSome (files self.old) (λ at. IsFileOf R.remaining result (at path.now)) };
+}
+
+/// Files in memory, each with its path. Of two with one path the first counts.
+#[derive(Clone, Copy)]
+pub struct Texts<'a> {
+    /// The paths with the bytes.
+    pub files: &'a [(&'a str, &'a [u8])],
+}
+
+/// The bytes of the first file with this path.
+fn bytes_at<'a>(files: &'a [(&'a str, &'a [u8])], path: &str) -> Option<&'a [u8]>
+    ensures { option_map (λ b. b.now) result ≡ first_at files.now path.now }
+{
+    match files.split_first() {
+        None => None,
+        Some((first, rest)) => {
+            if first.0 == path {
+                Some(first.1)
+            } else {
+                bytes_at(rest, path)
+            }
+        }
+    }
+}
+
+impl<'a> Folder<&'a [u8]> for Texts<'a> {
+    ghost files = { λ s. Some (first_at s.files.now) };
+
+    fn open(&mut self, path: &str) -> Option<&'a [u8]> {
+        bytes_at(self.files, path)
+    }
+}
+
+/// The files of the system, of which nothing is claimed. A file that cannot be opened is no file.
+#[derive(Drop)]
+pub struct Disk<'a, H> {
+    /// The system.
+    pub rt: &'a H,
+}
+
+impl<'a, H: Files> Folder<H::File> for Disk<'a, H>
+where
+    H::File: Read,
+{
+    fn open(&mut self, path: &str) -> Option<H::File> {
+        std::fs::open(self.rt, path).ok()
+    }
+}
+
+/// The folder of the file at a path: the path up to and with its last `/`, nothing where it has
+/// none.
+pub fn folder_of(path: &str) -> &str
+    ensures { IsFolderOf result.now path.now }
+{
+    match path.rfind('/') {
+        Some(at) => &path[..at + 1],
+        None => "",
+    }
+}

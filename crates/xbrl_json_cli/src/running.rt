@@ -1,0 +1,71 @@
+//! A run: the files of a folder to a document.
+
+ghost use Rattle.std.specs.Prelude.{◌≡◌, IfSome, IfErr, IfOk};
+ghost use Rattle.oim_convert.specs.Files.{AreFilesOf};
+ghost use Rattle.oim_convert.specs.Steps.{sink_at};
+ghost use Rattle.xbrl_json_cli.specs.Runs.{EndsOver, table_files};
+ghost use Rattle.xbrl_json_cli.specs.Steps.{IsWant};
+
+use crate::conversion::convert_report;
+use crate::folder::{Folder, folder_of};
+use crate::outcome::Outcome;
+use crate::settings::Settings;
+use crate::steps::{no_memory, path_in, report_of};
+use oim_json::Sink;
+use oim_meta::{Limits, Report};
+use std::alloc::Global;
+use std::io::Read;
+
+/// A reader of each table's file, in table order; a file that is not there is `None`.
+fn open_tables<R: Read + Drop, F: Folder<R>>(
+    alloc: Global,
+    folder: &mut F,
+    base: &str,
+    report: &Report,
+) -> Result<Vec<Option<R>>, Outcome>
+    ensures opens { IfSome (F.files folder.old) (λ files. IfOk result (λ readers. AreFilesOf R.remaining readers.items (table_files files base.now report.now))) }
+    ensures wants { IfErr result (λ o. IsWant o) }
+{
+    let mut readers = Vec::new(alloc);
+    for table in 0..report.tables() {
+        let Ok(path) = path_in(alloc, base, report.table_url(table)) else {
+            return Err(no_memory());
+        };
+        let reader = folder.open(path.as_str());
+        if readers.push(reader).is_err() {
+            return Err(no_memory());
+        }
+    }
+    Ok(readers)
+}
+
+/// Converts the report whose metadata file is at `settings.meta`, with the types table at
+/// `settings.types`, and writes its document in xBRL-JSON 1.0 to the sink. The paths of the tables
+/// and of the parameters file are the folder of the metadata's path and their URL. Answers how the
+/// run ended: the first fault of the metadata, the types table and the parameters file, in the
+/// order in which they are read, with nothing written; else as the conversion of the tables ends.
+/// A table's file that is not there is a missing file and no other fault.
+///
+/// `settings.workers` and `settings.ring` are not used yet.
+pub fn run<R: Read + Drop, F: Folder<R>, W: Sink>(
+    alloc: Global,
+    settings: &Settings,
+    folder: &mut F,
+    sink: &mut W,
+) -> Outcome
+    ensures { IfSome (F.files folder.old) (λ files.
+        EndsOver files settings.now.meta settings.now.types (sink_at (W.mark sink.old) (W.told sink.old)) (sink_at (W.mark sink.new) (W.told sink.new)) result) }
+{
+    let meta = settings.meta.as_str();
+    let types = settings.types.as_str();
+    let base = folder_of(meta);
+    let report = match report_of(alloc, folder, base, meta, types) {
+        Ok(report) => report,
+        Err(outcome) => return outcome,
+    };
+    let readers = match open_tables(alloc, folder, base, &report) {
+        Ok(readers) => readers,
+        Err(outcome) => return outcome,
+    };
+    convert_report(alloc, &report, readers, Limits::profile(), sink)
+}

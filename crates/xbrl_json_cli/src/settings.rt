@@ -1,0 +1,163 @@
+//! What the command line asks for.
+
+ghost use Rattle.std.specs.Prelude.{◌≡◌, ◌≤◌, IfOk, IfSome, false, map, option_map};
+ghost use Rattle.clap.specs.Words.{app_of, first_of, found_of, matches_of, one_of, rows_of, rule_of};
+ghost use Rattle.xbrl_json_cli.specs.CommandLine as spec;
+ghost use Rattle.xbrl_json_cli.specs.CommandLine.{HasSettings, IsNumberOf, command_line};
+
+use clap::builder::ValueParser;
+use clap::error::ErrorKind;
+use clap::{Arg, ArgAction, ArgMatches, Command, Error};
+use oim_names::Text;
+use std::alloc::{AllocError, Global};
+
+/// The most workers that a run may have.
+const MOST_WORKERS: usize = 64;
+
+/// The largest size of a table's ring.
+const LARGEST_RING: usize = 65_536;
+
+/// What a run is asked for.
+#[derive(Drop)]
+pub struct Settings {
+    /// The path of the metadata file.
+    pub meta: Text,
+    /// The path of the types table.
+    pub types: Text,
+    /// How many tables are read at once, 1 to 64.
+    pub workers: usize,
+    /// How many blocks of facts of one table may wait, 1 to 65,536.
+    pub ring: usize,
+    /// The path of the document, `None` for standard output.
+    pub out: Option<Text>,
+}
+
+/// An argument with one value.
+fn one_value<'a>(alloc: Global, id: &'a str, value: &'a str, help: &'a str) -> Arg<'a>
+    ensures rule { rule_of result ≡ spec.one_value id.entry.now }
+    ensures local { result.global ≡ false }
+{
+    Arg::new(alloc, id)
+        .value_name(value)
+        .help(help)
+        .action(ArgAction::Set)
+}
+
+/// An option with one value.
+fn option<'a>(alloc: Global, name: &'a str, value: &'a str, help: &'a str) -> Arg<'a>
+    ensures rule { rule_of result ≡ spec.option name.entry.now }
+    ensures local { result.global ≡ false }
+{
+    one_value(alloc, name, value, help).long(name)
+}
+
+/// An option whose value is a number from 1 to `most`.
+fn number_option<'a>(
+    alloc: Global,
+    name: &'a str,
+    most: u64,
+    default: &'a str,
+    help: &'a str,
+) -> Arg<'a>
+    ensures rule { rule_of result ≡ spec.number_option name.entry.now most default.entry.now }
+    ensures local { result.global ≡ false }
+{
+    option(alloc, name, "N", help)
+        .value_parser(ValueParser::unsigned(1, most))
+        .default_value(default)
+}
+
+/// The program's arguments, as `clap` reads them.
+fn command<'a>(alloc: Global) -> Result<Command<'a>, AllocError>
+    ensures { IfOk result (λ c. app_of c ≡ command_line) }
+{
+    let meta = one_value(alloc, "meta", "META", "The metadata file of the report").required(true);
+    let types = option(alloc, "types", "FILE", "The table of concept types").required(true);
+    let workers = number_option(
+        alloc,
+        "workers",
+        64,
+        "4",
+        "How many tables are read at once",
+    );
+    let ring = number_option(alloc, "ring", 65536, "1024", "How much of a table may wait");
+    let out = option(
+        alloc,
+        "out",
+        "FILE",
+        "Where the document goes, in place of standard output",
+    );
+    Command::new(alloc, "xbrl-json")
+        .about("Converts a report in xBRL-CSV to xBRL-JSON")
+        .no_binary_name(true)
+        .arg(meta)?
+        .arg(types)?
+        .arg(workers)?
+        .arg(ring)?
+        .arg(out)
+}
+
+/// The value that the argument `id` has.
+fn value_of<'a>(matches: &ArgMatches<'a>, id: &str) -> Option<&'a str>
+    ensures { option_map (λ s. s.now) result ≡ first_of id.now (rows_of (found_of matches.now)) }
+{
+    matches.get_str(id)
+}
+
+/// The number that the option `id` has, where it lies between `least` and `most`.
+fn number_between(matches: &ArgMatches<'_>, id: &str, least: usize, most: usize) -> Option<usize>
+    ensures { IfSome result (λ n. (least ≤ n) × (n ≤ most)
+        × IsNumberOf (one_of id.now (rows_of (found_of matches.now))) n) }
+{
+    let n = matches.get_one::<usize>(id)?;
+    if least <= n && n <= most {
+        Some(n)
+    } else {
+        None
+    }
+}
+
+/// The settings in the matches. A parse of `command` always has them.
+fn settings_in(alloc: Global, matches: &ArgMatches<'_>) -> Result<Option<Settings>, AllocError>
+    ensures values { IfOk result (λ o. IfSome o (HasSettings (rows_of (found_of matches.now)))) }
+    ensures workers { IfOk result (λ o. IfSome o (λ s. (1 ≤ s.workers) × (s.workers ≤ 64))) }
+    ensures ring { IfOk result (λ o. IfSome o (λ s. (1 ≤ s.ring) × (s.ring ≤ 65536))) }
+{
+    let (Some(meta), Some(types), Some(workers), Some(ring)) = (
+        value_of(matches, "meta"),
+        value_of(matches, "types"),
+        number_between(matches, "workers", 1, MOST_WORKERS),
+        number_between(matches, "ring", 1, LARGEST_RING),
+    ) else {
+        return Ok(None);
+    };
+    let out = match value_of(matches, "out") {
+        Some(path) => Some(Text::from_str(alloc, path)?),
+        None => None,
+    };
+    Ok(Some(Settings {
+        meta: Text::from_str(alloc, meta)?,
+        types: Text::from_str(alloc, types)?,
+        workers,
+        ring,
+        out,
+    }))
+}
+
+/// Reads the command line, the words without the program's name: `META --types FILE [--workers N]
+/// [--ring K] [--out FILE]`, with 4 workers and rings of 1,024 unless the words say otherwise.
+/// Workers are 1 to 64, a ring's size 1 to 65,536.
+///
+/// Fails where the words are no such command line, ask for help, or memory is short; the error has
+/// the text to show.
+pub fn job(alloc: Global, words: &[&str]) -> Result<Settings, Error>
+    ensures values { IfOk result (HasSettings (matches_of command_line (map (λ w. w.now) words.now))) }
+    ensures workers { IfOk result (λ s. (1 ≤ s.workers) × (s.workers ≤ 64)) }
+    ensures ring { IfOk result (λ s. (1 ≤ s.ring) × (s.ring ≤ 65536)) }
+{
+    let matches = command(alloc)?.try_get_matches_from(words)?;
+    match settings_in(alloc, &matches)? {
+        Some(settings) => Ok(settings),
+        None => Err(command(alloc)?.error(ErrorKind::MissingRequiredArgument, "")?),
+    }
+}
