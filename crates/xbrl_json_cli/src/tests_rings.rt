@@ -144,12 +144,12 @@ fn a_full_ring_is_closed_later(rt: HostRuntime) -> Result<(), Fail> {
 /// Puts all blocks and then the ending. None where a side took too many turns, or memory was short.
 fn put_all(alloc: Global, feed: Feed) -> Option<u32> {
     let mut feed = feed;
-    let mut next = 0;
+    let mut next = 0u32;
     let mut waiting = block(alloc, 0).ok()?;
     for turn in 0..TURNS {
         match feed.put(waiting) {
             Ok(()) => {
-                next += 1;
+                next = next.saturating_add(1);
                 waiting = block(alloc, next).ok()?;
                 if next == BLOCKS {
                     return close_waiting(feed, TURNS - turn);
@@ -181,7 +181,7 @@ fn close_waiting(feed: Feed, turns: u32) -> Option<u32> {
 /// Takes blocks up to the ending. Answers how many came, where they came in order.
 fn take_all(alloc: Global, drain: Drain) -> Option<u32> {
     let mut drain = drain;
-    let mut next = 0;
+    let mut next = 0u32;
     for _ in 0..TURNS {
         match drain.take() {
             None => thread::yield_now(),
@@ -189,7 +189,7 @@ fn take_all(alloc: Global, drain: Drain) -> Option<u32> {
                 if next == BLOCKS || !is_numbered(alloc, &block, next).ok()? {
                     return None;
                 }
-                next += 1;
+                next = next.saturating_add(1);
             }
             Some(Item::Ending(_)) => return Some(next),
         }
