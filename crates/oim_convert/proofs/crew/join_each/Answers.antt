@@ -1,0 +1,18 @@
+use Rattle.std.proofs.Common.{arith, subst}
+use Rattle.oim_convert.specs.Shifts.{IsShift, IsStarted}
+use Rattle.oim_convert.proofs.Zips.{all-first, all-more}
+use Rattle.oim_convert.proofs.crew.join_each.Goals as goal
+
+pub loop-handle-preserved : goal.loop-handle-preserved
+loop-handle-preserved g c =
+    let gives = g.S.Serve.gives in let server = c.args.server.now in let now = c.args.claims.now in let old = c.loop-handle.invariant in
+    let step = c.in-Some.ensures.steps in
+    let next = all-first (IsStarted server now) _ _ _ step.0 old.left in
+    let pushed = c.push_reserved.ensures in
+    let kept = subst (λ z. IsShift (gives z) c.in-Some.handle.promise.claims.value c.join.result) next.0.0 c.join.ensures in
+    record {
+      left = next.1;
+      done = all-more (IsShift (gives server) now) _ _ _ pushed.items old.done (subst (λ z. IsShift (gives server) z c.join.result) next.0.1 kept);
+      count = omega (arith, step.1, pushed.len, old.count);
+      room = omega (arith, pushed.capacity, old.room);
+    }

@@ -1,0 +1,123 @@
+//! One worker: it draws items until none are left, and serves each.
+
+ghost use Rattle.std.specs.Prelude.{◌≡◌, ◌≤◌, ℕ, [], true, length, IfOk, IfErr, vec_capacity};
+ghost use Rattle.oim_convert.specs.Claims.{fresh};
+ghost use Rattle.oim_convert.specs.Shifts.{CanServeAll, IsShift, IsStation};
+
+use crate::claims::Claims;
+use crate::seat::Seat;
+use std::snapshot::Snapshot;
+use std::sync::atomic::{AtomicBool, Ordering};
+use std::thread::{Promise, PromisedHandle, Scope};
+
+/// What is done with the items that workers draw.
+pub(crate) trait Serve<V, O> {
+    /// What holds of the item under a number before it is served.
+    ghost can_serve: { Self → ℕ → V → Type 0 };
+
+    /// What is given for the item under a number.
+    ghost gives: { Self → ℕ → V → O → Type 0 };
+
+    /// Serves the item under this number.
+    fn serve(&self, number: usize, item: V) -> O
+        requires { can_serve self.now number item }
+        ensures { gives self.now number item result };
+}
+
+/// What a worker begins with: a seat that has drawn nothing, and room for what it gives.
+#[derive(Drop)]
+pub(crate) struct Station<V, O> {
+    pub(crate) seat: Seat<V>,
+    pub(crate) done: Vec<O>,
+}
+
+/// What a worker hands back.
+#[derive(Drop)]
+pub(crate) struct Shift<V, O> {
+    pub(crate) seat: Seat<V>,
+    pub(crate) done: Vec<O>,
+    /// Whether the worker was stopped before it drew.
+    pub(crate) stopped: bool,
+}
+
+/// The promise of a worker: a shift of these claims, served so.
+#[derive(Drop)]
+pub(crate) struct ShiftOf<V, S> {
+    pub(crate) claims: Snapshot<Claims<V>>,
+    pub(crate) server: Snapshot<S>,
+}
+
+impl<V, O, S: Serve<V, O>> Promise<Shift<V, O>> for ShiftOf<V, S> {
+    ghost use Rattle.oim_convert.specs.Shifts.{IsShift};
+
+    ghost kept_by = { λ p shift. IsShift (S.gives p.server.value) p.claims.value shift };
+}
+
+/// Draws until no item is left, and serves each that it has drawn.
+fn work<V, O, S: Serve<V, O>>(
+    server: &S,
+    claims: &Claims<V>,
+    station: Station<V, O>,
+) -> Shift<V, O>
+    requires items { CanServeAll (S.can_serve server.now) claims.now.items }
+    requires station { IsStation claims.now station }
+    ensures { IsShift (S.gives server.now) claims.now result }
+{
+    let Station { mut seat, mut done } = station;
+    while let Some((number, item)) = claims.draw(&mut seat) {
+        done.push_reserved(server.serve(number, item));
+    }
+    Shift {
+        seat,
+        done,
+        stopped: false,
+    }
+}
+
+/// The same, or nothing where the worker was stopped before.
+fn work_unless<V, O, S: Serve<V, O>>(
+    server: &S,
+    claims: &Claims<V>,
+    station: Station<V, O>,
+    stop: &AtomicBool,
+) -> Shift<V, O>
+    requires items { CanServeAll (S.can_serve server.now) claims.now.items }
+    requires station { IsStation claims.now station }
+    ensures { IsShift (S.gives server.now) claims.now result }
+{
+    if stop.load(Ordering::SeqCst) {
+        let Station { seat, done } = station;
+        return Shift {
+            seat,
+            done,
+            stopped: true,
+        };
+    }
+    work(server, claims, station)
+}
+
+/// Starts a worker. Where no thread can be made for it, its flag is set and its seat comes back.
+pub(crate) fn start<'s, E, V: Drop + Send + 's, O: Drop + Send + 's, S: Serve<V, O> + Drop + Sync + 's>(
+    scope: &Scope<'s, E>,
+    server: &'s S,
+    claims: &'s Claims<V>,
+    station: Station<V, O>,
+    stop: &'s AtomicBool,
+) -> Result<PromisedHandle<Shift<V, O>, ShiftOf<V, S>>, Shift<V, O>>
+    requires items { CanServeAll (S.can_serve server.now) claims.now.items }
+    requires station { IsStation claims.now station }
+    ensures started { IfOk result (λ h. (h.promise.server.value ≡ server.now) × (h.promise.claims.value ≡ claims.now)) }
+    ensures refused { IfErr result (λ shift. IsShift (S.gives server.now) claims.now shift) }
+{
+    let promise = ShiftOf {
+        claims: Snapshot::of(claims),
+        server: Snapshot::of(server),
+    };
+    match scope.spawn_with(promise, move || work_unless(server, claims, station, stop)) {
+        Ok(handle) => Ok(handle),
+        Err(refused) => {
+            stop.store(true, Ordering::SeqCst);
+            Err((refused.value)())
+        }
+    }
+}
