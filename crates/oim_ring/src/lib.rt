@@ -1,0 +1,24 @@
+//! One bounded ring for each table: a feed that a worker fills with blocks of facts, and a drain
+//! that the merge takes from. Feed and drain may stand in two threads.
+//!
+//! What the crate promises:
+//! - `lane` gives the two empty ends of one new ring; it alone takes memory;
+//! - `put` and `close` that succeed have sent their item; while fewer items than the size were sent
+//!   neither finds the ring full, and where it is full they give all back unchanged;
+//! - what a feed sent holds an ending at most as its last item;
+//! - `take` that gives an item has taken it, and None has changed nothing;
+//! - `settle` shows that what was taken is what was sent, each item once and in order.
+//!
+//! None of these calls waits, and no lock stands round a ring. That a ring holds no more items than
+//! its size, and that `take` finds what was put, is shown by tests alone.
+#![tactic(auto)]
+
+mod drain;
+mod feed;
+mod item;
+mod opening;
+
+pub use drain::{Drain, Drained};
+pub use feed::{CloseFault, Closed, Feed};
+pub use item::{Ending, Item};
+pub use opening::lane;
