@@ -3,3 +3,4 @@ pub mod Sums
 pub mod Keeps
 pub mod Shares
 pub mod Popped
+pub mod Zips

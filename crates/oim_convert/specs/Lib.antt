@@ -6,3 +6,6 @@ pub mod Serial
 pub mod Numbers
 pub mod Claims
 pub mod Views
+pub mod Histories
+pub mod Sending
+pub mod Shifts

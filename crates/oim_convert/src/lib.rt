@@ -16,12 +16,17 @@
 #![tactic(auto)]
 
 mod claims;
+mod crew;
 mod deal;
+mod decode;
 mod fault;
 mod halt;
+mod job;
 mod seat;
+mod sending;
 mod serial;
 mod view;
+mod worker;
 
 pub use claims::Claims;
 pub use fault::ConvertFault;
