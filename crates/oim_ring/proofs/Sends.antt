@@ -19,7 +19,7 @@ pub ending_send : IsSend Ending.the_row
 ending_send = search (sendable, crosses) depth 100 fits 10000
 
 pub item_send : IsSend Item.the_row
-item_send = search (sendable, crosses, block_send, ending_send) depth 120 fits 20000
+item_send = search (sendable, crosses, block_send) depth 120 fits 20000
 
 pub feed_send : IsSend Feed.the_row
 feed_send = search (sendable, crosses, item_send, producer.the_field_send) depth 20

@@ -1,4 +1,4 @@
-use Rattle.std.proofs.Common.{◌≡◌, ◌∙◌, sym, ap, false}
+use Rattle.std.proofs.Common.{◌≡◌, ◌∙◌, ap, false}
 use Rattle.oim_ring.specs.Items.{blocks_only}
 use Rattle.rtrb.specs.Ring.{received}
 use Rattle.oim_ring.proofs.Whole.{all_taken}

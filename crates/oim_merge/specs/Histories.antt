@@ -1,0 +1,45 @@
+-- The text of histories. A history is what was taken from one ring: blocks of facts, and then an ending.
+-- xBRL-CSV 1.0 (a report is the facts of its tables), xBRL-JSON 1.0 (the document).
+use Rattle.std.specs.Prelude.{ℕ, List, [], ◌∷◌, ◌++◌, Option, Some, None}
+use Rattle.oim_json.specs.Document.{facts_text, tail_text}
+use Rattle.oim_resolve.specs.declared.fact.Fact.{Fact}
+use Rattle.oim_ring.specs.declared.item.Ending.TheVariants.{Closed, Refused}
+use Rattle.oim_ring.specs.declared.item.Item.{Item}
+use Rattle.oim_ring.specs.declared.item.Item.TheVariants.{Block, Ending}
+use Rattle.oim_rows.specs.declared.fault.TableFault.{TableFault}
+
+-- the items of all histories, in order
+abbrev pub all_of : List (List Item) → List Item
+all_of [] = []
+all_of (h ∷ hs) = h ++ all_of hs
+
+-- the fault of the first refusal
+abbrev pub refusal : List Item → Option TableFault
+refusal [] = None
+refusal (Block facts ∷ items) = refusal items
+refusal (Ending Closed ∷ items) = refusal items
+refusal (Ending (Refused fault) ∷ items) = Some fault
+
+-- the facts of the blocks before the first refusal
+abbrev pub facts_before : List Item → List Fact
+facts_before [] = []
+facts_before (Block facts ∷ items) = facts ++ facts_before items
+facts_before (Ending Closed ∷ items) = facts_before items
+facts_before (Ending (Refused fault) ∷ items) = []
+
+-- the tail stands exactly where nothing is refused
+abbrev pub tail_for : Option TableFault → List ℕ
+tail_for None = tail_text
+tail_for (Some fault) = []
+
+-- a document up to the end of these facts
+abbrev pub text_after : List ℕ → List Fact → List ℕ
+text_after head facts = head ++ facts_text facts
+
+-- a document up to the end of these items
+abbrev pub unfinished : List ℕ → List Item → List ℕ
+unfinished head items = text_after head (facts_before items)
+
+-- the head, the facts before the first refusal, and the tail exactly where all endings are Closed
+abbrev pub document : List ℕ → List (List Item) → List ℕ
+document head hs = unfinished head (all_of hs) ++ tail_for (refusal (all_of hs))

@@ -1,0 +1,19 @@
+//! The writer that merges the rings of all tables, in table order.
+//!
+//! What the crate promises of `merge`:
+//! - it takes each drain, in order, to its ending and no further;
+//! - what it wrote is the text of the lists taken (`specs/Histories.antt`): the head, the facts of
+//!   the blocks before the first refusal, and the tail exactly where no table is refused;
+//! - it answers Complete only where every ending is Closed, and Refused only with the fault of the
+//!   first ending that is Refused;
+//! - it answers Write where a write failed or took nothing; then it wrote a beginning of that text,
+//!   and the fault is the sink's mark.
+//!
+//! It waits, and that it returns is not promised.
+#![tactic(auto)]
+
+mod merging;
+mod progress;
+
+pub use merging::merge;
+pub use progress::MergeEnd;
