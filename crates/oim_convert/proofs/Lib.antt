@@ -4,3 +4,4 @@ pub mod Keeps
 pub mod Shares
 pub mod Popped
 pub mod Zips
+pub mod Sent

@@ -1,5 +1,4 @@
-use Rattle.std.proofs.Common.{arith, ap, ◌∙◌, subst, sym, length, length-append, slice_get, ◌≡◌, ◌∷◌, [], Some}
-use Rattle.std.specs.List.{AllZip}
+use Rattle.std.proofs.Common.{arith, ap, ◌∙◌, subst, length, length-append, slice_get, ◌≡◌, ◌∷◌, [], Some}
 use Rattle.oim_convert.specs.Shifts.{IsServed}
 use Rattle.oim_convert.proofs.Zips.{zip-push}
 use Rattle.oim_convert.proofs.worker.work.Goals as goal
