@@ -5,3 +5,4 @@ pub mod Shares
 pub mod Popped
 pub mod Zips
 pub mod Sent
+pub mod Crews

@@ -75,6 +75,8 @@ AreDecoded i (s ∷ ss) [] = ⊥
 AreDecoded i (s ∷ ss) (h ∷ hs) = IsDecoded i s h × AreDecoded (i + 1) ss hs
 
 -- no table was decoded, the first of which stands at place i
-abbrev pub AreUnserved : ℕ → List (List Item) → Type 0
-AreUnserved i [] = ⊤
-AreUnserved i (h ∷ hs) = IsUnserved i h × AreUnserved (i + 1) hs
+abbrev pub AreUnserved : ℕ → List Stream → List (List Item) → Type 0
+AreUnserved i [] [] = ⊤
+AreUnserved i [] (h ∷ hs) = ⊥
+AreUnserved i (s ∷ ss) [] = ⊥
+AreUnserved i (s ∷ ss) (h ∷ hs) = IsUnserved i h × AreUnserved (i + 1) ss hs

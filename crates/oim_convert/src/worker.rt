@@ -54,7 +54,7 @@ impl<V, O, S: Serve<V, O>> Promise<Shift<V, O>> for ShiftOf<V, S> {
 }
 
 /// Draws until no item is left, and serves each that it has drawn.
-fn work<V, O, S: Serve<V, O>>(
+pub(crate) fn work<V, O, S: Serve<V, O>>(
     server: &S,
     claims: &Claims<V>,
     station: Station<V, O>,
@@ -86,29 +86,41 @@ fn work_unless<V, O, S: Serve<V, O>>(
     ensures { IsShift (S.gives server.now) claims.now result }
 {
     if stop.load(Ordering::SeqCst) {
-        let Station { seat, done } = station;
-        return Shift {
-            seat,
-            done,
-            stopped: true,
-        };
+        return idle(station);
     }
     work(server, claims, station)
 }
 
-/// Starts a worker. Where no thread can be made for it, its flag is set and its seat comes back.
+/// The shift of a worker that was not started.
+fn idle<V, O>(station: Station<V, O>) -> Shift<V, O>
+    ensures { (result.seat ≡ station.seat) × (result.done ≡ station.done) × (result.stopped ≡ true) }
+{
+    let Station { seat, done } = station;
+    Shift {
+        seat,
+        done,
+        stopped: true,
+    }
+}
+
+/// Starts a worker, where it may be started. Where no thread can be made for it, its flag is set and
+/// its seat comes back.
 pub(crate) fn start<'s, E, V: Drop + Send + 's, O: Drop + Send + 's, S: Serve<V, O> + Drop + Sync + 's>(
     scope: &Scope<'s, E>,
     server: &'s S,
     claims: &'s Claims<V>,
     station: Station<V, O>,
     stop: &'s AtomicBool,
+    may_start: bool,
 ) -> Result<PromisedHandle<Shift<V, O>, ShiftOf<V, S>>, Shift<V, O>>
     requires items { CanServeAll (S.can_serve server.now) claims.now.items }
     requires station { IsStation claims.now station }
     ensures started { IfOk result (λ h. (h.promise.server.value ≡ server.now) × (h.promise.claims.value ≡ claims.now)) }
     ensures refused { IfErr result (λ shift. IsShift (S.gives server.now) claims.now shift) }
 {
+    if !may_start {
+        return Err(idle(station));
+    }
     let promise = ShiftOf {
         claims: Snapshot::of(claims),
         server: Snapshot::of(server),

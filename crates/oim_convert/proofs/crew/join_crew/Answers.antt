@@ -1,11 +1,11 @@
-use Rattle.std.proofs.Common.{arith, subst}
+use Rattle.std.proofs.Common.{arith, cond, subst}
 use Rattle.oim_convert.specs.Shifts.{IsShift, IsStarted}
 use Rattle.oim_convert.proofs.Zips.{all-first, all-more}
-use Rattle.oim_convert.proofs.crew.join_each.Goals as goal
+use Rattle.oim_convert.proofs.crew.join_crew.Goals as goal
 
 pub loop-handle-preserved : goal.loop-handle-preserved
 loop-handle-preserved g c =
-    let gives = g.S.Serve.gives in let server = c.args.server.now in let now = c.args.claims.now in let old = c.loop-handle.invariant in
+    let gives = g.S.Serve.gives in let server = cond c.args.used c.args.server.now c.args.spare.now in let now = c.args.claims.now in let old = c.loop-handle.invariant in
     let step = c.in-Some.ensures.steps in
     let next = all-first (IsStarted server now) _ _ _ step.0 old.left in
     let pushed = c.push_reserved.ensures in
