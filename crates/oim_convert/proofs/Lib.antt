@@ -6,3 +6,7 @@ pub mod Popped
 pub mod Zips
 pub mod Sent
 pub mod Crews
+pub mod Opened
+pub mod Settled
+pub mod Written
+pub mod Tokens

@@ -1,5 +1,5 @@
 -- The tables that workers draw, and the tokens that come back for them.
-use Rattle.std.specs.Prelude.{◌≡◌, ◌<◌, ◌≤◌, ℕ, ◌+◌, Bool, true, false, List, [], ◌∷◌, Option, Some, length, slice_get, IfSome}
+use Rattle.std.specs.Prelude.{◌≡◌, ◌<◌, ◌≤◌, ℕ, suc, Bool, true, false, List, [], ◌∷◌, Option, Some, length, slice_get, IfSome}
 use Rattle.oim_meta.specs.ReportValue.{ReportValue}
 use Rattle.oim_ring.specs.Ends.{ClosedView, DrainView}
 use Rattle.oim_ring.specs.Items.{blocks_only}
@@ -9,11 +9,12 @@ use Rattle.oim_convert.specs.Files.{IsFileOf}
 use Rattle.oim_convert.specs.Histories.{IsDecoded, IsUnserved}
 use Rattle.oim_convert.specs.declared.job.Job.{Job}
 use Rattle.oim_convert.specs.declared.job.Token.{Token}
+use Rattle.oim_convert.specs.declared.serving.Serving.{Serving}
 
 -- P of each element and its number, counted from n
 abbrev pub Each : {X : Type 0} → (ℕ → X → Type 0) → ℕ → List X → Type 0
 Each P n [] = Unit {0}
-Each P n (x ∷ xs) = P n x × Each P (n + 1) xs
+Each P n (x ∷ xs) = P n x × Each P (suc n) xs
 
 module _ {R : Type 0} where
   -- the history of a table that was served, where its reader tells its bytes, and of one that was not
@@ -71,3 +72,11 @@ module _ {R : Type 0} where
     pub job : Job R
     pub planned : slice_get plan table ≡ Some job
     pub kept : IsKept told report limit served table job.reader history
+
+  -- what a server gives for a table of a report
+  abbrev pub gives_of : (R → Option (List ℕ)) → Serving → ReportValue → ℕ → Job R → Token → Type 0
+  gives_of told server report = Gives told report server.limits.rows server.threaded
+
+-- a server with this limit of rows, for workers that have threads or not
+abbrev pub Serves : ℕ → Bool → Serving → Type 0
+Serves limit threaded server = (server.limits.rows ≡ limit) × (server.threaded ≡ threaded)

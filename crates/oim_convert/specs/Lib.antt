@@ -9,3 +9,5 @@ pub mod Views
 pub mod Histories
 pub mod Sending
 pub mod Shifts
+pub mod Jobs
+pub mod Runs

@@ -32,15 +32,15 @@ module _ {V O : Type 0} where
     pub whole : MatchBool shift.stopped (IsIdle claims shift.seat shift.done.items (vec_capacity shift.done)) (shift.seat.finished ≡ true)
 
   -- a thread that has promised a shift of these claims and this server
-  abbrev pub IsStarted : {S : Type 0} → S → Claiming V → PromisedHandle (Shift V O) (ShiftOf V S) → Type 0
-  IsStarted server claims handle = (handle.promise.server.value ≡ server) × (handle.promise.claims.value ≡ claims)
+  abbrev pub IsStarted : {S T C : Type 0} → S → C → Claiming V → PromisedHandle (Shift V O) (ShiftOf V S T C) → Type 0
+  IsStarted server shared claims handle = (handle.promise.server.value ≡ server) × (handle.promise.shared.value ≡ shared) × (handle.promise.claims.value ≡ claims)
 
   -- the workers that were started have promised shifts of this server, and the others have handed theirs back
-  abbrev pub IsUnderWay : {S : Type 0} → (S → ℕ → V → O → Type 0) → S → Claiming V → List (PromisedHandle (Shift V O) (ShiftOf V S)) → List (Shift V O) → Type 0
-  IsUnderWay gives server claims started shifts = All (IsStarted server claims) started × All (IsShift (gives server) claims) shifts
+  abbrev pub IsUnderWay : {S T C : Type 0} → (S → C → ℕ → V → O → Type 0) → S → C → Claiming V → List (PromisedHandle (Shift V O) (ShiftOf V S T C)) → List (Shift V O) → Type 0
+  IsUnderWay gives server shared claims started shifts = All (IsStarted server shared claims) started × All (IsShift (gives server shared) claims) shifts
 
   -- all that the workers need is there, and none was started
-  pub record IsCrew {S : Type 0} (crew : Crew V O S) : Type 0 where
+  pub record IsCrew {S T C : Type 0} (crew : Crew V O S T C) : Type 0 where
     pub stations : All (IsStation crew.claims) crew.stations.items
     pub stops : length crew.stops.items ≡ vec_len crew.stations
     pub empty : (crew.room.started.items ≡ []) × (crew.room.shifts.items ≡ [])

@@ -15,33 +15,35 @@ use std::thread::{PromisedHandle, Scope, Threads};
 /// Room for the workers of a crew, made before any starts: those that were started, and the shifts
 /// of those that were not.
 #[derive(Drop)]
-pub(crate) struct Room<V, O, S: Serve<V, O>> {
-    pub(crate) started: Vec<PromisedHandle<Shift<V, O>, ShiftOf<V, S>>>,
+pub(crate) struct Room<V, O, S: Serve<V, O, T, C>, T, C> {
+    pub(crate) started: Vec<PromisedHandle<Shift<V, O>, ShiftOf<V, S, T, C>>>,
     pub(crate) shifts: Vec<Shift<V, O>>,
 }
 
 /// Starts a worker at each of the first stations, as far as threads can be made.
-fn start_each<'s, E, V: Drop + Send + 's, O: Drop + Send + 's, S: Serve<V, O> + Drop + Sync + 's>(
+fn start_each<'s, E, V: Drop + Send + 's, O: Drop + Send + 's, S: Serve<V, O, T, C> + Drop + Sync + 's, T: Sync + 's, C: Sync + 's>(
     scope: &Scope<'s, E>,
+    rt: &'s T,
+    shared: &'s C,
     server: &'s S,
     claims: &'s Claims<V>,
     stations: Vec<Station<V, O>>,
     stops: &'s [AtomicBool],
     starts: usize,
-    room: &mut Room<V, O, S>,
+    room: &mut Room<V, O, S, T, C>,
 )
-    requires items { CanServeAll (S.can_serve server.now) claims.now.items }
+    requires items { CanServeAll (S.can_serve server.now shared.now) claims.now.items }
     requires stations { All (IsStation claims.now) stations.items }
     requires stops { length stops.now ≡ vec_len stations }
     requires empty { (room.old.started.items ≡ []) × (room.old.shifts.items ≡ []) }
     requires room { (vec_len stations ≤ vec_capacity room.old.started) × (vec_len stations ≤ vec_capacity room.old.shifts) }
-    ensures under_way { IsUnderWay S.gives server.now claims.now room.new.started.items room.new.shifts.items }
+    ensures under_way { IsUnderWay S.gives server.now shared.now claims.now room.new.started.items room.new.shifts.items }
     ensures count { vec_len room.new.started + vec_len room.new.shifts ≡ vec_len stations }
     ensures room { vec_len stations ≤ vec_capacity room.new.shifts }
 {
     let mut place = 0;
     for station in stations {
-        match start(scope, server, claims, station, &stops[place], place < starts) {
+        match start(scope, rt, shared, server, claims, station, &stops[place], place < starts) {
             Ok(handle) => room.started.push_reserved(handle),
             Err(shift) => room.shifts.push_reserved(shift),
         }
@@ -58,15 +60,17 @@ fn all_idle<V, O>(shifts: &[Shift<V, O>]) -> bool
 
 /// Where no worker could be started, draws all items here and serves each with the spare server.
 /// Gives whether the server is in use, not the spare one.
-fn spare_unless_started<V: Drop, O: Drop, S: Serve<V, O> + Drop>(
+fn spare_unless_started<V: Drop, O: Drop, S: Serve<V, O, T, C> + Drop, T, C>(
+    rt: &T,
+    shared: &C,
     server: &S,
     spare: &S,
     claims: &Claims<V>,
-    room: &mut Room<V, O, S>,
+    room: &mut Room<V, O, S, T, C>,
 ) -> bool
-    requires items { CanServeAll (S.can_serve spare.now) claims.now.items }
-    requires under_way { IsUnderWay S.gives server.now claims.now room.old.started.items room.old.shifts.items }
-    ensures under_way { IsUnderWay S.gives (cond result server.now spare.now) claims.now room.new.started.items room.new.shifts.items }
+    requires items { CanServeAll (S.can_serve spare.now shared.now) claims.now.items }
+    requires under_way { IsUnderWay S.gives server.now shared.now claims.now room.old.started.items room.old.shifts.items }
+    ensures under_way { IsUnderWay S.gives (cond result server.now spare.now) shared.now claims.now room.new.started.items room.new.shifts.items }
     ensures count { (vec_len room.new.started ≡ vec_len room.old.started) × (vec_len room.new.shifts ≡ vec_len room.old.shifts) }
     ensures room { vec_capacity room.new.shifts ≡ vec_capacity room.old.shifts }
 {
@@ -82,50 +86,54 @@ fn spare_unless_started<V: Drop, O: Drop, S: Serve<V, O> + Drop>(
         done,
         stopped: _,
     } = shift;
-    let served = work(spare, claims, Station { seat, done });
+    let served = work(rt, shared, spare, claims, Station { seat, done });
     room.shifts.push_reserved(served);
     false
 }
 
 /// Starts workers at the first stations, and where none could be started serves all items with the
 /// spare server here. Gives whether the server is in use, not the spare one.
-pub(crate) fn start_crew<'s, E, V: Drop + Send + 's, O: Drop + Send + 's, S: Serve<V, O> + Drop + Sync + 's>(
+pub(crate) fn start_crew<'s, E, V: Drop + Send + 's, O: Drop + Send + 's, S: Serve<V, O, T, C> + Drop + Sync + 's, T: Sync + 's, C: Sync + 's>(
     scope: &Scope<'s, E>,
+    rt: &'s T,
+    shared: &'s C,
     server: &'s S,
     spare: &S,
     claims: &'s Claims<V>,
     stations: Vec<Station<V, O>>,
     stops: &'s [AtomicBool],
     starts: usize,
-    room: &mut Room<V, O, S>,
+    room: &mut Room<V, O, S, T, C>,
 ) -> bool
-    requires items { CanServeAll (S.can_serve server.now) claims.now.items × CanServeAll (S.can_serve spare.now) claims.now.items }
+    requires items { CanServeAll (S.can_serve server.now shared.now) claims.now.items × CanServeAll (S.can_serve spare.now shared.now) claims.now.items }
     requires stations { All (IsStation claims.now) stations.items }
     requires stops { length stops.now ≡ vec_len stations }
     requires empty { (room.old.started.items ≡ []) × (room.old.shifts.items ≡ []) }
     requires room { (vec_len stations ≤ vec_capacity room.old.started) × (vec_len stations ≤ vec_capacity room.old.shifts) }
-    ensures under_way { IsUnderWay S.gives (cond result server.now spare.now) claims.now room.new.started.items room.new.shifts.items }
+    ensures under_way { IsUnderWay S.gives (cond result server.now spare.now) shared.now claims.now room.new.started.items room.new.shifts.items }
     ensures count { vec_len room.new.started + vec_len room.new.shifts ≡ vec_len stations }
     ensures room { vec_len stations ≤ vec_capacity room.new.shifts }
 {
-    start_each(scope, server, claims, stations, stops, starts, room);
-    spare_unless_started(server, spare, claims, room)
+    start_each(scope, rt, shared, server, claims, stations, stops, starts, room);
+    spare_unless_started(rt, shared, server, spare, claims, room)
 }
 
 /// Joins the workers that were started. Gives the shifts of all.
-pub(crate) fn join_crew<V: Drop, O: Drop, S: Serve<V, O> + Drop, T: Threads>(
+pub(crate) fn join_crew<V: Drop, O: Drop, S: Serve<V, O, T, C> + Drop, T: Threads, C>(
     rt: &T,
+    shared: &C,
     server: &S,
     spare: &S,
     used: bool,
     claims: &Claims<V>,
-    room: Room<V, O, S>,
+    room: Room<V, O, S, T, C>,
 ) -> Vec<Shift<V, O>>
-    requires under_way { IsUnderWay S.gives (cond used server.now spare.now) claims.now room.started.items room.shifts.items }
+    requires under_way { IsUnderWay S.gives (cond used server.now spare.now) shared.now claims.now room.started.items room.shifts.items }
     requires room { vec_len room.started + vec_len room.shifts ≤ vec_capacity room.shifts }
-    ensures shifts { All (IsShift (S.gives (cond used server.now spare.now)) claims.now) result.items }
+    ensures shifts { All (IsShift (S.gives (cond used server.now spare.now) shared.now) claims.now) result.items }
     ensures count { vec_len result ≡ vec_len room.started + vec_len room.shifts }
 {
+    let _ = shared;
     let _ = server;
     let _ = spare;
     let _ = used;
@@ -142,11 +150,11 @@ pub(crate) fn join_crew<V: Drop, O: Drop, S: Serve<V, O> + Drop, T: Threads>(
 
 /// What a crew needs, made before any of its workers starts.
 #[derive(Drop)]
-pub(crate) struct Crew<V, O, S: Serve<V, O>> {
+pub(crate) struct Crew<V, O, S: Serve<V, O, T, C>, T, C> {
     pub(crate) claims: Claims<V>,
     pub(crate) stations: Vec<Station<V, O>>,
     pub(crate) stops: Vec<AtomicBool>,
-    pub(crate) room: Room<V, O, S>,
+    pub(crate) room: Room<V, O, S, T, C>,
 }
 
 /// A flag for each worker.
@@ -181,11 +189,11 @@ fn stations_of<V: Drop, O: Drop>(
 }
 
 /// Claims of the items, and all that this many workers need for them.
-pub(crate) fn crew_of<V: Drop, O: Drop, S: Serve<V, O> + Drop>(
+pub(crate) fn crew_of<V: Drop, O: Drop, S: Serve<V, O, T, C> + Drop, T, C>(
     alloc: Global,
     items: Vec<V>,
     workers: usize,
-) -> Result<Crew<V, O, S>, AllocError>
+) -> Result<Crew<V, O, S, T, C>, AllocError>
     requires workers { 0 < workers }
     requires room { vec_len items + workers < 2 ^ 64 }
     ensures claims { IfOk result (λ crew. crew.claims.items ≡ items.items) }

@@ -5,7 +5,7 @@ use Rattle.oim_convert.proofs.worker.work.Goals as goal
 
 pub loop-number-preserved : goal.loop-number-preserved
 loop-number-preserved g c =
-    let gives = g.S.Serve.gives c.args.server.now in let now = c.args.claims.now in let old = c.loop-number.invariant in
+    let gives = g.S.Serve.gives c.args.server.now c.args.shared.now in let now = c.args.claims.now in let old = c.loop-number.invariant in
     let drawn = c.in-Some.ensures in
     let after = drawn.3 in
     let pushed = c.push_reserved.ensures in

@@ -6,7 +6,7 @@ use Rattle.oim_convert.proofs.worker.work.Given as goal
 abbrev pub invariant-loop-number : goal.invariant-loop-number
 invariant-loop-number g l = record {
   mine : l.seat.claims ≡ l.claims;
-  served : AllZip (IsServed (g.S.Serve.gives l.server) l.claims.items) l.seat.numbers l.done.items;
+  served : AllZip (IsServed (g.S.Serve.gives l.server l.shared) l.claims.items) l.seat.numbers l.done.items;
   count : length l.done.items ≡ length l.seat.numbers;
   room : length l.claims.items ≤ vec_capacity l.done;
 }
