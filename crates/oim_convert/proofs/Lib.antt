@@ -10,3 +10,4 @@ pub mod Opened
 pub mod Settled
 pub mod Written
 pub mod Tokens
+pub mod Sends

@@ -11,3 +11,4 @@ pub mod Sending
 pub mod Shifts
 pub mod Jobs
 pub mod Runs
+pub mod Preparing
