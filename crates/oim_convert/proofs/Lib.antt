@@ -11,3 +11,4 @@ pub mod Settled
 pub mod Written
 pub mod Tokens
 pub mod Sends
+pub mod Whole

@@ -10,13 +10,10 @@ use Rattle.oim_ring.specs.Items.{blocks_only, EndsOnce}
 use Rattle.oim_ring.specs.declared.item.Ending.{Ending}
 use Rattle.oim_ring.specs.declared.item.Item.{Item}
 use Rattle.oim_ring.specs.declared.item.Item.TheVariants as items
-use Rattle.oim_convert.specs.Claims.{Claiming}
-use Rattle.oim_convert.specs.Jobs.{CanServe, Each, Fulfills, Gives, IsEnded, IsKept, IsLane, IsOpened, Serves, gives_of}
-use Rattle.oim_convert.specs.Shifts.{CanServeAll, IsServed, IsShift}
+use Rattle.oim_convert.specs.Jobs.{CanServe, Each, Fulfills, Gives, IsEnded, IsKept, IsLane, IsOpened}
+use Rattle.oim_convert.specs.Shifts.{CanServeAll, IsServed}
 use Rattle.oim_convert.specs.declared.job.Job.{Job}
 use Rattle.oim_convert.specs.declared.job.Token.{Token}
-use Rattle.oim_convert.specs.declared.serving.Serving.{Serving}
-use Rattle.oim_convert.specs.declared.worker.Shift.{Shift}
 
 module _ {R : Type 0} (told : R → Option (List ℕ)) (report : ReportValue) (limit : ℕ) (served : Bool) (plan : List (Job R)) where
   token_fulfills : (number : ℕ) (token : Token) → IsServed (Gives told report limit served) plan number token → Fulfills told report limit served plan token
@@ -66,12 +63,3 @@ opened_at n (suc k) (j ∷ js) job each at = let rest = opened_at (suc n) k js j
 pub opened_serve : {R : Type 0} (report : ReportValue) (limit : ℕ) (jobs : List (Job R)) → Each IsOpened 0 jobs → length jobs ≡ length report.tables → limit ≤ 4294967294 → CanServeAll (CanServe report limit) jobs
 opened_serve report limit jobs each count rows number job at =
     let is = opened_at 0 number jobs job each at in (is.0 ∙ omega arith, omega (arith, is.1, count), rows, is.2)
-
--- SERVERS
-
-pub server_gives : {R : Type 0} (told : R → Option (List ℕ)) (report : ReportValue) (limit : ℕ) (used : Bool) (a b : Serving) (claims : Claiming (Job R)) (shifts : List (Shift (Job R) Token))
-    → Serves limit true a → Serves limit false b → All (IsShift (gives_of told (cond used a b) report) claims) shifts → All (IsShift (Gives told report limit used) claims) shifts
-server_gives {R} told report limit true a b claims shifts s t all =
-    subst (λ (x : ℕ). All (IsShift (Gives {R = R} told report x true) claims) shifts) s.0 (subst (λ (x : Bool). All (IsShift (Gives {R = R} told report a.limits.rows x) claims) shifts) s.1 all)
-server_gives {R} told report limit false a b claims shifts s t all =
-    subst (λ (x : ℕ). All (IsShift (Gives {R = R} told report x false) claims) shifts) t.0 (subst (λ (x : Bool). All (IsShift (Gives {R = R} told report b.limits.rows x) claims) shifts) t.1 all)

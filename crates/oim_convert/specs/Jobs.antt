@@ -76,7 +76,3 @@ module _ {R : Type 0} where
   -- what a server gives for a table of a report
   abbrev pub gives_of : (R → Option (List ℕ)) → Serving → ReportValue → ℕ → Job R → Token → Type 0
   gives_of told server report = Gives told report server.limits.rows server.threaded
-
--- a server with this limit of rows, for workers that have threads or not
-abbrev pub Serves : ℕ → Bool → Serving → Type 0
-Serves limit threaded server = (server.limits.rows ≡ limit) × (server.threaded ≡ threaded)
