@@ -6,3 +6,9 @@ pub mod Serial
 pub mod Numbers
 pub mod Claims
 pub mod Views
+pub mod Histories
+pub mod Sending
+pub mod Shifts
+pub mod Jobs
+pub mod Runs
+pub mod Preparing

@@ -16,14 +16,27 @@
 #![tactic(auto)]
 
 mod claims;
+mod crew;
 mod deal;
+mod decode;
 mod fault;
 mod halt;
+mod job;
+mod lanes;
+mod run;
 mod seat;
+mod sending;
 mod serial;
+mod serving;
+mod settling;
+mod threaded;
 mod view;
+mod worker;
+mod working;
 
 pub use claims::Claims;
 pub use fault::ConvertFault;
+pub use run::Run;
 pub use seat::Seat;
 pub use serial::convert_serial;
+pub use threaded::{convert, convert_with_starts};

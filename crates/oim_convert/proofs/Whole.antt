@@ -1,0 +1,220 @@
+-- What the histories of all tables come to.
+use Rattle.std.specs.Prelude.{◌≡◌, ◌⊎◌, ◌<◌, ℕ, ◌+◌, zero, suc, Bool, true, false, List, [], ◌∷◌, ◌++◌, Option, Some, None, Result, Ok, Err, IfOk, length, map, replicate, slice_get}
+use Rattle.std.proofs.Common.{arith, refl, sym, ap, ◌∙◌, subst, append_assoc, append-nil, inl, inr}
+use Rattle.std.specs.Io.KnownBytes.{Appends}
+use Rattle.std.specs.Option.{option_or}
+use Rattle.oim_json.specs.JsonText.{head_text}
+use Rattle.oim_json.specs.Sinks.{AppendsPrefix}
+use Rattle.oim_json.specs.declared.mark.Mark.{Mark}
+use Rattle.oim_merge.specs.Histories as merged
+use Rattle.oim_merge.specs.Histories.{all_of, document, facts_before}
+use Rattle.oim_merge.specs.Merging.{Merges, rings_of}
+use Rattle.oim_merge.specs.declared.progress.MergeEnd.{MergeEnd}
+use Rattle.oim_merge.specs.declared.progress.MergeEnd.TheVariants as end
+use Rattle.oim_meta.specs.ReportValue.{ReportValue}
+use Rattle.oim_resolve.specs.declared.fact.Fact.{Fact}
+use Rattle.oim_ring.specs.Ends.{ClosedView, DrainView}
+use Rattle.oim_ring.specs.Items.{blocks_only}
+use Rattle.oim_ring.specs.declared.item.Ending as Endings
+use Rattle.oim_ring.specs.declared.item.Ending.TheVariants.{Closed, Refused}
+use Rattle.oim_ring.specs.declared.item.Item.{Item}
+use Rattle.oim_ring.specs.declared.item.Item.TheVariants.{Block, Ending}
+use Rattle.oim_rows.specs.Header.{file_fault}
+use Rattle.oim_rows.specs.Streams.{Stream, table_stream}
+use Rattle.oim_rows.specs.declared.fault.TableFault.{TableFault}
+use Rattle.oim_rows.specs.declared.fault.TableKind.{TableKind}
+use Rattle.oim_rows.specs.declared.fault.TableKind.TheVariants as kind
+use Rattle.oim_convert.specs.Answer.{answer_text, facts_of, facts_until, refusal, streams, streams_from, tail_for, text_after, unless_refused}
+use Rattle.oim_convert.specs.Files.{AreFilesOf, IsFileOf}
+use Rattle.oim_convert.specs.Histories.{AreDecoded, AreUnserved, IsDecoded, IsGiven, IsHistory, IsStream, IsUnserved, ending_of, facts_in}
+use Rattle.oim_convert.specs.Jobs.{Each, EachSlot, IsTable}
+use Rattle.oim_convert.specs.Preparing.{HasTables}
+use Rattle.oim_convert.specs.Runs.{AreHistories, AreStreams, AreUncut, IsAnswer, IsCut, IsOuter, Writes}
+use Rattle.oim_convert.specs.declared.fault.ConvertFault.{ConvertFault}
+use Rattle.oim_convert.specs.declared.job.Job.{Job}
+use Rattle.oim_convert.specs.declared.run.Run.{Run}
+
+-- ROOM
+
+none_slot : {X : Type 0} (n t : ℕ) (x : X) (slot : Option X) → slot ≡ None → slice_get (replicate n slot) t ≡ Some (Some x) → ⊥
+none_slot zero t x slot is e = cc
+none_slot (suc n) zero x slot is e = cc
+none_slot (suc n) (suc t) x slot is e = none_slot n t x slot is e
+
+pub slots_begin : {R : Type 0} (told : R → Option (List ℕ)) (report : ReportValue) (limit : ℕ) (served : Bool) (plan : List (Job R)) (n : ℕ) (slots : List (Option ClosedView)) → slots ≡ replicate n None
+    → EachSlot told report limit served plan slots
+slots_begin told report limit served plan n slots is = λ table closed e. absurd (none_slot n table closed None refl (subst (λ (l : List (Option ClosedView)). slice_get l table ≡ Some (Some closed)) is e))
+
+pub replicate_len : {X : Type 0} (n : ℕ) (x : X) → length (replicate n x) ≡ n
+replicate_len zero x = refl
+replicate_len (suc n) x = let rest = replicate_len n x in omega (arith, rest)
+
+map_len : {X Y : Type 0} (f : X → Y) (xs : List X) → length (map f xs) ≡ length xs
+map_len f [] = refl
+map_len f (x ∷ xs) = let rest = map_len f xs in omega (arith, rest)
+
+pub as_many : {X Y : Type 0} (f : X → Y) (xs : List X) (ys : List Y) → map f xs ≡ ys → length ys ≡ length xs
+as_many f xs ys e = sym (ap length e) ∙ map_len f xs
+
+pub rings_len : (new old : List DrainView) → rings_of new ≡ rings_of old → length new ≡ length old
+rings_len new old e = sym (map_len (λ (d : DrainView). d.ring) new) ∙ (ap length e ∙ map_len (λ (d : DrainView). d.ring) old)
+
+-- THE HISTORIES OF THE FILES
+
+get_mapped : {X Y : Type 0} (f : X → Y) (xs : List X) (k : ℕ) (x : X) → slice_get xs k ≡ Some x → slice_get (map f xs) k ≡ Some (f x)
+get_mapped f [] k x e = absurd (cc)
+get_mapped f (y ∷ ys) zero x e = let same : y ≡ x = cc in ap (λ z. Some (f z)) same
+get_mapped f (y ∷ ys) (suc k) x e = get_mapped f ys k x e
+
+module _ {R : Type 0} (told : R → Option (List ℕ)) (report : ReportValue) (limit : ℕ) (plan : List (Job R)) (readers : List (Option R)) (same : map (λ (job : Job R). job.reader) plan ≡ readers) where
+  -- the readers from place n on
+  abbrev AreFrom : ℕ → List (Option R) → Type 0
+  AreFrom n rs = (k : ℕ) → slice_get rs k ≡ slice_get readers (n + k)
+
+  reader_at : (n : ℕ) (r : Option R) (rs : List (Option R)) (job : Job R) → AreFrom n (r ∷ rs) → slice_get plan n ≡ Some job → job.reader ≡ r
+  reader_at n r rs job are at =
+      let planned : slice_get readers n ≡ Some job.reader = subst (λ (l : List (Option R)). slice_get l n ≡ Some job.reader) same (get_mapped (λ (j : Job R). j.reader) plan n job at) in
+      let here : Some r ≡ slice_get readers (n + 0) = are 0 in
+      let n0 : n + 0 ≡ n = omega arith in
+      let both : Some r ≡ Some job.reader = here ∙ (ap (λ m. slice_get readers m) n0 ∙ planned) in cc
+
+  from_next : (n : ℕ) (r : Option R) (rs : List (Option R)) → AreFrom n (r ∷ rs) → AreFrom (n + 1) rs
+  from_next n r rs are k = let e : n + suc k ≡ (n + 1) + k = omega arith in are (suc k) ∙ ap (λ m. slice_get readers m) e
+
+  decoded_from : (n : ℕ) (hs : List (List Item)) (rs : List (Option R)) (files : List (Option (List ℕ))) → AreFrom n rs → length hs ≡ length rs → AreFilesOf told rs files
+      → Each (IsTable told report limit true plan) n hs → AreDecoded n (streams_from report limit n files) hs
+  decoded_from n [] [] [] are len fs each = tt
+  decoded_from n [] [] (f ∷ files) are len fs each = absurd fs
+  decoded_from n [] (r ∷ rs) files are len fs each = absurd (omega (arith, len))
+  decoded_from n (h ∷ hs) [] files are len fs each = absurd (omega (arith, len))
+  decoded_from n (h ∷ hs) (r ∷ rs) [] are len fs each = absurd fs
+  decoded_from n (h ∷ hs) (r ∷ rs) (f ∷ files) are len fs each =
+      let e : suc n ≡ n + 1 = omega arith in (
+        each.0.kept f (subst (λ (x : Option R). IsFileOf told x f) (sym (reader_at n r rs each.0.job are each.0.planned)) fs.0),
+        decoded_from (n + 1) hs rs files (from_next n r rs are) (omega (arith, len)) fs.1 (subst (λ (m : ℕ). Each (IsTable told report limit true plan) m hs) e each.1),
+      )
+
+  unserved_from : (n : ℕ) (hs : List (List Item)) (rs : List (Option R)) (files : List (Option (List ℕ))) → length hs ≡ length rs → AreFilesOf told rs files
+      → Each (IsTable told report limit false plan) n hs → AreUnserved n (streams_from report limit n files) hs
+  unserved_from n [] [] [] len fs each = tt
+  unserved_from n [] [] (f ∷ files) len fs each = absurd fs
+  unserved_from n [] (r ∷ rs) files len fs each = absurd (omega (arith, len))
+  unserved_from n (h ∷ hs) [] files len fs each = absurd (omega (arith, len))
+  unserved_from n (h ∷ hs) (r ∷ rs) [] len fs each = absurd fs
+  unserved_from n (h ∷ hs) (r ∷ rs) (f ∷ files) len fs each =
+      let e : suc n ≡ n + 1 = omega arith in (
+        each.0.kept,
+        unserved_from (n + 1) hs rs files (omega (arith, len)) fs.1 (subst (λ (m : ℕ). Each (IsTable told report limit false plan) m hs) e each.1),
+      )
+
+  from_all : AreFrom 0 readers
+  from_all k = let e : k ≡ 0 + k = omega arith in ap (λ m. slice_get readers m) e
+
+  pub tables_are : (hs : List (List Item)) (files : List (Option (List ℕ))) → length hs ≡ length readers → AreFilesOf told readers files → HasTables told report limit plan hs
+      → AreHistories (streams report limit files) hs
+  tables_are hs files len fs (true, each) = inl (decoded_from 0 hs readers files from_all len fs each)
+  tables_are hs files len fs (false, each) = inr (unserved_from 0 hs readers files len fs each)
+
+-- HISTORIES THAT NOTHING CUT SHORT
+
+stream_of_whole : (s : Stream) (facts : List Fact) (ending : Endings.Ending) (h : List Item) → (facts ≡ facts_of s) × (ending ≡ ending_of s.fault) → IsHistory facts ending h → IsStream s h
+stream_of_whole s facts ending h (e, f) is = subst (λ (x : Endings.Ending). IsHistory (facts_of s) x h) f (subst (λ (fs : List Fact). IsHistory fs ending h) e is)
+
+cut_is : (facts : List Fact) (ending : Endings.Ending) (h : List Item) (table : ℕ) (k : TableKind) → IsOuter k → ending ≡ Refused (file_fault table k) → IsHistory facts ending h → IsCut h
+cut_is facts ending h table k outer e is = record { before = is.before; fault = file_fault table k; outer = outer; is = is.is ∙ ap (λ (x : Endings.Ending). is.before ++ Ending x ∷ []) e }
+
+uncut_given : (table : ℕ) (s : Stream) (facts : List Fact) (ending : Endings.Ending) (h : List Item) → IsGiven table s facts ending → IsHistory facts ending h → ¬ IsCut h → IsStream s h
+uncut_given table s facts ending h (inl whole) is uncut = stream_of_whole s facts ending h whole is
+uncut_given table s facts ending h (inr (inl unread)) is uncut = absurd (uncut (cut_is facts ending h table kind.Read (inl refl) unread.refused is))
+uncut_given table s facts ending h (inr (inr short)) is uncut = absurd (uncut (cut_is facts ending h table kind.Memory (inr (inl refl)) short.refused is))
+
+uncut_decoded : (i : ℕ) (ss : List Stream) (hs : List (List Item)) → AreDecoded i ss hs → AreUncut hs → AreStreams ss hs
+uncut_decoded i [] [] all uncut = tt
+uncut_decoded i [] (h ∷ hs) all uncut = absurd all
+uncut_decoded i (s ∷ ss) [] all uncut = absurd all
+uncut_decoded i (s ∷ ss) (h ∷ hs) all uncut = (uncut_given i s all.0.facts all.0.ending h all.0.given all.0.is uncut.0, uncut_decoded (i + 1) ss hs all.1 uncut.1)
+
+uncut_unserved : (i : ℕ) (ss : List Stream) (hs : List (List Item)) → AreUnserved i ss hs → AreUncut hs → AreStreams ss hs
+uncut_unserved i [] [] all uncut = tt
+uncut_unserved i [] (h ∷ hs) all uncut = absurd all
+uncut_unserved i (s ∷ ss) [] all uncut = absurd all
+uncut_unserved i (s ∷ ss) (h ∷ hs) all uncut = absurd (uncut.0 (record { before = []; fault = file_fault i kind.NoThread; outer = inr (inr refl); is = all.0 }))
+
+pub uncut_streams : (ss : List Stream) (hs : List (List Item)) → AreHistories ss hs → AreUncut hs → AreStreams ss hs
+uncut_streams ss hs (inl decoded) uncut = uncut_decoded 0 ss hs decoded uncut
+uncut_streams ss hs (inr unserved) uncut = uncut_unserved 0 ss hs unserved uncut
+
+-- THE DOCUMENT OF STREAMS
+
+blocks_refusal : (before more : List Item) → blocks_only before ≡ true → merged.refusal (before ++ more) ≡ merged.refusal more
+blocks_refusal [] more only = refl
+blocks_refusal (Block fs ∷ rest) more only = blocks_refusal rest more only
+blocks_refusal (Ending e ∷ rest) more only = absurd (cc)
+
+blocks_facts : (before more : List Item) → blocks_only before ≡ true → facts_before (before ++ more) ≡ facts_in before ++ facts_before more
+blocks_facts [] more only = refl
+blocks_facts (Block fs ∷ rest) more only = ap (λ l. fs ++ l) (blocks_facts rest more only) ∙ sym (append_assoc fs (facts_in rest) (facts_before more))
+blocks_facts (Ending e ∷ rest) more only = absurd (cc)
+
+end_refusal : (o : Option TableFault) (rest : List Item) → merged.refusal (Ending (ending_of o) ∷ rest) ≡ option_or o (merged.refusal rest)
+end_refusal None rest = refl
+end_refusal (Some e) rest = refl
+
+end_facts : (o : Option TableFault) (rest : List Item) → facts_before (Ending (ending_of o) ∷ rest) ≡ unless_refused o (facts_before rest)
+end_facts None rest = refl
+end_facts (Some e) rest = refl
+
+split_history : (before : List Item) (e : Endings.Ending) (h rest : List Item) → h ≡ before ++ Ending e ∷ [] → h ++ rest ≡ before ++ (Ending e ∷ rest)
+split_history before e h rest is = ap (λ l. l ++ rest) is ∙ append_assoc before (Ending e ∷ []) rest
+
+streams_refusal : (ss : List Stream) (hs : List (List Item)) → AreStreams ss hs → merged.refusal (all_of hs) ≡ refusal ss
+streams_refusal [] [] all = refl
+streams_refusal [] (h ∷ hs) all = absurd all
+streams_refusal (s ∷ ss) [] all = absurd all
+streams_refusal (s ∷ ss) (h ∷ hs) all =
+    let is = all.0 in
+    ap merged.refusal (split_history is.before (ending_of s.fault) h (all_of hs) is.is)
+    ∙ (blocks_refusal is.before (Ending (ending_of s.fault) ∷ all_of hs) is.blocks ∙ (end_refusal s.fault (all_of hs) ∙ ap (λ o. option_or s.fault o) (streams_refusal ss hs all.1)))
+
+streams_facts : (ss : List Stream) (hs : List (List Item)) → AreStreams ss hs → facts_before (all_of hs) ≡ facts_until ss
+streams_facts [] [] all = refl
+streams_facts [] (h ∷ hs) all = absurd all
+streams_facts (s ∷ ss) [] all = absurd all
+streams_facts (s ∷ ss) (h ∷ hs) all =
+    let is = all.0 in
+    ap facts_before (split_history is.before (ending_of s.fault) h (all_of hs) is.is)
+    ∙ (blocks_facts is.before (Ending (ending_of s.fault) ∷ all_of hs) is.blocks
+    ∙ (ap (λ l. l ++ facts_before (Ending (ending_of s.fault) ∷ all_of hs)) is.holds ∙ ap (λ l. facts_of s ++ l) (end_facts s.fault (all_of hs) ∙ ap (λ l. unless_refused s.fault l) (streams_facts ss hs all.1))))
+
+tails : (o : Option TableFault) → merged.tail_for o ≡ tail_for o
+tails None = refl
+tails (Some e) = refl
+
+streams_text : (report : ReportValue) (ss : List Stream) (hs : List (List Item)) → AreStreams ss hs → document (head_text report) hs ≡ answer_text report ss
+streams_text report ss hs all =
+    ap (λ fs. text_after (head_text report) fs ++ merged.tail_for (merged.refusal (all_of hs))) (streams_facts ss hs all)
+    ∙ ap (λ l. text_after (head_text report) (facts_until ss) ++ l) (tails (merged.refusal (all_of hs)) ∙ ap tail_for (streams_refusal ss hs all))
+
+pub streams_answer : (report : ReportValue) (ss : List Stream) (hs : List (List Item)) (mark mark' : Mark) (told told' : Option (List ℕ)) (e : MergeEnd) → AreStreams ss hs
+    → Merges mark mark' told told' (document (head_text report) hs) hs e → IsAnswer report ss mark mark' told told' e
+streams_answer report ss hs mark mark' told told' end.Complete all m =
+    (sym (streams_refusal ss hs all) ∙ m.0, m.1, subst (λ (t : List ℕ). Appends told told' t) (streams_text report ss hs all) m.2)
+streams_answer report ss hs mark mark' told told' (end.Refused f) all m =
+    (sym (streams_refusal ss hs all) ∙ m.0, m.1, subst (λ (t : List ℕ). Appends told told' t) (streams_text report ss hs all) m.2)
+streams_answer report ss hs mark mark' told told' (end.Write w) all m = (m.0, subst (λ (t : List ℕ). AppendsPrefix told told' t) (streams_text report ss hs all) m.1)
+
+-- A RUN
+
+module _ {R : Type 0} (told : R → Option (List ℕ)) (report : ReportValue) (limit : ℕ) (plan : List (Job R)) (readers : List (Option R)) (same : map (λ (job : Job R). job.reader) plan ≡ readers)
+    (count : length readers ≡ length report.tables) (files : List (Option (List ℕ))) (are : AreFilesOf told readers files) (mark mark' : Mark) (told_before told_after : Option (List ℕ)) where
+  pub run_histories : (r : Result Run ConvertFault) → IfOk r (λ run. HasTables told report limit plan run.drains.items) → Writes report (length report.tables) mark mark' told_before told_after r
+      → IfOk r (λ run. AreHistories (streams report limit files) run.drains.items)
+  run_histories (Ok run) has writes = tables_are told report limit plan readers same run.drains.items files (writes.0 ∙ sym count) are has
+  run_histories (Err e) has writes = tt
+
+  pub run_headline : (r : Result Run ConvertFault) → IfOk r (λ run. HasTables told report limit plan run.drains.items) → Writes report (length report.tables) mark mark' told_before told_after r
+      → IfOk r (λ run. AreUncut run.drains.items → AreStreams (streams report limit files) run.drains.items × IsAnswer report (streams report limit files) mark mark' told_before told_after run.end)
+  run_headline (Ok run) has writes = λ uncut.
+      let all = uncut_streams (streams report limit files) run.drains.items (tables_are told report limit plan readers same run.drains.items files (writes.0 ∙ sym count) are has) uncut in
+      (all, streams_answer report (streams report limit files) run.drains.items mark mark' told_before told_after run.end all writes.1)
+  run_headline (Err e) has writes = tt

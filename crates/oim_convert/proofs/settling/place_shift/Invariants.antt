@@ -1,0 +1,9 @@
+use Rattle.std.specs.Prelude.{All}
+use Rattle.std.specs.Vec.Iter.{into_iter_items}
+use Rattle.oim_convert.specs.Jobs.{EachSlot, Fulfills}
+use Rattle.oim_convert.proofs.settling.place_shift.Given as goal
+
+abbrev pub invariant-loop-token : goal.invariant-loop-token
+invariant-loop-token g l =
+    All (Fulfills g.R.Read.remaining l.report l.limits.rows l.served l.claims.items) (into_iter_items l.token-iterator)
+    × EachSlot g.R.Read.remaining l.report l.limits.rows l.served l.claims.items l.slots

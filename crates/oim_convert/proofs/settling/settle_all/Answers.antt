@@ -1,0 +1,60 @@
+use Rattle.std.specs.Prelude.{◌≡◌, ℕ, ◌<◌, ◌+◌, suc, List, [], ◌∷◌, ◌++◌, Some, None, length, vec_len, map}
+use Rattle.std.proofs.Common.{arith, ap, sym, ◌∙◌, subst, length-append, get_or}
+use Rattle.std.proofs.Math.ListN.{length-set}
+use Rattle.std.specs.Vec.Iter.{into_iter_items, into_iter_len}
+use Rattle.oim_ring.specs.declared.item.Item.{Item}
+use Rattle.oim_convert.specs.Jobs.{Each, EachSlot, IsEnded, IsKept, IsSentOf, IsTable}
+use Rattle.oim_convert.specs.declared.job.Job.{Job}
+use Rattle.oim_convert.proofs.Settled.{slot_kept, slot_read, each_first, each_more, map_one}
+use Rattle.oim_convert.proofs.settling.settle_all.Given as given
+use Rattle.oim_convert.proofs.settling.settle_all.Goals as goal
+use Rattle.oim_convert.proofs.settling.settle_all.Goals.{After-settled-in-loop-drain-1}
+
+-- the token in the slot is of the table
+token_is : (g : given.Over) (c : After-settled-in-loop-drain-1 g)
+    → IsSentOf g.R.Read.remaining c.args.report.now c.args.limits.rows c.args.served c.args.claims.now.items (length c.loop-drain.settled.items) c.in_ok-closed.closed
+token_is g c =
+    let r = c.loop-drain.invariant in
+    let at : c.len-at.result ≡ length c.loop-drain.settled.items = c.len-at.ensures ∙ c.loop-drain.settled.ok.0 in
+    let steps = c.in-Some.ensures.steps.1 in
+    let lt : c.len-at.result < length c.loop-drain.slots = omega arith in
+    let here = r.4 c.len-at.result c.in_ok-closed.closed (slot_read c.loop-drain.slots c.len-at.result c.index-slots-at.result c.in_ok-closed.closed lt (sym c.take.ensures.value ∙ c.in_ok-closed.was)) in
+    subst (λ (n : ℕ). IsSentOf g.R.Read.remaining c.args.report.now c.args.limits.rows c.args.served c.args.claims.now.items n c.in_ok-closed.closed) at here
+
+-- the drain is of the table
+drain_is : (g : given.Over) (c : After-settled-in-loop-drain-1 g)
+    → IsEnded c.args.claims.now.items (length c.loop-drain.settled.items) c.in-Some.drain × Each (IsEnded c.args.claims.now.items) (suc (length c.loop-drain.settled.items)) (into_iter_items c.next.new.self)
+drain_is g c =
+    each_first (IsEnded c.args.claims.now.items) (length c.loop-drain.settled.items) c.in-Some.drain (into_iter_items c.next.new.self) (into_iter_items c.loop-drain.drain-iterator) c.in-Some.ensures.steps.0
+      c.loop-drain.invariant.3
+
+pub settle-requires-clause-one_ring : goal.settle-requires-clause-one_ring
+settle-requires-clause-one_ring g c =
+    let s = token_is g c in let d = (drain_is g c).0 in
+    let same : s.job ≡ d.job = let e : Some s.job ≡ Some d.job = sym s.planned ∙ d.planned in cc in
+    s.ring ∙ (ap (λ (j : Job g.row.R.Denot). j.feed.ring) same ∙ sym d.ring)
+
+pub loop-drain-preserved : goal.loop-drain-preserved
+loop-drain-preserved g c =
+    let r = c.loop-drain.invariant in
+    let b : After-settled-in-loop-drain-1 g = c.before.before in
+    let s = token_is g b in let d = drain_is g b in
+    let told = g.R.Read.remaining in let report = c.args.report.now in let limit = c.args.limits.rows in let served = c.args.served in
+    let plan = c.args.claims.now.items in
+    let done = c.loop-drain.settled.items in
+    let steps = c.in-Some.ensures.steps in
+    let pushed = c.push_reserved.ensures.items in
+    let len : length c.push_reserved.new.self.items ≡ suc (length done) = omega (arith, ap length pushed, length-append done (c.settle.result ∷ [])) in
+    let kept : IsKept told report limit served (length done) s.job.reader c.settle.result =
+        subst (λ (l : List Item). IsKept told report limit served (length done) s.job.reader l) (sym c.settle.ensures.sent) s.kept in
+    let table : IsTable told report limit served plan (length done) c.settle.result = record { job = s.job; planned = s.planned; kept = kept } in
+    let zero_more : length done ≡ 0 + length done = omega arith in (
+      omega arith,
+      (let e = length-set c.loop-drain.slots c.len-at.result c.take.new.self in omega arith),
+      r.2 ∙ (map_one (λ d. d.taken) done c.in-Some.drain (into_iter_items c.next.new.self) _ c.settle.result steps.0 c.settle.ensures.taken ∙ ap (λ l. l ++ map (λ d. d.taken) (into_iter_items c.next.new.self)) (sym pushed)),
+      subst (λ (n : ℕ). Each (IsEnded plan) n (into_iter_items c.next.new.self)) (sym len) d.1,
+      (λ t closed e. r.4 t closed (slot_kept c.loop-drain.slots c.len-at.result t closed (rw (← c.take.ensures.after) e))),
+      subst (λ (l : List (List Item)). Each (IsTable told report limit served plan) 0 l) (sym pushed)
+      (each_more (IsTable told report limit served plan) 0 done c.settle.result r.5
+        (subst (λ (n : ℕ). IsTable told report limit served plan n c.settle.result) zero_more table)),
+    )

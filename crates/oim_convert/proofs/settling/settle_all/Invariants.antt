@@ -1,0 +1,14 @@
+use Rattle.std.proofs.Common.{◌≡◌, ◌+◌, ◌≤◌, ◌++◌, length, vec_len}
+use Rattle.std.specs.Prelude.{vec_capacity, map}
+use Rattle.std.specs.Vec.Iter.{into_iter_items, into_iter_len}
+use Rattle.oim_convert.specs.Jobs.{Each, EachSlot, IsEnded, IsTable}
+use Rattle.oim_convert.proofs.settling.settle_all.Given as goal
+
+abbrev pub invariant-loop-drain : goal.invariant-loop-drain
+invariant-loop-drain g l =
+    (vec_len l.settled + into_iter_len l.drain-iterator ≤ vec_capacity l.settled)
+    × (length l.slots ≡ vec_len l.settled + into_iter_len l.drain-iterator)
+    × (map (λ d. d.taken) l.fn.drains.items ≡ l.settled.items ++ map (λ d. d.taken) (into_iter_items l.drain-iterator))
+    × Each (IsEnded l.claims.items) (length l.settled.items) (into_iter_items l.drain-iterator)
+    × EachSlot g.R.Read.remaining l.report l.fn.limits.rows l.served l.claims.items l.slots
+    × Each (IsTable g.R.Read.remaining l.report l.fn.limits.rows l.served l.claims.items) 0 l.settled.items

@@ -1,0 +1,10 @@
+use denote.Param.Send.{sendable}
+use Rattle.std.proofs.Crossing.{crosses}
+use Rattle.oim_convert.proofs.Sends.{job_send, token_send}
+use Rattle.oim_convert.proofs.working.fn.work_and_merge.scope.Goals as goal
+
+pub start_crew-served-requires-send-V : goal.start_crew-served-requires-send-V
+start_crew-served-requires-send-V g c κs within = search (sendable, crosses, job_send) depth 20
+
+pub start_crew-served-requires-send-O : goal.start_crew-served-requires-send-O
+start_crew-served-requires-send-O g c κs within = search (sendable, crosses, token_send) depth 20

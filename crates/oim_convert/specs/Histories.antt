@@ -1,0 +1,82 @@
+-- The history of a table: the blocks of facts that were sent into its ring, and then one ending.
+-- xBRL-CSV 1.0: a report is the facts of its tables.
+use Rattle.std.specs.Prelude.{◌≡◌, ◌⊎◌, ⊤, ℕ, ◌+◌, true, List, [], ◌∷◌, ◌++◌, Option, Some, None}
+use mathlib.Core.List.{IsPrefix}
+use Rattle.oim_resolve.specs.declared.fact.Fact.{Fact}
+use Rattle.oim_ring.specs.Items.{blocks_only}
+use Rattle.oim_ring.specs.declared.item.Ending as Endings
+use Rattle.oim_ring.specs.declared.item.Ending.TheVariants.{Closed, Refused}
+use Rattle.oim_ring.specs.declared.item.Item.{Item}
+use Rattle.oim_ring.specs.declared.item.Item.TheVariants.{Block, Ending}
+use Rattle.oim_rows.specs.Header.{file_fault}
+use Rattle.oim_rows.specs.Streams.{Stream}
+use Rattle.oim_rows.specs.declared.fault.TableFault.{TableFault}
+use Rattle.oim_rows.specs.declared.fault.TableKind.TheVariants as kind
+use Rattle.oim_convert.specs.Answer.{facts_of, row_after_row}
+
+-- the facts of blocks, in order
+abbrev pub facts_in : List Item → List Fact
+facts_in [] = []
+facts_in (Block facts ∷ items) = facts ++ facts_in items
+facts_in (Ending ending ∷ items) = facts_in items
+
+-- the ending of a table that has this fault, or none
+abbrev pub ending_of : Option TableFault → Endings.Ending
+ending_of None = Closed
+ending_of (Some e) = Refused e
+
+-- blocks of these facts, then this ending, and nothing after it
+pub record IsHistory (facts : List Fact) (ending : Endings.Ending) (history : List Item) : Type 0 where
+  pub before : List Item
+  pub blocks : blocks_only before ≡ true
+  pub holds : facts_in before ≡ facts
+  pub is : history ≡ before ++ Ending ending ∷ []
+
+-- the stream of a table: all its facts, and then its own ending
+abbrev pub IsStream : Stream → List Item → Type 0
+IsStream s history = IsHistory (facts_of s) (ending_of s.fault) history
+
+-- all facts of the table, and its own ending
+abbrev pub IsWhole : Stream → List Fact → Endings.Ending → Type 0
+IsWhole s facts ending = (facts ≡ facts_of s) × (ending ≡ ending_of s.fault)
+
+-- the reader failed: the facts are those of the first rows
+pub record IsUnread (table : ℕ) (s : Stream) (facts : List Fact) (ending : Endings.Ending) : Type 0 where
+  pub rows : List (List Fact)
+  pub some : IsPrefix rows s.rows
+  pub holds : facts ≡ row_after_row rows
+  pub refused : ending ≡ Refused (file_fault table kind.Read)
+
+-- memory was short: the facts are the first of the table
+pub record IsShort (table : ℕ) (s : Stream) (facts : List Fact) (ending : Endings.Ending) : Type 0 where
+  pub some : IsPrefix facts (facts_of s)
+  pub refused : ending ≡ Refused (file_fault table kind.Memory)
+
+-- the facts that the decoding of a table gives, and the ending after them
+abbrev pub IsGiven : ℕ → Stream → List Fact → Endings.Ending → Type 0
+IsGiven table s facts ending = IsWhole s facts ending ⊎ IsUnread table s facts ending ⊎ IsShort table s facts ending
+
+-- the table was decoded: its history is its stream, or a beginning of it where the reader failed or memory was short
+pub record IsDecoded (table : ℕ) (s : Stream) (history : List Item) : Type 0 where
+  pub facts : List Fact
+  pub ending : Endings.Ending
+  pub given : IsGiven table s facts ending
+  pub is : IsHistory facts ending history
+
+-- no thread was there to decode the table
+abbrev pub IsUnserved : ℕ → List Item → Type 0
+IsUnserved table history = history ≡ Ending (Refused (file_fault table kind.NoThread)) ∷ []
+
+-- each table was decoded, the first of which stands at place i
+abbrev pub AreDecoded : ℕ → List Stream → List (List Item) → Type 0
+AreDecoded i [] [] = ⊤
+AreDecoded i [] (h ∷ hs) = ⊥
+AreDecoded i (s ∷ ss) [] = ⊥
+AreDecoded i (s ∷ ss) (h ∷ hs) = IsDecoded i s h × AreDecoded (i + 1) ss hs
+
+-- no table was decoded, the first of which stands at place i
+abbrev pub AreUnserved : ℕ → List Stream → List (List Item) → Type 0
+AreUnserved i [] [] = ⊤
+AreUnserved i [] (h ∷ hs) = ⊥
+AreUnserved i (s ∷ ss) [] = ⊥
+AreUnserved i (s ∷ ss) (h ∷ hs) = IsUnserved i h × AreUnserved (i + 1) ss hs

@@ -1,0 +1,78 @@
+-- The tables that workers draw, and the tokens that come back for them.
+use Rattle.std.specs.Prelude.{◌≡◌, ◌<◌, ◌≤◌, ℕ, suc, Bool, true, false, List, [], ◌∷◌, Option, Some, length, slice_get, IfSome}
+use Rattle.oim_meta.specs.ReportValue.{ReportValue}
+use Rattle.oim_ring.specs.Ends.{ClosedView, DrainView}
+use Rattle.oim_ring.specs.Items.{blocks_only}
+use Rattle.oim_ring.specs.declared.item.Item.{Item}
+use Rattle.oim_rows.specs.Streams.{table_stream}
+use Rattle.oim_convert.specs.Files.{IsFileOf}
+use Rattle.oim_convert.specs.Histories.{IsDecoded, IsUnserved}
+use Rattle.oim_convert.specs.declared.job.Job.{Job}
+use Rattle.oim_convert.specs.declared.job.Token.{Token}
+use Rattle.oim_convert.specs.declared.serving.Serving.{Serving}
+
+-- P of each element and its number, counted from n
+abbrev pub Each : {X : Type 0} → (ℕ → X → Type 0) → ℕ → List X → Type 0
+Each P n [] = Unit {0}
+Each P n (x ∷ xs) = P n x × Each P (suc n) xs
+
+module _ {R : Type 0} where
+  -- the history of a table that was served, where its reader tells its bytes, and of one that was not
+  abbrev pub IsKept : (R → Option (List ℕ)) → ReportValue → ℕ → Bool → ℕ → Option R → List Item → Type 0
+  IsKept told report limit true table reader history = (file : Option (List ℕ)) → IsFileOf told reader file → IsDecoded table (table_stream report table limit file) history
+  IsKept told report limit false table reader history = IsUnserved table history
+
+  -- what holds of a job before it is served: it is of the table of its place, and nothing was sent
+  abbrev pub CanServe : ReportValue → ℕ → ℕ → Job R → Type 0
+  CanServe report limit table job = (job.table ≡ table) × (table < length report.tables) × (limit ≤ 4294967294) × (job.feed.sent ≡ [])
+
+  -- the token that is given for a job: of its table and, unless it was lost, of its ring, with the history of the table
+  abbrev pub Gives : (R → Option (List ℕ)) → ReportValue → ℕ → Bool → ℕ → Job R → Token → Type 0
+  Gives told report limit served table job token =
+      (token.table ≡ table) × IfSome token.closed (λ closed. (closed.ring ≡ job.feed.ring) × IsKept told report limit served table job.reader closed.sent)
+
+  -- a job as it is made
+  pub record IsOpened (table : ℕ) (job : Job R) : Type 0 where
+    pub numbered : job.table ≡ table
+    pub fresh : job.feed.sent ≡ []
+
+  -- a drain of the ring of this table of the plan, from which nothing was taken
+  pub record IsLane (plan : List (Job R)) (table : ℕ) (drain : DrainView) : Type 0 where
+    pub job : Job R
+    pub planned : slice_get plan table ≡ Some job
+    pub ring : drain.ring ≡ job.feed.ring
+    pub fresh : drain.taken ≡ []
+
+  -- a drain of the ring of this table of the plan, taken to its ending
+  pub record IsEnded (plan : List (Job R)) (table : ℕ) (drain : DrainView) : Type 0 where
+    pub job : Job R
+    pub planned : slice_get plan table ≡ Some job
+    pub ring : drain.ring ≡ job.feed.ring
+    pub ended : blocks_only drain.taken ≡ false
+
+  -- a token that is of its table of the plan
+  pub record Fulfills (told : R → Option (List ℕ)) (report : ReportValue) (limit : ℕ) (served : Bool) (plan : List (Job R)) (token : Token) : Type 0 where
+    pub job : Job R
+    pub planned : slice_get plan token.table ≡ Some job
+    pub kept : IfSome token.closed (λ closed. (closed.ring ≡ job.feed.ring) × IsKept told report limit served token.table job.reader closed.sent)
+
+  -- all that was sent into the ring of this table of the plan
+  pub record IsSentOf (told : R → Option (List ℕ)) (report : ReportValue) (limit : ℕ) (served : Bool) (plan : List (Job R)) (table : ℕ) (closed : ClosedView) : Type 0 where
+    pub job : Job R
+    pub planned : slice_get plan table ≡ Some job
+    pub ring : closed.ring ≡ job.feed.ring
+    pub kept : IsKept told report limit served table job.reader closed.sent
+
+  -- each token stands at the place of its table
+  abbrev pub EachSlot : (R → Option (List ℕ)) → ReportValue → ℕ → Bool → List (Job R) → List (Option ClosedView) → Type 0
+  EachSlot told report limit served plan slots = (table : ℕ) (closed : ClosedView) → slice_get slots table ≡ Some (Some closed) → IsSentOf told report limit served plan table closed
+
+  -- the history of this table of the plan
+  pub record IsTable (told : R → Option (List ℕ)) (report : ReportValue) (limit : ℕ) (served : Bool) (plan : List (Job R)) (table : ℕ) (history : List Item) : Type 0 where
+    pub job : Job R
+    pub planned : slice_get plan table ≡ Some job
+    pub kept : IsKept told report limit served table job.reader history
+
+  -- what a server gives for a table of a report
+  abbrev pub gives_of : (R → Option (List ℕ)) → Serving → ReportValue → ℕ → Job R → Token → Type 0
+  gives_of told server report = Gives told report server.limits.rows server.threaded

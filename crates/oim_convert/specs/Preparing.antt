@@ -1,0 +1,36 @@
+-- What a conversion on threads needs before it begins, and what it has once it ran.
+use Rattle.std.specs.Prelude.{◌≡◌, ◌≤◌, ⊤, ℕ, Bool, List, [], Option, None, Result, Ok, Err, length, replicate, vec_capacity}
+use Rattle.oim_meta.specs.ReportValue.{ReportValue}
+use Rattle.oim_ring.specs.declared.item.Item.{Item}
+use Rattle.oim_convert.specs.Jobs.{Each, IsLane, IsOpened, IsTable}
+use Rattle.oim_convert.specs.Shifts.{IsCrew}
+use Rattle.oim_convert.specs.declared.fault.ConvertFault.{ConvertFault}
+use Rattle.oim_convert.specs.declared.fault.ConvertFault.TheVariants as fault
+use Rattle.oim_convert.specs.declared.job.Job.{Job}
+use Rattle.oim_convert.specs.declared.run.Run.{Run}
+use Rattle.oim_convert.specs.declared.threaded.Ready.{Ready}
+
+-- a crew over the jobs of all tables, a drain for each, and room for their tokens and settled drains
+pub record IsReady {R T : Type 0} (ready : Ready R T) : Type 0 where
+  pub crew : IsCrew ready.crew
+  pub jobs : Each IsOpened 0 ready.crew.claims.items
+  pub drains : Each (IsLane ready.crew.claims.items) 0 ready.drains.items
+  pub count : length ready.drains.items ≡ length ready.crew.claims.items
+  pub slots : ready.places.slots.items ≡ replicate (length ready.crew.claims.items) None
+  pub settled : ready.places.settled.items ≡ []
+  pub room : length ready.crew.claims.items ≤ vec_capacity ready.places.settled
+
+-- the histories of all tables of the plan, which were served by workers or not
+abbrev pub HasTables : {R : Type 0} → (R → Option (List ℕ)) → ReportValue → ℕ → List (Job R) → List (List Item) → Type 0
+HasTables told report limit plan hs = (served : Bool) × Each (IsTable told report limit served plan) 0 hs
+
+-- a conversion that ran answers its run, unless a token was lost
+abbrev pub HasRun : Result Run ConvertFault → Type 0
+HasRun (Ok run) = ⊤
+HasRun (Err fault.Lost) = ⊤
+HasRun (Err fault.Memory) = ⊥
+HasRun (Err fault.BadWorkers) = ⊥
+HasRun (Err fault.BadSize) = ⊥
+HasRun (Err fault.WrongReaders) = ⊥
+HasRun (Err (fault.Table e)) = ⊥
+HasRun (Err (fault.Write w)) = ⊥

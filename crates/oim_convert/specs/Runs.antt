@@ -1,0 +1,97 @@
+-- What a conversion on threads answers.
+-- xBRL-CSV 1.0 (a report is the facts of its tables), xBRL-JSON 1.0 (the document).
+use Rattle.std.specs.Prelude.{◌≡◌, ◌⊎◌, ⊤, ℕ, ◌||◌, ◌==◌, nat_lt, if◌then◌else◌, List, [], ◌∷◌, ◌++◌, Option, Some, None, Result, Ok, Err, length}
+use Rattle.std.specs.Io.KnownBytes.{Appends, Keeps}
+use Rattle.oim_json.specs.JsonText.{head_text}
+use Rattle.oim_json.specs.Sinks.{AppendsPrefix, mark_of}
+use Rattle.oim_json.specs.declared.mark.Mark.{Mark}
+use Rattle.oim_merge.specs.Histories.{document}
+use Rattle.oim_merge.specs.Merging.{Merges}
+use Rattle.oim_merge.specs.declared.progress.MergeEnd.{MergeEnd}
+use Rattle.oim_merge.specs.declared.progress.MergeEnd.TheVariants as end
+use Rattle.oim_meta.specs.ReportValue.{ReportValue}
+use Rattle.oim_ring.specs.declared.item.Ending.TheVariants.{Refused}
+use Rattle.oim_ring.specs.declared.item.Item.{Item}
+use Rattle.oim_ring.specs.declared.item.Item.TheVariants.{Ending}
+use Rattle.oim_rows.specs.Streams.{Stream}
+use Rattle.oim_rows.specs.declared.fault.TableFault.{TableFault}
+use Rattle.oim_rows.specs.declared.fault.TableKind.{TableKind}
+use Rattle.oim_rows.specs.declared.fault.TableKind.TheVariants as kind
+use Rattle.oim_convert.specs.Answer.{answer_text, refusal}
+use Rattle.oim_convert.specs.Histories.{AreDecoded, AreUnserved, IsStream}
+use Rattle.oim_convert.specs.declared.fault.ConvertFault.{ConvertFault}
+use Rattle.oim_convert.specs.declared.fault.ConvertFault.TheVariants as fault
+use Rattle.oim_convert.specs.declared.run.Run.{Run}
+
+-- the fault that is found before anything is made: the workers are not 1 to 64, the ring's size is not 1 to 65,536, the
+-- readers are not as many as the tables
+abbrev pub early_fault : ℕ → ℕ → ℕ → ℕ → Option ConvertFault
+early_fault workers size readers tables =
+    if nat_lt workers 1 || nat_lt 64 workers then Some fault.BadWorkers
+    else if nat_lt size 1 || nat_lt 65536 size then Some fault.BadSize
+    else if readers == tables then None else Some fault.WrongReaders
+
+-- the answer is the early fault where there is one; else a run, Memory or Lost
+abbrev pub AnswersFault : Option ConvertFault → Result Run ConvertFault → Type 0
+AnswersFault (Some f) result = result ≡ Err f
+AnswersFault None (Ok run) = ⊤
+AnswersFault None (Err fault.Memory) = ⊤
+AnswersFault None (Err fault.Lost) = ⊤
+AnswersFault None (Err fault.BadWorkers) = ⊥
+AnswersFault None (Err fault.BadSize) = ⊥
+AnswersFault None (Err fault.WrongReaders) = ⊥
+AnswersFault None (Err (fault.Table e)) = ⊥
+AnswersFault None (Err (fault.Write w)) = ⊥
+
+-- the histories of a report's tables: each table was decoded, or no thread was there and none was
+abbrev pub AreHistories : List Stream → List (List Item) → Type 0
+AreHistories ss hs = AreDecoded 0 ss hs ⊎ AreUnserved 0 ss hs
+
+-- each history is its table's stream
+abbrev pub AreStreams : List Stream → List (List Item) → Type 0
+AreStreams [] [] = ⊤
+AreStreams [] (h ∷ hs) = ⊥
+AreStreams (s ∷ ss) [] = ⊥
+AreStreams (s ∷ ss) (h ∷ hs) = IsStream s h × AreStreams ss hs
+
+-- the faults that are not a table's own
+abbrev pub IsOuter : TableKind → Type 0
+IsOuter k = (k ≡ kind.Read) ⊎ (k ≡ kind.Memory) ⊎ (k ≡ kind.NoThread)
+
+-- a failed read, want of memory or want of threads ended the table
+pub record IsCut (history : List Item) : Type 0 where
+  pub before : List Item
+  pub fault : TableFault
+  pub outer : IsOuter fault.kind
+  pub is : history ≡ before ++ Ending (Refused fault) ∷ []
+
+-- none of these did so to any of the tables
+abbrev pub AreUncut : List (List Item) → Type 0
+AreUncut [] = ⊤
+AreUncut (h ∷ hs) = (¬ IsCut h) × AreUncut hs
+
+-- the end that a report with these streams is answered with, and the bytes that are written: its document, or the
+-- unfinished document up to the first refused table; where a write failed, a beginning of these
+abbrev pub IsAnswer : ReportValue → List Stream → Mark → Mark → Option (List ℕ) → Option (List ℕ) → MergeEnd → Type 0
+IsAnswer report ss mark mark' told told' end.Complete = (refusal ss ≡ None) × (mark' ≡ mark) × Appends told told' (answer_text report ss)
+IsAnswer report ss mark mark' told told' (end.Refused e) = (refusal ss ≡ Some e) × (mark' ≡ mark) × Appends told told' (answer_text report ss)
+IsAnswer report ss mark mark' told told' (end.Write w) = (mark' ≡ mark_of w) × AppendsPrefix told told' (answer_text report ss)
+
+-- the end of a token was lost: what was written is the document of some histories, one for each table, or a beginning of it
+pub record IsLost (report : ReportValue) (tables : ℕ) (mark mark' : Mark) (told told' : Option (List ℕ)) : Type 0 where
+  pub histories : List (List Item)
+  pub count : length histories ≡ tables
+  pub end : MergeEnd
+  pub merged : Merges mark mark' told told' (document (head_text report) histories) histories end
+
+-- what is written: the document of the run's histories up to its end; nothing by a fault but Lost
+abbrev pub Writes : ReportValue → ℕ → Mark → Mark → Option (List ℕ) → Option (List ℕ) → Result Run ConvertFault → Type 0
+Writes report tables mark mark' told told' (Ok run) =
+    (length run.drains.items ≡ tables) × Merges mark mark' told told' (document (head_text report) run.drains.items) run.drains.items run.end
+Writes report tables mark mark' told told' (Err fault.Lost) = IsLost report tables mark mark' told told'
+Writes report tables mark mark' told told' (Err fault.Memory) = (mark' ≡ mark) × Keeps told told'
+Writes report tables mark mark' told told' (Err fault.BadWorkers) = (mark' ≡ mark) × Keeps told told'
+Writes report tables mark mark' told told' (Err fault.BadSize) = (mark' ≡ mark) × Keeps told told'
+Writes report tables mark mark' told told' (Err fault.WrongReaders) = (mark' ≡ mark) × Keeps told told'
+Writes report tables mark mark' told told' (Err (fault.Table e)) = ⊥
+Writes report tables mark mark' told told' (Err (fault.Write w)) = ⊥

@@ -1,0 +1,35 @@
+//! One ring for each table.
+
+ghost use Rattle.std.specs.Prelude.{◌≡◌, ◌≤◌, length, IfOk, map};
+ghost use Rattle.oim_convert.specs.Jobs.{Each, IsLane, IsOpened};
+
+use crate::job::Job;
+use oim_ring::{Drain, lane};
+use std::alloc::{AllocError, Global};
+
+/// A job and a drain for each reader, in order, with nothing sent and nothing taken.
+pub(crate) fn open_lanes<R: Drop>(
+    alloc: Global,
+    readers: Vec<Option<R>>,
+    size: usize,
+) -> Result<(Vec<Job<R>>, Vec<Drain>), AllocError>
+    requires { (1 ≤ size) × (size ≤ 65536) }
+    ensures readers { IfOk result (λ r. map (λ job. job.reader) r.0.items ≡ readers.items) }
+    ensures jobs { IfOk result (λ r. Each IsOpened 0 r.0.items) }
+    ensures drains { IfOk result (λ r. Each (IsLane r.0.items) 0 r.1.items) }
+    ensures count { IfOk result (λ r. length r.1.items ≡ length r.0.items) }
+{
+    let mut jobs = Vec::new(alloc);
+    let mut drains = Vec::new(alloc);
+    for reader in readers {
+        let table = jobs.len();
+        let (feed, drain) = lane(alloc, size)?;
+        jobs.push(Job {
+            table,
+            reader,
+            feed,
+        })?;
+        drains.push(drain)?;
+    }
+    Ok((jobs, drains))
+}

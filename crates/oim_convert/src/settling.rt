@@ -1,0 +1,108 @@
+//! Putting the tokens of the tables to their drains.
+
+ghost use Rattle.std.specs.Prelude.{◌≡◌, ◌≤◌, [], length, map, All, IfSome, vec_len, vec_capacity};
+ghost use Rattle.oim_convert.specs.Jobs.{Each, EachSlot, Fulfills, Gives, IsEnded, IsTable};
+ghost use Rattle.oim_convert.specs.Shifts.{IsShift};
+
+use crate::claims::Claims;
+use crate::job::{Job, Token};
+use crate::worker::Shift;
+use oim_meta::{Limits, Report};
+use oim_ring::{Closed, Drain, Drained};
+use std::io::Read;
+
+/// Puts a token to the place of its table.
+fn place<R: Read>(
+    report: &Report,
+    limits: Limits,
+    served: bool,
+    claims: &Claims<Job<R>>,
+    token: Token,
+    slots: &mut [Option<Closed>],
+)
+    requires token { Fulfills R.remaining report.now limits.rows served claims.now.items token }
+    requires slots { EachSlot R.remaining report.now limits.rows served claims.now.items slots.old }
+    requires room { length slots.old ≡ length claims.now.items }
+    ensures slots { EachSlot R.remaining report.now limits.rows served claims.now.items slots.new }
+{
+    let _ = report;
+    let _ = limits;
+    let _ = served;
+    let _ = claims;
+    let Token { table, closed } = token;
+    slots[table] = closed;
+}
+
+/// Puts the tokens of a shift to the places of their tables.
+fn place_shift<R: Read + Drop>(
+    report: &Report,
+    limits: Limits,
+    served: bool,
+    claims: &Claims<Job<R>>,
+    shift: Shift<Job<R>, Token>,
+    slots: &mut [Option<Closed>],
+)
+    requires shift { IsShift (Gives R.remaining report.now limits.rows served) claims.now shift }
+    requires slots { EachSlot R.remaining report.now limits.rows served claims.now.items slots.old }
+    requires room { length slots.old ≡ length claims.now.items }
+    ensures slots { EachSlot R.remaining report.now limits.rows served claims.now.items slots.new }
+{
+    let Shift {
+        seat: _,
+        done,
+        stopped: _,
+    } = shift;
+    for token in done {
+        place(report, limits, served, claims, token, slots);
+    }
+}
+
+/// Puts the tokens of all shifts to the places of their tables.
+pub(crate) fn place_all<R: Read + Drop>(
+    report: &Report,
+    limits: Limits,
+    served: bool,
+    claims: &Claims<Job<R>>,
+    shifts: Vec<Shift<Job<R>, Token>>,
+    slots: &mut [Option<Closed>],
+)
+    requires shifts { All (IsShift (Gives R.remaining report.now limits.rows served) claims.now) shifts.items }
+    requires slots { EachSlot R.remaining report.now limits.rows served claims.now.items slots.old }
+    requires room { length slots.old ≡ length claims.now.items }
+    ensures slots { EachSlot R.remaining report.now limits.rows served claims.now.items slots.new }
+{
+    for shift in shifts {
+        place_shift(report, limits, served, claims, shift, slots);
+    }
+}
+
+/// Settles each drain with the token of its table. None where a token was lost.
+pub(crate) fn settle_all<R: Read>(
+    report: &Report,
+    limits: Limits,
+    served: bool,
+    claims: &Claims<Job<R>>,
+    drains: Vec<Drain>,
+    slots: &mut [Option<Closed>],
+    settled: Vec<Drained>,
+) -> Option<Vec<Drained>>
+    requires drains { Each (IsEnded claims.now.items) 0 drains.items }
+    requires slots { EachSlot R.remaining report.now limits.rows served claims.now.items slots.old }
+    requires slot_count { length slots.old ≡ vec_len drains }
+    requires settled { settled.items ≡ [] }
+    requires room { vec_len drains ≤ vec_capacity settled }
+    ensures taken { IfSome result (λ all. all.items ≡ map (λ d. d.taken) drains.items) }
+    ensures tables { IfSome result (λ all. Each (IsTable R.remaining report.now limits.rows served claims.now.items) 0 all.items) }
+{
+    let _ = report;
+    let _ = limits;
+    let _ = served;
+    let _ = claims;
+    let mut settled = settled;
+    for drain in drains {
+        let at = settled.len();
+        let closed = slots[at].take()?;
+        settled.push_reserved(drain.settle(closed));
+    }
+    Some(settled)
+}

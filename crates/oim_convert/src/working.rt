@@ -1,0 +1,124 @@
+//! A scope in which workers decode tables while the caller's thread merges.
+
+ghost use Rattle.std.specs.Prelude.{◌≡◌, ◌≤◌, [], All, cond, length, vec_len, vec_capacity};
+ghost use Rattle.oim_merge.specs.Histories.{document};
+ghost use Rattle.oim_merge.specs.Merging.{EndsEach, IsFresh, Merges, rings_of, taken_of};
+ghost use Rattle.oim_convert.specs.Jobs.{CanServe, gives_of};
+ghost use Rattle.oim_convert.specs.Shifts.{CanServeAll, IsShift, IsStation};
+
+use crate::claims::Claims;
+use crate::crew::{Room, join_crew, start_crew};
+use crate::job::{Job, Token};
+use crate::serving::Serving;
+use crate::worker::{Shift, Station};
+use oim_json::Sink;
+use oim_merge::{MergeEnd, merge};
+use oim_meta::Report;
+use oim_ring::Drain;
+use std::io::Read;
+use std::sync::Wait;
+use std::sync::atomic::AtomicBool;
+use std::thread;
+use std::thread::Threads;
+
+/// Drains that were taken to their endings, and how the merge ended.
+#[derive(Drop)]
+pub(crate) struct Merged {
+    pub(crate) drains: Vec<Drain>,
+    pub(crate) end: MergeEnd,
+}
+
+/// Merges all drains into the sink.
+fn merge_all<T: Wait, W: Sink>(rt: &T, drains: Vec<Drain>, head: &[u8], sink: &mut W) -> Merged
+    requires { IsFresh drains.items }
+    ensures rings { rings_of result.drains.items ≡ rings_of drains.items }
+    ensures ended { EndsEach result.drains.items }
+    ensures merged { Merges (W.mark sink.old) (W.mark sink.new) (W.told sink.old) (W.told sink.new) (document head.now (taken_of result.drains.items)) (taken_of result.drains.items) result.end }
+{
+    let mut drains = drains;
+    let end = merge(rt, drains.as_mut_slice(), head, sink);
+    Merged { drains, end }
+}
+
+/// What the workers and the merge have come to.
+#[derive(Drop)]
+pub(crate) struct Worked<R> {
+    pub(crate) shifts: Vec<Shift<Job<R>, Token>>,
+    pub(crate) merged: Merged,
+    /// Whether the tables were served by workers, and not refused for want of threads.
+    pub(crate) served: bool,
+}
+
+/// What the scope gives back, the sink that was lent to it among it.
+struct Returned<'a, R, W> {
+    worked: Worked<R>,
+    sink: &'a mut W,
+}
+
+/// Merges while the workers draw and decode, and joins them.
+pub(crate) fn work_and_merge<R: Read + Drop + Send, T: Threads + Wait + Sync, W: Sink>(
+    rt: &T,
+    report: &Report,
+    server: &Serving,
+    spare: &Serving,
+    claims: &Claims<Job<R>>,
+    stations: Vec<Station<Job<R>, Token>>,
+    stops: &[AtomicBool],
+    starts: usize,
+    room: Room<Job<R>, Token, Serving, T, Report>,
+    drains: Vec<Drain>,
+    head: &[u8],
+    sink: &mut W,
+) -> Worked<R>
+    requires items { CanServeAll (CanServe report.now server.now.limits.rows) claims.now.items × CanServeAll (CanServe report.now spare.now.limits.rows) claims.now.items }
+    requires stations { All (IsStation claims.now) stations.items }
+    requires stops { length stops.now ≡ vec_len stations }
+    requires empty { (room.started.items ≡ []) × (room.shifts.items ≡ []) }
+    requires room { (vec_len stations ≤ vec_capacity room.started) × (vec_len stations ≤ vec_capacity room.shifts) }
+    requires fresh { IsFresh drains.items }
+    ensures shifts { All (IsShift (gives_of R.remaining (cond result.served server.now spare.now) report.now) claims.now) result.shifts.items }
+    ensures rings { rings_of result.merged.drains.items ≡ rings_of drains.items }
+    ensures ended { EndsEach result.merged.drains.items }
+    ensures merged { Merges (W.mark sink.old) (W.mark sink.new) (W.told sink.old) (W.told sink.new) (document head.now (taken_of result.merged.drains.items)) (taken_of result.merged.drains.items) result.merged.end }
+{
+    let lent = &mut *sink;
+    let returned = thread::scope(
+        thread::scope_env(),
+        rt,
+        move |scope| -> Returned<'_, R, W>
+            requires items { CanServeAll (CanServe report.now server.now.limits.rows) claims.now.items × CanServeAll (CanServe report.now spare.now.limits.rows) claims.now.items }
+            requires stations { All (IsStation claims.now) stations.items }
+            requires stops { length stops.now ≡ vec_len stations }
+            requires empty { (room.started.items ≡ []) × (room.shifts.items ≡ []) }
+            requires room { (vec_len stations ≤ vec_capacity room.started) × (vec_len stations ≤ vec_capacity room.shifts) }
+            requires fresh { IsFresh drains.items }
+            ensures same_sink { result.sink.ghost_name ≡ lent.entry.ghost_name }
+            ensures shifts { All (IsShift (gives_of R.remaining (cond result.worked.served server.entry.now spare.entry.now) report.entry.now) claims.entry.now) result.worked.shifts.items }
+            ensures rings { rings_of result.worked.merged.drains.items ≡ rings_of drains.items }
+            ensures ended { EndsEach result.worked.merged.drains.items }
+            ensures merged { Merges (W.mark lent.entry.now) (W.mark result.sink.now) (W.told lent.entry.now) (W.told result.sink.now) (document head.entry.now (taken_of result.worked.merged.drains.items)) (taken_of result.worked.merged.drains.items) result.worked.merged.end }
+        {
+            let mut room = room;
+            let served = start_crew(scope, rt, report, server, spare, claims, stations, stops, starts, &mut room);
+            let merged = merge_all(rt, drains, head, lent);
+            let shifts = join_crew(rt, report, server, spare, served, claims, room);
+            Returned {
+                worked: Worked {
+                    shifts,
+                    merged,
+                    served,
+                },
+                sink: lent,
+            }
+        },
+    );
+    let Returned { worked, sink } = returned;
+    take_back(sink);
+    worked
+}
+
+/// Does nothing, but this use of a returned reference ties it, for the proof, to the parameter that
+/// lent it.
+fn take_back<T>(x: &mut T)
+    ensures { x.new ≡ x.old }
+{}
