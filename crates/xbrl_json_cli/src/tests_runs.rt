@@ -14,7 +14,9 @@ use std::alloc::Global;
 use std::io;
 use std::io::Write;
 use std::process::Abort;
+use std::sync::Wait;
 use std::test::Fail;
+use std::thread::Threads;
 
 /// The settings of these words, with a blank between two.
 fn settings_of(alloc: Global, words: &str) -> Result<Settings, Fail> {
@@ -58,7 +60,7 @@ type File<'a> = (&'a str, &'a [u8]);
 /// Runs the words over these files with a writer of so much room, and compares what is written, the
 /// line and the status.
 fn check(
-    rt: &(impl Abort + AllocGlobal),
+    rt: &(impl Abort + AllocGlobal + Threads + Wait + Sync),
     words: &str,
     files: &[File<'_>],
     room: usize,
@@ -69,6 +71,7 @@ fn check(
     let taken = Vec::new(alloc);
     let mut short = Short { taken, room };
     let outcome = run(
+        rt,
         alloc,
         &settings,
         &mut Texts { files },
@@ -83,7 +86,7 @@ fn check(
 
 /// Does so for runs that end with this line, nothing written.
 fn check_early(
-    rt: &(impl Abort + AllocGlobal),
+    rt: &(impl Abort + AllocGlobal + Threads + Wait + Sync),
     files: &[File<'_>],
     said: &str,
     code: u8,
@@ -96,7 +99,7 @@ fn whole_documents(rt: HostRuntime) -> Result<(), Fail> {
     let alloc = rt.alloc();
     let mut whole = Vec::new(alloc);
     assert_eq!(rt;
-        status(&convert_held(alloc, &mut Marked::new(&mut whole))),
+        status(&convert_held(&rt, alloc, &mut Marked::new(&mut whole))),
         0
     );
     for (words, meta, table) in [
