@@ -1,8 +1,7 @@
 -- Texts written one after another.
-use Rattle.std.specs.Prelude.{◌≡◌, ◌⊎◌, ◌+◌, ℕ, zero, suc, List, [], ◌∷◌, ◌++◌, Bool, true, false, Option, Some, None, Result, Ok, Err, length, map}
-use Rattle.std.proofs.Common.{refl, drop, sym, ap, ◌∙◌, subst, append_assoc, append-nil, inl, inr, arith}
-use mathlib.Core.List.{IsPrefix}
-use Rattle.std.specs.Io.KnownBytes.{Appends, Keeps}
+use Rattle.std.specs.Prelude.{◌≡◌, ◌⊎◌, ◌+◌, ℕ, List, [], ◌∷◌, ◌++◌, Bool, true, false, Option, Some, None, Result, Ok, Err, length, map}
+use Rattle.std.proofs.Common.{refl, sym, ap, ◌∙◌, subst, append_assoc, append-nil, inl, inr, arith}
+use Rattle.std.specs.Io.KnownBytes.{Appends}
 use Rattle.oim_json.proofs.Writes.{appends_nothing, appends_twice}
 use Rattle.oim_json.specs.Document.{facts_text, tail_text}
 use Rattle.oim_json.specs.JsonText.{head_text, joined, member_text}
@@ -18,11 +17,11 @@ use Rattle.oim_rows.specs.declared.fault.TableKind.TheVariants as kind
 use Rattle.oim_rows.specs.Streams.{GivesNext, Stream, row_in_front, ending, IsOutside, stream_of, table_stream}
 use Rattle.oim_convert.specs.Files.{IsFileOf, AreFilesOf}
 use Rattle.oim_rows.specs.declared.fault.TableFault.{TableFault}
-use Rattle.oim_convert.specs.Serial.{Converts, EndsEarly}
+use Rattle.oim_convert.specs.Serial.{Converts}
 use Rattle.oim_convert.specs.declared.fault.ConvertFault.TheVariants as fault
-use Rattle.oim_convert.specs.Answer.{answer_text, tail_for, text_after, facts_of, facts_until, refusal, row_after_row, streams_from, unless_refused}
+use Rattle.oim_convert.specs.Answer.{answer_text, tail_for, text_after, facts_of, facts_until, refusal, streams_from, unless_refused}
 use Rattle.std.specs.Option.{option_or}
-use Rattle.oim_convert.specs.Steps.{WritesFact, SinkView, Wrote, Broke, WroteSome, WritesFacts, WritesTable, WritesTables, IsCutShort, piece, more_text, has_any, as_fault, as_table_halt}
+use Rattle.oim_convert.specs.Steps.{WritesFact, SinkView, Wrote, Broke, WritesFacts, WritesTable, WritesTables, piece, more_text, has_any, as_fault, as_table_halt}
 use Rattle.oim_convert.specs.declared.halt.Halt.{Halt}
 use Rattle.oim_convert.specs.declared.halt.Halt.TheVariants as halt
 use Rattle.oim_convert.specs.declared.halt.TableHalt.{TableHalt}

@@ -1,6 +1,6 @@
 -- Facts that are gathered and sent, row after row.
-use Rattle.std.specs.Prelude.{◌≡◌, ◌⊎◌, ◌+◌, ◌<◌, ℕ, List, [], ◌∷◌, ◌++◌, true, false, if◌then◌else◌, Bool, Option, Some, None, Result, Ok, Err, IfSome, length}
-use Rattle.std.proofs.Common.{refl, sym, ap, ◌∙◌, subst, append_assoc, append-nil, inl, inr, arith}
+use Rattle.std.specs.Prelude.{◌≡◌, ◌⊎◌, ℕ, List, [], ◌∷◌, ◌++◌, true, Option, Some, None, Ok, Err, IfSome}
+use Rattle.std.proofs.Common.{refl, sym, ap, ◌∙◌, subst, append_assoc, append-nil, inl, inr}
 use mathlib.Core.List.{IsPrefix}
 use Rattle.oim_meta.specs.Grid.{grid}
 use Rattle.oim_meta.specs.ReportValue.{ReportValue}
@@ -11,12 +11,12 @@ use Rattle.oim_ring.specs.declared.item.Ending.TheVariants.{Closed, Refused}
 use Rattle.oim_ring.specs.declared.item.Item.{Item}
 use Rattle.oim_ring.specs.declared.item.Item.TheVariants.{Block, Ending}
 use Rattle.oim_rows.specs.Header.{file_fault, file_header_fault}
-use Rattle.oim_rows.specs.Streams.{GivesNext, IsOutside, Stream, ending, row_in_front, stream_of, table_stream}
+use Rattle.oim_rows.specs.Streams.{GivesNext, IsOutside, Stream, ending, stream_of, table_stream}
 use Rattle.oim_rows.specs.declared.fault.TableFault.{TableFault}
 use Rattle.oim_rows.specs.declared.fault.TableKind.TheVariants as kind
 use Rattle.oim_convert.specs.Answer.{facts_of, row_after_row}
 use Rattle.oim_convert.specs.Files.{IsFileOf}
-use Rattle.oim_convert.specs.Histories.{IsDecoded, IsGiven, IsHistory, IsShort, IsUnread, ending_of, facts_in}
+use Rattle.oim_convert.specs.Histories.{IsDecoded, IsGiven, ending_of, facts_in}
 use Rattle.oim_convert.specs.Sending.{Ends, IsReading}
 use Rattle.oim_convert.proofs.Going.{has_file, has_no_file, refused_header}
 
@@ -165,10 +165,10 @@ pub file_decoded : {R : Type 0} → (told : R → Option (List ℕ)) (r : R) (fi
     → IsDecoded table (table_stream report table limit file) history
 file_decoded told r file report table limit before history e is given only closed =
     has_file told r file (λ f. IsDecoded table (table_stream report table limit f) history) is
-      (λ bytes tells. decoded table (table_stream report table limit (Some bytes)) before history e (subst (λ o. IfSome o (λ b. IsGiven table (table_stream report table limit (Some b)) (facts_in before) e)) tells given) only closed)
+    (λ bytes tells. decoded table (table_stream report table limit (Some bytes)) before history e (subst (λ o. IfSome o (λ b. IsGiven table (table_stream report table limit (Some b)) (facts_in before) e)) tells given) only closed)
 
 pub no_file_decoded : {R : Type 0} → (told : R → Option (List ℕ)) (file : Option (List ℕ)) (report : ReportValue) (table limit : ℕ) (before history : List Item) (e : Endings.Ending) → IsFileOf told None file
     → before ≡ [] → e ≡ ending_of (table_stream report table limit None).fault → blocks_only before ≡ true → history ≡ before ++ Ending e ∷ [] → IsDecoded table (table_stream report table limit file) history
 no_file_decoded told file report table limit before history e is none ends only closed =
     has_no_file told file (λ f. IsDecoded table (table_stream report table limit f) history) is
-      (decoded table (table_stream report table limit None) before history e (inl (ap facts_in none, ends)) only closed)
+    (decoded table (table_stream report table limit None) before history e (inl (ap facts_in none, ends)) only closed)

@@ -21,7 +21,15 @@ pub(crate) struct Room<V, O, S: Serve<V, O, T, C>, T, C> {
 }
 
 /// Starts a worker at each of the first stations, as far as threads can be made.
-fn start_each<'s, E, V: Drop + Send + 's, O: Drop + Send + 's, S: Serve<V, O, T, C> + Drop + Sync + 's, T: Sync + 's, C: Sync + 's>(
+fn start_each<
+    's,
+    E,
+    V: Drop + Send + 's,
+    O: Drop + Send + 's,
+    S: Serve<V, O, T, C> + Drop + Sync + 's,
+    T: Sync + 's,
+    C: Sync + 's,
+>(
     scope: &Scope<'s, E>,
     rt: &'s T,
     shared: &'s C,
@@ -43,7 +51,16 @@ fn start_each<'s, E, V: Drop + Send + 's, O: Drop + Send + 's, S: Serve<V, O, T,
 {
     let mut place = 0;
     for station in stations {
-        match start(scope, rt, shared, server, claims, station, &stops[place], place < starts) {
+        match start(
+            scope,
+            rt,
+            shared,
+            server,
+            claims,
+            station,
+            &stops[place],
+            place < starts,
+        ) {
             Ok(handle) => room.started.push_reserved(handle),
             Err(shift) => room.shifts.push_reserved(shift),
         }
@@ -93,7 +110,15 @@ fn spare_unless_started<V: Drop, O: Drop, S: Serve<V, O, T, C> + Drop, T, C>(
 
 /// Starts workers at the first stations, and where none could be started serves all items with the
 /// spare server here. Gives whether the server is in use, not the spare one.
-pub(crate) fn start_crew<'s, E, V: Drop + Send + 's, O: Drop + Send + 's, S: Serve<V, O, T, C> + Drop + Sync + 's, T: Sync + 's, C: Sync + 's>(
+pub(crate) fn start_crew<
+    's,
+    E,
+    V: Drop + Send + 's,
+    O: Drop + Send + 's,
+    S: Serve<V, O, T, C> + Drop + Sync + 's,
+    T: Sync + 's,
+    C: Sync + 's,
+>(
     scope: &Scope<'s, E>,
     rt: &'s T,
     shared: &'s C,
@@ -114,7 +139,9 @@ pub(crate) fn start_crew<'s, E, V: Drop + Send + 's, O: Drop + Send + 's, S: Ser
     ensures count { vec_len room.new.started + vec_len room.new.shifts ≡ vec_len stations }
     ensures room { vec_len stations ≤ vec_capacity room.new.shifts }
 {
-    start_each(scope, rt, shared, server, claims, stations, stops, starts, room);
+    start_each(
+        scope, rt, shared, server, claims, stations, stops, starts, room,
+    );
     spare_unless_started(rt, shared, server, spare, claims, room)
 }
 

@@ -8,6 +8,20 @@
 //! - WrongReaders comes exactly where the readers are not as many as the tables; it and Memory
 //!   write nothing.
 //!
+//! What it promises of `convert`, on threads, for every number of workers, ring size and schedule:
+//! - each history is its table's stream, or a beginning of it that a failed read or want of memory
+//!   ended; where no worker could be started each table is refused with NoThread
+//!   (`specs/Histories.antt`);
+//! - the end is that of the histories, and what is written is their document, the unfinished one up
+//!   to the first refusal, or by a write fault a beginning of it;
+//! - where nothing cut a history short, each is its table's stream, and end and bytes are the
+//!   defined answer of the report (`specs/Runs.antt`);
+//! - BadWorkers, BadSize and WrongReaders come exactly where each is the first that is due; they and
+//!   Memory write nothing, and Lost comes after the document of the histories.
+//!
+//! That workers run side by side, that each that started is joined, and that memory, threads and
+//! tokens are given, is shown by tests alone.
+//!
 //! What it promises of `Claims`, by which threads share numbered items out among themselves:
 //! - a draw gives a number and the item at its place, and no seat draws that number again; no draw
 //!   waits or takes memory (`specs/Claims.antt`);

@@ -13,9 +13,8 @@ use oim_resolve::Fact;
 use oim_ring::{CloseFault, Closed, Ending, Feed};
 use oim_rows::RowFacts;
 use std::alloc::{AllocError, Global};
-use std::mem;
 use std::sync::Wait;
-use std::thread;
+use std::{mem, thread};
 
 /// How many facts a block has at most.
 const MOST: usize = 256;

@@ -192,7 +192,7 @@ pub fn convert<R: Read + Drop + Send, T: Threads + Wait + Sync, W: Sink>(
         → IfOk result (λ run. AreHistories (streams report.now limits.rows files) run.drains.items) }
     ensures headline { (files : List (Option (List ℕ))) → AreFilesOf R.remaining readers.items files
         → IfOk result (λ run. AreUncut run.drains.items → AreStreams (streams report.now limits.rows files) run.drains.items
-            × IsAnswer report.now (streams report.now limits.rows files) (W.mark sink.old) (W.mark sink.new) (W.told sink.old) (W.told sink.new) run.end) }
+        × IsAnswer report.now (streams report.now limits.rows files) (W.mark sink.old) (W.mark sink.new) (W.told sink.old) (W.told sink.new) run.end) }
 
     // What is so for all readers: each fault exactly where it is due, and what is written.
     ensures faults { AnswersFault (early_fault workers size (length readers.items) (length report.now.tables)) result }
@@ -223,7 +223,7 @@ pub fn convert_with_starts<R: Read + Drop + Send, T: Threads + Wait + Sync, W: S
         → IfOk result (λ run. AreHistories (streams report.now limits.rows files) run.drains.items) }
     ensures headline { (files : List (Option (List ℕ))) → AreFilesOf R.remaining readers.items files
         → IfOk result (λ run. AreUncut run.drains.items → AreStreams (streams report.now limits.rows files) run.drains.items
-            × IsAnswer report.now (streams report.now limits.rows files) (W.mark sink.old) (W.mark sink.new) (W.told sink.old) (W.told sink.new) run.end) }
+        × IsAnswer report.now (streams report.now limits.rows files) (W.mark sink.old) (W.mark sink.new) (W.told sink.old) (W.told sink.new) run.end) }
 
     // What is so for all readers: each fault exactly where it is due, and what is written.
     ensures faults { AnswersFault (early_fault workers size (length readers.items) (length report.now.tables)) result }

@@ -111,7 +111,15 @@ fn idle<V, O>(station: Station<V, O>) -> Shift<V, O>
 
 /// Starts a worker, where it may be started. Where no thread can be made for it, its flag is set and
 /// its seat comes back.
-pub(crate) fn start<'s, E, V: Drop + Send + 's, O: Drop + Send + 's, S: Serve<V, O, T, C> + Drop + Sync + 's, T: Sync + 's, C: Sync + 's>(
+pub(crate) fn start<
+    's,
+    E,
+    V: Drop + Send + 's,
+    O: Drop + Send + 's,
+    S: Serve<V, O, T, C> + Drop + Sync + 's,
+    T: Sync + 's,
+    C: Sync + 's,
+>(
     scope: &Scope<'s, E>,
     rt: &'s T,
     shared: &'s C,
@@ -135,7 +143,10 @@ pub(crate) fn start<'s, E, V: Drop + Send + 's, O: Drop + Send + 's, S: Serve<V,
         rt: Snapshot::of(rt),
         shared: Snapshot::of(shared),
     };
-    match scope.spawn_with(promise, move || work_unless(rt, shared, server, claims, station, stop)) {
+    match scope.spawn_with(
+        promise,
+        move || work_unless(rt, shared, server, claims, station, stop),
+    ) {
         Ok(handle) => Ok(handle),
         Err(refused) => {
             stop.store(true, Ordering::SeqCst);

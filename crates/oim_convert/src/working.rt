@@ -99,7 +99,9 @@ pub(crate) fn work_and_merge<R: Read + Drop + Send, T: Threads + Wait + Sync, W:
             ensures merged { Merges (W.mark lent.entry.now) (W.mark result.sink.now) (W.told lent.entry.now) (W.told result.sink.now) (document head.entry.now (taken_of result.worked.merged.drains.items)) (taken_of result.worked.merged.drains.items) result.worked.merged.end }
         {
             let mut room = room;
-            let served = start_crew(scope, rt, report, server, spare, claims, stations, stops, starts, &mut room);
+            let served = start_crew(
+                scope, rt, report, server, spare, claims, stations, stops, starts, &mut room,
+            );
             let merged = merge_all(rt, drains, head, lent);
             let shifts = join_crew(rt, report, server, spare, served, claims, room);
             Returned {

@@ -1,4 +1,4 @@
-use Rattle.std.proofs.Common.{ap, sym, ◌∙◌, arith, subst, length, All, ◌≡◌, true}
+use Rattle.std.proofs.Common.{sym, ◌∙◌, arith, subst, length, ◌≡◌, true}
 use Rattle.std.specs.List.{list_all}
 use Rattle.oim_convert.specs.Shifts.{IsShift, IsStarted}
 use Rattle.oim_convert.proofs.Crews.{none_of, stopped_all, stopped_last, stopped_shifts}

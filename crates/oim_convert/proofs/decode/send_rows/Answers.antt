@@ -1,8 +1,7 @@
-use Rattle.std.specs.Prelude.{◌++◌, [], length, IfSome}
-use Rattle.std.proofs.Common.{ap, refl, sym, ◌∙◌, arith, append_assoc, subst}
+use Rattle.std.specs.Prelude.{◌++◌, length}
+use Rattle.std.proofs.Common.{ap, refl, ◌∙◌, arith}
 use Rattle.std.proofs.lemmas.Option.{IfSome_then}
 use Rattle.oim_convert.specs.Histories.{facts_in}
-use Rattle.oim_convert.specs.Sending.{IsReading}
 use Rattle.oim_convert.proofs.Sent.{reading_begins, reading_more, rows_short, rows_fault}
 use Rattle.oim_convert.proofs.decode.send_rows.Goals as goal
 

@@ -1,4 +1,4 @@
-use Rattle.std.specs.Prelude.{◌≡◌, ℕ, ◌+◌, List, [], ◌∷◌, ◌++◌, length, suc, slice_get, Some, map}
+use Rattle.std.specs.Prelude.{◌≡◌, ℕ, ◌+◌, List, [], ◌∷◌, ◌++◌, length, slice_get, Some, map}
 use Rattle.std.proofs.Common.{arith, refl, ap, sym, ◌∙◌, subst, length-append}
 use Rattle.std.specs.Vec.Iter.{into_iter_items}
 use Rattle.oim_ring.specs.Ends.{DrainView}
@@ -20,7 +20,7 @@ loop-reader-preserved g c =
     let opened : IsOpened (0 + length jobs) job = record { numbered = numbered; fresh = c.in_ok-feed.ensures.feed.1 } in
     let same : length jobs ≡ 0 + length drains = omega (arith, r.3) in
     let here : IsLane (jobs ++ job ∷ []) (0 + length drains) drain =
-        record { job = job; planned = subst (λ (n : ℕ). slice_get (jobs ++ job ∷ []) n ≡ Some job) same (get_last jobs job); ring = c.in_ok-feed.ensures.one_ring; fresh = c.in_ok-feed.ensures.drain } in
+    record { job = job; planned = subst (λ (n : ℕ). slice_get (jobs ++ job ∷ []) n ≡ Some job) same (get_last jobs job); ring = c.in_ok-feed.ensures.one_ring; fresh = c.in_ok-feed.ensures.drain } in
     let lanes = each_more (IsLane (jobs ++ job ∷ [])) 0 drains drain (lanes_more jobs job 0 drains r.2) here in (
       ap (λ l. map (λ j. j.reader) l ++ into_iter_items c.next.new.self) pushed ∙ (readers_more (λ j. j.reader) jobs job c.in-Some.reader (into_iter_items c.next.new.self) (into_iter_items c.loop-reader.reader-iterator) c.in-Some.ensures.steps.0 refl ∙ r.0),
       subst (λ (l : List (Job g.row.R.Denot)). Each IsOpened 0 l) (sym pushed) (each_more IsOpened 0 jobs job r.1 opened),

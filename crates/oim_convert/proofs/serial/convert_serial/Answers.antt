@@ -1,7 +1,5 @@
-use Rattle.std.proofs.Common.{◌≡◌, ◌≢◌, ◌∙◌, sym, subst, rules, length}
-use Rattle.std.specs.Prelude.{Ok, Err}
+use Rattle.std.proofs.Common.{◌≡◌, subst, rules, length}
 use Rattle.oim_convert.specs.Serial.{HasBegun}
-use Rattle.oim_convert.specs.declared.fault.ConvertFault.TheVariants as fault
 use Rattle.oim_convert.proofs.serial.convert_serial.Goals as goal
 
 pub returns-clause-readers : goal.returns-clause-readers

@@ -1,5 +1,5 @@
-use Rattle.std.proofs.Common.{◌≡◌, ◌∙◌, ◌+◌, ap, subst, sym, arith, length, false}
-use Rattle.std.specs.Prelude.{List, ℕ, [], ◌∷◌, Ok, Err}
+use Rattle.std.proofs.Common.{◌≡◌, ◌∙◌, ap, subst, sym, arith, length}
+use Rattle.std.specs.Prelude.{[]}
 use Rattle.std.specs.Vec.Iter.{into_iter_items}
 use Rattle.oim_convert.specs.Answer.{streams}
 use Rattle.oim_convert.specs.Steps.{sink_at}

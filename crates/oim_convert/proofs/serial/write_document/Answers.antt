@@ -1,5 +1,4 @@
-use Rattle.std.proofs.Common.{◌≡◌, subst, rules}
-use Rattle.std.specs.Prelude.{Ok, Err}
+use Rattle.std.proofs.Common.{subst}
 use Rattle.oim_convert.specs.Answer.{streams}
 use Rattle.oim_convert.specs.Steps.{Broke, Wrote, sink_at}
 use Rattle.oim_convert.proofs.Going.{head_broke, tables_stopped, tail_broke, all_written}

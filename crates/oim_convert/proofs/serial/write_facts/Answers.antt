@@ -1,9 +1,7 @@
-use Rattle.std.proofs.Common.{◌≡◌, ◌+◌, subst, sym, ap, ◌∙◌, true, arith, drop}
-use Rattle.std.specs.Prelude.{List, ℕ, [], ◌∷◌, Ok, Err}
+use Rattle.std.proofs.Common.{◌≡◌, ◌+◌, subst, sym, ap, ◌∙◌, arith, drop}
+use Rattle.std.specs.Prelude.{[], ◌∷◌, Ok, Err}
 use Rattle.std.proofs.lemmas.List.{drop_more, drop_all}
-use Rattle.oim_resolve.specs.declared.fact.Fact.{Fact}
-use Rattle.oim_convert.specs.Steps.{SinkView, WritesFacts, sink_at}
-use Rattle.oim_convert.specs.declared.halt.Halt.TheVariants as halt
+use Rattle.oim_convert.specs.Steps.{WritesFacts, sink_at}
 use Rattle.oim_convert.proofs.Going.{fact_first, fact_stopped, no_facts}
 use Rattle.oim_convert.proofs.serial.write_facts.Goals as goal
 

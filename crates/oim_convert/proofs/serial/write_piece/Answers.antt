@@ -1,7 +1,5 @@
-use Rattle.std.proofs.Common.{◌≡◌, subst, sym, true, not}
-use Rattle.std.specs.Prelude.{List, ℕ, [], ◌∷◌}
-use Rattle.oim_json.specs.Sinks.{WritesAll}
-use Rattle.oim_convert.specs.Steps.{piece}
+use Rattle.std.proofs.Common.{◌≡◌, true}
+use Rattle.std.specs.Prelude.{[], ◌∷◌}
 use Rattle.oim_convert.proofs.Going.{wrote_all_twice, broke_all}
 use Rattle.oim_convert.proofs.serial.write_piece.Goals as goal
 

@@ -1,5 +1,5 @@
-use Rattle.std.proofs.Common.{◌≡◌, ◌∙◌, inr, subst, IfSome}
-use Rattle.std.specs.Prelude.{Some, None, Ok, Err}
+use Rattle.std.proofs.Common.{◌∙◌, subst}
+use Rattle.std.specs.Prelude.{Err}
 use Rattle.std.proofs.lemmas.Option.{IfSome_then}
 use Rattle.oim_convert.specs.Steps.{WritesFacts, sink_at}
 use Rattle.oim_convert.proofs.Going.{follows_row, follows_stopped, follows_end, follows_fault}

@@ -1,9 +1,9 @@
-use Rattle.std.specs.Prelude.{◌≡◌, ℕ, ◌<◌, ◌+◌, suc, List, [], ◌∷◌, ◌++◌, Some, None, length, vec_len, map}
-use Rattle.std.proofs.Common.{arith, ap, sym, ◌∙◌, subst, length-append, get_or}
+use Rattle.std.specs.Prelude.{◌≡◌, ℕ, ◌<◌, ◌+◌, suc, List, [], ◌∷◌, ◌++◌, Some, length, map}
+use Rattle.std.proofs.Common.{arith, ap, sym, ◌∙◌, subst, length-append}
 use Rattle.std.proofs.Math.ListN.{length-set}
-use Rattle.std.specs.Vec.Iter.{into_iter_items, into_iter_len}
+use Rattle.std.specs.Vec.Iter.{into_iter_items}
 use Rattle.oim_ring.specs.declared.item.Item.{Item}
-use Rattle.oim_convert.specs.Jobs.{Each, EachSlot, IsEnded, IsKept, IsSentOf, IsTable}
+use Rattle.oim_convert.specs.Jobs.{Each, IsEnded, IsKept, IsSentOf, IsTable}
 use Rattle.oim_convert.specs.declared.job.Job.{Job}
 use Rattle.oim_convert.proofs.Settled.{slot_kept, slot_read, each_first, each_more, map_one}
 use Rattle.oim_convert.proofs.settling.settle_all.Given as given
@@ -26,7 +26,7 @@ drain_is : (g : given.Over) (c : After-settled-in-loop-drain-1 g)
     → IsEnded c.args.claims.now.items (length c.loop-drain.settled.items) c.in-Some.drain × Each (IsEnded c.args.claims.now.items) (suc (length c.loop-drain.settled.items)) (into_iter_items c.next.new.self)
 drain_is g c =
     each_first (IsEnded c.args.claims.now.items) (length c.loop-drain.settled.items) c.in-Some.drain (into_iter_items c.next.new.self) (into_iter_items c.loop-drain.drain-iterator) c.in-Some.ensures.steps.0
-      c.loop-drain.invariant.3
+    c.loop-drain.invariant.3
 
 pub settle-requires-clause-one_ring : goal.settle-requires-clause-one_ring
 settle-requires-clause-one_ring g c =
@@ -46,7 +46,7 @@ loop-drain-preserved g c =
     let pushed = c.push_reserved.ensures.items in
     let len : length c.push_reserved.new.self.items ≡ suc (length done) = omega (arith, ap length pushed, length-append done (c.settle.result ∷ [])) in
     let kept : IsKept told report limit served (length done) s.job.reader c.settle.result =
-        subst (λ (l : List Item). IsKept told report limit served (length done) s.job.reader l) (sym c.settle.ensures.sent) s.kept in
+    subst (λ (l : List Item). IsKept told report limit served (length done) s.job.reader l) (sym c.settle.ensures.sent) s.kept in
     let table : IsTable told report limit served plan (length done) c.settle.result = record { job = s.job; planned = s.planned; kept = kept } in
     let zero_more : length done ≡ 0 + length done = omega arith in (
       omega arith,
@@ -55,6 +55,6 @@ loop-drain-preserved g c =
       subst (λ (n : ℕ). Each (IsEnded plan) n (into_iter_items c.next.new.self)) (sym len) d.1,
       (λ t closed e. r.4 t closed (slot_kept c.loop-drain.slots c.len-at.result t closed (rw (← c.take.ensures.after) e))),
       subst (λ (l : List (List Item)). Each (IsTable told report limit served plan) 0 l) (sym pushed)
-      (each_more (IsTable told report limit served plan) 0 done c.settle.result r.5
-        (subst (λ (n : ℕ). IsTable told report limit served plan n c.settle.result) zero_more table)),
+          (each_more (IsTable told report limit served plan) 0 done c.settle.result r.5
+          (subst (λ (n : ℕ). IsTable told report limit served plan n c.settle.result) zero_more table)),
     )

@@ -7,10 +7,10 @@ pub returns-clause-histories : goal.returns-clause-histories
 returns-clause-histories g c = λ files are.
     let count : length c.args.readers.items ≡ length c.args.report.now.tables = omega (arith, c.in-None.ensures.fine, c.len.ensures, c.tables.ensures, c.args.readers.ok.0) in
     run_histories g.R.Read.remaining c.args.report.now c.args.limits.rows c.in-Ok-prepare.ready.crew.claims.items c.args.readers.items c.in-Ok-prepare.ensures.readers count files are (g.W.Sink.mark c.args.sink.now)
-      (g.W.Sink.mark c.run_ready.new.sink) (g.W.Sink.told c.args.sink.now) (g.W.Sink.told c.run_ready.new.sink) c.run_ready.result c.run_ready.ensures.tables c.run_ready.ensures.writes
+    (g.W.Sink.mark c.run_ready.new.sink) (g.W.Sink.told c.args.sink.now) (g.W.Sink.told c.run_ready.new.sink) c.run_ready.result c.run_ready.ensures.tables c.run_ready.ensures.writes
 
 pub returns-clause-headline : goal.returns-clause-headline
 returns-clause-headline g c = λ files are.
     let count : length c.args.readers.items ≡ length c.args.report.now.tables = omega (arith, c.in-None.ensures.fine, c.len.ensures, c.tables.ensures, c.args.readers.ok.0) in
     run_headline g.R.Read.remaining c.args.report.now c.args.limits.rows c.in-Ok-prepare.ready.crew.claims.items c.args.readers.items c.in-Ok-prepare.ensures.readers count files are (g.W.Sink.mark c.args.sink.now)
-      (g.W.Sink.mark c.run_ready.new.sink) (g.W.Sink.told c.args.sink.now) (g.W.Sink.told c.run_ready.new.sink) c.run_ready.result c.run_ready.ensures.tables c.run_ready.ensures.writes
+    (g.W.Sink.mark c.run_ready.new.sink) (g.W.Sink.told c.args.sink.now) (g.W.Sink.told c.run_ready.new.sink) c.run_ready.result c.run_ready.ensures.tables c.run_ready.ensures.writes

@@ -1,4 +1,4 @@
-use Rattle.std.specs.Prelude.{◌≡◌, ℕ, List, Option, None, length, vec_len}
+use Rattle.std.specs.Prelude.{◌≡◌, ℕ, List, Option, None, length}
 use Rattle.std.proofs.Common.{ap, refl, sym, ◌∙◌, arith, subst}
 use Rattle.oim_json.specs.JsonText.{head_text}
 use Rattle.oim_merge.specs.Histories.{document}
@@ -19,7 +19,7 @@ work_and_merge-shifts-requires-clause-fresh g c κs within = lanes_fresh c.args.
 pub place_all-requires-clause-slots : goal.place_all-requires-clause-slots
 place_all-requires-clause-slots g c =
     slots_begin g.R.Read.remaining c.args.report.now c.args.limits.rows c.work_and_merge-shifts.result.served c.args.ready.crew.claims.items (length c.args.ready.crew.claims.items) c.as_mut_slice-slots.result.now
-      (c.as_mut_slice-slots.ensures.value ∙ c.requires.ready.slots)
+    (c.as_mut_slice-slots.ensures.value ∙ c.requires.ready.slots)
 
 pub settle_all-requires-clause-drains : goal.settle_all-requires-clause-drains
 settle_all-requires-clause-drains g c =
@@ -41,7 +41,7 @@ returns-in-Some-clause-writes g c =
     let taken : c.in-Some.drains.items ≡ taken_of ended = c.in-Some.ensures.taken in
     let end = c.work_and_merge-shifts.result.merged.end in
     let Wrote : List ℕ → List (List Item) → Type 0 =
-        λ head hs. Merges (g.W.Sink.mark c.args.sink.now) (g.W.Sink.mark c.work_and_merge-shifts.new.sink) (g.W.Sink.told c.args.sink.now) (g.W.Sink.told c.work_and_merge-shifts.new.sink) (document head hs) hs end in
+    λ head hs. Merges (g.W.Sink.mark c.args.sink.now) (g.W.Sink.mark c.work_and_merge-shifts.new.sink) (g.W.Sink.told c.args.sink.now) (g.W.Sink.told c.work_and_merge-shifts.new.sink) (document head hs) hs end in
     let merged : Wrote (head_text c.args.report.now) (taken_of ended) = subst (λ h. Wrote h (taken_of ended)) c.requires.head c.work_and_merge-shifts.ensures.merged in (
       as_many (λ (d : DrainView). d.taken) ended c.in-Some.drains.items (sym taken) ∙ (rings_len ended c.args.ready.drains.items c.work_and_merge-shifts.ensures.rings ∙ (c.requires.ready.count ∙ c.requires.count)),
       subst (λ hs. Wrote (head_text c.args.report.now) hs) (sym taken) merged,
@@ -52,7 +52,7 @@ returns-clause-writes g c =
     let ended = c.work_and_merge-shifts.result.merged.drains.items in
     let end = c.work_and_merge-shifts.result.merged.end in
     let Wrote : List ℕ → Type 0 =
-        λ head. Merges (g.W.Sink.mark c.args.sink.now) (g.W.Sink.mark c.work_and_merge-shifts.new.sink) (g.W.Sink.told c.args.sink.now) (g.W.Sink.told c.work_and_merge-shifts.new.sink) (document head (taken_of ended)) (taken_of ended) end in
+    λ head. Merges (g.W.Sink.mark c.args.sink.now) (g.W.Sink.mark c.work_and_merge-shifts.new.sink) (g.W.Sink.told c.args.sink.now) (g.W.Sink.told c.work_and_merge-shifts.new.sink) (document head (taken_of ended)) (taken_of ended) end in
     record {
       histories = taken_of ended;
       count = as_many (λ (d : DrainView). d.taken) ended (taken_of ended) refl ∙ (rings_len ended c.args.ready.drains.items c.work_and_merge-shifts.ensures.rings ∙ (c.requires.ready.count ∙ c.requires.count));

@@ -12,7 +12,7 @@ returns-in-Ok g c = λ first head before st.
     let p = c.args.progress.now in let fs = c.args.block.now in
     let now : SinkView = record { mark = g.W.Sink.mark c.args.sink.now; told = g.W.Sink.told c.args.sink.now } in
     let later : SinkView = record { mark = g.W.Sink.mark c.write_piece.new.sink; told = g.W.Sink.told c.write_piece.new.sink } in
-    let wrote = rw c.bytes.ensures at c.in-Ok.ensures in
+    let wrote = rw c.bytes.ensures.text at c.in-Ok.ensures in
     let some : 1 ≤ length fs = omega (arith, c.count-any.ensures.count, c.count-any.ensures.some) in
     subst (λ (any : Bool). StandsAt first later head (before ++ items.Block fs ∷ []) any p.standing) (sym (lt-ltb 0 c.count-any.result c.count-any.ensures.some))
     (stands_as first later head (before ++ items.Block fs ∷ []) true standings.Open p.standing (sym c.in-Open.is)
@@ -23,7 +23,7 @@ returns-in-Err g c = λ first head before st.
     let p = c.args.progress.now in let fs = c.args.block.now in
     let now : SinkView = record { mark = g.W.Sink.mark c.args.sink.now; told = g.W.Sink.told c.args.sink.now } in
     let later : SinkView = record { mark = g.W.Sink.mark c.write_piece.new.sink; told = g.W.Sink.told c.write_piece.new.sink } in
-    let wrote = rw c.bytes.ensures at c.in-Err.ensures in
+    let wrote = rw c.bytes.ensures.text at c.in-Err.ensures in
     let some : 1 ≤ length fs = omega (arith, c.count-any.ensures.count, c.count-any.ensures.some) in
     block_broken first now head before p.any later fs c.in-Err.fault some (stands_as first now head before p.any p.standing standings.Open c.in-Open.is st) wrote.0 wrote.1
 
