@@ -57,23 +57,22 @@ impl Write for Short {
 /// A path with the bytes of its file.
 type File<'a> = (&'a str, &'a [u8]);
 
-/// Runs the words over these files with a writer of so much room, and compares what is written, the
-/// line and the status.
-fn check(
+/// Runs with these settings over these files with a writer of so much room, and compares what is
+/// written, the line and the status.
+fn check_settings(
     rt: &(impl Abort + AllocGlobal + Threads + Wait + Sync),
-    words: &str,
+    settings: &Settings,
     files: &[File<'_>],
     room: usize,
     expected: (&[u8], &str, u8),
 ) -> Result<(), Fail> {
     let alloc = rt.alloc();
-    let settings = settings_of(alloc, words)?;
     let taken = Vec::new(alloc);
     let mut short = Short { taken, room };
     let outcome = run(
         rt,
         alloc,
-        &settings,
+        settings,
         &mut Texts { files },
         &mut Marked::new(&mut short),
     );
@@ -81,6 +80,36 @@ fn check(
     assert_eq!(rt; line(alloc, &outcome)?.as_str(), said);
     assert_eq!(rt; status(&outcome), code);
     assert_eq!(rt; short.taken.as_slice(), written, "where the line is {said}");
+    Ok(())
+}
+
+/// Does so for the settings of these words.
+fn check(
+    rt: &(impl Abort + AllocGlobal + Threads + Wait + Sync),
+    words: &str,
+    files: &[File<'_>],
+    room: usize,
+    expected: (&[u8], &str, u8),
+) -> Result<(), Fail> {
+    let settings = settings_of(rt.alloc(), words)?;
+    check_settings(rt, &settings, files, room, expected)
+}
+
+/// How many workers, and the size of each ring.
+const WAYS: [(usize, usize); 5] = [(1, 1), (2, 1), (2, 4), (3, 1), (8, 65_536)];
+
+/// Does so for several numbers of workers and ring sizes.
+fn check_ways(
+    rt: &(impl Abort + AllocGlobal + Threads + Wait + Sync),
+    files: &[File<'_>],
+    expected: (&[u8], &str, u8),
+) -> Result<(), Fail> {
+    let mut settings = settings_of(rt.alloc(), "m.json --types t.csv")?;
+    for (workers, ring) in WAYS {
+        settings.workers = workers;
+        settings.ring = ring;
+        check_settings(rt, &settings, files, 4096, expected)?;
+    }
     Ok(())
 }
 
@@ -136,10 +165,47 @@ fn a_refused_table(rt: HostRuntime) -> Result<(), Fail> {
     let facts = "t1.r_1.cash - Cash EUR 5; t2.r_1.cash - Cash EUR 1";
     let document = document_of(alloc, facts, "BadNumber")?;
     let expected = (document.as_bytes(), said, 1);
-    check(&rt, "m.json --types t.csv", &files, 4096, expected)?;
+    check_ways(&rt, &files, expected)?;
     let said = "xbrl-json: table t1, row 0, column 0: NoFile (20)\n";
     let expected = (HEAD.as_bytes(), said, 1);
     check(&rt, "m.json --types t.csv", &files[..2], 4096, expected)?;
+    Ok(())
+}
+
+#[test]
+fn tables_in_order(rt: HostRuntime) -> Result<(), Fail> {
+    let alloc = rt.alloc();
+    let metadata = edited(alloc, THREE)?;
+    let files = [
+        ("m.json", metadata.as_bytes()),
+        ("t.csv", TYPES.as_bytes()),
+        ("t1.csv", b"cash\n".as_slice()),
+        ("t2.csv", b"cash\n1\n3\n".as_slice()),
+        ("t3.csv", b"cash\n2\n".as_slice()),
+    ];
+    let facts = "t2.r_1.cash - Cash EUR 1; t2.r_2.cash - Cash EUR 3; t3.r_1.cash - Cash EUR 2";
+    let document = document_of(alloc, facts, "")?;
+    check_ways(&rt, &files, (document.as_bytes(), "", 0))
+}
+
+#[test]
+fn settings_out_of_range(rt: HostRuntime) -> Result<(), Fail> {
+    let files = [
+        ("m.json", METADATA.as_bytes()),
+        ("t.csv", TYPES.as_bytes()),
+        ("t1.csv", TABLE.as_bytes()),
+    ];
+    let mut settings = settings_of(rt.alloc(), "m.json --types t.csv")?;
+    for (workers, ring, said) in [
+        (65, 1, "xbrl-json: run: BadWorkers (50)\n"),
+        (0, 0, "xbrl-json: run: BadWorkers (50)\n"),
+        (64, 0, "xbrl-json: run: BadSize (51)\n"),
+        (1, 65_537, "xbrl-json: run: BadSize (51)\n"),
+    ] {
+        settings.workers = workers;
+        settings.ring = ring;
+        check_settings(&rt, &settings, &files, 4096, (&[], said, 3))?;
+    }
     Ok(())
 }
 
