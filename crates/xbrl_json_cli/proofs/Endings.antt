@@ -80,25 +80,25 @@ unwritten None report ss old new ends = ends
 unwritten (Some g) report ss old new ends = ends.1
 
 module _ (given : Texts) (old new : SinkView) (report : ReportValue) (says : SaysWith given.limits given.metadata given.types report) where
-  abbrev early : Option ConvertFault
-  early = early_fault given.workers given.ring (length given.files) (length report.tables)
+  abbrev found : Option ConvertFault
+  found = early_fault given.workers given.ring (length given.files) (length report.tables)
 
-  abbrev ss : List Stream
-  ss = streams report given.limits.rows given.files
+  abbrev said : List Stream
+  said = streams report given.limits.rows given.files
 
-  all_texts : (o : Outcome) → EndsAs early report ss old new o → ConvertedTexts given old new o
+  all_texts : (o : Outcome) → EndsAs found report said old new o → ConvertedTexts given old new o
   all_texts o e = record { report = report; says = says; ends = e }
 
-  pub ends : (o : Outcome) → EndsAs early report ss old new o → Ends given old new o
+  pub ends : (o : Outcome) → EndsAs found report said old new o → Ends given old new o
   ends outcome.Done e = all_texts outcome.Done e
-  ends (outcome.Report source.Report f) e = absurd (no_report early report ss old new source.Report f e)
-  ends (outcome.Report source.Types f) e = absurd (no_report early report ss old new source.Types f e)
-  ends (outcome.Report source.Parameters f) e = absurd (no_report early report ss old new source.Parameters f e)
+  ends (outcome.Report source.Report f) e = absurd (no_report found report said old new source.Report f e)
+  ends (outcome.Report source.Types f) e = absurd (no_report found report said old new source.Types f e)
+  ends (outcome.Report source.Parameters f) e = absurd (no_report found report said old new source.Parameters f e)
   ends (outcome.Table id f) e = all_texts (outcome.Table id f) e
   ends (outcome.CannotRead p) e = all_texts (outcome.CannotRead p) e
   ends (outcome.CannotWrite p) e = all_texts (outcome.CannotWrite p) e
   ends (outcome.Output w) e = all_texts (outcome.Output w) e
-  ends (outcome.Run fault.Memory) e = unwritten early report ss old new e
+  ends (outcome.Run fault.Memory) e = unwritten found report said old new e
   ends (outcome.Run fault.BadWorkers) e = all_texts (outcome.Run fault.BadWorkers) e
   ends (outcome.Run fault.BadSize) e = all_texts (outcome.Run fault.BadSize) e
   ends (outcome.Run fault.WrongReaders) e = all_texts (outcome.Run fault.WrongReaders) e
