@@ -181,19 +181,22 @@ text_grows head tail facts more =
         facts_text_is (facts ++ more) ∙ more_text_append false facts more ∙ ap (λ t. t ++ rest) (sym (facts_text_is facts)) in
     (rest ++ tail, sym (append_assoc (text_after head facts) rest tail) ∙ ap (λ t. t ++ tail) (append_assoc head (facts_text facts) rest ∙ ap (λ t. head ++ t) (sym all)))
 
-until_split : (closed : List Stream) (s : Stream) (later : List Stream) → refusal closed ≡ None
-    → facts_until (closed ++ s ∷ later) ≡ facts_until closed ++ (facts_of s ++ unless_refused s.fault (facts_until later))
+abbrev Splits : List Stream → Stream → List Stream → Type 0
+Splits closed s later = facts_until (closed ++ s ∷ later) ≡ facts_until closed ++ (facts_of s ++ unless_refused s.fault (facts_until later))
+
+split_more : (c : Stream) (closed : List Stream) (s : Stream) (later : List Stream) (o : Option TableFault) → c.fault ≡ o → refusal (c ∷ closed) ≡ None
+    → (refusal closed ≡ None → Splits closed s later) → Splits (c ∷ closed) s later
+split_more c closed s later (Some e) has none rest = absurd (let some : Some e ≡ None = ap (λ o. option_or o (refusal closed)) (sym has) ∙ none in cc)
+split_more c closed s later None has none rest =
+    let behind = facts_of s ++ unless_refused s.fault (facts_until later) in
+    ap (λ o. facts_of c ++ unless_refused o (facts_until (closed ++ s ∷ later))) has
+    ∙ ap (λ l. facts_of c ++ l) (rest (ap (λ o. option_or o (refusal closed)) (sym has) ∙ none))
+    ∙ sym (append_assoc (facts_of c) (facts_until closed) behind)
+    ∙ ap (λ o. (facts_of c ++ unless_refused o (facts_until closed)) ++ behind) (sym has)
+
+until_split : (closed : List Stream) (s : Stream) (later : List Stream) → refusal closed ≡ None → Splits closed s later
 until_split [] s later none = refl
-until_split (c ∷ closed) s later none = at c.fault refl
-  where
-    at : (o : Option TableFault) → c.fault ≡ o → facts_until ((c ∷ closed) ++ s ∷ later) ≡ facts_until (c ∷ closed) ++ (facts_of s ++ unless_refused s.fault (facts_until later))
-    at (Some e) has = absurd (let some : Some e ≡ None = ap (λ o. option_or o (refusal closed)) (sym has) ∙ none in cc)
-    at None has =
-        let none' : refusal closed ≡ None = ap (λ o. option_or o (refusal closed)) (sym has) ∙ none in
-        ap (λ o. facts_of c ++ unless_refused o (facts_until (closed ++ s ∷ later))) has
-        ∙ ap (λ l. facts_of c ++ l) (until_split closed s later none')
-        ∙ sym (append_assoc (facts_of c) (facts_until closed) (facts_of s ++ unless_refused s.fault (facts_until later)))
-        ∙ ap (λ o. (facts_of c ++ unless_refused o (facts_until closed)) ++ (facts_of s ++ unless_refused s.fault (facts_until later))) (sym has)
+until_split (c ∷ closed) s later none = split_more c closed s later c.fault refl none (until_split closed s later)
 
 -- the facts up to a cut, and then more
 pub cut_facts : (ss : List Stream) (items : List Item) (cut : Cut 0 ss items) → (more : List Fact) × (facts_until ss ≡ (facts_until cut.closed ++ cut.written) ++ more)

@@ -1,6 +1,6 @@
 -- How a conversion on threads ends, as an outcome.
-use Rattle.std.specs.Prelude.{◌≡◌, ◌⊎◌, ℕ, Bool, true, false, ◌||◌, nat_lt, ◌==◌, if◌then◌else◌, List, [], ◌++◌, Option, Some, None, Result, Ok, Err, IfOk, length}
-use Rattle.std.proofs.Common.{refl, sym, ap, ◌∙◌, subst, append_assoc, inl, inr}
+use Rattle.std.specs.Prelude.{◌≡◌, ◌⊎◌, ℕ, ◌+◌, Bool, true, false, ◌||◌, nat_lt, ◌==◌, if◌then◌else◌, List, [], ◌++◌, Option, Some, None, Result, Ok, Err, IfOk, length}
+use Rattle.std.proofs.Common.{arith, refl, sym, ap, ◌∙◌, subst, append_assoc, inl, inr}
 use Rattle.std.proofs.lemmas.Bool.{eq-eqb}
 use mathlib.Core.List.{IsPrefix}
 use Rattle.std.specs.Io.KnownBytes.{Appends}
@@ -77,7 +77,8 @@ module _ (report : ReportValue) (ss : List Stream) (hs : List (List Item)) (old 
   cut_ends : Cut 0 ss (all_of hs) → (e : MergeEnd) → Merged e → Ended e
   cut_ends cut end.Complete m = absurd (none_some (merged.refusal (all_of hs)) cut.fault cut.refused m.0)
   cut_ends cut (end.Refused f) m =
-      let facts = facts_until cut.closed ++ cut.written in (
+      let facts = facts_until cut.closed ++ cut.written in
+      let from_first : 0 + length cut.closed ≡ length cut.closed = omega arith in (
         refl,
         inl (
           m.1,
@@ -87,7 +88,8 @@ module _ (report : ReportValue) (ss : List Stream) (hs : List (List Item)) (old 
             later = cut.later;
             split = cut.split;
             none_refused = cut.none_refused;
-            outside = subst (λ x. IsOutside (length cut.closed) x) (same_some (merged.refusal (all_of hs)) cut.fault f cut.refused m.0) cut.outside;
+            outside = subst (λ x. IsOutside (length cut.closed) x) (same_some (merged.refusal (all_of hs)) cut.fault f cut.refused m.0)
+                (subst (λ n. IsOutside n cut.fault) from_first cut.outside);
             written = cut.written;
             some = cut.some;
             text = subst (λ t. Appends old.told new.told t) (refused_text (head_text report) hs facts cut.fault cut.holds cut.refused) m.2;
@@ -142,7 +144,10 @@ module _ (report : ReportValue) (ss : List Stream) (hs : List (List Item)) (old 
 ok_no_err : {A B : Type 0} (a : A) (b : B) → Ok a ≡ Err b → ⊥
 ok_no_err a b e = cc
 
-err_same : (f g : ConvertFault) → Err {A = Run} f ≡ Err g → f ≡ g
+abbrev Same : Result Run ConvertFault → Result Run ConvertFault → Type 0
+Same r q = r ≡ q
+
+err_same : (f g : ConvertFault) → Same (Err f) (Err g) → f ≡ g
 err_same f g e = cc
 
 module _ (report : ReportValue) (ss : List Stream) (old new : SinkView) where
