@@ -1,24 +1,33 @@
 -- How a run ends, from how its conversion does.
-use Rattle.std.specs.Prelude.{◌≡◌, ◌≢◌, ◌↔◌, ◌⊎◌, ℕ, suc, List, [], ◌∷◌, ◌++◌, map, take, ◌+◌, ◌<◌, Option, Some, None, IfSome, Result, Ok, Err, length, slice_index_or}
+use Rattle.std.specs.Prelude.{◌≡◌, ◌⊎◌, ℕ, suc, List, [], ◌∷◌, ◌++◌, map, take, ◌+◌, ◌<◌, Option, Some, None, IfOk, IfSome, Result, Ok, Err, length, slice_index_or}
 use Rattle.std.proofs.Common.{refl, sym, ap, subst, ◌∙◌, inl, inr}
 use Rattle.std.proofs.lemmas.List.{map_more}
 use Rattle.std.proofs.Math.ListN.{get_or-map}
 use Rattle.std.specs.Io.KnownBytes.{Keeps}
 use Rattle.oim_convert.specs.Answer.{streams}
 use Rattle.oim_convert.specs.Files.{AreFilesOf, IsFileOf}
-use Rattle.oim_convert.specs.Serial.{Converts}
+use Rattle.oim_convert.specs.Runs.{AnswersFault, AreHistories, Writes, early_fault}
 use Rattle.oim_convert.specs.Steps.{SinkView}
 use Rattle.oim_convert.specs.declared.fault.ConvertFault.{ConvertFault}
 use Rattle.oim_convert.specs.declared.fault.ConvertFault.TheVariants as fault
+use Rattle.oim_convert.specs.declared.run.Run.{Run}
+use Rattle.oim_merge.specs.declared.progress.MergeEnd.{MergeEnd}
+use Rattle.oim_merge.specs.declared.progress.MergeEnd.TheVariants as end
 use Rattle.oim_meta.specs.Readers.{no_table, table_of}
 use Rattle.oim_meta.specs.ReportValue.{ReportValue}
 use Rattle.oim_meta.specs.declared.data.Table.{Table}
-use Rattle.xbrl_json_cli.specs.Conversion.{Converted, ConvertsTo, Ends, SaysWith, Texts, Unwritten, name_in, outcome_by, outcome_of, profile, table_ids}
+use Rattle.oim_meta.specs.declared.fault.MetaFault.{MetaFault}
+use Rattle.oim_rows.specs.Streams.{Stream}
+use Rattle.xbrl_json_cli.proofs.Threads.{answered, in_range, never_lost}
+use Rattle.xbrl_json_cli.specs.Conversion.{ConvertedTexts, Ends, SaysWith, Texts, profile}
 use Rattle.xbrl_json_cli.specs.Folders.{Files, IsFolderOf}
-use Rattle.xbrl_json_cli.specs.Runs.{EndsAs, EndsBy, EndsOver, table_file, table_files}
+use Rattle.xbrl_json_cli.specs.Outcomes.{EndsAs, Unwritten, name_in, outcome_at, outcome_by, table_ids}
+use Rattle.xbrl_json_cli.specs.Runs.{EndsBy, EndsOver, range_fault, table_file, table_files}
 use Rattle.xbrl_json_cli.specs.Steps.{EndsEarly, Early, Gives, IsWant, report_at}
 use Rattle.xbrl_json_cli.specs.declared.outcome.Outcome.{Outcome}
 use Rattle.xbrl_json_cli.specs.declared.outcome.Outcome.TheVariants as outcome
+use Rattle.xbrl_json_cli.specs.declared.outcome.Source.{Source}
+use Rattle.xbrl_json_cli.specs.declared.outcome.Source.TheVariants as source
 
 -- there are as many files as readers
 pub as_many : {R : Type 0} (told : R → Option (List ℕ)) (rs : List (Option R)) (fs : List (Option (List ℕ))) → AreFilesOf told rs fs → length rs ≡ length fs
@@ -27,75 +36,82 @@ as_many told [] (f ∷ fs) are = absurd are
 as_many told (r ∷ rs) [] are = absurd are
 as_many told (r ∷ rs) (f ∷ fs) are = ap suc (as_many told rs fs are.1)
 
--- the outcome by the kept names is that by the report
-pub named_so : (report : ReportValue) (names : List (List ℕ)) (answer : Result (Unit {0}) ConvertFault) → names ≡ table_ids report
-    → outcome_by (name_in names) answer ≡ outcome_of report answer
-named_so report names (Ok u) is = refl
-named_so report names (Err (fault.Table e)) is =
-    ap (λ id. outcome.Table id e) (ap (λ ns. name_in ns e.table) is ∙ get_or-map (λ (t : Table). t.id) report.tables e.table no_table)
-named_so report names (Err (fault.Write w)) is = refl
-named_so report names (Err fault.WrongReaders) is = refl
-named_so report names (Err fault.Memory) is = refl
-named_so report names (Err fault.BadWorkers) is = refl
-named_so report names (Err fault.BadSize) is = refl
-named_so report names (Err fault.Lost) is = refl
+keeps_same : (a : Option (List ℕ)) → Keeps a a
+keeps_same None = tt
+keeps_same (Some xs) = refl
 
-pub converted : (report : ReportValue) (limit : ℕ) (files : List (Option (List ℕ))) (old new : SinkView) (answer : Result (Unit {0}) ConvertFault) (names : List (List ℕ)) (o : Outcome) (readers : ℕ)
-    → names ≡ table_ids report → o ≡ outcome_by (name_in names) answer → readers ≡ length files
-    → Converts report (streams report limit files) old.mark new.mark old.told new.told answer
-    → ((answer ≡ Err fault.WrongReaders) ↔ (readers ≢ length report.tables))
-    → ConvertsTo report limit files old new o
-converted report limit files old new answer names o readers named is many converts counts =
-    inr (record {
-      answer = answer;
-      converts = converts;
-      counts = subst (λ n. (answer ≡ Err fault.WrongReaders) ↔ (n ≢ length report.tables)) many counts;
-      ending = is ∙ named_so report names answer named;
-    })
+-- the outcome by the kept names is that by the report
+named_at : (report : ReportValue) (names : List (List ℕ)) (e : MergeEnd) → names ≡ table_ids report
+    → outcome_at (name_in names) e ≡ outcome_at (λ i. (table_of report i).id) e
+named_at report names end.Complete is = refl
+named_at report names (end.Refused e) is =
+    ap (λ id. outcome.Table id e) (ap (λ ns. name_in ns e.table) is ∙ get_or-map (λ (t : Table). t.id) report.tables e.table no_table)
+named_at report names (end.Write w) is = refl
+
+named_so : (report : ReportValue) (names : List (List ℕ)) (r : Result Run ConvertFault) → names ≡ table_ids report
+    → outcome_by (name_in names) r ≡ outcome_by (λ i. (table_of report i).id) r
+named_so report names (Ok run) is = named_at report names run.end is
+named_so report names (Err f) is = refl
+
+-- a conversion that found no memory for the names
+pub no_memory_ends : (early : Option ConvertFault) (report : ReportValue) (ss : List Stream) (sink : SinkView) → EndsAs early report ss sink sink (outcome.Run fault.Memory)
+no_memory_ends None report ss sink = (refl, keeps_same sink.told)
+no_memory_ends (Some f) report ss sink = (inr refl, (refl, keeps_same sink.told))
+
+pub converted : (workers ring readers limit : ℕ) (report : ReportValue) (files : List (Option (List ℕ))) (old new : SinkView) (r : Result Run ConvertFault) (names : List (List ℕ)) (o : Outcome)
+    → names ≡ table_ids report → o ≡ outcome_by (name_in names) r → readers ≡ length files
+    → IfOk r (λ run. AreHistories (streams report limit files) run.drains.items)
+    → AnswersFault (early_fault workers ring readers (length report.tables)) r
+    → Writes report (length report.tables) old.mark new.mark old.told new.told r
+    → EndsAs (early_fault workers ring (length files) (length report.tables)) report (streams report limit files) old new o
+converted workers ring readers limit report files old new r names o named is many histories faults writes =
+    subst (λ n. EndsAs (early_fault workers ring n (length report.tables)) report (streams report limit files) old new o) many
+    (subst (EndsAs (early_fault workers ring readers (length report.tables)) report (streams report limit files) old new) (sym (is ∙ named_so report names r named))
+    (answered report (streams report limit files) old new (early_fault workers ring readers (length report.tables)) r (never_lost workers ring readers (length report.tables)) histories faults writes))
 
 -- of a report that texts say
-texts_end : (given : Texts) (old new : SinkView) (report : ReportValue) (answer : Result (Unit {0}) ConvertFault)
-    → SaysWith given.limits given.metadata given.types report
-    → Converts report (streams report given.limits.rows given.files) old.mark new.mark old.told new.told answer
-    → ((answer ≡ Err fault.WrongReaders) ↔ (length given.files ≢ length report.tables))
-    → Ends given old new (outcome_of report answer)
-texts_end given old new report (Ok u) says converts counts =
-    record { report = report; says = says; converted = record { answer = Ok u; converts = converts; counts = counts; ending = refl } }
-texts_end given old new report (Err (fault.Table e)) says converts counts =
-    record { report = report; says = says; converted = record { answer = Err (fault.Table e); converts = converts; counts = counts; ending = refl } }
-texts_end given old new report (Err (fault.Write w)) says converts counts =
-    record { report = report; says = says; converted = record { answer = Err (fault.Write w); converts = converts; counts = counts; ending = refl } }
-texts_end given old new report (Err fault.WrongReaders) says converts counts =
-    record { report = report; says = says; converted = record { answer = Err fault.WrongReaders; converts = converts; counts = counts; ending = refl } }
-texts_end given old new report (Err fault.Memory) says converts counts = converts
-texts_end given old new report (Err fault.BadWorkers) says converts counts = absurd converts
-texts_end given old new report (Err fault.BadSize) says converts counts = absurd converts
-texts_end given old new report (Err fault.Lost) says converts counts = absurd converts
+no_report : (early : Option ConvertFault) (report : ReportValue) (ss : List Stream) (old new : SinkView) (s : Source) (f : MetaFault) → EndsAs early report ss old new (outcome.Report s f) → ⊥
+no_report None report ss old new s f ends = ends
+no_report (Some g) report ss old new s f (inl is, none) = cc
+no_report (Some g) report ss old new s f (inr is, none) = cc
 
-pub ends : (given : Texts) (old new : SinkView) (report : ReportValue) (o : Outcome) → SaysWith given.limits given.metadata given.types report
-    → ConvertsTo report given.limits.rows given.files old new o → Ends given old new o
-ends given old new report o says (inl none) = subst (Ends given old new) (sym none.0) none.1
-ends given old new report o says (inr c) = subst (Ends given old new) (sym c.ending) (texts_end given old new report c.answer says c.converts c.counts)
+unwritten : (early : Option ConvertFault) (report : ReportValue) (ss : List Stream) (old new : SinkView) → EndsAs early report ss old new (outcome.Run fault.Memory) → Unwritten old new
+unwritten None report ss old new ends = ends
+unwritten (Some g) report ss old new ends = ends.1
+
+module _ (given : Texts) (old new : SinkView) (report : ReportValue) (says : SaysWith given.limits given.metadata given.types report) where
+  abbrev found : Option ConvertFault
+  found = early_fault given.workers given.ring (length given.files) (length report.tables)
+
+  abbrev said : List Stream
+  said = streams report given.limits.rows given.files
+
+  all_texts : (o : Outcome) → EndsAs found report said old new o → ConvertedTexts given old new o
+  all_texts o e = record { report = report; says = says; ends = e }
+
+  pub ends : (o : Outcome) → EndsAs found report said old new o → Ends given old new o
+  ends outcome.Done e = all_texts outcome.Done e
+  ends (outcome.Report source.Report f) e = absurd (no_report found report said old new source.Report f e)
+  ends (outcome.Report source.Types f) e = absurd (no_report found report said old new source.Types f e)
+  ends (outcome.Report source.Parameters f) e = absurd (no_report found report said old new source.Parameters f e)
+  ends (outcome.Table id f) e = all_texts (outcome.Table id f) e
+  ends (outcome.CannotRead p) e = all_texts (outcome.CannotRead p) e
+  ends (outcome.CannotWrite p) e = all_texts (outcome.CannotWrite p) e
+  ends (outcome.Output w) e = all_texts (outcome.Output w) e
+  ends (outcome.Run fault.Memory) e = unwritten found report said old new e
+  ends (outcome.Run fault.BadWorkers) e = all_texts (outcome.Run fault.BadWorkers) e
+  ends (outcome.Run fault.BadSize) e = all_texts (outcome.Run fault.BadSize) e
+  ends (outcome.Run fault.WrongReaders) e = all_texts (outcome.Run fault.WrongReaders) e
+  ends (outcome.Run fault.Lost) e = all_texts (outcome.Run fault.Lost) e
+  ends (outcome.Run (fault.Table t)) e = all_texts (outcome.Run (fault.Table t)) e
+  ends (outcome.Run (fault.Write w)) e = all_texts (outcome.Run (fault.Write w)) e
 
 -- of a report whose tables each have a file, or none
-run_end : (report : ReportValue) (files : List (Option (List ℕ))) (old new : SinkView) (answer : Result (Unit {0}) ConvertFault)
-    → length files ≡ length report.tables
-    → Converts report (streams report profile.rows files) old.mark new.mark old.told new.told answer
-    → ((answer ≡ Err fault.WrongReaders) ↔ (length files ≢ length report.tables))
-    → EndsAs report (streams report profile.rows files) old new (outcome_of report answer)
-run_end report files old new (Ok tt) many converts counts = converts
-run_end report files old new (Err (fault.Table e)) many converts counts = (refl, converts)
-run_end report files old new (Err (fault.Write w)) many converts counts = converts
-run_end report files old new (Err fault.WrongReaders) many converts counts = absurd (counts.0 refl many)
-run_end report files old new (Err fault.Memory) many converts counts = (tt, converts)
-run_end report files old new (Err fault.BadWorkers) many converts counts = absurd converts
-run_end report files old new (Err fault.BadSize) many converts counts = absurd converts
-run_end report files old new (Err fault.Lost) many converts counts = absurd converts
-
-run_ends : (report : ReportValue) (files : List (Option (List ℕ))) (old new : SinkView) (o : Outcome) → length files ≡ length report.tables
-    → ConvertsTo report profile.rows files old new o → EndsAs report (streams report profile.rows files) old new o
-run_ends report files old new o many (inl none) = subst (EndsAs report (streams report profile.rows files) old new) (sym none.0) (tt, none.1)
-run_ends report files old new o many (inr c) = subst (EndsAs report (streams report profile.rows files) old new) (sym c.ending) (run_end report files old new c.answer many c.converts c.counts)
+run_ends : (workers ring : ℕ) (report : ReportValue) (files : List (Option (List ℕ))) (old new : SinkView) (o : Outcome) → length files ≡ length report.tables
+    → EndsAs (early_fault workers ring (length files) (length report.tables)) report (streams report profile.rows files) old new o
+    → EndsAs (range_fault workers ring) report (streams report profile.rows files) old new o
+run_ends workers ring report files old new o many =
+    subst (λ early. EndsAs early report (streams report profile.rows files) old new o) (in_range workers ring (length files) (length report.tables) many)
 
 length_map : {A B : Type 0} (f : A → B) (xs : List A) → length (map f xs) ≡ length xs
 length_map f [] = refl
@@ -123,48 +139,42 @@ one_more told (Some at) base path tables i rs rs' r l is more are opened =
     (subst (λ fs. AreFilesOf told (rs ++ r ∷ []) fs) (sym same) both)
 
 -- a run that stops before the conversion
-keeps_same : (a : Option (List ℕ)) → Keeps a a
-keeps_same None = tt
-keeps_same (Some xs) = refl
+want_by : (files : Files) (base : List ℕ) (range : Option ConvertFault) (report : ReportValue) (sink : SinkView) (o : Outcome) → IsWant o → EndsBy files base range (Ok report) sink sink o
+want_by files base range report sink o want = inl (want, (refl, keeps_same sink.told))
 
-want_ends : (report : ReportValue) (files : List (Option (List ℕ))) (sink : SinkView) (o : Outcome) → IsWant o → EndsAs report (streams report profile.rows files) sink sink o
-want_ends report files sink outcome.Done want = absurd want
-want_ends report files sink (outcome.Table id e) want = absurd want
-want_ends report files sink (outcome.Output w) want = absurd want
-want_ends report files sink (outcome.Report s f) want = (want, (refl, keeps_same sink.told))
-want_ends report files sink (outcome.CannotRead p) want = absurd want
-want_ends report files sink (outcome.CannotWrite p) want = absurd want
-want_ends report files sink (outcome.Run f) want = (want, (refl, keeps_same sink.told))
+stop_by : (files : Files) (base : List ℕ) (range : Option ConvertFault) (step : Result ReportValue Early) (sink : SinkView) (o : Outcome) → Gives {X = ReportValue} (λ r. r) (Err o) step
+    → EndsBy files base range step sink sink o
+stop_by files base range (Ok report) sink o want = want_by files base range report sink o want
+stop_by files base range (Err e) sink o ends = (ends, (refl, keeps_same sink.told))
 
-stop_by : (files : Files) (base : List ℕ) (step : Result ReportValue Early) (sink : SinkView) (o : Outcome) → Gives {X = ReportValue} (λ r. r) (Err o) step → EndsBy files base step sink sink o
-stop_by files base (Ok report) sink o want = want_ends report (table_files files base report) sink o want
-stop_by files base (Err e) sink o ends = (ends, (refl, keeps_same sink.told))
-
-pub stops : (known : Option Files) (base meta types : List ℕ) (sink : SinkView) (o : Outcome) → IsFolderOf base meta
+pub stops : (known : Option Files) (base meta types : List ℕ) (workers ring : ℕ) (sink : SinkView) (o : Outcome) → IsFolderOf base meta
     → IfSome known (λ files. Gives {X = ReportValue} (λ r. r) (Err o) (report_at files base meta types))
-    → IfSome known (λ files. EndsOver files meta types sink sink o)
-stops None base meta types sink o folder gives = tt
-stops (Some files) base meta types sink o folder gives =
-    record { base = base; folder = folder; ends = stop_by files base (report_at files base meta types) sink o gives }
+    → IfSome known (λ files. EndsOver files meta types workers ring sink sink o)
+stops None base meta types workers ring sink o folder gives = tt
+stops (Some files) base meta types workers ring sink o folder gives =
+    record { base = base; folder = folder; ends = stop_by files base (range_fault workers ring) (report_at files base meta types) sink o gives }
 
-pub wants : (known : Option Files) (base meta types : List ℕ) (sink : SinkView) (o : Outcome) (report : ReportValue) → IsFolderOf base meta
+pub wants : (known : Option Files) (base meta types : List ℕ) (workers ring : ℕ) (sink : SinkView) (o : Outcome) (report : ReportValue) → IsFolderOf base meta
     → IfSome known (λ files. report_at files base meta types ≡ Ok report) → IsWant o
-    → IfSome known (λ files. EndsOver files meta types sink sink o)
-wants None base meta types sink o report folder is want = tt
-wants (Some files) base meta types sink o report folder is want =
-    record { base = base; folder = folder; ends = subst (λ s. EndsBy files base s sink sink o) (sym is) (want_ends report (table_files files base report) sink o want) }
+    → IfSome known (λ files. EndsOver files meta types workers ring sink sink o)
+wants None base meta types workers ring sink o report folder is want = tt
+wants (Some files) base meta types workers ring sink o report folder is want =
+    let range = range_fault workers ring in
+    record { base = base; folder = folder; ends = subst (λ s. EndsBy files base range s sink sink o) (sym is) (want_by files base range report sink o want) }
 
 -- a run whose tables are converted
-pub runs : {R : Type 0} (told : R → Option (List ℕ)) (known : Option Files) (base meta types : List ℕ) (old new : SinkView) (o : Outcome) (report : ReportValue) (readers : List (Option R)) → IsFolderOf base meta
+pub runs : {R : Type 0} (told : R → Option (List ℕ)) (known : Option Files) (base meta types : List ℕ) (workers ring : ℕ) (old new : SinkView) (o : Outcome) (report : ReportValue) (readers : List (Option R)) → IsFolderOf base meta
     → IfSome known (λ files. report_at files base meta types ≡ Ok report)
     → IfSome known (λ files. AreFilesOf told readers (table_files files base report))
-    → ((files : List (Option (List ℕ))) → AreFilesOf told readers files → ConvertsTo report profile.rows files old new o)
-    → IfSome known (λ files. EndsOver files meta types old new o)
-runs told None base meta types old new o report readers folder is are converts = tt
-runs told (Some files) base meta types old new o report readers folder is are converts =
+    → ((files : List (Option (List ℕ))) → AreFilesOf told readers files
+        → EndsAs (early_fault workers ring (length files) (length report.tables)) report (streams report profile.rows files) old new o)
+    → IfSome known (λ files. EndsOver files meta types workers ring old new o)
+runs told None base meta types workers ring old new o report readers folder is are converts = tt
+runs told (Some files) base meta types workers ring old new o report readers folder is are converts =
+    let tables = table_files files base report in
     record {
       base = base;
       folder = folder;
-      ends = subst (λ s. EndsBy files base s old new o) (sym is)
-          (run_ends report (table_files files base report) old new o (length_map (table_file files base) report.tables) (converts (table_files files base report) are));
+      ends = subst (λ s. EndsBy files base (range_fault workers ring) s old new o) (sym is)
+          (inr (run_ends workers ring report tables old new o (length_map (table_file files base) report.tables) (converts tables are)));
     }

@@ -1,5 +1,7 @@
 mod CommandLine
 mod Endings
 mod FolderFacts
+mod Histories
+mod Threads
 mod MetadataFacts
 mod StepFacts

@@ -1,20 +1,26 @@
 //! The conversion of a report, whose tables are given by readers, or all of whose files are given by
 //! their bytes.
 
-ghost use Rattle.std.specs.Prelude.{◌≡◌, ◌≤◌, ◌<◌, ℕ, List, [], ◌∷◌, Option, Some, None, IfOk, is_err, if◌then◌else◌};
+ghost use Rattle.std.specs.Prelude.{◌≡◌, ◌≤◌, ◌<◌, ℕ, List, [], ◌∷◌, Option, Some, None, IfOk, is_err, if◌then◌else◌, length};
+ghost use Rattle.oim_convert.specs.Answer.{streams};
 ghost use Rattle.oim_convert.specs.Files.{AreFilesOf};
+ghost use Rattle.oim_convert.specs.Runs.{early_fault};
 ghost use Rattle.oim_convert.specs.Steps.{sink_at};
-ghost use Rattle.xbrl_json_cli.specs.Conversion.{ConvertsTo, Ends, Reads, flushed, name_in, outcome_by, profile, table_ids, texts};
+ghost use Rattle.xbrl_json_cli.specs.Conversion.{Ends, Reads, flushed, profile, texts};
+ghost use Rattle.xbrl_json_cli.specs.Outcomes.{EndsAs, name_in, outcome_by, table_ids};
 
 use crate::held::{METADATA, TABLE, TYPES};
 use crate::outcome::{Outcome, Source};
-use oim_convert::{ConvertFault, convert_serial};
+use oim_convert::{ConvertFault, Run, convert};
 use oim_json::{Marked, Sink, WriteFault};
+use oim_merge::MergeEnd;
 use oim_meta::{Limits, Parameters, Report, read_report, read_types};
 use oim_names::Text;
 use std::alloc::{AllocError, Global};
 use std::io;
 use std::io::{BufWriter, Read, Write};
+use std::sync::Wait;
+use std::thread::Threads;
 
 /// The report that a metadata says with the types of a types table, and with no parameters of a
 /// file. Else the outcome that names the fault of the types table, or of the metadata.
@@ -60,77 +66,92 @@ fn name_at(alloc: Global, names: Vec<Text>, place: usize) -> Text
 }
 
 /// The outcome of a conversion that answered so, where the tables have these names.
-fn ending(alloc: Global, names: Vec<Text>, answer: Result<(), ConvertFault>) -> Outcome
+fn ending(alloc: Global, names: Vec<Text>, answer: Result<Run, ConvertFault>) -> Outcome
     ensures { result ≡ outcome_by (name_in names.items) answer }
 {
-    match answer {
-        Ok(()) => Outcome::Done,
-        Err(ConvertFault::Table(fault)) => {
-            Outcome::Table(name_at(alloc, names, fault.table), fault)
-        }
-        Err(ConvertFault::Write(fault)) => Outcome::Output(fault),
-        Err(fault) => Outcome::Run(fault),
+    let run = match answer {
+        Ok(run) => run,
+        Err(fault) => return Outcome::Run(fault),
+    };
+    match run.end {
+        MergeEnd::Complete => Outcome::Done,
+        MergeEnd::Refused(fault) => Outcome::Table(name_at(alloc, names, fault.table), fault),
+        MergeEnd::Write(fault) => Outcome::Output(fault),
     }
 }
 
 /// Converts a report, given a reader of the file of each table, in table order, where `None` is a
-/// table without a file. Writes its document in xBRL-JSON 1.0 to the sink, and answers how the
-/// conversion ended. The names that an outcome needs are made first. `limits.rows` is at most
-/// 4,294,967,294.
-pub fn convert_report<R: Read + Drop, W: Sink>(
+/// table without a file, by so many workers, over rings of this size. Writes its document in
+/// xBRL-JSON 1.0 to the sink, and answers how the conversion ended, which is the same for every
+/// number of workers, ring size and schedule, want of memory and of threads and failed readers
+/// apart. The names that an outcome needs are made first. `limits.rows` is at most 4,294,967,294.
+/// It waits for its workers.
+pub fn convert_report<R: Read + Drop + Send, T: Threads + Wait + Sync, W: Sink>(
+    rt: &T,
     alloc: Global,
     report: &Report,
     readers: Vec<Option<R>>,
+    workers: usize,
+    ring: usize,
     limits: Limits,
     sink: &mut W,
 ) -> Outcome
     requires { limits.rows ≤ 4294967294 }
     ensures { (files : List (Option (List ℕ))) → AreFilesOf R.remaining readers.items files
-        → ConvertsTo report.now limits.rows files (sink_at (W.mark sink.old) (W.told sink.old)) (sink_at (W.mark sink.new) (W.told sink.new)) result }
+        → EndsAs (early_fault workers ring (length files) (length report.now.tables)) report.now (streams report.now limits.rows files)
+            (sink_at (W.mark sink.old) (W.told sink.old)) (sink_at (W.mark sink.new) (W.told sink.new)) result }
 {
     let Ok(names) = names_of(alloc, report) else {
         return Outcome::Run(ConvertFault::Memory);
     };
-    let answer = convert_serial(alloc, report, readers, limits, sink);
+    let answer = convert(rt, alloc, report, readers, workers, ring, limits, sink);
     ending(alloc, names, answer)
 }
 
 /// Converts a report, given by the bytes of its metadata and of its types table and by a reader of
-/// the file of each table, in table order, where `None` is a table without a file. It has no
-/// parameters of a file. Writes its document in xBRL-JSON 1.0 to the sink, and answers how the run
-/// ended. `limits.rows` is at most 4,294,967,294.
-pub fn convert_texts<R: Read + Drop, W: Sink>(
+/// the file of each table, in table order, where `None` is a table without a file, by so many
+/// workers, over rings of this size. It has no parameters of a file. Writes its document in
+/// xBRL-JSON 1.0 to the sink, and answers how the run ended. `limits.rows` is at most
+/// 4,294,967,294. It waits for its workers.
+pub fn convert_texts<R: Read + Drop + Send, T: Threads + Wait + Sync, W: Sink>(
+    rt: &T,
     alloc: Global,
     metadata: &[u8],
     types: &[u8],
     tables: Vec<Option<R>>,
+    workers: usize,
+    ring: usize,
     limits: Limits,
     sink: &mut W,
 ) -> Outcome
     requires { limits.rows ≤ 4294967294 }
     ensures { (files : List (Option (List ℕ))) → AreFilesOf R.remaining tables.items files
-        → Ends (texts limits metadata.now types.now files) (sink_at (W.mark sink.old) (W.told sink.old)) (sink_at (W.mark sink.new) (W.told sink.new)) result }
+        → Ends (texts workers ring limits metadata.now types.now files) (sink_at (W.mark sink.old) (W.told sink.old)) (sink_at (W.mark sink.new) (W.told sink.new)) result }
 {
     let report = match read_texts(alloc, metadata, types, &limits) {
         Ok(report) => report,
         Err(outcome) => return outcome,
     };
-    convert_report(alloc, &report, tables, limits, sink)
+    convert_report(rt, alloc, &report, tables, workers, ring, limits, sink)
 }
 
-/// Converts the report that the program holds, within the limits of this profile.
-pub fn convert_held<W: Sink>(alloc: Global, sink: &mut W) -> Outcome
-    ensures { Ends (texts profile METADATA.now TYPES.now (Some TABLE.now ∷ [])) (sink_at (W.mark sink.old) (W.told sink.old)) (sink_at (W.mark sink.new) (W.told sink.new)) result }
+/// Converts the report that the program holds, within the limits of this profile, by one worker
+/// over a ring of one block.
+pub fn convert_held<T: Threads + Wait + Sync, W: Sink>(rt: &T, alloc: Global, sink: &mut W) -> Outcome
+    ensures { Ends (texts 1 1 profile METADATA.now TYPES.now (Some TABLE.now ∷ [])) (sink_at (W.mark sink.old) (W.told sink.old)) (sink_at (W.mark sink.new) (W.told sink.new)) result }
 {
     let mut tables = Vec::new(alloc);
     if tables.push(Some(TABLE.as_bytes())).is_err() {
         return Outcome::Run(ConvertFault::Memory);
     }
     convert_texts(
+        rt,
         alloc,
         METADATA.as_bytes(),
         TYPES.as_bytes(),
         tables,
+        1,
+        1,
         Limits::profile(),
         sink,
     )
@@ -148,10 +169,14 @@ pub fn after_flush(outcome: Outcome, flush: io::Result<()>) -> Outcome
 }
 
 /// Converts the report that the program holds to a writer, and flushes it.
-pub fn convert_to<W: Write + Drop>(alloc: Global, to: W) -> Outcome {
+pub fn convert_to<T: Threads + Wait + Sync, W: Write + Drop>(
+    rt: &T,
+    alloc: Global,
+    to: W,
+) -> Outcome {
     let Ok(mut buffered) = BufWriter::with_capacity(alloc, 65536, to) else {
         return Outcome::Run(ConvertFault::Memory);
     };
-    let outcome = convert_held(alloc, &mut Marked::new(&mut buffered));
+    let outcome = convert_held(rt, alloc, &mut Marked::new(&mut buffered));
     after_flush(outcome, buffered.flush())
 }

@@ -10,7 +10,8 @@
 //! - `run`, over any folder that tells its bytes honestly, ends as the folder's files say: by the
 //!   first fault of the metadata, the types table and the parameters file, in the order in which
 //!   they are read, and then nothing is written; else as the conversion of the report that they
-//!   give, with just the document or the unfinished document written that this conversion gives;
+//!   give, with just the document or the unfinished document written that this conversion gives, for
+//!   every number of workers, every size of the rings and every schedule of the threads;
 //! - `convert_texts` says the same of a report whose files are given by their bytes, and
 //!   `convert_held` of the held texts;
 //! - `status` and `line` are the exit status and the line on standard error of each outcome, and a
@@ -52,6 +53,8 @@ use std::io;
 use std::io::{ErrorKind, Read, Write};
 use std::process::ExitCode;
 use std::rt::{Env, Files};
+use std::sync::Wait;
+use std::thread::Threads;
 
 /// The status of an outcome, whose line is printed. What cannot be printed is left out.
 fn told<H: Eprint>(rt: &H, alloc: Global, outcome: &Outcome) -> u8 {
@@ -68,12 +71,16 @@ fn explained<H: Print + Eprint>(rt: &H, error: &clap::Error) -> u8 {
 }
 
 /// The status of a run with these words, without the program's name.
-fn started<H: Files + Print + Eprint>(rt: &H, alloc: Global, words: &[&str]) -> u8
+fn started<H: Files + Print + Eprint + Threads + Wait + Sync>(
+    rt: &H,
+    alloc: Global,
+    words: &[&str],
+) -> u8
 where
-    H::File: Read + Write + Drop,
+    H::File: Read + Write + Drop + Send,
 {
     if words.is_empty() {
-        return told(rt, alloc, &convert_to(alloc, io::writer(rt)));
+        return told(rt, alloc, &convert_to(rt, alloc, io::writer(rt)));
     }
     match settings::job(alloc, words) {
         Ok(settings) => told(rt, alloc, &convert_as(rt, alloc, &settings)),
@@ -82,9 +89,9 @@ where
 }
 
 /// The status of a run with these arguments, the program's name among them.
-fn program<H: Files + Env + Print + Eprint + AllocGlobal>(rt: &H) -> u8
+fn program<H: Files + Env + Print + Eprint + AllocGlobal + Threads + Wait + Sync>(rt: &H) -> u8
 where
-    H::File: Read + Write + Drop,
+    H::File: Read + Write + Drop + Send,
 {
     let alloc = rt.alloc();
     let no_memory = Outcome::Run(ConvertFault::Memory);

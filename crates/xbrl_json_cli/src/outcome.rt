@@ -48,7 +48,8 @@ pub enum Outcome {
     CannotRead(Text),
     /// The document's file, at this path, cannot be made.
     CannotWrite(Text),
-    /// The conversion could not begin; nothing is written.
+    /// The conversion could not begin, and nothing is written; or it lost the end of a ring (Lost),
+    /// after a document or a beginning of one was written.
     Run(ConvertFault),
     /// A write failed; a beginning of the document is written.
     Output(WriteFault),

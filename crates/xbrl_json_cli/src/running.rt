@@ -15,6 +15,8 @@ use oim_json::Sink;
 use oim_meta::{Limits, Report};
 use std::alloc::Global;
 use std::io::Read;
+use std::sync::Wait;
+use std::thread::Threads;
 
 /// A reader of each table's file, in table order; a file that is not there is `None`.
 fn open_tables<R: Read + Drop, F: Folder<R>>(
@@ -43,18 +45,25 @@ fn open_tables<R: Read + Drop, F: Folder<R>>(
 /// `settings.types`, and writes its document in xBRL-JSON 1.0 to the sink. The paths of the tables
 /// and of the parameters file are the folder of the metadata's path and their URL. Answers how the
 /// run ended: the first fault of the metadata, the types table and the parameters file, in the
-/// order in which they are read, with nothing written; else as the conversion of the tables ends.
-/// A table's file that is not there is a missing file and no other fault.
+/// order in which they are read, with nothing written; else as the conversion of the tables ends,
+/// by `settings.workers` workers over rings of the size `settings.ring`. A table's file that is not
+/// there is a missing file and no other fault.
 ///
-/// `settings.workers` and `settings.ring` are not used yet.
-pub fn run<R: Read + Drop, F: Folder<R>, W: Sink>(
+/// Done says that exactly the document of the files' bytes is written, Table that its first refused
+/// table was refused and the unfinished document is written, at every number of workers, ring size
+/// and schedule; want of memory, want of threads and failed readers show as Memory, NoThread and
+/// Read. Run has BadWorkers exactly where no early fault and no want of memory came before and the
+/// workers are not 1 to 64, BadSize where they are and the ring's size is not 1 to 65,536; Lost
+/// where the token of a ring was lost, after all was written. It waits for its workers.
+pub fn run<R: Read + Drop + Send, F: Folder<R>, T: Threads + Wait + Sync, W: Sink>(
+    rt: &T,
     alloc: Global,
     settings: &Settings,
     folder: &mut F,
     sink: &mut W,
 ) -> Outcome
     ensures { IfSome (F.files folder.old) (λ files.
-        EndsOver files settings.now.meta settings.now.types (sink_at (W.mark sink.old) (W.told sink.old)) (sink_at (W.mark sink.new) (W.told sink.new)) result) }
+        EndsOver files settings.now.meta settings.now.types settings.now.workers settings.now.ring (sink_at (W.mark sink.old) (W.told sink.old)) (sink_at (W.mark sink.new) (W.told sink.new)) result) }
 {
     let meta = settings.meta.as_str();
     let types = settings.types.as_str();
@@ -67,5 +76,14 @@ pub fn run<R: Read + Drop, F: Folder<R>, W: Sink>(
         Ok(readers) => readers,
         Err(outcome) => return outcome,
     };
-    convert_report(alloc, &report, readers, Limits::profile(), sink)
+    convert_report(
+        rt,
+        alloc,
+        &report,
+        readers,
+        settings.workers,
+        settings.ring,
+        Limits::profile(),
+        sink,
+    )
 }

@@ -11,7 +11,9 @@ use std::alloc::{AllocError, Global};
 use std::io;
 use std::io::Write;
 use std::process::Abort;
+use std::sync::Wait;
 use std::test::Fail;
+use std::thread::Threads;
 
 /// What stands before the facts of each document here.
 pub(crate) const HEAD: &str =
@@ -39,6 +41,7 @@ fn readers<'a>(alloc: Global, tables: &[Option<&'a [u8]>]) -> Result<Vec<Option<
 
 /// The document and the line of a conversion with a limit of two rows.
 fn converted(
+    rt: &(impl Threads + Wait + Sync),
     alloc: Global,
     metadata: &str,
     tables: &[Option<&[u8]>],
@@ -49,10 +52,13 @@ fn converted(
     };
     let mut document = Vec::new(alloc);
     let outcome = convert_texts(
+        rt,
         alloc,
         metadata.as_bytes(),
         TYPES.as_bytes(),
         readers(alloc, tables)?,
+        2,
+        1,
         limits,
         &mut Marked::new(&mut document),
     );
@@ -118,7 +124,7 @@ fn line_of(alloc: Global, fault: &str) -> Result<String, AllocError> {
 
 /// Converts a report, and compares its document and its line, given as `FACTS => FAULT`.
 fn check(
-    rt: &(impl Abort + AllocGlobal),
+    rt: &(impl Abort + AllocGlobal + Threads + Wait + Sync),
     edits: Edits<'_>,
     tables: &[Option<&[u8]>],
     expected: &str,
@@ -126,7 +132,7 @@ fn check(
     let alloc = rt.alloc();
     let (facts, fault) = expected.split_once(" => ").ok_or("no fault")?;
     let metadata = edited(alloc, edits)?;
-    let (document, line) = converted(alloc, metadata.as_str(), tables)?;
+    let (document, line) = converted(rt, alloc, metadata.as_str(), tables)?;
     let wanted = line_of(alloc, fault)?;
     assert_eq!(rt; line.as_str(), wanted.as_str(), "of {expected}");
     let expected = document_of(alloc, facts, fault)?;
@@ -140,7 +146,7 @@ fn check(
 
 /// Does so for reports of one table, each given as `FILE => FACTS => FAULT`.
 fn check_all(
-    rt: &(impl Abort + AllocGlobal),
+    rt: &(impl Abort + AllocGlobal + Threads + Wait + Sync),
     edits: Edits<'_>,
     cases: &[&str],
 ) -> Result<(), Fail> {
@@ -429,7 +435,7 @@ impl Write for Narrow {
 fn narrow_writers(rt: HostRuntime) -> Result<(), Fail> {
     let alloc = rt.alloc();
     let mut whole = Vec::new(alloc);
-    let outcome = convert_held(alloc, &mut Marked::new(&mut whole));
+    let outcome = convert_held(&rt, alloc, &mut Marked::new(&mut whole));
     assert_eq!(rt; status(&outcome), 0);
     for (most, room, fails, ending) in [
         (1, 4096, true, None),
@@ -443,7 +449,7 @@ fn narrow_writers(rt: HostRuntime) -> Result<(), Fail> {
             room,
             fails,
         };
-        let outcome = convert_held(alloc, &mut Marked::new(&mut narrow));
+        let outcome = convert_held(&rt, alloc, &mut Marked::new(&mut narrow));
         let fault = match outcome {
             Outcome::Output(fault) => Some(fault),
             _ => None,

@@ -13,7 +13,9 @@ use oim_names::Text;
 use std::alloc::Global;
 use std::io;
 use std::io::Write;
+use std::sync::Wait;
 use std::test::Fail;
+use std::thread::Threads;
 
 /// The words of most runs.
 const WORDS: &str = "m.json --types t.csv";
@@ -62,9 +64,10 @@ fn says(alloc: Global, outcome: &Outcome, said: Said<'_>) -> Result<bool, Fail> 
 }
 
 /// Runs over these files.
-fn run_over(alloc: Global, settings: &Settings, files: &[File<'_>], short: &mut Short) -> Outcome {
+fn run_over(rt: &(impl AllocGlobal + Threads + Wait + Sync), settings: &Settings, files: &[File<'_>], short: &mut Short) -> Outcome {
     run(
-        alloc,
+        rt,
+        rt.alloc(),
         settings,
         &mut Texts { files },
         &mut Marked::new(short),
@@ -74,36 +77,36 @@ fn run_over(alloc: Global, settings: &Settings, files: &[File<'_>], short: &mut 
 /// Whether a run with these settings over these files, with a writer of so much room, writes and
 /// says this.
 fn ends(
-    alloc: Global,
+    rt: &(impl AllocGlobal + Threads + Wait + Sync),
     settings: &Settings,
     files: &[File<'_>],
     room: usize,
     written: &[u8],
     said: Said<'_>,
 ) -> Result<bool, Fail> {
-    let taken = Vec::new(alloc);
+    let taken = Vec::new(rt.alloc());
     let mut short = Short { taken, room };
-    let outcome = run_over(alloc, settings, files, &mut short);
+    let outcome = run_over(rt, settings, files, &mut short);
     let is_written = short.taken.as_slice() == written;
-    let is_said = says(alloc, &outcome, said)?;
+    let is_said = says(rt.alloc(), &outcome, said)?;
     Ok(is_written && is_said)
 }
 
 /// Whether a run with these words over these files writes and says this.
 fn ends_so(
-    alloc: Global,
+    rt: &(impl AllocGlobal + Threads + Wait + Sync),
     words: &str,
     files: &[File<'_>],
     written: &[u8],
     said: Said<'_>,
 ) -> Result<bool, Fail> {
-    let settings = settings_of(alloc, words)?;
-    ends(alloc, &settings, files, 4096, written, said)
+    let settings = settings_of(rt.alloc(), words)?;
+    ends(rt, &settings, files, 4096, written, said)
 }
 
 /// Whether a run with these words over the held files at these paths writes this document.
 fn writes<'a>(
-    alloc: Global,
+    rt: &(impl AllocGlobal + Threads + Wait + Sync),
     words: &str,
     meta: &'a str,
     table: &'a str,
@@ -114,14 +117,14 @@ fn writes<'a>(
         ("t.csv", TYPES.as_bytes()),
         (table, TABLE.as_bytes()),
     ];
-    ends_so(alloc, words, files.as_slice(), document, ("", 0))
+    ends_so(rt, words, files.as_slice(), document, ("", 0))
 }
 
 /// Whether such a run writes what the held conversion writes.
-fn is_whole(alloc: Global, words: &str, meta: &str, table: &str) -> Result<bool, Fail> {
-    let mut whole = Vec::new(alloc);
-    let outcome = convert_held(alloc, &mut Marked::new(&mut whole));
-    let writes = writes(alloc, words, meta, table, whole.as_slice())?;
+fn is_whole(rt: &(impl AllocGlobal + Threads + Wait + Sync), words: &str, meta: &str, table: &str) -> Result<bool, Fail> {
+    let mut whole = Vec::new(rt.alloc());
+    let outcome = convert_held(rt, rt.alloc(), &mut Marked::new(&mut whole));
+    let writes = writes(rt, words, meta, table, whole.as_slice())?;
     Ok(writes && status(&outcome) == 0)
 }
 
@@ -136,7 +139,7 @@ fn whole_documents(rt: HostRuntime) -> Result<(), Fail> {
         ),
         ("/m.json --types t.csv --out o.json", "/m.json", "/t1.csv"),
     ] {
-        let whole = is_whole(rt.alloc(), words, meta, table)?;
+        let whole = is_whole(&rt, words, meta, table)?;
         assert!(rt; whole, "of {words}");
     }
     Ok(())
@@ -144,7 +147,7 @@ fn whole_documents(rt: HostRuntime) -> Result<(), Fail> {
 
 /// Whether a run over this metadata and the first so many of these files ends as a refused table.
 fn refuses(
-    alloc: Global,
+    rt: &(impl AllocGlobal + Threads + Wait + Sync),
     metadata: &str,
     count: usize,
     document: &str,
@@ -158,26 +161,26 @@ fn refuses(
         ("t3.csv", b"nope\n1\n".as_slice()),
     ];
     let files = files.as_slice().get(..count).ok_or("fewer files")?;
-    ends_so(alloc, WORDS, files, document.as_bytes(), (said, 1))
+    ends_so(rt, WORDS, files, document.as_bytes(), (said, 1))
 }
 
 /// Whether a report of three tables, whose second is refused, ends so with this many files there.
-fn is_refused(alloc: Global, count: usize, document: &str, said: &str) -> Result<bool, Fail> {
-    let metadata = edited(alloc, THREE)?;
-    refuses(alloc, metadata.as_str(), count, document, said)
+fn is_refused(rt: &(impl AllocGlobal + Threads + Wait + Sync), count: usize, document: &str, said: &str) -> Result<bool, Fail> {
+    let metadata = edited(rt.alloc(), THREE)?;
+    refuses(rt, metadata.as_str(), count, document, said)
 }
 
 /// Whether the facts before a bad cell are written, and no more.
-fn stops_at_a_cell(alloc: Global) -> Result<bool, Fail> {
+fn stops_at_a_cell(rt: &(impl AllocGlobal + Threads + Wait + Sync)) -> Result<bool, Fail> {
     let facts = "t1.r_1.cash - Cash EUR 5; t2.r_1.cash - Cash EUR 1";
-    let document = document_of(alloc, facts, "BadNumber")?;
+    let document = document_of(rt.alloc(), facts, "BadNumber")?;
     let said = "xbrl-json: table t2, row 2, column 1: BadNumber (40)\n";
-    is_refused(alloc, 5, document.as_str(), said)
+    is_refused(rt, 5, document.as_str(), said)
 }
 
 #[test]
 fn a_bad_cell(rt: HostRuntime) -> Result<(), Fail> {
-    let stops = stops_at_a_cell(rt.alloc())?;
+    let stops = stops_at_a_cell(&rt)?;
     assert!(rt; stops);
     Ok(())
 }
@@ -185,8 +188,83 @@ fn a_bad_cell(rt: HostRuntime) -> Result<(), Fail> {
 #[test]
 fn no_file_of_a_table(rt: HostRuntime) -> Result<(), Fail> {
     let said = "xbrl-json: table t1, row 0, column 0: NoFile (20)\n";
-    let refused = is_refused(rt.alloc(), 2, HEAD, said)?;
+    let refused = is_refused(&rt, 2, HEAD, said)?;
     assert!(rt; refused);
+    Ok(())
+}
+
+/// Whether a run by these workers over rings of this size ends so, of three tables whose second is refused.
+fn is_refused_by(
+    rt: &(impl AllocGlobal + Threads + Wait + Sync),
+    metadata: &str,
+    workers: usize,
+    ring: usize,
+    document: &str,
+) -> Result<bool, Fail> {
+    let mut settings = settings_of(rt.alloc(), WORDS)?;
+    settings.workers = workers;
+    settings.ring = ring;
+    let files = [
+        ("m.json", metadata.as_bytes()),
+        ("t.csv", TYPES.as_bytes()),
+        ("t1.csv", b"cash\n5\n".as_slice()),
+        ("t2.csv", b"cash\n1\nx\n".as_slice()),
+        ("t3.csv", b"nope\n1\n".as_slice()),
+    ];
+    let said = ("xbrl-json: table t2, row 2, column 1: BadNumber (40)\n", 1);
+    ends(rt, &settings, files.as_slice(), 4096, document.as_bytes(), said)
+}
+
+/// Whether it does, with the document that one thread writes.
+fn is_refused_in_a_way(
+    rt: &(impl AllocGlobal + Threads + Wait + Sync),
+    workers: usize,
+    ring: usize,
+) -> Result<bool, Fail> {
+    let facts = "t1.r_1.cash - Cash EUR 5; t2.r_1.cash - Cash EUR 1";
+    let document = document_of(rt.alloc(), facts, "BadNumber")?;
+    let metadata = edited(rt.alloc(), THREE)?;
+    is_refused_by(rt, metadata.as_str(), workers, ring, document.as_str())
+}
+
+#[test]
+fn every_number_of_workers(rt: HostRuntime) -> Result<(), Fail> {
+    for (workers, ring) in [(1, 1), (1, 4), (2, 1), (2, 4), (3, 1), (3, 4), (8, 65_536)] {
+        let refused = is_refused_in_a_way(&rt, workers, ring)?;
+        assert!(rt; refused, "by {workers} workers over rings of {ring}");
+    }
+    Ok(())
+}
+
+/// Whether a run with these settings out of range says this, with nothing written.
+fn is_out_of_range(
+    rt: &(impl AllocGlobal + Threads + Wait + Sync),
+    workers: usize,
+    ring: usize,
+    said: &str,
+) -> Result<bool, Fail> {
+    let mut settings = settings_of(rt.alloc(), WORDS)?;
+    settings.workers = workers;
+    settings.ring = ring;
+    let files = [
+        ("m.json", METADATA.as_bytes()),
+        ("t.csv", TYPES.as_bytes()),
+        ("t1.csv", TABLE.as_bytes()),
+    ];
+    ends(rt, &settings, files.as_slice(), 4096, b"".as_slice(), (said, 3))
+}
+
+#[test]
+fn settings_out_of_range(rt: HostRuntime) -> Result<(), Fail> {
+    for (workers, ring, said) in [
+        (65, 1, "xbrl-json: run: BadWorkers (50)\n"),
+        (0, 0, "xbrl-json: run: BadWorkers (50)\n"),
+        (64, 65_537, "xbrl-json: run: BadSize (51)\n"),
+        (64, 0, "xbrl-json: run: BadSize (51)\n"),
+    ] {
+        let refused = is_out_of_range(&rt, workers, ring, said)?;
+        assert!(rt; refused, "of {workers} and {ring}");
+    }
     Ok(())
 }
 
@@ -201,7 +279,7 @@ const BROKEN: Edits<'static> = &[(METADATA, "{")];
 /// Whether a run over this metadata and types table, and a bad parameters file, says this and writes
 /// nothing.
 fn stops_over<'a>(
-    alloc: Global,
+    rt: &(impl AllocGlobal + Threads + Wait + Sync),
     words: &str,
     metadata: &'a str,
     types: &'a str,
@@ -212,19 +290,19 @@ fn stops_over<'a>(
         ("t.csv", types.as_bytes()),
         ("p.csv", b"a,1\n".as_slice()),
     ];
-    ends_so(alloc, words, files.as_slice(), b"".as_slice(), said)
+    ends_so(rt, words, files.as_slice(), b"".as_slice(), said)
 }
 
 /// Does so for the held metadata with each text replaced.
 fn stops(
-    alloc: Global,
+    rt: &(impl AllocGlobal + Threads + Wait + Sync),
     words: &str,
     edits: Edits<'_>,
     types: &str,
     said: Said<'_>,
 ) -> Result<bool, Fail> {
-    let metadata = edited(alloc, edits)?;
-    stops_over(alloc, words, metadata.as_str(), types, said)
+    let metadata = edited(rt.alloc(), edits)?;
+    stops_over(rt, words, metadata.as_str(), types, said)
 }
 
 #[test]
@@ -242,7 +320,7 @@ fn files_that_are_not_there(rt: HostRuntime) -> Result<(), Fail> {
         ),
         (WORDS, NOT_THERE, "xbrl-json: cannot read x.csv\n"),
     ] {
-        let stops = stops(rt.alloc(), words, edits, TYPES, (said, 3))?;
+        let stops = stops(&rt, words, edits, TYPES, (said, 3))?;
         assert!(rt; stops, "for {said}");
     }
     Ok(())
@@ -256,15 +334,15 @@ fn faults_before_the_tables(rt: HostRuntime) -> Result<(), Fail> {
         (EXTENDED, TYPES, "xbrl-json: report: Unsupported (5)\n"),
         (NAMED, TYPES, "xbrl-json: parameters: BadParameter (13)\n"),
     ] {
-        let stops = stops(rt.alloc(), WORDS, edits, types, (said, 1))?;
+        let stops = stops(&rt, WORDS, edits, types, (said, 1))?;
         assert!(rt; stops, "for {said}");
     }
     Ok(())
 }
 
 /// Whether a run over the held files, with a writer of 40 bytes, ends as a failed write.
-fn fails_to_write(alloc: Global) -> Result<bool, Fail> {
-    let settings = settings_of(alloc, WORDS)?;
+fn fails_to_write(rt: &(impl AllocGlobal + Threads + Wait + Sync)) -> Result<bool, Fail> {
+    let settings = settings_of(rt.alloc(), WORDS)?;
     let files = [
         ("m.json", METADATA.as_bytes()),
         ("t.csv", TYPES.as_bytes()),
@@ -272,12 +350,12 @@ fn fails_to_write(alloc: Global) -> Result<bool, Fail> {
     ];
     let written = b"{\"documentInfo\":{\"documentType\":\"https:/".as_slice();
     let said = ("xbrl-json: output: Write (56)\n", 3);
-    ends(alloc, &settings, files.as_slice(), 40, written, said)
+    ends(rt, &settings, files.as_slice(), 40, written, said)
 }
 
 #[test]
 fn a_writer_that_fails(rt: HostRuntime) -> Result<(), Fail> {
-    let fails = fails_to_write(rt.alloc())?;
+    let fails = fails_to_write(&rt)?;
     assert!(rt; fails);
     Ok(())
 }

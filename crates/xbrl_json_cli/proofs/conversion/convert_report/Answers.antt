@@ -1,13 +1,15 @@
+use Rattle.oim_convert.specs.Answer.{streams}
+use Rattle.oim_convert.specs.Runs.{early_fault}
 use Rattle.oim_convert.specs.Steps.{sink_at}
 use Rattle.std.proofs.Common.{length}
-use Rattle.xbrl_json_cli.proofs.Endings.{as_many, converted}
+use Rattle.xbrl_json_cli.proofs.Endings.{as_many, converted, no_memory_ends}
 use Rattle.xbrl_json_cli.proofs.conversion.convert_report.Goals as goal
 
 pub returns : goal.returns
 returns g c = λ files are.
-    converted c.args.report.now c.args.limits.rows files
+    converted c.args.workers c.args.ring (length c.args.readers.items) c.args.limits.rows c.args.report.now files
     (sink_at (g.W.Sink.mark c.args.sink.now) (g.W.Sink.told c.args.sink.now))
-    (sink_at (g.W.Sink.mark c.convert_serial-answer.new.sink) (g.W.Sink.told c.convert_serial-answer.new.sink))
-    c.convert_serial-answer.result c.in-Ok.names.items c.ending.result (length c.args.readers.items)
+    (sink_at (g.W.Sink.mark c.convert-answer.new.sink) (g.W.Sink.told c.convert-answer.new.sink))
+    c.convert-answer.result c.in-Ok.names.items c.ending.result
     c.in-Ok.ensures c.ending.ensures (as_many g.R.Read.remaining c.args.readers.items files are)
-    (c.convert_serial-answer.ensures.converts files are) c.convert_serial-answer.ensures.readers
+    (c.convert-answer.ensures.histories files are) c.convert-answer.ensures.faults c.convert-answer.ensures.writes
