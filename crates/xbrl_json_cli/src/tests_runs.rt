@@ -64,7 +64,12 @@ fn says(alloc: Global, outcome: &Outcome, said: Said<'_>) -> Result<bool, Fail> 
 }
 
 /// Runs over these files.
-fn run_over(rt: &(impl AllocGlobal + Threads + Wait + Sync), settings: &Settings, files: &[File<'_>], short: &mut Short) -> Outcome {
+fn run_over(
+    rt: &(impl AllocGlobal + Threads + Wait + Sync),
+    settings: &Settings,
+    files: &[File<'_>],
+    short: &mut Short,
+) -> Outcome {
     run(
         rt,
         rt.alloc(),
@@ -121,7 +126,12 @@ fn writes<'a>(
 }
 
 /// Whether such a run writes what the held conversion writes.
-fn is_whole(rt: &(impl AllocGlobal + Threads + Wait + Sync), words: &str, meta: &str, table: &str) -> Result<bool, Fail> {
+fn is_whole(
+    rt: &(impl AllocGlobal + Threads + Wait + Sync),
+    words: &str,
+    meta: &str,
+    table: &str,
+) -> Result<bool, Fail> {
     let mut whole = Vec::new(rt.alloc());
     let outcome = convert_held(rt, rt.alloc(), &mut Marked::new(&mut whole));
     let writes = writes(rt, words, meta, table, whole.as_slice())?;
@@ -165,7 +175,12 @@ fn refuses(
 }
 
 /// Whether a report of three tables, whose second is refused, ends so with this many files there.
-fn is_refused(rt: &(impl AllocGlobal + Threads + Wait + Sync), count: usize, document: &str, said: &str) -> Result<bool, Fail> {
+fn is_refused(
+    rt: &(impl AllocGlobal + Threads + Wait + Sync),
+    count: usize,
+    document: &str,
+    said: &str,
+) -> Result<bool, Fail> {
     let metadata = edited(rt.alloc(), THREE)?;
     refuses(rt, metadata.as_str(), count, document, said)
 }
@@ -212,7 +227,14 @@ fn is_refused_by(
         ("t3.csv", b"nope\n1\n".as_slice()),
     ];
     let said = ("xbrl-json: table t2, row 2, column 1: BadNumber (40)\n", 1);
-    ends(rt, &settings, files.as_slice(), 4096, document.as_bytes(), said)
+    ends(
+        rt,
+        &settings,
+        files.as_slice(),
+        4096,
+        document.as_bytes(),
+        said,
+    )
 }
 
 /// Whether it does, with the document that one thread writes.
@@ -251,7 +273,14 @@ fn is_out_of_range(
         ("t.csv", TYPES.as_bytes()),
         ("t1.csv", TABLE.as_bytes()),
     ];
-    ends(rt, &settings, files.as_slice(), 4096, b"".as_slice(), (said, 3))
+    ends(
+        rt,
+        &settings,
+        files.as_slice(),
+        4096,
+        b"".as_slice(),
+        (said, 3),
+    )
 }
 
 #[test]
