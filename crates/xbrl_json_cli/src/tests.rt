@@ -393,7 +393,7 @@ fn escapes_and_language(rt: HostRuntime) -> Result<(), Fail> {
     );
     let metadata = edited(alloc, &[language])?;
     let table = b"note\n\"say \"\"hi\"\" \\\n\xc3\xa9\x01\"\n".as_slice();
-    let (document, line) = converted(alloc, metadata.as_str(), &[Some(table)])?;
+    let (document, line) = converted(&rt, alloc, metadata.as_str(), &[Some(table)])?;
     assert_eq!(rt; line.as_str(), "");
     let mut expected = String::from_str(alloc, HEAD)?;
     expected.push_str(
