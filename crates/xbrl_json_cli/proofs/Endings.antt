@@ -167,7 +167,7 @@ pub runs : {R : Type 0} (told : R → Option (List ℕ)) (known : Option Files) 
     → IfSome known (λ files. report_at files base meta types ≡ Ok report)
     → IfSome known (λ files. AreFilesOf told readers (table_files files base report))
     → ((files : List (Option (List ℕ))) → AreFilesOf told readers files
-        → EndsAs (early_fault workers ring (length files) (length report.tables)) report (streams report profile.rows files) old new o)
+    → EndsAs (early_fault workers ring (length files) (length report.tables)) report (streams report profile.rows files) old new o)
     → IfSome known (λ files. EndsOver files meta types workers ring old new o)
 runs told None base meta types workers ring old new o report readers folder is are converts = tt
 runs told (Some files) base meta types workers ring old new o report readers folder is are converts =

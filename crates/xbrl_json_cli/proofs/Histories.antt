@@ -178,7 +178,7 @@ pub text_grows : (head tail : List ℕ) (facts more : List Fact) → IsPrefix (t
 text_grows head tail facts more =
     let rest = more_text (has_any false facts) more in
     let all : facts_text (facts ++ more) ≡ facts_text facts ++ rest =
-        facts_text_is (facts ++ more) ∙ more_text_append false facts more ∙ ap (λ t. t ++ rest) (sym (facts_text_is facts)) in
+    facts_text_is (facts ++ more) ∙ more_text_append false facts more ∙ ap (λ t. t ++ rest) (sym (facts_text_is facts)) in
     (rest ++ tail, sym (append_assoc (text_after head facts) rest tail) ∙ ap (λ t. t ++ tail) (append_assoc head (facts_text facts) rest ∙ ap (λ t. head ++ t) (sym all)))
 
 abbrev Splits : List Stream → Stream → List Stream → Type 0
@@ -204,8 +204,8 @@ cut_facts ss items cut =
     let behind = unless_refused cut.stream.fault (facts_until cut.later) in (
       cut.some.0 ++ behind,
       ap facts_until cut.split ∙ until_split cut.closed cut.stream cut.later cut.none_refused
-      ∙ ap (λ l. facts_until cut.closed ++ l) (ap (λ l. l ++ behind) (sym cut.some.1) ∙ append_assoc cut.written cut.some.0 behind)
-      ∙ sym (append_assoc (facts_until cut.closed) cut.written (cut.some.0 ++ behind)),
+          ∙ ap (λ l. facts_until cut.closed ++ l) (ap (λ l. l ++ behind) (sym cut.some.1) ∙ append_assoc cut.written cut.some.0 behind)
+          ∙ sym (append_assoc (facts_until cut.closed) cut.written (cut.some.0 ++ behind)),
     )
 
 pub cut_prefix : (report : ReportValue) (ss : List Stream) (items : List Item) (cut : Cut 0 ss items)

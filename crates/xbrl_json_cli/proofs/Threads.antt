@@ -45,8 +45,8 @@ never_lost workers ring readers tables = chosen (nat_lt workers 1 || nat_lt 64 w
 pub in_range : (workers ring readers tables : ℕ) → readers ≡ tables → early_fault workers ring readers tables ≡ range_fault workers ring
 in_range workers ring readers tables same =
     ap (λ b. if nat_lt workers 1 || nat_lt 64 workers then Some fault.BadWorkers
-        else if nat_lt ring 1 || nat_lt 65536 ring then Some fault.BadSize
-        else if b then None else Some fault.WrongReaders) (eq-eqb readers tables same)
+    else if nat_lt ring 1 || nat_lt 65536 ring then Some fault.BadSize
+    else if b then None else Some fault.WrongReaders) (eq-eqb readers tables same)
 
 -- THE END
 
@@ -100,7 +100,7 @@ module _ (report : ReportValue) (ss : List Stream) (hs : List (List Item)) (old 
       let facts = facts_until cut.closed ++ cut.written in (
         m.0,
         prefix_longer old.told new.told (text_after (head_text report) facts) (answer_text report ss) (cut_prefix report ss (all_of hs) cut)
-        (subst (λ t. AppendsPrefix old.told new.told t) (refused_text (head_text report) hs facts cut.fault cut.holds cut.refused) m.1),
+            (subst (λ t. AppendsPrefix old.told new.told t) (refused_text (head_text report) hs facts cut.fault cut.holds cut.refused) m.1),
       )
 
   unserved_text : Unserved ss (all_of hs) → document (head_text report) hs ≡ head_text report
@@ -109,23 +109,23 @@ module _ (report : ReportValue) (ss : List Stream) (hs : List (List Item)) (old 
   unserved_ends : Unserved ss (all_of hs) → (e : MergeEnd) → Merged e → Ended e
   unserved_ends none end.Complete m = absurd (none_some (merged.refusal (all_of hs)) (file_fault 0 kind.NoThread) none.refused m.0)
   unserved_ends none (end.Refused f) m = (
-      refl,
-      inr (
-        m.1,
-        record {
-          first = none.first;
-          later = none.later;
-          tables = none.tables;
-          fault = same_some (merged.refusal (all_of hs)) f (file_fault 0 kind.NoThread) m.0 none.refused;
-          text = subst (λ t. Appends old.told new.told t) (unserved_text none) m.2;
-        },
-      ),
-    )
+    refl,
+    inr (
+      m.1,
+      record {
+        first = none.first;
+        later = none.later;
+        tables = none.tables;
+        fault = same_some (merged.refusal (all_of hs)) f (file_fault 0 kind.NoThread) m.0 none.refused;
+        text = subst (λ t. Appends old.told new.told t) (unserved_text none) m.2;
+      },
+    ),
+  )
   unserved_ends none (end.Write w) m = (
-      m.0,
-      prefix_longer old.told new.told (head_text report) (answer_text report ss) (head_prefix report ss)
-      (subst (λ t. AppendsPrefix old.told new.told t) (unserved_text none) m.1),
-    )
+    m.0,
+    prefix_longer old.told new.told (head_text report) (answer_text report ss) (head_prefix report ss)
+        (subst (λ t. AppendsPrefix old.told new.told t) (unserved_text none) m.1),
+  )
 
   decoded_ends : Agrees ss (all_of hs) ⊎ Cut 0 ss (all_of hs) → (e : MergeEnd) → Merged e → Ended e
   decoded_ends (inl agrees) = agreed_ends agrees

@@ -99,7 +99,7 @@ pub fn convert_report<R: Read + Drop + Send, T: Threads + Wait + Sync, W: Sink>(
     requires { limits.rows ≤ 4294967294 }
     ensures { (files : List (Option (List ℕ))) → AreFilesOf R.remaining readers.items files
         → EndsAs (early_fault workers ring (length files) (length report.now.tables)) report.now (streams report.now limits.rows files)
-            (sink_at (W.mark sink.old) (W.told sink.old)) (sink_at (W.mark sink.new) (W.told sink.new)) result }
+        (sink_at (W.mark sink.old) (W.told sink.old)) (sink_at (W.mark sink.new) (W.told sink.new)) result }
 {
     let Ok(names) = names_of(alloc, report) else {
         return Outcome::Run(ConvertFault::Memory);
@@ -137,7 +137,11 @@ pub fn convert_texts<R: Read + Drop + Send, T: Threads + Wait + Sync, W: Sink>(
 
 /// Converts the report that the program holds, within the limits of this profile, by one worker
 /// over a ring of one block.
-pub fn convert_held<T: Threads + Wait + Sync, W: Sink>(rt: &T, alloc: Global, sink: &mut W) -> Outcome
+pub fn convert_held<T: Threads + Wait + Sync, W: Sink>(
+    rt: &T,
+    alloc: Global,
+    sink: &mut W,
+) -> Outcome
     ensures { Ends (texts 1 1 profile METADATA.now TYPES.now (Some TABLE.now ∷ [])) (sink_at (W.mark sink.old) (W.told sink.old)) (sink_at (W.mark sink.new) (W.told sink.new)) result }
 {
     let mut tables = Vec::new(alloc);

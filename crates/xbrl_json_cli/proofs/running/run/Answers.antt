@@ -53,5 +53,5 @@ returns g c =
     (runs g.R.Read.remaining told base meta types workers ring old new c.convert_report.result c.in-Ok.report c.in-Ok-open_tables.readers.items c.folder_of-base.ensures c.in-Ok.ensures.gives
     (subst (λ k. IfSome k (λ files. AreFilesOf g.R.Read.remaining c.in-Ok-open_tables.readers.items (table_files files base c.in-Ok.report))) c.in-Ok.ensures.same c.in-Ok-open_tables.ensures.opens)
     (λ files are.
-      subst (λ l. EndsAs (early_fault workers ring (length files) (length c.in-Ok.report.tables)) c.in-Ok.report (streams c.in-Ok.report l.rows files) old new c.convert_report.result) c.profile.ensures
-      (c.convert_report.ensures files are)))
+    subst (λ l. EndsAs (early_fault workers ring (length files) (length c.in-Ok.report.tables)) c.in-Ok.report (streams c.in-Ok.report l.rows files) old new c.convert_report.result) c.profile.ensures
+    (c.convert_report.ensures files are)))
