@@ -12,3 +12,4 @@ pub mod Written
 pub mod Tokens
 pub mod Sends
 pub mod Whole
+pub mod Own

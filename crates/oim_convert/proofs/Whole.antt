@@ -1,5 +1,5 @@
 -- What the histories of all tables come to.
-use Rattle.std.specs.Prelude.{◌≡◌, ℕ, ◌+◌, zero, suc, Bool, true, false, List, [], ◌∷◌, ◌++◌, Option, Some, None, Result, Ok, Err, IfOk, length, map, replicate, slice_get}
+use Rattle.std.specs.Prelude.{◌≡◌, ◌⊎◌, ℕ, ◌+◌, zero, suc, Bool, true, false, List, [], ◌∷◌, ◌++◌, Option, Some, None, Result, Ok, Err, IfOk, length, map, replicate, slice_get}
 use Rattle.std.proofs.Common.{arith, refl, sym, ap, ◌∙◌, subst, append_assoc, inl, inr}
 use Rattle.std.specs.Io.KnownBytes.{Appends}
 use Rattle.std.specs.Option.{option_or}
@@ -20,19 +20,20 @@ use Rattle.oim_ring.specs.declared.item.Ending.TheVariants.{Refused}
 use Rattle.oim_ring.specs.declared.item.Item.{Item}
 use Rattle.oim_ring.specs.declared.item.Item.TheVariants.{Block, Ending}
 use Rattle.oim_rows.specs.Header.{file_fault}
-use Rattle.oim_rows.specs.Streams.{Stream}
+use Rattle.oim_rows.specs.Streams.{Stream, table_stream}
 use Rattle.oim_rows.specs.declared.fault.TableFault.{TableFault}
 use Rattle.oim_rows.specs.declared.fault.TableKind.{TableKind}
 use Rattle.oim_rows.specs.declared.fault.TableKind.TheVariants as kind
 use Rattle.oim_convert.specs.Answer.{answer_text, facts_of, facts_until, refusal, streams, streams_from, tail_for, text_after, unless_refused}
 use Rattle.oim_convert.specs.Files.{AreFilesOf, IsFileOf}
-use Rattle.oim_convert.specs.Histories.{AreDecoded, AreUnserved, IsGiven, IsHistory, IsStream, ending_of, facts_in}
+use Rattle.oim_convert.specs.Histories.{AreDecoded, AreUnserved, IsDecoded, IsGiven, IsHistory, IsStream, ending_of, facts_in}
 use Rattle.oim_convert.specs.Jobs.{Each, EachSlot, IsTable}
 use Rattle.oim_convert.specs.Preparing.{HasTables}
-use Rattle.oim_convert.specs.Runs.{AreHistories, AreStreams, AreUncut, IsAnswer, IsCut, IsOuter, Writes}
+use Rattle.oim_convert.specs.Runs.{AreHistories, AreStreams, AreThreaded, AreUncut, IsAnswer, IsCut, IsOuter, IsThreadless, Writes}
 use Rattle.oim_convert.specs.declared.fault.ConvertFault.{ConvertFault}
 use Rattle.oim_convert.specs.declared.job.Job.{Job}
 use Rattle.oim_convert.specs.declared.run.Run.{Run}
+use Rattle.oim_convert.proofs.Own.{IsOwn, has_thread, own_table}
 
 -- ROOM
 
@@ -203,6 +204,54 @@ streams_answer report ss hs mark mark' told told' (end.Refused f) all m =
     (sym (streams_refusal ss hs all) ∙ m.0, m.1, subst (λ (t : List ℕ). Appends told told' t) (streams_text report ss hs all) m.2)
 streams_answer report ss hs mark mark' told told' (end.Write w) all m = (m.0, subst (λ (t : List ℕ). AppendsPrefix told told' t) (streams_text report ss hs all) m.1)
 
+-- WANT OF A THREAD
+
+last_or : Item → List Item → Item
+last_or d [] = d
+last_or d (x ∷ xs) = last_or x xs
+
+last_is : (d : Item) (before : List Item) (x : Item) → last_or d (before ++ x ∷ []) ≡ x
+unfolding last_or
+last_is d [] x = refl
+last_is d (y ∷ ys) x = last_is y ys x
+
+same_end : (before other : List Item) (x y : Item) → before ++ x ∷ [] ≡ other ++ y ∷ [] → x ≡ y
+same_end before other x y e = sym (last_is x before x) ∙ (ap (last_or x) e ∙ last_is x other y)
+
+other_kind : (e f : Endings.Ending) (a b : TableFault) → e ≡ Refused a → f ≡ Refused b → Ending e ≡ Ending f → a ≡ b
+other_kind e f a b p q same = let both : Refused a ≡ Refused b = let ends : e ≡ f = cc in sym p ∙ (ends ∙ q) in cc
+
+not_both : (a b : TableFault) → a ≡ b → has_thread a.kind ≡ true → b.kind ≡ kind.NoThread → ⊥
+not_both a b same own none = let e : true ≡ false = sym own ∙ (ap (λ (x : TableFault). has_thread x.kind) same ∙ ap has_thread none) in cc
+
+own_end : (o : Option TableFault) (f : TableFault) → IsOwn o → ending_of o ≡ Refused f → f.kind ≡ kind.NoThread → ⊥
+own_end None f own e none = cc
+own_end (Some a) f own e none = let same : a ≡ f = cc in not_both a f same own none
+
+outer_end : (table : ℕ) (k : TableKind) (ending : Endings.Ending) (f : TableFault) → has_thread k ≡ true → ending ≡ Refused (file_fault table k) → ending ≡ Refused f → f.kind ≡ kind.NoThread → ⊥
+outer_end table k ending f own e is none = let both : Refused (file_fault table k) ≡ Refused f = sym e ∙ is in let same : file_fault table k ≡ f = cc in not_both (file_fault table k) f same own none
+
+given_end : (table : ℕ) (s : Stream) (facts : List Fact) (ending : Endings.Ending) (f : TableFault) → IsGiven table s facts ending → IsOwn s.fault → ending ≡ Refused f → f.kind ≡ kind.NoThread → ⊥
+given_end table s facts ending f (inl whole) own is none = own_end s.fault f own (sym whole.1 ∙ is) none
+given_end table s facts ending f (inr (inl unread)) own is none = outer_end table kind.Read ending f refl unread.refused is none
+given_end table s facts ending f (inr (inr short)) own is none = outer_end table kind.Memory ending f refl short.refused is none
+
+ending_is : (ending : Endings.Ending) (f : TableFault) → Ending ending ≡ Ending (Refused f) → ending ≡ Refused f
+ending_is ending f e = cc
+
+decoded_threaded : (table : ℕ) (s : Stream) (h : List Item) → IsDecoded table s h → IsOwn s.fault → ¬ IsThreadless h
+decoded_threaded table s h d own t =
+    given_end table s d.facts d.ending t.fault d.given own (ending_is d.ending t.fault (same_end d.is.before t.before (Ending d.ending) (Ending (Refused t.fault)) (sym d.is.is ∙ t.is))) t.none
+
+all_threaded : (report : ReportValue) (limit n : ℕ) (hs : List (List Item)) (files : List (Option (List ℕ))) → AreDecoded n (streams_from report limit n files) hs → AreThreaded hs
+all_threaded report limit n [] files all = tt
+all_threaded report limit n (h ∷ hs) [] all = absurd all
+all_threaded report limit n (h ∷ hs) (f ∷ files) all = (decoded_threaded n (table_stream report n limit f) h all.0 (own_table report n limit f), all_threaded report limit (n + 1) hs files all.1)
+
+threads_of : (report : ReportValue) (limit : ℕ) (files : List (Option (List ℕ))) (hs : List (List Item)) → AreHistories (streams report limit files) hs → AreUnserved 0 (streams report limit files) hs ⊎ AreThreaded hs
+threads_of report limit files hs (inl decoded) = inr (all_threaded report limit 0 hs files decoded)
+threads_of report limit files hs (inr unserved) = inl unserved
+
 -- A RUN
 
 module _ {R : Type 0} (told : R → Option (List ℕ)) (report : ReportValue) (limit : ℕ) (plan : List (Job R)) (readers : List (Option R)) (same : map (λ (job : Job R). job.reader) plan ≡ readers)
@@ -218,3 +267,8 @@ module _ {R : Type 0} (told : R → Option (List ℕ)) (report : ReportValue) (l
       let all = uncut_streams (streams report limit files) run.drains.items (tables_are told report limit plan readers same run.drains.items files (writes.0 ∙ sym count) are has) uncut in
       (all, streams_answer report (streams report limit files) run.drains.items mark mark' told_before told_after run.end all writes.1)
   run_headline (Err e) has writes = tt
+
+  pub run_threads : (r : Result Run ConvertFault) → IfOk r (λ run. HasTables told report limit plan run.drains.items) → Writes report (length report.tables) mark mark' told_before told_after r
+      → IfOk r (λ run. AreUnserved 0 (streams report limit files) run.drains.items ⊎ AreThreaded run.drains.items)
+  run_threads (Ok run) has writes = threads_of report limit files run.drains.items (tables_are told report limit plan readers same run.drains.items files (writes.0 ∙ sym count) are has)
+  run_threads (Err e) has writes = tt

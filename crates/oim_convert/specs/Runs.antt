@@ -70,6 +70,18 @@ abbrev pub AreUncut : List (List Item) → Type 0
 AreUncut [] = ⊤
 AreUncut (h ∷ hs) = (¬ IsCut h) × AreUncut hs
 
+-- want of a thread ended the table
+pub record IsThreadless (history : List Item) : Type 0 where
+  pub before : List Item
+  pub fault : TableFault
+  pub none : fault.kind ≡ kind.NoThread
+  pub is : history ≡ before ++ Ending (Refused fault) ∷ []
+
+-- it ended none of the tables
+abbrev pub AreThreaded : List (List Item) → Type 0
+AreThreaded [] = ⊤
+AreThreaded (h ∷ hs) = (¬ IsThreadless h) × AreThreaded hs
+
 -- the end that a report with these streams is answered with, and the bytes that are written: its document, or the
 -- unfinished document up to the first refused table; where a write failed, a beginning of these
 abbrev pub IsAnswer : ReportValue → List Stream → Mark → Mark → Option (List ℕ) → Option (List ℕ) → MergeEnd → Type 0
@@ -77,7 +89,7 @@ IsAnswer report ss mark mark' told told' end.Complete = (refusal ss ≡ None) ×
 IsAnswer report ss mark mark' told told' (end.Refused e) = (refusal ss ≡ Some e) × (mark' ≡ mark) × Appends told told' (answer_text report ss)
 IsAnswer report ss mark mark' told told' (end.Write w) = (mark' ≡ mark_of w) × AppendsPrefix told told' (answer_text report ss)
 
--- the end of a token was lost: what was written is the document of some histories, one for each table, or a beginning of it
+-- a token was lost: what was written is the document of some histories, one for each table, or a beginning of it
 pub record IsLost (report : ReportValue) (tables : ℕ) (mark mark' : Mark) (told told' : Option (List ℕ)) : Type 0 where
   pub histories : List (List Item)
   pub count : length histories ≡ tables

@@ -10,8 +10,7 @@
 //!
 //! What it promises of `convert`, on threads, for every number of workers, ring size and schedule:
 //! - each history is its table's stream, or a beginning of it that a failed read or want of memory
-//!   ended; where no worker could be started each table is refused with NoThread
-//!   (`specs/Histories.antt`);
+//!   ended; NoThread ends all tables or none (`specs/Histories.antt`);
 //! - the end is that of the histories, and what is written is their document, the unfinished one up
 //!   to the first refusal, or by a write fault a beginning of it;
 //! - where nothing cut a history short, each is its table's stream, and end and bytes are the

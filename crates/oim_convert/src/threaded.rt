@@ -1,10 +1,11 @@
 //! The conversion on threads.
 
-ghost use Rattle.std.specs.Prelude.{◌≡◌, ◌≤◌, ◌<◌, ℕ, List, [], Option, None, IfOk, IfNone, length, map, replicate, vec_capacity};
+ghost use Rattle.std.specs.Prelude.{◌≡◌, ◌⊎◌, ◌≤◌, ◌<◌, ℕ, List, [], Option, None, IfOk, IfNone, length, map, replicate, vec_capacity};
 ghost use Rattle.oim_convert.specs.Answer.{streams};
 ghost use Rattle.oim_convert.specs.Files.{AreFilesOf};
+ghost use Rattle.oim_convert.specs.Histories.{AreUnserved};
 ghost use Rattle.oim_convert.specs.Preparing.{HasRun, HasTables, IsReady};
-ghost use Rattle.oim_convert.specs.Runs.{AnswersFault, AreHistories, AreStreams, AreUncut, IsAnswer, Writes, early_fault};
+ghost use Rattle.oim_convert.specs.Runs.{AnswersFault, AreHistories, AreStreams, AreThreaded, AreUncut, IsAnswer, Writes, early_fault};
 ghost use Rattle.oim_json.specs.JsonText.{head_text};
 
 use crate::crew::{Crew, crew_of};
@@ -186,10 +187,13 @@ pub fn convert<R: Read + Drop + Send, T: Threads + Wait + Sync, W: Sink>(
 ) -> Result<Run, ConvertFault>
     requires { limits.rows ≤ 4294967294 }
 
-    // The headline, where the readers tell their bytes: the histories of the tables; and where none of
-    // them was cut short, each is its table's stream, and end and bytes are the defined answer.
+    // The headline, where the readers tell their bytes: the histories of the tables; NoThread ends all
+    // of them or none; and where none was cut short, each is its table's stream, and end and bytes are
+    // the defined answer.
     ensures histories { (files : List (Option (List ℕ))) → AreFilesOf R.remaining readers.items files
         → IfOk result (λ run. AreHistories (streams report.now limits.rows files) run.drains.items) }
+    ensures threads { (files : List (Option (List ℕ))) → AreFilesOf R.remaining readers.items files
+        → IfOk result (λ run. AreUnserved 0 (streams report.now limits.rows files) run.drains.items ⊎ AreThreaded run.drains.items) }
     ensures headline { (files : List (Option (List ℕ))) → AreFilesOf R.remaining readers.items files
         → IfOk result (λ run. AreUncut run.drains.items → AreStreams (streams report.now limits.rows files) run.drains.items
         × IsAnswer report.now (streams report.now limits.rows files) (W.mark sink.old) (W.mark sink.new) (W.told sink.old) (W.told sink.new) run.end) }
@@ -221,6 +225,8 @@ pub fn convert_with_starts<R: Read + Drop + Send, T: Threads + Wait + Sync, W: S
     // The headline, where the readers tell their bytes.
     ensures histories { (files : List (Option (List ℕ))) → AreFilesOf R.remaining readers.items files
         → IfOk result (λ run. AreHistories (streams report.now limits.rows files) run.drains.items) }
+    ensures threads { (files : List (Option (List ℕ))) → AreFilesOf R.remaining readers.items files
+        → IfOk result (λ run. AreUnserved 0 (streams report.now limits.rows files) run.drains.items ⊎ AreThreaded run.drains.items) }
     ensures headline { (files : List (Option (List ℕ))) → AreFilesOf R.remaining readers.items files
         → IfOk result (λ run. AreUncut run.drains.items → AreStreams (streams report.now limits.rows files) run.drains.items
         × IsAnswer report.now (streams report.now limits.rows files) (W.mark sink.old) (W.mark sink.new) (W.told sink.old) (W.told sink.new) run.end) }

@@ -10,7 +10,8 @@ use std::snapshot::Snapshot;
 use std::sync::atomic::{AtomicBool, Ordering};
 use std::thread::{Promise, PromisedHandle, Scope};
 
-/// What is done with the items that workers draw.
+/// What is done with the items that workers draw. A server works with the runtime's handle `T` and
+/// with what all workers share, `C`.
 pub(crate) trait Serve<V, O, T, C> {
     /// What holds of the item under a number before it is served.
     ghost can_serve: { Self → C → ℕ → V → Type 0 };
@@ -18,7 +19,7 @@ pub(crate) trait Serve<V, O, T, C> {
     /// What is given for the item under a number.
     ghost gives: { Self → C → ℕ → V → O → Type 0 };
 
-    /// Serves the item under this number, by what all workers share.
+    /// Serves the item under this number.
     fn serve(&self, rt: &T, shared: &C, number: usize, item: V) -> O
         requires { can_serve self.now shared.now number item }
         ensures { gives self.now shared.now number item result };
@@ -40,7 +41,7 @@ pub(crate) struct Shift<V, O> {
     pub(crate) stopped: bool,
 }
 
-/// The promise of a worker: a shift of these claims, served so.
+/// The promise of a worker: a shift of these claims by this server. All of it stands in proofs alone.
 #[derive(Drop)]
 pub(crate) struct ShiftOf<V, S, T, C> {
     pub(crate) claims: Snapshot<Claims<V>>,

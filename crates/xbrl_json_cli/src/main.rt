@@ -38,6 +38,8 @@ mod tests_files;
 #[cfg(test)]
 mod tests_metadata;
 #[cfg(test)]
+mod tests_reports;
+#[cfg(test)]
 mod tests_rings;
 #[cfg(test)]
 mod tests_runs;

@@ -69,7 +69,7 @@ fn both(
 }
 
 /// The held report with each text replaced.
-fn report_of(alloc: Global, edits: Edits<'_>) -> Result<Report, Fail> {
+pub(crate) fn report_of(alloc: Global, edits: Edits<'_>) -> Result<Report, Fail> {
     let metadata = edited(alloc, edits)?;
     let types = read_types(alloc, TYPES.as_bytes())?;
     Ok(read_report(

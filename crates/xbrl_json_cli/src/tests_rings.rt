@@ -1,19 +1,20 @@
 //! Rings and their merge, as they run: what a full and an empty ring answer, two threads over one
 //! ring, and a report of three tables, the second of which is refused.
 
-ghost use Rattle.std.specs.Prelude.{◌≡◌, ◌<◌, [], length, IfOk};
-ghost use Rattle.oim_merge.specs.Merging.{IsFresh};
+ghost use Rattle.std.specs.Prelude.{◌≡◌, ◌<◌, [], length, IfOk, IfSome};
 
-use oim_json::{Block, Marked, WriteFault, block_of, head};
+use crate::tests::{THREE, document_of};
+use crate::tests_cells::report_of;
+use oim_json::{Block, Marked, Sink, WriteFault, block_of, head};
 use oim_merge::{MergeEnd, merge};
-use oim_meta::{Limits, Parameters, Report, read_report, read_types};
+use oim_meta::{Limits, Report};
 use oim_names::{Items, Text};
 use oim_resolve::Fact;
 use oim_ring::{CloseFault, Closed, Drain, Ending, Feed, Item, lane};
 use oim_rows::{Rows, TableFault, TableKind};
 use std::alloc::{AllocError, Global};
 use std::io::Write;
-use std::process::Abort;
+use std::sync::Wait;
 use std::test::Fail;
 use std::{io, thread};
 
@@ -29,16 +30,6 @@ const BAD_NUMBER: TableFault = TableFault {
     column: 1,
     kind: TableKind::BadNumber,
 };
-
-const TYPES: &str = "namespace,name,type\nhttp://example.com/eg,Cash,integer\n";
-
-const METADATA: &str = r#"{"documentInfo":{"documentType":"https://xbrl.org/2021/xbrl-csv",
-"namespaces":{"eg":"http://example.com/eg","iso4217":"http://www.xbrl.org/2003/iso4217","xbrli":"http://www.xbrl.org/2003/instance"},
-"taxonomy":["http://example.com/eg.xsd"]},
-"dimensions":{"entity":"eg:A1","period":"2021-01-01T00:00:00/2022-01-01T00:00:00","unit":"iso4217:EUR"},
-"tableTemplates":{"p":{"columns":{"cash":{"dimensions":{"concept":"eg:Cash"}}}}},
-"tables":{"t1":{"url":"t1.csv","template":"p"},"t2":{"url":"t2.csv","template":"p"},"t3":{"url":"t3.csv","template":"p"}}}
-"#;
 
 /// A block of one fact, which this number identifies.
 fn block(alloc: Global, number: u32) -> Result<Block, AllocError> {
@@ -69,76 +60,129 @@ fn gives(alloc: Global, item: Option<Item>, number: u32) -> Result<bool, AllocEr
     }
 }
 
+/// Whether the feed takes the block with this number.
+fn puts(alloc: Global, feed: &mut Feed, number: u32) -> Result<bool, AllocError>
+    ensures { feed.new.ring ≡ feed.old.ring }
+{
+    let block = block(alloc, number)?;
+    Ok(feed.put(block).is_ok())
+}
+
+/// Whether the feed, whose ring is full, gives the block with this number back.
+fn gives_back(alloc: Global, feed: &mut Feed, number: u32) -> Result<bool, AllocError> {
+    let block = block(alloc, number)?;
+    match feed.put(block) {
+        Ok(()) => Ok(false),
+        Err(back) => is_numbered(alloc, &back, number),
+    }
+}
+
+/// Whether the empty ring of one item takes the block with this number, and none until it is taken.
+fn hands_over(
+    alloc: Global,
+    feed: &mut Feed,
+    drain: &mut Drain,
+    number: u32,
+) -> Result<bool, AllocError> {
+    let was_empty = drain.take().is_none();
+    let is_put = puts(alloc, feed, number)?;
+    let is_full = gives_back(alloc, feed, number)?;
+    let is_given = gives(alloc, drain.take(), number)?;
+    Ok(was_empty && is_put && is_full && is_given && drain.take().is_none())
+}
+
+/// Whether a ring of one item hands over two blocks, one after the other.
+fn hands_over_two(alloc: Global) -> Result<bool, AllocError> {
+    let (mut feed, mut drain) = lane(alloc, 1)?;
+    let first = hands_over(alloc, &mut feed, &mut drain, 1)?;
+    let second = hands_over(alloc, &mut feed, &mut drain, 2)?;
+    Ok(first && second)
+}
+
 #[test]
 fn a_full_ring_gives_blocks_back(rt: HostRuntime) -> Result<(), Fail> {
-    let alloc = rt.alloc();
-    let first = block(alloc, 1)?;
-    let second = block(alloc, 2)?;
-    let third = block(alloc, 3)?;
-    let (mut feed, mut drain) = lane(alloc, 1)?;
-    assert!(rt; drain.take().is_none());
-    assert!(rt; feed.put(first).is_ok());
-    let Err(back) = feed.put(second) else {
-        return Err("more than its size".into());
-    };
-    assert!(rt; is_numbered(alloc, &back, 2)?);
-    assert!(rt; gives(alloc, drain.take(), 1)?);
-    assert!(rt; drain.take().is_none());
-    assert!(rt; feed.put(back).is_ok());
-    assert!(rt; feed.put(third).is_err());
-    assert!(rt; gives(alloc, drain.take(), 2)?);
-    assert!(rt; drain.take().is_none());
+    let handed = hands_over_two(rt.alloc())?;
+    assert!(rt; handed);
     Ok(())
 }
 
-/// Closes the feed, which has room.
-fn closed(feed: Feed, ending: Ending) -> Result<Closed, Fail>
-    ensures { IfOk result (λ c. c.ring ≡ feed.ring) }
-{
-    match feed.close(ending) {
-        Ok(closed) => Ok(closed),
-        Err(_) => Err("the feed was not closed".into()),
-    }
-}
-
-/// Closes a feed whose ring is full, and gives the feed that comes back.
-fn close_of_a_full_ring(rt: &impl Abort, feed: Feed) -> Result<Feed, Fail>
-    ensures { IfOk result (λ f. f.ring ≡ feed.ring) }
+/// The feed that a close gives back where the ring is full.
+fn not_closed(feed: Feed) -> Option<Feed>
+    ensures { IfSome result (λ f. f.ring ≡ feed.ring) }
 {
     match feed.close(Ending::Refused(BAD_NUMBER)) {
         Err(CloseFault::Full(feed, ending)) => {
-            assert_eq!(rt; ending, Ending::Refused(BAD_NUMBER));
-            Ok(feed)
+            if ending == Ending::Refused(BAD_NUMBER) {
+                Some(feed)
+            } else {
+                None
+            }
         }
-        _ => Err("more than its size".into()),
+        _ => None,
     }
 }
 
-/// Takes the ending, which is there, and settles.
-fn settled(rt: &impl Abort, drain: Drain, closed: Closed) -> Result<(), Fail>
+/// What is left of the feed, whose ring has room, once it is closed.
+fn closed(feed: Feed) -> Option<Closed>
+    ensures { IfSome result (λ c. c.ring ≡ feed.ring) }
+{
+    match feed.close(Ending::Refused(BAD_NUMBER)) {
+        Ok(closed) => Some(closed),
+        Err(_) => None,
+    }
+}
+
+/// Whether the ending is there, behind which the drain settles.
+fn settled(drain: Drain, closed: Closed) -> bool
     requires { closed.ring ≡ drain.ring }
 {
     let mut drain = drain;
     match drain.take() {
         Some(Item::Ending(ending)) => {
-            assert_eq!(rt; ending, Ending::Refused(BAD_NUMBER));
             let _drained = drain.settle(closed);
-            Ok(())
+            ending == Ending::Refused(BAD_NUMBER)
         }
-        _ => Err("no ending".into()),
+        _ => false,
     }
+}
+
+/// Whether the drain gives block 1 and then, once the feed is closed, the ending.
+fn gives_all(alloc: Global, feed: Feed, drain: Drain) -> Result<bool, AllocError>
+    requires { drain.ring ≡ feed.ring }
+{
+    let mut drain = drain;
+    let item = drain.take();
+    let settled = match closed(feed) {
+        Some(closed) => settled(drain, closed),
+        None => false,
+    };
+    Ok(gives(alloc, item, 1)? && settled)
+}
+
+/// Whether a ring that is full with block 1 is closed once that is taken.
+fn closes_later(alloc: Global, feed: Feed, drain: Drain) -> Result<bool, AllocError>
+    requires { drain.ring ≡ feed.ring }
+{
+    match not_closed(feed) {
+        Some(feed) => gives_all(alloc, feed, drain),
+        None => Ok(false),
+    }
+}
+
+/// Whether a ring of one item, once it is full, is closed later.
+fn full_closes_later(alloc: Global) -> Result<bool, AllocError> {
+    let (mut feed, drain) = lane(alloc, 1)?;
+    if !puts(alloc, &mut feed, 1)? {
+        return Ok(false);
+    }
+    closes_later(alloc, feed, drain)
 }
 
 #[test]
 fn a_full_ring_is_closed_later(rt: HostRuntime) -> Result<(), Fail> {
-    let alloc = rt.alloc();
-    let first = block(alloc, 1)?;
-    let (mut feed, mut drain) = lane(alloc, 1)?;
-    assert!(rt; feed.put(first).is_ok());
-    let feed = close_of_a_full_ring(&rt, feed)?;
-    assert!(rt; gives(alloc, drain.take(), 1)?);
-    let closed = closed(feed, Ending::Refused(BAD_NUMBER))?;
-    settled(&rt, drain, closed)
+    let closes = full_closes_later(rt.alloc())?;
+    assert!(rt; closes);
+    Ok(())
 }
 
 /// Puts all blocks and then the ending. None where a side took too many turns, or memory was short.
@@ -211,74 +255,139 @@ fn two_threads_over_one_ring(rt: HostRuntime) -> Result<(), Fail> {
     Ok(())
 }
 
-/// The report of three tables of one template.
-fn report_of(alloc: Global) -> Result<Report, Fail> {
-    let types = read_types(alloc, TYPES.as_bytes())?;
-    Ok(read_report(
-        alloc,
-        METADATA.as_bytes(),
-        Parameters::none(alloc),
-        types,
-        &Limits::profile(),
-    )?)
-}
-
-/// Puts the facts of a row.
-fn put_row(alloc: Global, facts: &Items<Fact>, feed: &mut Feed) -> Result<(), Fail> {
+/// Whether the feed takes the facts of a row.
+fn puts_row(alloc: Global, facts: &Items<Fact>, feed: &mut Feed) -> bool {
     if facts.len() < 1 || facts.len() > 256 {
-        return Err("no block".into());
+        return false;
     }
-    match feed.put(block_of(alloc, facts)?) {
-        Ok(()) => Ok(()),
-        Err(_) => Err("full".into()),
+    match block_of(alloc, facts) {
+        Ok(block) => feed.put(block).is_ok(),
+        Err(_) => false,
     }
 }
 
-/// A drain from which the stream of a table can be taken, that of this file.
-fn drain_of(alloc: Global, report: &Report, table: usize, file: &[u8]) -> Result<Drain, Fail>
-    requires { table < length report.now.tables }
-    ensures { IfOk result (λ d. d.taken ≡ []) }
-{
-    let (mut feed, drain) = lane(alloc, 4)?;
-    let mut ending = Ending::Closed;
-    match Rows::open(
-        alloc,
-        report,
-        table,
-        file,
-        Limits {
-            rows: 2,
-            ..Limits::profile()
-        },
-    ) {
-        Ok(mut rows) => {
-            for _ in 0..3 {
-                match rows.next() {
-                    Ok(Some(facts)) => put_row(alloc, &facts, &mut feed)?,
-                    Ok(None) => break,
-                    Err(fault) => {
-                        ending = Ending::Refused(fault);
-                        break;
-                    }
+/// How a table of at most two rows ends, the facts of its rows put.
+fn put_rows(alloc: Global, rows: &mut Rows<'_, &[u8]>, feed: &mut Feed) -> Option<Ending> {
+    for _ in 0..3 {
+        match rows.next() {
+            Ok(Some(facts)) => {
+                if !puts_row(alloc, &facts, feed) {
+                    return None;
                 }
             }
+            Ok(None) => return Some(Ending::Closed),
+            Err(fault) => return Some(Ending::Refused(fault)),
         }
-        Err(fault) => ending = Ending::Refused(fault),
     }
-    closed(feed, ending)?;
-    Ok(drain)
+    None
 }
 
-/// The three drains of the report, the second of whose tables is refused, and the third too.
-fn drains_of(alloc: Global, report: &Report) -> Result<[Drain; 3], Fail>
-    requires { length report.now.tables ≡ 3 }
-    ensures { IfOk result (λ ds. IsFresh ds) }
+/// How the table of this file ends, the facts of its rows put.
+fn put_table(
+    alloc: Global,
+    report: &Report,
+    table: usize,
+    file: &[u8],
+    feed: &mut Feed,
+) -> Option<Ending>
+    requires { table < length report.now.tables }
 {
-    Ok([
-        drain_of(alloc, report, 0, b"cash\n5\n")?,
-        drain_of(alloc, report, 1, b"cash\n1\nx\n")?,
-        drain_of(alloc, report, 2, b"nope\n1\n")?,
-    ])
+    match Rows::open(alloc, report, table, file, Limits::profile()) {
+        Ok(mut rows) => put_rows(alloc, &mut rows, feed),
+        Err(fault) => Some(Ending::Refused(fault)),
+    }
+}
+
+/// A drain from which nothing was taken, whose feed sent the table of this file and was closed.
+fn drain_of(alloc: Global, report: &Report, table: usize, file: &[u8]) -> Option<Drain>
+    requires { table < length report.now.tables }
+    ensures { IfSome result (λ d. d.taken ≡ []) }
+{
+    let Ok((mut feed, drain)) = lane(alloc, 4) else {
+        return None;
+    };
+    let Some(ending) = put_table(alloc, report, table, file, &mut feed) else {
+        return None;
+    };
+    match feed.close(ending) {
+        Ok(_) => Some(drain),
+        Err(_) => None,
+    }
+}
+
+/// Nothing is left in any ring.
+fn are_empty(drains: &mut [Drain]) -> bool {
+    for drain in drains.iter_mut() {
+        if drain.take().is_some() {
+            return false;
+        }
+    }
+    true
+}
+
+/// The end of a merge of three drains, which leaves nothing in their rings.
+fn merge_three<W: Sink>(
+    rt: &impl Wait,
+    first: Drain,
+    second: Drain,
+    third: Drain,
+    head: &[u8],
+    sink: &mut W,
+) -> Option<MergeEnd>
+    requires first { first.taken ≡ [] }
+    requires second { second.taken ≡ [] }
+    requires third { third.taken ≡ [] }
+{
+    let mut drains = [first, second, third];
+    let end = merge(rt, &mut drains, head, sink);
+    if are_empty(&mut drains) {
+        Some(end)
+    } else {
+        None
+    }
+}
+
+/// The end of a merge of a report's three tables, whose second is refused, and third too.
+fn merge_tables<W: Sink>(
+    rt: &(impl Wait + AllocGlobal),
+    report: &Report,
+    head: &[u8],
+    sink: &mut W,
+) -> Option<MergeEnd>
+    requires { length report.now.tables ≡ 3 }
+{
+    let alloc = rt.alloc();
+    let first = drain_of(alloc, report, 0, b"cash\n5\n".as_slice())?;
+    let second = drain_of(alloc, report, 1, b"cash\n1\nx\n".as_slice())?;
+    let third = drain_of(alloc, report, 2, b"nope\n1\n".as_slice())?;
+    merge_three(rt, first, second, third, head, sink)
+}
+
+/// Whether the merge of the report's tables writes this document.
+fn writes(rt: &(impl Wait + AllocGlobal), report: &Report, head: &[u8], expected: &[u8]) -> bool {
+    if report.tables() != 3 {
+        return false;
+    }
+    let mut document = Vec::new(rt.alloc());
+    let end = merge_tables(rt, report, head, &mut Marked::new(&mut document));
+    end == Some(MergeEnd::Refused(BAD_NUMBER)) && document.as_slice() == expected
+}
+
+/// Whether a merge writes the facts before the first bad cell, and no more.
+fn is_merged(rt: &(impl Wait + AllocGlobal)) -> Result<bool, Fail> {
+    let alloc = rt.alloc();
+    let report = report_of(alloc, THREE)?;
+    let head = head(alloc, &report)?;
+    let facts = "t1.r_1.cash - Cash EUR 5; t2.r_1.cash - Cash EUR 1";
+    let expected = document_of(alloc, facts, "BadNumber")?;
+    Ok(writes(rt, &report, head.as_slice(), expected.as_bytes()))
+}
+
+#[test]
+fn a_refused_table_is_merged(rt: HostRuntime) -> Result<(), Fail> {
+    let merged = is_merged(&rt)?;
+    assert!(rt; merged);
+    Ok(())
 }
 
 /// A writer that fails at once.
@@ -299,48 +408,27 @@ impl Write for Failing {
     }
 }
 
-/// Nothing is left in any ring.
-fn are_empty(drains: &mut [Drain]) -> bool {
-    drains.iter_mut().all(|drain| drain.take().is_none())
+/// Whether the merge of the report's tables ends as a failed write, after one call of the writer.
+fn fails(rt: &(impl Wait + AllocGlobal), report: &Report, head: &[u8]) -> bool {
+    if report.tables() != 3 {
+        return false;
+    }
+    let mut writer = Failing { calls: 0 };
+    let end = merge_tables(rt, report, head, &mut Marked::new(&mut writer));
+    end == Some(MergeEnd::Write(WriteFault::Failed)) && writer.calls == 1
 }
 
-#[test]
-fn a_refused_table_is_merged(rt: HostRuntime) -> Result<(), Fail> {
+/// Whether a merge to a writer that fails calls it once, and takes all from the rings.
+fn is_failed(rt: &(impl Wait + AllocGlobal)) -> Result<bool, Fail> {
     let alloc = rt.alloc();
-    let report = report_of(alloc)?;
-    assert_eq!(rt; report.tables(), 3);
+    let report = report_of(alloc, THREE)?;
     let head = head(alloc, &report)?;
-    let mut drains = drains_of(alloc, &report)?;
-    let mut document = Vec::new(alloc);
-    let end = merge(&rt, &mut drains, &head, &mut Marked::new(&mut document));
-    assert_eq!(rt; end, MergeEnd::Refused(BAD_NUMBER));
-    let empty = are_empty(&mut drains);
-    assert!(rt; empty);
-    let mut expected = String::new(alloc);
-    for (id, value) in [("t1.r_1.cash", "5"), ("t2.r_1.cash", "1")] {
-        let comma = if expected.is_empty() { "" } else { "," };
-        let fact = format!(in alloc;
-            "{comma}\"{id}\":{{\"dimensions\":{{\"concept\":\"eg:Cash\",\"entity\":\"eg:A1\",\"period\":\"2021-01-01T00:00:00/2022-01-01T00:00:00\",\"unit\":\"iso4217:EUR\"}},\"value\":\"{value}\"}}"
-        )?;
-        expected.push_str(fact.as_str())?;
-    }
-    assert!(rt; document.starts_with(head.as_slice()));
-    assert_eq!(rt; document[head.len()..], expected.as_bytes()[..]);
-    Ok(())
+    Ok(fails(rt, &report, head.as_slice()))
 }
 
 #[test]
 fn a_failing_sink_takes_nothing(rt: HostRuntime) -> Result<(), Fail> {
-    let alloc = rt.alloc();
-    let report = report_of(alloc)?;
-    assert_eq!(rt; report.tables(), 3);
-    let head = head(alloc, &report)?;
-    let mut drains = drains_of(alloc, &report)?;
-    let mut writer = Failing { calls: 0 };
-    let end = merge(&rt, &mut drains, &head, &mut Marked::new(&mut writer));
-    assert_eq!(rt; end, MergeEnd::Write(WriteFault::Failed));
-    assert_eq!(rt; writer.calls, 1);
-    let empty = are_empty(&mut drains);
-    assert!(rt; empty);
+    let failed = is_failed(&rt)?;
+    assert!(rt; failed);
     Ok(())
 }

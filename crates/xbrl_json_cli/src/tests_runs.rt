@@ -6,17 +6,47 @@ use crate::held::{METADATA, TABLE, TYPES};
 use crate::outcome::{Outcome, line, status};
 use crate::running::run;
 use crate::settings::{Settings, job};
-use crate::tests::{HEAD, THREE, document_of, edited};
+use crate::tests::{Edits, HEAD, THREE, document_of, edited};
 use oim_convert::ConvertFault;
 use oim_json::Marked;
 use oim_names::Text;
 use std::alloc::Global;
 use std::io;
 use std::io::Write;
-use std::process::Abort;
 use std::sync::Wait;
 use std::test::Fail;
 use std::thread::Threads;
+
+/// The words of most runs.
+const WORDS: &str = "m.json --types t.csv";
+
+/// A path with the bytes of its file.
+type File<'a> = (&'a str, &'a [u8]);
+
+/// A run's line and its status.
+type Said<'a> = (&'a str, u8);
+
+/// A writer that fails once `room` bytes are out.
+#[derive(Drop)]
+struct Short {
+    taken: Vec<u8>,
+    room: usize,
+}
+
+impl Write for Short {
+    fn write(&mut self, bytes: &[u8]) -> io::Result<usize> {
+        if self.taken.len() >= self.room {
+            return Err(io::Error::from(io::ErrorKind::Other));
+        }
+        let count = bytes.len().min(self.room - self.taken.len());
+        self.taken.extend_from_slice(&bytes[..count])?;
+        Ok(count)
+    }
+
+    fn flush(&mut self) -> io::Result<()> {
+        Ok(())
+    }
+}
 
 /// The settings of these words, with a blank between two.
 fn settings_of(alloc: Global, words: &str) -> Result<Settings, Fail> {
@@ -27,112 +57,91 @@ fn settings_of(alloc: Global, words: &str) -> Result<Settings, Fail> {
     }
 }
 
-/// A writer that fails once `room` bytes are out.
-#[derive(Drop)]
-struct Short {
-    taken: Vec<u8>,
-    room: usize,
+/// Whether an outcome has this line and this status.
+fn says(alloc: Global, outcome: &Outcome, said: Said<'_>) -> Result<bool, Fail> {
+    let line = line(alloc, outcome)?;
+    Ok(line.as_str() == said.0 && status(outcome) == said.1)
 }
 
-impl Write for Short {
-    fn write(&mut self, buf: &[u8]) -> io::Result<usize> {
-        let mut count = 0;
-        for byte in buf {
-            if self.taken.len() >= self.room || self.taken.push(*byte).is_err() {
-                break;
-            }
-            count += 1;
-        }
-        if count == 0 && !buf.is_empty() {
-            return Err(io::Error::from(io::ErrorKind::Other));
-        }
-        Ok(count)
-    }
-
-    fn flush(&mut self) -> io::Result<()> {
-        Ok(())
-    }
+/// Runs over these files.
+fn run_over(
+    rt: &(impl AllocGlobal + Threads + Wait + Sync),
+    settings: &Settings,
+    files: &[File<'_>],
+    short: &mut Short,
+) -> Outcome {
+    run(
+        rt,
+        rt.alloc(),
+        settings,
+        &mut Texts { files },
+        &mut Marked::new(short),
+    )
 }
 
-/// A path with the bytes of its file.
-type File<'a> = (&'a str, &'a [u8]);
-
-/// Runs with these settings over these files with a writer of so much room, and compares what is
-/// written, the line and the status.
-fn check_settings(
-    rt: &(impl Abort + AllocGlobal + Threads + Wait + Sync),
+/// Whether a run with these settings over these files, with a writer of so much room, writes and
+/// says this.
+fn ends(
+    rt: &(impl AllocGlobal + Threads + Wait + Sync),
     settings: &Settings,
     files: &[File<'_>],
     room: usize,
-    expected: (&[u8], &str, u8),
-) -> Result<(), Fail> {
-    let alloc = rt.alloc();
-    let taken = Vec::new(alloc);
+    written: &[u8],
+    said: Said<'_>,
+) -> Result<bool, Fail> {
+    let taken = Vec::new(rt.alloc());
     let mut short = Short { taken, room };
-    let outcome = run(
-        rt,
-        alloc,
-        settings,
-        &mut Texts { files },
-        &mut Marked::new(&mut short),
-    );
-    let (written, said, code) = expected;
-    assert_eq!(rt; line(alloc, &outcome)?.as_str(), said);
-    assert_eq!(rt; status(&outcome), code);
-    assert_eq!(rt; short.taken.as_slice(), written, "where the line is {said}");
-    Ok(())
+    let outcome = run_over(rt, settings, files, &mut short);
+    let is_written = short.taken.as_slice() == written;
+    let is_said = says(rt.alloc(), &outcome, said)?;
+    Ok(is_written && is_said)
 }
 
-/// Does so for the settings of these words.
-fn check(
-    rt: &(impl Abort + AllocGlobal + Threads + Wait + Sync),
+/// Whether a run with these words over these files writes and says this.
+fn ends_so(
+    rt: &(impl AllocGlobal + Threads + Wait + Sync),
     words: &str,
     files: &[File<'_>],
-    room: usize,
-    expected: (&[u8], &str, u8),
-) -> Result<(), Fail> {
+    written: &[u8],
+    said: Said<'_>,
+) -> Result<bool, Fail> {
     let settings = settings_of(rt.alloc(), words)?;
-    check_settings(rt, &settings, files, room, expected)
+    ends(rt, &settings, files, 4096, written, said)
 }
 
-/// How many workers, and the size of each ring.
-const WAYS: [(usize, usize); 5] = [(1, 1), (2, 1), (2, 4), (3, 1), (8, 65_536)];
-
-/// Does so for several numbers of workers and ring sizes.
-fn check_ways(
-    rt: &(impl Abort + AllocGlobal + Threads + Wait + Sync),
-    files: &[File<'_>],
-    expected: (&[u8], &str, u8),
-) -> Result<(), Fail> {
-    let mut settings = settings_of(rt.alloc(), "m.json --types t.csv")?;
-    for (workers, ring) in WAYS {
-        settings.workers = workers;
-        settings.ring = ring;
-        check_settings(rt, &settings, files, 4096, expected)?;
-    }
-    Ok(())
+/// Whether a run with these words over the held files at these paths writes this document.
+fn writes<'a>(
+    rt: &(impl AllocGlobal + Threads + Wait + Sync),
+    words: &str,
+    meta: &'a str,
+    table: &'a str,
+    document: &[u8],
+) -> Result<bool, Fail> {
+    let files = [
+        (meta, METADATA.as_bytes()),
+        ("t.csv", TYPES.as_bytes()),
+        (table, TABLE.as_bytes()),
+    ];
+    ends_so(rt, words, files.as_slice(), document, ("", 0))
 }
 
-/// Does so for runs that end with this line, nothing written.
-fn check_early(
-    rt: &(impl Abort + AllocGlobal + Threads + Wait + Sync),
-    files: &[File<'_>],
-    said: &str,
-    code: u8,
-) -> Result<(), Fail> {
-    check(rt, "m.json --types t.csv", files, 4096, (&[], said, code))
+/// Whether such a run writes what the held conversion writes.
+fn is_whole(
+    rt: &(impl AllocGlobal + Threads + Wait + Sync),
+    words: &str,
+    meta: &str,
+    table: &str,
+) -> Result<bool, Fail> {
+    let mut whole = Vec::new(rt.alloc());
+    let outcome = convert_held(rt, rt.alloc(), &mut Marked::new(&mut whole));
+    let writes = writes(rt, words, meta, table, whole.as_slice())?;
+    Ok(writes && status(&outcome) == 0)
 }
 
 #[test]
 fn whole_documents(rt: HostRuntime) -> Result<(), Fail> {
-    let alloc = rt.alloc();
-    let mut whole = Vec::new(alloc);
-    assert_eq!(rt;
-        status(&convert_held(&rt, alloc, &mut Marked::new(&mut whole))),
-        0
-    );
     for (words, meta, table) in [
-        ("m.json --types t.csv", "m.json", "t1.csv"),
+        (WORDS, "m.json", "t1.csv"),
         (
             "--ring 1 d/e.f/m.json --types=t.csv --workers 1",
             "d/e.f/m.json",
@@ -140,20 +149,20 @@ fn whole_documents(rt: HostRuntime) -> Result<(), Fail> {
         ),
         ("/m.json --types t.csv --out o.json", "/m.json", "/t1.csv"),
     ] {
-        let files = [
-            (meta, METADATA.as_bytes()),
-            ("t.csv", TYPES.as_bytes()),
-            (table, TABLE.as_bytes()),
-        ];
-        check(&rt, words, &files, 4096, (whole.as_slice(), "", 0))?;
+        let whole = is_whole(&rt, words, meta, table)?;
+        assert!(rt; whole, "of {words}");
     }
     Ok(())
 }
 
-#[test]
-fn a_refused_table(rt: HostRuntime) -> Result<(), Fail> {
-    let alloc = rt.alloc();
-    let metadata = edited(alloc, THREE)?;
+/// Whether a run over this metadata and the first so many of these files ends as a refused table.
+fn refuses(
+    rt: &(impl AllocGlobal + Threads + Wait + Sync),
+    metadata: &str,
+    count: usize,
+    document: &str,
+    said: &str,
+) -> Result<bool, Fail> {
     let files = [
         ("m.json", metadata.as_bytes()),
         ("t.csv", TYPES.as_bytes()),
@@ -161,137 +170,273 @@ fn a_refused_table(rt: HostRuntime) -> Result<(), Fail> {
         ("t2.csv", b"cash\n1\nx\n".as_slice()),
         ("t3.csv", b"nope\n1\n".as_slice()),
     ];
-    let said = "xbrl-json: table t2, row 2, column 1: BadNumber (40)\n";
+    let files = files.as_slice().get(..count).ok_or("fewer files")?;
+    ends_so(rt, WORDS, files, document.as_bytes(), (said, 1))
+}
+
+/// Whether a report of three tables, whose second is refused, ends so with this many files there.
+fn is_refused(
+    rt: &(impl AllocGlobal + Threads + Wait + Sync),
+    count: usize,
+    document: &str,
+    said: &str,
+) -> Result<bool, Fail> {
+    let metadata = edited(rt.alloc(), THREE)?;
+    refuses(rt, metadata.as_str(), count, document, said)
+}
+
+/// Whether the facts before a bad cell are written, and no more.
+fn stops_at_a_cell(rt: &(impl AllocGlobal + Threads + Wait + Sync)) -> Result<bool, Fail> {
     let facts = "t1.r_1.cash - Cash EUR 5; t2.r_1.cash - Cash EUR 1";
-    let document = document_of(alloc, facts, "BadNumber")?;
-    let expected = (document.as_bytes(), said, 1);
-    check_ways(&rt, &files, expected)?;
-    let said = "xbrl-json: table t1, row 0, column 0: NoFile (20)\n";
-    let expected = (HEAD.as_bytes(), said, 1);
-    check(&rt, "m.json --types t.csv", &files[..2], 4096, expected)?;
+    let document = document_of(rt.alloc(), facts, "BadNumber")?;
+    let said = "xbrl-json: table t2, row 2, column 1: BadNumber (40)\n";
+    is_refused(rt, 5, document.as_str(), said)
+}
+
+#[test]
+fn a_bad_cell(rt: HostRuntime) -> Result<(), Fail> {
+    let stops = stops_at_a_cell(&rt)?;
+    assert!(rt; stops);
     Ok(())
 }
 
 #[test]
-fn tables_in_order(rt: HostRuntime) -> Result<(), Fail> {
-    let alloc = rt.alloc();
-    let metadata = edited(alloc, THREE)?;
+fn no_file_of_a_table(rt: HostRuntime) -> Result<(), Fail> {
+    let said = "xbrl-json: table t1, row 0, column 0: NoFile (20)\n";
+    let refused = is_refused(&rt, 2, HEAD, said)?;
+    assert!(rt; refused);
+    Ok(())
+}
+
+/// Whether a run by these workers over rings of this size ends so, of three tables whose second is refused.
+fn is_refused_by(
+    rt: &(impl AllocGlobal + Threads + Wait + Sync),
+    metadata: &str,
+    workers: usize,
+    ring: usize,
+    document: &str,
+) -> Result<bool, Fail> {
+    let mut settings = settings_of(rt.alloc(), WORDS)?;
+    settings.workers = workers;
+    settings.ring = ring;
     let files = [
         ("m.json", metadata.as_bytes()),
         ("t.csv", TYPES.as_bytes()),
-        ("t1.csv", b"cash\n".as_slice()),
-        ("t2.csv", b"cash\n1\n3\n".as_slice()),
-        ("t3.csv", b"cash\n2\n".as_slice()),
+        ("t1.csv", b"cash\n5\n".as_slice()),
+        ("t2.csv", b"cash\n1\nx\n".as_slice()),
+        ("t3.csv", b"nope\n1\n".as_slice()),
     ];
-    let facts = "t2.r_1.cash - Cash EUR 1; t2.r_2.cash - Cash EUR 3; t3.r_1.cash - Cash EUR 2";
-    let document = document_of(alloc, facts, "")?;
-    check_ways(&rt, &files, (document.as_bytes(), "", 0))
+    let said = ("xbrl-json: table t2, row 2, column 1: BadNumber (40)\n", 1);
+    ends(
+        rt,
+        &settings,
+        files.as_slice(),
+        4096,
+        document.as_bytes(),
+        said,
+    )
+}
+
+/// Whether it does, with the document that one thread writes.
+fn is_refused_in_a_way(
+    rt: &(impl AllocGlobal + Threads + Wait + Sync),
+    workers: usize,
+    ring: usize,
+) -> Result<bool, Fail> {
+    let facts = "t1.r_1.cash - Cash EUR 5; t2.r_1.cash - Cash EUR 1";
+    let document = document_of(rt.alloc(), facts, "BadNumber")?;
+    let metadata = edited(rt.alloc(), THREE)?;
+    is_refused_by(rt, metadata.as_str(), workers, ring, document.as_str())
 }
 
 #[test]
-fn settings_out_of_range(rt: HostRuntime) -> Result<(), Fail> {
+fn every_number_of_workers(rt: HostRuntime) -> Result<(), Fail> {
+    for (workers, ring) in [(1, 1), (1, 4), (2, 1), (2, 4), (3, 1), (3, 4), (8, 65_536)] {
+        let refused = is_refused_in_a_way(&rt, workers, ring)?;
+        assert!(rt; refused, "by {workers} workers over rings of {ring}");
+    }
+    Ok(())
+}
+
+/// Whether a run with these settings out of range says this, with nothing written.
+fn is_out_of_range(
+    rt: &(impl AllocGlobal + Threads + Wait + Sync),
+    workers: usize,
+    ring: usize,
+    said: &str,
+) -> Result<bool, Fail> {
+    let mut settings = settings_of(rt.alloc(), WORDS)?;
+    settings.workers = workers;
+    settings.ring = ring;
     let files = [
         ("m.json", METADATA.as_bytes()),
         ("t.csv", TYPES.as_bytes()),
         ("t1.csv", TABLE.as_bytes()),
     ];
-    let mut settings = settings_of(rt.alloc(), "m.json --types t.csv")?;
+    ends(
+        rt,
+        &settings,
+        files.as_slice(),
+        4096,
+        b"".as_slice(),
+        (said, 3),
+    )
+}
+
+#[test]
+fn settings_out_of_range(rt: HostRuntime) -> Result<(), Fail> {
     for (workers, ring, said) in [
         (65, 1, "xbrl-json: run: BadWorkers (50)\n"),
         (0, 0, "xbrl-json: run: BadWorkers (50)\n"),
+        (64, 65_537, "xbrl-json: run: BadSize (51)\n"),
         (64, 0, "xbrl-json: run: BadSize (51)\n"),
-        (1, 65_537, "xbrl-json: run: BadSize (51)\n"),
     ] {
-        settings.workers = workers;
-        settings.ring = ring;
-        check_settings(&rt, &settings, &files, 4096, (&[], said, 3))?;
+        let refused = is_out_of_range(&rt, workers, ring, said)?;
+        assert!(rt; refused, "of {workers} and {ring}");
     }
     Ok(())
 }
 
+const NAMED: Edits<'static> = &[(r#""tables":"#, r#""parameterURL":"p.csv","tables":"#)];
+
+const NOT_THERE: Edits<'static> = &[(r#""tables":"#, r#""parameterURL":"x.csv","tables":"#)];
+
+const EXTENDED: Edits<'static> = &[(r#""taxonomy":"#, r#""extends":["a.json"],"taxonomy":"#)];
+
+const BROKEN: Edits<'static> = &[(METADATA, "{")];
+
+/// Whether a run over this metadata and types table, and a bad parameters file, says this and writes
+/// nothing.
+fn stops_over<'a>(
+    rt: &(impl AllocGlobal + Threads + Wait + Sync),
+    words: &str,
+    metadata: &'a str,
+    types: &'a str,
+    said: Said<'_>,
+) -> Result<bool, Fail> {
+    let files = [
+        ("m.json", metadata.as_bytes()),
+        ("t.csv", types.as_bytes()),
+        ("p.csv", b"a,1\n".as_slice()),
+    ];
+    ends_so(rt, words, files.as_slice(), b"".as_slice(), said)
+}
+
+/// Does so for the held metadata with each text replaced.
+fn stops(
+    rt: &(impl AllocGlobal + Threads + Wait + Sync),
+    words: &str,
+    edits: Edits<'_>,
+    types: &str,
+    said: Said<'_>,
+) -> Result<bool, Fail> {
+    let metadata = edited(rt.alloc(), edits)?;
+    stops_over(rt, words, metadata.as_str(), types, said)
+}
+
 #[test]
 fn files_that_are_not_there(rt: HostRuntime) -> Result<(), Fail> {
-    let alloc = rt.alloc();
-    let named = edited(
-        alloc,
-        &[(r#""tables":"#, r#""parameterURL":"p.csv","tables":"#)],
-    )?;
-    let files = [
-        ("m.json", named.as_bytes()),
-        ("t.csv", TYPES.as_bytes()),
-        ("t1.csv", TABLE.as_bytes()),
-    ];
-    check_early(&rt, &files[1..], "xbrl-json: cannot read m.json\n", 3)?;
-    check_early(&rt, &files[..1], "xbrl-json: cannot read t.csv\n", 3)?;
-    check_early(&rt, &files, "xbrl-json: cannot read p.csv\n", 3)?;
+    for (words, edits, said) in [
+        (
+            "x.json --types x.csv",
+            NAMED,
+            "xbrl-json: cannot read x.json\n",
+        ),
+        (
+            "m.json --types x.csv",
+            BROKEN,
+            "xbrl-json: cannot read x.csv\n",
+        ),
+        (WORDS, NOT_THERE, "xbrl-json: cannot read x.csv\n"),
+    ] {
+        let stops = stops(&rt, words, edits, TYPES, (said, 3))?;
+        assert!(rt; stops, "for {said}");
+    }
     Ok(())
 }
 
 #[test]
 fn faults_before_the_tables(rt: HostRuntime) -> Result<(), Fail> {
-    let alloc = rt.alloc();
-    let extended = edited(
-        alloc,
-        &[(r#""taxonomy":"#, r#""extends":["a.json"],"taxonomy":"#)],
-    )?;
-    let named = edited(
-        alloc,
-        &[(r#""tables":"#, r#""parameterURL":"p.csv","tables":"#)],
-    )?;
-    let types = TYPES.as_bytes();
-    for (metadata, types, said) in [
-        (b"{".as_slice(), types, "report: Syntax (1)"),
-        (b"{".as_slice(), b"".as_slice(), "types: BadTypes (14)"),
-        (extended.as_bytes(), types, "report: Unsupported (5)"),
-        (named.as_bytes(), types, "parameters: BadParameter (13)"),
+    for (edits, types, said) in [
+        (BROKEN, TYPES, "xbrl-json: report: Syntax (1)\n"),
+        (BROKEN, "", "xbrl-json: types: BadTypes (14)\n"),
+        (EXTENDED, TYPES, "xbrl-json: report: Unsupported (5)\n"),
+        (NAMED, TYPES, "xbrl-json: parameters: BadParameter (13)\n"),
     ] {
-        let files = [
-            ("m.json", metadata),
-            ("t.csv", types),
-            ("p.csv", b"a,1\n".as_slice()),
-        ];
-        let said = format!(in alloc; "xbrl-json: {said}\n")?;
-        check_early(&rt, &files, said.as_str(), 1)?;
+        let stops = stops(&rt, WORDS, edits, types, (said, 1))?;
+        assert!(rt; stops, "for {said}");
     }
     Ok(())
 }
 
-#[test]
-fn a_writer_that_fails(rt: HostRuntime) -> Result<(), Fail> {
+/// Whether a run over the held files, with a writer of 40 bytes, ends as a failed write.
+fn fails_to_write(rt: &(impl AllocGlobal + Threads + Wait + Sync)) -> Result<bool, Fail> {
+    let settings = settings_of(rt.alloc(), WORDS)?;
     let files = [
         ("m.json", METADATA.as_bytes()),
         ("t.csv", TYPES.as_bytes()),
         ("t1.csv", TABLE.as_bytes()),
     ];
     let written = b"{\"documentInfo\":{\"documentType\":\"https:/".as_slice();
-    let expected = (written, "xbrl-json: output: Write (56)\n", 3);
-    check(&rt, "m.json --types t.csv", &files, 40, expected)?;
+    let said = ("xbrl-json: output: Write (56)\n", 3);
+    ends(rt, &settings, files.as_slice(), 40, written, said)
+}
+
+#[test]
+fn a_writer_that_fails(rt: HostRuntime) -> Result<(), Fail> {
+    let fails = fails_to_write(&rt)?;
+    assert!(rt; fails);
     Ok(())
+}
+
+/// Whether an optional path is this one, or is not there where this one is empty.
+fn is_path(path: &Option<Text>, wanted: &str) -> bool {
+    match path {
+        Some(path) => path.as_str() == wanted,
+        None => wanted.is_empty(),
+    }
+}
+
+/// Whether words ask for the report `m.json` with the types `t.csv`, and for these numbers and this
+/// file to write.
+fn asks_for(
+    alloc: Global,
+    words: &str,
+    workers: usize,
+    ring: usize,
+    out: &str,
+) -> Result<bool, Fail> {
+    let settings = settings_of(alloc, words)?;
+    let reads = settings.meta.as_str() == "m.json" && settings.types.as_str() == "t.csv";
+    let counts = settings.workers == workers && settings.ring == ring;
+    Ok(reads && counts && is_path(&settings.out, out))
 }
 
 #[test]
 fn settings_of_words(rt: HostRuntime) -> Result<(), Fail> {
-    let alloc = rt.alloc();
-    let settings = settings_of(alloc, "m.json --types t.csv")?;
-    assert!(rt; settings.meta.as_str() == "m.json");
-    assert!(rt; settings.types.as_str() == "t.csv");
-    assert_eq!(rt; (settings.workers, settings.ring), (4, 1024));
-    assert!(rt; settings.out.is_none());
-    let settings = settings_of(
-        alloc,
-        "--out o.json --workers 64 --ring 65536 --types t.csv m.json",
-    )?;
-    assert_eq!(rt; (settings.workers, settings.ring), (64, 65_536));
-    let Some(out) = settings.out else {
-        return Err(Fail::new("no file to write"));
-    };
-    assert!(rt; out.as_str() == "o.json");
+    for (words, workers, ring, out) in [
+        (WORDS, 4, 1024, ""),
+        (
+            "--out o.json --workers 64 --ring 65536 --types t.csv m.json",
+            64,
+            65_536,
+            "o.json",
+        ),
+    ] {
+        let asks = asks_for(rt.alloc(), words, workers, ring, out)?;
+        assert!(rt; asks, "of {words}");
+    }
     Ok(())
+}
+
+/// Whether words are refused.
+fn are_refused(alloc: Global, words: &str) -> Result<bool, Fail> {
+    let words = words.split(' ').collect::<Vec<&str>>(alloc)?;
+    Ok(job(alloc, words.as_slice()).is_err())
 }
 
 #[test]
 fn words_refused(rt: HostRuntime) -> Result<(), Fail> {
-    let alloc = rt.alloc();
     for words in [
         "m.json",
         "--types t.csv",
@@ -302,28 +447,30 @@ fn words_refused(rt: HostRuntime) -> Result<(), Fail> {
         "m.json --types t.csv more",
         "m.json --types t.csv --help",
     ] {
-        let words = words.split(' ').collect::<Vec<&str>>(alloc)?;
-        assert!(rt; job(alloc, words.as_slice()).is_err());
+        let refused = are_refused(rt.alloc(), words)?;
+        assert!(rt; refused, "of {words}");
     }
     Ok(())
 }
 
 #[test]
-fn lines_of_the_program_alone(rt: HostRuntime) -> Result<(), Fail> {
-    let alloc = rt.alloc();
-    let path = Text::from_str(alloc, "o.json")?;
+fn an_unwritten_file(rt: HostRuntime) -> Result<(), Fail> {
+    let path = Text::from_str(rt.alloc(), "o.json")?;
     let outcome = Outcome::CannotWrite(path);
-    assert_eq!(rt;
-        line(alloc, &outcome)?.as_str(),
-        "xbrl-json: cannot write o.json\n"
-    );
-    assert_eq!(rt; status(&outcome), 3);
+    let said = says(
+        rt.alloc(),
+        &outcome,
+        ("xbrl-json: cannot write o.json\n", 3),
+    )?;
+    assert!(rt; said);
+    Ok(())
+}
+
+#[test]
+fn a_run_without_memory(rt: HostRuntime) -> Result<(), Fail> {
     let outcome = Outcome::Run(ConvertFault::Memory);
-    assert_eq!(rt;
-        line(alloc, &outcome)?.as_str(),
-        "xbrl-json: run: Memory (53)\n"
-    );
-    assert_eq!(rt; status(&outcome), 3);
+    let said = says(rt.alloc(), &outcome, ("xbrl-json: run: Memory (53)\n", 3))?;
+    assert!(rt; said);
     Ok(())
 }
 

@@ -6,7 +6,7 @@ use Rattle.oim_ring.proofs.Whole.{ended}
 use Rattle.xbrl_json_cli.proofs.tests_rings.settled.Goals as goal
 
 pub settle-drained-requires-clause-ended : goal.settle-drained-requires-clause-ended
-settle-drained-requires-clause-ended g c =
+settle-drained-requires-clause-ended c =
     let e = c.in-Some-Ending in
     let more : c.take.new.self.taken ≡ c.args.drain.taken ++ items.Ending e.ending ∷ [] = e.ensures.some ∙ ap (λ x. c.args.drain.taken ++ x ∷ []) e.field-0-is in
     ap blocks_only more ∙ ended c.args.drain.taken e.ending
