@@ -185,6 +185,20 @@ fn deep_brackets(rt: HostRuntime) -> Result<(), Fail> {
 }
 
 #[test]
+fn more_bytes_than_the_limit(rt: HostRuntime) -> Result<(), Fail> {
+    let alloc = rt.alloc();
+    let mut text = String::new(alloc);
+    for _ in 0..1_001 {
+        text.push_str("[")?;
+    }
+    assert_eq!(rt;
+        fault_within(alloc, text.as_str(), 1)?,
+        Some(MetaFault::TooLarge)
+    );
+    Ok(())
+}
+
+#[test]
 fn each_proper_prefix(rt: HostRuntime) -> Result<(), Fail> {
     for n in 0..BASE.len() {
         let text = &BASE.as_bytes()[..n];
