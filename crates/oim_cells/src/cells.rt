@@ -45,14 +45,13 @@ pub fn meaning(text: &str) -> CellMeaning<'_>
     ensures means { (m : Meaning) → Means text.now m ↔ (m ≡ seen_meaning result) }
     ensures value { seen_meaning result ≡ meaning_of text.now }
 {
-    match text {
-        "" | "#none" => CellMeaning::Absent,
-        "#nil" => CellMeaning::Nil,
-        "#empty" => CellMeaning::Empty,
-        _ => match text.strip_prefix('#') {
-            None => CellMeaning::Text(text),
-            Some(rest) if rest.starts_with('#') => CellMeaning::Text(rest),
-            Some(_) => CellMeaning::Unknown,
-        },
+    match text.strip_prefix('#') {
+        None if text.is_empty() => CellMeaning::Absent,
+        None => CellMeaning::Text(text),
+        Some("none") => CellMeaning::Absent,
+        Some("nil") => CellMeaning::Nil,
+        Some("empty") => CellMeaning::Empty,
+        Some(rest) if rest.starts_with('#') => CellMeaning::Text(rest),
+        Some(_) => CellMeaning::Unknown,
     }
 }

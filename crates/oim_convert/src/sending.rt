@@ -13,8 +13,8 @@ use oim_resolve::Fact;
 use oim_ring::{CloseFault, Closed, Ending, Feed};
 use oim_rows::RowFacts;
 use std::alloc::{AllocError, Global};
+use std::mem;
 use std::sync::Wait;
-use std::{mem, thread};
 
 /// How many facts a block has at most.
 const MOST: usize = 256;
@@ -30,7 +30,7 @@ fn put_waiting<T: Wait>(rt: &T, feed: &mut Feed, block: Block)
             Ok(()) => return,
             Err(back) => block = back,
         }
-        thread::yield_now();
+        feed.wait(rt);
     }
     unreachable!()
 }
@@ -48,7 +48,7 @@ pub(crate) fn close_waiting<T: Wait>(rt: &T, feed: Feed, ending: Ending) -> Opti
             Err(CloseFault::Full(back, _)) => feed = back,
             Err(CloseFault::Lost) => return None,
         }
-        thread::yield_now();
+        feed.wait(rt);
     }
     unreachable!()
 }

@@ -1,12 +1,13 @@
--- A text in quotes is what serde_json writes for it.
-use Rattle.std.proofs.Common.{◌≡◌, ℕ, ◌/◌, ◌%◌, List, [], ◌∷◌, ◌++◌, Bool, true, false, cond, ◌||◌, ◌==◌, nat_lt, refl, sym, ap, subst}
-use Rattle.std.specs.List.{flat_map}
+-- A text in quotes is what serde_json writes for it, and a text without escapes is written as it is.
+use Rattle.std.proofs.Common.{not, ◌&&◌, codes, ◌≡◌, ℕ, ◌/◌, ◌%◌, List, [], ◌∷◌, ◌++◌, Bool, true, false, cond, ◌||◌, ◌==◌, nat_lt, refl, sym, ap, subst, ◌∙◌}
+use Rattle.std.specs.List.{flat_map, list_all}
 use Rattle.std.specs.Char.{digit_char}
 use Rattle.std.proofs.lemmas.Bool.{eqb-true}
 use Rattle.serde_json.specs.Data.{string}
 use Rattle.serde_json.specs.Written.{compact_text}
 use Rattle.serde_json.proofs.OnLiterals.{serde_json_on_literals}
-use Rattle.oim_json.specs.JsonText.{escaped_byte, quoted}
+use Rattle.oim_names.proofs.Cut.{eqb_of}
+use Rattle.oim_json.specs.JsonText.{escaped_byte, is_unescaped, quoted}
 
 abbrev letter : ℕ → ℕ
 letter x = cond ((x == 34) || (x == 92)) x (cond (x == 8) 98 (cond (x == 12) 102 (cond (x == 10) 110 (cond (x == 13) 114 (cond (x == 9) 116 0)))))
@@ -37,3 +38,32 @@ same_byte x =
 pub compact_text-string : (s : List ℕ) → compact_text (string s) ≡ quoted s
 unfolding serde_json_on_literals quoted
 compact_text-string s = ap (λ t. 34 ∷ (t ++ 34 ∷ [])) (flat_map-same kit_byte escaped_byte same_byte s)
+
+three : (low quote slash : Bool) → (not low && (not quote && not slash)) ≡ true → (low ≡ false) × (quote ≡ false) × (slash ≡ false)
+three false false false h = (refl, refl, refl)
+three false false true h = absurd (cc)
+three false true slash h = absurd (cc)
+three true quote slash h = absurd (cc)
+
+-- no byte from 32 on is one below
+is_not : (k b : ℕ) → nat_lt k 32 ≡ true → nat_lt b 32 ≡ false → (b == k) ≡ false
+is_not k b small large = eqb_of b k (λ e. let low : nat_lt k 32 ≡ false = subst (λ n. nat_lt n 32 ≡ false) e large in let bad : true ≡ false = sym small ∙ low in cc)
+
+unescaped : (b : ℕ) → is_unescaped b ≡ true → escaped_byte b ≡ b ∷ []
+unfolding escaped_byte
+unescaped b h =
+    let t = three (nat_lt b 32) (b == 34) (b == 92) h in
+    rw (t.1, t.2, is_not 8 b refl t.0, is_not 12 b refl t.0, is_not 10 b refl t.0, is_not 13 b refl t.0, is_not 9 b refl t.0, t.0) refl
+
+two : (a b : Bool) → (a && b) ≡ true → (a ≡ true) × (b ≡ true)
+two true true h = (refl, refl)
+two true false h = absurd (cc)
+two false b h = absurd (cc)
+
+all_unescaped : (s : List ℕ) → list_all is_unescaped s ≡ true → flat_map escaped_byte s ≡ s
+all_unescaped [] h = refl
+all_unescaped (c ∷ s) h = let t = two _ _ h in rw (unescaped c t.0, all_unescaped s t.1) refl
+
+pub quoted_as_it_is : (s : List ℕ) → list_all is_unescaped s ≡ true → quoted s ≡ codes "\"" ++ s ++ codes "\""
+unfolding quoted
+quoted_as_it_is s h = rw (all_unescaped s h) refl

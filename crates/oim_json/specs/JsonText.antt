@@ -1,5 +1,5 @@
 -- The text of a fact and of a report's head in xBRL-JSON: compact, members and names in byte order.
-use Rattle.std.specs.Prelude.{ℕ, zero, suc, ◌/◌, ◌%◌, ℤ, List, [], ◌∷◌, ◌++◌, map, flat_map, Option, Some, None, codes, ◌==◌, nat_lt, if◌then◌else◌}
+use Rattle.std.specs.Prelude.{Bool, not, ◌&&◌, ℕ, zero, suc, ◌/◌, ◌%◌, ℤ, List, [], ◌∷◌, ◌++◌, map, flat_map, Option, Some, None, codes, ◌==◌, nat_lt, if◌then◌else◌}
 use Rattle.std.specs.Char.{digit_char}
 use Rattle.std.specs.List.{join_with_byte}
 use Rattle.std.specs.Fmt.{signed_decimal}
@@ -18,6 +18,10 @@ escaped_byte b =
     else if b == 9 then codes "\\t"
     else if nat_lt b 32 then codes "\\u00" ++ digit_char (b / 16) ∷ digit_char (b % 16) ∷ []
     else b ∷ []
+
+-- the byte b stands for itself in a text
+abbrev pub is_unescaped : ℕ → Bool
+is_unescaped b = not (nat_lt b 32) && (not (b == 34) && not (b == 92))
 
 -- a text in quotes
 unfoldable pub quoted : List ℕ → List ℕ

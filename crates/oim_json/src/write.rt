@@ -1,6 +1,7 @@
 ghost use Rattle.std.specs.Prelude.{◌≡◌, ◌++◌, ℕ, List, map, OnOk};
 ghost use Rattle.std.specs.Fmt.{signed_decimal};
-ghost use Rattle.oim_json.specs.JsonText.{quoted, value_text, dimension_text, namespace_text, comma_before, joined};
+ghost use Rattle.std.specs.List.{list_all};
+ghost use Rattle.oim_json.specs.JsonText.{is_unescaped, quoted, value_text, dimension_text, namespace_text, comma_before, joined};
 
 use itoa::Buffer;
 use oim_names::{Namespaces, Text};
@@ -14,10 +15,30 @@ pub(crate) trait JsonText {
         ensures { OnOk result (out.new.items ≡ out.old.items ++ text self.now) };
 }
 
-/// Appends a text in quotes.
+/// Whether a byte stands for itself in a text.
+fn stands_for_itself(byte: u8) -> bool
+    ensures { result ≡ is_unescaped byte }
+{
+    byte >= 32 && byte != b'"' && byte != b'\\'
+}
+
+/// Whether each byte of a text stands for itself.
+fn needs_no_escape(text: &str) -> bool
+    ensures { result ≡ list_all is_unescaped text.now }
+{
+    text.as_bytes().iter().all(|byte| stands_for_itself(*byte))
+}
+
+/// Appends a text in quotes. Most texts need no escape, and are copied as they are.
 pub(crate) fn push_text(alloc: Global, out: &mut Vec<u8>, text: &str) -> Result<(), AllocError>
     ensures { OnOk result (out.new.items ≡ out.old.items ++ quoted text.now) }
 {
+    if needs_no_escape(text) {
+        out.push(b'"')?;
+        out.extend_from_slice(text.as_bytes())?;
+        out.push(b'"')?;
+        return Ok(());
+    }
     match serde_json::to_vec(alloc, &text) {
         Ok(bytes) => out.extend_from_slice(&bytes),
         Err(_) => Err(AllocError),

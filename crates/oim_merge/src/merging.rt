@@ -12,7 +12,6 @@ use crate::progress::{MergeEnd, Progress, Standing};
 use oim_json::{Block, Sink, WriteFault, tail, write_all_of};
 use oim_ring::{Drain, Ending, Item};
 use std::sync::Wait;
-use std::thread;
 
 /// Writes the document that begins with this head and has the facts of all drains, in order. It takes
 /// each drain to its ending and no further, writes until a refusal or a write fault, and after that
@@ -54,7 +53,7 @@ fn take_all<R: Wait, W: Sink>(rt: &R, drain: &mut Drain, progress: &mut Progress
 {
     for _ in rt.forever() {
         match drain.take() {
-            None => thread::yield_now(),
+            None => drain.wait(rt),
             Some(Item::Block(block)) => write_block(&block, progress, sink),
             Some(Item::Ending(ending)) => {
                 end_table(ending, progress);

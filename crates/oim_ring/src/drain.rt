@@ -6,13 +6,16 @@ ghost use Rattle.oim_ring.specs.Items.{blocks_only};
 
 use crate::feed::Closed;
 use crate::item::Item;
+use crate::waiting::Waiting;
 use rtrb::Consumer;
 use std::marker::Model;
+use std::sync::Wait;
 
 /// The end that takes. Contracts see its ring and the items taken.
 #[derive(Drop)]
 pub struct Drain {
     consumer: Consumer<Item>,
+    waiting: Waiting,
 }
 
 impl Model for Drain {
@@ -41,10 +44,10 @@ impl Model for Drained {
 }
 
 impl Drain {
-    pub(crate) fn new(consumer: Consumer<Item>) -> Drain
+    pub(crate) fn new(consumer: Consumer<Item>, waiting: Waiting) -> Drain
         ensures { (result.ring ≡ taker_ring consumer) × (result.taken ≡ received consumer) }
     {
-        Drain { consumer }
+        Drain { consumer, waiting }
     }
 
     /// Takes the next item. None where nothing was found, and then nothing changed. It takes no memory
@@ -54,7 +57,15 @@ impl Drain {
         ensures some { IfSome result (λ item. self.new.taken ≡ self.old.taken ++ item ∷ []) }
         ensures none { IfNone result (self.new.taken ≡ self.old.taken) }
     {
-        self.consumer.pop().ok()
+        let item = self.consumer.pop().ok()?;
+        self.waiting.wake();
+        Some(item)
+    }
+
+    /// Waits until the feed sends an item, or no more where it sent one since this drain last waited.
+    /// To be called where nothing was found; what was taken stays as it is.
+    pub fn wait<R: Wait>(&self, rt: &R) {
+        self.waiting.wait(rt);
     }
 
     /// Shows that what was taken is all that was sent, once the ending was taken. The token is that
@@ -66,7 +77,10 @@ impl Drain {
         ensures taken { result ≡ self.taken }
     {
         let Closed { mut finished } = closed;
-        let Drain { mut consumer } = self;
+        let Drain {
+            mut consumer,
+            waiting: _,
+        } = self;
         consumer.slots_after(&mut finished);
         Drained { consumer }
     }

@@ -7,15 +7,18 @@ ghost use Rattle.oim_ring.specs.Items.{blocks_only};
 ghost use Rattle.oim_ring.specs.declared.item.Item.TheVariants as items;
 
 use crate::item::{Ending, Item};
+use crate::waiting::Waiting;
 use oim_json::Block;
 use rtrb::{Finished, Producer, PushError};
 use std::marker::Model;
+use std::sync::Wait;
 
 /// The end that sends. Contracts see its ring, its size and the items sent, of which none is an
 /// ending.
 #[derive(Drop)]
 pub struct Feed {
     producer: Producer<Item>,
+    waiting: Waiting,
 }
 
 impl Model for Feed {
@@ -60,11 +63,11 @@ pub enum CloseFault {
 }
 
 impl Feed {
-    pub(crate) fn new(producer: Producer<Item>) -> Feed
+    pub(crate) fn new(producer: Producer<Item>, waiting: Waiting) -> Feed
         requires { sent producer ≡ [] }
         ensures { (result.ring ≡ sender_ring producer) × (result.size ≡ producer_capacity producer) × (result.sent ≡ []) }
     {
-        Feed { producer }
+        Feed { producer, waiting }
     }
 
     /// Sends a block, or gives it back where the ring is full, and nothing changed. While fewer items
@@ -77,7 +80,10 @@ impl Feed {
         ensures open { blocks_only self.new.sent ≡ true }
     {
         match self.producer.push(Item::Block(block)) {
-            Ok(()) => Ok(()),
+            Ok(()) => {
+                self.waiting.wake();
+                Ok(())
+            }
             Err(PushError::Full(Item::Block(block))) => Err(block),
             Err(PushError::Full(Item::Ending(_))) => unreachable!(),
         }
@@ -89,14 +95,23 @@ impl Feed {
     pub fn close(self, ending: Ending) -> Result<Closed, CloseFault>
         ensures { Closes self ending result }
     {
-        let Feed { mut producer } = self;
+        let Feed {
+            mut producer,
+            waiting,
+        } = self;
         match producer.push(Item::Ending(ending)) {
-            Ok(()) => {}
-            Err(_) => return Err(CloseFault::Full(Feed { producer }, ending)),
+            Ok(()) => waiting.wake(),
+            Err(_) => return Err(CloseFault::Full(Feed { producer, waiting }, ending)),
         }
         match producer.finish() {
             Some(finished) => Ok(Closed { finished }),
             None => Err(CloseFault::Lost),
         }
+    }
+
+    /// Waits until the drain takes an item, or no more where it took one since this feed last waited.
+    /// To be called where the ring was found full; what was sent stays as it is.
+    pub fn wait<R: Wait>(&self, rt: &R) {
+        self.waiting.wait(rt);
     }
 }

@@ -9,14 +9,16 @@
 //! - `take` that gives an item has taken it, and None has changed nothing;
 //! - `settle` shows that what was taken is what was sent, each item once and in order.
 //!
-//! None of these calls waits, and no lock stands round a ring. That a ring holds no more items than
-//! its size, and that `take` finds what was put, is shown by tests alone.
+//! None of these calls waits, and no lock stands round a ring. `Feed::wait` and `Drain::wait` alone
+//! sleep, until the other end has moved. That a ring holds no more items than its size, that `take`
+//! finds what was put, and that a wait ends, is shown by tests alone.
 #![tactic(auto)]
 
 mod drain;
 mod feed;
 mod item;
 mod opening;
+mod waiting;
 
 pub use drain::{Drain, Drained};
 pub use feed::{CloseFault, Closed, Feed};

@@ -4,6 +4,7 @@ ghost use Rattle.std.specs.Prelude.{◌≡◌, ◌≤◌, [], IfOk};
 use crate::drain::Drain;
 use crate::feed::Feed;
 use crate::item::Item;
+use crate::waiting::both_ends;
 use rtrb::RingBuffer;
 use std::alloc::{AllocError, Global};
 
@@ -15,6 +16,7 @@ pub fn lane(alloc: Global, size: usize) -> Result<(Feed, Drain), AllocError>
     ensures drain { IfOk result (λ r. r.1.taken ≡ []) }
     ensures one_ring { IfOk result (λ r. r.1.ring ≡ r.0.ring) }
 {
+    let (sending, taking) = both_ends(alloc)?;
     let (producer, consumer) = RingBuffer::<Item>::new(alloc, size)?;
-    Ok((Feed::new(producer), Drain::new(consumer)))
+    Ok((Feed::new(producer, sending), Drain::new(consumer, taking)))
 }

@@ -5,3 +5,4 @@ mod Histories
 mod Threads
 mod MetadataFacts
 mod StepFacts
+mod Examples

@@ -18,7 +18,7 @@ use std::sync::Wait;
 use std::test::Fail;
 use std::{io, thread};
 
-/// Turns that each side of a ring may take.
+/// Turns that each side of a ring may take, each of which ends in a wait where it found nothing.
 const TURNS: u32 = 100_000_000;
 
 /// Blocks that go through the ring between two threads.
@@ -186,7 +186,7 @@ fn a_full_ring_is_closed_later(rt: HostRuntime) -> Result<(), Fail> {
 }
 
 /// Puts all blocks and then the ending. None where a side took too many turns, or memory was short.
-fn put_all(alloc: Global, feed: Feed) -> Option<u32> {
+fn put_all<T: Wait>(rt: &T, alloc: Global, feed: Feed) -> Option<u32> {
     let mut feed = feed;
     let mut next = 0u32;
     let mut waiting = block(alloc, 0).ok()?;
@@ -196,12 +196,12 @@ fn put_all(alloc: Global, feed: Feed) -> Option<u32> {
                 next = next.saturating_add(1);
                 waiting = block(alloc, next).ok()?;
                 if next == BLOCKS {
-                    return close_waiting(feed, TURNS - turn);
+                    return close_waiting(rt, feed, TURNS - turn);
                 }
             }
             Err(back) => {
                 waiting = back;
-                thread::yield_now();
+                feed.wait(rt);
             }
         }
     }
@@ -209,7 +209,7 @@ fn put_all(alloc: Global, feed: Feed) -> Option<u32> {
 }
 
 /// Closes the feed within so many turns. Answers how many are left.
-fn close_waiting(feed: Feed, turns: u32) -> Option<u32> {
+fn close_waiting<T: Wait>(rt: &T, feed: Feed, turns: u32) -> Option<u32> {
     let mut feed = feed;
     for turn in 0..turns {
         match feed.close(Ending::Closed) {
@@ -217,18 +217,18 @@ fn close_waiting(feed: Feed, turns: u32) -> Option<u32> {
             Err(CloseFault::Full(back, _)) => feed = back,
             Err(CloseFault::Lost) => return None,
         }
-        thread::yield_now();
+        feed.wait(rt);
     }
     None
 }
 
 /// Takes blocks up to the ending. Answers how many came, where they came in order.
-fn take_all(alloc: Global, drain: Drain) -> Option<u32> {
+fn take_all<T: Wait>(rt: &T, alloc: Global, drain: Drain) -> Option<u32> {
     let mut drain = drain;
     let mut next = 0u32;
     for _ in 0..TURNS {
         match drain.take() {
-            None => thread::yield_now(),
+            None => drain.wait(rt),
             Some(Item::Block(block)) => {
                 if next == BLOCKS || !is_numbered(alloc, &block, next).ok()? {
                     return None;
@@ -245,10 +245,11 @@ fn take_all(alloc: Global, drain: Drain) -> Option<u32> {
 fn two_threads_over_one_ring(rt: HostRuntime) -> Result<(), Fail> {
     let alloc = rt.alloc();
     let (feed, drain) = lane(alloc, 4)?;
+    let waits = &rt;
     let (put, taken) = thread::join(
         &rt,
-        move || put_all(alloc, feed),
-        move || take_all(alloc, drain),
+        move || put_all(waits, alloc, feed),
+        move || take_all(waits, alloc, drain),
     );
     assert!(rt; put.is_some());
     assert_eq!(rt; taken, Some(BLOCKS));

@@ -1,0 +1,168 @@
+-- The definitions, executed on worked cases.
+use Rattle.std.proofs.Common.{◌≡◌, ◌++◌, ◌∷◌, [], ℕ, List, Option, Some, None, Ok, Err, codes, refl, if◌then◌else◌}
+use Rattle.std.specs.Str.{bytes_eq}
+use Rattle.clap.proofs.OnLiterals.{clap_on_literals}
+use Rattle.clap.specs.Words.{Row, Text, fault_of, first_of, matches_of, one_of}
+use Rattle.clap.specs.declared.error.kind.ErrorKind.TheVariants as kind
+use Rattle.oim_convert.specs.declared.fault.ConvertFault.TheVariants as fault
+use Rattle.oim_json.specs.declared.mark.WriteFault.TheVariants as write
+use Rattle.oim_merge.specs.declared.progress.MergeEnd.TheVariants as end
+use Rattle.oim_meta.specs.Readers.{no_level}
+use Rattle.oim_meta.specs.ReportValue.{ReportValue}
+use Rattle.oim_meta.specs.declared.data.Table.{Table}
+use Rattle.oim_meta.specs.declared.fault.MetaFault.TheVariants as meta
+use Rattle.oim_rows.specs.Header.{fault_at}
+use Rattle.oim_rows.specs.declared.fault.TableKind.TheVariants as table
+use Rattle.xbrl_json_cli.specs.CommandLine.{command_line}
+use Rattle.xbrl_json_cli.specs.Conversion.{flushed}
+use Rattle.xbrl_json_cli.specs.Folders.{Files}
+use Rattle.xbrl_json_cli.specs.Lines.{line_of, status_of}
+use Rattle.xbrl_json_cli.specs.Outcomes.{name_in, outcome_at, table_ids}
+use Rattle.xbrl_json_cli.specs.Runs.{range_fault, table_files}
+use Rattle.xbrl_json_cli.specs.Steps.{missing, report_at, types_at, wrong}
+use Rattle.xbrl_json_cli.specs.declared.outcome.Outcome.TheVariants as outcome
+use Rattle.xbrl_json_cli.specs.declared.outcome.Source.TheVariants as source
+
+-- ---- the command line
+
+abbrev least : List Text
+least = codes "m.json" ∷ codes "--types" ∷ codes "t.csv" ∷ []
+
+abbrev full : List Text
+full = codes "--out" ∷ codes "o.json" ∷ codes "--workers" ∷ codes "64" ∷ codes "--ring=2" ∷ least
+
+abbrev given : List Text → List Row
+given words = matches_of command_line words
+
+least_meta : first_of (codes "meta") (given least) ≡ Some (codes "m.json")
+unfolding clap_on_literals command_line
+least_meta = refl
+
+least_types : first_of (codes "types") (given least) ≡ Some (codes "t.csv")
+unfolding clap_on_literals command_line
+least_types = refl
+
+least_workers : one_of (codes "workers") (given least) ≡ Some (codes "4")
+unfolding clap_on_literals command_line
+least_workers = refl
+
+least_ring : one_of (codes "ring") (given least) ≡ Some (codes "1024")
+unfolding clap_on_literals command_line
+least_ring = refl
+
+least_out : first_of (codes "out") (given least) ≡ None
+unfolding clap_on_literals command_line
+least_out = refl
+
+full_workers : one_of (codes "workers") (given full) ≡ Some (codes "64")
+unfolding clap_on_literals command_line
+full_workers = refl
+
+full_ring : one_of (codes "ring") (given full) ≡ Some (codes "2")
+unfolding clap_on_literals command_line
+full_ring = refl
+
+full_out : first_of (codes "out") (given full) ≡ Some (codes "o.json")
+unfolding clap_on_literals command_line
+full_out = refl
+
+least_taken : fault_of command_line least ≡ []
+unfolding clap_on_literals command_line
+least_taken = refl
+
+full_taken : fault_of command_line full ≡ []
+unfolding clap_on_literals command_line
+full_taken = refl
+
+types_missing : fault_of command_line (codes "m.json" ∷ []) ≡ kind.MissingRequiredArgument ∷ []
+unfolding clap_on_literals command_line
+types_missing = refl
+
+sixty_five_workers : fault_of command_line (codes "--workers" ∷ codes "65" ∷ least) ≡ kind.ValueValidation ∷ []
+unfolding clap_on_literals command_line
+sixty_five_workers = refl
+
+another_word : fault_of command_line (codes "more.json" ∷ least) ≡ kind.UnknownArgument ∷ []
+unfolding clap_on_literals command_line
+another_word = refl
+
+-- ---- the files
+
+abbrev held : Files
+held path = if bytes_eq path (codes "f/m.json") then Some (codes "{")
+    else if bytes_eq path (codes "f/empty.csv") then Some []
+    else if bytes_eq path (codes "f/t.csv") then Some (codes "namespace,name,type\n")
+    else if bytes_eq path (codes "f/t1.csv") then Some (codes "cash\n")
+    else None
+
+no_metadata : report_at held (codes "f/") (codes "x.json") (codes "x.csv") ≡ Err (missing (codes "x.json"))
+no_metadata = refl
+
+no_types : report_at held (codes "f/") (codes "f/m.json") (codes "x.csv") ≡ Err (missing (codes "x.csv"))
+no_types = refl
+
+bad_types : report_at held (codes "f/") (codes "f/m.json") (codes "f/empty.csv") ≡ Err (wrong source.Types meta.BadTypes)
+bad_types = refl
+
+types_before_the_report : types_at held (codes "f/t.csv") ≡ Ok []
+types_before_the_report = refl
+
+bad_metadata : report_at held (codes "f/") (codes "f/m.json") (codes "f/t.csv") ≡ Err (wrong source.Report meta.Syntax)
+bad_metadata = refl
+
+abbrev first : Table
+first = record { id = codes "t1"; url = codes "t1.csv"; is_optional = false; template = 0; parameters = [] }
+
+abbrev report : ReportValue
+report = record {
+  info = record { base_url = None; taxonomy = [] };
+  namespaces = [];
+  types = [];
+  level = no_level;
+  templates = [];
+  tables = first ∷ record first { id = codes "t2"; url = codes "t2.csv" } ∷ [];
+  parameters = [];
+}
+
+files_of_the_tables : table_files held (codes "f/") report ≡ Some (codes "cash\n") ∷ None ∷ []
+files_of_the_tables = refl
+
+-- ---- settings out of range
+
+no_workers : range_fault 0 0 ≡ Some fault.BadWorkers
+no_workers = refl
+
+workers_past_the_most : range_fault 65 1 ≡ Some fault.BadWorkers
+workers_past_the_most = refl
+
+most_workers : range_fault 64 1 ≡ None
+most_workers = refl
+
+no_ring : range_fault 1 0 ≡ Some fault.BadSize
+no_ring = refl
+
+largest_ring : range_fault 1 65536 ≡ None
+largest_ring = refl
+
+ring_past_the_largest : range_fault 1 65537 ≡ Some fault.BadSize
+ring_past_the_largest = refl
+
+-- ---- outcomes
+
+complete : outcome_at (name_in (table_ids report)) end.Complete ≡ outcome.Done
+complete = refl
+
+second_table : outcome_at (name_in (table_ids report)) (end.Refused (fault_at 1 2 1 table.BadNumber)) ≡ outcome.Table (codes "t2") (fault_at 1 2 1 table.BadNumber)
+second_table = refl
+
+failed_flush : flushed outcome.Done ≡ outcome.Output write.Failed
+failed_flush = refl
+
+line_of_a_table : line_of (outcome.Table (codes "t2") (fault_at 1 2 1 table.BadNumber)) ≡ codes "xbrl-json: table t2, row 2, column 1: BadNumber (40)\n"
+line_of_a_table = refl
+
+status_of_a_table : status_of (outcome.Table (codes "t2") (fault_at 1 2 1 table.BadNumber)) ≡ 1
+status_of_a_table = refl
+
+line_of_bad_workers : line_of (outcome.Run fault.BadWorkers) ≡ codes "xbrl-json: run: BadWorkers (50)\n"
+line_of_bad_workers = refl
