@@ -174,6 +174,11 @@ next standings.Open (Refused fault) = standings.Refused fault
 next (standings.Refused fault) e = standings.Refused fault
 next (standings.Broken fault) e = standings.Broken fault
 
+pub next_closed : (s : Standing) → next s Closed ≡ s
+next_closed standings.Open = refl
+next_closed (standings.Refused fault) = refl
+next_closed (standings.Broken fault) = refl
+
 ended : (first now : SinkView) (head : List ℕ) (before : List Item) (any : Bool) (s : Standing) (e : Endings.Ending) → StandsAt first now head before any s → StandsAt first now head (before ++ items.Ending e ∷ []) any (next s e)
 ended first now head before any standings.Open Closed st = closed_stays first now head before any st
 ended first now head before any standings.Open (Refused fault) st = refuses first now head before any fault st

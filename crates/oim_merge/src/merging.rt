@@ -17,6 +17,10 @@ use std::sync::Wait;
 /// each drain to its ending and no further, writes until a refusal or a write fault, and after that
 /// only drains. Nothing may have been taken from any drain. It waits for items, and takes no memory
 /// beyond what the sink takes.
+///
+/// Complete: every drain ended closed, and the document is whole. Refused: the fault of the first
+/// drain, in their order, that ended refused; the facts before that are written, and no tail. Write:
+/// a write failed (Failed) or took nothing (Zero), and a beginning of the document is written.
 pub fn merge<R: Wait, W: Sink>(rt: &R, drains: &mut [Drain], head: &[u8], sink: &mut W) -> MergeEnd
     requires { IsFresh drains.old }
     ensures rings { rings_of drains.new ≡ rings_of drains.old }
@@ -92,17 +96,17 @@ fn write_piece<W: Sink>(bytes: &[u8], any: bool, sink: &mut W) -> Result<(), Wri
     }
 }
 
-// Notes how a table ends.
+// Notes how a table ends. The first refusal stands.
 fn end_table(ending: Ending, progress: &mut Progress)
     ensures { (mark : Mark) (told : Option (List ℕ)) → Advances progress.old progress.new mark mark told told (items.Ending ending ∷ []) }
 {
-    match progress.standing {
-        Standing::Open => match ending {
-            Ending::Closed => {}
-            Ending::Refused(fault) => progress.standing = Standing::Refused(fault),
+    match ending {
+        Ending::Closed => {}
+        Ending::Refused(fault) => match progress.standing {
+            Standing::Open => progress.standing = Standing::Refused(fault),
+            Standing::Refused(_first) => {}
+            Standing::Broken(_) => {}
         },
-        Standing::Refused(_) => {}
-        Standing::Broken(_) => {}
     }
 }
 

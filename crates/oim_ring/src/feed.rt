@@ -70,8 +70,8 @@ impl Feed {
         Feed { producer, waiting }
     }
 
-    /// Sends a block, or gives it back where the ring is full, and nothing changed. While fewer items
-    /// were sent than the ring's size it is not full. It takes no memory and does not wait.
+    /// Sends a block. Err: the ring is full; the block comes back unchanged, and nothing changed. While
+    /// fewer items were sent than the ring's size it is not full. It takes no memory and does not wait.
     pub fn put(&mut self, block: Block) -> Result<(), Block>
         ensures ring { (self.new.ring ≡ self.old.ring) × (self.new.size ≡ self.old.size) }
         ensures ok { OnOk result (self.new.sent ≡ self.old.sent ++ items.Block block ∷ []) }

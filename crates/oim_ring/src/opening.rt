@@ -9,7 +9,7 @@ use rtrb::RingBuffer;
 use std::alloc::{AllocError, Global};
 
 /// The two ends of a new ring with room for `size` items, 1 to 65,536. Nothing was sent or taken.
-/// Fails where memory is short.
+/// AllocError where memory is short.
 pub fn lane(alloc: Global, size: usize) -> Result<(Feed, Drain), AllocError>
     requires { (1 ≤ size) × (size ≤ 65536) }
     ensures feed { IfOk result (λ r. (r.0.size ≡ size) × (r.0.sent ≡ [])) }

@@ -1,0 +1,101 @@
+-- The document of histories, executed on worked cases.
+use Rattle.std.proofs.Common.{◌≡◌, ℕ, ◌∷◌, [], List, Option, Some, None, ap, codes, refl}
+use Rattle.oim_json.specs.Document.{facts_text}
+use Rattle.oim_json.specs.JsonText.{decimals_text, dimension_text, escaped_byte, member_text, quoted, value_text}
+use Rattle.oim_json.specs.declared.mark.Mark.{Mark}
+use Rattle.oim_merge.specs.Histories.{all_of, document, facts_before, refusal}
+use Rattle.oim_merge.specs.Merging.{Merges}
+use Rattle.oim_merge.specs.declared.progress.MergeEnd.TheVariants as end
+use Rattle.oim_resolve.specs.declared.fact.Fact.{Fact}
+use Rattle.oim_ring.specs.declared.item.Ending.TheVariants.{Closed, Refused}
+use Rattle.oim_ring.specs.declared.item.Item.{Item}
+use Rattle.oim_ring.specs.declared.item.Item.TheVariants.{Block, Ending}
+use Rattle.oim_rows.specs.declared.fault.TableFault.{TableFault}
+use Rattle.oim_rows.specs.declared.fault.TableKind.TheVariants as kind
+
+abbrev a : Fact
+a = record { id = codes "a"; value = None; decimals = None; dimensions = [] }
+
+abbrev b : Fact
+b = record { id = codes "b"; value = None; decimals = None; dimensions = [] }
+
+abbrev first_fault : TableFault
+first_fault = record { table = 0; row = 2; column = 1; kind = kind.BadNumber }
+
+abbrev second_fault : TableFault
+second_fault = record { table = 1; row = 0; column = 1; kind = kind.UnknownHeader }
+
+-- tables of one block each, and one without facts
+abbrev whole_a : List Item
+whole_a = Block (a ∷ []) ∷ Ending Closed ∷ []
+
+abbrev whole_b : List Item
+whole_b = Block (b ∷ []) ∷ Ending Closed ∷ []
+
+abbrev empty : List Item
+empty = Ending Closed ∷ []
+
+abbrev refused_a : List Item
+refused_a = Block (a ∷ []) ∷ Ending (Refused first_fault) ∷ []
+
+abbrev refused_b : List Item
+refused_b = Block (b ∷ []) ∷ Ending (Refused second_fault) ∷ []
+
+no_tables : document (codes "{") [] ≡ codes "{}}\n"
+unfolding facts_text
+no_tables = refl
+
+an_empty_table : document (codes "{") (empty ∷ []) ≡ codes "{}}\n"
+unfolding facts_text
+an_empty_table = refl
+
+-- no comma before the first fact
+an_empty_table_first : document (codes "{") (empty ∷ whole_a ∷ []) ≡ codes "{\"a\":{\"dimensions\":{},\"value\":null}}}\n"
+unfolding facts_text member_text decimals_text dimension_text value_text quoted escaped_byte
+an_empty_table_first = refl
+
+two_tables : document (codes "{") (whole_a ∷ whole_b ∷ []) ≡ codes "{\"a\":{\"dimensions\":{},\"value\":null},\"b\":{\"dimensions\":{},\"value\":null}}}\n"
+unfolding facts_text member_text decimals_text dimension_text value_text quoted escaped_byte
+two_tables = refl
+
+-- the facts before its refusal stand, and no tail
+second_refused : document (codes "{") (whole_a ∷ refused_b ∷ []) ≡ codes "{\"a\":{\"dimensions\":{},\"value\":null},\"b\":{\"dimensions\":{},\"value\":null}"
+unfolding facts_text member_text decimals_text dimension_text value_text quoted escaped_byte
+second_refused = refl
+
+-- nothing of a later table stands, though that is whole
+first_refused : document (codes "{") (refused_a ∷ whole_b ∷ []) ≡ codes "{\"a\":{\"dimensions\":{},\"value\":null}"
+unfolding facts_text member_text decimals_text dimension_text value_text quoted escaped_byte
+first_refused = refl
+
+refused_at_once : document (codes "{") ((Ending (Refused first_fault) ∷ []) ∷ whole_b ∷ []) ≡ codes "{"
+unfolding facts_text
+refused_at_once = refl
+
+no_refusal : refusal (all_of (whole_a ∷ empty ∷ whole_b ∷ [])) ≡ None
+no_refusal = refl
+
+refusal_of_the_second : refusal (all_of (whole_a ∷ refused_b ∷ [])) ≡ Some second_fault
+refusal_of_the_second = refl
+
+-- of two refused tables the first in order
+refusal_of_the_first : refusal (all_of (refused_a ∷ refused_b ∷ [])) ≡ Some first_fault
+refusal_of_the_first = refl
+
+facts_up_to_the_refusal : facts_before (all_of (whole_b ∷ refused_a ∷ whole_b ∷ [])) ≡ b ∷ a ∷ []
+facts_up_to_the_refusal = refl
+
+-- what a merge never answers
+module _ (mark mark' : Mark) (told told' : Option (List ℕ)) (text : List ℕ) where
+  not_the_later_fault : Merges mark mark' told told' text (refused_a ∷ refused_b ∷ []) (end.Refused second_fault) → ⊥
+  not_the_later_fault m =
+      let e = m.0 in
+      let same : second_fault ≡ first_fault = cc in
+      let table : second_fault.table ≡ first_fault.table = ap (λ (f : TableFault). f.table) same in
+      cc
+
+  not_complete : Merges mark mark' told told' text (whole_a ∷ refused_b ∷ []) end.Complete → ⊥
+  not_complete m = let e = m.0 in cc
+
+  no_fault_of_its_own : Merges mark mark' told told' text (whole_a ∷ whole_b ∷ []) (end.Refused first_fault) → ⊥
+  no_fault_of_its_own m = let e = m.0 in cc

@@ -1,0 +1,84 @@
+-- The definitions, executed on worked cases.
+use Rattle.std.specs.Prelude.{Ok}
+use Rattle.std.proofs.Common.{◌≡◌, ◌∷◌, [], ◌++◌, List, None, true, false, codes, arith, refl}
+use Rattle.oim_resolve.specs.declared.fact.Fact.{Fact}
+use Rattle.oim_ring.specs.Closing.{Closes, RefusesClose}
+use Rattle.oim_ring.specs.Ends.{FeedView, Ring}
+use Rattle.oim_ring.specs.Items.{blocks_only, EndsOnce}
+use Rattle.oim_ring.specs.declared.feed.CloseFault.TheVariants.{Full}
+use Rattle.oim_ring.specs.declared.item.Ending as Endings
+use Rattle.oim_ring.specs.declared.item.Ending.TheVariants.{Closed, Refused}
+use Rattle.oim_ring.specs.declared.item.Item.{Item}
+use Rattle.oim_ring.specs.declared.item.Item.TheVariants.{Block, Ending}
+use Rattle.oim_ring.proofs.Whole.{once_ended}
+use Rattle.oim_rows.specs.declared.fault.TableFault.{TableFault}
+use Rattle.oim_rows.specs.declared.fault.TableKind.TheVariants as kind
+
+abbrev cash : Fact
+cash = record { id = codes "t1.r_1.cash"; value = None; decimals = None; dimensions = [] }
+
+-- a block of one fact
+abbrev block : Item
+block = Block (cash ∷ [])
+
+abbrev bad_number : TableFault
+bad_number = record { table = 0; row = 2; column = 1; kind = kind.BadNumber }
+
+nothing_sent : blocks_only [] ≡ true
+nothing_sent = refl
+
+two_blocks : blocks_only (block ∷ block ∷ []) ≡ true
+two_blocks = refl
+
+a_table_closed : blocks_only (block ∷ Ending Closed ∷ []) ≡ false
+a_table_closed = refl
+
+a_table_refused : blocks_only (Ending (Refused bad_number) ∷ []) ≡ false
+a_table_refused = refl
+
+whole_table : EndsOnce (block ∷ block ∷ Ending Closed ∷ [])
+whole_table = record { before = block ∷ block ∷ []; ending = Closed; only = refl; is = refl }
+
+empty_table : EndsOnce (Ending Closed ∷ [])
+empty_table = record { before = []; ending = Closed; only = refl; is = refl }
+
+refused_table : EndsOnce (block ∷ Ending (Refused bad_number) ∷ [])
+refused_table = record { before = block ∷ []; ending = Refused bad_number; only = refl; is = refl }
+
+nothing_has_not_ended : EndsOnce [] → ⊥
+nothing_has_not_ended once = let e = once_ended [] once in cc
+
+blocks_have_not_ended : EndsOnce (block ∷ []) → ⊥
+blocks_have_not_ended once = let e = once_ended (block ∷ []) once in cc
+
+-- what begins with an ending and goes on
+goes_on : (before : List Item) (last : Endings.Ending) → blocks_only before ≡ true → Ending Closed ∷ block ∷ [] ≡ before ++ Ending last ∷ [] → ⊥
+goes_on [] last only is = cc
+goes_on (Block facts ∷ more) last only is = cc
+goes_on (Ending other ∷ more) last only is = cc
+
+nothing_after_an_ending : EndsOnce (Ending Closed ∷ block ∷ []) → ⊥
+nothing_after_an_ending once = goes_on once.before once.ending once.only once.is
+
+module _ (ring : Ring) where
+  -- a feed with room for one item more
+  abbrev with_room : FeedView
+  with_room = record { ring = ring; size = 2; sent = block ∷ [] }
+
+  abbrev without_room : FeedView
+  without_room = record { ring = ring; size = 1; sent = block ∷ [] }
+
+  closes : Closes with_room (Refused bad_number) (Ok (record { ring = ring; sent = block ∷ Ending (Refused bad_number) ∷ [] }))
+  closes = (refl, refl, refl)
+
+  closes_as_asked : Closes with_room (Refused bad_number) (Ok (record { ring = ring; sent = block ∷ Ending Closed ∷ [] })) → ⊥
+  closes_as_asked c = let e = c.1 in cc
+
+  loses_no_block : Closes with_room Closed (Ok (record { ring = ring; sent = Ending Closed ∷ [] })) → ⊥
+  loses_no_block c = let e = c.1 in cc
+
+  is_full : RefusesClose without_room Closed (Full without_room Closed)
+  is_full = (refl, refl, λ lt. omega arith)
+
+  is_not_full : RefusesClose with_room Closed (Full with_room Closed) → ⊥
+  is_not_full c = c.2 (omega arith)
