@@ -1,5 +1,5 @@
 -- The definitions, executed on worked cases.
-use Rattle.std.proofs.Common.{◌≡◌, ◌++◌, ◌∷◌, [], ℕ, List, Option, Some, None, Ok, Err, codes, refl, if◌then◌else◌}
+use Rattle.std.proofs.Common.{◌≡◌, ◌++◌, ◌∷◌, [], ℕ, List, Option, Some, None, Err, false, codes, refl, if◌then◌else◌}
 use Rattle.std.specs.Str.{bytes_eq}
 use Rattle.clap.proofs.OnLiterals.{clap_on_literals}
 use Rattle.clap.specs.Words.{Row, Text, fault_of, first_of, matches_of, one_of}
@@ -10,18 +10,16 @@ use Rattle.oim_merge.specs.declared.progress.MergeEnd.TheVariants as end
 use Rattle.oim_meta.specs.Readers.{no_level}
 use Rattle.oim_meta.specs.ReportValue.{ReportValue}
 use Rattle.oim_meta.specs.declared.data.Table.{Table}
-use Rattle.oim_meta.specs.declared.fault.MetaFault.TheVariants as meta
 use Rattle.oim_rows.specs.Header.{fault_at}
 use Rattle.oim_rows.specs.declared.fault.TableKind.TheVariants as table
 use Rattle.xbrl_json_cli.specs.CommandLine.{command_line}
 use Rattle.xbrl_json_cli.specs.Conversion.{flushed}
 use Rattle.xbrl_json_cli.specs.Folders.{Files}
-use Rattle.xbrl_json_cli.specs.Lines.{line_of, status_of}
+use Rattle.xbrl_json_cli.specs.Lines.{status_of}
 use Rattle.xbrl_json_cli.specs.Outcomes.{name_in, outcome_at, table_ids}
 use Rattle.xbrl_json_cli.specs.Runs.{range_fault, table_files}
-use Rattle.xbrl_json_cli.specs.Steps.{missing, report_at, types_at, wrong}
+use Rattle.xbrl_json_cli.specs.Steps.{missing, report_at}
 use Rattle.xbrl_json_cli.specs.declared.outcome.Outcome.TheVariants as outcome
-use Rattle.xbrl_json_cli.specs.declared.outcome.Source.TheVariants as source
 
 -- ---- the command line
 
@@ -90,8 +88,6 @@ another_word = refl
 
 abbrev held : Files
 held path = if bytes_eq path (codes "f/m.json") then Some (codes "{")
-    else if bytes_eq path (codes "f/empty.csv") then Some []
-    else if bytes_eq path (codes "f/t.csv") then Some (codes "namespace,name,type\n")
     else if bytes_eq path (codes "f/t1.csv") then Some (codes "cash\n")
     else None
 
@@ -100,15 +96,6 @@ no_metadata = refl
 
 no_types : report_at held (codes "f/") (codes "f/m.json") (codes "x.csv") ≡ Err (missing (codes "x.csv"))
 no_types = refl
-
-bad_types : report_at held (codes "f/") (codes "f/m.json") (codes "f/empty.csv") ≡ Err (wrong source.Types meta.BadTypes)
-bad_types = refl
-
-types_before_the_report : types_at held (codes "f/t.csv") ≡ Ok []
-types_before_the_report = refl
-
-bad_metadata : report_at held (codes "f/") (codes "f/m.json") (codes "f/t.csv") ≡ Err (wrong source.Report meta.Syntax)
-bad_metadata = refl
 
 abbrev first : Table
 first = record { id = codes "t1"; url = codes "t1.csv"; is_optional = false; template = 0; parameters = [] }
@@ -158,11 +145,5 @@ second_table = refl
 failed_flush : flushed outcome.Done ≡ outcome.Output write.Failed
 failed_flush = refl
 
-line_of_a_table : line_of (outcome.Table (codes "t2") (fault_at 1 2 1 table.BadNumber)) ≡ codes "xbrl-json: table t2, row 2, column 1: BadNumber (40)\n"
-line_of_a_table = refl
-
 status_of_a_table : status_of (outcome.Table (codes "t2") (fault_at 1 2 1 table.BadNumber)) ≡ 1
 status_of_a_table = refl
-
-line_of_bad_workers : line_of (outcome.Run fault.BadWorkers) ≡ codes "xbrl-json: run: BadWorkers (50)\n"
-line_of_bad_workers = refl
