@@ -10,7 +10,8 @@
 //! - `settle` shows that what was taken is what was sent, each item once and in order.
 //!
 //! None of these calls waits, and no lock stands round a ring. That a ring holds no more items than
-//! its size, and that `take` finds what was put, is shown by tests alone.
+//! its size, that `take` finds what was put, and that `close` gives the token while the drain is
+//! there, is shown by tests alone.
 #![tactic(auto)]
 
 mod drain;
