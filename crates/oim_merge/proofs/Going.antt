@@ -219,8 +219,5 @@ pub advances_twice : (p q r : Progress) (m m' m'' : Mark) (a b c : Option (List 
 advances_twice p q r m m' m'' a b c xs ys zs e f g = λ first head before st.
     subst (λ (l : List Item). StandsAt first (record { mark = m''; told = c }) head l r.any r.standing) (append_assoc before xs ys ∙ ap (λ l. before ++ l) (sym e)) (g first head (before ++ xs) (f first head before st))
 
-pub advances_nothing : (p : Progress) (m : Mark) (a : Option (List ℕ)) → Advances p p m m a a []
-advances_nothing p m a = λ first head before st. subst (λ (l : List Item). StandsAt first (record { mark = m; told = a }) head l p.any p.standing) (sym (append-nil before)) st
-
 pub advances_as : (p q : Progress) (m m' : Mark) (a b : Option (List ℕ)) (xs ys : List Item) → ys ≡ xs → Advances p q m m' a b xs → Advances p q m m' a b ys
 advances_as p q m m' a b xs ys e f = λ first head before st. subst (λ (l : List Item). StandsAt first (record { mark = m'; told = b }) head (before ++ l) q.any q.standing) (sym e) (f first head before st)

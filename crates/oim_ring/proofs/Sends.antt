@@ -11,14 +11,10 @@ use Rattle.oim_ring.specs.contracts.drain.Drain as Drain
 use Rattle.oim_ring.specs.contracts.drain.Drained as Drained
 use Rattle.oim_ring.specs.contracts.feed.Closed as Closed
 use Rattle.oim_ring.specs.contracts.feed.Feed as Feed
-use Rattle.oim_ring.specs.contracts.item.Ending as Ending
 use Rattle.oim_ring.specs.contracts.item.Item as Item
 
 pub block_send : IsSend Block.the_row
 block_send = search (sendable, crosses) depth 20
-
-pub ending_send : IsSend Ending.the_row
-ending_send = search (sendable, crosses) depth 100 fits 10000
 
 pub item_send : IsSend Item.the_row
 item_send = search (sendable, crosses, block_send) depth 120 fits 20000

@@ -9,9 +9,10 @@
 //! - `take` that gives an item has taken it, and None has changed nothing;
 //! - `settle` shows that what was taken is what was sent, each item once and in order.
 //!
-//! None of these calls waits, and no lock stands round a ring. `Feed::wait` and `Drain::wait` alone
+//! No lock stands round a ring, and none of these calls waits: `Feed::wait` and `Drain::wait` alone
 //! sleep, until the other end has moved. That a ring holds no more items than its size, that `take`
-//! finds what was put, and that a wait ends, is shown by tests alone.
+//! finds what was put, that `close` gives the token while the drain is there, and that a wait ends,
+//! is shown by tests alone.
 #![tactic(auto)]
 
 mod drain;
