@@ -13,3 +13,5 @@ pub mod Tokens
 pub mod Sends
 pub mod Whole
 pub mod Own
+pub mod Cover
+mod Examples

@@ -18,6 +18,9 @@
 //! - BadWorkers, BadSize and WrongReaders come exactly where each is the first that is due; they and
 //!   Memory write nothing, and Lost comes after the document of the histories.
 //!
+//! A run is answered only after its claims were closed with all their seats: what the workers gave
+//! back is for each table once (`finish` of `src/closing.rt`).
+//!
 //! That workers run side by side, that each that started is joined, and that memory, threads and
 //! tokens are given, is shown by tests alone.
 //!
@@ -29,6 +32,7 @@
 #![tactic(auto)]
 
 mod claims;
+mod closing;
 mod crew;
 mod deal;
 mod decode;
