@@ -14,4 +14,5 @@ pub mod Sends
 pub mod Whole
 pub mod Own
 pub mod Cover
+pub mod Placed
 mod Examples

@@ -5,7 +5,8 @@ use Rattle.oim_convert.specs.Jobs.{Gives, placed, tokens_of}
 use Rattle.oim_convert.specs.Shifts.{IsShift}
 use Rattle.oim_convert.proofs.Cover.{placed_append}
 use Rattle.oim_convert.proofs.Settled.{map_one}
-use Rattle.oim_convert.proofs.Zips.{all-first, none_left}
+use Rattle.oim_convert.proofs.Going.{nothing_left}
+use Rattle.oim_convert.proofs.Zips.{all-first}
 use Rattle.oim_convert.proofs.settling.place_all.Goals as goal
 
 pub loop-shift-preserved : goal.loop-shift-preserved
@@ -33,12 +34,12 @@ loop-shift-preserved g c =
 pub returns-clause-placed : goal.returns-clause-placed
 returns-clause-placed g c =
     let left = into_iter_items c.loop-shift.shift-iterator in
-    let over : left ≡ [] = none_left left (sym c.loop-shift.shift-iterator.rest.ok.0 ∙ c.in-None.ensures.steps.0) in
+    let over : left ≡ [] = nothing_left left (sym c.loop-shift.shift-iterator.rest.ok.0 ∙ c.in-None.ensures.steps.0) in
     sym (ap (λ l. placed (tokens_of l) c.loop-shift.slots) over) ∙ c.loop-shift.invariant.placed
 
 pub returns-clause-seats : goal.returns-clause-seats
 returns-clause-seats g c =
     let left = into_iter_items c.loop-shift.shift-iterator in
-    let over : left ≡ [] = none_left left (sym c.loop-shift.shift-iterator.rest.ok.0 ∙ c.in-None.ensures.steps.0) in
+    let over : left ≡ [] = nothing_left left (sym c.loop-shift.shift-iterator.rest.ok.0 ∙ c.in-None.ensures.steps.0) in
     let seats = c.loop-shift.seats.items in
     sym (append-nil seats) ∙ (sym (ap (λ l. seats ++ map (λ s. s.seat) l) over) ∙ c.loop-shift.invariant.seats)

@@ -3,7 +3,8 @@ use Rattle.std.specs.Vec.Iter.{into_iter_items}
 use Rattle.std.proofs.Common.{ap, subst, sym, ◌∙◌}
 use Rattle.oim_convert.specs.Jobs.{Fulfills, placed}
 use Rattle.oim_convert.proofs.Tokens.{tokens_fulfill}
-use Rattle.oim_convert.proofs.Zips.{all-first, none_left}
+use Rattle.oim_convert.proofs.Going.{nothing_left}
+use Rattle.oim_convert.proofs.Zips.{all-first}
 use Rattle.oim_convert.proofs.settling.place_shift.Goals as goal
 
 pub loop-token-init : goal.loop-token-init
@@ -30,5 +31,5 @@ loop-token-preserved g c =
 pub returns-clause-placed : goal.returns-clause-placed
 returns-clause-placed g c =
     let left = into_iter_items c.loop-token.token-iterator in
-    let over : left ≡ [] = none_left left (sym c.loop-token.token-iterator.rest.ok.0 ∙ c.in-None.ensures.steps.0) in
+    let over : left ≡ [] = nothing_left left (sym c.loop-token.token-iterator.rest.ok.0 ∙ c.in-None.ensures.steps.0) in
     sym (ap (λ l. placed l c.loop-token.slots) over) ∙ c.loop-token.invariant.placed
