@@ -13,3 +13,6 @@ pub mod Tokens
 pub mod Sends
 pub mod Whole
 pub mod Own
+pub mod Cover
+pub mod Placed
+mod Examples

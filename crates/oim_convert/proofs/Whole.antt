@@ -224,22 +224,22 @@ other_kind e f a b p q same = let both : Refused a ≡ Refused b = let ends : e 
 not_both : (a b : TableFault) → a ≡ b → has_thread a.kind ≡ true → b.kind ≡ kind.NoThread → ⊥
 not_both a b same own none = let e : true ≡ false = sym own ∙ (ap (λ (x : TableFault). has_thread x.kind) same ∙ ap has_thread none) in cc
 
-own_end : (o : Option TableFault) (f : TableFault) → IsOwn o → ending_of o ≡ Refused f → f.kind ≡ kind.NoThread → ⊥
-own_end None f own e none = cc
-own_end (Some a) f own e none = let same : a ≡ f = cc in not_both a f same own none
+own_end : (table : ℕ) (o : Option TableFault) (f : TableFault) → IsOwn table o → ending_of o ≡ Refused f → f.kind ≡ kind.NoThread → ⊥
+own_end table None f own e none = cc
+own_end table (Some a) f own e none = let same : a ≡ f = cc in not_both a f same own.0 none
 
 outer_end : (table : ℕ) (k : TableKind) (ending : Endings.Ending) (f : TableFault) → has_thread k ≡ true → ending ≡ Refused (file_fault table k) → ending ≡ Refused f → f.kind ≡ kind.NoThread → ⊥
 outer_end table k ending f own e is none = let both : Refused (file_fault table k) ≡ Refused f = sym e ∙ is in let same : file_fault table k ≡ f = cc in not_both (file_fault table k) f same own none
 
-given_end : (table : ℕ) (s : Stream) (facts : List Fact) (ending : Endings.Ending) (f : TableFault) → IsGiven table s facts ending → IsOwn s.fault → ending ≡ Refused f → f.kind ≡ kind.NoThread → ⊥
-given_end table s facts ending f (inl whole) own is none = own_end s.fault f own (sym whole.1 ∙ is) none
+given_end : (table : ℕ) (s : Stream) (facts : List Fact) (ending : Endings.Ending) (f : TableFault) → IsGiven table s facts ending → IsOwn table s.fault → ending ≡ Refused f → f.kind ≡ kind.NoThread → ⊥
+given_end table s facts ending f (inl whole) own is none = own_end table s.fault f own (sym whole.1 ∙ is) none
 given_end table s facts ending f (inr (inl unread)) own is none = outer_end table kind.Read ending f refl unread.refused is none
 given_end table s facts ending f (inr (inr short)) own is none = outer_end table kind.Memory ending f refl short.refused is none
 
 ending_is : (ending : Endings.Ending) (f : TableFault) → Ending ending ≡ Ending (Refused f) → ending ≡ Refused f
 ending_is ending f e = cc
 
-decoded_threaded : (table : ℕ) (s : Stream) (h : List Item) → IsDecoded table s h → IsOwn s.fault → ¬ IsThreadless h
+decoded_threaded : (table : ℕ) (s : Stream) (h : List Item) → IsDecoded table s h → IsOwn table s.fault → ¬ IsThreadless h
 decoded_threaded table s h d own t =
     given_end table s d.facts d.ending t.fault d.given own (ending_is d.ending t.fault (same_end d.is.before t.before (Ending d.ending) (Ending (Refused t.fault)) (sym d.is.is ∙ t.is))) t.none
 

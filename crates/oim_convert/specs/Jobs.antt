@@ -1,5 +1,5 @@
 -- The tables that workers draw, and the tokens that come back for them.
-use Rattle.std.specs.Prelude.{◌≡◌, ◌<◌, ◌≤◌, ℕ, suc, Bool, true, false, List, [], ◌∷◌, Option, Some, length, slice_get, IfSome}
+use Rattle.std.specs.Prelude.{◌≡◌, ◌<◌, ◌≤◌, ℕ, suc, Bool, true, false, List, [], ◌∷◌, Option, Some, flat_map, length, map, slice_get, slice_set, IfSome}
 use Rattle.oim_meta.specs.ReportValue.{ReportValue}
 use Rattle.oim_ring.specs.Ends.{ClosedView, DrainView}
 use Rattle.oim_ring.specs.Items.{blocks_only}
@@ -10,13 +10,27 @@ use Rattle.oim_convert.specs.Histories.{IsDecoded, IsUnserved}
 use Rattle.oim_convert.specs.declared.job.Job.{Job}
 use Rattle.oim_convert.specs.declared.job.Token.{Token}
 use Rattle.oim_convert.specs.declared.serving.Serving.{Serving}
+use Rattle.oim_convert.specs.declared.worker.Shift.{Shift}
 
 -- P of each element and its number, counted from n
 abbrev pub Each : {X : Type 0} → (ℕ → X → Type 0) → ℕ → List X → Type 0
 Each P n [] = Unit {0}
 Each P n (x ∷ xs) = P n x × Each P (suc n) xs
 
+-- these tokens were put to the places of their tables, one after another
+abbrev pub placed : List Token → List (Option ClosedView) → List (Option ClosedView)
+placed [] slots = slots
+placed (token ∷ tokens) slots = placed tokens (slice_set slots token.table token.closed)
+
 module _ {R : Type 0} where
+  -- all tokens that workers gave, shift after shift
+  abbrev pub tokens_of : List (Shift (Job R) Token) → List Token
+  tokens_of shifts = flat_map (λ (shift : Shift (Job R) Token). shift.done.items) shifts
+
+  -- the tables of these tokens
+  abbrev pub tables_promised : List (Shift (Job R) Token) → List ℕ
+  tables_promised shifts = map (λ (token : Token). token.table) (tokens_of shifts)
+
   -- the history of a table that was served, where its reader tells its bytes, and of one that was not
   abbrev pub IsKept : (R → Option (List ℕ)) → ReportValue → ℕ → Bool → ℕ → Option R → List Item → Type 0
   IsKept told report limit true table reader history = (file : Option (List ℕ)) → IsFileOf told reader file → IsDecoded table (table_stream report table limit file) history

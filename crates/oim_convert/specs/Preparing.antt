@@ -4,21 +4,26 @@ use Rattle.oim_meta.specs.ReportValue.{ReportValue}
 use Rattle.oim_ring.specs.declared.item.Item.{Item}
 use Rattle.oim_convert.specs.Jobs.{Each, IsLane, IsOpened, IsTable}
 use Rattle.oim_convert.specs.Shifts.{IsCrew}
+use Rattle.oim_convert.specs.declared.closing.Places.{Places}
 use Rattle.oim_convert.specs.declared.fault.ConvertFault.{ConvertFault}
 use Rattle.oim_convert.specs.declared.fault.ConvertFault.TheVariants as fault
 use Rattle.oim_convert.specs.declared.job.Job.{Job}
 use Rattle.oim_convert.specs.declared.run.Run.{Run}
 use Rattle.oim_convert.specs.declared.threaded.Ready.{Ready}
 
--- a crew over the jobs of all tables, a drain for each, and room for their tokens and settled drains
+-- room for the tokens of the tables, for the workers' seats, and for the drains once they are settled
+pub record ArePlaces {R : Type 0} (tables workers : ℕ) (places : Places R) : Type 0 where
+  pub slots : places.slots.items ≡ replicate tables None
+  pub seats : (places.seats.items ≡ []) × (workers ≤ vec_capacity places.seats)
+  pub settled : (places.settled.items ≡ []) × (tables ≤ vec_capacity places.settled)
+
+-- a crew over the jobs of all tables, a drain for each, and room for what comes back
 pub record IsReady {R T : Type 0} (ready : Ready R T) : Type 0 where
   pub crew : IsCrew ready.crew
   pub jobs : Each IsOpened 0 ready.crew.claims.items
   pub drains : Each (IsLane ready.crew.claims.items) 0 ready.drains.items
   pub count : length ready.drains.items ≡ length ready.crew.claims.items
-  pub slots : ready.places.slots.items ≡ replicate (length ready.crew.claims.items) None
-  pub settled : ready.places.settled.items ≡ []
-  pub room : length ready.crew.claims.items ≤ vec_capacity ready.places.settled
+  pub places : ArePlaces (length ready.crew.claims.items) ready.crew.claims.workers ready.places
 
 -- the histories of all tables of the plan, which were served by workers or not
 abbrev pub HasTables : {R : Type 0} → (R → Option (List ℕ)) → ReportValue → ℕ → List (Job R) → List (List Item) → Type 0

@@ -1,5 +1,5 @@
 -- What the conversion on one thread does.
-use Rattle.std.specs.Prelude.{⊤, ◌≡◌, ◌⊎◌, ℕ, List, ◌∷◌, ◌++◌, Option, Some, None, Result, Ok, Err, length}
+use Rattle.std.specs.Prelude.{⊤, ◌≡◌, ◌⊎◌, ◌<◌, ℕ, List, ◌∷◌, ◌++◌, Option, Some, None, Result, Ok, Err, length}
 use mathlib.Core.List.{IsPrefix}
 use Rattle.std.specs.Io.KnownBytes.{Appends, Keeps}
 use Rattle.oim_json.specs.JsonText.{head_text}
@@ -61,3 +61,14 @@ HasBegun (Err fault.Memory) = ⊥
 HasBegun (Err fault.BadWorkers) = ⊥
 HasBegun (Err fault.BadSize) = ⊥
 HasBegun (Err fault.Lost) = ⊥
+
+-- the fault of a table is of one of so many
+abbrev pub IsOfTables : ℕ → Result (Unit {0}) ConvertFault → Type 0
+IsOfTables tables (Ok u) = ⊤
+IsOfTables tables (Err (fault.Table e)) = e.table < tables
+IsOfTables tables (Err (fault.Write w)) = ⊤
+IsOfTables tables (Err fault.WrongReaders) = ⊤
+IsOfTables tables (Err fault.Memory) = ⊤
+IsOfTables tables (Err fault.BadWorkers) = ⊤
+IsOfTables tables (Err fault.BadSize) = ⊤
+IsOfTables tables (Err fault.Lost) = ⊤

@@ -4,6 +4,7 @@ use Rattle.std.specs.List.{AllZip}
 use Rattle.std.specs.declared.thread.PromisedHandle.{PromisedHandle}
 use Rattle.oim_convert.specs.Claims.{Claiming, Drawer, fresh}
 use Rattle.oim_convert.specs.declared.crew.Crew.{Crew}
+use Rattle.oim_convert.specs.declared.crew.Posts.{Posts}
 use Rattle.oim_convert.specs.declared.worker.Shift.{Shift}
 use Rattle.oim_convert.specs.declared.worker.Station.{Station}
 use Rattle.oim_convert.specs.declared.worker.ShiftOf.{ShiftOf}
@@ -39,9 +40,14 @@ module _ {V O : Type 0} where
   abbrev pub IsUnderWay : {S T C : Type 0} → (S → C → ℕ → V → O → Type 0) → S → C → Claiming V → List (PromisedHandle (Shift V O) (ShiftOf V S T C)) → List (Shift V O) → Type 0
   IsUnderWay gives server shared claims started shifts = All (IsStarted server shared claims) started × All (IsShift (gives server shared) claims) shifts
 
-  -- all that the workers need is there, and none was started
+  -- a station for each worker, room for all, and none was started
+  pub record ArePosts {S T C : Type 0} (claims : Claiming V) (posts : Posts V O S T C) : Type 0 where
+    pub stations : All (IsStation claims) posts.stations.items
+    pub count : vec_len posts.stations ≡ claims.workers
+    pub empty : (posts.room.started.items ≡ []) × (posts.room.shifts.items ≡ [])
+    pub room : (vec_len posts.stations ≤ vec_capacity posts.room.started) × (vec_len posts.stations ≤ vec_capacity posts.room.shifts)
+
+  -- all that the workers need is there, with a flag for each
   pub record IsCrew {S T C : Type 0} (crew : Crew V O S T C) : Type 0 where
-    pub stations : All (IsStation crew.claims) crew.stations.items
-    pub stops : length crew.stops.items ≡ vec_len crew.stations
-    pub empty : (crew.room.started.items ≡ []) × (crew.room.shifts.items ≡ [])
-    pub room : (vec_len crew.stations ≤ vec_capacity crew.room.started) × (vec_len crew.stations ≤ vec_capacity crew.room.shifts)
+    pub posts : ArePosts crew.claims crew.posts
+    pub stops : length crew.stops.items ≡ crew.claims.workers

@@ -69,7 +69,7 @@ fn start_each<
 }
 
 /// Whether no worker has drawn anything.
-fn all_idle<V, O>(shifts: &[Shift<V, O>]) -> bool
+pub(crate) fn all_idle<V, O>(shifts: &[Shift<V, O>]) -> bool
     ensures { result ≡ list_all (λ shift. shift.stopped) shifts.now }
 {
     shifts.iter().all(|shift| shift.stopped)
@@ -175,13 +175,19 @@ pub(crate) fn join_crew<V: Drop, O: Drop, S: Serve<V, O, T, C> + Drop, T: Thread
     shifts
 }
 
+/// Where the workers of a crew begin, and the room for them.
+#[derive(Drop)]
+pub(crate) struct Posts<V, O, S: Serve<V, O, T, C>, T, C> {
+    pub(crate) stations: Vec<Station<V, O>>,
+    pub(crate) room: Room<V, O, S, T, C>,
+}
+
 /// What a crew needs, made before any of its workers starts.
 #[derive(Drop)]
 pub(crate) struct Crew<V, O, S: Serve<V, O, T, C>, T, C> {
     pub(crate) claims: Claims<V>,
-    pub(crate) stations: Vec<Station<V, O>>,
+    pub(crate) posts: Posts<V, O, S, T, C>,
     pub(crate) stops: Vec<AtomicBool>,
-    pub(crate) room: Room<V, O, S, T, C>,
 }
 
 /// A flag for each worker.
@@ -224,6 +230,7 @@ pub(crate) fn crew_of<V: Drop, O: Drop, S: Serve<V, O, T, C> + Drop, T, C>(
     requires workers { 0 < workers }
     requires room { vec_len items + workers < 2 ^ 64 }
     ensures claims { IfOk result (λ crew. crew.claims.items ≡ items.items) }
+    ensures workers { IfOk result (λ crew. crew.claims.workers ≡ workers) }
     ensures ready { IfOk result (λ crew. IsCrew crew) }
 {
     let count = items.len();
@@ -236,8 +243,7 @@ pub(crate) fn crew_of<V: Drop, O: Drop, S: Serve<V, O, T, C> + Drop, T, C>(
     let stations = stations_of(alloc, &claims, seats, count)?;
     Ok(Crew {
         claims,
-        stations,
+        posts: Posts { stations, room },
         stops,
-        room,
     })
 }

@@ -3,7 +3,8 @@
 //! What the crate promises of `convert_serial`, on one thread:
 //! - Ok has written exactly the document of all facts, in table order (`specs/Answer.antt`);
 //! - a table fault is the first refused table's, with exactly the unfinished document up to it; a
-//!   table whose reader fails or that finds no memory ends so too, with some of its own facts;
+//!   table whose reader fails or that finds no memory ends so too, with some of its own facts; the
+//!   table that it names is one of the report;
 //! - a write fault leaves a beginning of the defined bytes, and is the sink's mark;
 //! - WrongReaders comes exactly where the readers are not as many as the tables; it and Memory
 //!   write nothing.
@@ -18,6 +19,9 @@
 //! - BadWorkers, BadSize and WrongReaders come exactly where each is the first that is due; they and
 //!   Memory write nothing, and Lost comes after the document of the histories.
 //!
+//! A run is answered only after its claims were closed with all their seats: what the workers gave
+//! back is for each table once (`finish` of `src/closing.rt`).
+//!
 //! That workers run side by side, that each that started is joined, and that memory, threads and
 //! tokens are given, is shown by tests alone.
 //!
@@ -29,6 +33,7 @@
 #![tactic(auto)]
 
 mod claims;
+mod closing;
 mod crew;
 mod deal;
 mod decode;

@@ -3,7 +3,7 @@
 ghost use Rattle.std.specs.Prelude.{◌≡◌, ◌≢◌, ◌↔◌, ◌≤◌, ◌<◌, ℕ, List, Option, Some, None, Ok, Err, IfSome, length, false, if◌then◌else◌};
 ghost use Rattle.oim_json.specs.Sinks.{WritesAll};
 ghost use Rattle.oim_convert.specs.Steps.{WritesFact, WritesFacts, WritesTable, WritesTables, IsHalted, IsTableHalted, as_fault, as_table_halt, piece, sink_at};
-ghost use Rattle.oim_convert.specs.Serial.{Converts, HasBegun, Leaves};
+ghost use Rattle.oim_convert.specs.Serial.{Converts, HasBegun, IsOfTables, Leaves};
 ghost use Rattle.oim_convert.specs.declared.fault.ConvertFault.TheVariants as fault;
 ghost use Rattle.oim_json.specs.JsonText.{head_text};
 ghost use Rattle.oim_convert.specs.Answer.{streams};
@@ -238,6 +238,7 @@ pub fn convert_serial<R: Read + Drop, W: Sink>(
     // What is written and answered, where the readers tell their bytes.
     ensures converts { (files : List (Option (List ℕ))) → AreFilesOf R.remaining readers.items files
         → Converts report.now (streams report.now limits.rows files) (W.mark sink.old) (W.mark sink.new) (W.told sink.old) (W.told sink.new) result }
+    ensures tables { (files : List (Option (List ℕ))) → AreFilesOf R.remaining readers.items files → IsOfTables (length report.now.tables) result }
 
     // What is so for all readers.
     ensures readers { (result ≡ Err fault.WrongReaders) ↔ (length readers.items ≢ length report.now.tables) }

@@ -1,11 +1,12 @@
 //! Putting the tokens of the tables to their drains.
 
-ghost use Rattle.std.specs.Prelude.{◌≡◌, ◌≤◌, [], length, map, All, IfSome, vec_len, vec_capacity};
-ghost use Rattle.oim_convert.specs.Jobs.{Each, EachSlot, Fulfills, Gives, IsEnded, IsTable};
+ghost use Rattle.std.specs.Prelude.{◌≡◌, ◌≤◌, [], None, length, map, All, Contains, IfNone, IfSome, slice_set, vec_len, vec_capacity};
+ghost use Rattle.oim_convert.specs.Jobs.{Each, EachSlot, Fulfills, Gives, IsEnded, IsTable, placed, tokens_of};
 ghost use Rattle.oim_convert.specs.Shifts.{IsShift};
 
 use crate::claims::Claims;
 use crate::job::{Job, Token};
+use crate::seat::Seat;
 use crate::worker::Shift;
 use oim_meta::{Limits, Report};
 use oim_ring::{Closed, Drain, Drained};
@@ -24,6 +25,7 @@ fn place<R: Read>(
     requires slots { EachSlot R.remaining report.now limits.rows served claims.now.items slots.old }
     requires room { length slots.old ≡ length claims.now.items }
     ensures slots { EachSlot R.remaining report.now limits.rows served claims.now.items slots.new }
+    ensures placed { slots.new ≡ slice_set slots.old token.table token.closed }
 {
     let _ = report;
     let _ = limits;
@@ -33,7 +35,7 @@ fn place<R: Read>(
     slots[table] = closed;
 }
 
-/// Puts the tokens of a shift to the places of their tables.
+/// Puts the tokens of a shift to the places of their tables, and gives its seat back.
 fn place_shift<R: Read + Drop>(
     report: &Report,
     limits: Limits,
@@ -41,23 +43,26 @@ fn place_shift<R: Read + Drop>(
     claims: &Claims<Job<R>>,
     shift: Shift<Job<R>, Token>,
     slots: &mut [Option<Closed>],
-)
+) -> Seat<Job<R>>
     requires shift { IsShift (Gives R.remaining report.now limits.rows served) claims.now shift }
     requires slots { EachSlot R.remaining report.now limits.rows served claims.now.items slots.old }
     requires room { length slots.old ≡ length claims.now.items }
     ensures slots { EachSlot R.remaining report.now limits.rows served claims.now.items slots.new }
+    ensures placed { slots.new ≡ placed shift.done.items slots.old }
+    ensures seat { result ≡ shift.seat }
 {
     let Shift {
-        seat: _,
+        seat,
         done,
         stopped: _,
     } = shift;
     for token in done {
         place(report, limits, served, claims, token, slots);
     }
+    seat
 }
 
-/// Puts the tokens of all shifts to the places of their tables.
+/// Puts the tokens of all shifts to the places of their tables, and gives their seats back.
 pub(crate) fn place_all<R: Read + Drop>(
     report: &Report,
     limits: Limits,
@@ -65,18 +70,25 @@ pub(crate) fn place_all<R: Read + Drop>(
     claims: &Claims<Job<R>>,
     shifts: Vec<Shift<Job<R>, Token>>,
     slots: &mut [Option<Closed>],
-)
+    seats: Vec<Seat<Job<R>>>,
+) -> Vec<Seat<Job<R>>>
     requires shifts { All (IsShift (Gives R.remaining report.now limits.rows served) claims.now) shifts.items }
     requires slots { EachSlot R.remaining report.now limits.rows served claims.now.items slots.old }
     requires room { length slots.old ≡ length claims.now.items }
+    requires seats { (seats.items ≡ []) × (vec_len shifts ≤ vec_capacity seats) }
     ensures slots { EachSlot R.remaining report.now limits.rows served claims.now.items slots.new }
+    ensures placed { slots.new ≡ placed (tokens_of shifts.items) slots.old }
+    ensures seats { result.items ≡ map (λ shift. shift.seat) shifts.items }
+    ensures count { vec_len result ≡ vec_len shifts }
 {
+    let mut seats = seats;
     for shift in shifts {
-        place_shift(report, limits, served, claims, shift, slots);
+        seats.push_reserved(place_shift(report, limits, served, claims, shift, slots));
     }
+    seats
 }
 
-/// Settles each drain with the token of its table. None where a token was lost.
+/// Settles each drain with the token of its table. None where a table has no token in its place.
 pub(crate) fn settle_all<R: Read>(
     report: &Report,
     limits: Limits,
@@ -93,6 +105,7 @@ pub(crate) fn settle_all<R: Read>(
     requires room { vec_len drains ≤ vec_capacity settled }
     ensures taken { IfSome result (λ all. all.items ≡ map (λ d. d.taken) drains.items) }
     ensures tables { IfSome result (λ all. Each (IsTable R.remaining report.now limits.rows served claims.now.items) 0 all.items) }
+    ensures lost { IfNone result (Contains slots.old None) }
 {
     let _ = report;
     let _ = limits;

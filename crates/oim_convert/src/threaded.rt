@@ -8,17 +8,17 @@ ghost use Rattle.oim_convert.specs.Preparing.{HasRun, HasTables, IsReady};
 ghost use Rattle.oim_convert.specs.Runs.{AnswersFault, AreHistories, AreStreams, AreThreaded, AreUncut, IsAnswer, Writes, early_fault};
 ghost use Rattle.oim_json.specs.JsonText.{head_text};
 
+use crate::closing::{Places, finish, places_of};
 use crate::crew::{Crew, crew_of};
 use crate::fault::ConvertFault;
 use crate::job::{Job, Token};
 use crate::lanes::open_lanes;
 use crate::run::Run;
 use crate::serving::Serving;
-use crate::settling::{place_all, settle_all};
-use crate::working::{Merged, Worked, work_and_merge};
+use crate::working::{Merged, Worked, work_crew};
 use oim_json::{Sink, head};
 use oim_meta::{Limits, Report};
-use oim_ring::{Closed, Drain, Drained};
+use oim_ring::Drain;
 use std::alloc::{AllocError, Global};
 use std::io::Read;
 use std::sync::Wait;
@@ -41,32 +41,12 @@ fn fault_before(workers: usize, size: usize, readers: usize, tables: usize) -> O
     None
 }
 
-/// Room for the tokens of all tables, and for their drains once they are settled.
-#[derive(Drop)]
-struct Places {
-    slots: Vec<Option<Closed>>,
-    settled: Vec<Drained>,
-}
-
-/// Room for this many tables.
-fn places_of(alloc: Global, tables: usize) -> Result<Places, AllocError>
-    ensures slots { IfOk result (λ places. places.slots.items ≡ replicate tables None) }
-    ensures settled { IfOk result (λ places. (places.settled.items ≡ []) × (tables ≤ vec_capacity places.settled)) }
-{
-    let mut slots = Vec::with_capacity(alloc, tables)?;
-    for _made in 0..tables {
-        slots.push_reserved(None);
-    }
-    let settled = Vec::with_capacity(alloc, tables)?;
-    Ok(Places { slots, settled })
-}
-
 /// What a conversion needs, made before anything is written.
 #[derive(Drop)]
 struct Ready<R: Read + Drop, T: Wait> {
     crew: Crew<Job<R>, Token, Serving, T, Report>,
     drains: Vec<Drain>,
-    places: Places,
+    places: Places<R>,
 }
 
 /// All that a conversion with this many workers and rings of this size needs.
@@ -82,7 +62,7 @@ fn prepare<R: Read + Drop, T: Wait>(
     ensures ready { IfOk result (λ ready. IsReady ready) }
 {
     let (jobs, drains) = open_lanes(alloc, readers, size)?;
-    let places = places_of(alloc, jobs.len())?;
+    let places = places_of(alloc, jobs.len(), workers)?;
     let crew = crew_of(alloc, jobs, workers)?;
     Ok(Ready {
         crew,
@@ -115,45 +95,14 @@ fn run_ready<R: Read + Drop + Send, T: Threads + Wait + Sync, W: Sink>(
         drains,
         places,
     } = ready;
-    let Crew {
-        claims,
-        stations,
-        stops,
-        room,
-    } = crew;
-    let Places { mut slots, settled } = places;
-    let server = Serving {
-        alloc,
-        limits,
-        threaded: true,
-    };
-    let spare = Serving {
-        alloc,
-        limits,
-        threaded: false,
-    };
+    let (claims, worked) = work_crew(rt, alloc, report, limits, crew, starts, drains, head, sink);
     let Worked {
         shifts,
         merged,
         served,
-    } = work_and_merge(
-        rt,
-        report,
-        &server,
-        &spare,
-        &claims,
-        stations,
-        stops.as_slice(),
-        starts,
-        room,
-        drains,
-        head,
-        sink,
-    );
+    } = worked;
     let Merged { drains, end } = merged;
-    let slots = slots.as_mut_slice();
-    place_all(report, limits, served, &claims, shifts, slots);
-    match settle_all(report, limits, served, &claims, drains, slots, settled) {
+    match finish(report, limits, served, claims, shifts, drains, places) {
         Some(drains) => Ok(Run { drains, end }),
         None => Err(ConvertFault::Lost),
     }
@@ -174,7 +123,7 @@ fn run_ready<R: Read + Drop + Send, T: Threads + Wait + Sync, W: Sink>(
 /// Fails with BadWorkers where the workers are not 1 to 64, else with BadSize where the ring's size
 /// is not 1 to 65,536, else with WrongReaders where the readers are not as many as the tables, and
 /// with Memory where memory is short before anything is written; these write nothing. Fails with
-/// Lost where the token of a ring is lost, after all is written.
+/// Lost where the end of a ring is lost, after all is written.
 pub fn convert<R: Read + Drop + Send, T: Threads + Wait + Sync, W: Sink>(
     rt: &T,
     alloc: Global,

@@ -1,20 +1,21 @@
 //! A scope in which workers decode tables while the caller's thread merges.
 
-ghost use Rattle.std.specs.Prelude.{◌≡◌, ◌≤◌, [], All, cond, length, vec_len, vec_capacity};
+ghost use Rattle.std.specs.Prelude.{◌≡◌, All, cond, length, vec_len};
 ghost use Rattle.oim_merge.specs.Histories.{document};
 ghost use Rattle.oim_merge.specs.Merging.{EndsEach, IsFresh, Merges, rings_of, taken_of};
-ghost use Rattle.oim_convert.specs.Jobs.{CanServe, gives_of};
-ghost use Rattle.oim_convert.specs.Shifts.{CanServeAll, IsShift, IsStation};
+ghost use Rattle.oim_convert.specs.Jobs.{CanServe, Gives, gives_of};
+ghost use Rattle.oim_convert.specs.Shifts.{ArePosts, CanServeAll, IsCrew, IsShift};
 
 use crate::claims::Claims;
-use crate::crew::{Room, join_crew, start_crew};
+use crate::crew::{Crew, Posts, join_crew, start_crew};
 use crate::job::{Job, Token};
 use crate::serving::Serving;
-use crate::worker::{Shift, Station};
+use crate::worker::Shift;
 use oim_json::Sink;
 use oim_merge::{MergeEnd, merge};
-use oim_meta::Report;
+use oim_meta::{Limits, Report};
 use oim_ring::Drain;
+use std::alloc::Global;
 use std::io::Read;
 use std::sync::Wait;
 use std::sync::atomic::AtomicBool;
@@ -56,27 +57,25 @@ struct Returned<'a, R, W> {
 }
 
 /// Merges while the workers draw and decode, and joins them.
-pub(crate) fn work_and_merge<R: Read + Drop + Send, T: Threads + Wait + Sync, W: Sink>(
+fn work_and_merge<R: Read + Drop + Send, T: Threads + Wait + Sync, W: Sink>(
     rt: &T,
     report: &Report,
     server: &Serving,
     spare: &Serving,
     claims: &Claims<Job<R>>,
-    stations: Vec<Station<Job<R>, Token>>,
+    posts: Posts<Job<R>, Token, Serving, T, Report>,
     stops: &[AtomicBool],
     starts: usize,
-    room: Room<Job<R>, Token, Serving, T, Report>,
     drains: Vec<Drain>,
     head: &[u8],
     sink: &mut W,
 ) -> Worked<R>
     requires items { CanServeAll (CanServe report.now server.now.limits.rows) claims.now.items × CanServeAll (CanServe report.now spare.now.limits.rows) claims.now.items }
-    requires stations { All (IsStation claims.now) stations.items }
-    requires stops { length stops.now ≡ vec_len stations }
-    requires empty { (room.started.items ≡ []) × (room.shifts.items ≡ []) }
-    requires room { (vec_len stations ≤ vec_capacity room.started) × (vec_len stations ≤ vec_capacity room.shifts) }
+    requires posts { ArePosts claims.now posts }
+    requires stops { length stops.now ≡ claims.now.workers }
     requires fresh { IsFresh drains.items }
     ensures shifts { All (IsShift (gives_of R.remaining (cond result.served server.now spare.now) report.now) claims.now) result.shifts.items }
+    ensures count { vec_len result.shifts ≡ claims.now.workers }
     ensures rings { rings_of result.merged.drains.items ≡ rings_of drains.items }
     ensures ended { EndsEach result.merged.drains.items }
     ensures merged { Merges (W.mark sink.old) (W.mark sink.new) (W.told sink.old) (W.told sink.new) (document head.now (taken_of result.merged.drains.items)) (taken_of result.merged.drains.items) result.merged.end }
@@ -87,18 +86,18 @@ pub(crate) fn work_and_merge<R: Read + Drop + Send, T: Threads + Wait + Sync, W:
         rt,
         move |scope| -> Returned<'_, R, W>
             requires items { CanServeAll (CanServe report.now server.now.limits.rows) claims.now.items × CanServeAll (CanServe report.now spare.now.limits.rows) claims.now.items }
-            requires stations { All (IsStation claims.now) stations.items }
-            requires stops { length stops.now ≡ vec_len stations }
-            requires empty { (room.started.items ≡ []) × (room.shifts.items ≡ []) }
-            requires room { (vec_len stations ≤ vec_capacity room.started) × (vec_len stations ≤ vec_capacity room.shifts) }
+            requires posts { ArePosts claims.now posts }
+            requires stops { length stops.now ≡ claims.now.workers }
             requires fresh { IsFresh drains.items }
             ensures same_sink { result.sink.ghost_name ≡ lent.entry.ghost_name }
             ensures shifts { All (IsShift (gives_of R.remaining (cond result.worked.served server.entry.now spare.entry.now) report.entry.now) claims.entry.now) result.worked.shifts.items }
+            ensures count { vec_len result.worked.shifts ≡ claims.entry.now.workers }
             ensures rings { rings_of result.worked.merged.drains.items ≡ rings_of drains.items }
             ensures ended { EndsEach result.worked.merged.drains.items }
             ensures merged { Merges (W.mark lent.entry.now) (W.mark result.sink.now) (W.told lent.entry.now) (W.told result.sink.now) (document head.entry.now (taken_of result.worked.merged.drains.items)) (taken_of result.worked.merged.drains.items) result.worked.merged.end }
         {
-            let mut room = room;
+            let posts = posts;
+            let Posts { stations, mut room } = posts;
             let served = start_crew(
                 scope, rt, report, server, spare, claims, stations, stops, starts, &mut room,
             );
@@ -117,6 +116,50 @@ pub(crate) fn work_and_merge<R: Read + Drop + Send, T: Threads + Wait + Sync, W:
     let Returned { worked, sink } = returned;
     take_back(sink);
     worked
+}
+
+/// Merges while the workers of a crew draw and decode. Gives the claims back, and what it came to.
+pub(crate) fn work_crew<R: Read + Drop + Send, T: Threads + Wait + Sync, W: Sink>(
+    rt: &T,
+    alloc: Global,
+    report: &Report,
+    limits: Limits,
+    crew: Crew<Job<R>, Token, Serving, T, Report>,
+    starts: usize,
+    drains: Vec<Drain>,
+    head: &[u8],
+    sink: &mut W,
+) -> (Claims<Job<R>>, Worked<R>)
+    requires crew { IsCrew crew }
+    requires items { CanServeAll (CanServe report.now limits.rows) crew.claims.items }
+    requires fresh { IsFresh drains.items }
+    ensures claims { result.0 ≡ crew.claims }
+    ensures shifts { All (IsShift (Gives R.remaining report.now limits.rows result.1.served) result.0) result.1.shifts.items }
+    ensures count { vec_len result.1.shifts ≡ result.0.workers }
+    ensures rings { rings_of result.1.merged.drains.items ≡ rings_of drains.items }
+    ensures ended { EndsEach result.1.merged.drains.items }
+    ensures merged { Merges (W.mark sink.old) (W.mark sink.new) (W.told sink.old) (W.told sink.new) (document head.now (taken_of result.1.merged.drains.items)) (taken_of result.1.merged.drains.items) result.1.merged.end }
+{
+    let Crew {
+        claims,
+        posts,
+        stops,
+    } = crew;
+    let server = Serving {
+        alloc,
+        limits,
+        threaded: true,
+    };
+    let spare = Serving {
+        alloc,
+        limits,
+        threaded: false,
+    };
+    let flags = stops.as_slice();
+    let worked = work_and_merge(
+        rt, report, &server, &spare, &claims, posts, flags, starts, drains, head, sink,
+    );
+    (claims, worked)
 }
 
 /// Does nothing, but this use of a returned reference ties it, for the proof, to the parameter that

@@ -1,9 +1,11 @@
-use Rattle.std.specs.Prelude.{All}
+use Rattle.std.specs.Prelude.{◌≡◌, All}
 use Rattle.std.specs.Vec.Iter.{into_iter_items}
-use Rattle.oim_convert.specs.Jobs.{EachSlot, Fulfills}
+use Rattle.oim_convert.specs.Jobs.{EachSlot, Fulfills, placed}
 use Rattle.oim_convert.proofs.settling.place_shift.Given as goal
 
 abbrev pub invariant-loop-token : goal.invariant-loop-token
-invariant-loop-token g l =
-    All (Fulfills g.R.Read.remaining l.report l.limits.rows l.served l.claims.items) (into_iter_items l.token-iterator)
-    × EachSlot g.R.Read.remaining l.report l.limits.rows l.served l.claims.items l.slots
+invariant-loop-token g l = record {
+  left : All (Fulfills g.R.Read.remaining l.report l.limits.rows l.served l.claims.items) (into_iter_items l.token-iterator);
+  slots : EachSlot g.R.Read.remaining l.report l.limits.rows l.served l.claims.items l.slots;
+  placed : placed (into_iter_items l.token-iterator) l.slots ≡ placed l.fn.shift.done.items l.fn.slots;
+}

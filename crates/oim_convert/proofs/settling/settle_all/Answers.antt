@@ -1,6 +1,7 @@
-use Rattle.std.specs.Prelude.{◌≡◌, ℕ, ◌<◌, ◌+◌, suc, List, [], ◌∷◌, ◌++◌, Some, length, map}
-use Rattle.std.proofs.Common.{arith, ap, sym, ◌∙◌, subst, length-append}
+use Rattle.std.specs.Prelude.{◌≡◌, ℕ, ◌<◌, ◌+◌, suc, List, [], ◌∷◌, ◌++◌, Option, None, Some, Contains, IfNone, length, map}
+use Rattle.std.proofs.Common.{◌≢◌, arith, ap, get_or, get_or-set_other, sym, ◌∙◌, subst, length-append}
 use Rattle.std.proofs.Math.ListN.{length-set}
+use Rattle.std.proofs.lemmas.List.{get_or_default}
 use Rattle.std.specs.Vec.Iter.{into_iter_items}
 use Rattle.oim_ring.specs.declared.item.Item.{Item}
 use Rattle.oim_convert.specs.Jobs.{Each, IsEnded, IsKept, IsSentOf, IsTable}
@@ -57,4 +58,26 @@ loop-drain-preserved g c =
       subst (λ (l : List (List Item)). Each (IsTable told report limit served plan) 0 l) (sym pushed)
           (each_more (IsTable told report limit served plan) 0 done c.settle.result r.5
           (subst (λ (n : ℕ). IsTable told report limit served plan n c.settle.result) zero_more table)),
+      (λ t le.
+          let at : c.len-at.result ≡ length done = c.len-at.ensures ∙ c.loop-drain.settled.ok.0 in
+          let apart : t ≢ c.len-at.result = (λ e. omega (arith, e, at, len, le)) in
+          get_or-set_other c.loop-drain.slots c.len-at.result t c.take.new.self None apart ∙ r.6 t (omega (arith, len, le))),
     )
+
+if_none : {A : Type 0} (o : Option A) (P : Type 0) → P → IfNone o P
+if_none (Some x) P p = tt
+if_none None P p = p
+
+-- the place at which the loop ends has no token
+pub returns-in_err-closed-clause-lost : goal.returns-in_err-closed-clause-lost
+returns-in_err-closed-clause-lost g c =
+    let r = c.loop-drain.invariant in
+    let slots = c.loop-drain.slots in
+    let at : c.len-at.result ≡ length c.loop-drain.settled.items = c.len-at.ensures ∙ c.loop-drain.settled.ok.0 in
+    let steps = c.in-Some.ensures.steps.1 in
+    let lt : c.len-at.result < length slots = omega arith in
+    let here : get_or slots c.len-at.result None ≡ None =
+    get_or_default slots c.len-at.result None c.index-slots-at.result lt ∙ (sym c.take.ensures.value ∙ c.in_err-closed.was) in
+    let len = c.loop-drain.auto.slots in
+    let gap : Contains c.args.slots.now None = (c.len-at.result, omega (arith, lt, len), sym (r.6 c.len-at.result (omega (arith, at))) ∙ here) in
+    if_none c.from_residual.result (Contains c.args.slots.now None) gap

@@ -1,5 +1,5 @@
-use Rattle.std.proofs.Common.{◌≡◌, ◌+◌, ◌≤◌, ◌++◌, length, vec_len}
-use Rattle.std.specs.Prelude.{vec_capacity, map}
+use Rattle.std.proofs.Common.{◌≡◌, ℕ, ◌+◌, ◌≤◌, ◌++◌, length, vec_len}
+use Rattle.std.specs.Prelude.{None, map, slice_index_or, vec_capacity}
 use Rattle.std.specs.Vec.Iter.{into_iter_items, into_iter_len}
 use Rattle.oim_convert.specs.Jobs.{Each, EachSlot, IsEnded, IsTable}
 use Rattle.oim_convert.proofs.settling.settle_all.Given as goal
@@ -12,3 +12,4 @@ invariant-loop-drain g l =
     × Each (IsEnded l.claims.items) (length l.settled.items) (into_iter_items l.drain-iterator)
     × EachSlot g.R.Read.remaining l.report l.fn.limits.rows l.served l.claims.items l.slots
     × Each (IsTable g.R.Read.remaining l.report l.fn.limits.rows l.served l.claims.items) 0 l.settled.items
+    × ((t : ℕ) → length l.settled.items ≤ t → slice_index_or l.slots t None ≡ slice_index_or l.fn.slots t None)

@@ -1,8 +1,8 @@
 use Rattle.std.specs.Prelude.{◌≡◌, ◌≤◌, None, replicate, vec_capacity, vec_len}
-use Rattle.oim_convert.proofs.threaded.places_of.Given as goal
+use Rattle.oim_convert.proofs.closing.places_of.Given as goal
 
 abbrev pub invariant-loop-made : goal.invariant-loop-made
-invariant-loop-made l = record {
+invariant-loop-made g l = record {
   made : l.slots.items ≡ replicate l._made None;
   count : vec_len l.slots ≡ l._made;
   room : l.tables ≤ vec_capacity l.slots;

@@ -1,0 +1,127 @@
+-- The definitions, executed on small histories.
+use Rattle.std.specs.Prelude.{◌≡◌, ℕ, List, [], ◌∷◌, ◌++◌, Some, None}
+use Rattle.std.proofs.Common.{refl, codes, inl, inr}
+use Rattle.oim_json.specs.Document.{tail_text}
+use Rattle.oim_merge.specs.Histories.{document}
+use Rattle.oim_resolve.specs.declared.fact.Fact.{Fact}
+use Rattle.oim_ring.specs.declared.item.Ending.TheVariants.{Closed, Refused}
+use Rattle.oim_ring.specs.declared.item.Item.TheVariants.{Block, Ending}
+use Rattle.oim_rows.specs.Header.{fault_at, file_fault}
+use Rattle.oim_rows.specs.Streams.{Stream}
+use Rattle.oim_rows.specs.declared.fault.TableFault.{TableFault}
+use Rattle.oim_rows.specs.declared.fault.TableKind.TheVariants as kind
+use Rattle.oim_convert.specs.Answer.{facts_until, refusal, tail_for, text_after}
+use Rattle.oim_convert.specs.Histories.{AreUnserved, IsDecoded, IsStream}
+use Rattle.oim_convert.specs.Runs.{AreStreams, IsCut, early_fault}
+use Rattle.oim_convert.specs.declared.fault.ConvertFault.TheVariants as fault
+
+-- EARLY FAULTS: workers, the ring's size, readers, tables
+
+no_workers : early_fault 0 1 2 2 ≡ Some fault.BadWorkers
+no_workers = refl
+
+too_many_workers : early_fault 65 1 2 2 ≡ Some fault.BadWorkers
+too_many_workers = refl
+
+most_workers : early_fault 64 65536 2 2 ≡ None
+most_workers = refl
+
+no_size : early_fault 1 0 2 2 ≡ Some fault.BadSize
+no_size = refl
+
+too_large_size : early_fault 1 65537 2 2 ≡ Some fault.BadSize
+too_large_size = refl
+
+too_few_readers : early_fault 1 1 1 2 ≡ Some fault.WrongReaders
+too_few_readers = refl
+
+workers_come_first : early_fault 65 0 1 2 ≡ Some fault.BadWorkers
+workers_come_first = refl
+
+size_comes_second : early_fault 1 65537 1 2 ≡ Some fault.BadSize
+size_comes_second = refl
+
+-- HISTORIES
+
+fact : List ℕ → Fact
+fact id = record { id = id; value = None; decimals = None; dimensions = [] }
+
+first : Fact
+first = fact (codes "a.1.x")
+
+second : Fact
+second = fact (codes "a.2.x")
+
+third : Fact
+third = fact (codes "b.1.x")
+
+-- a table of two rows with no fault, and one whose second row is ragged
+whole : Stream
+whole = record { rows = (first ∷ []) ∷ (second ∷ []) ∷ []; fault = None }
+
+ragged : TableFault
+ragged = fault_at 1 2 0 kind.Ragged
+
+broken : Stream
+broken = record { rows = (third ∷ []) ∷ []; fault = Some ragged }
+
+-- both rows in one block
+one_block : IsStream whole (Block (first ∷ second ∷ []) ∷ Ending Closed ∷ [])
+unfolding whole
+one_block = record { before = Block (first ∷ second ∷ []) ∷ []; blocks = refl; holds = refl; is = refl }
+
+-- each row in a block of its own
+two_blocks : IsStream whole (Block (first ∷ []) ∷ Block (second ∷ []) ∷ Ending Closed ∷ [])
+unfolding whole
+two_blocks = record { before = Block (first ∷ []) ∷ Block (second ∷ []) ∷ []; blocks = refl; holds = refl; is = refl }
+
+refused_stream : IsStream broken (Block (third ∷ []) ∷ Ending (Refused ragged) ∷ [])
+unfolding broken
+refused_stream = record { before = Block (third ∷ []) ∷ []; blocks = refl; holds = refl; is = refl }
+
+-- the reader failed after the first row
+unread : IsDecoded 0 whole (Block (first ∷ []) ∷ Ending (Refused (file_fault 0 kind.Read)) ∷ [])
+unfolding whole
+unread = record {
+  facts = first ∷ [];
+  ending = Refused (file_fault 0 kind.Read);
+  given = inr (inl (record { rows = (first ∷ []) ∷ []; some = ((second ∷ []) ∷ [], refl); holds = refl; refused = refl }));
+  is = record { before = Block (first ∷ []) ∷ []; blocks = refl; holds = refl; is = refl };
+}
+
+-- the history of a table whose reader failed is cut short
+unread_is_cut : IsCut (Block (first ∷ []) ∷ Ending (Refused (file_fault 0 kind.Read)) ∷ [])
+unread_is_cut = record { before = Block (first ∷ []) ∷ []; fault = file_fault 0 kind.Read; outer = inl refl; is = refl }
+
+-- no thread was there for two tables
+unserved : AreUnserved 0 (whole ∷ broken ∷ []) ((Ending (Refused (file_fault 0 kind.NoThread)) ∷ []) ∷ (Ending (Refused (file_fault 1 kind.NoThread)) ∷ []) ∷ [])
+unserved = (refl, (refl, tt))
+
+both : AreStreams (whole ∷ broken ∷ []) ((Block (first ∷ second ∷ []) ∷ Ending Closed ∷ []) ∷ (Block (third ∷ []) ∷ Ending (Refused ragged) ∷ []) ∷ [])
+both = (one_block, (refused_stream, tt))
+
+-- ANSWERS: the second table of three is refused
+
+answered : facts_until (whole ∷ broken ∷ whole ∷ []) ≡ first ∷ second ∷ third ∷ []
+unfolding whole broken
+answered = refl
+
+answered_fault : refusal (whole ∷ broken ∷ whole ∷ []) ≡ Some ragged
+unfolding whole broken
+answered_fault = refl
+
+no_tail : tail_for (refusal (whole ∷ broken ∷ [])) ≡ []
+unfolding whole broken
+no_tail = refl
+
+with_tail : tail_for (refusal (whole ∷ [])) ≡ tail_text
+unfolding whole
+with_tail = refl
+
+-- the document of their histories is the head and the facts up to the refusal, with no tail
+unfinished_document : document (codes "head") ((Block (first ∷ second ∷ []) ∷ Ending Closed ∷ []) ∷ (Block (third ∷ []) ∷ Ending (Refused ragged) ∷ []) ∷ [])
+    ≡ text_after (codes "head") (first ∷ second ∷ third ∷ []) ++ []
+unfinished_document = refl
+
+finished_document : document (codes "head") ((Block (first ∷ []) ∷ Ending Closed ∷ []) ∷ (Ending Closed ∷ []) ∷ []) ≡ text_after (codes "head") (first ∷ []) ++ tail_text
+finished_document = refl
