@@ -8,6 +8,9 @@ use crate::calendar;
 use crate::period::{Moment, Period};
 use std::alloc::{AllocError, Global};
 
+/// How many bytes the written form of a duration has.
+const LONGEST: usize = 39;
+
 /// Adds the two digits of a number from 0 to 99.
 fn push_two(text: &mut String, number: u32) -> Result<(), AllocError>
     requires { number ≤ 99 }
@@ -83,7 +86,7 @@ impl Period {
         ensures value { IfOk result (λ t. string_bytes t ≡ period_text (reading_of self.now)) }
         ensures reads_back { IfOk result (λ t. Means (string_bytes t) (reading_of self.now)) }
     {
-        let mut text = String::new(alloc);
+        let mut text = String::with_capacity(alloc, LONGEST)?;
         match *self {
             Period::Instant(at) => {
                 push_moment(&mut text, at)?;

@@ -194,7 +194,7 @@ impl<'a> Place<'a> {
     ) -> Result<Vec<(Text, Option<Text>)>, AllocError>
         ensures { IfOk result (λ v. v.items ≡ entries_values (cell_at self.now) kind (map seen_planned (entries_in entries.now))) }
     {
-        let mut values = Vec::new(alloc);
+        let mut values = Vec::with_capacity(alloc, entries.len())?;
         for i in 0..entries.len() {
             let entry = entries.at(i);
             if let Some(value) = self.entry_value(alloc, kind, entry)? {

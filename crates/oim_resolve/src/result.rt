@@ -20,11 +20,19 @@ impl Place<'_> {
     pub(crate) fn fact_id(&self, alloc: Global) -> Result<Text, AllocError>
         ensures { IfOk result (λ t. t ≡ id_of (cell_at self.now)) }
     {
-        let mut id = String::from_str(alloc, self.report.table_id(self.table))?;
+        let table = self.report.table_id(self.table);
+        let row = self.row.id.as_str();
+        let column = self.report.column(self.table, self.column).id.as_str();
+        let names = table
+            .len()
+            .saturating_add(row.len())
+            .saturating_add(column.len());
+        let mut id = String::with_capacity(alloc, names.saturating_add(2))?;
+        id.push_str(table)?;
         id.push_str(".")?;
-        id.push_str(self.row.id.as_str())?;
+        id.push_str(row)?;
         id.push_str(".")?;
-        id.push_str(self.report.column(self.table, self.column).id.as_str())?;
+        id.push_str(column)?;
         Ok(Text::new(id))
     }
 }

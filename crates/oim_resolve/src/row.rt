@@ -51,7 +51,7 @@ fn named_group<'a>(
 fn lent<'a>(alloc: Global, planned: &'a [Planned<'a>]) -> Result<Vec<&'a Planned<'a>>, AllocError>
     ensures { IfOk result (λ v. held v.items ≡ planned.now) }
 {
-    let mut entries = Vec::new(alloc);
+    let mut entries = Vec::with_capacity(alloc, planned.len())?;
     for entry in planned {
         entries.push(entry)?;
     }

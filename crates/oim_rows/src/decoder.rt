@@ -169,7 +169,7 @@ fn cells_of(
     requires { IsTextRecord (fields_of row.now) }
     ensures { IfOk result (λ cells. cells ≡ map (field_or_empty (fields_of row.now)) sources.now) }
 {
-    let mut cells = Items::new(alloc);
+    let mut cells = Items::from_vec(Vec::with_capacity(alloc, sources.len())?);
     for source in sources {
         cells.push(Text::from_str(alloc, text_at(row, *source))?)?;
     }
@@ -181,7 +181,8 @@ fn numbered_id(alloc: Global, number: u32) -> Result<String, AllocError>
     ensures { IfOk result (λ id. string_bytes id ≡ codes "r_" ++ decimal number) }
 {
     let mut buffer = Buffer::new();
-    let mut id = String::from_str(alloc, "r_")?;
+    let mut id = String::with_capacity(alloc, 12)?;
+    id.push_str("r_")?;
     id.push_str(buffer.format(number))?;
     Ok(id)
 }
@@ -286,7 +287,10 @@ impl Decoder<'_> {
         requires { length row.now.cells ≡ length (columns_of (self.now).report (self.now).table) }
         ensures { OrNoMemory (self.now).table result (facts_from (self.now).report (self.now).table row.now 0 header.now) }
     {
-        let mut facts = Items::new(alloc);
+        let Ok(room) = Vec::with_capacity(alloc, header.len()) else {
+            return Err(whole_fault(self.table, TableKind::Memory));
+        };
+        let mut facts = Items::from_vec(room);
         for i in 0..header.len() {
             if let Some(fact) = self.fact_of_cell(alloc, row, i, header[i])? {
                 if facts.push(fact).is_err() {
