@@ -1,5 +1,5 @@
 -- The fault that a report is answered with is of one of its tables.
-use Rattle.std.specs.Prelude.{◌≡◌, ◌<◌, ℕ, ◌+◌, List, [], ◌∷◌, ◌++◌, Option, Some, None, Result, Ok, Err, length}
+use Rattle.std.specs.Prelude.{◌≡◌, ◌<◌, ℕ, ◌+◌, List, [], ◌∷◌, Option, Some, None, Result, Ok, Err, length}
 use Rattle.std.proofs.Common.{arith, ap, sym, ◌∙◌, inl, inr, length-append}
 use Rattle.std.specs.Option.{option_or}
 use Rattle.oim_json.specs.declared.mark.Mark.{Mark}

@@ -12,3 +12,4 @@ pub mod Shifts
 pub mod Jobs
 pub mod Runs
 pub mod Preparing
+pub mod Working

@@ -5,6 +5,7 @@ ghost use Rattle.oim_merge.specs.Histories.{document};
 ghost use Rattle.oim_merge.specs.Merging.{EndsEach, IsFresh, Merges, rings_of, taken_of};
 ghost use Rattle.oim_convert.specs.Jobs.{CanServe, Gives, gives_of};
 ghost use Rattle.oim_convert.specs.Shifts.{ArePosts, CanServeAll, IsCrew, IsShift};
+ghost use Rattle.oim_convert.specs.Working.{IsMerged};
 
 use crate::claims::Claims;
 use crate::crew::{Crew, Posts, join_crew, start_crew};
@@ -76,9 +77,7 @@ fn work_and_merge<R: Read + Drop + Send, T: Threads + Wait + Sync, W: Sink>(
     requires fresh { IsFresh drains.items }
     ensures shifts { All (IsShift (gives_of R.remaining (cond result.served server.now spare.now) report.now) claims.now) result.shifts.items }
     ensures count { vec_len result.shifts ≡ claims.now.workers }
-    ensures rings { rings_of result.merged.drains.items ≡ rings_of drains.items }
-    ensures ended { EndsEach result.merged.drains.items }
-    ensures merged { Merges (W.mark sink.old) (W.mark sink.new) (W.told sink.old) (W.told sink.new) (document head.now (taken_of result.merged.drains.items)) (taken_of result.merged.drains.items) result.merged.end }
+    ensures merged { IsMerged head.now (W.mark sink.old) (W.mark sink.new) (W.told sink.old) (W.told sink.new) drains.items result.merged }
 {
     let lent = &mut *sink;
     let returned = thread::scope(
@@ -92,9 +91,7 @@ fn work_and_merge<R: Read + Drop + Send, T: Threads + Wait + Sync, W: Sink>(
             ensures same_sink { result.sink.ghost_name ≡ lent.entry.ghost_name }
             ensures shifts { All (IsShift (gives_of R.remaining (cond result.worked.served server.entry.now spare.entry.now) report.entry.now) claims.entry.now) result.worked.shifts.items }
             ensures count { vec_len result.worked.shifts ≡ claims.entry.now.workers }
-            ensures rings { rings_of result.worked.merged.drains.items ≡ rings_of drains.items }
-            ensures ended { EndsEach result.worked.merged.drains.items }
-            ensures merged { Merges (W.mark lent.entry.now) (W.mark result.sink.now) (W.told lent.entry.now) (W.told result.sink.now) (document head.entry.now (taken_of result.worked.merged.drains.items)) (taken_of result.worked.merged.drains.items) result.worked.merged.end }
+            ensures merged { IsMerged head.entry.now (W.mark lent.entry.now) (W.mark result.sink.now) (W.told lent.entry.now) (W.told result.sink.now) drains.items result.worked.merged }
         {
             let posts = posts;
             let Posts { stations, mut room } = posts;
@@ -136,9 +133,7 @@ pub(crate) fn work_crew<R: Read + Drop + Send, T: Threads + Wait + Sync, W: Sink
     ensures claims { result.0 ≡ crew.claims }
     ensures shifts { All (IsShift (Gives R.remaining report.now limits.rows result.1.served) result.0) result.1.shifts.items }
     ensures count { vec_len result.1.shifts ≡ result.0.workers }
-    ensures rings { rings_of result.1.merged.drains.items ≡ rings_of drains.items }
-    ensures ended { EndsEach result.1.merged.drains.items }
-    ensures merged { Merges (W.mark sink.old) (W.mark sink.new) (W.told sink.old) (W.told sink.new) (document head.now (taken_of result.1.merged.drains.items)) (taken_of result.1.merged.drains.items) result.1.merged.end }
+    ensures merged { IsMerged head.now (W.mark sink.old) (W.mark sink.new) (W.told sink.old) (W.told sink.new) drains.items result.1.merged }
 {
     let Crew {
         claims,

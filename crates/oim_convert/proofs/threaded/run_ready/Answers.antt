@@ -23,11 +23,11 @@ pub finish-requires-clause-drains : goal.finish-requires-clause-drains
 finish-requires-clause-drains g c =
     let ended = c.work_crew-claims.result.1.merged.drains.items in
     subst (λ (z : Claiming (Job g.row.R.Denot)). Each (IsEnded z.items) 0 ended) (sym c.work_crew-claims.ensures.claims)
-    (lanes_ended c.args.ready.crew.claims.items 0 c.args.ready.drains.items ended c.work_crew-claims.ensures.rings c.work_crew-claims.ensures.ended c.requires.ready.drains)
+    (lanes_ended c.args.ready.crew.claims.items 0 c.args.ready.drains.items ended c.work_crew-claims.ensures.merged.rings c.work_crew-claims.ensures.merged.ended c.requires.ready.drains)
 
 pub finish-requires-clause-count : goal.finish-requires-clause-count
 finish-requires-clause-count g c =
-    rings_len c.work_crew-claims.result.1.merged.drains.items c.args.ready.drains.items c.work_crew-claims.ensures.rings
+    rings_len c.work_crew-claims.result.1.merged.drains.items c.args.ready.drains.items c.work_crew-claims.ensures.merged.rings
     ∙ (c.requires.ready.count ∙ ap (λ (z : Claiming (Job g.row.R.Denot)). length z.items) (sym c.work_crew-claims.ensures.claims))
 
 pub finish-requires-clause-places : goal.finish-requires-clause-places
@@ -45,8 +45,8 @@ returns-in-Some-clause-writes g c =
     let end = c.work_crew-claims.result.1.merged.end in
     let Wrote : List ℕ → List (List Item) → Type 0 =
     λ head hs. Merges (g.W.Sink.mark c.args.sink.now) (g.W.Sink.mark c.work_crew-claims.new.sink) (g.W.Sink.told c.args.sink.now) (g.W.Sink.told c.work_crew-claims.new.sink) (document head hs) hs end in
-    let merged : Wrote (head_text c.args.report.now) (taken_of ended) = subst (λ h. Wrote h (taken_of ended)) c.requires.head c.work_crew-claims.ensures.merged in (
-      as_many (λ (d : DrainView). d.taken) ended c.in-Some.drains.items (sym taken) ∙ (rings_len ended c.args.ready.drains.items c.work_crew-claims.ensures.rings ∙ (c.requires.ready.count ∙ c.requires.count)),
+    let merged : Wrote (head_text c.args.report.now) (taken_of ended) = subst (λ h. Wrote h (taken_of ended)) c.requires.head c.work_crew-claims.ensures.merged.written in (
+      as_many (λ (d : DrainView). d.taken) ended c.in-Some.drains.items (sym taken) ∙ (rings_len ended c.args.ready.drains.items c.work_crew-claims.ensures.merged.rings ∙ (c.requires.ready.count ∙ c.requires.count)),
       subst (λ hs. Wrote (head_text c.args.report.now) hs) (sym taken) merged,
     )
 
@@ -58,7 +58,7 @@ returns-in-None-clause-writes g c =
     λ head. Merges (g.W.Sink.mark c.args.sink.now) (g.W.Sink.mark c.work_crew-claims.new.sink) (g.W.Sink.told c.args.sink.now) (g.W.Sink.told c.work_crew-claims.new.sink) (document head (taken_of ended)) (taken_of ended) end in
     record {
       histories = taken_of ended;
-      count = as_many (λ (d : DrainView). d.taken) ended (taken_of ended) refl ∙ (rings_len ended c.args.ready.drains.items c.work_crew-claims.ensures.rings ∙ (c.requires.ready.count ∙ c.requires.count));
+      count = as_many (λ (d : DrainView). d.taken) ended (taken_of ended) refl ∙ (rings_len ended c.args.ready.drains.items c.work_crew-claims.ensures.merged.rings ∙ (c.requires.ready.count ∙ c.requires.count));
       end = end;
-      merged = subst Wrote c.requires.head c.work_crew-claims.ensures.merged;
+      merged = subst Wrote c.requires.head c.work_crew-claims.ensures.merged.written;
     }
