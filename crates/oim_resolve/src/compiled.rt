@@ -54,10 +54,11 @@ fn resolve_planned<'a>(
         return Err(fault);
     }
     let kind = met.concept_kind();
-    if let Some(fault) = met.rest_fault(alloc, kind)? {
+    let numeral = place.numeral(kind);
+    if let Some(fault) = met.rest_fault(alloc, kind, numeral)? {
         return Err(fault);
     }
-    Ok(Some(met.fact(alloc, kind)?))
+    Ok(Some(met.fact(alloc, kind, numeral)?))
 }
 
 impl Plan<'_> {

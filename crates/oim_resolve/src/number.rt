@@ -1,6 +1,7 @@
 ghost use Rattle.std.specs.Prelude.{◌≡◌, IfOk};
-ghost use Rattle.oim_cells.specs.Cells.{seen_meaning, accuracy_of};
-ghost use Rattle.oim_resolve.specs.Facts.{fact_meaning, looks_at_decimals, suffix, stated, stated_faults, stated_accuracy, decimals_faults, number_faults, places, decimals_given, fact_decimals, value_text};
+ghost use Rattle.std.specs.Option.{option_map, option_and_then};
+ghost use Rattle.oim_cells.specs.Cells.{seen_meaning, seen_numeral, accuracy_of};
+ghost use Rattle.oim_resolve.specs.Facts.{fact_meaning, numeral as numeral_in, looks_at_decimals, suffix, stated, stated_faults, stated_accuracy, decimals_faults, number_faults, places, decimals_given, fact_decimals, value_text};
 ghost use Rattle.oim_resolve.specs.Faults.{least};
 ghost use Rattle.oim_resolve.specs.PlaceOf.{cell_at};
 ghost use Rattle.oim_resolve.specs.Seen.{seen_stated};
@@ -14,16 +15,16 @@ use oim_meta::Kind;
 use oim_names::Text;
 use std::alloc::{AllocError, Global};
 
+/// A numeral, and the decimals that it states itself.
+pub(crate) type Numeral<'a> = (&'a str, Option<Accuracy>);
+
 /// The decimals that the cell of a number states itself.
-pub(crate) fn suffix(kind: Kind, cell: CellMeaning<'_>) -> Option<Accuracy>
-    ensures { result ≡ suffix kind (seen_meaning cell.entry) }
+fn suffix(numeral: Option<Numeral<'_>>) -> Option<Accuracy>
+    ensures { result ≡ option_and_then (λ p. p.1) (option_map seen_numeral numeral.entry) }
 {
-    match (kind, cell) {
-        (Kind::Number(number), CellMeaning::Text(text)) => match split_numeral(number, text) {
-            Some((_, accuracy)) => accuracy,
-            None => None,
-        },
-        _ => None,
+    match numeral {
+        Some((_, accuracy)) => accuracy,
+        None => None,
     }
 }
 
@@ -60,20 +61,31 @@ fn places(accuracy: Accuracy) -> Option<i32>
     }
 }
 
-pub(crate) fn looks_at_decimals(kind: Kind, cell: CellMeaning<'_>) -> bool
+pub(crate) fn looks_at_decimals(
+    kind: Kind,
+    cell: CellMeaning<'_>,
+    numeral: Option<Numeral<'_>>,
+) -> bool
+    requires { option_map seen_numeral numeral ≡ numeral_in kind (seen_meaning cell) }
     ensures { result ≡ looks_at_decimals kind (seen_meaning cell.entry) }
 {
-    is_numeric(kind) && !matches!(&cell, CellMeaning::Nil) && suffix(kind, cell).is_none()
+    is_numeric(kind) && !matches!(&cell, CellMeaning::Nil) && suffix(numeral).is_none()
 }
 
 /// The decimals of a fact: those that its cell states, else those of its properties.
-pub(crate) fn decimals_given(kind: Kind, cell: CellMeaning<'_>, stated: Stated<'_>) -> Option<i32>
+pub(crate) fn decimals_given(
+    kind: Kind,
+    cell: CellMeaning<'_>,
+    numeral: Option<Numeral<'_>>,
+    stated: Stated<'_>,
+) -> Option<i32>
+    requires { option_map seen_numeral numeral ≡ numeral_in kind (seen_meaning cell) }
     ensures { result ≡ decimals_given kind (seen_meaning cell.entry) (seen_stated stated.entry) }
 {
     if !is_numeric(kind) || matches!(&cell, CellMeaning::Nil) {
         return None;
     }
-    let accuracy = match suffix(kind, cell) {
+    let accuracy = match suffix(numeral) {
         Some(accuracy) => Some(accuracy),
         None => stated_accuracy(stated),
     };
@@ -91,13 +103,24 @@ impl<'a> Place<'a> {
         self.meaning_at(self.column)
     }
 
+    /// The numeral of the fact's cell, where the concept is of numbers.
+    pub(crate) fn numeral(&self, kind: Kind) -> Option<Numeral<'a>>
+        ensures { option_map seen_numeral result ≡ numeral_in kind (fact_meaning (cell_at self.now)) }
+    {
+        match (kind, self.fact_meaning()) {
+            (Kind::Number(number), CellMeaning::Text(text)) => split_numeral(number, text),
+            _ => None,
+        }
+    }
+
     /// The least fault of the cell of a number.
-    pub(crate) fn number_fault(&self, kind: Kind) -> Option<CellFault>
+    pub(crate) fn number_fault(&self, kind: Kind, numeral: Option<Numeral<'_>>) -> Option<CellFault>
+        requires { option_map seen_numeral numeral ≡ numeral_in kind (fact_meaning (cell_at self.now)) }
         ensures { result ≡ least (number_faults (cell_at self.now) kind) }
     {
         match (kind, self.fact_meaning()) {
             (Kind::Number(_), CellMeaning::Empty) => Some(CellFault::BadNumber),
-            (Kind::Number(number), CellMeaning::Text(text)) => match split_numeral(number, text) {
+            (Kind::Number(_), CellMeaning::Text(_)) => match numeral {
                 Some(_) => None,
                 None => Some(CellFault::BadNumber),
             },
@@ -106,12 +129,18 @@ impl<'a> Place<'a> {
     }
 
     /// The value of the fact: None is nil.
-    pub(crate) fn value_text(&self, alloc: Global, kind: Kind) -> Result<Option<Text>, AllocError>
+    pub(crate) fn value_text(
+        &self,
+        alloc: Global,
+        kind: Kind,
+        numeral: Option<Numeral<'_>>,
+    ) -> Result<Option<Text>, AllocError>
+        requires { option_map seen_numeral numeral ≡ numeral_in kind (fact_meaning (cell_at self.now)) }
         ensures { IfOk result (λ v. v ≡ value_text kind (fact_meaning (cell_at self.now))) }
     {
         match (kind, self.fact_meaning()) {
             (_, CellMeaning::Empty) => Ok(Some(Text::from_str(alloc, "")?)),
-            (Kind::Number(number), CellMeaning::Text(text)) => match split_numeral(number, text) {
+            (Kind::Number(_), CellMeaning::Text(_)) => match numeral {
                 Some((numeral, _)) => Ok(Some(Text::from_str(alloc, numeral)?)),
                 None => Ok(None),
             },
@@ -126,7 +155,8 @@ impl Properties<'_> {
     pub(crate) fn decimals_fault(&self, kind: Kind) -> Option<CellFault>
         ensures { result ≡ least (decimals_faults (cell_at self.now.place) kind) }
     {
-        if looks_at_decimals(kind, self.place.fact_meaning()) {
+        let cell = self.place.fact_meaning();
+        if looks_at_decimals(kind, cell, self.place.numeral(kind)) {
             stated_fault(self.stated())
         } else {
             None
@@ -136,6 +166,7 @@ impl Properties<'_> {
     pub(crate) fn fact_decimals(&self, kind: Kind) -> Option<i32>
         ensures { result ≡ fact_decimals (cell_at self.now.place) kind }
     {
-        decimals_given(kind, self.place.fact_meaning(), self.stated())
+        let cell = self.place.fact_meaning();
+        decimals_given(kind, cell, self.place.numeral(kind), self.stated())
     }
 }

@@ -1,6 +1,7 @@
 ghost use Rattle.std.specs.Prelude.{◌≡◌, IfOk};
 ghost use Rattle.std.specs.Option.{option_map};
-ghost use Rattle.oim_resolve.specs.Facts.{concept_faults, concept_kind, rest_faults, decimals_faults, fact_decimals, fact_of, stated};
+ghost use Rattle.oim_cells.specs.Cells.{seen_numeral};
+ghost use Rattle.oim_resolve.specs.Facts.{concept_faults, concept_kind, rest_faults, decimals_faults, fact_decimals, fact_meaning, fact_of, numeral as numeral_in, stated};
 ghost use Rattle.oim_resolve.specs.Faults.{least};
 ghost use Rattle.oim_resolve.specs.PlaceOf.{cell_at};
 ghost use Rattle.oim_resolve.specs.Seen.{seen_stated};
@@ -10,7 +11,7 @@ use crate::fact::{CellFault, Fact};
 use crate::least::least_of;
 use crate::merge::decimals_in;
 use crate::met::Met;
-use crate::number::{decimals_given, looks_at_decimals, stated_fault};
+use crate::number::{Numeral, decimals_given, looks_at_decimals, stated_fault};
 use crate::properties::Stated;
 use oim_meta::{Kind, WrittenDecimals};
 use oim_names::Items;
@@ -51,10 +52,11 @@ impl<'a> Met<'a> {
     }
 
     /// The least fault of the decimals, where they are looked at.
-    fn decimals_fault(&self, kind: Kind) -> Option<CellFault>
+    fn decimals_fault(&self, kind: Kind, numeral: Option<Numeral<'_>>) -> Option<CellFault>
+        requires { option_map seen_numeral numeral ≡ numeral_in kind (fact_meaning (cell_at self.now.place)) }
         ensures { result ≡ least (decimals_faults (cell_at self.now.place) kind) }
     {
-        if looks_at_decimals(kind, self.place.fact_meaning()) {
+        if looks_at_decimals(kind, self.place.fact_meaning(), numeral) {
             stated_fault(self.stated())
         } else {
             None
@@ -66,22 +68,30 @@ impl<'a> Met<'a> {
         &self,
         alloc: Global,
         kind: Kind,
+        numeral: Option<Numeral<'_>>,
     ) -> Result<Option<CellFault>, AllocError>
+        requires { option_map seen_numeral numeral ≡ numeral_in kind (fact_meaning (cell_at self.now.place)) }
         ensures { IfOk result (λ f. f ≡ least (rest_faults (cell_at self.now.place) kind)) }
     {
         let dimensions = self.place.entries_fault(alloc, kind, &self.entries)?;
-        let first = least_of(dimensions, self.decimals_fault(kind));
-        Ok(least_of(first, self.place.number_fault(kind)))
+        let first = least_of(dimensions, self.decimals_fault(kind, numeral));
+        Ok(least_of(first, self.place.number_fault(kind, numeral)))
     }
 
     /// The fact of the cell.
-    pub(crate) fn fact(&self, alloc: Global, kind: Kind) -> Result<Fact, AllocError>
-        requires { kind ≡ concept_kind (cell_at self.now.place) }
+    pub(crate) fn fact(
+        &self,
+        alloc: Global,
+        kind: Kind,
+        numeral: Option<Numeral<'_>>,
+    ) -> Result<Fact, AllocError>
+        requires kind { kind ≡ concept_kind (cell_at self.now.place) }
+        requires numeral { option_map seen_numeral numeral ≡ numeral_in kind (fact_meaning (cell_at self.now.place)) }
         ensures { IfOk result (λ f. f ≡ fact_of (cell_at self.now.place)) }
     {
         let id = self.place.fact_id(alloc)?;
-        let value = self.place.value_text(alloc, kind)?;
-        let decimals = decimals_given(kind, self.place.fact_meaning(), self.stated());
+        let value = self.place.value_text(alloc, kind, numeral)?;
+        let decimals = decimals_given(kind, self.place.fact_meaning(), numeral, self.stated());
         let dimensions = Items::from_vec(self.place.entries_values(alloc, kind, &self.entries)?);
         Ok(Fact {
             id,

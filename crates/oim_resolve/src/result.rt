@@ -49,7 +49,10 @@ impl Properties<'_> {
         let names = self.names(alloc)?;
         let dimensions = self.dimensions_fault(alloc, kind, names.as_slice())?;
         let first = least_of(dimensions, self.decimals_fault(kind));
-        Ok(least_of(first, self.place.number_fault(kind)))
+        Ok(least_of(
+            first,
+            self.place.number_fault(kind, self.place.numeral(kind)),
+        ))
     }
 
     /// The fact of the cell.
@@ -59,7 +62,9 @@ impl Properties<'_> {
     {
         let names = self.names(alloc)?;
         let id = self.place.fact_id(alloc)?;
-        let value = self.place.value_text(alloc, kind)?;
+        let value = self
+            .place
+            .value_text(alloc, kind, self.place.numeral(kind))?;
         let decimals = self.fact_decimals(kind);
         let dimensions = Items::from_vec(self.entries(alloc, kind, names.as_slice())?);
         Ok(Fact {

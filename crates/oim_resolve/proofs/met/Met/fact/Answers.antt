@@ -13,4 +13,4 @@ returns c =
     let k = c.args.kind in
     let dimensions = c.from_vec-dimensions.ensures ∙ c.in_ok-entries_values.ensures ∙ ap (entries_values cell k) c.args.self.now.all.1 ∙ row_values cell k in
     let decimals = c.decimals_given-decimals.ensures ∙ ap (λ v. decimals_given k v (seen_stated c.stated.result)) c.fact_meaning.ensures ∙ ap (decimals_given k (fact_meaning cell)) c.stated.ensures in
-    fact_parts cell k _ _ _ _ c.requires c.in_ok-id.ensures c.in_ok-value.ensures decimals dimensions
+    fact_parts cell k _ _ _ _ c.requires.kind c.in_ok-id.ensures c.in_ok-value.ensures decimals dimensions
