@@ -100,10 +100,12 @@ impl Feed {
             waiting,
         } = self;
         match producer.push(Item::Ending(ending)) {
-            Ok(()) => waiting.wake(),
+            Ok(()) => {}
             Err(_) => return Err(CloseFault::Full(Feed { producer, waiting }, ending)),
         }
-        match producer.finish() {
+        let finished = producer.finish();
+        waiting.wake();
+        match finished {
             Some(finished) => Ok(Closed { finished }),
             None => Err(CloseFault::Lost),
         }

@@ -222,8 +222,9 @@ fn close_waiting<T: Wait>(rt: &T, feed: Feed, turns: u32) -> Option<u32> {
     None
 }
 
-/// Takes blocks up to the ending. Answers how many came, where they came in order.
-fn take_all<T: Wait>(rt: &T, alloc: Global, drain: Drain) -> Option<u32> {
+/// Takes blocks up to the ending. Answers how many came, where they came in order, and the drain,
+/// which has to be there while its feed closes.
+fn take_all<T: Wait>(rt: &T, alloc: Global, drain: Drain) -> Option<(u32, Drain)> {
     let mut drain = drain;
     let mut next = 0u32;
     for _ in 0..TURNS {
@@ -235,7 +236,7 @@ fn take_all<T: Wait>(rt: &T, alloc: Global, drain: Drain) -> Option<u32> {
                 }
                 next = next.saturating_add(1);
             }
-            Some(Item::Ending(_)) => return Some(next),
+            Some(Item::Ending(_)) => return Some((next, drain)),
         }
     }
     None
@@ -252,7 +253,7 @@ fn two_threads_over_one_ring(rt: HostRuntime) -> Result<(), Fail> {
         move || take_all(waits, alloc, drain),
     );
     assert!(rt; put.is_some());
-    assert_eq!(rt; taken, Some(BLOCKS));
+    assert_eq!(rt; taken.map(|(count, _drain)| count), Some(BLOCKS));
     Ok(())
 }
 
