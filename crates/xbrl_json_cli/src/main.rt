@@ -43,6 +43,8 @@ mod tests_reports;
 mod tests_rings;
 #[cfg(test)]
 mod tests_runs;
+#[cfg(test)]
+mod tests_sizes;
 
 use conversion::convert_to;
 use oim_convert::ConvertFault;

@@ -1,4 +1,7 @@
-//! Whole reports to their documents, and the line of the fault where there is one.
+//! Whole reports to their documents, and the line of the fault where there is one, on threads and on
+//! one thread.
+
+ghost use Rattle.std.specs.Prelude.{◌≤◌};
 
 use crate::conversion::{convert_held, convert_texts};
 use crate::held::{METADATA, TABLE, TYPES};
@@ -6,6 +9,7 @@ use crate::outcome::{Outcome, line, status};
 use oim_convert::{ConvertFault, convert_serial};
 use oim_json::{Marked, WriteFault};
 use oim_meta::{Limits, Parameters, Report, read_report, read_types};
+use oim_names::Text;
 use oim_rows::{Rows, TableFault, TableKind};
 use std::alloc::{AllocError, Global};
 use std::io;
@@ -39,17 +43,23 @@ fn readers<'a>(alloc: Global, tables: &[Option<&'a [u8]>]) -> Result<Vec<Option<
     Ok(readers)
 }
 
-/// The document and the line of a conversion with a limit of two rows.
+/// The limits of most conversions here: two rows a table.
+fn two_rows() -> Limits
+    ensures { result.rows ≤ 4294967294 }
+{
+    Limits {
+        rows: 2,
+        ..Limits::profile()
+    }
+}
+
+/// The document and the line of a conversion by two workers over rings of one block.
 fn converted(
     rt: &(impl Threads + Wait + Sync),
     alloc: Global,
     metadata: &str,
     tables: &[Option<&[u8]>],
 ) -> Result<(Vec<u8>, String), Fail> {
-    let limits = Limits {
-        rows: 2,
-        ..Limits::profile()
-    };
     let mut document = Vec::new(alloc);
     let outcome = convert_texts(
         rt,
@@ -59,10 +69,63 @@ fn converted(
         readers(alloc, tables)?,
         2,
         1,
-        limits,
+        two_rows(),
         &mut Marked::new(&mut document),
     );
     Ok((document, line(alloc, &outcome)?))
+}
+
+/// The outcome of a conversion on one thread that answered so.
+fn outcome_of(
+    alloc: Global,
+    report: &Report,
+    answer: Result<(), ConvertFault>,
+) -> Result<Outcome, Fail> {
+    match answer {
+        Ok(()) => Ok(Outcome::Done),
+        Err(ConvertFault::Table(fault)) => {
+            if fault.table >= report.tables() {
+                return Err(Fail::new("no such table"));
+            }
+            let name = Text::from_str(alloc, report.table_id(fault.table))?;
+            Ok(Outcome::Table(name, fault))
+        }
+        Err(ConvertFault::Write(fault)) => Ok(Outcome::Output(fault)),
+        Err(fault) => Ok(Outcome::Run(fault)),
+    }
+}
+
+/// The line of a report's conversion on one thread, behind what it writes.
+fn serial_line(
+    alloc: Global,
+    report: &Report,
+    tables: &[Option<&[u8]>],
+    document: &mut Vec<u8>,
+) -> Result<String, Fail> {
+    let readers = readers(alloc, tables)?;
+    let sink = &mut Marked::new(document);
+    let answer = convert_serial(alloc, report, readers, two_rows(), sink);
+    let outcome = outcome_of(alloc, report, answer)?;
+    Ok(line(alloc, &outcome)?)
+}
+
+/// The report of a metadata, with the held types.
+fn report_from(alloc: Global, metadata: &str) -> Result<Report, Fail> {
+    let types = read_types(alloc, TYPES.as_bytes())?;
+    let parameters = Parameters::none(alloc);
+    Ok(read_report(alloc, metadata.as_bytes(), parameters, types, &two_rows())?)
+}
+
+/// The document and the line of a conversion on one thread.
+fn converted_serially(
+    alloc: Global,
+    metadata: &str,
+    tables: &[Option<&[u8]>],
+) -> Result<(Vec<u8>, String), Fail> {
+    let report = report_from(alloc, metadata)?;
+    let mut document = Vec::new(alloc);
+    let line = serial_line(alloc, &report, tables, &mut document)?;
+    Ok((document, line))
 }
 
 /// The first word, and the text behind it.
@@ -122,7 +185,40 @@ fn line_of(alloc: Global, fault: &str) -> Result<String, AllocError> {
     format!(in alloc; "xbrl-json: table {fault}\n")
 }
 
-/// Converts a report, and compares its document and its line, given as `FACTS => FAULT`.
+/// Compares a document and a line with those that are expected.
+fn compare(
+    rt: &impl Abort,
+    found: (Vec<u8>, String),
+    document: &str,
+    said: &str,
+    way: &str,
+) -> Result<(), Fail> {
+    let (written, line) = found;
+    assert_eq!(rt; line.as_str(), said, "{way}");
+    assert_eq!(rt;
+        written.as_slice(),
+        document.as_bytes(),
+        "{way}, where the line is {line}"
+    );
+    Ok(())
+}
+
+/// Converts a report on threads and on one thread, and compares the documents and the lines.
+fn check_both(
+    rt: &(impl Abort + AllocGlobal + Threads + Wait + Sync),
+    metadata: &str,
+    tables: &[Option<&[u8]>],
+    document: &str,
+    said: &str,
+) -> Result<(), Fail> {
+    let threaded = converted(rt, rt.alloc(), metadata, tables)?;
+    compare(rt, threaded, document, said, "by two workers")?;
+    let serial = converted_serially(rt.alloc(), metadata, tables)?;
+    compare(rt, serial, document, said, "on one thread")
+}
+
+/// Converts a report in both ways, and compares its documents and its lines, given as
+/// `FACTS => FAULT`.
 fn check(
     rt: &(impl Abort + AllocGlobal + Threads + Wait + Sync),
     edits: Edits<'_>,
@@ -132,16 +228,15 @@ fn check(
     let alloc = rt.alloc();
     let (facts, fault) = expected.split_once(" => ").ok_or("no fault")?;
     let metadata = edited(alloc, edits)?;
-    let (document, line) = converted(rt, alloc, metadata.as_str(), tables)?;
-    let wanted = line_of(alloc, fault)?;
-    assert_eq!(rt; line.as_str(), wanted.as_str(), "of {expected}");
-    let expected = document_of(alloc, facts, fault)?;
-    assert_eq!(rt;
-        document.as_slice(),
-        expected.as_bytes(),
-        "where the line is {line}"
-    );
-    Ok(())
+    let said = line_of(alloc, fault)?;
+    let document = document_of(alloc, facts, fault)?;
+    check_both(
+        rt,
+        metadata.as_str(),
+        tables,
+        document.as_str(),
+        said.as_str(),
+    )
 }
 
 /// Does so for reports of one table, each given as `FILE => FACTS => FAULT`.
@@ -161,6 +256,14 @@ pub(crate) const THREE: Edits<'static> = &[(
     r#"{"t1":{"url":"t1.csv","template":"p"}}"#,
     r#"{"t1":{"url":"t1.csv","template":"p"},"t2":{"url":"t2.csv","template":"p"},"t3":{"url":"t3.csv","template":"p"}}"#,
 )];
+
+/// A member that no one knows, and a list of no reports that this one extends.
+const UNKNOWN: Edits<'static> = &[
+    (r#""tables":"#, r#""foo":1,"tables":"#),
+    (r#""taxonomy":"#, r#""extends":[],"taxonomy":"#),
+];
+
+const UNTIMED: Edits<'static> = &[("2021-01-01T00:00:00/2022-01-01T00:00:00", "nope")];
 
 const NO_TABLES: Edits<'static> = &[(r#"{"t1":{"url":"t1.csv","template":"p"}}"#, "{}")];
 
@@ -259,6 +362,12 @@ fn tables_of_a_report(rt: HostRuntime) -> Result<(), Fail> {
         ],
         "t2.r_1.cash - Cash EUR 1; t3.r_1.cash - Cash EUR 2 => ",
     )?;
+    check(
+        &rt,
+        UNKNOWN,
+        &[Some(b"cash\n100\n".as_slice())],
+        "t1.r_1.cash - Cash EUR 100 => ",
+    )?;
     check(&rt, NO_TABLES, &[], " => ")?;
     check(&rt, &[], &[None], " => t1, row 0, column 0: NoFile (20)")?;
     check(&rt, OPTIONAL, &[None], " => ")?;
@@ -321,6 +430,14 @@ fn cells(rt: HostRuntime) -> Result<(), Fail> {
     )?;
     check_all(
         &rt,
+        UNTIMED,
+        &[
+            "cash\n1\n =>  => t1, row 1, column 1: BadPeriod (37)",
+            "cash\n#none\n =>  => ",
+        ],
+    )?;
+    check_all(
+        &rt,
         RATE,
         &[
             "rate\n1250.5d-2\n => t1.r_1.rate -2 Rate EUR 1250.5 => ",
@@ -368,7 +485,12 @@ fn groups_and_parameters(rt: HostRuntime) -> Result<(), Fail> {
     check_all(
         &rt,
         BY_TABLE,
-        &["cash,c\n1,#none\n =>  => t1, row 1, column 1: NoConcept (33)"],
+        &[
+            "cash,c\n1,\n => t1.r_1.cash - Cash EUR 1 => ",
+            "cash,c\n1,eg:Mass\n => t1.r_1.cash - Mass EUR 1 => ",
+            "cash,c\n1,eg:Nope\n =>  => t1, row 1, column 1: UnknownName (34)",
+            "cash,c\n1,#none\n =>  => t1, row 1, column 1: NoConcept (33)",
+        ],
     )?;
     check_all(
         &rt,
@@ -384,23 +506,124 @@ fn groups_and_parameters(rt: HostRuntime) -> Result<(), Fail> {
     Ok(())
 }
 
+/// A report of one table with what its metadata has in place of texts: its file, and the texts of its
+/// facts, where `@` stands for the report's period.
+type Whole<'a> = (Edits<'a>, &'a str, &'a str);
+
+/// The held report's period, in its written form.
+const PERIOD: &str = "2021-01-01T00:00:00/2022-01-01T00:00:00";
+
+const LANGUAGE: Edits<'static> = &[(
+    r#""dimensions":{"entity""#,
+    r#""dimensions":{"language":"en-GB","entity""#,
+)];
+
+const TWICE_PURE: Edits<'static> = &[("iso4217:EUR", "xbrli:pure*xbrli:pure")];
+
+const CELLS: (&str, &str) = (r#""columns":{"#, r#""columns":{"b":{},"#);
+
+const SIDED: Edits<'static> = &[
+    CELLS,
+    (
+        r#""entity":"eg:A1""#,
+        r#""eg:Branch":"$b","eg:Region":"eg:North","entity":"eg:A1""#,
+    ),
+];
+
+const ENDED: Edits<'static> = &[CELLS, (PERIOD, "$b@end")];
+
+const TIMED: Edits<'static> = &[CELLS, (PERIOD, "$b")];
+
+const WHOLES: &[Whole<'static>] = &[
+    (
+        LANGUAGE,
+        "cash,note\n1,\"say \"\"hi\"\" \\\n\u{e9}\u{1}\"\n",
+        r#""t1.r_1.cash":{"dimensions":{"concept":"eg:Cash","entity":"eg:A1","period":"@","unit":"iso4217:EUR"},"value":"1"},"t1.r_1.note":{"dimensions":{"concept":"eg:Note","entity":"eg:A1","language":"en-gb","period":"@"},"value":"say \"hi\" \\\né\u0001"}"#,
+    ),
+    (
+        TWICE_PURE,
+        "cash\n1\n",
+        r#""t1.r_1.cash":{"dimensions":{"concept":"eg:Cash","entity":"eg:A1","period":"@","unit":"xbrli:pure*xbrli:pure"},"value":"1"}"#,
+    ),
+    (
+        SIDED,
+        "cash,b\n1,x\n2,#nil\n",
+        r#""t1.r_1.cash":{"dimensions":{"concept":"eg:Cash","eg:Branch":"x","eg:Region":"eg:North","entity":"eg:A1","period":"@","unit":"iso4217:EUR"},"value":"1"},"t1.r_2.cash":{"dimensions":{"concept":"eg:Cash","eg:Branch":null,"eg:Region":"eg:North","entity":"eg:A1","period":"@","unit":"iso4217:EUR"},"value":"2"}"#,
+    ),
+    (
+        SIDED,
+        "cash,b\n1,\n2,#empty\n",
+        r#""t1.r_1.cash":{"dimensions":{"concept":"eg:Cash","eg:Region":"eg:North","entity":"eg:A1","period":"@","unit":"iso4217:EUR"},"value":"1"},"t1.r_2.cash":{"dimensions":{"concept":"eg:Cash","eg:Branch":"","eg:Region":"eg:North","entity":"eg:A1","period":"@","unit":"iso4217:EUR"},"value":"2"}"#,
+    ),
+    (
+        ENDED,
+        "cash,b\n1,2021Q4\n",
+        r#""t1.r_1.cash":{"dimensions":{"concept":"eg:Cash","entity":"eg:A1","period":"2022-01-01T00:00:00","unit":"iso4217:EUR"},"value":"1"}"#,
+    ),
+    (
+        TIMED,
+        "cash,b\n1,2020W53\n2,2021-12-31T24:00:00\n",
+        r#""t1.r_1.cash":{"dimensions":{"concept":"eg:Cash","entity":"eg:A1","period":"2020-12-28T00:00:00/2021-01-04T00:00:00","unit":"iso4217:EUR"},"value":"1"},"t1.r_2.cash":{"dimensions":{"concept":"eg:Cash","entity":"eg:A1","period":"2022-01-01T00:00:00","unit":"iso4217:EUR"},"value":"2"}"#,
+    ),
+];
+
+/// The document with these texts of facts.
+fn whole_document(alloc: Global, facts: &str) -> Result<String, AllocError> {
+    let mut document = String::from_str(alloc, HEAD)?;
+    document.push_str(facts.replace(alloc, "@", PERIOD)?.as_str())?;
+    document.push_str("}}\n")?;
+    Ok(document)
+}
+
+/// Converts such a report in both ways, and compares its documents.
+fn check_whole(
+    rt: &(impl Abort + AllocGlobal + Threads + Wait + Sync),
+    whole: &Whole<'_>,
+) -> Result<(), Fail> {
+    let (edits, file, facts) = *whole;
+    let metadata = edited(rt.alloc(), edits)?;
+    let document = whole_document(rt.alloc(), facts)?;
+    let tables = [Some(file.as_bytes())];
+    check_both(
+        rt,
+        metadata.as_str(),
+        tables.as_slice(),
+        document.as_str(),
+        "",
+    )
+}
+
 #[test]
-fn escapes_and_language(rt: HostRuntime) -> Result<(), Fail> {
-    let alloc = rt.alloc();
-    let language = (
-        r#""dimensions":{"entity""#,
-        r#""dimensions":{"language":"en-GB","entity""#,
-    );
-    let metadata = edited(alloc, &[language])?;
-    let table = b"note\n\"say \"\"hi\"\" \\\n\xc3\xa9\x01\"\n".as_slice();
-    let (document, line) = converted(&rt, alloc, metadata.as_str(), &[Some(table)])?;
-    assert_eq!(rt; line.as_str(), "");
-    let mut expected = String::from_str(alloc, HEAD)?;
-    expected.push_str(
-        "\"t1.r_1.note\":{\"dimensions\":{\"concept\":\"eg:Note\",\"entity\":\"eg:A1\",\"language\":\"en-gb\",\"period\":\"2021-01-01T00:00:00/2022-01-01T00:00:00\"},\"value\":\"say \\\"hi\\\" \\\\\\n\u{e9}\\u0001\"}}}\n",
-    )?;
-    assert_eq!(rt; document.as_slice(), expected.as_bytes());
+fn whole_facts(rt: HostRuntime) -> Result<(), Fail> {
+    for whole in WHOLES {
+        check_whole(&rt, whole)?;
+    }
     Ok(())
+}
+
+const ADDRESS: &str = r#""baseURL":"http://example.com/a\"b","documentType""#;
+
+const ADDRESSED: Edits<'static> = &[(r#""documentType""#, ADDRESS)];
+
+/// The document of a report without facts that has the address.
+fn addressed(alloc: Global) -> Result<String, AllocError> {
+    let mut document = HEAD.replace(alloc, r#""documentType""#, ADDRESS)?;
+    document.push_str("}}\n")?;
+    Ok(document)
+}
+
+#[test]
+fn the_address_of_a_report(rt: HostRuntime) -> Result<(), Fail> {
+    let metadata = edited(rt.alloc(), ADDRESSED)?;
+    let document = addressed(rt.alloc())?;
+    let tables = [Some(b"cash\n".as_slice())];
+    check_both(
+        &rt,
+        metadata.as_str(),
+        tables.as_slice(),
+        document.as_str(),
+        "",
+    )
 }
 
 /// A writer that takes at most `most` bytes a call, and once `room` bytes are out no more: it fails
@@ -431,17 +654,25 @@ impl Write for Narrow {
     }
 }
 
+/// Writers, as the bytes of a call, the room, and whether they fail or answer 0 then, each with the
+/// fault of a write.
+const WRITERS: [(usize, usize, bool, Option<WriteFault>); 4] = [
+    (1, 4096, true, None),
+    (1, 40, true, Some(WriteFault::Failed)),
+    (7, 40, true, Some(WriteFault::Failed)),
+    (64, 40, false, Some(WriteFault::Zero)),
+];
+
+/// The first 40 bytes of each document here.
+const BEGINNING: &[u8] = b"{\"documentInfo\":{\"documentType\":\"https:/";
+
 #[test]
 fn narrow_writers(rt: HostRuntime) -> Result<(), Fail> {
     let alloc = rt.alloc();
     let mut whole = Vec::new(alloc);
     let outcome = convert_held(&rt, alloc, &mut Marked::new(&mut whole));
     assert_eq!(rt; status(&outcome), 0);
-    for (most, room, fails, ending) in [
-        (1, 4096, true, None),
-        (7, 40, true, Some(WriteFault::Failed)),
-        (64, 40, false, Some(WriteFault::Zero)),
-    ] {
+    for (most, room, fails, ending) in WRITERS {
         let taken = Vec::new(alloc);
         let mut narrow = Narrow {
             taken,
@@ -457,7 +688,7 @@ fn narrow_writers(rt: HostRuntime) -> Result<(), Fail> {
         assert_eq!(rt; fault, ending);
         assert_eq!(rt; status(&outcome), if ending.is_some() { 3 } else { 0 });
         let expected = match ending {
-            Some(_) => b"{\"documentInfo\":{\"documentType\":\"https:/".as_slice(),
+            Some(_) => BEGINNING,
             None => whole.as_slice(),
         };
         assert_eq!(rt; narrow.taken.as_slice(), expected);
@@ -465,17 +696,56 @@ fn narrow_writers(rt: HostRuntime) -> Result<(), Fail> {
     Ok(())
 }
 
-/// The held report.
-fn report_of(alloc: Global) -> Result<Report, Fail> {
-    let types = read_types(alloc, TYPES.as_bytes())?;
-    let parameters = Parameters::none(alloc);
-    Ok(read_report(
-        alloc,
-        METADATA.as_bytes(),
-        parameters,
-        types,
-        &Limits::profile(),
-    )?)
+/// What the held report's conversion on one thread answers, behind what it writes.
+fn serial_held(
+    alloc: Global,
+    report: &Report,
+    narrow: &mut Narrow,
+) -> Result<Option<ConvertFault>, Fail> {
+    let tables = readers(alloc, [Some(TABLE.as_bytes())].as_slice())?;
+    let sink = &mut Marked::new(narrow);
+    Ok(convert_serial(alloc, report, tables, Limits::profile(), sink).err())
+}
+
+/// Whether it writes these bytes to such a writer, and answers this fault.
+fn is_narrow(
+    alloc: Global,
+    report: &Report,
+    narrow: &mut Narrow,
+    written: &[u8],
+    fault: Option<WriteFault>,
+) -> Result<bool, Fail> {
+    let answer = serial_held(alloc, report, narrow)?;
+    let wanted = match fault {
+        Some(fault) => Some(ConvertFault::Write(fault)),
+        None => None,
+    };
+    Ok(answer == wanted && narrow.taken.as_slice() == written)
+}
+
+#[test]
+fn narrow_writers_on_one_thread(rt: HostRuntime) -> Result<(), Fail> {
+    let alloc = rt.alloc();
+    let report = report_from(alloc, METADATA)?;
+    let facts =
+        "t1.r_1.cash - Cash EUR 100; t1.r_1.note - Note - first; t1.r_2.cash - Cash EUR 200; t1.r_2.note - Note - second";
+    let whole = document_of(alloc, facts, "")?;
+    for (most, room, fails, ending) in WRITERS {
+        let taken = Vec::new(alloc);
+        let mut narrow = Narrow {
+            taken,
+            most,
+            room,
+            fails,
+        };
+        let written = match ending {
+            Some(_) => BEGINNING,
+            None => whole.as_bytes(),
+        };
+        let ends = is_narrow(alloc, &report, &mut narrow, written, ending)?;
+        assert!(rt; ends, "with {most} bytes a call and room of {room}");
+    }
+    Ok(())
 }
 
 fn gives_a_row(rows: &mut Rows<'_, &[u8]>) -> bool {
@@ -505,7 +775,7 @@ fn answers_again(alloc: Global, report: &Report, table: &[u8], fault: TableFault
 
 #[test]
 fn the_same_fault_again(rt: HostRuntime) -> Result<(), Fail> {
-    let report = report_of(rt.alloc())?;
+    let report = report_from(rt.alloc(), METADATA)?;
     let fault = TableFault {
         table: 0,
         row: 2,
@@ -520,7 +790,7 @@ fn the_same_fault_again(rt: HostRuntime) -> Result<(), Fail> {
 #[test]
 fn other_numbers_of_readers(rt: HostRuntime) -> Result<(), Fail> {
     let alloc = rt.alloc();
-    let report = report_of(alloc)?;
+    let report = report_from(alloc, METADATA)?;
     for tables in [[].as_slice(), [Some(TABLE.as_bytes()), None].as_slice()] {
         let mut document = Vec::new(alloc);
         let sink = &mut Marked::new(&mut document);

@@ -1,7 +1,11 @@
-//! Reports on one thread whose readers fail, and the report's own address.
+//! Reports on one thread whose readers fail, and runs with a parameters file.
 
-use crate::held::TABLE;
-use crate::tests::{Edits, HEAD, THREE, document_of};
+use crate::folder::Texts;
+use crate::held::{TABLE, TYPES};
+use crate::outcome::line;
+use crate::running::run;
+use crate::settings::job;
+use crate::tests::{Edits, THREE, document_of, edited};
 use crate::tests_cells::report_of;
 use oim_convert::{ConvertFault, convert_serial};
 use oim_json::Marked;
@@ -10,7 +14,9 @@ use oim_rows::{TableFault, TableKind};
 use std::alloc::{AllocError, Global};
 use std::io;
 use std::io::Read;
+use std::sync::Wait;
 use std::test::Fail;
+use std::thread::Threads;
 
 /// A reader that gives these bytes, at most `step` a call, and then fails or is at its end.
 #[derive(Clone, Copy)]
@@ -187,27 +193,132 @@ fn a_fault_before_the_cut(rt: HostRuntime) -> Result<(), Fail> {
     Ok(())
 }
 
-const ADDRESS: &str = r#""baseURL":"http://example.com/a\"b","documentType""#;
+const BY_NAME: (&str, &str) = (r#""concept":"eg:Cash"}}"#, r#""concept":"$c"}},"c":{}"#);
 
-const ADDRESSED: Edits<'static> = &[(r#""documentType""#, ADDRESS)];
+const BY_FILE: (&str, &str) = (r#""tables":"#, r#""parameterURL":"p.csv","tables":"#);
 
-/// The document of a report without facts that has the address.
-fn addressed(alloc: Global) -> Result<String, AllocError> {
-    let mut document = HEAD.replace(alloc, r#""documentType""#, ADDRESS)?;
-    document.push_str("}}\n")?;
-    Ok(document)
+const FROM_FILE: Edits<'static> = &[BY_NAME, BY_FILE];
+
+const FROM_BOTH: Edits<'static> = &[
+    BY_NAME,
+    BY_FILE,
+    (r#""tables":"#, r#""parameters":{"c":"eg:Mass"},"tables":"#),
+];
+
+const BAD_ENTITY: Edits<'static> = &[BY_FILE, (r#""eg:A1""#, r##""#nil""##)];
+
+const BAD_PATH: Edits<'static> = &[
+    (r#""taxonomy":"#, r#""taxonomies":"#),
+    (r#""tables":"#, r#""parameterURL":"/p.csv","tables":"#),
+];
+
+/// A metadata's edits, the path and the text of a parameters file, and what a run in the folder `d/`
+/// says. Where that is nothing it writes the fact of the table.
+type WithFile<'a> = (Edits<'a>, &'a str, &'a str, &'a str);
+
+const PARAMETERS: &str = "name,value\nc,eg:Cash\n";
+
+const WITH_FILES: &[WithFile<'static>] = &[
+    (FROM_FILE, "d/p.csv", PARAMETERS, ""),
+    (
+        FROM_FILE,
+        "p.csv",
+        PARAMETERS,
+        "xbrl-json: cannot read d/p.csv\n",
+    ),
+    (
+        FROM_BOTH,
+        "d/p.csv",
+        PARAMETERS,
+        "xbrl-json: report: BadParameter (13)\n",
+    ),
+    (
+        BAD_ENTITY,
+        "d/p.csv",
+        "c,eg:Cash\n",
+        "xbrl-json: parameters: BadParameter (13)\n",
+    ),
+    (
+        BAD_PATH,
+        "d/p.csv",
+        PARAMETERS,
+        "xbrl-json: report: BadParameter (13)\n",
+    ),
+];
+
+/// The line of a run over these files, behind what it writes.
+fn run_line(
+    rt: &(impl AllocGlobal + Threads + Wait + Sync),
+    files: &[(&str, &[u8])],
+    document: &mut Vec<u8>,
+) -> Result<String, Fail> {
+    let alloc = rt.alloc();
+    let words = ["d/m.json", "--types", "t.csv"];
+    let Ok(settings) = job(alloc, words.as_slice()) else {
+        return Err(Fail::new("the words are refused"));
+    };
+    let sink = &mut Marked::new(document);
+    let outcome = run(rt, alloc, &settings, &mut Texts { files }, sink);
+    Ok(line(alloc, &outcome)?)
 }
 
-fn is_addressed(alloc: Global) -> Result<bool, Fail> {
-    let report = report_of(alloc, ADDRESSED)?;
-    let expected = addressed(alloc)?;
-    let tables = [reader(b"cash\n".as_slice(), false)];
-    ends(alloc, &report, tables.as_slice(), expected.as_str(), None)
+/// Whether a run over these files writes this document and says this.
+fn runs_so(
+    rt: &(impl AllocGlobal + Threads + Wait + Sync),
+    files: &[(&str, &[u8])],
+    document: &str,
+    said: &str,
+) -> Result<bool, Fail> {
+    let mut written = Vec::new(rt.alloc());
+    let line = run_line(rt, files, &mut written)?;
+    Ok(line.as_str() == said && written.as_slice() == document.as_bytes())
+}
+
+/// Whether a run over this metadata and this parameters file writes this document and says this.
+fn runs_with<'a>(
+    rt: &(impl AllocGlobal + Threads + Wait + Sync),
+    metadata: &'a str,
+    path: &'a str,
+    parameters: &'a str,
+    document: &str,
+    said: &str,
+) -> Result<bool, Fail> {
+    let files = [
+        ("d/m.json", metadata.as_bytes()),
+        ("t.csv", TYPES.as_bytes()),
+        (path, parameters.as_bytes()),
+        ("d/t1.csv", b"cash\n5\n".as_slice()),
+    ];
+    runs_so(rt, files.as_slice(), document, said)
+}
+
+/// Whether a run with a parameters file ends as it is to.
+fn ends_with_file(
+    rt: &(impl AllocGlobal + Threads + Wait + Sync),
+    case: &WithFile<'_>,
+) -> Result<bool, Fail> {
+    let (edits, path, parameters, said) = *case;
+    let metadata = edited(rt.alloc(), edits)?;
+    let document = if said.is_empty() {
+        document_of(rt.alloc(), "t1.r_1.cash - Cash EUR 5", "")?
+    } else {
+        String::new(rt.alloc())
+    };
+    runs_with(
+        rt,
+        metadata.as_str(),
+        path,
+        parameters,
+        document.as_str(),
+        said,
+    )
 }
 
 #[test]
-fn the_address_of_a_report(rt: HostRuntime) -> Result<(), Fail> {
-    let addressed = is_addressed(rt.alloc())?;
-    assert!(rt; addressed);
+fn parameters_of_a_file(rt: HostRuntime) -> Result<(), Fail> {
+    for case in WITH_FILES {
+        let ends = ends_with_file(&rt, case)?;
+        assert!(rt; ends, "for {} and {}", case.1, case.3);
+    }
     Ok(())
 }

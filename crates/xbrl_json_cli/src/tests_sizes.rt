@@ -1,0 +1,358 @@
+//! Reports of many rows, tables and columns: the document that is expected, on one thread and on
+//! threads, for several numbers of workers and sizes of the rings.
+
+use crate::tests::document_of;
+use crate::tests_cells::report_of;
+use oim_convert::{ConvertFault, convert, convert_serial};
+use oim_json::Marked;
+use oim_merge::MergeEnd;
+use oim_meta::{Limits, Report};
+use oim_rows::{TableFault, TableKind};
+use std::alloc::{AllocError, Global};
+use std::sync::Wait;
+use std::test::Fail;
+use std::thread::Threads;
+
+/// How many workers there are, and the size of the rings.
+type Way = (usize, usize);
+
+/// The numbers from 1 on, so many, with a blank between two.
+fn numbers(alloc: Global, count: u32) -> Result<String, AllocError> {
+    let mut text = String::from_str(alloc, "1")?;
+    for number in 2..=count {
+        let next = format!(in alloc; " {number}")?;
+        text.push_str(next.as_str())?;
+    }
+    Ok(text)
+}
+
+/// A text for each number, which stands in it for `@`, with this text between two.
+fn of_each(
+    alloc: Global,
+    numbers: &str,
+    pattern: &str,
+    between: &str,
+) -> Result<String, AllocError> {
+    let mut text = String::new(alloc);
+    for number in numbers.split(' ') {
+        if !text.is_empty() {
+            text.push_str(between)?;
+        }
+        text.push_str(pattern.replace(alloc, "@", number)?.as_str())?;
+    }
+    Ok(text)
+}
+
+/// A reader of each table's file.
+fn readers<'a>(alloc: Global, files: &'a [String]) -> Result<Vec<Option<&'a [u8]>>, AllocError> {
+    let mut readers = Vec::new(alloc);
+    for file in files {
+        readers.push(Some(file.as_bytes()))?;
+    }
+    Ok(readers)
+}
+
+/// What a conversion on one thread answers, behind what it writes.
+fn serial(
+    alloc: Global,
+    report: &Report,
+    files: &[String],
+    document: &mut Vec<u8>,
+) -> Result<Option<ConvertFault>, Fail> {
+    let readers = readers(alloc, files)?;
+    let sink = &mut Marked::new(document);
+    Ok(convert_serial(alloc, report, readers, Limits::profile(), sink).err())
+}
+
+/// The fault with which a merge ended.
+fn fault_of(end: MergeEnd) -> Option<ConvertFault> {
+    match end {
+        MergeEnd::Complete => None,
+        MergeEnd::Refused(fault) => Some(ConvertFault::Table(fault)),
+        MergeEnd::Write(fault) => Some(ConvertFault::Write(fault)),
+    }
+}
+
+/// What a conversion on threads answers, behind what it writes.
+fn threaded(
+    rt: &(impl AllocGlobal + Threads + Wait + Sync),
+    report: &Report,
+    files: &[String],
+    way: Way,
+    document: &mut Vec<u8>,
+) -> Result<Option<ConvertFault>, Fail> {
+    let alloc = rt.alloc();
+    let readers = readers(alloc, files)?;
+    let sink = &mut Marked::new(document);
+    let limits = Limits::profile();
+    match convert(rt, alloc, report, readers, way.0, way.1, limits, sink) {
+        Ok(run) => Ok(fault_of(run.end)),
+        Err(fault) => Ok(Some(fault)),
+    }
+}
+
+/// Whether a conversion on one thread writes this document and answers this fault.
+fn is_serial(
+    alloc: Global,
+    report: &Report,
+    files: &[String],
+    expected: &str,
+    fault: Option<ConvertFault>,
+) -> Result<bool, Fail> {
+    let mut document = Vec::new(alloc);
+    let answer = serial(alloc, report, files, &mut document)?;
+    Ok(answer == fault && document.as_slice() == expected.as_bytes())
+}
+
+/// Whether a conversion on threads does.
+fn is_threaded(
+    rt: &(impl AllocGlobal + Threads + Wait + Sync),
+    report: &Report,
+    files: &[String],
+    way: Way,
+    expected: &str,
+    fault: Option<ConvertFault>,
+) -> Result<bool, Fail> {
+    let mut document = Vec::new(rt.alloc());
+    let answer = threaded(rt, report, files, way, &mut document)?;
+    Ok(answer == fault && document.as_slice() == expected.as_bytes())
+}
+
+/// The first of these ways in which a conversion ends otherwise, which is (0, 0) where it does on
+/// one thread.
+fn other_way(
+    rt: &(impl AllocGlobal + Threads + Wait + Sync),
+    report: &Report,
+    files: &[String],
+    ways: &[Way],
+    expected: &str,
+    fault: Option<ConvertFault>,
+) -> Result<Option<Way>, Fail> {
+    if !is_serial(rt.alloc(), report, files, expected, fault)? {
+        return Ok(Some((0, 0)));
+    }
+    for way in ways {
+        if !is_threaded(rt, report, files, *way, expected, fault)? {
+            return Ok(Some(*way));
+        }
+    }
+    Ok(None)
+}
+
+/// The same, for a report of one table with this file.
+fn other_way_of_one(
+    rt: &(impl AllocGlobal + Threads + Wait + Sync),
+    report: &Report,
+    file: String,
+    ways: &[Way],
+    expected: &str,
+    fault: Option<ConvertFault>,
+) -> Result<Option<Way>, Fail> {
+    let files = [file];
+    other_way(rt, report, files.as_slice(), ways, expected, fault)
+}
+
+/// The same, for a table of so many rows, behind which this text stands.
+fn other_way_of_rows(
+    rt: &(impl AllocGlobal + Threads + Wait + Sync),
+    rows: u32,
+    ways: &[Way],
+    rest: &str,
+    fault: Option<ConvertFault>,
+) -> Result<Option<Way>, Fail> {
+    let alloc = rt.alloc();
+    let numbers = numbers(alloc, rows)?;
+    let rows = of_each(alloc, numbers.as_str(), "@\n", "")?;
+    let facts = of_each(alloc, numbers.as_str(), "t1.r_@.cash - Cash EUR @", "; ")?;
+    let ending = if fault.is_some() { "unfinished" } else { "" };
+    let expected = document_of(alloc, facts.as_str(), ending)?;
+    let file = format!(in alloc; "cash\n{}{rest}", rows.as_str())?;
+    let report = report_of(alloc, &[])?;
+    other_way_of_one(rt, &report, file, ways, expected.as_str(), fault)
+}
+
+/// The same, for a table of a thousand rows and rings of this size.
+fn other_way_of_a_thousand(
+    rt: &(impl AllocGlobal + Threads + Wait + Sync),
+    ring: usize,
+) -> Result<Option<Way>, Fail> {
+    let ways = [(1, ring), (2, ring), (8, ring)];
+    other_way_of_rows(rt, 1_000, ways.as_slice(), "", None)
+}
+
+#[test]
+fn a_thousand_rows_over_rings_of_one(rt: HostRuntime) -> Result<(), Fail> {
+    let other = other_way_of_a_thousand(&rt, 1)?;
+    assert_eq!(rt; other, None);
+    Ok(())
+}
+
+#[test]
+fn a_thousand_rows_over_rings_of_two(rt: HostRuntime) -> Result<(), Fail> {
+    let other = other_way_of_a_thousand(&rt, 2)?;
+    assert_eq!(rt; other, None);
+    Ok(())
+}
+
+#[test]
+fn a_thousand_rows_over_rings_of_999(rt: HostRuntime) -> Result<(), Fail> {
+    let other = other_way_of_a_thousand(&rt, 999)?;
+    assert_eq!(rt; other, None);
+    Ok(())
+}
+
+#[test]
+fn a_thousand_rows_over_rings_of_65_536(rt: HostRuntime) -> Result<(), Fail> {
+    let other = other_way_of_a_thousand(&rt, 65_536)?;
+    assert_eq!(rt; other, None);
+    Ok(())
+}
+
+/// Whole blocks have 256 facts.
+#[test]
+fn blocks_of_rows(rt: HostRuntime) -> Result<(), Fail> {
+    for rows in [1, 255, 256, 257, 512, 600] {
+        let other = other_way_of_rows(&rt, rows, &[(2, 1)], "", None)?;
+        assert_eq!(rt; other, None, "of {rows} rows");
+    }
+    Ok(())
+}
+
+/// A bad cell in column 1 of a row.
+fn bad_number(table: usize, row: u32) -> Option<ConvertFault> {
+    Some(ConvertFault::Table(TableFault {
+        table,
+        row,
+        column: 1,
+        kind: TableKind::BadNumber,
+    }))
+}
+
+#[test]
+fn blocks_before_a_bad_cell(rt: HostRuntime) -> Result<(), Fail> {
+    for rows in [3, 255, 256, 257] {
+        let fault = bad_number(0, rows + 1);
+        let other = other_way_of_rows(&rt, rows, &[(2, 1)], "x\n1\n", fault)?;
+        assert_eq!(rt; other, None, "behind {rows} rows");
+    }
+    Ok(())
+}
+
+/// The numbers from 1 to 64 in byte order.
+const ORDER: &str =
+    "1 10 11 12 13 14 15 16 17 18 19 2 20 21 22 23 24 25 26 27 28 29 3 30 31 32 33 34 35 36 37 38 39 4 40 41 42 43 44 45 46 47 48 49 5 50 51 52 53 54 55 56 57 58 59 6 60 61 62 63 64 7 8 9";
+
+/// The place of 40 among them, counted from 0.
+const PLACE: usize = 34;
+
+/// A report of the tables t1 to t64.
+fn report_of_tables(alloc: Global) -> Result<Report, Fail> {
+    let numbers = numbers(alloc, 64)?;
+    let table = r#""t@":{"url":"t@.csv","template":"p"}"#;
+    let tables = of_each(alloc, numbers.as_str(), table, ",")?;
+    edited_report(
+        alloc,
+        r#""t1":{"url":"t1.csv","template":"p"}"#,
+        tables.as_str(),
+    )
+}
+
+/// The held report with one text in place of another.
+fn edited_report<'a>(alloc: Global, from: &'a str, to: &'a str) -> Result<Report, Fail> {
+    let edits = [(from, to)];
+    report_of(alloc, edits.as_slice())
+}
+
+/// The file of each table in table order: one row with its number, and in that of table 40 a second
+/// one with this text.
+fn files_of_tables(alloc: Global, second: &str) -> Result<Vec<String>, Fail> {
+    let mut files = Vec::new(alloc);
+    for number in ORDER.split(' ') {
+        let second = if number == "40" { second } else { "" };
+        files.push(format!(in alloc; "cash\n{number}\n{second}")?)?;
+    }
+    Ok(files)
+}
+
+/// The first other way of the report of 64 tables, with the facts of the tables of these numbers.
+fn other_way_of_tables(
+    rt: &(impl AllocGlobal + Threads + Wait + Sync),
+    second: &str,
+    numbers: &str,
+    fault: Option<ConvertFault>,
+) -> Result<Option<Way>, Fail> {
+    let alloc = rt.alloc();
+    let report = report_of_tables(alloc)?;
+    let files = files_of_tables(alloc, second)?;
+    let facts = of_each(alloc, numbers, "t@.r_1.cash - Cash EUR @", "; ")?;
+    let ending = if fault.is_some() { "unfinished" } else { "" };
+    let expected = document_of(alloc, facts.as_str(), ending)?;
+    let ways = [(8, 1), (1, 1), (8, 1_024), (64, 4)];
+    other_way(
+        rt,
+        &report,
+        files.as_slice(),
+        ways.as_slice(),
+        expected.as_str(),
+        fault,
+    )
+}
+
+#[test]
+fn sixty_four_tables(rt: HostRuntime) -> Result<(), Fail> {
+    let (before, _) = ORDER.split_once(" 41 ").ok_or("no 41")?;
+    for (second, numbers, fault) in [("", ORDER, None), ("x\n", before, bad_number(PLACE, 2))] {
+        let other = other_way_of_tables(&rt, second, numbers, fault)?;
+        assert_eq!(rt; other, None, "where table 40 has {second}");
+    }
+    Ok(())
+}
+
+/// A report of one table with as many columns.
+fn report_of_columns(alloc: Global, numbers: &str) -> Result<Report, Fail> {
+    let column = r#""c@":{"dimensions":{"concept":"eg:Cash"}}"#;
+    let columns = of_each(alloc, numbers, column, ",")?;
+    edited_report(
+        alloc,
+        r#""cash":{"dimensions":{"concept":"eg:Cash"}}"#,
+        columns.as_str(),
+    )
+}
+
+/// The facts of two rows that are the numbers.
+fn facts_of_columns(alloc: Global, numbers: &str) -> Result<String, AllocError> {
+    let first = of_each(alloc, numbers, "t1.r_1.c@ - Cash EUR @", "; ")?;
+    let second = of_each(alloc, numbers, "t1.r_2.c@ - Cash EUR @", "; ")?;
+    format!(in alloc; "{}; {}", first.as_str(), second.as_str())
+}
+
+/// A file of two rows that are the numbers.
+fn file_of_columns(alloc: Global, numbers: &str) -> Result<String, AllocError> {
+    let header = of_each(alloc, numbers, "c@", ",")?;
+    let row = of_each(alloc, numbers, "@", ",")?;
+    format!(in alloc; "{}\n{}\n{}\n", header.as_str(), row.as_str(), row.as_str())
+}
+
+/// The first other way of a table of so many columns.
+fn other_way_of_columns(
+    rt: &(impl AllocGlobal + Threads + Wait + Sync),
+    columns: u32,
+    ways: &[Way],
+) -> Result<Option<Way>, Fail> {
+    let alloc = rt.alloc();
+    let numbers = numbers(alloc, columns)?;
+    let report = report_of_columns(alloc, numbers.as_str())?;
+    let facts = facts_of_columns(alloc, numbers.as_str())?;
+    let expected = document_of(alloc, facts.as_str(), "")?;
+    let file = file_of_columns(alloc, numbers.as_str())?;
+    other_way_of_one(rt, &report, file, ways, expected.as_str(), None)
+}
+
+#[test]
+fn rows_of_more_than_a_block(rt: HostRuntime) -> Result<(), Fail> {
+    for columns in [256, 300] {
+        let other = other_way_of_columns(&rt, columns, &[(2, 1)])?;
+        assert_eq!(rt; other, None, "of {columns} columns");
+    }
+    Ok(())
+}
