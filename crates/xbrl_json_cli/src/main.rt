@@ -43,6 +43,10 @@ mod tests_reports;
 mod tests_rings;
 #[cfg(test)]
 mod tests_runs;
+#[cfg(test)]
+mod tests_starts;
+#[cfg(test)]
+mod tests_threads;
 
 use conversion::convert_to;
 use oim_convert::ConvertFault;
