@@ -45,6 +45,9 @@ mod tests_rings;
 mod tests_runs;
 #[cfg(test)]
 mod tests_sizes;
+mod tests_starts;
+#[cfg(test)]
+mod tests_threads;
 
 use conversion::convert_to;
 use oim_convert::ConvertFault;

@@ -1,0 +1,276 @@
+//! Conversions on threads, of which some are not started or whose writer fails, and the claims by
+//! which threads draw tables.
+
+use crate::tests::{Edits, HEAD, THREE, document_of};
+use crate::tests_cells::report_of;
+use crate::tests_threads::{converts_alone, end_of, file_of, readers_of};
+use oim_convert::{Claims, convert_with_starts};
+use oim_json::{Marked, WriteFault};
+use oim_merge::MergeEnd;
+use oim_meta::{Limits, Report};
+use oim_rows::{TableFault, TableKind};
+use std::alloc::{AllocError, Global};
+use std::io;
+use std::io::{Read, Write};
+use std::sync::Wait;
+use std::sync::atomic::{AtomicUsize, Ordering};
+use std::test::Fail;
+use std::thread::Threads;
+
+const NO_TABLES: Edits<'static> = &[(r#"{"t1":{"url":"t1.csv","template":"p"}}"#, "{}")];
+
+const BAD_NUMBER: TableFault = TableFault {
+    table: 1,
+    row: 2,
+    column: 1,
+    kind: TableKind::BadNumber,
+};
+
+const NO_THREAD: TableFault = TableFault {
+    table: 0,
+    row: 0,
+    column: 0,
+    kind: TableKind::NoThread,
+};
+
+/// The files of a report of three tables, the second of which is refused, and the third too.
+const FILES: &[&[u8]] = &[b"cash\n5\n", b"cash\n1\nx\n", b"nope\n1\n"];
+
+/// How a conversion ends for which so many of three workers are started, behind what it writes.
+fn started_end(
+    rt: &(impl AllocGlobal + Threads + Wait + Sync),
+    report: &Report,
+    readers: Vec<Option<&[u8]>>,
+    starts: usize,
+    document: &mut Vec<u8>,
+) -> Option<MergeEnd> {
+    let sink = &mut Marked::new(document);
+    let limits = Limits::profile();
+    match convert_with_starts(
+        rt,
+        rt.alloc(),
+        report,
+        readers,
+        3,
+        starts,
+        1024,
+        limits,
+        sink,
+    ) {
+        Ok(run) => Some(run.end),
+        Err(_) => None,
+    }
+}
+
+/// Whether a conversion of these files ends so, with this document, where so many workers start.
+fn ends(
+    rt: &(impl AllocGlobal + Threads + Wait + Sync),
+    report: &Report,
+    files: &[&[u8]],
+    starts: usize,
+    expected: &str,
+    end: MergeEnd,
+) -> Result<bool, AllocError> {
+    let readers = readers_of(rt.alloc(), files)?;
+    let mut document = Vec::new(rt.alloc());
+    let ended = started_end(rt, report, readers, starts, &mut document);
+    Ok(ended == Some(end) && document.as_slice() == expected.as_bytes())
+}
+
+/// Whether three tables, the second of which is refused, end so where so many workers start.
+fn is_refused(
+    rt: &(impl AllocGlobal + Threads + Wait + Sync),
+    starts: usize,
+) -> Result<bool, Fail> {
+    let alloc = rt.alloc();
+    let report = report_of(alloc, THREE)?;
+    let facts = "t1.r_1.cash - Cash EUR 5; t2.r_1.cash - Cash EUR 1";
+    let expected = document_of(alloc, facts, "BadNumber")?;
+    let end = MergeEnd::Refused(BAD_NUMBER);
+    Ok(ends(rt, &report, FILES, starts, expected.as_str(), end)?)
+}
+
+#[test]
+fn one_started_worker_is_enough(rt: HostRuntime) -> Result<(), Fail> {
+    for starts in [3, 2, 1] {
+        let refused = is_refused(&rt, starts)?;
+        assert!(rt; refused, "where {starts} are started");
+    }
+    Ok(())
+}
+
+/// Whether a report with these files ends so, with this document, where no worker starts.
+fn ends_unstarted(
+    rt: &(impl AllocGlobal + Threads + Wait + Sync),
+    edits: Edits<'_>,
+    files: &[&[u8]],
+    expected: &str,
+    end: MergeEnd,
+) -> Result<bool, Fail> {
+    let report = report_of(rt.alloc(), edits)?;
+    Ok(ends(rt, &report, files, 0, expected, end)?)
+}
+
+#[test]
+fn no_started_worker_is_no_thread(rt: HostRuntime) -> Result<(), Fail> {
+    let one = [b"cash,note\n100,first\n".as_slice()];
+    for (edits, files) in [(THREE, FILES), ([].as_slice(), one.as_slice())] {
+        let end = MergeEnd::Refused(NO_THREAD);
+        let refused = ends_unstarted(&rt, edits, files, HEAD, end)?;
+        assert!(rt; refused, "of {} tables", files.len());
+    }
+    Ok(())
+}
+
+/// Whether a report without tables is whole where no worker starts.
+fn is_whole_unstarted(rt: &(impl AllocGlobal + Threads + Wait + Sync)) -> Result<bool, Fail> {
+    let expected = document_of(rt.alloc(), "", "")?;
+    ends_unstarted(
+        rt,
+        NO_TABLES,
+        [].as_slice(),
+        expected.as_str(),
+        MergeEnd::Complete,
+    )
+}
+
+#[test]
+fn no_tables_need_no_worker(rt: HostRuntime) -> Result<(), Fail> {
+    let whole = is_whole_unstarted(&rt)?;
+    assert!(rt; whole);
+    Ok(())
+}
+
+#[test]
+fn two_seats_draw_in_turn(rt: HostRuntime) -> Result<(), Fail> {
+    let items = vec![in rt.alloc(); 'a', 'b', 'c']?;
+    let (claims, mut seats) = Claims::new(rt.alloc(), items, 2)?;
+    let mut y = seats.pop().ok_or("a seat")?;
+    let mut x = seats.pop().ok_or("another seat")?;
+    let (a, b, c) = (
+        claims.draw(&mut x),
+        claims.draw(&mut y),
+        claims.draw(&mut x),
+    );
+    let (none, again, last) = (
+        claims.draw(&mut y),
+        claims.draw(&mut x),
+        claims.draw(&mut y),
+    );
+    assert_eq!(rt; (a, b, c), (Some((0, 'a')), Some((1, 'b')), Some((2, 'c'))));
+    assert!(rt; none.is_none() && again.is_none() && last.is_none());
+    claims.close(vec![in rt.alloc(); x, y]?);
+    Ok(())
+}
+
+/// A reader of a table's bytes that counts itself once it is at its end.
+#[derive(Drop)]
+struct Ended<'a> {
+    bytes: &'a [u8],
+    ended: &'a AtomicUsize,
+    is_ended: bool,
+}
+
+impl Read for Ended<'_> {
+    fn read(&mut self, buf: &mut [u8]) -> io::Result<usize> {
+        if self.bytes.is_empty() && !self.is_ended {
+            self.is_ended = true;
+            self.ended.fetch_add(1, Ordering::SeqCst);
+        }
+        self.bytes.read(buf)
+    }
+}
+
+/// A writer that fails once `room` bytes are out.
+#[derive(Drop)]
+struct Short {
+    taken: Vec<u8>,
+    room: usize,
+}
+
+impl Write for Short {
+    fn write(&mut self, bytes: &[u8]) -> io::Result<usize> {
+        if self.taken.len() >= self.room {
+            return Err(io::Error::from(io::ErrorKind::Other));
+        }
+        let count = bytes.len().min(self.room - self.taken.len());
+        self.taken.extend_from_slice(&bytes[..count])?;
+        Ok(count)
+    }
+
+    fn flush(&mut self) -> io::Result<()> {
+        Ok(())
+    }
+}
+
+/// Readers of so many tables of these bytes.
+fn ending_readers<'a>(
+    alloc: Global,
+    tables: usize,
+    bytes: &'a [u8],
+    ended: &'a AtomicUsize,
+) -> Result<Vec<Option<Ended<'a>>>, AllocError> {
+    let mut readers = Vec::new(alloc);
+    for _ in 0..tables {
+        readers.push(Some(Ended {
+            bytes,
+            ended,
+            is_ended: false,
+        }))?;
+    }
+    Ok(readers)
+}
+
+/// Whether a conversion by three workers of three tables of these bytes, over rings of one block,
+/// fails to write once this is written, and comes to the end of each table all the same.
+fn fails_behind(
+    rt: &(impl AllocGlobal + Threads + Wait + Sync),
+    report: &Report,
+    bytes: &[u8],
+    expected: &[u8],
+) -> Result<bool, AllocError> {
+    let ended = AtomicUsize::new(0);
+    let readers = ending_readers(rt.alloc(), 3, bytes, &ended)?;
+    let taken = Vec::new(rt.alloc());
+    let room = expected.len();
+    let mut short = Short { taken, room };
+    let end = end_of(rt, report, readers, 3, 1, &mut short);
+    let is_failed = end == Some(MergeEnd::Write(WriteFault::Failed));
+    let are_ended = ended.load(Ordering::SeqCst) == 3;
+    Ok(is_failed && are_ended && short.taken.as_slice() == expected)
+}
+
+/// Whether it does so where so many quarters of the document can be written.
+fn fails_after(
+    rt: &(impl AllocGlobal + Threads + Wait + Sync),
+    report: &Report,
+    file: &[u8],
+    quarters: usize,
+) -> Result<bool, Fail> {
+    let mut whole = Vec::new(rt.alloc());
+    let files = [file, file, file];
+    let is_whole = converts_alone(rt.alloc(), report, files.as_slice(), &mut whole)?;
+    let room = whole.len().saturating_mul(quarters) / 4;
+    let expected = whole.as_slice().get(..room).ok_or("no such part")?;
+    let fails = fails_behind(rt, report, file, expected)?;
+    Ok(is_whole && fails)
+}
+
+/// Whether it does so for tables of 600 rows each.
+fn is_failed(
+    rt: &(impl AllocGlobal + Threads + Wait + Sync),
+    quarters: usize,
+) -> Result<bool, Fail> {
+    let report = report_of(rt.alloc(), THREE)?;
+    let file = file_of(rt.alloc(), 1000, 1600)?;
+    fails_after(rt, &report, file.as_bytes(), quarters)
+}
+
+#[test]
+fn a_failed_write_keeps_no_table_from_its_end(rt: HostRuntime) -> Result<(), Fail> {
+    for quarters in 0..4 {
+        let failed = is_failed(&rt, quarters)?;
+        assert!(rt; failed, "after {quarters} quarters");
+    }
+    Ok(())
+}
