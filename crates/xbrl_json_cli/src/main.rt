@@ -45,6 +45,7 @@ mod tests_rings;
 mod tests_runs;
 #[cfg(test)]
 mod tests_sizes;
+#[cfg(test)]
 mod tests_starts;
 #[cfg(test)]
 mod tests_threads;
