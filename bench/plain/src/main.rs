@@ -12,8 +12,9 @@
 //! tests the cells: UTF-8, ragged rows, repeated row identifiers, numerals, periods, units and names.
 //! The first fault that it meets ends it with a line and status 1. It leaves out: the standard's
 //! order of faults and their places, most tests of the metadata, all limits, want of memory, letters
-//! beyond ASCII by class (a name may have any), references for decimals, `$rowNumber`, `@start` and
-//! `@end`, parameters of tables and their file, optional tables, `baseURL`.
+//! beyond ASCII by class (a name may have any), the form of row identifiers and languages, references
+//! for decimals, `$rowNumber`, `@start` and `@end`, parameters of tables and their file, optional
+//! tables, `baseURL`.
 
 mod facts;
 mod json;
