@@ -80,7 +80,13 @@ fn command<'a>(alloc: Global) -> Result<Command<'a>, AllocError>
         "4",
         "How many tables are read at once",
     );
-    let ring = number_option(alloc, "ring", 65536, "1024", "How much of a table may wait");
+    let ring = number_option(
+        alloc,
+        "ring",
+        65536,
+        "1024",
+        "How many blocks of facts of a table may wait",
+    );
     let out = option(
         alloc,
         "out",
