@@ -1,9 +1,10 @@
 -- The definitions, executed on small histories.
 use Rattle.std.specs.Prelude.{◌≡◌, ℕ, List, [], ◌∷◌, ◌++◌, Some, None}
-use Rattle.std.proofs.Common.{refl, codes, inl, inr}
+use Rattle.std.proofs.Common.{Err, arith, refl, codes, inl, inr}
 use Rattle.oim_json.specs.Document.{tail_text}
 use Rattle.oim_merge.specs.Histories.{document}
 use Rattle.oim_resolve.specs.declared.fact.Fact.{Fact}
+use Rattle.oim_ring.specs.Ends.{ClosedView}
 use Rattle.oim_ring.specs.declared.item.Ending.TheVariants.{Closed, Refused}
 use Rattle.oim_ring.specs.declared.item.Item.TheVariants.{Block, Ending}
 use Rattle.oim_rows.specs.Header.{fault_at, file_fault}
@@ -13,7 +14,10 @@ use Rattle.oim_rows.specs.declared.fault.TableKind.TheVariants as kind
 use Rattle.oim_convert.specs.Answer.{facts_until, refusal, tail_for, text_after}
 use Rattle.oim_convert.specs.Histories.{AreUnserved, IsDecoded, IsStream}
 use Rattle.oim_convert.specs.Runs.{AreStreams, IsCut, early_fault}
+use Rattle.oim_convert.specs.Jobs.{placed}
+use Rattle.oim_convert.specs.Serial.{IsOfTables}
 use Rattle.oim_convert.specs.declared.fault.ConvertFault.TheVariants as fault
+use Rattle.oim_convert.specs.declared.job.Token.{Token}
 
 -- EARLY FAULTS: workers, the ring's size, readers, tables
 
@@ -125,3 +129,21 @@ unfinished_document = refl
 
 finished_document : document (codes "head") ((Block (first ∷ []) ∷ Ending Closed ∷ []) ∷ (Ending Closed ∷ []) ∷ []) ≡ text_after (codes "head") (first ∷ []) ++ tail_text
 finished_document = refl
+
+-- TABLES AND TOKENS
+
+fault_of_the_second : IsOfTables 2 (Err (fault.Table ragged))
+unfolding ragged
+fault_of_the_second = omega arith
+
+fault_of_no_table : IsOfTables 1 (Err (fault.Table ragged)) → ⊥
+unfolding ragged
+fault_of_no_table below = omega (arith, below)
+
+token : ℕ → ClosedView → Token
+token table closed = record { table = table; closed = Some closed }
+
+-- tokens that come back in any order stand in table order
+tokens_in_table_order : (a b : ClosedView) → placed (token 1 b ∷ token 0 a ∷ []) (None ∷ None ∷ None ∷ []) ≡ Some a ∷ Some b ∷ None ∷ []
+unfolding token
+tokens_in_table_order a b = refl

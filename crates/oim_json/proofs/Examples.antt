@@ -1,9 +1,10 @@
 -- The worked texts of facts and of the head.
-use Rattle.std.proofs.Common.{◌≡◌, [], ◌∷◌, ◌++◌, Some, None, refl, codes, negsuc}
+use Rattle.std.proofs.Common.{◌≡◌, [], ◌∷◌, ◌++◌, Some, None, true, false, refl, codes, negsuc}
+use Rattle.std.specs.List.{list_all}
 use Rattle.std.specs.Fmt.{digits}
 use Rattle.oim_meta.specs.ReportValue.{ReportValue}
 use Rattle.oim_resolve.specs.declared.fact.Fact.{Fact}
-use Rattle.oim_json.specs.JsonText.{escaped_byte, quoted, value_text, dimension_text, decimals_text, member_text, namespace_text, base_url_text, head_text}
+use Rattle.oim_json.specs.JsonText.{escaped_byte, is_unescaped, quoted, value_text, dimension_text, decimals_text, member_text, namespace_text, base_url_text, head_text}
 
 cash : Fact
 cash =
@@ -65,3 +66,16 @@ sample =
 sample_head : head_text sample ≡ codes "{\"documentInfo\":{\"documentType\":\"https://xbrl.org/2021/xbrl-json\",\"namespaces\":{\"eg\":\"http://example.com/eg\",\"iso4217\":\"http://www.xbrl.org/2003/iso4217\",\"xbrli\":\"http://www.xbrl.org/2003/instance\"},\"taxonomy\":[\"http://example.com/eg.xsd\"]},\"facts\":{"
 unfolding sample escaped_byte quoted namespace_text base_url_text head_text
 sample_head = refl
+
+-- bytes that stand for themselves, past ASCII too, and those that do not: a quote, a backslash, a line feed
+stands_for_itself : list_all is_unescaped (codes "a b/9é~") ≡ true
+stands_for_itself = refl
+
+quote_escaped : list_all is_unescaped (codes "a\"b") ≡ false
+quote_escaped = refl
+
+backslash_escaped : list_all is_unescaped (codes "a\\b") ≡ false
+backslash_escaped = refl
+
+line_feed_escaped : list_all is_unescaped (codes "a\nb") ≡ false
+line_feed_escaped = refl
