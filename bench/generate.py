@@ -1,14 +1,19 @@
 #!/usr/bin/env python3
 """Writes a large valid xBRL-CSV report into a folder, the same bytes for the same words.
 
-    generate.py FOLDER [--megabytes 64] [--tables 8] [--row-ids]
+    generate.py FOLDER [--shape positions] [--megabytes 64] [--tables 8] [--row-ids]
 
 FOLDER gets meta.json, types.csv, t01.csv and so on, and sizes.json (bytes of CSV, rows and facts). The tables are of one
-size, together just above the megabytes (of 1,000,000 bytes) asked for. Each row has five fact columns: an amount in the
-row's currency, a price with the unit of a property group, a count, a rate with an exponent and its own decimals, and a
-text with quotes and letters beyond ASCII. Its period is a reference to a cell, its counterparty a typed dimension and its
-region an explicit one. With --row-ids the rows have identifiers of their own, which the converter must keep in memory to
-see that none comes twice.
+size, together just above the megabytes (of 1,000,000 bytes) asked for.
+
+The shape `positions`: each row has five fact columns: an amount in the row's currency, a price with the unit of a property
+group, a count, a rate with an exponent and its own decimals, and a text with quotes and letters beyond ASCII. Its period is
+a reference to a cell, its counterparty a typed dimension and its region an explicit one. With --row-ids the rows have
+identifiers of their own, which the converter must keep in memory to see that none comes twice.
+
+The shape `mixed`: rows have identifiers of their own; each has a description of 10 to 80 characters with quotes and umlauts
+now and then, amounts that are nil or empty now and then, typed and explicit dimensions by reference, three property groups,
+decimals by suffix and by reference. The last table is of another template, with 200 columns.
 """
 import argparse
 import json
@@ -81,6 +86,86 @@ def metadata(tables, row_ids):
     }
 
 
+WORDS = ["premium", "reserve", "claim", "Rückstellung", "policy", "broker", "reinsurer", "für", "quarter", "Prämie", "ledger", "adjusted"]
+GROUPS = ["gross", "net", "ceded"]
+WIDE = 198
+
+MIXED_TYPES = """namespace,name,type
+https://example.org/bench,Amount,decimal
+https://example.org/bench,Share,double
+https://example.org/bench,Count,integer
+https://example.org/bench,Description,text
+https://example.org/bench,Policy,typed
+https://example.org/bench,Line,explicit
+"""
+
+
+def mixed_metadata(tables):
+    group = lambda unit, decimals: {"dimensions": {"unit": unit}, "decimals": decimals}
+    groups = {"gross": group("iso4217:EUR", 2), "net": group("iso4217:DKK", 0), "ceded": group("iso4217:SEK", -3)}
+    lines = {
+        "id": {},
+        "line": {},
+        "policy": {},
+        "places": {},
+        "basis": {"propertyGroups": groups},
+        "amount": {"dimensions": {"concept": "b:Amount"}, "propertiesFrom": ["basis"]},
+        "paid": {"dimensions": {"concept": "b:Amount", "period": "$year@end"}, "decimals": "$places"},
+        "share": {"dimensions": {"concept": "b:Share", "unit": "xbrli:pure"}},
+        "description": {"dimensions": {"concept": "b:Description"}},
+        "note": {"comment": True},
+    }
+    wide = {f"c{i:03}": {"dimensions": {"concept": "b:Count", "unit": "xbrli:pure"}} for i in range(WIDE)}
+    report = metadata(tables, False)
+    report["parameters"] = {"year": "2025", "language": "de"}
+    report["dimensions"] = {"entity": "e:BANK-1", "period": "$year", "language": "$language"}
+    report["tableTemplates"] = {
+        "lines": {"rowIdColumn": "id", "dimensions": {"b:Line": "$line", "b:Policy": "$policy"}, "columns": lines},
+        "wide": {"rowIdColumn": "id", "dimensions": {"b:Line": "$line"}, "columns": {"id": {}, "line": {}, **wide}},
+    }
+    last = len(tables) - 1
+    report["tables"] = {t: {"url": f"{t}.csv", "template": "wide" if i == last and last > 0 else "lines"} for i, t in enumerate(tables)}
+    return report
+
+
+def description(numbers):
+    text = WORDS[numbers.below(len(WORDS))]
+    length = 10 + numbers.below(71)
+    while len(text) < length:
+        text += (" " if numbers.below(40) else ' "see" ') + WORDS[numbers.below(len(WORDS))]
+    return text[:length].rstrip() or "none"
+
+
+def now_and_then(numbers, text):
+    """The text, and now and then nil or nothing."""
+    chance = numbers.below(20)
+    return "#nil" if chance == 0 else "" if chance == 1 else text
+
+
+def lines_row(numbers, n):
+    amount = numbers.below(10**9)
+    cells = [
+        f"{n:x}-{numbers.below(10**6)}",
+        "b:" + REGIONS[numbers.below(len(REGIONS))],
+        f"POL-{numbers.below(200000):06}",
+        str(numbers.below(4)),
+        GROUPS[numbers.below(len(GROUPS))],
+        now_and_then(numbers, f"{amount // 100}.{amount % 100:02}"),
+        now_and_then(numbers, f"{'-' if amount % 3 == 0 else ''}{amount // 7}"),
+        now_and_then(numbers, f"0.{numbers.below(10**6):06}d4"),
+        description(numbers),
+        "checked",
+    ]
+    facts = sum(1 for c in cells[5:9] if c != "")
+    return ",".join(map(cell, cells)) + "\n", facts
+
+
+def wide_row(numbers, n):
+    counts = [now_and_then(numbers, str(numbers.below(10**5))) for _ in range(WIDE)]
+    cells = [f"{n:x}-{numbers.below(10**6)}", "b:" + REGIONS[numbers.below(len(REGIONS))], *counts]
+    return ",".join(cells) + "\n", sum(1 for c in counts if c != "")
+
+
 def cell(text):
     return '"' + text.replace('"', '""') + '"' if any(c in text for c in '",\n') else text
 
@@ -107,23 +192,34 @@ def row(numbers, n, row_ids):
     return ",".join(map(cell, cells)) + "\n", 4 if remark == "" else 5
 
 
-def write_table(path, numbers, size, row_ids):
-    header = "period,currency,party,region,market,amount,price,count,rate,remark\n"
-    header = "id," + header if row_ids else header
+def write_table(path, numbers, size, header, row_of):
     written, rows, facts = len(header), 0, 0
     with open(path, "wb") as file:
         file.write(header.encode())
         while written < size:
-            line, more = row(numbers, rows + 1, row_ids)
+            line, more = row_of(numbers, rows + 1)
             line = line.encode()
             file.write(line)
             written, rows, facts = written + len(line), rows + 1, facts + more
     return {"bytes": written, "rows": rows, "facts": facts}
 
 
+def forms(options, tables):
+    """The metadata, the types table, and for each table its header and its rows."""
+    if options.shape == "mixed":
+        report = mixed_metadata(tables)
+        rows = {"lines": lines_row, "wide": wide_row}
+        kinds = [report["tables"][t]["template"] for t in tables]
+        headers = [",".join(report["tableTemplates"][kind]["columns"]) + "\n" for kind in kinds]
+        return report, MIXED_TYPES, list(zip(headers, (rows[kind] for kind in kinds)))
+    header = ("id," if options.row_ids else "") + "period,currency,party,region,market,amount,price,count,rate,remark\n"
+    return metadata(tables, options.row_ids), TYPES, [(header, lambda numbers, n: row(numbers, n, options.row_ids))] * len(tables)
+
+
 def main():
     parser = argparse.ArgumentParser(description=__doc__, formatter_class=argparse.RawDescriptionHelpFormatter)
     parser.add_argument("folder", type=Path)
+    parser.add_argument("--shape", choices=["positions", "mixed"], default="positions")
     parser.add_argument("--megabytes", type=float, default=64.0)
     parser.add_argument("--tables", type=int, default=8)
     parser.add_argument("--row-ids", action="store_true")
@@ -132,11 +228,12 @@ def main():
         parser.error("--tables is 1 at least")
     options.folder.mkdir(parents=True, exist_ok=True)
     tables = [f"t{i:02}" for i in range(1, options.tables + 1)]
-    (options.folder / "meta.json").write_bytes((json.dumps(metadata(tables, options.row_ids), indent=1) + "\n").encode())
-    (options.folder / "types.csv").write_bytes(TYPES.encode())
+    report, types, parts = forms(options, tables)
+    (options.folder / "meta.json").write_bytes((json.dumps(report, indent=1) + "\n").encode())
+    (options.folder / "types.csv").write_bytes(types.encode())
     sizes = {"bytes": 0, "rows": 0, "facts": 0}
-    for place, table in enumerate(tables):
-        part = write_table(options.folder / f"{table}.csv", Numbers(place), options.megabytes * 1e6 / options.tables, options.row_ids)
+    for place, (table, (header, row_of)) in enumerate(zip(tables, parts)):
+        part = write_table(options.folder / f"{table}.csv", Numbers(place), options.megabytes * 1e6 / options.tables, header, row_of)
         sizes = {name: sizes[name] + part[name] for name in sizes}
     (options.folder / "sizes.json").write_bytes((json.dumps({"tables": options.tables, **sizes}) + "\n").encode())
     print(f"{options.tables} tables, {sizes['bytes']} bytes of CSV, {sizes['rows']} rows, {sizes['facts']} facts")

@@ -1,0 +1,47 @@
+#!/usr/bin/env python3
+"""Compares docs/FAULTS.md with the sources: each fault that a crate numbers and names is in the table, and the other way round.
+
+    tests/fault_table.py
+
+Reads each line `Type::Variant => 40,` and `Type::Variant => "BadNumber",` of crates/*/src, and each row `| 40 BadNumber |` of
+the table, which must stand in the order of the numbers within its section.
+"""
+import re
+import sys
+from pathlib import Path
+
+TOP = Path(__file__).resolve().parent.parent
+ARM = re.compile(r'^\s*(\w+::\w+)(?:\([^)]*\)| \{[^}]*\})? => (?:(\d+)|"(\w+)"),$', re.M)
+ROW = re.compile(r"^\| (\d+) (\w+) \|", re.M)
+
+
+def named_in_sources():
+    numbers, names = {}, {}
+    for file in sorted(TOP.glob("crates/*/src/**/*.rt")):
+        for variant, number, name in ARM.findall(file.read_text()):
+            crate = file.relative_to(TOP).parts[1]
+            (numbers if number else names)[crate, variant] = int(number) if number else name
+    return {(numbers[it], names[it]) for it in numbers if it in names}
+
+
+def main():
+    sections = (TOP / "docs/FAULTS.md").read_text().split("\n## ")
+    wrong = []
+    rows = []
+    for section in sections:
+        here = [(int(number), name) for number, name in ROW.findall(section)]
+        if here != sorted(here):
+            wrong.append(f"not in the order of the numbers: {here}")
+        rows += here
+    sources = named_in_sources()
+    wrong += [f"not in docs/FAULTS.md: {it}" for it in sorted(sources - set(rows))]
+    wrong += [f"not in the sources: {it}" for it in sorted(set(rows) - sources)]
+    wrong += [f"twice: {it}" for it in sorted({it for it in rows if rows.count(it) > 1})]
+    for it in wrong:
+        print(it)
+    print(f"docs/FAULTS.md: {len(rows)} faults, {len(sources)} in the sources, {len(wrong)} differences")
+    sys.exit(1 if wrong or not sources else 0)
+
+
+if __name__ == "__main__":
+    main()

@@ -1,0 +1,223 @@
+#!/usr/bin/env python3
+"""The built program over the real system: what no contract says, since it lies beyond the program's own bytes.
+
+    tests/system.py PROGRAM
+
+Runs the examples and compares documents, lines and statuses, and then the edge: options, files that are missing, refused,
+folders or pipes, outputs that are full, closed, replaced or misnamed, few descriptors. Each case has a line where it fails.
+The last line counts. Python 3.9 or later and Linux are needed.
+"""
+import json
+import os
+import resource
+import stat
+import subprocess
+import sys
+import tempfile
+import threading
+from pathlib import Path
+
+TOP = Path(__file__).resolve().parent.parent
+EXAMPLES = TOP / "examples"
+NOBODY = 65534
+
+failed = []
+count = 0
+
+
+def case(name, holds, *seen):
+    global count
+    count += 1
+    if not holds:
+        failed.append(name)
+        print(f"FAILED {name}: {' | '.join(map(str, seen))}"[:1000])
+
+
+def run(words, folder, **more):
+    """Status, standard output and standard error of a run in a folder."""
+    done = subprocess.run([PROGRAM, *words], cwd=folder, stdin=subprocess.DEVNULL, timeout=100, **{"capture_output": True, **more})
+    return done.returncode, done.stdout, (done.stderr or b"").decode(errors="replace")
+
+
+def text_of(path, default=""):
+    return path.read_text() if path.is_file() else default
+
+
+def examples():
+    """Each example's document, lines and status, with several numbers of workers and ring sizes."""
+    for folder in sorted(it for it in EXAMPLES.iterdir() if (it / "words").is_file()):
+        words = (folder / "words").read_text().split()
+        document = (folder / "expected.json").read_bytes()
+        lines = text_of(folder / "expected.err")
+        for workers, ring in [(1, 1), (2, 4), (4, 1024), (64, 65536)]:
+            seen = run([*words, "--workers", str(workers), "--ring", str(ring)], folder)
+            case(f"example {folder.name}, {workers} workers, ring {ring}", seen == (1 if lines else 0, document, lines), seen[0], seen[2])
+    seen = run([], EXAMPLES / "held")
+    case("no words: the held report", seen == (0, (EXAMPLES / "held/expected.json").read_bytes(), ""), seen)
+
+
+def report(folder, tables, template=None):
+    """A report of tables, each given by its identifier and its members, over one template."""
+    columns = template or {"cash": {"dimensions": {"concept": "eg:Cash"}}}
+    (folder / "meta.json").write_text(
+        json.dumps(
+            {
+                "documentInfo": {
+                    "documentType": "https://xbrl.org/2021/xbrl-csv",
+                    "namespaces": {"eg": "http://example.com/eg", "iso4217": "http://www.xbrl.org/2003/iso4217"},
+                    "taxonomy": ["http://example.com/eg.xsd"],
+                },
+                "dimensions": {"entity": "eg:A1", "period": "2021", "unit": "iso4217:EUR"},
+                "tableTemplates": {"p": {"columns": columns}},
+                "tables": {name: {"url": f"{name}.csv", "template": "p", **members} for name, members in tables.items()},
+            }
+        )
+    )
+    (folder / "types.csv").write_text("namespace,name,type\nhttp://example.com/eg,Cash,integer\n")
+
+
+WORDS = ["meta.json", "--types", "types.csv"]
+TABLE_FAULT = "xbrl-json: table {}, row {}, column {}: {} ({})\n"
+
+
+def facts(document):
+    return json.loads(document)["facts"]
+
+
+def words_of_the_command_line(folder):
+    report(folder, {"t1": {}})
+    (folder / "t1.csv").write_text("cash\n1\n")
+    status, out, err = run(["--help"], folder)
+    case("--help", status == 0 and b"--types" in out and b"--out" in out and err == "", status, out, err)
+    status, out, err = run(["--version"], folder)
+    case("--version", status == 0 and out.startswith(b"xbrl-json ") and err == "", status, out, err)
+    wrong = [["meta.json"], ["--types", "types.csv"], [*WORDS, "--workers", "0"], [*WORDS, "--workers", "65"], [*WORDS, "--ring", "0"], [*WORDS, "--ring", "65537"]]
+    wrong += [[*WORDS, "--workers", "two"], [*WORDS, "--colour"], [*WORDS, "more"], [*WORDS, "--types", "types.csv"]]
+    for words in wrong:
+        status, out, err = run(words, folder)
+        case(f"wrong words {words}", status == 2 and out == b"" and err.startswith("error: "), status, out, err)
+    status, out, err = run([b"meta\xff.json", "--types", "types.csv"], folder)
+    case("an argument that is not UTF-8", status == 2 and out == b"", status, out, err)
+    status, out, err = run([*WORDS, "--workers", "1"], folder)
+    case("a whole run", status == 0 and len(facts(out)) == 1 and err == "", status, out, err)
+
+
+def files_that_are_not_read(folder):
+    report(folder, {"t1": {}})
+    meta, types, table = folder / "meta.json", folder / "types.csv", folder / "t1.csv"
+    head = run([*WORDS], folder)
+    case("a table's file that is missing", head[0] == 1 and head[2] == TABLE_FAULT.format("t1", 0, 0, "NoFile", 20), head)
+    table.mkdir()
+    case("a folder in a table's place", run(WORDS, folder) == (1, head[1], TABLE_FAULT.format("t1", 0, 0, "Read", 21)), run(WORDS, folder))
+    table.rmdir()
+    table.write_text("cash\n1\n")
+    for words, said in [
+        (["nothing.json", "--types", "types.csv"], "xbrl-json: cannot read nothing.json\n"),
+        (["meta.json", "--types", "nothing.csv"], "xbrl-json: cannot read nothing.csv\n"),
+    ]:
+        case(f"{said}", run(words, folder) == (3, b"", said), run(words, folder))
+    seen = run([".", "--types", "types.csv"], folder)
+    case("a folder in the metadata's place", seen == (1, b"", "xbrl-json: report: Read (17)\n"), seen)
+    seen = run(["meta.json", "--types", "."], folder)
+    case("a folder in the types table's place", seen == (1, b"", "xbrl-json: types: Read (17)\n"), seen)
+    named = json.loads(meta.read_text())
+    named["parameterURL"] = "parameters.csv"
+    meta.write_text(json.dumps(named))
+    seen = run(WORDS, folder)
+    case("a parameters file that is missing", seen == (3, b"", "xbrl-json: cannot read parameters.csv\n"), seen)
+    (folder / "parameters.csv").mkdir()
+    seen = run(WORDS, folder)
+    case("a folder in the parameters file's place", seen == (1, b"", "xbrl-json: parameters: Read (17)\n"), seen)
+    (folder / "parameters.csv").rmdir()
+    (folder / "parameters.csv").write_text("name,value\na,1\n")
+    case("a parameters file", run(WORDS, folder)[0] == 0)
+    named["tables"]["t1"]["url"] = "types.csv/t1.csv"
+    named["tables"]["t1"]["optional"] = True
+    meta.write_text(json.dumps(named))
+    status, out, err = run(WORDS, folder)
+    case("a path through a file is missing", status == 0 and facts(out) == {} and err == "", status, out, err)
+    types.unlink()
+    case("a missing types table", run(WORDS, folder) == (3, b"", "xbrl-json: cannot read types.csv\n"))
+
+
+def a_table_that_may_not_be_read(folder):
+    report(folder, {"t1": {"optional": True}})
+    (folder / "t1.csv").write_text("cash\n1\n")
+    (folder / "t1.csv").chmod(0)
+    os.chmod(folder, 0o755)
+    as_nobody = {"user": NOBODY, "group": NOBODY} if os.getuid() == 0 else {}
+    status, out, err = run(WORDS, folder, **as_nobody)
+    case("an optional table without permission", (status, err) == (1, TABLE_FAULT.format("t1", 0, 0, "Read", 21)), status, err)
+
+
+def few_descriptors(folder):
+    tables = {f"t{i:04}": {"optional": True} for i in range(4096)}
+    report(folder, tables)
+    for name in tables:
+        (folder / f"{name}.csv").write_text("cash\n1\n")
+
+    def limited():
+        resource.setrlimit(resource.RLIMIT_NOFILE, (32, 32))
+
+    status, out, err = run([*WORDS, "--workers", "8"], folder, preexec_fn=limited)
+    case("4,096 tables with 32 descriptors and 8 workers", status == 0 and len(facts(out)) == 4096, status, len(out), err)
+
+
+def a_named_pipe(folder):
+    report(folder, {"t1": {}})
+    os.mkfifo(folder / "t1.csv")
+    writer = threading.Thread(target=lambda: (folder / "t1.csv").write_text("cash\n1\n2\n"), daemon=True)
+    writer.start()
+    status, out, err = run(WORDS, folder)
+    case("a named pipe as a table", status == 0 and len(facts(out)) == 2, status, err)
+
+
+def outputs(folder):
+    report(folder, {"t1": {}, "t2": {}})
+    (folder / "t1.csv").write_text("cash\n1\n")
+    (folder / "t2.csv").write_text("cash\n2\n")
+    document = run(WORDS, folder)[1]
+    out = folder / "out.json"
+    out.write_bytes(b"x" * 100_000)
+    seen = run([*WORDS, "--out", "out.json"], folder)
+    case("--out replaces a longer file", seen == (0, b"", "") and out.read_bytes() == document, seen, out.stat().st_size)
+    seen = run([*WORDS, "--out", "no/out.json"], folder)
+    case("--out in a folder that is missing", seen == (3, b"", "xbrl-json: cannot write no/out.json\n"), seen)
+    for path in ["meta.json", "types.csv"]:
+        before = (folder / path).read_bytes()
+        seen = run([*WORDS, "--out", path], folder)
+        case(f"--out that is {path}", seen == (3, b"", f"xbrl-json: cannot write {path}\n") and (folder / path).read_bytes() == before, seen)
+    failed_write = (3, b"", "xbrl-json: output: Write (56)\n")
+    case("a full disk by --out", run([*WORDS, "--out", "/dev/full"], folder) == failed_write, run([*WORDS, "--out", "/dev/full"], folder))
+    with open("/dev/full", "wb") as full:
+        status, _, err = run(WORDS, folder, capture_output=False, stdout=full, stderr=subprocess.PIPE)
+    case("a full disk on standard output", (status, err) == (3, failed_write[2]), status, err)
+    with open("/dev/full", "wb") as full:
+        status, _, err = run([], folder, capture_output=False, stdout=full, stderr=subprocess.PIPE)
+    case("the held report on a full disk", (status, err) == (3, failed_write[2]), status, err)
+    read, write = os.pipe()
+    os.close(read)
+    with os.fdopen(write, "wb") as closed:
+        status, _, err = run(WORDS, folder, capture_output=False, stdout=closed, stderr=subprocess.PIPE)
+    case("a closed pipe", (status, err) == (3, failed_write[2]), status, err)
+    (folder / "t2.csv").write_text("cash\nx\n")
+    seen = run([*WORDS, "--out", "/dev/full"], folder)
+    case("a refused table on a full disk", seen == failed_write, seen)
+    status, seen, err = run(WORDS, folder)
+    case("a refused table", (status, err) == (1, TABLE_FAULT.format("t2", 1, 1, "BadNumber", 40)) and document.startswith(seen) and b"t1.r_1" in seen, status, seen, err)
+
+
+def main():
+    examples()
+    for part in (words_of_the_command_line, files_that_are_not_read, a_table_that_may_not_be_read, few_descriptors, a_named_pipe, outputs):
+        with tempfile.TemporaryDirectory() as folder:
+            part(Path(folder))
+    print(f"over the real system: {count - len(failed)} as they must be, {len(failed)} not")
+    sys.exit(1 if failed else 0)
+
+
+if __name__ == "__main__":
+    if len(sys.argv) != 2:
+        sys.exit(__doc__)
+    PROGRAM = os.path.abspath(sys.argv[1])
+    main()
