@@ -24,7 +24,7 @@ begin_a_name = refl
 begin_no_name :
     list_any is_name_start
     (0x40 ∷ 0x5B ∷ 0x5E ∷ 0x60 ∷ 0x7B ∷ 0xBF ∷ 0xD7 ∷ 0xF7 ∷ 0x300 ∷ 0x36F ∷ 0x37E ∷ 0x2000 ∷ 0x200B ∷ 0x200E ∷ 0x206F ∷ 0x2190 ∷ 0x2BFF ∷ 0x2FF0 ∷ 0x3000
-    ∷ 0xD800 ∷ 0xF8FF ∷ 0xFDD0 ∷ 0xFDEF ∷ 0xFFFE ∷ 0xF0000 ∷ 0x2D ∷ 0x2E ∷ 0x30 ∷ 0x39 ∷ 0xB7 ∷ 0x203F ∷ 0x2040 ∷ [])
+    ∷ 0xD800 ∷ 0xF8FF ∷ 0xFDD0 ∷ 0xFDEF ∷ 0xFFFE ∷ 0xFFFF ∷ 0xF0000 ∷ 0x2D ∷ 0x2E ∷ 0x30 ∷ 0x39 ∷ 0xB7 ∷ 0x203F ∷ 0x2040 ∷ [])
     ≡ false
 unfolding is_name_start
 begin_no_name = refl
@@ -131,7 +131,7 @@ written_units = refl
 
 no_units :
     map (unit_of prefixes)
-    (codes "eg:a/eg:b/eg:c" ∷ codes "eg:a*" ∷ codes "((eg:a))" ∷ [] ∷ codes "(" ∷ codes "()" ∷ codes "eg:a/" ∷ codes "/eg:a" ∷ codes "(eg:a" ∷ codes "eg:a)" ∷ codes "eg:a eg:b" ∷ codes "zz:a" ∷ [])
+    (codes "eg:a/eg:b/eg:c" ∷ codes "eg:a*" ∷ codes "((eg:a))" ∷ [] ∷ codes "(" ∷ codes "()" ∷ codes "eg:a/" ∷ codes "/eg:a" ∷ codes "(eg:ab" ∷ codes "xeg:a)" ∷ codes "eg:a eg:b" ∷ codes "zz:a" ∷ [])
     ≡ None ∷ None ∷ None ∷ None ∷ None ∷ None ∷ None ∷ None ∷ None ∷ None ∷ None ∷ None ∷ []
 unfolding prefixes bound unit_of qname_of is_ncname is_name_char is_name_start chars is_utf8 encode
 no_units = refl
