@@ -1,7 +1,7 @@
-use Rattle.std.proofs.Common.{◌≡◌, List, Option, Some, [], true, false, inl, inr, option_map}
+use Rattle.std.proofs.Common.{true, false, inl, inr, option_map}
 use Rattle.csv.specs.Reading.{reader_state, source_of}
 use Rattle.csv.specs.Records.{fields_of}
-use Rattle.oim_meta.specs.Grid.{Record, records_left}
+use Rattle.oim_meta.specs.Grid.{records_left}
 use Rattle.oim_meta.proofs.GridFacts.{takes_end, takes_found, takes_none, takes_record}
 use Rattle.oim_meta.proofs.records.Records.read.Goals as goal
 
