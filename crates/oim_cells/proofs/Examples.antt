@@ -1,100 +1,90 @@
--- The definitions at special values, numerals and decimals that show each case.
-use Rattle.std.proofs.Common.{◌≡◌, refl, codes, [], Some, None, pos, negsuc}
+-- The definitions on special values, numerals and decimals that show each rule. The answers come from xBRL-CSV 1.0, from the lexical forms of
+-- XML Schema Part 2 and from the Open Information Model 1.0.
+use Rattle.std.proofs.Common.{◌≡◌, ℕ, List, [], ◌∷◌, Bool, true, false, refl, codes, Some, None, is_some, pos, negsuc, map}
+use Rattle.std.specs.List.{list_all, list_any}
 use Rattle.oim_cells.specs.declared.cells.Accuracy.TheVariants.{Infinite, Places}
+use Rattle.oim_cells.specs.declared.cells.NumberKind.{NumberKind}
 use Rattle.oim_cells.specs.declared.cells.NumberKind.TheVariants.{Integer, Decimal, Double}
+use Rattle.oim_cells.specs.Blanks.{is_blank, trimmed}
 use Rattle.oim_cells.specs.Cells.{Absent, Nil, Empty, Text, Unknown, meaning_of, accuracy_of, numeral_of}
 
--- special values
-row_empty : meaning_of (codes "#empty") ≡ Empty
+-- SPECIAL VALUES
+special : map meaning_of ([] ∷ codes "#none" ∷ codes "#nil" ∷ codes "#empty" ∷ []) ≡ Absent ∷ Absent ∷ Nil ∷ Empty ∷ []
 unfolding meaning_of
-row_empty = refl
+special = refl
 
-row_nil : meaning_of (codes "#nil") ≡ Nil
+doubled : map meaning_of (codes "##" ∷ codes "##x" ∷ codes "###" ∷ codes "##nil" ∷ []) ≡ Text (codes "#") ∷ Text (codes "#x") ∷ Text (codes "##") ∷ Text (codes "#nil") ∷ []
 unfolding meaning_of
-row_nil = refl
+doubled = refl
 
-row_none : meaning_of (codes "#none") ≡ Absent
+unknown : map meaning_of (codes "#" ∷ codes "#foo" ∷ codes "#NONE" ∷ codes "#nil " ∷ codes "#emptyx" ∷ []) ≡ Unknown ∷ Unknown ∷ Unknown ∷ Unknown ∷ Unknown ∷ []
 unfolding meaning_of
-row_none = refl
+unknown = refl
 
-row_nothing : meaning_of [] ≡ Absent
+plain : map meaning_of (codes "a#" ∷ codes " " ∷ codes "none" ∷ codes " #nil" ∷ []) ≡ Text (codes "a#") ∷ Text (codes " ") ∷ Text (codes "none") ∷ Text (codes " #nil") ∷ []
 unfolding meaning_of
-row_nothing = refl
+plain = refl
 
-row_doubled : meaning_of (codes "##x") ≡ Text (codes "#x")
-unfolding meaning_of
-row_doubled = refl
+-- BLANKS: tab, LF, CR and space; neither vertical tab nor form feed, nor what stands beside them
+blanks : (list_all is_blank (9 ∷ 10 ∷ 13 ∷ 32 ∷ []) ≡ true) × (list_any is_blank (0 ∷ 8 ∷ 11 ∷ 12 ∷ 14 ∷ 31 ∷ 33 ∷ 160 ∷ []) ≡ false)
+blanks = (refl, refl)
 
-row_marks : meaning_of (codes "##") ≡ Text (codes "#")
-unfolding meaning_of
-row_marks = refl
+trims : map trimmed ((9 ∷ 10 ∷ 49 ∷ 13 ∷ 32 ∷ []) ∷ (32 ∷ 49 ∷ 32 ∷ 50 ∷ []) ∷ (32 ∷ 9 ∷ []) ∷ []) ≡ codes "1" ∷ codes "1 2" ∷ [] ∷ []
+trims = refl
 
-row_other : meaning_of (codes "#foo") ≡ Unknown
-unfolding meaning_of
-row_other = refl
+-- NUMERALS of each kind without a suffix
+bare : NumberKind → List ℕ → Bool
+unfolding numeral_of
+bare kind text = is_some (numeral_of kind text)
 
-row_mark : meaning_of (codes "#") ≡ Unknown
-unfolding meaning_of
-row_mark = refl
+integers : list_all (bare Integer) (codes "0" ∷ codes "9" ∷ codes "+7" ∷ codes "-7" ∷ codes "007" ∷ codes " 7 " ∷ []) ≡ true
+unfolding bare numeral_of accuracy_of
+integers = refl
 
-row_plain : meaning_of (codes "a#") ≡ Text (codes "a#")
-unfolding meaning_of
-row_plain = refl
+no_integers : list_any (bare Integer) ([] ∷ codes " " ∷ codes "+" ∷ codes "--7" ∷ codes "7-" ∷ codes "1.0" ∷ codes "1." ∷ codes "1e2" ∷ codes "1 2" ∷ codes "/" ∷ codes ":" ∷ codes "1,0" ∷ []) ≡ false
+unfolding bare numeral_of accuracy_of
+no_integers = refl
 
--- numerals with what they say of their exactness
-row_places : numeral_of Decimal (codes "1250.5d-2") ≡ Some (codes "1250.5", Some (Places (negsuc 1)))
+decimal_numerals : list_all (bare Decimal) (codes "7" ∷ codes "-1.50" ∷ codes "+1." ∷ codes ".5" ∷ codes "-0" ∷ []) ≡ true
+unfolding bare numeral_of accuracy_of
+decimal_numerals = refl
+
+no_decimal_numerals : list_any (bare Decimal) ([] ∷ codes "." ∷ codes "-" ∷ codes "+." ∷ codes "1.5.2" ∷ codes "1..2" ∷ codes "1e2" ∷ codes "1E2" ∷ codes "1,5" ∷ codes "INF" ∷ []) ≡ false
+unfolding bare numeral_of accuracy_of
+no_decimal_numerals = refl
+
+doubles : list_all (bare Double) (codes "7" ∷ codes ".5" ∷ codes "1e2" ∷ codes "1E2" ∷ codes "-1.5e-2" ∷ codes "1.E+2" ∷ []) ≡ true
+unfolding bare numeral_of accuracy_of
+doubles = refl
+
+no_doubles : list_any (bare Double) ([] ∷ codes "." ∷ codes "e2" ∷ codes "1e" ∷ codes "1e2e3" ∷ codes "1e2E3" ∷ codes "1E2E3" ∷ codes "1e2.5" ∷ codes "1E2.5" ∷ codes "1e+" ∷ codes "INF" ∷ codes "NaN" ∷ []) ≡ false
+unfolding bare numeral_of accuracy_of
+no_doubles = refl
+
+-- NUMERALS with what they say of their accuracy
+suffixed :
+    map (numeral_of Decimal) (codes "1250.5d-2" ∷ codes "1dINF" ∷ codes "-0d+1" ∷ codes " 7 " ∷ codes " 7d0\t" ∷ [])
+    ≡ Some (codes "1250.5", Some (Places (negsuc 1))) ∷ Some (codes "1", Some Infinite) ∷ Some (codes "-0", Some (Places (pos 1))) ∷ Some (codes "7", None) ∷ Some (codes "7", Some (Places (pos 0))) ∷ []
 unfolding numeral_of accuracy_of
-row_places = refl
+suffixed = refl
 
-row_exact : numeral_of Decimal (codes "1dINF") ≡ Some (codes "1", Some Infinite)
+other_suffixed : (numeral_of Integer (codes "12d3") ≡ Some (codes "12", Some (Places (pos 3)))) × (numeral_of Double (codes "1e2d3") ≡ Some (codes "1e2", Some (Places (pos 3))))
 unfolding numeral_of accuracy_of
-row_exact = refl
+other_suffixed = (refl, refl)
 
-row_signs : numeral_of Decimal (codes "-0d+1") ≡ Some (codes "-0", Some (Places (pos 1)))
-unfolding numeral_of accuracy_of
-row_signs = refl
+badly_suffixed : list_any (bare Decimal) (codes "d3" ∷ codes "1d" ∷ codes "1d2d3" ∷ codes "1D2" ∷ codes "1 d2" ∷ codes "1d 2" ∷ codes "1dinf" ∷ codes "1d2.0" ∷ codes "1d2147483648" ∷ codes "1e2d3" ∷ []) ≡ false
+unfolding bare numeral_of accuracy_of
+badly_suffixed = refl
 
-row_blanks : numeral_of Decimal (codes " 7 ") ≡ Some (codes "7", None)
-unfolding numeral_of accuracy_of
-row_blanks = refl
-
-row_no_numeral : numeral_of Decimal (codes "d3") ≡ None
-unfolding numeral_of accuracy_of
-row_no_numeral = refl
-
-row_two_marks : numeral_of Decimal (codes "1d2d3") ≡ None
-unfolding numeral_of accuracy_of
-row_two_marks = refl
-
-row_no_decimal : numeral_of Decimal (codes "1e2") ≡ None
-unfolding numeral_of accuracy_of
-row_no_decimal = refl
-
-row_blank : numeral_of Decimal (codes " ") ≡ None
-unfolding numeral_of accuracy_of
-row_blank = refl
-
-row_no_text : numeral_of Decimal [] ≡ None
-unfolding numeral_of accuracy_of
-row_no_text = refl
-
-row_double : numeral_of Double (codes "1e2d3") ≡ Some (codes "1e2", Some (Places (pos 3)))
-unfolding numeral_of accuracy_of
-row_double = refl
-
-row_no_integer : numeral_of Integer (codes "1.0") ≡ None
-unfolding numeral_of accuracy_of
-row_no_integer = refl
-
--- texts of decimals
-row_too_large : accuracy_of (codes "2147483648") ≡ None
+-- TEXTS OF DECIMALS, at the limits of 32 bits
+accuracies :
+    map accuracy_of (codes "INF" ∷ codes "0" ∷ codes "+2" ∷ codes "2147483647" ∷ codes "-2147483648" ∷ codes "0000000000000000000007" ∷ [])
+    ≡ Some Infinite ∷ Some (Places (pos 0)) ∷ Some (Places (pos 2)) ∷ Some (Places (pos 2_147_483_647)) ∷ Some (Places (negsuc 2_147_483_647)) ∷ Some (Places (pos 7)) ∷ []
 unfolding accuracy_of
-row_too_large = refl
+accuracies = refl
 
-row_lowest : accuracy_of (codes "-2147483648") ≡ Some (Places (negsuc 2_147_483_647))
+no_accuracies :
+    map accuracy_of ([] ∷ codes "2147483648" ∷ codes "-2147483649" ∷ codes "inf" ∷ codes "-INF" ∷ codes "INF " ∷ codes "+" ∷ codes "1.0" ∷ codes " 1" ∷ codes "1e0" ∷ [])
+    ≡ None ∷ None ∷ None ∷ None ∷ None ∷ None ∷ None ∷ None ∷ None ∷ None ∷ []
 unfolding accuracy_of
-row_lowest = refl
-
-row_zeros : accuracy_of (codes "0000000000000000000007") ≡ Some (Places (pos 7))
-unfolding accuracy_of
-row_zeros = refl
+no_accuracies = refl

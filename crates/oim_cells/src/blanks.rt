@@ -1,3 +1,5 @@
+//! Blanks at the ends of a text.
+
 ghost use Rattle.std.specs.Prelude.{◌≡◌, ◌<◌, length, MatchOption};
 ghost use Rattle.oim_cells.specs.Blanks.{is_blank as is_blank_byte, without_front, without_back, trimmed};
 

@@ -1,3 +1,5 @@
+//! The meaning of a cell, and the types of numbers.
+
 ghost use Rattle.std.specs.Prelude.{◌≡◌, ◌↔◌};
 ghost use Rattle.oim_cells.specs.Cells.{Meaning, Means, meaning_of, seen_meaning};
 

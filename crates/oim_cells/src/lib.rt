@@ -1,4 +1,4 @@
-//! What the text of a cell, of a parameter or of a literal means, as xBRL-CSV 1.0 and the Open Information Model 1.0 have it.
+//! What the text of a cell, a parameter or a literal means in xBRL-CSV 1.0 and the Open Information Model 1.0.
 //!
 //! The crate promises, and proves:
 //!
@@ -7,7 +7,7 @@
 //!   No text is split in two ways.
 //! - [`decimals`] reads `INF` or a number of places, exactly where the text is one.
 //!
-//! No call takes memory, and none fails: a text that is no numeral gives `None`.
+//! No call takes memory, and none fails: a text that is not a numeral gives `None`.
 #![tactic(auto)]
 
 mod blanks;
@@ -16,6 +16,3 @@ mod numeral;
 
 pub use cells::{Accuracy, CellMeaning, NumberKind, meaning};
 pub use numeral::{decimals, split_numeral};
-
-#[cfg(test)]
-mod tests;

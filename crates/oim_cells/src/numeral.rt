@@ -1,3 +1,5 @@
+//! Numerals, and how accurate they say that they are.
+
 ghost use Rattle.std.specs.Prelude.{◌≡◌, ◌↔◌, ◌+◌, ◌<◌, IsTrue, Some, length, List, ℕ, Option, IfSome, IsSomeAnd};
 ghost use Rattle.std.specs.Str.Parse.{without_leading_sign};
 ghost use Rattle.std.specs.List.{All};

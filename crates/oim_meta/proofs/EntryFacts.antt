@@ -27,19 +27,19 @@ module _ {S : Type 0} (f : EntryFile S) (answer : Result S MetaFault) (s : S) (r
   pub leaves_more : (n : ℕ) (left after : Option (List Record)) (t : S) → n < f.limit → Leaves f answer n s left → TakesRecord left true r after → ok_or (f.after s r) f.bad ≡ Ok t → Leaves f answer (n + 1) t after
   unfolding all_of
   leaves_more n None after t less given takes good = absurd given
-  leaves_more n (Some []) after t less given takes good = cc takes
+  leaves_more n (Some []) after t less given takes good = cc takes.0
   leaves_more n (Some (x ∷ rest)) after t less given takes good = rw takes.2 (given ∙ rw (← takes.1, below n f.limit less, good) refl)
 
   pub leaves_bad : (n : ℕ) (left after : Option (List Record)) (e : MetaFault) → n < f.limit → Leaves f answer n s left → TakesRecord left true r after → ok_or (f.after s r) f.bad ≡ Err e → answer ≡ Err e
   unfolding all_of
   leaves_bad n None after e less given takes bad = absurd given
-  leaves_bad n (Some []) after e less given takes bad = cc takes
+  leaves_bad n (Some []) after e less given takes bad = cc takes.0
   leaves_bad n (Some (x ∷ rest)) after e less given takes bad = given ∙ rw (← takes.1, below n f.limit less, bad) refl
 
   pub leaves_too_many : (left after : Option (List Record)) → Leaves f answer f.limit s left → TakesRecord left true r after → answer ≡ Err fault.TooLarge
   unfolding all_of
   leaves_too_many None after given takes = absurd given
-  leaves_too_many (Some []) after given takes = cc takes
+  leaves_too_many (Some []) after given takes = cc takes.0
   leaves_too_many (Some (x ∷ rest)) after given takes = given ∙ rw (same f.limit) refl
 
   pub leaves_end : (n : ℕ) (left after : Option (List Record)) → Leaves f answer n s left → TakesRecord left false r after → answer ≡ Ok s

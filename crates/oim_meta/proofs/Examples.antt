@@ -1,80 +1,190 @@
--- Small metadata and the parts of a report that they spell out.
-use Rattle.std.proofs.Common.{◌≡◌, [], ◌∷◌, None, false, refl, codes, pos}
-use Rattle.serde_json.specs.Data.{Data, boolean, number, unsigned, string, array, object, no_items, item, Members, no_members, member}
-use Rattle.oim_cells.specs.declared.cells.Accuracy.TheVariants.{Places}
-use Rattle.oim_meta.specs.declared.data.ColumnKind.TheVariants.{Fact, Plain}
+-- Small metadata and the parts of a report that they spell out. The answers come from xBRL-CSV 1.0.
+use Rattle.std.proofs.Common.{◌≡◌, ℕ, List, [], ◌∷◌, Bool, Some, None, true, false, refl, codes, pos, negsuc, map}
+use Rattle.serde_json.specs.Data.{Data, null, boolean, number, unsigned, negative, string, array, object, no_items, item, Members, no_members, member}
+use Rattle.oim_cells.specs.Cells.{meaning_of, accuracy_of}
+use Rattle.oim_cells.specs.declared.cells.Accuracy.TheVariants.{Infinite, Places}
+use Rattle.oim_meta.specs.declared.data.Column.{Column}
+use Rattle.oim_meta.specs.declared.data.ColumnKind.TheVariants.{Fact, Groups, Comment, Plain}
+use Rattle.oim_meta.specs.declared.data.Level.{Level}
 use Rattle.oim_meta.specs.declared.data.Side.TheVariants.{Whole, Start, End}
 use Rattle.oim_meta.specs.declared.data.Written.TheVariants as written
 use Rattle.oim_meta.specs.declared.data.WrittenDecimals.TheVariants as decimals
+use Rattle.oim_meta.specs.ReportValue.{ReportValue}
+use Rattle.oim_meta.specs.Prefixes.{prefixes_of}
+use Rattle.oim_meta.specs.Readers.{table_of as table_at, template_of as template_at, column_of as column_at, parameter_of, kind_of as kind_at}
 use Rattle.oim_meta.specs.Written.{strip_front, strip_back, reference_of, written_of}
 use Rattle.oim_meta.specs.Decimals.{decimals_of, text_decimals}
-use Rattle.oim_meta.specs.Value.{kind_of, level_of, column_of, table_of, tables_of}
-use Rattle.oim_meta.specs.UnknownColumn.{has_unknown_column}
+use Rattle.oim_meta.specs.Value.{kind_of, level_of, column_of, template_of, table_of, tables_of, templates_of, info_of, report_of}
 
--- a side stands in period alone
-start_of_period : written_of (codes "period") (codes "$year@start") ≡ written.Named (codes "year") Start
+-- SMALL OBJECTS
+abbrev nothing : Data
+nothing = object no_members
+
+abbrev one : List ℕ → Data → Data
+one k d = object (member k d no_members)
+
+abbrev two : List ℕ → Data → List ℕ → Data → Data
+two k d l e = object (member k d (member l e no_members))
+
+-- DIMENSIONS AS WRITTEN: literals
+literals :
+    map (written_of (codes "entity")) ([] ∷ codes "#none" ∷ codes "#nil" ∷ codes "#empty" ∷ codes "##x" ∷ codes "x$" ∷ codes "$$x" ∷ codes "$$" ∷ codes "$$$" ∷ [])
+    ≡ written.Absent ∷ written.Absent ∷ written.Nil ∷ written.Empty ∷ written.Text (codes "#x") ∷ written.Text (codes "x$") ∷ written.Text (codes "$x") ∷ written.Text (codes "$") ∷ written.Text (codes "$$") ∷ []
+unfolding strip_front strip_back reference_of meaning_of
+literals = refl
+
+-- references: a side stands in period alone
+references :
+    map (written_of (codes "unit")) (codes "$a" ∷ codes "$rowNumber" ∷ codes "$year@start" ∷ codes "$rowNumber@end" ∷ [])
+    ≡ written.Named (codes "a") Whole ∷ written.RowNumber Whole ∷ written.Named (codes "year@start") Whole ∷ written.Named (codes "rowNumber@end") Whole ∷ []
 unfolding strip_front strip_back reference_of
-start_of_period = refl
+references = refl
 
-end_of_row : written_of (codes "period") (codes "$rowNumber@end") ≡ written.RowNumber End
-unfolding strip_front strip_back reference_of
-end_of_row = refl
+sides :
+    map (written_of (codes "period")) (codes "$a" ∷ codes "$a@start" ∷ codes "$a@end" ∷ codes "$rowNumber@start" ∷ codes "$rowNumber@end" ∷ codes "$rowNumber" ∷ codes "a@end" ∷ [])
+    ≡ written.Named (codes "a") Whole ∷ written.Named (codes "a") Start ∷ written.Named (codes "a") End ∷ written.RowNumber Start ∷ written.RowNumber End ∷ written.RowNumber Whole ∷ written.Text (codes "a@end") ∷ []
+unfolding strip_front strip_back reference_of meaning_of
+sides = refl
 
-no_side : written_of (codes "unit") (codes "$year@start") ≡ written.Named (codes "year@start") Whole
-unfolding strip_front strip_back reference_of
-no_side = refl
+-- DECIMALS
+whole_numbers :
+    map decimals_of (number (unsigned 2) ∷ number (unsigned 2_147_483_647) ∷ number (negative (negsuc 2_147_483_647)) ∷ [])
+    ≡ decimals.Fixed (Places (pos 2)) ∷ decimals.Fixed (Places (pos 2_147_483_647)) ∷ decimals.Fixed (Places (negsuc 2_147_483_647)) ∷ []
+whole_numbers = refl
 
--- two dollar signs are a text with one
-dollars : written_of (codes "entity") (codes "$$x") ≡ written.Text (codes "$x")
-unfolding strip_front strip_back reference_of
-dollars = refl
+texts_of_decimals :
+    map (λ t. decimals_of (string t)) (codes "#none" ∷ codes "INF" ∷ codes "-2" ∷ codes "$a" ∷ codes "$rowNumber" ∷ [])
+    ≡ decimals.Absent ∷ decimals.Fixed Infinite ∷ decimals.Fixed (Places (negsuc 1)) ∷ decimals.Named (codes "a") ∷ decimals.RowNumber ∷ []
+unfolding text_decimals strip_front accuracy_of
+texts_of_decimals = refl
 
-two_places : decimals_of (number (unsigned 2)) ≡ decimals.Fixed (Places (pos 2))
-two_places = refl
+-- KINDS: with dimensions, even without members, a fact column
+kinds :
+    map kind_of
+    (nothing ∷ one (codes "dimensions") nothing ∷ one (codes "propertyGroups") nothing ∷ one (codes "comment") (boolean true) ∷ one (codes "comment") (boolean false)
+    ∷ two (codes "comment") (boolean false) (codes "dimensions") nothing ∷ [])
+    ≡ Plain ∷ Fact ∷ Groups ∷ Comment ∷ Plain ∷ Fact ∷ []
+kinds = refl
 
-no_decimals : decimals_of (string (codes "#none")) ≡ decimals.Absent
-unfolding text_decimals
-no_decimals = refl
+-- LEVELS
+no_level : Level
+no_level = record { dimensions = []; decimals = None }
 
-row_decimals : decimals_of (string (codes "$rowNumber")) ≡ decimals.RowNumber
-unfolding text_decimals strip_front
-row_decimals = refl
+level : level_of (two (codes "decimals") (number (unsigned 2)) (codes "dimensions") (two (codes "entity") (string (codes "x")) (codes "unit") (string (codes "$u"))))
+    ≡ record { dimensions = (codes "entity", written.Text (codes "x")) ∷ (codes "unit", written.Named (codes "u") Whole) ∷ []; decimals = Some (decimals.Fixed (Places (pos 2))) }
+unfolding level_of strip_front reference_of meaning_of
+level = refl
 
--- with dimensions, even without members, a fact column
-empty_dimensions : kind_of (object (member (codes "dimensions") (object no_members) no_members)) ≡ Fact
-empty_dimensions = refl
+level_of_nothing : level_of nothing ≡ no_level
+unfolding level_of no_level
+level_of_nothing = refl
 
-no_comment : kind_of (object (member (codes "comment") (boolean false) no_members)) ≡ Plain
-no_comment = refl
-
--- three columns: the first takes groups from the second, which it names twice
+-- COLUMNS: the first takes groups from the two others, and names one of them twice
 groups : Data
-groups = object (member (codes "propertyGroups") (object no_members) no_members)
+groups = two (codes "decimals") (number (unsigned 7)) (codes "propertyGroups") (one (codes "usd") (one (codes "decimals") (number (unsigned 0))))
 
 takes : Data
 takes =
     object
-    (member (codes "dimensions") (object no_members)
-    (member (codes "propertiesFrom") (array (item (string (codes "g")) (item (string (codes "h")) (item (string (codes "g")) no_items)))) no_members))
+    (member (codes "decimals") (number (unsigned 1))
+    (member (codes "dimensions") nothing
+    (member (codes "propertiesFrom") (array (item (string (codes "h")) (item (string (codes "g")) (item (string (codes "h")) no_items)))) no_members)))
 
 columns : Members
 columns = member (codes "f") takes (member (codes "g") groups (member (codes "h") groups no_members))
 
-named_twice : column_of columns (codes "f") takes ≡ record { id = codes "f"; kind = Fact; level = record { dimensions = []; decimals = None }; groups = []; from = 1 ∷ 2 ∷ [] }
+facts : column_of columns (codes "f") takes ≡ record { id = codes "f"; kind = Fact; level = record { dimensions = []; decimals = Some (decimals.Fixed (Places (pos 1))) }; groups = []; from = 2 ∷ 1 ∷ [] }
 unfolding column_of level_of columns takes groups
-named_twice = refl
+facts = refl
 
--- a table whose template has its own name
+-- of a column that is no fact column neither decimals nor propertiesFrom are read
+property_groups : column_of columns (codes "g") groups ≡ record { id = codes "g"; kind = Groups; level = no_level; groups = (codes "usd", record { dimensions = []; decimals = Some (decimals.Fixed (Places (pos 0))) }) ∷ []; from = [] }
+unfolding column_of level_of columns takes groups no_level
+property_groups = refl
+
+plain : column_of columns (codes "p") (two (codes "decimals") (number (unsigned 7)) (codes "propertiesFrom") (array (item (string (codes "g")) no_items))) ≡ record { id = codes "p"; kind = Plain; level = no_level; groups = []; from = [] }
+unfolding column_of columns no_level
+plain = refl
+
+comments : column_of columns (codes "c") (two (codes "comment") (boolean true) (codes "decimals") (number (unsigned 7))) ≡ record { id = codes "c"; kind = Comment; level = no_level; groups = []; from = [] }
+unfolding column_of columns no_level
+comments = refl
+
+-- TEMPLATES AND TABLES
+template : template_of (codes "p") (object (member (codes "columns") (two (codes "b") nothing (codes "c") nothing) (member (codes "decimals") (number (unsigned 3)) (member (codes "rowIdColumn") (string (codes "c")) no_members))))
+    ≡ record {
+      id = codes "p";
+      columns = record { id = codes "b"; kind = Plain; level = no_level; groups = []; from = [] } ∷ record { id = codes "c"; kind = Plain; level = no_level; groups = []; from = [] } ∷ [];
+      row_id_column = Some 1;
+      level = record { dimensions = []; decimals = Some (decimals.Fixed (Places (pos 3))) };
+    }
+unfolding template_of column_of level_of no_level
+template = refl
+
+empty_template : template_of (codes "p") (one (codes "columns") nothing) ≡ record { id = codes "p"; columns = []; row_id_column = None; level = no_level }
+unfolding template_of level_of no_level
+empty_template = refl
+
+-- three tables: one has the template of its own name, one names another, and one is optional and has parameters
 report : Data
 report =
     object
-    (member (codes "tableTemplates") (object (member (codes "a") (object no_members) (member (codes "t") (object (member (codes "columns") (object columns) no_members)) no_members)))
-    (member (codes "tables") (object (member (codes "t") (object (member (codes "url") (string (codes "t.csv")) no_members)) no_members)) no_members))
+    (member (codes "documentInfo")
+    (object
+    (member (codes "baseURL") (string (codes "http://b/"))
+    (member (codes "namespaces") (two (codes "a") (string (codes "u")) (codes "b") (string (codes "v")))
+    (member (codes "taxonomy") (array (item (string (codes "y.xsd")) (item (string (codes "x.xsd")) no_items))) no_members))))
+    (member (codes "parameters") (two (codes "m") (string (codes "1")) (codes "n") (string (codes "2")))
+    (member (codes "tableTemplates") (two (codes "p") (one (codes "columns") nothing) (codes "t") (one (codes "columns") (one (codes "c") nothing)))
+    (member (codes "tables")
+    (object
+    (member (codes "t") (one (codes "url") (string (codes "t.csv")))
+    (member (codes "u") (two (codes "template") (string (codes "p")) (codes "url") (string (codes "u.csv")))
+    (member (codes "v")
+    (object
+    (member (codes "optional") (boolean true)
+    (member (codes "parameters") (one (codes "n") (string (codes "3")))
+    (member (codes "template") (string (codes "t")) (member (codes "url") (string (codes "v.csv")) no_members)))))
+    no_members))))
+    no_members))))
 
-own_template : tables_of report ≡ record { id = codes "t"; url = codes "t.csv"; is_optional = false; template = 1; parameters = [] } ∷ []
+tables :
+    tables_of report
+    ≡ record { id = codes "t"; url = codes "t.csv"; is_optional = false; template = 1; parameters = [] }
+    ∷ record { id = codes "u"; url = codes "u.csv"; is_optional = false; template = 0; parameters = [] }
+    ∷ record { id = codes "v"; url = codes "v.csv"; is_optional = true; template = 1; parameters = (codes "n", codes "3") ∷ [] }
+    ∷ []
 unfolding table_of report
-own_template = refl
+tables = refl
 
-no_unknown_column : has_unknown_column report ≡ false
-unfolding has_unknown_column report columns takes groups
-no_unknown_column = refl
+-- THE REPORT, with `o` given by the parameters file
+value : ReportValue
+unfolding report_of
+value = report_of ((codes "o", codes "4") ∷ []) [] report
+
+info : (value.info ≡ record { base_url = Some (codes "http://b/"); taxonomy = codes "y.xsd" ∷ codes "x.xsd" ∷ [] }) × (info_of nothing ≡ record { base_url = None; taxonomy = [] })
+unfolding value report_of report
+info = (refl, refl)
+
+namespaces : (value.namespaces ≡ (codes "a", codes "u") ∷ (codes "b", codes "v") ∷ []) × (prefixes_of report ≡ value.namespaces)
+unfolding value report_of report
+namespaces = (refl, refl)
+
+parameters : value.parameters ≡ (codes "m", codes "1") ∷ (codes "n", codes "2") ∷ (codes "o", codes "4") ∷ []
+unfolding value report_of report
+parameters = refl
+
+other_parts : (value.level ≡ no_level) × (value.types ≡ []) × (value.tables ≡ tables_of report) × (value.templates ≡ templates_of report)
+unfolding value report_of report level_of no_level
+other_parts = (refl, refl, refl, refl)
+
+-- READERS: a table's parameter stands before the report's, and each table has its own template
+parameters_read :
+    (map (parameter_of value 2) (codes "n" ∷ codes "m" ∷ codes "o" ∷ codes "p" ∷ []) ≡ Some (codes "3") ∷ Some (codes "1") ∷ Some (codes "4") ∷ None ∷ [])
+    × (parameter_of value 0 (codes "n") ≡ Some (codes "2"))
+unfolding value report_of report table_of
+parameters_read = (refl, refl)
+
+parts_read : ((table_at value 1).id ≡ codes "u") × ((template_at value 0).id ≡ codes "t") × ((template_at value 1).id ≡ codes "p") × ((column_at value 2 0).id ≡ codes "c")
+unfolding value report_of report table_of template_of column_of
+parts_read = (refl, refl, refl, refl)

@@ -1,5 +1,6 @@
 -- How the list of the records left follows one read.
 use Rattle.std.proofs.Common.{◌≡◌, ◌<◌, ◌+◌, ◌⊎◌, ℕ, zero, suc, List, [], ◌∷◌, ◌++◌, length, Option, Some, None, Bool, true, false, refl, sym, ap, inl, inr, arith, ◌∙◌, option_map, add-one}
+use Rattle.std.specs.Prelude.{⊤}
 use Rattle.csv.specs.Machine.{Read, next_record, ends_at_end, is_end, step, fields_after, field_after}
 use Rattle.csv.specs.Reading.{NextIs, ReadRecord, ReadsNext, default_config, records_from, records_next, source_of, pending_of}
 use Rattle.csv.specs.declared.reader.Reader.{Reader}
@@ -78,23 +79,40 @@ pub records_left-end : (s : State) (xs : List ℕ) → next_record default_confi
 unfolding records_left records_from
 records_left-end s xs e = rw (add-one (length xs), e) refl
 
+-- what one read of the CSV reader takes: it does not say what is left after the end
+abbrev pub Took : Option (List Record) → Bool → Record → Option (List Record) → Type 0
+Took None found r after = ⊤
+Took (Some []) found r after = found ≡ false
+Took (Some (x ∷ rest)) found r after = (found ≡ true) × (r ≡ x) × (after ≡ Some rest)
+
 takes-known : (s s2 : State) (xs ys : List ℕ) (found : Bool) (f : Record) (o : Option Read) → next_record default_config s [] [] xs ≡ o → NextIs o found f s2 ys
-    → TakesRecord (Some (records_left s xs)) found f (Some (records_left s2 ys))
+    → Took (Some (records_left s xs)) found f (Some (records_left s2 ys))
 takes-known s s2 xs ys found f None e h = rw (records_left-end s xs e) h
 takes-known s s2 xs ys found f (Some p) e h = rw (records_left-next s xs p e) (h.0, h.1, rw (h.2, h.3) refl)
 
 takes-next : (s s2 : State) (o k : Option (List ℕ)) (found : Bool) (f : Record) → ReadsNext default_config s o k found f s2
-    → TakesRecord (option_map (records_left s) o) found f (option_map (records_left s2) k)
+    → Took (option_map (records_left s) o) found f (option_map (records_left s2) k)
 takes-next s s2 None k found f h = tt
 takes-next s s2 (Some xs) None found f h = absurd h
 takes-next s s2 (Some xs) (Some ys) found f h = takes-known s s2 xs ys found f (next_record default_config s [] [] xs) refl h
 
 -- one read takes the first of the records left
 pub takes_record : {R : Type 0} (rem : R → Option (List ℕ)) (a b : Reader R) (found : Bool) (f : Record) → a.config ≡ default_config → ReadRecord rem a b found f
-    → TakesRecord (option_map (records_left a.state) (source_of rem a)) found f (option_map (records_left b.state) (source_of rem b))
+    → Took (option_map (records_left a.state) (source_of rem a)) found f (option_map (records_left b.state) (source_of rem b))
 takes_record rem a b found f config r = rw r.1 (takes-next a.state b.state (source_of rem a) (pending_of (rem b.rdr) b) found f (rw config at r.0))
 
 -- of a reader that has failed nothing is known
 pub takes_none : {R : Type 0} (rem : R → Option (List ℕ)) (a b : Reader R) (found : Bool) (f : Record) → a.failed ≡ true
-    → TakesRecord (option_map (records_left a.state) (source_of rem a)) found f (option_map (records_left b.state) (source_of rem b))
+    → Took (option_map (records_left a.state) (source_of rem a)) found f (option_map (records_left b.state) (source_of rem b))
 takes_none rem a b found f failed = rw failed tt
+
+-- a record that was found, and the end, after which nothing is left
+pub takes_found : (old left : Option (List Record)) (f : Record) → Took old true f left → TakesRecord old true f left
+takes_found None left f h = λ e. cc e
+takes_found (Some []) left f h = cc h
+takes_found (Some (x ∷ rest)) left f h = h
+
+pub takes_end : (old left : Option (List Record)) (f : Record) → Took old false f left → TakesRecord old false f (Some [])
+takes_end None left f h = λ e. refl
+takes_end (Some []) left f h = (h, refl)
+takes_end (Some (x ∷ rest)) left f h = cc h.0

@@ -18,3 +18,5 @@ pub mod Ordered
 pub mod OwnUris
 mod Examples
 mod FaultExamples
+mod FileExamples
+pub mod LeastFault

@@ -6,7 +6,6 @@ use Rattle.std.specs.List.Sorted.{IsStrictlySortedBy}
 use Rattle.std.specs.Map.{keys_of, values_of}
 use Rattle.std.specs.Cmp.Lexicographic.{slice_cmp}
 use Rattle.serde_json.specs.Data.{Members, no_members, member}
-use Rattle.oim_names.specs.Bindings.{IsNamespaces}
 use Rattle.oim_meta.specs.Members.{text_of, any_member, map_members}
 use Rattle.oim_meta.specs.Order.{names_of, IsRising, has_other, repeats_text}
 use Rattle.oim_meta.specs.Value.{named_text}
@@ -38,6 +37,3 @@ in_order ms rising = rw (keys_kept ms) rising
     keys_kept : (ns : Members) → keys_of (map_members named_text ns) ≡ names_of ns
     keys_kept no_members = refl
     keys_kept (member k d ns) = ap (λ (t : List (List ℕ)). k ∷ t) (keys_kept ns)
-
-pub are_namespaces : (ms : Members) → IsRising (names_of ms) → repeats_text ms ≡ false → IsNamespaces (map_members named_text ms)
-are_namespaces ms rising h = (in_order ms rising, own_uris ms rising h)

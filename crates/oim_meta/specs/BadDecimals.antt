@@ -1,4 +1,4 @@
--- Decimals that are none (xBRL-CSV 1.0: decimals).
+-- Decimals that are not well-formed (xBRL-CSV 1.0: decimals).
 use Rattle.std.specs.Prelude.{ℕ, List, Bool, not, ◌||◌, ◌&&◌, bytes_eq, Option, Some, None, is_some, option_map, unwrap_or, codes, false}
 use Rattle.serde_json.specs.Data.{Data}
 use Rattle.serde_json.specs.Find.{get, as_str}
@@ -22,7 +22,7 @@ is_decimals_text s = is_decimals_by_dollar s (strip_front (codes "$") s)
 unfoldable pub is_decimals : Data → Bool
 is_decimals d = is_some (whole_of d) || unwrap_or (option_map is_decimals_text (as_str d)) false
 
--- decimals of one level that have none of their forms
+-- decimals of one level that are not well-formed
 abbrev pub has_bad_decimals_there : Data → Bool
 has_bad_decimals_there d = if_there (λ v. not (is_decimals v)) (get (codes "decimals") d)
 

@@ -1,4 +1,4 @@
--- Dimensions that are none (xBRL-CSV 1.0: dimensions and their values; special values; references).
+-- Dimensions that are not well-formed (xBRL-CSV 1.0: dimensions and their values; special values; references).
 use Rattle.std.specs.Prelude.{ℕ, List, Bool, true, false, not, ◌||◌, ◌&&◌, bytes_eq, Option, Some, None, option_and_then, codes, if◌then◌else◌}
 use Rattle.serde_json.specs.Data.{Data}
 use Rattle.oim_names.specs.Bindings.{Bindings}
@@ -39,7 +39,7 @@ is_dimension (Some Other) = false
 is_dimension (Some Explicit) = true
 is_dimension (Some Typed) = true
 
--- no special value, or nil or empty where it may not stand
+-- an unknown special value, or nil or empty where it may not stand
 abbrev pub is_bad_meaning : Option Kind → Meaning → Bool
 is_bad_meaning kind meaning.Absent = false
 is_bad_meaning kind meaning.Nil = not (is_typed kind)

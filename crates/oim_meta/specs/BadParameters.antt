@@ -1,4 +1,4 @@
--- Parameters that are none (xBRL-CSV 1.0: parameters of report and tables, parameterURL).
+-- Parameters that are not well-formed (xBRL-CSV 1.0: parameters of report and tables, parameterURL).
 use Rattle.std.specs.Prelude.{ℕ, List, Bool, true, not, ◌||◌, is_some, option_map, unwrap_or, codes}
 use Rattle.serde_json.specs.Data.{Data}
 use Rattle.serde_json.specs.Find.{get, as_str}
@@ -8,11 +8,11 @@ use Rattle.oim_meta.specs.Parameters.{ParametersValue}
 use Rattle.oim_meta.specs.Members.{is_text, section, any_member, if_there, no_object_or}
 use Rattle.oim_meta.specs.PlainPath.{is_plain_path}
 
--- a name that is no identifier, or a value that is no text
+-- a name that is not an identifier, or a value that is not a text
 abbrev pub is_bad_parameter : List ℕ → Data → Bool
 is_bad_parameter name d = not (is_identifier name) || not (is_text d)
 
--- parameters of a report or a table that are no texts by identifiers
+-- parameters of a report or a table that are not texts under identifiers
 abbrev pub has_bad_parameters : Data → Bool
 has_bad_parameters d = if_there (no_object_or (any_member is_bad_parameter)) (get (codes "parameters") d)
 
@@ -20,11 +20,11 @@ has_bad_parameters d = if_there (no_object_or (any_member is_bad_parameter)) (ge
 abbrev pub is_given : ParametersValue → List ℕ → Data → Bool
 is_given given name _ = is_some (value_at name given)
 
--- it is no text that is a plain path
+-- it is not a text that is a plain path
 abbrev pub is_no_plain_path : Data → Bool
 is_no_plain_path d = unwrap_or (option_map (λ path. not (is_plain_path path)) (as_str d)) true
 
--- the parameters file's name is no plain path
+-- the parameters file's name is not a plain path
 unfoldable pub has_bad_parameter_url : Data → Bool
 has_bad_parameter_url d = if_there is_no_plain_path (get (codes "parameterURL") d)
 

@@ -62,7 +62,7 @@ abbrev pub file_result : {S : Type 0} → EntryFile S → List Record → Result
 file_result f [] = Err f.bad
 file_result f (r ∷ rs) = if f.is_header r then all_of f 0 f.start rs else Err f.bad
 
--- the answer, unless the reader failed or a growth was refused
+-- the answer, unless the reader failed or memory ran out
 abbrev pub OrOutside : {A : Type 0} → Result A MetaFault → Result A MetaFault → Type 0
 OrOutside result answer = (result ≡ Err fault.Read) ⊎ ((result ≡ Err fault.Memory) ⊎ (result ≡ answer))
 

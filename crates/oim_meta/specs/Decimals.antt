@@ -25,7 +25,7 @@ whole_of d = option_and_then in_range (option_and_then as_i64 (as_number d))
 abbrev pub named_decimals : List ℕ → WrittenDecimals
 named_decimals name = if bytes_eq name (codes "rowNumber") then RowNumber else Named name
 
--- an accuracy, or none; a text of no meaning has a fault of its own
+-- an accuracy, or none; a text without a meaning has a fault of its own
 abbrev pub fixed_by : Option Accuracy → WrittenDecimals
 fixed_by (Some accuracy) = Fixed accuracy
 fixed_by None = Absent

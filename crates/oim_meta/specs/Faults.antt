@@ -16,7 +16,7 @@ is_csv i = unwrap_or (option_map (λ t. bytes_eq t (codes "https://xbrl.org/2021
 unfoldable pub has_no_report : Data → Bool
 has_no_report d = not (if_there is_csv (get (codes "documentInfo") d))
 
--- a prefix that is no NCName, or a URI that is no text
+-- a prefix that is not an NCName, or a URI that is not a text
 abbrev pub is_bad_prefix : List ℕ → Data → Bool
 is_bad_prefix prefix uri = not (is_ncname prefix) || not (is_text uri)
 
@@ -27,11 +27,11 @@ has_bad_prefix ms = any_member is_bad_prefix ms || repeats_text ms
 unfoldable pub has_bad_namespaces : Data → Bool
 has_bad_namespaces i = if_there (no_object_or has_bad_prefix) (get (codes "namespaces") i)
 
--- some item is no text
+-- some item is not a text
 abbrev pub has_no_text : Items → Bool
 has_no_text = any_item (λ d. not (is_text d))
 
--- it is no list of texts
+-- it is not a list of texts
 abbrev pub is_no_texts : Data → Bool
 is_no_texts d = unwrap_or (option_map has_no_text (as_array d)) true
 
@@ -39,14 +39,14 @@ is_no_texts d = unwrap_or (option_map has_no_text (as_array d)) true
 unfoldable pub has_bad_taxonomy : Data → Bool
 has_bad_taxonomy i = unwrap_or (option_map is_no_texts (get (codes "taxonomy") i)) true || if_there (λ d. not (is_text d)) (get (codes "baseURL") i)
 
--- it is no list, or some item stands in it
+-- it is not a list, or some item stands in it
 abbrev pub is_no_empty_list : Data → Bool
 is_no_empty_list d = unwrap_or (option_map (any_item (λ _. true)) (as_array d)) true
 
 abbrev pub is_anything : List ℕ → Data → Bool
 is_anything _ _ = true
 
--- it is no object, or some member stands in it
+-- it is not an object, or some member stands in it
 abbrev pub is_no_empty_object : Data → Bool
 is_no_empty_object = no_object_or (any_member is_anything)
 
@@ -54,11 +54,11 @@ is_no_empty_object = no_object_or (any_member is_anything)
 abbrev pub info_at : List ℕ → Data → Option Data
 info_at k d = option_and_then (get k) (get (codes "documentInfo") d)
 
--- 5: extends in documentInfo that is no empty list, or links that is no empty object
+-- 5: extends in documentInfo that is not an empty list, or links that is not an empty object
 unfoldable pub is_unsupported : Data → Bool
 is_unsupported d = if_there is_no_empty_list (info_at (codes "extends") d) || if_there is_no_empty_object (get (codes "links") d)
 
--- a key that is no identifier
+-- a key that is not an identifier
 abbrev pub is_bad_key : List ℕ → Data → Bool
 is_bad_key name _ = not (is_identifier name)
 
@@ -66,7 +66,7 @@ is_bad_key name _ = not (is_identifier name)
 abbrev pub any_column : (List ℕ → Data → Bool) → Data → Bool
 any_column p d = any_member (λ _ template. any_member p (section (codes "columns") template)) (section (codes "tableTemplates") d)
 
--- 6: a key of tableTemplates, tables or a columns that is no identifier
+-- 6: a key of tableTemplates, tables or a columns that is not an identifier
 unfoldable pub has_bad_identifier : Data → Bool
 has_bad_identifier d =
     any_member is_bad_key (section (codes "tableTemplates") d) || any_member is_bad_key (section (codes "tables") d) || any_column is_bad_key d
@@ -77,11 +77,11 @@ is_no_text d = not (is_text d)
 abbrev pub is_no_object : Data → Bool
 is_no_object d = not (is_object d)
 
--- it is no truth value
+-- it is not a truth value
 abbrev pub is_no_flag : Data → Bool
 is_no_flag d = is_none (as_bool d)
 
--- dimensions that is no object
+-- dimensions that is not an object
 abbrev pub has_bad_section : Data → Bool
 has_bad_section d = if_there is_no_object (get (codes "dimensions") d)
 
@@ -93,7 +93,7 @@ is_bad_group name g = bytes_eq name [] || is_no_object g || has_bad_section g
 abbrev pub is_fact : Data → Bool
 is_fact c = is_some (get (codes "dimensions") c)
 
--- propertiesFrom of a fact column that is no list of texts
+-- propertiesFrom of a fact column that is not a list of texts
 abbrev pub has_bad_sources : Data → Bool
 has_bad_sources c = is_fact c && if_there is_no_texts (get (codes "propertiesFrom") c)
 
@@ -107,7 +107,7 @@ is_bad_column _ c =
 abbrev pub has_bad_columns : Data → Bool
 has_bad_columns t = unwrap_or (option_map (no_object_or (any_member is_bad_column)) (get (codes "columns") t)) true
 
--- a template of the wrong shape; one that is no object has no columns
+-- a template of the wrong shape; one that is not an object has no columns
 abbrev pub is_bad_template : List ℕ → Data → Bool
 is_bad_template _ t = has_bad_columns t || has_bad_section t || if_there is_no_text (get (codes "rowIdColumn") t)
 
@@ -115,7 +115,7 @@ is_bad_template _ t = has_bad_columns t || has_bad_section t || if_there is_no_t
 abbrev pub lacks_url : Data → Bool
 lacks_url t = unwrap_or (option_map (λ url. not (is_plain_path url)) (text_at (codes "url") t)) true
 
--- a table of the wrong shape; one that is no object has no url
+-- a table of the wrong shape; one that is not an object has no url
 abbrev pub is_bad_table : List ℕ → Data → Bool
 is_bad_table _ t = lacks_url t || if_there is_no_text (get (codes "template") t) || if_there is_no_flag (get (codes "optional") t)
 
@@ -146,6 +146,6 @@ template_name id t = unwrap_or (text_at (codes "template") t) id
 abbrev pub lacks_template_of : Option Data → List ℕ → Data → Bool
 lacks_template_of templates id t = is_none (option_and_then (get (template_name id t)) templates)
 
--- 9: a table whose template isn't there
+-- 9: a table that names a template that is not there
 unfoldable pub has_unknown_template : Data → Bool
 has_unknown_template d = any_member (lacks_template_of (get (codes "tableTemplates") d)) (section (codes "tables") d)

@@ -1,5 +1,5 @@
 -- The faults that a metadata has, with the limits, the parameters file's parameters and the types, and the first of them.
-use Rattle.std.specs.Prelude.{Bool, false, Option, [], ◌∷◌, codes, find}
+use Rattle.std.specs.Prelude.{Bool, false, Option, List, [], ◌∷◌, codes, find}
 use Rattle.serde_json.specs.Data.{Data}
 use Rattle.serde_json.specs.Find.{get}
 use Rattle.oim_meta.specs.declared.fault.MetaFault.{MetaFault}
@@ -39,7 +39,12 @@ has_fault limits given types d Read = false
 abbrev pub late_fault : Limits → ParametersValue → TypesValue → Data → Option MetaFault
 late_fault limits given types d = find (has_fault limits given types d) (BadDimension ∷ BadDecimals ∷ BadParameter ∷ TooLarge ∷ [])
 
--- the first that it has, in the order of their numbers, and last the counts
+-- the faults in the order in which they are looked for: that of their numbers, and last the counts
+abbrev pub faults_in_order : List MetaFault
+faults_in_order =
+    NotReport ∷ BadNamespaces ∷ BadTaxonomy ∷ Unsupported ∷ BadIdentifier ∷ BadTemplate ∷ ColumnKinds ∷ UnknownTemplate ∷ UnknownColumn ∷ BadDimension ∷ BadDecimals ∷ BadParameter ∷ TooLarge
+    ∷ []
+
+-- the first of them that a metadata has
 abbrev pub first_fault : Limits → ParametersValue → TypesValue → Data → Option MetaFault
-first_fault limits given types d =
-    find (has_fault limits given types d) (NotReport ∷ BadNamespaces ∷ BadTaxonomy ∷ Unsupported ∷ BadIdentifier ∷ BadTemplate ∷ ColumnKinds ∷ UnknownTemplate ∷ UnknownColumn ∷ BadDimension ∷ BadDecimals ∷ BadParameter ∷ TooLarge ∷ [])
+first_fault limits given types d = find (has_fault limits given types d) faults_in_order

@@ -5,6 +5,7 @@ pub mod Places
 pub mod Readers
 pub mod Grid
 pub mod Taking
+pub mod ReadFaults
 pub mod Named
 pub mod TypesFile
 pub mod CsvFiles
@@ -26,5 +27,6 @@ pub mod BadParameters
 pub mod Counts
 pub mod UnknownColumn
 pub mod FirstFault
+pub mod FaultOrder
 pub mod Value
 pub mod Reading

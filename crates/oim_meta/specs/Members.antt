@@ -9,18 +9,18 @@ is_text d = is_some (as_str d)
 abbrev pub is_object : Data → Bool
 is_object d = is_some (as_object d)
 
--- the text; the empty one where it is no text
+-- the text; the empty one where it is not a text
 abbrev pub text_of : Data → List ℕ
 text_of d = unwrap_or (as_str d) []
 
 abbrev pub text_at : List ℕ → Data → Option (List ℕ)
 text_at k d = option_and_then as_str (get k d)
 
--- the members of the object at a key; none where it is no object
+-- the members of the object at a key; none where it is not an object
 abbrev pub section : List ℕ → Data → Members
 section k d = unwrap_or (option_and_then as_object (get k d)) no_members
 
--- the items of the list at a key; none where it is no list
+-- the items of the list at a key; none where it is not a list
 abbrev pub items_at : List ℕ → Data → Items
 items_at k d = unwrap_or (option_and_then as_array (get k d)) no_items
 
@@ -42,10 +42,10 @@ abbrev pub map_items : {X : Type 0} → (Data → X) → Items → List X
 map_items f no_items = []
 map_items f (item d ds) = f d ∷ map_items f ds
 
--- what is there fails the test; what is absent doesn't
+-- what is there fails the test; what is absent does not
 abbrev pub if_there : (Data → Bool) → Option Data → Bool
 if_there p o = unwrap_or (option_map p o) false
 
--- it is no object, or its members fail the test
+-- it is not an object, or its members fail the test
 abbrev pub no_object_or : (Members → Bool) → Data → Bool
 no_object_or p d = unwrap_or (option_map p (as_object d)) true

@@ -24,6 +24,6 @@ segments s = first_segment s ∷ later_segments s
 abbrev pub is_bad_segment : List ℕ → Bool
 is_bad_segment s = bytes_eq s [] || bytes_eq s (codes ".") || bytes_eq s (codes "..")
 
--- no character of it is barred, and no segment; so it isn't empty
+-- no character of it is barred, and no segment; so it is not empty
 unfoldable pub is_plain_path : List ℕ → Bool
 is_plain_path s = not (list_any is_barred s || list_any is_bad_segment (segments s))

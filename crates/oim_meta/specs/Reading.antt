@@ -3,6 +3,8 @@ use Rattle.std.specs.Prelude.{◌≡◌, ◌<◌, ◌≤◌, ◌⊎◌, ℕ, Lis
 use Rattle.std.specs.Cmp.Lexicographic.{pointwise}
 use Rattle.serde_json.specs.Data.{Data}
 use Rattle.serde_json.specs.Read.{read}
+use Rattle.serde_json.specs.Errors.{IsMemory}
+use Rattle.serde_json.specs.declared.error.Error.{Error}
 use Rattle.oim_meta.specs.declared.fault.MetaFault.{MetaFault}
 use Rattle.oim_meta.specs.declared.fault.MetaFault.TheVariants.{Syntax, NotReport, BadParameter, TooLarge, Memory}
 use Rattle.oim_meta.specs.declared.limits.Limits.{Limits}
@@ -23,11 +25,15 @@ after_mark bytes = if pointwise nat_eq (take 3 bytes) (239 ∷ 187 ∷ 191 ∷ [
 abbrev pub IsJson : List ℕ → Data → Type 0
 IsJson bytes d = IsUtf8 (after_mark bytes) × (read (after_mark bytes) ≡ Some d)
 
--- the bytes are JSON for no value
+-- the bytes are not JSON for any value
 abbrev pub HasNoJson : List ℕ → Type 0
 HasNoJson bytes = (d : Data) → IsJson bytes d → ⊥
 
--- no memory, or there is no JSON
+-- running out of memory gives Memory, every other error of JSON gives Syntax
+abbrev pub IsFaultOf : Error → MetaFault → Type 0
+IsFaultOf error fault = (IsMemory error → fault ≡ Memory) × (¬ IsMemory error → fault ≡ Syntax)
+
+-- memory ran out, or the bytes are not JSON
 abbrev pub IsNoJson : List ℕ → MetaFault → Type 0
 IsNoJson bytes Syntax = HasNoJson bytes
 IsNoJson bytes Memory = Unit {0}
@@ -41,7 +47,7 @@ SaysReport limits given types bytes r = (length bytes ≤ limits.metadata) × ((
 abbrev pub HasFirst : Limits → ParametersValue → TypesValue → List ℕ → MetaFault → Type 0
 HasFirst limits given types bytes f = (length bytes ≤ limits.metadata) × ((d : Data) × IsJson bytes d × (first_fault limits given types d ≡ Some f))
 
--- the first fault of the bytes; want of memory says nothing of them
+-- the first fault of the bytes; running out of memory says nothing about them
 abbrev pub IsFault : Limits → ParametersValue → TypesValue → List ℕ → MetaFault → Type 0
 IsFault limits given types bytes TooLarge = (limits.metadata < length bytes) ⊎ HasFirst limits given types bytes TooLarge
 IsFault limits given types bytes Syntax = (length bytes ≤ limits.metadata) × HasNoJson bytes
@@ -64,7 +70,7 @@ SaysUrl limits bytes url = (length bytes ≤ limits.metadata) × ((d : Data) × 
 abbrev pub HasFirstUrlFault : Limits → List ℕ → MetaFault → Type 0
 HasFirstUrlFault limits bytes f = (length bytes ≤ limits.metadata) × ((d : Data) × IsJson bytes d × (first_url_fault d ≡ Some f))
 
--- the first of these faults; want of memory says nothing of the bytes
+-- the first of these faults; running out of memory says nothing about the bytes
 abbrev pub IsUrlFault : Limits → List ℕ → MetaFault → Type 0
 IsUrlFault limits bytes TooLarge = limits.metadata < length bytes
 IsUrlFault limits bytes Syntax = (length bytes ≤ limits.metadata) × HasNoJson bytes

@@ -1,4 +1,4 @@
--- A column that is not there (xBRL-CSV 1.0: rowIdColumn and propertiesFrom). A part of the wrong
+-- References to columns that a template does not define (xBRL-CSV 1.0: rowIdColumn and propertiesFrom). A part of the wrong
 -- shape has only the fault of its shape.
 use Rattle.std.specs.Prelude.{ℕ, List, Bool, true, false, not, ◌||◌, ◌&&◌, Option, option_map, option_and_then, unwrap_or, is_none, codes}
 use Rattle.serde_json.specs.Data.{Data}
@@ -46,6 +46,6 @@ has_unknown_source t c = is_fact (kind_of c) && any_item (is_unknown_source t) (
 abbrev pub lacks_named_column : Data → Bool
 lacks_named_column t = has_unknown_row_id t || any_member (λ _ c. has_unknown_source t c) (section (codes "columns") t)
 
--- 10: a template names a column that it has not
+-- 10: a template refers to a column that it does not define
 unfoldable pub has_unknown_column : Data → Bool
 has_unknown_column d = any_member (λ _ t. lacks_named_column t) (section (codes "tableTemplates") d)

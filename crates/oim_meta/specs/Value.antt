@@ -17,6 +17,7 @@ use Rattle.oim_meta.specs.declared.data.Template.{Template}
 use Rattle.oim_meta.specs.declared.data.Written.{Written}
 use Rattle.oim_meta.specs.Members.{text_of, text_at, section, items_at, map_members, map_items}
 use Rattle.oim_meta.specs.Faults.{template_name}
+use Rattle.oim_meta.specs.Prefixes.{prefixes_of}
 use Rattle.oim_meta.specs.Written.{written_of}
 use Rattle.oim_meta.specs.Decimals.{decimals_of}
 
@@ -54,7 +55,7 @@ abbrev pub add_place : Members → List ℕ → Option (List ℕ) → List ℕ
 add_place columns seen None = seen
 add_place columns seen (Some name) = add_new seen (place_of name columns)
 
--- the places of names among columns, each at its first place alone; what is no text names nothing
+-- the places of names among columns, each at its first place alone; what is not a text names nothing
 abbrev pub places_of : Members → Items → List ℕ
 places_of columns names = fold (add_place columns) [] (map_items as_str names)
 
@@ -66,7 +67,7 @@ kind_of c =
     else if flag_at (codes "comment") c then Comment
     else Plain
 
--- what a column writes: that of no other than a fact column is read
+-- what a column writes: only that of a fact column is read
 abbrev pub column_level : ColumnKind → Data → Level
 column_level Fact c = level_of c
 column_level Groups c = nothing_written
@@ -123,15 +124,12 @@ document_info d = unwrap_or (get (codes "documentInfo") d) null
 abbrev pub info_of : Data → Info
 info_of i = record { base_url = text_at (codes "baseURL") i; taxonomy = map_items text_of (items_at (codes "taxonomy") i) }
 
-abbrev pub namespaces_of : Data → List (List ℕ × List ℕ)
-namespaces_of i = map_members named_text (section (codes "namespaces") i)
-
 -- the report of a metadata, with a parameters file and the types; its own parameters come first
 unfoldable pub report_of : ParametersValue → TypesValue → Data → ReportValue
 report_of parameters types d =
     record {
       info = info_of (document_info d);
-      namespaces = namespaces_of (document_info d);
+      namespaces = prefixes_of d;
       types = types;
       level = level_of d;
       templates = templates_of d;

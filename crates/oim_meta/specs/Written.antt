@@ -31,7 +31,7 @@ unfoldable pub reference_of : List ℕ → List ℕ → Written
 reference_of key name =
     if bytes_eq key (codes "period") then or_whole name (strip_back (codes "@start") name) (strip_back (codes "@end") name) else named name Whole
 
--- a meaning, written; one that there is not has a fault of its own
+-- a meaning, written; an unknown one has a fault of its own
 abbrev pub literal_by : Meaning → Written
 literal_by meaning.Absent = Absent
 literal_by meaning.Nil = Nil

@@ -5,26 +5,27 @@ ghost use Rattle.serde_json.specs.Data.{null};
 ghost use Rattle.serde_json.specs.Find.{get};
 ghost use Rattle.serde_json.specs.View.{view};
 ghost use Rattle.oim_meta.specs.Members.{section, map_members, if_there};
-ghost use Rattle.oim_meta.specs.Value.{info_of, namespaces_of, named_text, document_info, report_of};
+ghost use Rattle.oim_meta.specs.Value.{info_of, named_text, document_info, report_of};
 ghost use Rattle.oim_meta.specs.Faults.{has_bad_identifier, has_bad_namespaces, has_unknown_template};
-ghost use Rattle.oim_meta.specs.Order.{IsInOrder, repeats_text};
+ghost use Rattle.oim_meta.specs.Order.{IsInOrder};
 ghost use Rattle.oim_meta.specs.UnknownColumn.{has_unknown_column};
 
 mod levels;
-mod made;
+pub(crate) mod made;
 mod places;
 mod tables;
 mod templates;
 
 use crate::build::levels::level;
-use crate::build::made::{copied, list_from, texts_at, vec_of};
+use crate::build::made::{copied, list_from, texts_at};
 use crate::build::tables::tables;
+use crate::check::namespaces::prefixes;
 use crate::data::Info;
-use crate::lookup::{object_at, text_at};
+use crate::lookup::text_at;
 use crate::parameters::Parameters;
 use crate::report::Report;
 use crate::types::Types;
-use oim_names::{Items, Namespaces, Text};
+use oim_names::{Items, Text};
 use serde_json::Value;
 use std::alloc::{AllocError, Global};
 pub(crate) use templates::kind_of;
@@ -44,19 +45,6 @@ fn info(alloc: Global, document: &Value) -> Result<Info, AllocError>
         base_url: copied(alloc, text_at(document, "baseURL"))?,
         taxonomy: texts_at(alloc, document, "taxonomy")?,
     })
-}
-
-fn namespaces(alloc: Global, document: &Value) -> Result<Namespaces, AllocError>
-    requires { repeats_text (section (codes "namespaces") (view document.now)) ≡ false }
-    ensures { IfOk result (λ made. made ≡ namespaces_of (view document.now)) }
-{
-    match object_at(document, "namespaces") {
-        Some(members) => {
-            let bindings = Items::from_vec(vec_of(alloc, members)?);
-            Ok(Namespaces::from_bindings(alloc, bindings))
-        }
-        None => Ok(Namespaces::new(alloc)),
-    }
 }
 
 /// The report's own parameters, then those of the parameters file.
@@ -95,7 +83,7 @@ pub(crate) fn report(
     let document = document_of(value, &nothing);
     Ok(Report {
         info: info(alloc, document)?,
-        namespaces: namespaces(alloc, document)?,
+        namespaces: prefixes(alloc, value)?,
         types,
         level: level(alloc, value)?,
         templates: list_from(alloc, value, "tableTemplates")?,

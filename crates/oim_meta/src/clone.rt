@@ -1,3 +1,5 @@
+//! Equal copies of a report and of its parts.
+
 ghost use Rattle.std.specs.Prelude.{◌≡◌};
 
 use crate::data::{Column, Info, Level, Table, Template, Written, WrittenDecimals};

@@ -1,4 +1,4 @@
-//! Columns that a template names and has not.
+//! References of a template to columns that it does not define.
 
 ghost use Rattle.std.specs.Prelude.{◌≡◌, option_map};
 ghost use Rattle.serde_json.specs.View.{view, items_view, members_view};
@@ -107,7 +107,7 @@ fn bad_templates(templates: &Map<String, Value>) -> bool
     false
 }
 
-/// Whether some template names a column that it has not.
+/// Whether some template refers to a column that it does not define.
 #[tactic(auto, unfolding(crate::specs::UnknownColumn::has_unknown_column))]
 pub(crate) fn unknown_column(report: &Value) -> bool
     ensures { result ≡ has_unknown_column (view report.now) }

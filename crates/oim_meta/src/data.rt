@@ -1,3 +1,5 @@
+//! The parts of a report.
+
 use oim_cells::Accuracy;
 use oim_names::{Items, Text};
 

@@ -1,3 +1,5 @@
+//! Building decimals.
+
 ghost use Rattle.std.specs.Prelude.{◌≡◌, IfOk};
 ghost use Rattle.serde_json.specs.View.{view};
 ghost use Rattle.oim_cells.specs.Cells.{accuracy_of};

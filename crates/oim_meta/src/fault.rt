@@ -1,3 +1,5 @@
+//! The faults of a metadata, a parameters file and a types table.
+
 ghost use Rattle.std.specs.Prelude.{◌≡◌};
 ghost use Rattle.oim_meta.specs.FaultNames.{fault_number, fault_name};
 
@@ -6,22 +8,22 @@ use thiserror::Error;
 /// Why a metadata, its parameters file or its types table is refused.
 #[derive(Clone, Copy, Debug, PartialEq, Eq, Error)]
 pub enum MetaFault {
-    /// The bytes are no JSON text in UTF-8.
+    /// The bytes are not well-formed JSON in UTF-8.
     #[error("Syntax")]
     Syntax,
-    /// The value is no object, or its document is not of the type xBRL-CSV.
+    /// The value is not an object, or its document is not of the type xBRL-CSV.
     #[error("NotReport")]
     NotReport,
-    /// The namespaces are no object of texts, a prefix is no NCName, or a URI has two prefixes.
+    /// The namespaces are not an object of texts, a prefix is not an NCName, or a URI has two prefixes.
     #[error("BadNamespaces")]
     BadNamespaces,
-    /// The taxonomy is no list of texts, or the base URL no text.
+    /// The taxonomy is not a list of texts, or the base URL is not a text.
     #[error("BadTaxonomy")]
     BadTaxonomy,
     /// The metadata extends another, or has links.
     #[error("Unsupported")]
     Unsupported,
-    /// The key of a template, table or column is no identifier.
+    /// The key of a template, table or column is not an identifier.
     #[error("BadIdentifier")]
     BadIdentifier,
     /// A template, column, property group, table or list of dimensions has a wrong shape.
@@ -30,29 +32,29 @@ pub enum MetaFault {
     /// A column is of two or three of the kinds fact, property group and comment.
     #[error("ColumnKinds")]
     ColumnKinds,
-    /// A table's template is not there.
+    /// A table names a template that is not there.
     #[error("UnknownTemplate")]
     UnknownTemplate,
-    /// A column that a template names is not there.
+    /// A template refers to a column that it does not define.
     #[error("UnknownColumn")]
     UnknownColumn,
-    /// The key or the value of a dimension is none.
+    /// The key of a dimension is not known, or its value is not well-formed.
     #[error("BadDimension")]
     BadDimension,
-    /// Decimals have none of their forms.
+    /// The value of `decimals` is not well-formed.
     #[error("BadDecimals")]
     BadDecimals,
-    /// Parameters are no texts by identifiers, a name stands twice, or the parameters file's name
-    /// is no plain path.
+    /// Parameters are not texts under identifiers, a name stands twice, or the parameters file's name
+    /// is not a plain path.
     #[error("BadParameter")]
     BadParameter,
-    /// The types table has a wrong record.
+    /// The types table has a bad record.
     #[error("BadTypes")]
     BadTypes,
     /// More bytes, tables, columns or records than the limit.
     #[error("TooLarge")]
     TooLarge,
-    /// A growth was refused.
+    /// Memory ran out.
     #[error("Memory")]
     Memory,
     /// The reader failed.

@@ -1,3 +1,5 @@
+//! What a name of a taxonomy stands for.
+
 use oim_cells::NumberKind;
 
 /// What a name of a taxonomy stands for: a concept of numbers, of texts or of other values, or a

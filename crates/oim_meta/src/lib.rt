@@ -12,7 +12,7 @@
 //!   identifiers (`stands_in_order`, `specs/InOrder.antt`);
 //! - `Records` gives the records of a CSV file one at a time, past one byte-order mark.
 //!
-//! Want of memory and a reader that fails apart. The layers above never meet a half-checked report.
+//! All this holds apart from running out of memory and readers that fail. The layers above never meet a half-checked report.
 #![tactic(auto)]
 
 mod build;
@@ -23,6 +23,7 @@ mod data;
 mod decimals;
 mod entries;
 mod fault;
+mod fault_laws;
 mod fields;
 mod file_laws;
 mod kind;
@@ -41,6 +42,7 @@ mod written;
 
 pub use data::{Column, ColumnKind, Info, Level, Side, Table, Template, Written, WrittenDecimals};
 pub use fault::MetaFault;
+pub use fault_laws::first_fault_is_least;
 pub use file_laws::{fault_is_of_earliest_record, types_are_of_all_records};
 pub use kind::Kind;
 pub use limits::Limits;

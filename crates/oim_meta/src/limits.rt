@@ -1,3 +1,5 @@
+//! How large a report may be.
+
 ghost use Rattle.std.specs.Prelude.{◌≡◌};
 
 /// How large a report may be. A value equal to its limit is accepted.

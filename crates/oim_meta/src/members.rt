@@ -40,7 +40,7 @@ pub(crate) fn any_member_at<T: MemberTest>(test: &T, value: &Value, key: &str) -
     }
 }
 
-/// Whether a value is no object, or some member of it passes the test.
+/// Whether a value is not an object, or some member of it passes the test.
 pub(crate) fn is_no_object_or_any<T: MemberTest>(test: &T, value: &Value) -> bool
     ensures { result ≡ no_object_or (some_member (T.test test.now)) (view value.now) }
 {
@@ -50,7 +50,7 @@ pub(crate) fn is_no_object_or_any<T: MemberTest>(test: &T, value: &Value) -> boo
     }
 }
 
-/// Whether there is a value at a key that is no object, or some member of which passes the test.
+/// Whether there is a value at a key that is not an object, or some member of which passes the test.
 pub(crate) fn is_bad_object_at<T: MemberTest>(test: &T, value: &Value, key: &str) -> bool
     ensures { result
         ≡ if_there (no_object_or (some_member (T.test test.now))) (get key.now (view value.now)) }

@@ -43,7 +43,7 @@ impl<V> Named<V> {
         self.entries.get(name)
     }
 
-    /// Adds a value as the last. Fails where memory is short.
+    /// Adds a value as the last. Fails where memory runs out.
     pub(crate) fn push(&mut self, name: String, value: V) -> Result<(), AllocError>
     where
         V: Drop,

@@ -1,3 +1,5 @@
+//! One text under two names.
+
 ghost use Rattle.std.specs.Prelude.{◌≡◌};
 ghost use Rattle.serde_json.specs.View.{members_view};
 ghost use Rattle.oim_meta.specs.Order.{has_other as other_has, repeats_text as repeated};

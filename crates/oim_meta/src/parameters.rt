@@ -202,10 +202,10 @@ fn read_file<R: Read>(
 ///
 /// It answers the fault of the earliest bad record:
 ///
-/// - `BadParameter`: a record of another length than the header's, a field that is no UTF-8, a name
-///   that is no identifier or that an earlier record has, another header, or no record at all;
+/// - `BadParameter`: a record of another length than the header's, a field that is not UTF-8, a name
+///   that is not an identifier or that an earlier record has, another header, or no record at all;
 /// - `TooLarge`: a record after the 65,536th data record, whatever it holds;
-/// - `Memory`: a growth was refused;
+/// - `Memory`: memory ran out;
 /// - `Read`: the reader failed.
 pub fn read_parameters<R: Read + Drop>(alloc: Global, reader: R) -> Result<Parameters, MetaFault>
     ensures { IfSome (R.remaining reader) (λ bytes. OrOutside result (parameters_result (grid bytes))) }

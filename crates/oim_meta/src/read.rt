@@ -9,9 +9,10 @@ ghost use Rattle.oim_meta.specs.Faults.{has_bad_identifier, has_bad_namespaces, 
 ghost use Rattle.oim_meta.specs.Order.{IsInOrder};
 ghost use Rattle.oim_meta.specs.UnknownColumn.{has_unknown_column};
 ghost use Rattle.oim_meta.specs.FirstFault.{first_fault, late_fault};
-ghost use Rattle.oim_meta.specs.Reading.{IsJson, IsNoJson, SaysReport, IsFault, SaysUrl, IsUrlFault, first_url_fault};
+ghost use Rattle.oim_meta.specs.Reading.{IsJson, IsNoJson, IsFaultOf, SaysReport, IsFault, SaysUrl, IsUrlFault, first_url_fault};
 
 use crate::build;
+use crate::build::made::copied;
 use crate::check::counts::too_many;
 use crate::check::decimals::bad_decimals;
 use crate::check::dimensions::bad_dimensions;
@@ -30,9 +31,21 @@ use crate::parameters::Parameters;
 use crate::report::Report;
 use crate::types::Types;
 use oim_names::Text;
-use serde_json::Value;
-use std::alloc::{AllocError, Global};
+use serde_json::{Error, Value};
+use std::alloc::Global;
 
+/// The fault of bytes that could not be read as JSON.
+fn fault_of(error: &Error) -> MetaFault
+    ensures { IsFaultOf error.now result }
+{
+    if error.is_memory() {
+        MetaFault::Memory
+    } else {
+        MetaFault::Syntax
+    }
+}
+
+/// The JSON value of the bytes.
 fn parse(alloc: Global, bytes: &[u8]) -> Result<Value, MetaFault>
     ensures json { IfOk result (λ v. IsJson bytes.now (view v)) }
     ensures order { IfOk result (λ v. IsInOrder (view v)) }
@@ -41,8 +54,7 @@ fn parse(alloc: Global, bytes: &[u8]) -> Result<Value, MetaFault>
     let text = bytes.strip_prefix(b"\xef\xbb\xbf").unwrap_or(bytes);
     match Value::from_slice(alloc, text) {
         Ok(value) => Ok(value),
-        Err(error) if error.is_memory() => Err(MetaFault::Memory),
-        Err(_) => Err(MetaFault::Syntax),
+        Err(error) => Err(fault_of(&error)),
     }
 }
 
@@ -128,8 +140,8 @@ fn check(
 /// The report that a metadata says, with the parameters of its parameters file and its types.
 ///
 /// Refuses the first fault that it has: `TooLarge` for the bytes, then `Syntax` to `BadParameter`
-/// in the order of their numbers, then `TooLarge` for the tables and columns. `Memory` stands
-/// wherever a growth was refused.
+/// in the order of their numbers, then `TooLarge` for the tables and columns. `Memory` comes
+/// wherever memory runs out.
 pub fn read_report(
     alloc: Global,
     bytes: &[u8],
@@ -151,16 +163,7 @@ pub fn read_report(
     }
 }
 
-fn optional_text(alloc: Global, text: Option<&str>) -> Result<Option<Text>, AllocError>
-    ensures { IfOk result (λ made. made ≡ option_map (λ s. s.now) text.entry) }
-{
-    match text {
-        Some(text) => Ok(Some(Text::from_str(alloc, text)?)),
-        None => Ok(None),
-    }
-}
-
-/// Refuses what is no report, and a name of the parameters file that is no plain path.
+/// Refuses what is not a report, and a name of the parameters file that is not a plain path.
 fn check_url(report: &Value) -> Result<(), MetaFault>
     ensures sound { OnOk result (first_url_fault (view report.now) ≡ None) }
     ensures fault { IfErr result (λ fault. first_url_fault (view report.now) ≡ Some fault) }
@@ -177,9 +180,9 @@ fn check_url(report: &Value) -> Result<(), MetaFault>
 /// The name of the parameters file that a metadata gives, a plain path, or `None` where it gives
 /// none.
 ///
-/// Refuses `TooLarge` for the bytes, `Syntax`, `NotReport`, and `BadParameter` where the name is no
-/// text or no plain path; no other fault is looked for. `Memory` stands wherever a growth was
-/// refused.
+/// Refuses `TooLarge` for the bytes, `Syntax`, `NotReport`, and `BadParameter` where the name is not
+/// a text or not a plain path; no other fault is looked for. `Memory` comes wherever memory runs
+/// out.
 pub fn parameter_url(
     alloc: Global,
     bytes: &[u8],
@@ -193,7 +196,7 @@ pub fn parameter_url(
     }
     let value = parse(alloc, bytes)?;
     check_url(&value)?;
-    match optional_text(alloc, text_at(&value, "parameterURL")) {
+    match copied(alloc, text_at(&value, "parameterURL")) {
         Ok(url) => Ok(url),
         Err(_) => Err(MetaFault::Memory),
     }

@@ -1,3 +1,5 @@
+//! The readers of a report.
+
 ghost use Rattle.std.specs.Prelude.{◌≡◌, ◌<◌, length, IfOk, IfSome};
 ghost use Rattle.std.specs.List.{All};
 ghost use Rattle.std.specs.Option.{option_map};
@@ -156,7 +158,7 @@ impl Report {
         let _level = &self.level;
     }
 
-    /// An equal report. The first stays as it is. Fails where memory is short.
+    /// An equal report. The first stays as it is. Fails where memory runs out.
     pub fn clone_report(&self) -> Result<Report, AllocError>
         ensures { IfOk result (λ copy. copy ≡ self.now) }
     {

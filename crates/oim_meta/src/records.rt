@@ -1,8 +1,10 @@
 //! The records of a CSV file, one at a time.
 
-ghost use Rattle.std.specs.Prelude.{◌≡◌, option_map, IfOk, None, true};
+ghost use Rattle.std.specs.Prelude.{◌≡◌, [], option_map, MatchResult, Some, true};
+ghost use Rattle.csv.specs.Reading.{stops_reader};
 ghost use Rattle.csv.specs.Records.{fields_of};
 ghost use Rattle.oim_meta.specs.Grid.{grid};
+ghost use Rattle.oim_meta.specs.ReadFaults.{fault_of_kind};
 ghost use Rattle.oim_meta.specs.Taking.{TakesRecord};
 
 use csv::{ByteRecord, ErrorKind, Reader, ReaderBuilder};
@@ -15,27 +17,41 @@ use std::marker::Model;
 pub enum ReadFault {
     /// The reader failed.
     Read,
-    /// A growth was refused.
+    /// Memory ran out.
     Memory,
+}
+
+/// The fault of an error that stops a reader.
+fn fault_of(kind: &ErrorKind) -> ReadFault
+    requires { stops_reader kind.now ≡ true }
+    ensures { result ≡ fault_of_kind kind.now }
+{
+    match kind {
+        ErrorKind::Io(_) => ReadFault::Read,
+        ErrorKind::OutOfMemory => ReadFault::Memory,
+        _ => unreachable!(),
+    }
 }
 
 /// The records that are left in a CSV file (RFC 4180): fields part at commas, and a quote is doubled
 /// inside quotes; records part at LF, CR or CRLF, and may differ in length; a line without a character
-/// is no record. A contract sees the list of those left, where the reader tells its bytes.
+/// is not a record. A contract sees the list of those left, where the reader tells its bytes; after the end
+/// or a fault it is empty, whatever the reader.
 #[derive(Drop)]
 pub struct Records<R: Read> {
     reader: Reader<R>,
+    has_ended: bool,
 }
 
 impl<R: Read> Model for Records<R> {
-    ghost use Rattle.std.specs.Prelude.{List, Option, option_map};
+    ghost use Rattle.std.specs.Prelude.{List, [], Option, Some, option_map, if◌then◌else◌};
     ghost use Rattle.csv.specs.Reading.{reader_state, source_of};
     ghost use Rattle.oim_meta.specs.Grid.{Record, records_left};
     ghost use Rattle.oim_meta.specs.Taking.{IsPlainUnlessFailed};
 
     ghost Value = { Option (List Record) };
 
-    ghost view = { λ a. option_map (records_left (reader_state a.reader)) (source_of R.remaining a.reader) };
+    ghost view = { λ a. if a.has_ended then Some [] else option_map (records_left (reader_state a.reader)) (source_of R.remaining a.reader) };
 
     ghost invariant = { λ a. IsPlainUnlessFailed a.reader };
 }
@@ -51,23 +67,32 @@ impl<R: Read> Records<R> {
                 .has_headers(false)
                 .flexible(true)
                 .from_reader(alloc, reader),
+            has_ended: false,
         }
     }
 
-    /// Reads the next record into `row`, and says whether there was one. After a fault there is none.
+    /// Reads the next record into `row`, and says whether there was one. After the end or a fault there are no
+    /// more, and nothing is read.
     ///
     /// - `Read`: the reader failed;
-    /// - `Memory`: a growth was refused.
+    /// - `Memory`: memory ran out.
     pub fn read(&mut self, row: &mut ByteRecord) -> Result<bool, ReadFault>
-        ensures { IfOk result (λ found. TakesRecord self.old found (fields_of row.new) self.new) }
+        ensures { MatchResult result (λ found. TakesRecord self.old found (fields_of row.new) self.new) (λ _. self.new ≡ Some []) }
     {
+        if self.has_ended {
+            row.clear();
+            return Ok(false);
+        }
         match self.reader.read_byte_record(row) {
-            Ok(found) => Ok(found),
-            Err(error) => match error.kind() {
-                ErrorKind::Io(_) => Err(ReadFault::Read),
-                ErrorKind::OutOfMemory => Err(ReadFault::Memory),
-                _ => unreachable!(),
-            },
+            Ok(true) => Ok(true),
+            Ok(false) => {
+                self.has_ended = true;
+                Ok(false)
+            }
+            Err(error) => {
+                self.has_ended = true;
+                Err(fault_of(error.kind()))
+            }
         }
     }
 }

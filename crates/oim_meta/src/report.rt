@@ -1,3 +1,5 @@
+//! A report: its metadata, parameters and types.
+
 use crate::data::{Info, Level, Table, Template};
 use crate::types::Types;
 use oim_names::{Items, Namespaces, Text};

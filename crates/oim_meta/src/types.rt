@@ -177,11 +177,11 @@ fn read_file<R: Read>(
 ///
 /// It answers the fault of the earliest bad record:
 ///
-/// - `BadTypes`: a record of another length than the header's, a field that is no UTF-8, a name that is
-///   no NCName or that an earlier record of the namespace has, another type word, another header, or no
+/// - `BadTypes`: a record of another length than the header's, a field that is not UTF-8, a name that is
+///   not an NCName or that an earlier record of the namespace has, another type word, another header, or no
 ///   record at all;
 /// - `TooLarge`: a record after the 1,048,576th data record, whatever it holds;
-/// - `Memory`: a growth was refused;
+/// - `Memory`: memory ran out;
 /// - `Read`: the reader failed.
 pub fn read_types<R: Read + Drop>(alloc: Global, reader: R) -> Result<Types, MetaFault>
     ensures { IfSome (R.remaining reader) (λ bytes. OrOutside result (types_result (grid bytes))) }

@@ -1,3 +1,5 @@
+//! Building a dimension's written value.
+
 ghost use Rattle.std.specs.Prelude.{◌≡◌, IfOk, option_map};
 ghost use Rattle.oim_cells.specs.Cells.{meaning_of};
 ghost use Rattle.oim_meta.specs.Written.{strip_front as front_stripped, strip_back as back_stripped, named as named_of, reference_of, literal_by, written_of};

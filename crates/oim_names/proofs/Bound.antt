@@ -10,7 +10,8 @@ use Rattle.std.specs.Str.{bytes_eq}
 use Rattle.std.proofs.lemmas.Cmp.{nat_list_cmp_total, nat_list_eq_equiv}
 use Rattle.std.proofs.lemmas.Map.Text.{is_eq-slice_cmp}
 use Rattle.std.proofs.lemmas.Slice.Eq.{bytes_eq-Decides}
-use Rattle.oim_names.specs.Bindings.{Bindings, AreInOrder, HaveOwnUris, uri_of, has_uri, is_before, bound, Extends}
+use Rattle.oim_names.specs.Bindings.{Bindings, AreInOrder, HaveOwnUris, IsNamespaces, uri_of, has_uri, is_before, bound, Extends}
+use Rattle.oim_names.specs.Names.{is_ncname}
 
 abbrev order : List ℕ → List ℕ → Ordering
 order = slice_cmp nat_cmp
@@ -158,9 +159,10 @@ placed (e ∷ es) p u s n =
     ap (λ n. insert (e ∷ es) n (p, u)) i ∙ sym (bound_here e es p u h s.0))
 
 -- what stands after a binding was put at its place, or was not
-pub kept : (b : Bool) (es new : Bindings) (p u : List ℕ) → AreInOrder es → HaveOwnUris es → is_some (uri_of es p) ≡ false → has_uri es u ≡ false → new ≡ cond b (bound es p u) es → AreInOrder new × HaveOwnUris new
-kept true es new p u s d n m e = rw e (bound_in_order es p u s n, bound_own_uris es p u s d n m)
-kept false es new p u s d n m e = rw e (s, d)
+pub kept : (b : Bool) (es new : Bindings) (p u : List ℕ) → IsNamespaces es → is_ncname p ≡ true → is_some (uri_of es p) ≡ false → has_uri es u ≡ false → new ≡ cond b (bound es p u) es → IsNamespaces new
+kept true es new p u are name n m e =
+    rw e (bound_in_order es p u are.0 n, bound_own_uris es p u are.0 are.1 n m, all_bound (λ e. e.0) (λ prefix. is_ncname prefix ≡ true) es p u are.2 name)
+kept false es new p u are name n m e = rw e are
 
 -- the bindings as a map: the new prefix has the new URI, any other what it had
 one_of_two : (a b : Bool) (x y : Option (List ℕ)) (z : Option (List ℕ)) → (a ≡ true → b ≡ true → ⊥) → cond a x (cond b y z) ≡ cond b y (cond a x z)

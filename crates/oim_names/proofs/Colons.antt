@@ -2,7 +2,7 @@
 use Rattle.std.proofs.Common.{◌≡◌, ◌⊎◌, inl, inr, ℕ, zero, suc, ◌+◌, ◌<◌, ◌≤◌, List, [], ◌∷◌, ◌++◌, take, refl, sym, ap, subst, ◌∙◌, arith, length, get_or, append_assoc, codes, Some, None, Option, Bool, true, false, not, ◌==◌, ◌&&◌, cond}
 use Rattle.std.specs.List.{position_or_len, before_first, after_first}
 use Rattle.std.specs.Option.{option_map}
-use Rattle.std.specs.Str.{IsUtf8}
+use Rattle.std.specs.Str.{IsUtf8, is_utf8}
 use Rattle.std.proofs.lemmas.Bool.{eqb-true, cases_lt}
 use Rattle.std.proofs.Math.ListN.{drop_of_length-le}
 use Rattle.std.proofs.lemmas.List.Sums.{split_at_first, passes_at_first}
@@ -24,7 +24,7 @@ colon_is_no_name = refl
 
 empty_is_no_name : is_ncname [] ≡ false
 unfolding is_ncname
-empty_is_no_name = rw chars-nil refl
+empty_is_no_name = rw chars-nil (both_false (is_utf8 []))
 
 empty_is_not_solid : is_solid [] ≡ false
 empty_is_not_solid = refl

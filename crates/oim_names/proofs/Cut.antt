@@ -8,6 +8,7 @@ use Rattle.std.proofs.lemmas.Str.Pattern.{NoCharPasses-char}
 use Rattle.std.proofs.Math.Seq.{take-append_seam, get_or-append_seam, drop-append-add}
 use Rattle.oim_names.specs.Names.{is_name_start, is_name_char, is_plain_char, is_ncname, is_identifier, is_row_identifier, begins_and_goes_on}
 use Rattle.oim_names.specs.QName.{Lacks}
+use Rattle.oim_names.proofs.Truth.{two_true}
 
 pub eqb_of : (a b : ℕ) → (a ≡ b → ⊥) → (a == b) ≡ false
 eqb_of a b n = by (a == b) refl
@@ -59,7 +60,8 @@ name_passes m (c ∷ cs) f h = by (is_name_start c) refl h
 pub name_lacks : (m : ℕ) (s : List ℕ) → m < 128 → is_name_char m ≡ false → IsUtf8 s → is_ncname s ≡ true → Lacks m s
 unfolding is_ncname
 name_lacks m s l f u n =
-    let p : NoCharPasses (λ c. c == m) s = (chars s, encodes-chars s u, name_passes m (chars s) f n) in
+    let begun = (two_true (is_utf8 s) (begins_and_goes_on is_name_start is_name_char (chars s)) n).1 in
+    let p : NoCharPasses (λ c. c == m) s = (chars s, encodes-chars s u, name_passes m (chars s) f begun) in
     lacks_by_index m s (λ i k. NoCharPasses-char m s i p l k)
 
 -- a plain character is no point

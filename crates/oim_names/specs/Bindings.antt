@@ -1,12 +1,13 @@
 -- Prefixes with their URIs (the namespaces of Open Information Model 1.0), as a list in byte order of prefix.
-use Rattle.std.specs.Prelude.{◌≡◌, ℕ, List, ◌∷◌, ◌++◌, Option, Some, Bool, filter, if◌then◌else◌}
-use Rattle.std.specs.List.{list_any, IsDistinct}
+use Rattle.std.specs.Prelude.{◌≡◌, ℕ, List, ◌∷◌, ◌++◌, Option, Some, Bool, true, filter, if◌then◌else◌}
+use Rattle.std.specs.List.{AllByRecursion, list_any, IsDistinct}
 use Rattle.std.specs.List.Sorted.{IsStrictlySortedBy}
 use Rattle.std.specs.Map.{keys_of, values_of}
 use Rattle.std.specs.Cmp.Lexicographic.{slice_cmp}
 use Rattle.std.specs.Ordering.{nat_cmp, is_lt}
 use Rattle.std.specs.Str.{bytes_eq}
 use Rattle.oim_names.specs.Lookup.{value_at}
+use Rattle.oim_names.specs.Names.{is_ncname}
 
 abbrev pub Bindings : Type 0
 Bindings = List (List ℕ × List ℕ)
@@ -19,9 +20,13 @@ AreInOrder b = IsStrictlySortedBy (slice_cmp nat_cmp) (keys_of b)
 abbrev pub HaveOwnUris : Bindings → Type 0
 HaveOwnUris b = IsDistinct bytes_eq (values_of b)
 
+-- each prefix is a name without a colon
+abbrev pub HaveNames : Bindings → Type 0
+HaveNames b = AllByRecursion (λ prefix. is_ncname prefix ≡ true) (keys_of b)
+
 -- a list that a value of namespaces may be
 abbrev pub IsNamespaces : Bindings → Type 0
-IsNamespaces b = AreInOrder b × HaveOwnUris b
+IsNamespaces b = AreInOrder b × HaveOwnUris b × HaveNames b
 
 -- the URI of a prefix
 abbrev pub uri_of : Bindings → List ℕ → Option (List ℕ)

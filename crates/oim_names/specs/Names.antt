@@ -28,11 +28,11 @@ abbrev pub begins_and_goes_on : {X : Type 0} → (X → Bool) → (X → Bool) �
 begins_and_goes_on first other [] = false
 begins_and_goes_on first other (x ∷ xs) = first x && list_all other xs
 
--- a name without a colon (Namespaces in XML 1.0: NCName)
+-- a name without a colon (Namespaces in XML 1.0: NCName); what is not UTF-8 is not a text
 unfoldable pub is_ncname : List ℕ → Bool
-is_ncname t = begins_and_goes_on is_name_start is_name_char (chars t)
+is_ncname t = is_utf8 t && begins_and_goes_on is_name_start is_name_char (chars t)
 
--- an identifier of xBRL-CSV 1.0: a text that is such a name without `.`; what isn't UTF-8 is no text
+-- an identifier of xBRL-CSV 1.0: a text that is such a name without `.`
 unfoldable pub is_identifier : List ℕ → Bool
 is_identifier t = is_utf8 t && begins_and_goes_on is_name_start is_plain_char (chars t)
 

@@ -1,3 +1,5 @@
+//! Language tags.
+
 ghost use Rattle.std.specs.Prelude.{◌≡◌, ◌↔◌, IfOk, IsSome};
 ghost use Rattle.std.specs.Int.{is_in_range};
 ghost use Rattle.std.specs.Option.{option_map};
@@ -38,7 +40,7 @@ fn is_other_part(text: &str) -> bool
     is_part_length(text.len()) && text.as_bytes().iter().all(|byte| is_letter_or_digit(*byte))
 }
 
-/// Whether a text is a language tag by its form.
+/// Whether a text has the form of a language tag.
 fn is_language(text: &str) -> bool
     ensures { result ≡ language_text text.now }
 {
@@ -51,7 +53,7 @@ fn is_language(text: &str) -> bool
 
 /// A language as it is written: 1 to 8 letters of `A` to `Z` and `a` to `z`, then any number of groups of `-` and 1 to 8
 /// such letters or digits (BCP 47; xBRL-JSON 1.0, language), with its letters in lower case. None for any other text.
-/// Fails where memory is short.
+/// Fails where memory runs out.
 pub fn language(alloc: Global, text: &str) -> Result<Option<String>, AllocError>
     ensures grammar { IfOk result (λ o. IsSome o ↔ IsLanguage text.now) }
     ensures value { IfOk result (λ o. option_map string_bytes o ≡ language_of text.now) }

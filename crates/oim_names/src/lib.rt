@@ -1,16 +1,16 @@
-//! Names of an Open Information Model report, by their texts: identifiers, prefixes with their URIs, qualified names,
-//! units and languages; and the types of texts and lists that the other crates share.
+//! Names in an Open Information Model report: identifiers, prefixes with their URIs, qualified names, units and
+//! languages. Also the text and list types that the other crates share.
 //!
 //! What is proved:
 //!
 //! - `is_identifier`, `is_row_identifier` and `is_ncname` are true exactly of the texts whose characters lie in the sets
 //!   of XML 1.0 fifth edition.
-//! - `Namespaces` is a finite map from prefix to URI in which no URI stands twice, listed in byte order of prefix. `add`
-//!   answers each fault exactly where it is due, and a refusal changes nothing.
-//! - `qname`, `sqname`, `unit` and `language` give a value exactly where the grammar has the text, and then the one value
-//!   that the grammar gives; they are also equal to short functions, which the crates above cite.
+//! - `Namespaces` is a finite map from prefixes, which are names, to URIs, of which none stands twice. It is listed in
+//!   byte order of prefix. `add` answers each fault exactly where it is due, and a refusal changes nothing.
+//! - `qname`, `sqname`, `unit` and `language` give a value exactly where the text is in the grammar, and then the one value
+//!   that the grammar gives. They also equal short functions, which the crates above cite.
 //!
-//! None of these calls takes memory but `add` and `language`.
+//! Apart from `add` and `language`, none of these calls takes memory.
 #![tactic(auto)]
 
 mod languages;
@@ -28,6 +28,3 @@ pub use qnames::{qname, sqname};
 pub use text::{Items, Text, find};
 pub use unit_kind::UnitKind;
 pub use units::unit;
-
-#[cfg(test)]
-mod tests;

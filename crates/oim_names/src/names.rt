@@ -1,3 +1,5 @@
+//! Names by their characters: names without a colon, identifiers, row identifiers.
+
 ghost use Rattle.std.specs.Prelude.{◌≡◌};
 ghost use Rattle.oim_names.specs.Names.{is_name_start as name_start, is_name_char as name_char, is_plain_char as plain_char, is_ncname as ncname, is_identifier as identifier, is_row_identifier as row_identifier};
 

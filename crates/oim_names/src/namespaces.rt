@@ -1,22 +1,24 @@
+//! Namespaces: prefixes with their URIs.
+
 ghost use Rattle.std.specs.Prelude.{◌≡◌, ◌↔◌, ◌<◌, [], option_map, length, true, false, ◌||◌, is_some, OnOk, OnErr, Err, Some, slice_get};
 ghost use Rattle.std.specs.List.{prefix_len};
 ghost use Rattle.oim_names.specs.Names.{is_ncname as ncname};
 ghost use Rattle.oim_names.specs.Fault.{number_of, name_of};
-ghost use Rattle.oim_names.specs.Bindings.{AreInOrder, HaveOwnUris, uri_of, has_uri as uri_in, is_before, bound, Extends, IsNamespaces};
+ghost use Rattle.oim_names.specs.Bindings.{AreInOrder, HaveOwnUris, HaveNames, uri_of, has_uri as uri_in, is_before, bound, Extends, IsNamespaces};
 
 use crate::is_ncname;
 use crate::text::{Items, Text, find};
 use std::alloc::{AllocError, Global};
 use std::marker::Model;
 
-/// Why a prefix can't be bound.
+/// Why a prefix cannot be bound to a URI.
 #[derive(Clone, Copy, Debug, PartialEq, Eq)]
 pub enum NameFault {
-    /// The prefix is no name without a colon.
+    /// The prefix is not a name without a colon.
     BadPrefix,
-    /// The prefix or the URI is there already.
+    /// The prefix or the URI is already there.
     Repeated,
-    /// Memory is short.
+    /// Memory ran out.
     Memory,
 }
 
@@ -45,7 +47,7 @@ impl NameFault {
 }
 
 /// The namespaces of a report: prefixes with their URIs, each prefix and each URI once. A prefix is a name without a colon
-/// (XML 1.0; Namespaces in XML 1.0), a URI any text. A contract sees the list of them in byte order of prefix.
+/// (XML 1.0; Namespaces in XML 1.0), and a URI is any text. A contract sees the list of them in byte order of prefix.
 #[derive(Drop)]
 pub struct Namespaces {
     bindings: Items<(Text, Text)>,
@@ -53,13 +55,13 @@ pub struct Namespaces {
 }
 
 impl Model for Namespaces {
-    ghost use Rattle.oim_names.specs.Bindings.{Bindings, AreInOrder, HaveOwnUris};
+    ghost use Rattle.oim_names.specs.Bindings.{Bindings, IsNamespaces};
 
     ghost Value = { Bindings };
 
     ghost view = { λ n. n.bindings };
 
-    ghost invariant = { λ n. AreInOrder n.bindings × HaveOwnUris n.bindings };
+    ghost invariant = { λ n. IsNamespaces n.bindings };
 }
 
 impl Clone for Namespaces {
@@ -101,8 +103,8 @@ impl Namespaces {
         }
     }
 
-    /// The namespaces of a list whose prefixes rise strictly in byte order and in which no URI stands twice. It takes no
-    /// memory.
+    /// The namespaces of a list of names with their URIs. The names rise strictly in byte order, and no URI stands twice.
+    /// It takes no memory.
     pub fn from_bindings(alloc: Global, bindings: Items<(Text, Text)>) -> Self
         requires { IsNamespaces bindings }
         ensures { result ≡ bindings }
@@ -110,16 +112,18 @@ impl Namespaces {
         Namespaces { bindings, alloc }
     }
 
-    /// How many prefixes there are. They rise strictly in byte order, and no URI stands twice. It takes no memory.
+    /// How many prefixes there are. They are names without a colon and rise strictly in byte order, and no URI stands
+    /// twice. It takes no memory.
     pub fn len(&self) -> usize
         ensures count { result ≡ length self.now }
         ensures in_order { AreInOrder self.now }
         ensures own_uris { HaveOwnUris self.now }
+        ensures names { HaveNames self.now }
     {
         self.bindings.len()
     }
 
-    /// The URI of a prefix, None where the prefix isn't bound. It takes no memory.
+    /// The URI of a prefix, None where the prefix is not bound. It takes no memory.
     pub fn uri(&self, prefix: &str) -> Option<&str>
         ensures { option_map (λ u. u.now) result ≡ uri_of self.now prefix.now }
     {
@@ -138,8 +142,8 @@ impl Namespaces {
         (binding.0.as_str(), binding.1.as_str())
     }
 
-    /// Binds a prefix to a URI. BadPrefix where the prefix is no name without a colon, else Repeated where the prefix or
-    /// the URI is there already, else Memory where memory is short. A refusal changes nothing.
+    /// Binds a prefix to a URI. BadPrefix where the prefix is not a name without a colon, else Repeated where the
+    /// prefix or the URI is already there, else Memory where memory runs out. A refusal changes nothing.
     pub fn add(&mut self, prefix: &str, uri: &str) -> Result<(), NameFault>
         ensures bad_prefix { (result ≡ Err NameFault.BadPrefix) ↔ (ncname prefix.now ≡ false) }
         ensures repeated { (result ≡ Err NameFault.Repeated)

@@ -1,4 +1,4 @@
-//! Texts and lists that a contract sees as the list of their bytes, the list of their items.
+//! Texts and lists, which contracts see as the list of their bytes and the list of their items.
 
 ghost use Rattle.std.specs.Prelude.{◌≡◌, ◌++◌, ◌∷◌, [], ◌<◌, ◌≤◌, length, Some, IfOk, is_ok, if◌then◌else◌, slice_get};
 ghost use Rattle.std.specs.List.{insert as inserted};
@@ -42,14 +42,14 @@ impl Text {
         }
     }
 
-    /// A copy of a text. Fails where memory is short.
+    /// A copy of a text. Fails where memory runs out.
     pub fn from_str(alloc: Global, text: &str) -> Result<Text, AllocError>
         ensures { IfOk result (λ t. t ≡ text.now) }
     {
         Ok(Text::new(String::from_str(alloc, text)?))
     }
 
-    /// The same text, whose clones take no more memory. Fails where memory is short.
+    /// The same text, whose clones take no more memory. Fails where memory runs out.
     pub fn share(self) -> Result<Text, AllocError>
         ensures { IfOk result (λ t. t ≡ self) }
     {
@@ -127,7 +127,7 @@ impl<T> Items<T> {
         self.items
     }
 
-    /// Appends an item, which comes back where memory is short.
+    /// Appends an item, which comes back where memory runs out.
     pub fn push(&mut self, item: T) -> Result<(), AllocFailed<T>>
         ensures { self.new ≡ (if is_ok result then self.old ++ item ∷ [] else self.old) }
     {
@@ -135,7 +135,7 @@ impl<T> Items<T> {
     }
 
     /// Puts an item at a place, counted from 0; those from there on stand one place later. The item comes back where
-    /// memory is short.
+    /// memory runs out.
     pub fn insert(&mut self, place: usize, item: T) -> Result<(), AllocFailed<T>>
         requires { place ≤ length self.old }
         ensures { self.new ≡ (if is_ok result then inserted self.old place item else self.old) }
@@ -166,7 +166,7 @@ impl<T> Items<T> {
     }
 }
 
-/// The value beside a name, the first where the name stands twice. None where it doesn't stand there. It takes no memory.
+/// The value beside a name, the first where the name stands twice. None where it is not there. It takes no memory.
 pub fn find<'a, V>(entries: &'a [(Text, V)], name: &str) -> Option<&'a V>
     ensures { option_map (λ v. v.now) result ≡ value_at name.now entries.now }
 {

@@ -1,3 +1,5 @@
+//! What a unit is: pure, or written.
+
 /// What a unit is.
 #[derive(Clone, Copy, Debug, PartialEq, Eq)]
 pub enum UnitKind {

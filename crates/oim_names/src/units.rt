@@ -1,10 +1,12 @@
+//! Units.
+
 ghost use Rattle.std.specs.Prelude.{◌≡◌, ◌↔◌, Some, IsSome, is_some};
 ghost use Rattle.oim_names.specs.QName.{qname_of};
 ghost use Rattle.oim_names.specs.Unit.{HasMeasures, IsPure, inside as text_inside, is_side as side_in, is_unit as unit_in, is_pure_name, unit_of};
 
 use crate::{Namespaces, UnitKind, qname};
 
-/// The text without one pair of parentheses that stands round it.
+/// The text without a pair of parentheses around it.
 fn inside(text: &str) -> &str
     ensures { result.now ≡ text_inside text.now }
 {

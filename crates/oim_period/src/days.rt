@@ -1,3 +1,5 @@
+//! Whole days in a row.
+
 ghost use Rattle.std.specs.Prelude.{◌<◌};
 ghost use Rattle.oim_period.specs.Calendar.{day_limit};
 

@@ -5,10 +5,10 @@
 //! of days, a date and time, two of them with `/` between, or one side of a duration (xBRL-CSV 1.0, the short forms of periods; weeks,
 //! dates and times by ISO 8601). What this crate promises, for every text and every period:
 //!
-//! - [`read`] gives the period that the text means by the table of forms in `specs/Table.antt`, where it means one, and else `None`.
+//! - [`read`] gives the period that the text means by the table of forms in `specs/Table.antt`, or `None` where it means none.
 //!   No text means two periods.
-//! - [`Period::start_instant`] and [`Period::end_instant`] give the sides of a duration, and `None` of an instant alone.
-//! - [`Period::text`] gives the one written form, and reading it gives the period again. Only want of memory stops it.
+//! - [`Period::start_instant`] and [`Period::end_instant`] give the sides of a duration, and `None` for an instant alone.
+//! - [`Period::text`] gives the one written form, and reading it gives the period again. It fails only where memory runs out.
 //!
 //! `read` and the sides take no memory. `specs/Periods.antt` has the same as functions, which other crates' contracts name.
 #![tactic(auto)]
@@ -24,6 +24,3 @@ mod writer;
 
 pub use period::{Moment, Period, Span};
 pub use reader::read;
-
-#[cfg(test)]
-mod tests;

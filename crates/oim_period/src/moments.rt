@@ -1,3 +1,5 @@
+//! Moments, and durations between them.
+
 ghost use Rattle.std.specs.Prelude.{◌≡◌, ℕ, ◌↔◌, ◌+◌, ◌*◌, ◌<◌, ◌≤◌, Some, IsSome, IfSome, length, option_map};
 ghost use Rattle.oim_period.specs.Calendar.{day_limit, midnight as midnight_of};
 ghost use Rattle.oim_period.specs.Table.{IsMoment, IsDays, IsDuration};

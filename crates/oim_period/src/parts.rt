@@ -1,3 +1,5 @@
+//! The parts of a text: dates, times of day, whole days.
+
 ghost use Rattle.std.specs.Prelude.{◌≡◌, ℕ, ◌↔◌, ◌+◌, ◌*◌, ◌/◌, ◌%◌, ◌<◌, ◌≤◌, [], ◌∷◌, ◌++◌, codes, Some, IsSome, IfSome, length};
 ghost use Rattle.std.specs.Int.{IsInRange};
 ghost use Rattle.oim_period.specs.Calendar.{IsDate, IsYear, IsClock, day_limit};

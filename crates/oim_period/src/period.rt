@@ -1,3 +1,5 @@
+//! Periods, and the moments that they are made of.
+
 ghost use Rattle.std.specs.Prelude.{ℕ, ◌<◌};
 ghost use Rattle.oim_period.specs.Calendar.{day_limit, seconds_at};
 

@@ -1,3 +1,5 @@
+//! Reading a period.
+
 ghost use Rattle.std.specs.Prelude.{◌≡◌, ℕ, ◌↔◌, ◌+◌, ◌*◌, ◌<◌, ◌≤◌, Some, IsSome, IfSome, length, option_map};
 ghost use Rattle.oim_period.specs.Periods.{period_of};
 ghost use Rattle.oim_period.specs.Reads.{IsOnly, reading_of};

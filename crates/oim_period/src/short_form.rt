@@ -1,3 +1,5 @@
+//! The short forms: what follows the year.
+
 ghost use Rattle.std.specs.Prelude.{◌≡◌, ℕ, ◌↔◌, ◌+◌, ◌*◌, ◌/◌, ◌%◌, ◌<◌, ◌≤◌, [], ◌∷◌, ◌++◌, codes, Some, IsSome, IfSome};
 ghost use Rattle.std.specs.Int.{IsInRange};
 ghost use Rattle.oim_period.specs.Calendar.{IsDate, IsYear, IsWeek, day_number as number_of_day, week_start as monday_of_week, day_limit, month_start as first_of_month};

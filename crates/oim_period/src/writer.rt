@@ -1,3 +1,5 @@
+//! The written form of a period, and its sides.
+
 ghost use Rattle.std.specs.Prelude.{◌≡◌, ℕ, ◌+◌, ◌*◌, ◌<◌, ◌≤◌, List, [], ◌∷◌, ◌++◌, IfOk, OnOk, string_bytes, option_map};
 ghost use Rattle.oim_period.specs.Digits.{two, four, date_text, clock_text};
 ghost use Rattle.oim_period.specs.Table.{IsWritten, IsWrittenMoment, Means};
@@ -80,7 +82,7 @@ fn push_moment(text: &mut String, moment: Moment) -> Result<(), AllocError>
 impl Period {
     /// The written form: `yyyy-mm-ddThh:mm:ss`, or two of them with `/` between (Open Information Model 1.0, the period core dimension).
     ///
-    /// Reading it gives the period again. `AllocError` comes only for want of memory.
+    /// Reading it gives the period again. `AllocError` where memory runs out.
     pub fn text(&self, alloc: Global) -> Result<String, AllocError>
         ensures written { IfOk result (λ t. IsWritten (string_bytes t) (reading_of self.now)) }
         ensures value { IfOk result (λ t. string_bytes t ≡ period_text (reading_of self.now)) }
@@ -101,7 +103,7 @@ impl Period {
         }
     }
 
-    /// The instant at which a duration starts, and `None` of an instant (xBRL-CSV 1.0, `@start`).
+    /// The instant at which a duration starts, or `None` for an instant (xBRL-CSV 1.0, `@start`).
     #[tactic(auto, unfolding(crate::specs::Periods::start_of))]
     pub fn start_instant(&self) -> Option<Period>
         ensures { option_map reading_of result ≡ start_of (reading_of self.now) }
@@ -112,7 +114,7 @@ impl Period {
         }
     }
 
-    /// The instant at which a duration ends, and `None` of an instant (xBRL-CSV 1.0, `@end`).
+    /// The instant at which a duration ends, or `None` for an instant (xBRL-CSV 1.0, `@end`).
     #[tactic(auto, unfolding(crate::specs::Periods::end_of))]
     pub fn end_instant(&self) -> Option<Period>
         ensures { option_map reading_of result ≡ end_of (reading_of self.now) }

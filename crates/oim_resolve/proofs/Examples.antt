@@ -1,6 +1,7 @@
 -- Cells whose results are known, found by computing the definitions.
 use Rattle.std.proofs.Common.{◌≡◌, ℕ, ℤ, List, [], ◌∷◌, ◌++◌, Option, Some, None, Result, Ok, Err, codes, refl, false, pos, negsuc}
-use Rattle.std.specs.Str.{chars}
+use Rattle.std.specs.Str.{chars, is_utf8}
+use lib.Utf8.{encode}
 use Rattle.oim_names.specs.Bindings.{Bindings}
 use Rattle.oim_names.specs.Names.{is_ncname, is_name_char, is_name_start}
 use Rattle.oim_names.specs.QName.{qname_of, sqname_of}
@@ -127,37 +128,37 @@ abbrev note : Option (List ℕ) → Result (Option Fact) CellFault
 note value = fact (codes "x") value None (with_period (codes "eg:Note"))
 
 plain_number : in_base (codes "eg:Cash") (codes "100") ≡ cash (codes "x") (codes "100") (unit (codes "iso4217:EUR"))
-unfolding cell_result rest_faults fact_of meaning_of numeral_of accuracy_of chars is_ncname is_name_char is_name_start qname_of sqname_of unit_of language_of days_of_years days_of_months day_number is_date is_week is_clock one_at two_at four_at start_of end_of found first_some moment_by moment_of days_by days_of whole_days in_order pair_of duration_of without period_of first_number year_of month_of date_in_year day_text moment_text period_text
+unfolding cell_result rest_faults fact_of meaning_of numeral_of accuracy_of chars is_utf8 encode is_ncname is_name_char is_name_start qname_of sqname_of unit_of language_of days_of_years days_of_months day_number is_date is_week is_clock one_at two_at four_at start_of end_of found first_some moment_by moment_of days_by days_of whole_days in_order pair_of duration_of without period_of first_number year_of month_of date_in_year day_text moment_text period_text
 plain_number = refl
 
 text_cell : in_base (codes "eg:Note") (codes "first") ≡ note (Some (codes "first"))
-unfolding cell_result rest_faults fact_of meaning_of numeral_of accuracy_of chars is_ncname is_name_char is_name_start qname_of sqname_of unit_of language_of days_of_years days_of_months day_number is_date is_week is_clock one_at two_at four_at start_of end_of found first_some moment_by moment_of days_by days_of whole_days in_order pair_of duration_of without period_of first_number year_of month_of date_in_year day_text moment_text period_text
+unfolding cell_result rest_faults fact_of meaning_of numeral_of accuracy_of chars is_utf8 encode is_ncname is_name_char is_name_start qname_of sqname_of unit_of language_of days_of_years days_of_months day_number is_date is_week is_clock one_at two_at four_at start_of end_of found first_some moment_by moment_of days_by days_of whole_days in_order pair_of duration_of without period_of first_number year_of month_of date_in_year day_text moment_text period_text
 text_cell = refl
 
 -- SPECIAL VALUES in a text column
 
 special_empty : in_base (codes "eg:Note") (codes "#empty") ≡ note (Some [])
-unfolding cell_result rest_faults fact_of meaning_of numeral_of accuracy_of chars is_ncname is_name_char is_name_start qname_of sqname_of unit_of language_of days_of_years days_of_months day_number is_date is_week is_clock one_at two_at four_at start_of end_of found first_some moment_by moment_of days_by days_of whole_days in_order pair_of duration_of without period_of first_number year_of month_of date_in_year day_text moment_text period_text
+unfolding cell_result rest_faults fact_of meaning_of numeral_of accuracy_of chars is_utf8 encode is_ncname is_name_char is_name_start qname_of sqname_of unit_of language_of days_of_years days_of_months day_number is_date is_week is_clock one_at two_at four_at start_of end_of found first_some moment_by moment_of days_by days_of whole_days in_order pair_of duration_of without period_of first_number year_of month_of date_in_year day_text moment_text period_text
 special_empty = refl
 
 special_nil : in_base (codes "eg:Note") (codes "#nil") ≡ note None
-unfolding cell_result rest_faults fact_of meaning_of numeral_of accuracy_of chars is_ncname is_name_char is_name_start qname_of sqname_of unit_of language_of days_of_years days_of_months day_number is_date is_week is_clock one_at two_at four_at start_of end_of found first_some moment_by moment_of days_by days_of whole_days in_order pair_of duration_of without period_of first_number year_of month_of date_in_year day_text moment_text period_text
+unfolding cell_result rest_faults fact_of meaning_of numeral_of accuracy_of chars is_utf8 encode is_ncname is_name_char is_name_start qname_of sqname_of unit_of language_of days_of_years days_of_months day_number is_date is_week is_clock one_at two_at four_at start_of end_of found first_some moment_by moment_of days_by days_of whole_days in_order pair_of duration_of without period_of first_number year_of month_of date_in_year day_text moment_text period_text
 special_nil = refl
 
 special_doubled : in_base (codes "eg:Note") (codes "##x") ≡ note (Some (codes "#x"))
-unfolding cell_result rest_faults fact_of meaning_of numeral_of accuracy_of chars is_ncname is_name_char is_name_start qname_of sqname_of unit_of language_of days_of_years days_of_months day_number is_date is_week is_clock one_at two_at four_at start_of end_of found first_some moment_by moment_of days_by days_of whole_days in_order pair_of duration_of without period_of first_number year_of month_of date_in_year day_text moment_text period_text
+unfolding cell_result rest_faults fact_of meaning_of numeral_of accuracy_of chars is_utf8 encode is_ncname is_name_char is_name_start qname_of sqname_of unit_of language_of days_of_years days_of_months day_number is_date is_week is_clock one_at two_at four_at start_of end_of found first_some moment_by moment_of days_by days_of whole_days in_order pair_of duration_of without period_of first_number year_of month_of date_in_year day_text moment_text period_text
 special_doubled = refl
 
 special_none : in_base (codes "eg:Note") (codes "#none") ≡ Ok None
-unfolding cell_result rest_faults fact_of meaning_of numeral_of accuracy_of chars is_ncname is_name_char is_name_start qname_of sqname_of unit_of language_of days_of_years days_of_months day_number is_date is_week is_clock one_at two_at four_at start_of end_of found first_some moment_by moment_of days_by days_of whole_days in_order pair_of duration_of without period_of first_number year_of month_of date_in_year day_text moment_text period_text
+unfolding cell_result rest_faults fact_of meaning_of numeral_of accuracy_of chars is_utf8 encode is_ncname is_name_char is_name_start qname_of sqname_of unit_of language_of days_of_years days_of_months day_number is_date is_week is_clock one_at two_at four_at start_of end_of found first_some moment_by moment_of days_by days_of whole_days in_order pair_of duration_of without period_of first_number year_of month_of date_in_year day_text moment_text period_text
 special_none = refl
 
 special_nothing : in_base (codes "eg:Note") ([]) ≡ Ok None
-unfolding cell_result rest_faults fact_of meaning_of numeral_of accuracy_of chars is_ncname is_name_char is_name_start qname_of sqname_of unit_of language_of days_of_years days_of_months day_number is_date is_week is_clock one_at two_at four_at start_of end_of found first_some moment_by moment_of days_by days_of whole_days in_order pair_of duration_of without period_of first_number year_of month_of date_in_year day_text moment_text period_text
+unfolding cell_result rest_faults fact_of meaning_of numeral_of accuracy_of chars is_utf8 encode is_ncname is_name_char is_name_start qname_of sqname_of unit_of language_of days_of_years days_of_months day_number is_date is_week is_clock one_at two_at four_at start_of end_of found first_some moment_by moment_of days_by days_of whole_days in_order pair_of duration_of without period_of first_number year_of month_of date_in_year day_text moment_text period_text
 special_nothing = refl
 
 special_unknown : in_base (codes "eg:Note") (codes "#foo") ≡ Err fault.UnknownSpecial
-unfolding cell_result rest_faults fact_of meaning_of numeral_of accuracy_of chars is_ncname is_name_char is_name_start qname_of sqname_of unit_of language_of days_of_years days_of_months day_number is_date is_week is_clock one_at two_at four_at start_of end_of found first_some moment_by moment_of days_by days_of whole_days in_order pair_of duration_of without period_of first_number year_of month_of date_in_year day_text moment_text period_text
+unfolding cell_result rest_faults fact_of meaning_of numeral_of accuracy_of chars is_utf8 encode is_ncname is_name_char is_name_start qname_of sqname_of unit_of language_of days_of_years days_of_months day_number is_date is_week is_clock one_at two_at four_at start_of end_of found first_some moment_by moment_of days_by days_of whole_days in_order pair_of duration_of without period_of first_number year_of month_of date_in_year day_text moment_text period_text
 special_unknown = refl
 
 -- NUMERALS, with report decimals 0
@@ -168,23 +169,23 @@ abbrev rate : List ℕ → Option ℤ → Result (Option Fact) CellFault
 rate value decimals = fact (codes "x") (Some value) decimals (with_period (codes "eg:Rate") ++ unit (codes "iso4217:EUR"))
 
 numeral_suffix : in_rate (codes "1250.5d-2") ≡ rate (codes "1250.5") (Some (negsuc 1))
-unfolding cell_result rest_faults fact_of meaning_of numeral_of accuracy_of chars is_ncname is_name_char is_name_start qname_of sqname_of unit_of language_of days_of_years days_of_months day_number is_date is_week is_clock one_at two_at four_at start_of end_of found first_some moment_by moment_of days_by days_of whole_days in_order pair_of duration_of without period_of first_number year_of month_of date_in_year day_text moment_text period_text
+unfolding cell_result rest_faults fact_of meaning_of numeral_of accuracy_of chars is_utf8 encode is_ncname is_name_char is_name_start qname_of sqname_of unit_of language_of days_of_years days_of_months day_number is_date is_week is_clock one_at two_at four_at start_of end_of found first_some moment_by moment_of days_by days_of whole_days in_order pair_of duration_of without period_of first_number year_of month_of date_in_year day_text moment_text period_text
 numeral_suffix = refl
 
 numeral_plain : in_rate (codes " 7 ") ≡ rate (codes "7") (Some (pos 0))
-unfolding cell_result rest_faults fact_of meaning_of numeral_of accuracy_of chars is_ncname is_name_char is_name_start qname_of sqname_of unit_of language_of days_of_years days_of_months day_number is_date is_week is_clock one_at two_at four_at start_of end_of found first_some moment_by moment_of days_by days_of whole_days in_order pair_of duration_of without period_of first_number year_of month_of date_in_year day_text moment_text period_text
+unfolding cell_result rest_faults fact_of meaning_of numeral_of accuracy_of chars is_utf8 encode is_ncname is_name_char is_name_start qname_of sqname_of unit_of language_of days_of_years days_of_months day_number is_date is_week is_clock one_at two_at four_at start_of end_of found first_some moment_by moment_of days_by days_of whole_days in_order pair_of duration_of without period_of first_number year_of month_of date_in_year day_text moment_text period_text
 numeral_plain = refl
 
 numeral_exact : in_rate (codes "1dINF") ≡ rate (codes "1") None
-unfolding cell_result rest_faults fact_of meaning_of numeral_of accuracy_of chars is_ncname is_name_char is_name_start qname_of sqname_of unit_of language_of days_of_years days_of_months day_number is_date is_week is_clock one_at two_at four_at start_of end_of found first_some moment_by moment_of days_by days_of whole_days in_order pair_of duration_of without period_of first_number year_of month_of date_in_year day_text moment_text period_text
+unfolding cell_result rest_faults fact_of meaning_of numeral_of accuracy_of chars is_utf8 encode is_ncname is_name_char is_name_start qname_of sqname_of unit_of language_of days_of_years days_of_months day_number is_date is_week is_clock one_at two_at four_at start_of end_of found first_some moment_by moment_of days_by days_of whole_days in_order pair_of duration_of without period_of first_number year_of month_of date_in_year day_text moment_text period_text
 numeral_exact = refl
 
 numeral_bad : in_rate (codes "d3") ≡ Err fault.BadNumber
-unfolding cell_result rest_faults fact_of meaning_of numeral_of accuracy_of chars is_ncname is_name_char is_name_start qname_of sqname_of unit_of language_of days_of_years days_of_months day_number is_date is_week is_clock one_at two_at four_at start_of end_of found first_some moment_by moment_of days_by days_of whole_days in_order pair_of duration_of without period_of first_number year_of month_of date_in_year day_text moment_text period_text
+unfolding cell_result rest_faults fact_of meaning_of numeral_of accuracy_of chars is_utf8 encode is_ncname is_name_char is_name_start qname_of sqname_of unit_of language_of days_of_years days_of_months day_number is_date is_week is_clock one_at two_at four_at start_of end_of found first_some moment_by moment_of days_by days_of whole_days in_order pair_of duration_of without period_of first_number year_of month_of date_in_year day_text moment_text period_text
 numeral_bad = refl
 
 numeral_empty : in_rate (codes "#empty") ≡ Err fault.BadNumber
-unfolding cell_result rest_faults fact_of meaning_of numeral_of accuracy_of chars is_ncname is_name_char is_name_start qname_of sqname_of unit_of language_of days_of_years days_of_months day_number is_date is_week is_clock one_at two_at four_at start_of end_of found first_some moment_by moment_of days_by days_of whole_days in_order pair_of duration_of without period_of first_number year_of month_of date_in_year day_text moment_text period_text
+unfolding cell_result rest_faults fact_of meaning_of numeral_of accuracy_of chars is_utf8 encode is_ncname is_name_char is_name_start qname_of sqname_of unit_of language_of days_of_years days_of_months day_number is_date is_week is_clock one_at two_at four_at start_of end_of found first_some moment_by moment_of days_by days_of whole_days in_order pair_of duration_of without period_of first_number year_of month_of date_in_year day_text moment_text period_text
 numeral_empty = refl
 
 -- GROUPS: a has no unit of its own accord, b takes the group's, c keeps its own; g names the group
@@ -200,33 +201,33 @@ abbrev in_groups : List ℕ → List ℕ → ℕ → Result (Option Fact) CellFa
 in_groups g t = gives base_level None group_columns [] [] (t ∷ t ∷ t ∷ g ∷ [])
 
 group_unit_taken_away : in_groups (codes "usd") (codes "1") 0 ≡ cash (codes "a") (codes "1") []
-unfolding cell_result rest_faults fact_of meaning_of numeral_of accuracy_of chars is_ncname is_name_char is_name_start qname_of sqname_of unit_of language_of days_of_years days_of_months day_number is_date is_week is_clock one_at two_at four_at start_of end_of found first_some moment_by moment_of days_by days_of whole_days in_order pair_of duration_of without period_of first_number year_of month_of date_in_year day_text moment_text period_text
+unfolding cell_result rest_faults fact_of meaning_of numeral_of accuracy_of chars is_utf8 encode is_ncname is_name_char is_name_start qname_of sqname_of unit_of language_of days_of_years days_of_months day_number is_date is_week is_clock one_at two_at four_at start_of end_of found first_some moment_by moment_of days_by days_of whole_days in_order pair_of duration_of without period_of first_number year_of month_of date_in_year day_text moment_text period_text
 group_unit_taken_away = refl
 
 group_unit_taken : in_groups (codes "usd") (codes "2") 1 ≡ cash (codes "b") (codes "2") (unit (codes "iso4217:USD"))
-unfolding cell_result rest_faults fact_of meaning_of numeral_of accuracy_of chars is_ncname is_name_char is_name_start qname_of sqname_of unit_of language_of days_of_years days_of_months day_number is_date is_week is_clock one_at two_at four_at start_of end_of found first_some moment_by moment_of days_by days_of whole_days in_order pair_of duration_of without period_of first_number year_of month_of date_in_year day_text moment_text period_text
+unfolding cell_result rest_faults fact_of meaning_of numeral_of accuracy_of chars is_utf8 encode is_ncname is_name_char is_name_start qname_of sqname_of unit_of language_of days_of_years days_of_months day_number is_date is_week is_clock one_at two_at four_at start_of end_of found first_some moment_by moment_of days_by days_of whole_days in_order pair_of duration_of without period_of first_number year_of month_of date_in_year day_text moment_text period_text
 group_unit_taken = refl
 
 group_below_column : in_groups (codes "usd") (codes "3") 2 ≡ cash (codes "c") (codes "3") (unit (codes "iso4217:GBP"))
-unfolding cell_result rest_faults fact_of meaning_of numeral_of accuracy_of chars is_ncname is_name_char is_name_start qname_of sqname_of unit_of language_of days_of_years days_of_months day_number is_date is_week is_clock one_at two_at four_at start_of end_of found first_some moment_by moment_of days_by days_of whole_days in_order pair_of duration_of without period_of first_number year_of month_of date_in_year day_text moment_text period_text
+unfolding cell_result rest_faults fact_of meaning_of numeral_of accuracy_of chars is_utf8 encode is_ncname is_name_char is_name_start qname_of sqname_of unit_of language_of days_of_years days_of_months day_number is_date is_week is_clock one_at two_at four_at start_of end_of found first_some moment_by moment_of days_by days_of whole_days in_order pair_of duration_of without period_of first_number year_of month_of date_in_year day_text moment_text period_text
 group_below_column = refl
 
 group_not_named : in_groups [] (codes "2") 1 ≡ cash (codes "b") (codes "2") (unit (codes "iso4217:EUR"))
-unfolding cell_result rest_faults fact_of meaning_of numeral_of accuracy_of chars is_ncname is_name_char is_name_start qname_of sqname_of unit_of language_of days_of_years days_of_months day_number is_date is_week is_clock one_at two_at four_at start_of end_of found first_some moment_by moment_of days_by days_of whole_days in_order pair_of duration_of without period_of first_number year_of month_of date_in_year day_text moment_text period_text
+unfolding cell_result rest_faults fact_of meaning_of numeral_of accuracy_of chars is_utf8 encode is_ncname is_name_char is_name_start qname_of sqname_of unit_of language_of days_of_years days_of_months day_number is_date is_week is_clock one_at two_at four_at start_of end_of found first_some moment_by moment_of days_by days_of whole_days in_order pair_of duration_of without period_of first_number year_of month_of date_in_year day_text moment_text period_text
 group_not_named = refl
 
 group_unknown : in_groups (codes "gbp") (codes "2") 1 ≡ Err fault.UnknownGroup
-unfolding cell_result rest_faults fact_of meaning_of numeral_of accuracy_of chars is_ncname is_name_char is_name_start qname_of sqname_of unit_of language_of days_of_years days_of_months day_number is_date is_week is_clock one_at two_at four_at start_of end_of found first_some moment_by moment_of days_by days_of whole_days in_order pair_of duration_of without period_of first_number year_of month_of date_in_year day_text moment_text period_text
+unfolding cell_result rest_faults fact_of meaning_of numeral_of accuracy_of chars is_utf8 encode is_ncname is_name_char is_name_start qname_of sqname_of unit_of language_of days_of_years days_of_months day_number is_date is_week is_clock one_at two_at four_at start_of end_of found first_some moment_by moment_of days_by days_of whole_days in_order pair_of duration_of without period_of first_number year_of month_of date_in_year day_text moment_text period_text
 group_unknown = refl
 
 group_unknown_of_no_fact : in_groups (codes "gbp") [] 1 ≡ Ok None
-unfolding cell_result rest_faults fact_of meaning_of numeral_of accuracy_of chars is_ncname is_name_char is_name_start qname_of sqname_of unit_of language_of days_of_years days_of_months day_number is_date is_week is_clock one_at two_at four_at start_of end_of found first_some moment_by moment_of days_by days_of whole_days in_order pair_of duration_of without period_of first_number year_of month_of date_in_year day_text moment_text period_text
+unfolding cell_result rest_faults fact_of meaning_of numeral_of accuracy_of chars is_utf8 encode is_ncname is_name_char is_name_start qname_of sqname_of unit_of language_of days_of_years days_of_months day_number is_date is_week is_clock one_at two_at four_at start_of end_of found first_some moment_by moment_of days_by days_of whole_days in_order pair_of duration_of without period_of first_number year_of month_of date_in_year day_text moment_text period_text
 group_unknown_of_no_fact = refl
 
 -- an unknown special value comes before an unknown group
 
 group_order : in_groups (codes "gbp") (codes "#foo") 1 ≡ Err fault.UnknownSpecial
-unfolding cell_result rest_faults fact_of meaning_of numeral_of accuracy_of chars is_ncname is_name_char is_name_start qname_of sqname_of unit_of language_of days_of_years days_of_months day_number is_date is_week is_clock one_at two_at four_at start_of end_of found first_some moment_by moment_of days_by days_of whole_days in_order pair_of duration_of without period_of first_number year_of month_of date_in_year day_text moment_text period_text
+unfolding cell_result rest_faults fact_of meaning_of numeral_of accuracy_of chars is_utf8 encode is_ncname is_name_char is_name_start qname_of sqname_of unit_of language_of days_of_years days_of_months day_number is_date is_week is_clock one_at two_at four_at start_of end_of found first_some moment_by moment_of days_by days_of whole_days in_order pair_of duration_of without period_of first_number year_of month_of date_in_year day_text moment_text period_text
 group_order = refl
 
 -- REFERENCES: the concept of x is what column c, or the parameter c, says
@@ -238,19 +239,19 @@ abbrev parameter : List ℕ → List (List ℕ × List ℕ)
 parameter t = (codes "c", t) ∷ []
 
 reference_row_first : referring (parameter (codes "eg:Mass")) [] (codes "eg:Cash") ≡ cash (codes "x") (codes "1") (unit (codes "iso4217:EUR"))
-unfolding cell_result rest_faults fact_of meaning_of numeral_of accuracy_of chars is_ncname is_name_char is_name_start qname_of sqname_of unit_of language_of days_of_years days_of_months day_number is_date is_week is_clock one_at two_at four_at start_of end_of found first_some moment_by moment_of days_by days_of whole_days in_order pair_of duration_of without period_of first_number year_of month_of date_in_year day_text moment_text period_text
+unfolding cell_result rest_faults fact_of meaning_of numeral_of accuracy_of chars is_utf8 encode is_ncname is_name_char is_name_start qname_of sqname_of unit_of language_of days_of_years days_of_months day_number is_date is_week is_clock one_at two_at four_at start_of end_of found first_some moment_by moment_of days_by days_of whole_days in_order pair_of duration_of without period_of first_number year_of month_of date_in_year day_text moment_text period_text
 reference_row_first = refl
 
 reference_table_first : referring (parameter (codes "eg:Cash")) (parameter (codes "eg:Mass")) [] ≡ cash (codes "x") (codes "1") (unit (codes "iso4217:EUR"))
-unfolding cell_result rest_faults fact_of meaning_of numeral_of accuracy_of chars is_ncname is_name_char is_name_start qname_of sqname_of unit_of language_of days_of_years days_of_months day_number is_date is_week is_clock one_at two_at four_at start_of end_of found first_some moment_by moment_of days_by days_of whole_days in_order pair_of duration_of without period_of first_number year_of month_of date_in_year day_text moment_text period_text
+unfolding cell_result rest_faults fact_of meaning_of numeral_of accuracy_of chars is_utf8 encode is_ncname is_name_char is_name_start qname_of sqname_of unit_of language_of days_of_years days_of_months day_number is_date is_week is_clock one_at two_at four_at start_of end_of found first_some moment_by moment_of days_by days_of whole_days in_order pair_of duration_of without period_of first_number year_of month_of date_in_year day_text moment_text period_text
 reference_table_first = refl
 
 reference_none : referring (parameter (codes "eg:Cash")) [] (codes "#none") ≡ Err fault.NoConcept
-unfolding cell_result rest_faults fact_of meaning_of numeral_of accuracy_of chars is_ncname is_name_char is_name_start qname_of sqname_of unit_of language_of days_of_years days_of_months day_number is_date is_week is_clock one_at two_at four_at start_of end_of found first_some moment_by moment_of days_by days_of whole_days in_order pair_of duration_of without period_of first_number year_of month_of date_in_year day_text moment_text period_text
+unfolding cell_result rest_faults fact_of meaning_of numeral_of accuracy_of chars is_utf8 encode is_ncname is_name_char is_name_start qname_of sqname_of unit_of language_of days_of_years days_of_months day_number is_date is_week is_clock one_at two_at four_at start_of end_of found first_some moment_by moment_of days_by days_of whole_days in_order pair_of duration_of without period_of first_number year_of month_of date_in_year day_text moment_text period_text
 reference_none = refl
 
 reference_unknown_name : referring [] [] (codes "eg:Region") ≡ Err fault.UnknownName
-unfolding cell_result rest_faults fact_of meaning_of numeral_of accuracy_of chars is_ncname is_name_char is_name_start qname_of sqname_of unit_of language_of days_of_years days_of_months day_number is_date is_week is_clock one_at two_at four_at start_of end_of found first_some moment_by moment_of days_by days_of whole_days in_order pair_of duration_of without period_of first_number year_of month_of date_in_year day_text moment_text period_text
+unfolding cell_result rest_faults fact_of meaning_of numeral_of accuracy_of chars is_utf8 encode is_ncname is_name_char is_name_start qname_of sqname_of unit_of language_of days_of_years days_of_months day_number is_date is_week is_clock one_at two_at four_at start_of end_of found first_some moment_by moment_of days_by days_of whole_days in_order pair_of duration_of without period_of first_number year_of month_of date_in_year day_text moment_text period_text
 reference_unknown_name = refl
 
 -- WHAT A CONCEPT DROPS: units of texts and languages of numbers, before they are read
@@ -260,15 +261,15 @@ spoken u c t =
     (plain_column (codes "u") ∷ fact_column (codes "x") (concept c ∷ []) [] ∷ []) [] [] (codes "#foo" ∷ t ∷ []) 1
 
 dropped_unit_is_not_read : spoken (reference (codes "u")) (codes "eg:Note") (codes "say") ≡ fact (codes "x") (Some (codes "say")) None (common (codes "eg:Note") ++ entry (codes "language") (codes "en-gb") ∷ period quarter)
-unfolding cell_result rest_faults fact_of meaning_of numeral_of accuracy_of chars is_ncname is_name_char is_name_start qname_of sqname_of unit_of language_of days_of_years days_of_months day_number is_date is_week is_clock one_at two_at four_at start_of end_of found first_some moment_by moment_of days_by days_of whole_days in_order pair_of duration_of without period_of first_number year_of month_of date_in_year day_text moment_text period_text
+unfolding cell_result rest_faults fact_of meaning_of numeral_of accuracy_of chars is_utf8 encode is_ncname is_name_char is_name_start qname_of sqname_of unit_of language_of days_of_years days_of_months day_number is_date is_week is_clock one_at two_at four_at start_of end_of found first_some moment_by moment_of days_by days_of whole_days in_order pair_of duration_of without period_of first_number year_of month_of date_in_year day_text moment_text period_text
 dropped_unit_is_not_read = refl
 
 kept_unit_is_read : spoken (reference (codes "u")) (codes "eg:Cash") (codes "1") ≡ Err fault.UnknownSpecial
-unfolding cell_result rest_faults fact_of meaning_of numeral_of accuracy_of chars is_ncname is_name_char is_name_start qname_of sqname_of unit_of language_of days_of_years days_of_months day_number is_date is_week is_clock one_at two_at four_at start_of end_of found first_some moment_by moment_of days_by days_of whole_days in_order pair_of duration_of without period_of first_number year_of month_of date_in_year day_text moment_text period_text
+unfolding cell_result rest_faults fact_of meaning_of numeral_of accuracy_of chars is_utf8 encode is_ncname is_name_char is_name_start qname_of sqname_of unit_of language_of days_of_years days_of_months day_number is_date is_week is_clock one_at two_at four_at start_of end_of found first_some moment_by moment_of days_by days_of whole_days in_order pair_of duration_of without period_of first_number year_of month_of date_in_year day_text moment_text period_text
 kept_unit_is_read = refl
 
 pure_unit : spoken (text (codes "xbrli:pure")) (codes "eg:Cash") (codes "1") ≡ cash (codes "x") (codes "1") []
-unfolding cell_result rest_faults fact_of meaning_of numeral_of accuracy_of chars is_ncname is_name_char is_name_start qname_of sqname_of unit_of language_of days_of_years days_of_months day_number is_date is_week is_clock one_at two_at four_at start_of end_of found first_some moment_by moment_of days_by days_of whole_days in_order pair_of duration_of without period_of first_number year_of month_of date_in_year day_text moment_text period_text
+unfolding cell_result rest_faults fact_of meaning_of numeral_of accuracy_of chars is_utf8 encode is_ncname is_name_char is_name_start qname_of sqname_of unit_of language_of days_of_years days_of_months day_number is_date is_week is_clock one_at two_at four_at start_of end_of found first_some moment_by moment_of days_by days_of whole_days in_order pair_of duration_of without period_of first_number year_of month_of date_in_year day_text moment_text period_text
 pure_unit = refl
 
 -- TYPED AND EXPLICIT DIMENSIONS, AND SIDES; b is the plain column
@@ -282,19 +283,19 @@ abbrev sided : List (List ℕ × Written)
 sided = (codes "entity", text (codes "eg:A1")) ∷ (codes "period", w.Named (codes "b") side.End) ∷ (codes "unit", text (codes "iso4217:EUR")) ∷ []
 
 typed_nil : with_b (typed (codes "eg:North")) (codes "#nil") ≡ fact (codes "x") (Some (codes "1")) None (entry (codes "concept") (codes "eg:Cash") ∷ (codes "eg:Branch", None) ∷ entry (codes "eg:Region") (codes "eg:North") ∷ entry (codes "entity") (codes "eg:A1") ∷ period quarter ++ unit (codes "iso4217:EUR"))
-unfolding cell_result rest_faults fact_of meaning_of numeral_of accuracy_of chars is_ncname is_name_char is_name_start qname_of sqname_of unit_of language_of days_of_years days_of_months day_number is_date is_week is_clock one_at two_at four_at start_of end_of found first_some moment_by moment_of days_by days_of whole_days in_order pair_of duration_of without period_of first_number year_of month_of date_in_year day_text moment_text period_text
+unfolding cell_result rest_faults fact_of meaning_of numeral_of accuracy_of chars is_utf8 encode is_ncname is_name_char is_name_start qname_of sqname_of unit_of language_of days_of_years days_of_months day_number is_date is_week is_clock one_at two_at four_at start_of end_of found first_some moment_by moment_of days_by days_of whole_days in_order pair_of duration_of without period_of first_number year_of month_of date_in_year day_text moment_text period_text
 typed_nil = refl
 
 explicit_bad : with_b (typed (codes "North")) [] ≡ Err fault.BadValue
-unfolding cell_result rest_faults fact_of meaning_of numeral_of accuracy_of chars is_ncname is_name_char is_name_start qname_of sqname_of unit_of language_of days_of_years days_of_months day_number is_date is_week is_clock one_at two_at four_at start_of end_of found first_some moment_by moment_of days_by days_of whole_days in_order pair_of duration_of without period_of first_number year_of month_of date_in_year day_text moment_text period_text
+unfolding cell_result rest_faults fact_of meaning_of numeral_of accuracy_of chars is_utf8 encode is_ncname is_name_char is_name_start qname_of sqname_of unit_of language_of days_of_years days_of_months day_number is_date is_week is_clock one_at two_at four_at start_of end_of found first_some moment_by moment_of days_by days_of whole_days in_order pair_of duration_of without period_of first_number year_of month_of date_in_year day_text moment_text period_text
 explicit_bad = refl
 
 side_end : with_b sided (codes "2021Q4") ≡ fact (codes "x") (Some (codes "1")) None (common (codes "eg:Cash") ++ period (codes "2022-01-01T00:00:00") ++ unit (codes "iso4217:EUR"))
-unfolding cell_result rest_faults fact_of meaning_of numeral_of accuracy_of chars is_ncname is_name_char is_name_start qname_of sqname_of unit_of language_of days_of_years days_of_months day_number is_date is_week is_clock one_at two_at four_at start_of end_of found first_some moment_by moment_of days_by days_of whole_days in_order pair_of duration_of without period_of first_number year_of month_of date_in_year day_text moment_text period_text
+unfolding cell_result rest_faults fact_of meaning_of numeral_of accuracy_of chars is_utf8 encode is_ncname is_name_char is_name_start qname_of sqname_of unit_of language_of days_of_years days_of_months day_number is_date is_week is_clock one_at two_at four_at start_of end_of found first_some moment_by moment_of days_by days_of whole_days in_order pair_of duration_of without period_of first_number year_of month_of date_in_year day_text moment_text period_text
 side_end = refl
 
 side_of_an_instant : with_b sided (codes "2021-12-31T00:00:00") ≡ Err fault.NotDuration
-unfolding cell_result rest_faults fact_of meaning_of numeral_of accuracy_of chars is_ncname is_name_char is_name_start qname_of sqname_of unit_of language_of days_of_years days_of_months day_number is_date is_week is_clock one_at two_at four_at start_of end_of found first_some moment_by moment_of days_by days_of whole_days in_order pair_of duration_of without period_of first_number year_of month_of date_in_year day_text moment_text period_text
+unfolding cell_result rest_faults fact_of meaning_of numeral_of accuracy_of chars is_utf8 encode is_ncname is_name_char is_name_start qname_of sqname_of unit_of language_of days_of_years days_of_months day_number is_date is_week is_clock one_at two_at four_at start_of end_of found first_some moment_by moment_of days_by days_of whole_days in_order pair_of duration_of without period_of first_number year_of month_of date_in_year day_text moment_text period_text
 side_of_an_instant = refl
 
 -- A BAD PERIOD in the report: a fault where a cell has a fact, and not where it has none; and it comes before a bad number
@@ -302,9 +303,9 @@ abbrev bad_period : List ℕ → Result (Option Fact) CellFault
 bad_period t = gives ((codes "period", text (codes "nope")) ∷ []) None (fact_column (codes "x") (concept (codes "eg:Cash") ∷ []) [] ∷ []) [] [] (t ∷ []) 0
 
 bad_period_met : bad_period (codes "x") ≡ Err fault.BadPeriod
-unfolding cell_result rest_faults fact_of meaning_of numeral_of accuracy_of chars is_ncname is_name_char is_name_start qname_of sqname_of unit_of language_of days_of_years days_of_months day_number is_date is_week is_clock one_at two_at four_at start_of end_of found first_some moment_by moment_of days_by days_of whole_days in_order pair_of duration_of without period_of first_number year_of month_of date_in_year day_text moment_text period_text
+unfolding cell_result rest_faults fact_of meaning_of numeral_of accuracy_of chars is_utf8 encode is_ncname is_name_char is_name_start qname_of sqname_of unit_of language_of days_of_years days_of_months day_number is_date is_week is_clock one_at two_at four_at start_of end_of found first_some moment_by moment_of days_by days_of whole_days in_order pair_of duration_of without period_of first_number year_of month_of date_in_year day_text moment_text period_text
 bad_period_met = refl
 
 bad_period_not_met : bad_period [] ≡ Ok None
-unfolding cell_result rest_faults fact_of meaning_of numeral_of accuracy_of chars is_ncname is_name_char is_name_start qname_of sqname_of unit_of language_of days_of_years days_of_months day_number is_date is_week is_clock one_at two_at four_at start_of end_of found first_some moment_by moment_of days_by days_of whole_days in_order pair_of duration_of without period_of first_number year_of month_of date_in_year day_text moment_text period_text
+unfolding cell_result rest_faults fact_of meaning_of numeral_of accuracy_of chars is_utf8 encode is_ncname is_name_char is_name_start qname_of sqname_of unit_of language_of days_of_years days_of_months day_number is_date is_week is_clock one_at two_at four_at start_of end_of found first_some moment_by moment_of days_by days_of whole_days in_order pair_of duration_of without period_of first_number year_of month_of date_in_year day_text moment_text period_text
 bad_period_not_met = refl

@@ -27,7 +27,7 @@ pub gives_row : (n : ℕ) (g : Reading) (ids ids2 : List Field) (old new : Optio
     → IfSome old (λ rs. GivesNext g.table (stream_from g n ids rs) (Ok (Some facts)) (option_map (stream_from g (n + 1) ids2) new))
 unfolding stream_from
 gives_row n g ids ids2 None new r facts h o e = tt
-gives_row n g ids ids2 (Some []) new r facts h o e = cc h
+gives_row n g ids ids2 (Some []) new r facts h o e = cc h.0
 gives_row n g ids ids2 (Some (x ∷ rs)) new r facts h o e = rw (h.2, e, ← h.1, ok_result g.table facts _ o) refl
 
 pub gives_fault : (n : ℕ) (g : Reading) (ids : List Field) (old new : Option (List Record)) (r : Record) (x : TableFault) (after : Option Stream) → TakesRecord old true r new
@@ -35,20 +35,20 @@ pub gives_fault : (n : ℕ) (g : Reading) (ids : List Field) (old new : Option (
     → IfSome old (λ rs. GivesNext g.table (stream_from g n ids rs) (Err x) after)
 unfolding stream_from
 gives_fault n g ids None new r x after h o = tt
-gives_fault n g ids (Some []) new r x after h o = cc h
+gives_fault n g ids (Some []) new r x after h o = cc h.0
 gives_fault n g ids (Some (y ∷ rs)) new r x after h (inl o) = inl (inr (cc o))
 gives_fault n g ids (Some (y ∷ rs)) new r x after h (inr o) = inr (rw (← h.1, ← o) refl)
 
 pub takes_header : (report : ReportValue) (table : ℕ) (old new : Option (List Record)) (r : Record) (h : Header) → TakesRecord old true r new → header_fault report table r ≡ None → h ≡ header_of (columns_of report table) r
     → TakesHeader report table old h new
 takes_header report table None new r h took none e = tt
-takes_header report table (Some []) new r h took none e = cc took
+takes_header report table (Some []) new r h took none e = cc took.0
 takes_header report table (Some (x ∷ rs)) new r h took none e = rw (← took.1) (none, e, took.2)
 
 pub faulty_header : (report : ReportValue) (table : ℕ) (old new : Option (List Record)) (r : Record) (x : TableFault) → TakesRecord old true r new → header_fault report table r ≡ Some x
     → IfSome old (λ rs. file_header_fault report table rs ≡ Some x)
 faulty_header report table None new r x took e = tt
-faulty_header report table (Some []) new r x took e = cc took
+faulty_header report table (Some []) new r x took e = cc took.0
 faulty_header report table (Some (y ∷ rs)) new r x took e = rw (← took.1) e
 
 pub no_header : (report : ReportValue) (table : ℕ) (old new : Option (List Record)) (r : Record) → TakesRecord old false r new

@@ -1,3 +1,5 @@
+//! Building lists from an object's members and from lists.
+
 ghost use Rattle.std.specs.Prelude.{◌≡◌, ℕ, List, IfOk, OnOk, option_map};
 ghost use Rattle.serde_json.specs.Data.{Data};
 ghost use Rattle.serde_json.specs.View.{view, items_view, members_view};
@@ -50,7 +52,7 @@ pub(crate) fn list_from<T: FromMember + Drop>(
     }
 }
 
-/// The text, or the empty one where the value is no text.
+/// The text, or the empty one where the value is not a text.
 fn text_of(alloc: Global, value: &Value) -> Result<Text, AllocError>
     ensures { IfOk result (λ made. made ≡ text_in (view value.now)) }
 {

@@ -1,3 +1,5 @@
+//! The places of names among columns.
+
 ghost use Rattle.std.specs.Prelude.{◌≡◌, IfOk, OnOk};
 ghost use Rattle.serde_json.specs.Find.{as_str};
 ghost use Rattle.serde_json.specs.View.{view, items_view, members_view};
@@ -8,7 +10,7 @@ use crate::lookup::object_at;
 use serde_json::{Map, Value};
 use std::alloc::{AllocError, Global};
 
-/// The place of a name among the members; how many there are where it isn't there.
+/// The place of a name among the members; their number where it is not there.
 fn place(members: &Map<String, Value>, name: &str) -> usize
     ensures { result ≡ place_of name.now (members_view members.now.entries) }
 {

@@ -1,4 +1,4 @@
-//! Decimals that are none.
+//! Decimals that are not well-formed.
 
 ghost use Rattle.std.specs.Prelude.{◌≡◌};
 ghost use Rattle.serde_json.specs.View.{view};

@@ -1,4 +1,4 @@
-//! Dimensions that are none.
+//! Dimensions that are not well-formed.
 
 ghost use Rattle.std.specs.Prelude.{◌≡◌};
 ghost use Rattle.serde_json.specs.View.{view};

@@ -22,7 +22,7 @@ fn is_csv_type(info: &Value) -> bool
     }
 }
 
-/// Whether there is no document information, or another type of document.
+/// Whether the document information is missing, or its type of document is another.
 #[tactic(auto, unfolding(crate::specs::Faults::has_no_report))]
 pub(crate) fn no_report(report: &Value) -> bool
     ensures { result ≡ has_no_report (view report.now) }
@@ -33,7 +33,7 @@ pub(crate) fn no_report(report: &Value) -> bool
     }
 }
 
-/// A prefix that is no NCName, or a URI that is no text.
+/// A prefix that is not an NCName, or a URI that is not a text.
 struct BadPrefix;
 
 impl MemberTest for BadPrefix {
@@ -94,7 +94,7 @@ fn lacks_text(items: &[Value]) -> bool
     false
 }
 
-/// Whether a value is no list of texts.
+/// Whether a value is not a list of texts.
 pub(crate) fn is_no_texts(value: &Value) -> bool
     ensures { result ≡ not_texts (view value.now) }
 {
@@ -104,7 +104,7 @@ pub(crate) fn is_no_texts(value: &Value) -> bool
     }
 }
 
-/// Whether there is a value at a key that is no text.
+/// Whether there is a value at a key that is not a text.
 pub(crate) fn is_no_text_at(value: &Value, key: &str) -> bool
     ensures { result ≡ if_there not_text (get key.now (view value.now)) }
 {

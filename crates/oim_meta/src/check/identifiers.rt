@@ -1,4 +1,4 @@
-//! Keys that are no identifiers.
+//! Keys that are not identifiers.
 
 ghost use Rattle.std.specs.Prelude.{◌≡◌};
 ghost use Rattle.serde_json.specs.View.{view};
@@ -8,7 +8,7 @@ use crate::members::{MemberTest, any_column, any_member_at};
 use oim_names::is_identifier;
 use serde_json::Value;
 
-/// A key that is no identifier.
+/// A key that is not an identifier.
 struct BadKey;
 
 impl MemberTest for BadKey {
@@ -21,7 +21,7 @@ impl MemberTest for BadKey {
     }
 }
 
-/// Whether a key of templates, tables or columns is no identifier.
+/// Whether a key of templates, tables or columns is not an identifier.
 #[tactic(auto, unfolding(crate::specs::Faults::has_bad_identifier))]
 pub(crate) fn bad_identifier(report: &Value) -> bool
     ensures { result ≡ has_bad_identifier (view report.now) }

@@ -1,4 +1,4 @@
-//! The prefixes of a metadata, for the names in it.
+//! The prefixes of a metadata with their URIs.
 
 ghost use Rattle.std.specs.Prelude.{◌≡◌, IfOk, codes, false};
 ghost use Rattle.serde_json.specs.Find.{get};
@@ -7,21 +7,11 @@ ghost use Rattle.oim_meta.specs.Members.{if_there, section};
 ghost use Rattle.oim_meta.specs.Faults.{has_bad_prefix, has_bad_namespaces};
 ghost use Rattle.oim_meta.specs.Prefixes.{bindings_of, prefixes_of};
 
+use crate::build::made::vec_of;
 use crate::lookup::object_at;
 use oim_names::{Items, Namespaces, Text};
 use serde_json::{Map, Value};
 use std::alloc::{AllocError, Global};
-
-fn bindings(alloc: Global, members: &Map<String, Value>) -> Result<Vec<(Text, Text)>, AllocError>
-    ensures { IfOk result (λ made. made.items ≡ bindings_of (members_view members.now.entries)) }
-{
-    let mut made = Vec::new(alloc);
-    for (prefix, uri) in members.iter() {
-        let prefix = Text::from_str(alloc, prefix.as_str())?;
-        made.push((prefix, Text::from_str(alloc, uri.as_str().unwrap_or(""))?))?;
-    }
-    Ok(made)
-}
 
 /// The prefixes of an object of URIs.
 #[tactic(auto, using(crate::proofs::Bound::namespaces_are))]
@@ -29,9 +19,8 @@ fn namespaces(alloc: Global, members: &Map<String, Value>) -> Result<Namespaces,
     requires { has_bad_prefix (members_view members.now.entries) ≡ false }
     ensures { IfOk result (λ names. names ≡ bindings_of (members_view members.now.entries)) }
 {
-    let _count = members.len();
-    let made = bindings(alloc, members)?;
-    Ok(Namespaces::from_bindings(alloc, Items::from_vec(made)))
+    let bindings: Vec<(Text, Text)> = vec_of(alloc, members)?;
+    Ok(Namespaces::from_bindings(alloc, Items::from_vec(bindings)))
 }
 
 #[tactic(auto, unfolding(crate::specs::Faults::has_bad_namespaces))]

@@ -1,4 +1,4 @@
-//! Parameters that are none.
+//! Parameters that are not well-formed.
 
 ghost use Rattle.std.specs.Prelude.{◌≡◌};
 ghost use Rattle.serde_json.specs.View.{view};
@@ -10,7 +10,7 @@ use crate::parameters::Parameters;
 use oim_names::is_identifier;
 use serde_json::Value;
 
-/// A name that is no identifier, or a value that is no text.
+/// A name that is not an identifier, or a value that is not a text.
 struct BadParameter;
 
 impl MemberTest for BadParameter {
@@ -67,7 +67,7 @@ fn is_no_plain_path(url: &Value) -> bool
     }
 }
 
-/// Whether the name of the parameters file is no plain path.
+/// Whether the name of the parameters file is not a plain path.
 #[tactic(auto, unfolding(crate::specs::BadParameters::has_bad_parameter_url))]
 pub(crate) fn bad_parameter_url(report: &Value) -> bool
     ensures { result ≡ has_bad_parameter_url (view report.now) }

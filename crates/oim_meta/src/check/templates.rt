@@ -8,7 +8,7 @@ use crate::lookup::text_at;
 use crate::members::{MemberTest, any_member_at};
 use serde_json::Value;
 
-/// A table whose template isn't among these.
+/// A table whose template is not among these.
 #[derive(Drop)]
 struct LacksTemplate<'a> {
     templates: Option<&'a Value>,
@@ -30,7 +30,7 @@ impl<'a> MemberTest for LacksTemplate<'a> {
     }
 }
 
-/// Whether a table's template isn't there.
+/// Whether some table names a template that is not there.
 #[tactic(auto, unfolding(crate::specs::Faults::has_unknown_template))]
 pub(crate) fn unknown_template(report: &Value) -> bool
     ensures { result ≡ has_unknown_template (view report.now) }

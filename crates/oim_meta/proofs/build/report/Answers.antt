@@ -1,10 +1,6 @@
 use Rattle.serde_json.specs.View.{view}
 use Rattle.oim_meta.proofs.Placed.{all_placed}
-use Rattle.oim_meta.proofs.Unrepeated.{document_unrepeated}
 use Rattle.oim_meta.proofs.build.report.Goals as goal
-
-pub namespaces-requires : goal.namespaces-requires
-namespaces-requires c = rw c.document_of-document.ensures (document_unrepeated (view c.args.value.now) c.requires.namespaces)
 
 pub invariant_of-result : goal.invariant_of-result
 invariant_of-result c =

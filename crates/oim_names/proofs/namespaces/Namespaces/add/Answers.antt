@@ -43,7 +43,7 @@ after c =
 pub invariant_of-self : goal.invariant_of-self
 invariant_of-self c =
     kept (is_ok c.insert.result) c.self.inside.bindings c.insert.new.self c.args.prefix.now c.args.uri.now
-    c.self.invariant.0 c.self.invariant.1 (no_prefix c) (no_uri c) (after c)
+    c.self.invariant (sym c.is_ncname.ensures ∙ c.if-not-is_ncname.false) (no_prefix c) (no_uri c) (after c)
 
 pub returns-clause-ok : goal.returns-clause-ok
 returns-clause-ok c =

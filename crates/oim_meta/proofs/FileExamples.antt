@@ -1,0 +1,136 @@
+-- Parameters files, types tables and the bytes of a metadata on worked cases, at their limits. The answers come from xBRL-CSV 1.0 and from this
+-- project's own formats.
+use Rattle.std.proofs.Common.{◌≡◌, ℕ, List, [], ◌∷◌, Bool, true, false, Some, None, Ok, Err, refl, codes, map}
+use Rattle.std.specs.List.{list_all, list_any}
+use Rattle.std.specs.Str.{chars, is_utf8}
+use lib.Utf8.{encode}
+use Rattle.serde_json.specs.Data.{Data, null, array, string, object, no_items, Members, no_members, member}
+use Rattle.oim_cells.specs.declared.cells.NumberKind.TheVariants.{Integer, Decimal, Double}
+use Rattle.oim_names.specs.Names.{is_name_start, is_name_char, is_plain_char, is_ncname, is_identifier}
+use Rattle.oim_meta.specs.CsvFiles.{all_of, text_field}
+use Rattle.oim_meta.specs.FaultNames.{fault_number, fault_name}
+use Rattle.oim_meta.specs.Grid.{Record, records_left, grid}
+use Rattle.oim_meta.specs.ParametersFile.{parameters_file, parameters_result}
+use Rattle.oim_meta.specs.TypesFile.{kind_of_word, types_file, types_result}
+use Rattle.oim_meta.specs.Types.{kind_in}
+use Rattle.oim_meta.specs.Reading.{after_mark, first_url_fault}
+use Rattle.oim_meta.specs.Faults.{has_no_report}
+use Rattle.oim_meta.specs.BadParameters.{has_bad_parameter_url}
+use Rattle.oim_meta.specs.PlainPath.{is_plain_path}
+use Rattle.oim_meta.specs.declared.fault.MetaFault.TheVariants.{Syntax, NotReport, BadNamespaces, BadTaxonomy, Unsupported, BadIdentifier, BadTemplate, ColumnKinds, UnknownTemplate, UnknownColumn, BadDimension, BadDecimals, BadParameter, BadTypes, TooLarge, Memory, Read}
+use Rattle.oim_meta.specs.declared.kind.Kind.TheVariants.{Number, Text, Other, Explicit, Typed}
+
+-- PARAMETERS
+abbrev name_value : Record
+name_value = codes "name" ∷ codes "value" ∷ []
+
+abbrev parameter : List ℕ → List ℕ → Record
+parameter name value = name ∷ value ∷ []
+
+parameters :
+    (parameters_result (name_value ∷ []) ≡ Ok [])
+    × (parameters_result (name_value ∷ parameter (codes "b") (codes "#x") ∷ parameter (codes "a") [] ∷ []) ≡ Ok ((codes "b", codes "#x") ∷ (codes "a", []) ∷ []))
+unfolding all_of is_identifier is_plain_char is_name_char is_name_start chars is_utf8 encode
+parameters = (refl, refl)
+
+bad_parameters_headers :
+    map parameters_result ([] ∷ (parameter (codes "value") (codes "name") ∷ []) ∷ (parameter (codes "name") (codes "Value") ∷ []) ∷ ((codes "name" ∷ []) ∷ []) ∷ ((codes "name" ∷ codes "value" ∷ [] ∷ []) ∷ []) ∷ (parameter (codes "a") (codes "1") ∷ []) ∷ [])
+    ≡ Err BadParameter ∷ Err BadParameter ∷ Err BadParameter ∷ Err BadParameter ∷ Err BadParameter ∷ Err BadParameter ∷ []
+unfolding all_of is_utf8 chars encode
+bad_parameters_headers = refl
+
+-- another length, bytes that are no UTF-8, a name that is no identifier, and a name that stands twice
+bad_parameters :
+    map (λ rs. parameters_result (name_value ∷ rs))
+    (((codes "a" ∷ []) ∷ []) ∷ ((codes "a" ∷ codes "1" ∷ codes "2" ∷ []) ∷ []) ∷ (parameter (codes "a") (255 ∷ []) ∷ []) ∷ (parameter (255 ∷ []) (codes "1") ∷ []) ∷ (parameter (codes "a.b") (codes "1") ∷ [])
+    ∷ (parameter [] (codes "1") ∷ []) ∷ (parameter (codes "a") (codes "1") ∷ parameter (codes "b") [] ∷ parameter (codes "a") (codes "2") ∷ []) ∷ [])
+    ≡ Err BadParameter ∷ Err BadParameter ∷ Err BadParameter ∷ Err BadParameter ∷ Err BadParameter ∷ Err BadParameter ∷ Err BadParameter ∷ []
+unfolding all_of is_identifier is_plain_char is_name_char is_name_start chars is_utf8 encode
+bad_parameters = refl
+
+-- 65,536 parameters are accepted; one record more is too many, whatever it holds
+parameters_limit :
+    (all_of parameters_file 65_535 [] (parameter (codes "a") [] ∷ []) ≡ Ok ((codes "a", []) ∷ []))
+    × (all_of parameters_file 65_536 [] ([] ∷ []) ≡ Err TooLarge)
+unfolding all_of is_identifier is_plain_char is_name_char is_name_start chars is_utf8 encode
+parameters_limit = (refl, refl)
+
+-- TYPES
+abbrev namespace_name_type : Record
+namespace_name_type = codes "namespace" ∷ codes "name" ∷ codes "type" ∷ []
+
+abbrev typed : List ℕ → List ℕ → List ℕ → Record
+typed uri name word = uri ∷ name ∷ word ∷ []
+
+words :
+    map kind_of_word (codes "integer" ∷ codes "decimal" ∷ codes "double" ∷ codes "text" ∷ codes "other" ∷ codes "explicit" ∷ codes "typed" ∷ codes "Text" ∷ [] ∷ [])
+    ≡ Some (Number Integer) ∷ Some (Number Decimal) ∷ Some (Number Double) ∷ Some Text ∷ Some Other ∷ Some Explicit ∷ Some Typed ∷ None ∷ None ∷ []
+words = refl
+
+-- one name in two namespaces; a namespace may be any text, and a name may hold a point
+types :
+    (types_result (namespace_name_type ∷ []) ≡ Ok [])
+    × (types_result (namespace_name_type ∷ typed (codes "u") (codes "a") (codes "text") ∷ typed [] (codes "a") (codes "typed") ∷ typed (codes "u") (codes "b.c") (codes "other") ∷ [])
+    ≡ Ok ((codes "u", (codes "a", Text) ∷ (codes "b.c", Other) ∷ []) ∷ ([], (codes "a", Typed) ∷ []) ∷ []))
+unfolding all_of is_ncname is_name_char is_name_start chars is_utf8 encode
+types = (refl, refl)
+
+kinds_found :
+    map (kind_in ((codes "u", (codes "a", Text) ∷ (codes "b", Other) ∷ []) ∷ (codes "v", (codes "a", Typed) ∷ []) ∷ []) (codes "v")) (codes "a" ∷ codes "b" ∷ codes "v" ∷ []) ≡ Some Typed ∷ None ∷ None ∷ []
+kinds_found = refl
+
+bad_types_headers :
+    map types_result ([] ∷ (typed (codes "name") (codes "namespace") (codes "type") ∷ []) ∷ (typed (codes "namespace") (codes "name") (codes "kind") ∷ []) ∷ (typed (codes "namespace") (codes "names") (codes "type") ∷ [])
+    ∷ ((codes "namespace" ∷ codes "name" ∷ []) ∷ []) ∷ ((codes "namespace" ∷ codes "name" ∷ codes "type" ∷ [] ∷ []) ∷ []) ∷ [])
+    ≡ Err BadTypes ∷ Err BadTypes ∷ Err BadTypes ∷ Err BadTypes ∷ Err BadTypes ∷ Err BadTypes ∷ []
+unfolding all_of is_utf8 chars encode
+bad_types_headers = refl
+
+bad_types :
+    map (λ rs. types_result (namespace_name_type ∷ rs))
+    (((codes "u" ∷ codes "a" ∷ []) ∷ []) ∷ ((codes "u" ∷ codes "a" ∷ codes "text" ∷ [] ∷ []) ∷ []) ∷ (typed (255 ∷ []) (codes "a") (codes "text") ∷ []) ∷ (typed (codes "u") (255 ∷ []) (codes "text") ∷ [])
+    ∷ (typed (codes "u") (codes "a") (255 ∷ []) ∷ []) ∷ (typed (codes "u") (codes "a:b") (codes "text") ∷ []) ∷ (typed (codes "u") (codes "a") (codes "money") ∷ [])
+    ∷ (typed (codes "u") (codes "a") (codes "text") ∷ typed (codes "u") (codes "a") (codes "other") ∷ []) ∷ [])
+    ≡ Err BadTypes ∷ Err BadTypes ∷ Err BadTypes ∷ Err BadTypes ∷ Err BadTypes ∷ Err BadTypes ∷ Err BadTypes ∷ Err BadTypes ∷ []
+unfolding all_of is_ncname is_name_char is_name_start chars is_utf8 encode
+bad_types = refl
+
+-- 1,048,576 records are accepted; one more is too many, whatever it holds
+types_limit :
+    (all_of types_file 1_048_575 [] (typed (codes "u") (codes "a") (codes "text") ∷ []) ≡ Ok ((codes "u", (codes "a", Text) ∷ []) ∷ []))
+    × (all_of types_file 1_048_576 [] ([] ∷ []) ≡ Err TooLarge)
+unfolding all_of is_ncname is_name_char is_name_start chars is_utf8 encode
+types_limit = (refl, refl)
+
+-- the fault is that of the earliest bad record
+earliest : all_of parameters_file 65_535 [] ([] ∷ [] ∷ []) ≡ Err BadParameter
+unfolding all_of
+earliest = refl
+
+-- THE BYTES: one mark is passed over
+marks : map after_mark ((239 ∷ 187 ∷ 191 ∷ 123 ∷ []) ∷ (239 ∷ 187 ∷ 191 ∷ 239 ∷ 187 ∷ 191 ∷ []) ∷ (239 ∷ 187 ∷ 123 ∷ []) ∷ (123 ∷ []) ∷ []) ≡ (123 ∷ []) ∷ (239 ∷ 187 ∷ 191 ∷ []) ∷ (239 ∷ 187 ∷ 123 ∷ []) ∷ (123 ∷ []) ∷ []
+marks = refl
+
+-- THE NAME OF THE PARAMETERS FILE
+abbrev csv_with : Members → Data
+csv_with ms = object (member (codes "documentInfo") (object (member (codes "documentType") (string (codes "https://xbrl.org/2021/xbrl-csv")) no_members)) ms)
+
+url_faults :
+    map first_url_fault
+    (null ∷ object (member (codes "parameterURL") null no_members) ∷ csv_with (member (codes "parameterURL") null no_members) ∷ csv_with (member (codes "parameterURL") (string (codes "../p.csv")) no_members)
+    ∷ csv_with (member (codes "parameterURL") (string (codes "p.csv")) no_members) ∷ csv_with (member (codes "parameters") null no_members) ∷ [])
+    ≡ Some NotReport ∷ Some NotReport ∷ Some BadParameter ∷ Some BadParameter ∷ None ∷ None ∷ []
+unfolding has_no_report has_bad_parameter_url is_plain_path
+url_faults = refl
+
+-- THE FAULTS
+numbers :
+    map fault_number (Syntax ∷ NotReport ∷ BadNamespaces ∷ BadTaxonomy ∷ Unsupported ∷ BadIdentifier ∷ BadTemplate ∷ ColumnKinds ∷ UnknownTemplate ∷ UnknownColumn ∷ BadDimension ∷ BadDecimals ∷ BadParameter ∷ BadTypes ∷ TooLarge ∷ Memory ∷ Read ∷ [])
+    ≡ 1 ∷ 2 ∷ 3 ∷ 4 ∷ 5 ∷ 6 ∷ 7 ∷ 8 ∷ 9 ∷ 10 ∷ 11 ∷ 12 ∷ 13 ∷ 14 ∷ 15 ∷ 16 ∷ 17 ∷ []
+numbers = refl
+
+names :
+    map fault_name (Syntax ∷ NotReport ∷ BadNamespaces ∷ BadTaxonomy ∷ Unsupported ∷ BadIdentifier ∷ BadTemplate ∷ ColumnKinds ∷ UnknownTemplate ∷ UnknownColumn ∷ BadDimension ∷ BadDecimals ∷ BadParameter ∷ BadTypes ∷ TooLarge ∷ Memory ∷ Read ∷ [])
+    ≡ codes "Syntax" ∷ codes "NotReport" ∷ codes "BadNamespaces" ∷ codes "BadTaxonomy" ∷ codes "Unsupported" ∷ codes "BadIdentifier" ∷ codes "BadTemplate" ∷ codes "ColumnKinds" ∷ codes "UnknownTemplate"
+    ∷ codes "UnknownColumn" ∷ codes "BadDimension" ∷ codes "BadDecimals" ∷ codes "BadParameter" ∷ codes "BadTypes" ∷ codes "TooLarge" ∷ codes "Memory" ∷ codes "Read" ∷ []
+names = refl

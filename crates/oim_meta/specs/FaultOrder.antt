@@ -1,0 +1,14 @@
+-- The first fault of a metadata is the one of the least number. The number of the counts is above all others that a metadata can have.
+use Rattle.std.specs.Prelude.{◌≡◌, ◌≤◌, Option, Some, None, Bool, true, false}
+use Rattle.serde_json.specs.Data.{Data}
+use Rattle.oim_meta.specs.declared.fault.MetaFault.{MetaFault}
+use Rattle.oim_meta.specs.declared.limits.Limits.{Limits}
+use Rattle.oim_meta.specs.FaultNames.{fault_number}
+use Rattle.oim_meta.specs.FirstFault.{has_fault}
+use Rattle.oim_meta.specs.Parameters.{ParametersValue}
+use Rattle.oim_meta.specs.Types.{TypesValue}
+
+-- a metadata has this fault and no other of a lower number; or it has none at all
+abbrev pub IsLeastFault : Limits → ParametersValue → TypesValue → Data → Option MetaFault → Type 0
+IsLeastFault limits given types d None = (e : MetaFault) → has_fault limits given types d e ≡ false
+IsLeastFault limits given types d (Some f) = (has_fault limits given types d f ≡ true) × ((e : MetaFault) → has_fault limits given types d e ≡ true → fault_number f ≤ fault_number e)

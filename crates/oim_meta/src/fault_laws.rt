@@ -1,0 +1,14 @@
+//! The law of a metadata's first fault.
+
+ghost use Rattle.serde_json.specs.Data.{Data};
+ghost use Rattle.oim_meta.specs.declared.limits.Limits.{Limits};
+ghost use Rattle.oim_meta.specs.FaultOrder.{IsLeastFault};
+ghost use Rattle.oim_meta.specs.FirstFault.{first_fault};
+ghost use Rattle.oim_meta.specs.Parameters.{ParametersValue};
+ghost use Rattle.oim_meta.specs.Types.{TypesValue};
+
+/// The first fault of a metadata is the one of the least number that it has. Where there is no first fault, it has none.
+pub fn first_fault_is_least()
+    ensures { (limits : Limits) (given : ParametersValue) (types : TypesValue) (d : Data)
+        → IsLeastFault limits given types d (first_fault limits given types d) }
+{}
