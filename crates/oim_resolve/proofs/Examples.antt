@@ -29,7 +29,6 @@ use Rattle.oim_resolve.specs.declared.fact.Row.{Row}
 use Rattle.oim_resolve.specs.declared.fact.Fact.{Fact}
 use Rattle.oim_resolve.specs.declared.fact.CellFault.{CellFault}
 use Rattle.oim_resolve.specs.declared.fact.CellFault.TheVariants as fault
-use Rattle.oim_resolve.specs.Cell.{Cell}
 use Rattle.oim_resolve.specs.Facts.{cell_result, rest_faults, fact_of}
 
 abbrev names : Bindings

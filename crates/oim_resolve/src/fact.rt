@@ -1,3 +1,5 @@
+//! What a cell is read from and what it gives: a row of a table, a fact or a fault.
+
 ghost use Rattle.std.specs.Prelude.{◌≡◌};
 ghost use Rattle.oim_resolve.specs.Faults.{number_of, name_of};
 ghost use Rattle.oim_resolve.specs.declared.fact.CellFault.TheVariants.{Memory};
