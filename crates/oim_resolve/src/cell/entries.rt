@@ -8,7 +8,7 @@ use crate::plan::{PlannedColumn, PlannedDimension};
 /// What the levels of a cell write, in byte order of name.
 #[derive(Drop)]
 pub(crate) enum Entries<'a> {
-    /// The column has no groups.
+    /// The column takes nothing from groups.
     Column(&'a PlannedColumn<'a>),
     /// With the groups that the row names.
     Grouped(Vec<&'a PlannedDimension<'a>>),
