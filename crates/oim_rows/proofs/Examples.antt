@@ -1,5 +1,5 @@
 -- The definitions, executed on worked cases.
-use Rattle.std.proofs.Common.{◌≡◌, ◌++◌, ◌∷◌, [], ap, arith, ℕ, List, Option, Some, None, Result, Ok, Err, Bool, true, false, codes, map, refl}
+use Rattle.std.proofs.Common.{◌≡◌, ◌++◌, ◌∷◌, [], ap, arith, ℕ, List, Some, None, Ok, Err, Bool, true, false, codes, refl}
 use Rattle.std.proofs.lemmas.Fmt.{decimal_digit}
 use Rattle.oim_meta.specs.Readers.{no_level}
 use Rattle.oim_meta.specs.ReportValue.{ReportValue}
@@ -18,7 +18,6 @@ use Rattle.oim_resolve.specs.declared.fact.Fact.{Fact}
 use Rattle.oim_rows.specs.Header.{fault_at, file_fault, header_fault, header_of}
 use Rattle.oim_rows.specs.RowFacts.{Reading, cell_at, id_kind, row_fault, row_id_text, row_result}
 use Rattle.oim_rows.specs.Streams.{ending, stream_from, stream_of, table_stream}
-use Rattle.oim_rows.specs.declared.fault.TableFault.{TableFault}
 use Rattle.oim_rows.specs.declared.fault.TableKind.TheVariants as kind
 
 abbrev columns : List Column
