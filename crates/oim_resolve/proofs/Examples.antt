@@ -1,5 +1,5 @@
 -- Cells whose results are known, found by computing the definitions.
-use Rattle.std.proofs.Common.{◌≡◌, ℕ, ℤ, List, [], ◌∷◌, ◌++◌, Option, Some, None, Result, Ok, Err, codes, refl, false, pos, negsuc}
+use Rattle.std.proofs.Common.{◌≡◌, ℕ, ℤ, List, [], ◌∷◌, ◌++◌, Option, Some, None, Result, Ok, Err, codes, map, decimal, refl, false, pos, negsuc}
 use Rattle.std.specs.Str.{chars, is_utf8}
 use lib.Utf8.{encode}
 use Rattle.oim_names.specs.Bindings.{Bindings}
@@ -30,7 +30,6 @@ use Rattle.oim_resolve.specs.declared.fact.Row.{Row}
 use Rattle.oim_resolve.specs.declared.fact.Fact.{Fact}
 use Rattle.oim_resolve.specs.declared.fact.CellFault.{CellFault}
 use Rattle.oim_resolve.specs.declared.fact.CellFault.TheVariants as fault
-use Rattle.oim_resolve.specs.Cell.{Cell}
 use Rattle.oim_resolve.specs.Facts.{cell_result, rest_faults, fact_of}
 
 abbrev names : Bindings
@@ -43,7 +42,7 @@ names =
 abbrev types : List (List ℕ × List (List ℕ × Kind))
 types = (
   codes "http://example.com/eg",
-  (codes "Branch", kind.Typed) ∷ (codes "Cash", kind.Number number.Integer) ∷ (codes "Mass", kind.Number number.Double)
+  (codes "Blob", kind.Other) ∷ (codes "Branch", kind.Typed) ∷ (codes "Cash", kind.Number number.Integer) ∷ (codes "Mass", kind.Number number.Double)
       ∷ (codes "Note", kind.Text) ∷ (codes "Rate", kind.Number number.Decimal) ∷ (codes "Region", kind.Explicit) ∷ [],
 ) ∷ []
 
@@ -309,3 +308,131 @@ bad_period_met = refl
 bad_period_not_met : bad_period [] ≡ Ok None
 unfolding cell_result rest_faults fact_of meaning_of numeral_of accuracy_of chars is_utf8 encode is_ncname is_name_char is_name_start qname_of sqname_of unit_of language_of days_of_years days_of_months day_number is_date is_week is_clock one_at two_at four_at start_of end_of found first_some moment_by moment_of days_by days_of whole_days in_order pair_of duration_of without period_of first_number year_of month_of date_in_year day_text moment_text period_text
 bad_period_not_met = refl
+
+-- MORE GENERAL AND MORE SPECIFIC LEVELS
+abbrev with_levels : (of_report of_template : Level) → List Column → List (List ℕ) → Result (Option Fact) CellFault
+with_levels of_report of_template columns cells = cell_result (record {
+  report = record {
+    info = record { base_url = None; taxonomy = [] };
+    namespaces = names;
+    types = types;
+    level = of_report;
+    templates = record { id = codes "p"; columns = columns; row_id_column = None; level = of_template } ∷ [];
+    tables = table [] ∷ [];
+    parameters = [];
+  };
+  table = 0;
+  row = row cells;
+  column = 0;
+})
+
+abbrev groups_column : List ℕ → List ℕ → Level → Column
+groups_column id name of_group = record { id = id; kind = column.Groups; level = level []; groups = (name, of_group) ∷ []; from = [] }
+
+abbrev of_unit : List ℕ → Level
+of_unit u = level ((codes "unit", text u) ∷ [])
+
+template_over_report : with_levels (level base_level) (of_unit (codes "iso4217:USD")) (fact_column (codes "x") (concept (codes "eg:Cash") ∷ []) [] ∷ []) (codes "1" ∷ [])
+    ≡ cash (codes "x") (codes "1") (unit (codes "iso4217:USD"))
+unfolding cell_result rest_faults fact_of meaning_of numeral_of accuracy_of chars is_utf8 encode is_ncname is_name_char is_name_start qname_of sqname_of unit_of language_of days_of_years days_of_months day_number is_date is_week is_clock one_at two_at four_at start_of end_of found first_some moment_by moment_of days_by days_of whole_days in_order pair_of duration_of without period_of first_number year_of month_of date_in_year day_text moment_text period_text
+template_over_report = refl
+
+-- x takes its properties from g and h, in the order that it says; the first group is the more specific
+abbrev two_groups : List ℕ → Result (Option Fact) CellFault
+two_groups from =
+    with_levels (level base_level) (of_unit (codes "iso4217:CHF"))
+    (fact_column (codes "x") (concept (codes "eg:Cash") ∷ []) from ∷ groups_column (codes "g") (codes "a") (of_unit (codes "iso4217:USD")) ∷ groups_column (codes "h") (codes "a") (of_unit (codes "iso4217:GBP")) ∷ [])
+    (codes "1" ∷ codes "a" ∷ codes "a" ∷ [])
+
+first_group_first : two_groups (1 ∷ 2 ∷ []) ≡ cash (codes "x") (codes "1") (unit (codes "iso4217:USD"))
+unfolding cell_result rest_faults fact_of meaning_of numeral_of accuracy_of chars is_utf8 encode is_ncname is_name_char is_name_start qname_of sqname_of unit_of language_of days_of_years days_of_months day_number is_date is_week is_clock one_at two_at four_at start_of end_of found first_some moment_by moment_of days_by days_of whole_days in_order pair_of duration_of without period_of first_number year_of month_of date_in_year day_text moment_text period_text
+first_group_first = refl
+
+groups_in_the_order_named : two_groups (2 ∷ 1 ∷ []) ≡ cash (codes "x") (codes "1") (unit (codes "iso4217:GBP"))
+unfolding cell_result rest_faults fact_of meaning_of numeral_of accuracy_of chars is_utf8 encode is_ncname is_name_char is_name_start qname_of sqname_of unit_of language_of days_of_years days_of_months day_number is_date is_week is_clock one_at two_at four_at start_of end_of found first_some moment_by moment_of days_by days_of whole_days in_order pair_of duration_of without period_of first_number year_of month_of date_in_year day_text moment_text period_text
+groups_in_the_order_named = refl
+
+-- DECIMALS that report, template, group and column write; d is a plain column
+abbrev with_decimals : (of_report of_template of_group of_column : Option WrittenDecimals) → List ℕ → Result (Option Fact) CellFault
+with_decimals of_report of_template of_group of_column d =
+    with_levels (record { dimensions = base_level; decimals = of_report }) (record { dimensions = []; decimals = of_template })
+    (record { id = codes "x"; kind = column.Fact; level = record { dimensions = concept (codes "eg:Rate") ∷ []; decimals = of_column }; groups = []; from = 1 ∷ [] }
+    ∷ groups_column (codes "g") (codes "a") (record { dimensions = []; decimals = of_group }) ∷ plain_column (codes "d") ∷ [])
+    (codes "7" ∷ codes "a" ∷ d ∷ [])
+
+abbrev fixed : ℕ → Option WrittenDecimals
+fixed n = Some (d.Fixed (accuracy.Places (pos n)))
+
+decimals_of_each_level : with_decimals (fixed 1) None None None [] ∷ with_decimals (fixed 1) (fixed 2) None None [] ∷ with_decimals (fixed 1) (fixed 2) (fixed 3) None []
+    ∷ with_decimals (fixed 1) (fixed 2) (fixed 3) (fixed 4) [] ∷ with_decimals (fixed 1) (fixed 2) (fixed 3) (Some d.Absent) [] ∷ with_decimals (fixed 1) (Some d.Absent) None None [] ∷ []
+    ≡ rate (codes "7") (Some (pos 1)) ∷ rate (codes "7") (Some (pos 2)) ∷ rate (codes "7") (Some (pos 3)) ∷ rate (codes "7") (Some (pos 4)) ∷ rate (codes "7") None ∷ rate (codes "7") None ∷ []
+unfolding cell_result rest_faults fact_of meaning_of numeral_of accuracy_of chars is_utf8 encode is_ncname is_name_char is_name_start qname_of sqname_of unit_of language_of days_of_years days_of_months day_number is_date is_week is_clock one_at two_at four_at start_of end_of found first_some moment_by moment_of days_by days_of whole_days in_order pair_of duration_of without period_of first_number year_of month_of date_in_year day_text moment_text period_text
+decimals_of_each_level = refl
+
+decimals_by_reference : map (with_decimals (fixed 1) None None (Some (d.Named (codes "d")))) (codes "2" ∷ codes "INF" ∷ codes "#none" ∷ codes "#nil" ∷ codes "#empty" ∷ codes "x" ∷ codes "#foo" ∷ [])
+    ≡ rate (codes "7") (Some (pos 2)) ∷ rate (codes "7") None ∷ rate (codes "7") None ∷ Err fault.BadDecimals ∷ Err fault.BadDecimals ∷ Err fault.BadDecimals ∷ Err fault.UnknownSpecial ∷ []
+unfolding cell_result rest_faults fact_of meaning_of numeral_of accuracy_of chars is_utf8 encode is_ncname is_name_char is_name_start qname_of sqname_of unit_of language_of days_of_years days_of_months day_number is_date is_week is_clock one_at two_at four_at start_of end_of found first_some moment_by moment_of days_by days_of whole_days in_order pair_of duration_of without period_of first_number year_of month_of date_in_year day_text moment_text period_text
+decimals_by_reference = refl
+
+-- NIL AND EMPTY for each role, by reference to the plain column b
+abbrev referred : List ℕ → List ℕ → List ℕ → Result (Option Fact) CellFault
+referred c n t = gives base_level None (plain_column (codes "b") ∷ fact_column (codes "x") (concept c ∷ (n, reference (codes "b")) ∷ []) [] ∷ []) [] [] (t ∷ codes "1" ∷ []) 1
+
+abbrev roles : List (List ℕ)
+roles = codes "entity" ∷ codes "period" ∷ codes "unit" ∷ codes "eg:Region" ∷ []
+
+abbrev refused : List (Result (Option Fact) CellFault)
+refused = Err fault.BadReference ∷ Err fault.BadReference ∷ Err fault.BadReference ∷ Err fault.BadReference ∷ []
+
+abbrev with_branch : Option (List ℕ) → Result (Option Fact) CellFault
+with_branch v = fact (codes "x") (Some (codes "1")) None (entry (codes "concept") (codes "eg:Cash") ∷ (codes "eg:Branch", v) ∷ entry (codes "entity") (codes "eg:A1") ∷ period quarter ++ unit (codes "iso4217:EUR"))
+
+nil_by_reference : map (λ n. referred (codes "eg:Cash") n (codes "#nil")) roles ≡ refused
+unfolding cell_result rest_faults fact_of meaning_of numeral_of accuracy_of chars is_utf8 encode is_ncname is_name_char is_name_start qname_of sqname_of unit_of language_of days_of_years days_of_months day_number is_date is_week is_clock one_at two_at four_at start_of end_of found first_some moment_by moment_of days_by days_of whole_days in_order pair_of duration_of without period_of first_number year_of month_of date_in_year day_text moment_text period_text
+nil_by_reference = refl
+
+empty_by_reference : map (λ n. referred (codes "eg:Cash") n (codes "#empty")) roles ≡ refused
+unfolding cell_result rest_faults fact_of meaning_of numeral_of accuracy_of chars is_utf8 encode is_ncname is_name_char is_name_start qname_of sqname_of unit_of language_of days_of_years days_of_months day_number is_date is_week is_clock one_at two_at four_at start_of end_of found first_some moment_by moment_of days_by days_of whole_days in_order pair_of duration_of without period_of first_number year_of month_of date_in_year day_text moment_text period_text
+empty_by_reference = refl
+
+language_by_reference : map (referred (codes "eg:Note") (codes "language")) (codes "#nil" ∷ codes "#empty" ∷ codes "#none" ∷ codes "e n" ∷ [])
+    ≡ Err fault.BadReference ∷ Err fault.BadReference ∷ fact (codes "x") (Some (codes "1")) None (with_period (codes "eg:Note")) ∷ Err fault.BadValue ∷ []
+unfolding cell_result rest_faults fact_of meaning_of numeral_of accuracy_of chars is_utf8 encode is_ncname is_name_char is_name_start qname_of sqname_of unit_of language_of days_of_years days_of_months day_number is_date is_week is_clock one_at two_at four_at start_of end_of found first_some moment_by moment_of days_by days_of whole_days in_order pair_of duration_of without period_of first_number year_of month_of date_in_year day_text moment_text period_text
+language_by_reference = refl
+
+typed_by_reference : map (referred (codes "eg:Cash") (codes "eg:Branch")) (codes "#nil" ∷ codes "#empty" ∷ []) ≡ with_branch None ∷ with_branch (Some []) ∷ []
+unfolding cell_result rest_faults fact_of meaning_of numeral_of accuracy_of chars is_utf8 encode is_ncname is_name_char is_name_start qname_of sqname_of unit_of language_of days_of_years days_of_months day_number is_date is_week is_clock one_at two_at four_at start_of end_of found first_some moment_by moment_of days_by days_of whole_days in_order pair_of duration_of without period_of first_number year_of month_of date_in_year day_text moment_text period_text
+typed_by_reference = refl
+
+concept_by_reference : map (referring [] []) (codes "#nil" ∷ codes "#empty" ∷ codes "#foo" ∷ []) ≡ Err fault.BadReference ∷ Err fault.BadReference ∷ Err fault.UnknownSpecial ∷ []
+unfolding cell_result rest_faults fact_of meaning_of numeral_of accuracy_of chars is_utf8 encode is_ncname is_name_char is_name_start qname_of sqname_of unit_of language_of days_of_years days_of_months day_number is_date is_week is_clock one_at two_at four_at start_of end_of found first_some moment_by moment_of days_by days_of whole_days in_order pair_of duration_of without period_of first_number year_of month_of date_in_year day_text moment_text period_text
+concept_by_reference = refl
+
+-- A LANGUAGE AND A UNIT for each kind of concept: the language of a text, the unit of a number, and neither of another
+
+kinds_drop : spoken (text (codes "iso4217:EUR")) (codes "eg:Note") (codes "1") ∷ spoken (text (codes "iso4217:EUR")) (codes "eg:Cash") (codes "1") ∷ spoken (text (codes "iso4217:EUR")) (codes "eg:Blob") (codes "1") ∷ []
+    ≡ fact (codes "x") (Some (codes "1")) None (common (codes "eg:Note") ++ entry (codes "language") (codes "en-gb") ∷ period quarter) ∷ cash (codes "x") (codes "1") (unit (codes "iso4217:EUR"))
+    ∷ fact (codes "x") (Some (codes "1")) None (with_period (codes "eg:Blob")) ∷ []
+unfolding cell_result rest_faults fact_of meaning_of numeral_of accuracy_of chars is_utf8 encode is_ncname is_name_char is_name_start qname_of sqname_of unit_of language_of days_of_years days_of_months day_number is_date is_week is_clock one_at two_at four_at start_of end_of found first_some moment_by moment_of days_by days_of whole_days in_order pair_of duration_of without period_of first_number year_of month_of date_in_year day_text moment_text period_text
+kinds_drop = refl
+
+-- THE ROW NUMBER, AND THE START of a duration
+
+row_number : with_b ((codes "eg:Branch", w.RowNumber side.Whole) ∷ base_level) [] ≡ with_branch (Some (decimal 1))
+unfolding cell_result rest_faults fact_of meaning_of numeral_of accuracy_of chars is_utf8 encode is_ncname is_name_char is_name_start qname_of sqname_of unit_of language_of days_of_years days_of_months day_number is_date is_week is_clock one_at two_at four_at start_of end_of found first_some moment_by moment_of days_by days_of whole_days in_order pair_of duration_of without period_of first_number year_of month_of date_in_year day_text moment_text period_text
+row_number = refl
+
+side_start : with_b ((codes "entity", text (codes "eg:A1")) ∷ (codes "period", w.Named (codes "b") side.Start) ∷ (codes "unit", text (codes "iso4217:EUR")) ∷ []) (codes "2021Q4")
+    ≡ fact (codes "x") (Some (codes "1")) None (common (codes "eg:Cash") ++ period (codes "2021-10-01T00:00:00") ++ unit (codes "iso4217:EUR"))
+unfolding cell_result rest_faults fact_of meaning_of numeral_of accuracy_of chars is_utf8 encode is_ncname is_name_char is_name_start qname_of sqname_of unit_of language_of days_of_years days_of_months day_number is_date is_week is_clock one_at two_at four_at start_of end_of found first_some moment_by moment_of days_by days_of whole_days in_order pair_of duration_of without period_of first_number year_of month_of date_in_year day_text moment_text period_text
+side_start = refl
+
+-- ORDER OF FAULTS in the last step: a bad value before a bad period, bad decimals before a bad number
+
+bad_value_first : gives ((codes "entity", text (codes "A1")) ∷ (codes "period", text (codes "nope")) ∷ []) None (fact_column (codes "x") (concept (codes "eg:Cash") ∷ []) [] ∷ []) [] [] (codes "x" ∷ []) 0 ≡ Err fault.BadValue
+unfolding cell_result rest_faults fact_of meaning_of numeral_of accuracy_of chars is_utf8 encode is_ncname is_name_char is_name_start qname_of sqname_of unit_of language_of days_of_years days_of_months day_number is_date is_week is_clock one_at two_at four_at start_of end_of found first_some moment_by moment_of days_by days_of whole_days in_order pair_of duration_of without period_of first_number year_of month_of date_in_year day_text moment_text period_text
+bad_value_first = refl
+
+bad_decimals_first : gives base_level (Some (d.Named (codes "d"))) (fact_column (codes "x") (concept (codes "eg:Cash") ∷ []) [] ∷ plain_column (codes "d") ∷ []) [] [] (codes "x" ∷ codes "y" ∷ []) 0 ≡ Err fault.BadDecimals
+unfolding cell_result rest_faults fact_of meaning_of numeral_of accuracy_of chars is_utf8 encode is_ncname is_name_char is_name_start qname_of sqname_of unit_of language_of days_of_years days_of_months day_number is_date is_week is_clock one_at two_at four_at start_of end_of found first_some moment_by moment_of days_by days_of whole_days in_order pair_of duration_of without period_of first_number year_of month_of date_in_year day_text moment_text period_text
+bad_decimals_first = refl

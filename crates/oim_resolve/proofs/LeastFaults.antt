@@ -1,14 +1,9 @@
 -- The least fault of two sets together.
-use Rattle.std.proofs.Common.{◌≡◌, ◌<◌, ◌≤◌, ℕ, ◌+◌, Bool, true, false, List, [], ◌∷◌, ◌++◌, length, take, get_or, Option, Some, None, cond, leb, refl, sym, ap, ◌∙◌, arith}
-use Rattle.std.specs.Option.{option_map_or}
-use Rattle.std.specs.Borrow.{Bor}
+use Rattle.std.proofs.Common.{◌≡◌, ℕ, true, false, List, [], ◌∷◌, ◌++◌, append_assoc, Option, Some, None, Result, Ok, Err, cond, leb, refl, sym, ap, ◌∙◌, arith}
 use Rattle.std.proofs.lemmas.Bool.Decides.{nat_tests}
-use Rattle.oim_resolve.specs.PlaceOf.{held}
-use Rattle.std.specs.List.{flat_map}
-use Rattle.std.proofs.lemmas.List.{take_more, map-append, append-nil}
-use Rattle.std.proofs.lemmas.Grind.{flat_map-append}
+use Rattle.std.proofs.lemmas.List.{append-nil}
 use Rattle.oim_resolve.specs.declared.fact.CellFault.{CellFault}
-use Rattle.oim_resolve.specs.Faults.{number_of, lesser, least, least_of}
+use Rattle.oim_resolve.specs.Faults.{number_of, lesser, least, least_of, both, unless}
 
 above : (a b c : ℕ) → leb a b ≡ false → leb b c ≡ false → leb a c ≡ false
 above a b c e k = grind (arith, nat_tests)
@@ -40,22 +35,36 @@ pub least-append : (xs ys : List CellFault) → least (xs ++ ys) ≡ least_of (l
 least-append [] ys = refl
 least-append (x ∷ xs) ys = ap (least_of (Some x)) (least-append xs ys) ∙ least_of-assoc (Some x) (least xs) (least ys)
 
--- one name more
-flat_held : {X : Type 0} (F : List ℕ → List X) (ns : List (Bor (List ℕ))) (i : ℕ) (d : Bor (List ℕ)) → i < length ns
-    → flat_map F (held (take (i + 1) ns)) ≡ flat_map F (held (take i ns)) ++ F (get_or ns i d).now
-flat_held F ns i d h =
-    ap (λ xs. flat_map F (held xs)) (take_more ns i d h)
-    ∙ ap (flat_map F) (map-append (λ x. x.now) (take i ns) (get_or ns i d ∷ []))
-    ∙ flat_map-append F (held (take i ns)) ((get_or ns i d).now ∷ [])
-    ∙ ap (λ xs. flat_map F (held (take i ns)) ++ xs) (append-nil (F (get_or ns i d).now))
+-- two readings that each give a value unless a set has a fault
+pub both_unless : {A B C : Type 0} (join : A → B → C) (xs ys : List CellFault) (a : A) (b : B) → both join (unless (least xs) (Ok a)) (unless (least ys) (Ok b)) ≡ unless (least (xs ++ ys)) (Ok (join a b))
+both_unless join xs ys a b = by (least xs) (least ys) ∙ ap (λ f. unless f (Ok (join a b))) (sym (least-append xs ys))
+  where
+    by : (x y : Option CellFault) → both join (unless x (Ok a)) (unless y (Ok b)) ≡ unless (least_of x y) (Ok (join a b))
+    by None None = refl
+    by None (Some g) = refl
+    by (Some f) None = refl
+    by (Some f) (Some g) = refl
 
-pub least_more : (F : List ℕ → List CellFault) (ns : List (Bor (List ℕ))) (i : ℕ) (d : Bor (List ℕ)) → i < length ns
-    → (all one now : Option CellFault) → all ≡ least (flat_map F (held (take i ns))) → one ≡ least (F (get_or ns i d).now) → now ≡ least_of all one → now ≡ least (flat_map F (held (take (i + 1) ns)))
-least_more F ns i d h all one now a o n =
-    n ∙ ap (λ x. least_of x one) a ∙ ap (least_of (least (flat_map F (held (take i ns))))) o
-    ∙ sym (least-append (flat_map F (held (take i ns))) (F (get_or ns i d).now)) ∙ sym (ap least (flat_held F ns i d h))
+abbrev pub pair : {A B : Type 0} → A → B → A × B
+pair a b = (a, b)
 
-pub least_three : (xs ys zs : List CellFault) (x y z first all : Option CellFault) → x ≡ least xs → y ≡ least ys → z ≡ least zs → first ≡ least_of x y → all ≡ least_of first z → all ≡ least ((xs ++ ys) ++ zs)
-least_three xs ys zs x y z first all hx hy hz hf ha =
-    ha ∙ ap (λ f. least_of f z) (hf ∙ ap (λ f. least_of f y) hx ∙ ap (least_of (least xs)) hy ∙ sym (least-append xs ys))
-    ∙ ap (least_of (least (xs ++ ys))) hz ∙ sym (least-append (xs ++ ys) zs)
+abbrev pub joined : {X : Type 0} → Result (List X) CellFault → Result (List X) CellFault → Result (List X) CellFault
+joined r s = both (λ xs more. xs ++ more) r s
+
+pub joined-assoc : {X : Type 0} (r s t : Result (List X) CellFault) → joined (joined r s) t ≡ joined r (joined s t)
+joined-assoc (Ok a) (Ok b) (Ok d) = ap Ok (append_assoc a b d)
+joined-assoc (Ok a) (Ok b) (Err h) = refl
+joined-assoc (Ok a) (Err g) (Ok d) = refl
+joined-assoc (Ok a) (Err g) (Err h) = refl
+joined-assoc (Err f) (Ok b) (Ok d) = refl
+joined-assoc (Err f) (Ok b) (Err h) = refl
+joined-assoc (Err f) (Err g) (Ok d) = refl
+joined-assoc (Err f) (Err g) (Err h) = ap Err (sym (lesser-assoc f g h))
+
+pub joined-nothing : {X : Type 0} (r : Result (List X) CellFault) → joined r (Ok []) ≡ r
+joined-nothing (Ok a) = ap Ok (append-nil a)
+joined-nothing (Err f) = refl
+
+pub nothing-joined : {X : Type 0} (r : Result (List X) CellFault) → joined (Ok []) r ≡ r
+nothing-joined (Ok a) = refl
+nothing-joined (Err f) = refl

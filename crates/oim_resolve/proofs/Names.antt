@@ -1,5 +1,5 @@
 -- Names put in byte order.
-use Rattle.std.proofs.Common.{◌≡◌, ◌<◌, ◌≤◌, ℕ, ◌+◌, List, [], ◌∷◌, ◌++◌, length, take, drop, get_or, refl, sym, ap, ◌∙◌, append_assoc, arith}
+use Rattle.std.proofs.Common.{◌≡◌, ◌<◌, ℕ, ◌+◌, List, [], ◌∷◌, ◌++◌, length, take, drop, get_or, sym, ap, ◌∙◌, append_assoc, arith}
 use Rattle.std.specs.Ordering.{match_ordering, nat_cmp}
 use Rattle.std.specs.Cmp.Lexicographic.{slice_cmp}
 use Rattle.std.specs.declared.cmp.Ordering.{Ordering}
@@ -7,7 +7,7 @@ use Rattle.std.specs.declared.cmp.Ordering.TheVariants.{Less, Equal, Greater}
 use Rattle.std.proofs.lemmas.List.{take_more, take_all, at_drop_more, at_drop_all, take-append-drop, map-append, take-map, drop-map, get_or-map, length-map}
 use Rattle.std.specs.Borrow.{Bor}
 use Rattle.std.specs.List.{insert}
-use Rattle.oim_resolve.specs.PlaceOf.{held}
+use Rattle.oim_resolve.specs.ProgramCell.{held}
 use Rattle.oim_resolve.specs.Written.{put_name}
 
 -- the names below place i are less than n

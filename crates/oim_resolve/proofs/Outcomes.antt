@@ -1,14 +1,15 @@
 -- The result of a cell, case by case.
-use Rattle.std.proofs.Common.{◌≡◌, ℕ, ℤ, List, Bool, true, false, Option, Some, None, Result, Ok, Err, refl, sym, ap, ◌∙◌}
+use Rattle.std.proofs.Common.{◌≡◌, ℕ, ℤ, List, ◌++◌, Bool, true, false, Option, Some, None, Result, Ok, Err, IfSome, refl, sym, ap, subst, ◌∙◌}
 use Rattle.std.specs.Prelude.{if◌then◌else◌}
 use Rattle.oim_resolve.specs.declared.fact.Fact.{Fact}
 use Rattle.oim_resolve.specs.declared.fact.CellFault.{CellFault}
 use Rattle.oim_resolve.specs.Cell.{Cell}
-use Rattle.oim_resolve.specs.Faults.{least, unless}
+use Rattle.oim_resolve.specs.Faults.{least, unless, both}
 use Rattle.std.specs.List.{flat_map}
 use Rattle.oim_meta.specs.declared.kind.Kind.{Kind}
 use Rattle.oim_resolve.specs.Written.{levels, names}
-use Rattle.oim_resolve.specs.Facts.{id_of, value_text, fact_decimals, named_entry, dimension_entry, is_absent, fact_meaning, cell_and_group_faults, concept_faults, concept_kind, rest_faults, fact_of, cell_result}
+use Rattle.oim_resolve.proofs.LeastFaults.{both_unless, pair}
+use Rattle.oim_resolve.specs.Facts.{id_of, value_text, fact_decimals, named_entry, dimension_entry, dimension_faults, decimals_faults, number_faults, is_absent, fact_meaning, cell_and_group_faults, concept_faults, concept_kind, rest_faults, fact_of, cell_result, early_result}
 
 unfoldable pub outcome : Bool → Option CellFault → Option CellFault → Option CellFault → Fact → Result (Option Fact) CellFault
 outcome absent x y z f = if absent then Ok None else unless x (unless y (unless z (Ok (Some f))))
@@ -59,6 +60,53 @@ module _ (c : Cell) where
   unfolding outcome
   no_fault f a h k l e = ap (λ g. Ok (Some g)) e ∙ sym (past_second a h k ∙ ap (λ x. outcome false None None x (fact_of c)) (sym l))
 
+-- what a reading says of the set whose least fault it has
+pub read_fault : {A : Type 0} (o : Option CellFault) (a : A) (f : CellFault) → Err f ≡ unless o (Ok a) → Some f ≡ o
+read_fault None a f e = cc e
+read_fault (Some g) a f e = cc e
+
+pub read_none : {A : Type 0} (o : Option CellFault) (a b : A) → Ok b ≡ unless o (Ok a) → None ≡ o
+read_none None a b e = refl
+read_none (Some g) a b e = cc e
+
+pub read_value : {A : Type 0} (o : Option CellFault) (a b : A) → Ok b ≡ unless o (Ok a) → b ≡ a
+read_value None a b e = cc e
+read_value (Some g) a b e = cc e
+
+-- a fact as the result of a cell
+abbrev pub as_result : Result Fact CellFault → Result (Option Fact) CellFault
+as_result (Ok f) = Ok (Some f)
+as_result (Err e) = Err e
+
+as_result-unless : (z : Option CellFault) (f : Fact) → as_result (unless z (Ok f)) ≡ outcome false None None z f
+unfolding outcome
+as_result-unless None f = refl
+as_result-unless (Some g) f = refl
+
+module _ (c : Cell) (here : is_absent (fact_meaning c) ≡ false) (groups : None ≡ least (cell_and_group_faults c)) (concept : None ≡ least (concept_faults c)) where
+  pub last_step : (r : Result Fact CellFault) → r ≡ unless (least (rest_faults c (concept_kind c))) (Ok (fact_of c)) → as_result r ≡ cell_result c
+  last_step r e = ap as_result e ∙ as_result-unless _ _ ∙ sym (past_second c here groups concept)
+
+  pub not_early : early_result c ≡ None
+  unfolding early_result
+  not_early = rw (here, ← groups, ← concept) refl
+
+  pub no_early : (r : Result (Option Fact) CellFault) → IfSome (early_result c) (λ a. r ≡ a)
+  no_early r = subst (λ o. IfSome o (λ a. r ≡ a)) (sym not_early) tt
+
+module _ (c : Cell) where
+  pub early_absent : is_absent (fact_meaning c) ≡ true → IfSome (early_result c) (λ a. Ok None ≡ a)
+  unfolding early_result
+  early_absent h = rw h refl
+
+  pub early_first : (f : CellFault) → is_absent (fact_meaning c) ≡ false → Some f ≡ least (cell_and_group_faults c) → IfSome (early_result c) (λ a. Err f ≡ a)
+  unfolding early_result
+  early_first f h e = rw (h, ← e) refl
+
+  pub early_second : (f : CellFault) → is_absent (fact_meaning c) ≡ false → None ≡ least (cell_and_group_faults c) → Some f ≡ least (concept_faults c) → IfSome (early_result c) (λ a. Err f ≡ a)
+  unfolding early_result
+  early_second f h n e = rw (h, ← n, ← e) refl
+
 pub fact_parts : (c : Cell) (k : Kind) (id : List ℕ) (value : Option (List ℕ)) (decimals : Option ℤ) (dimensions : List (List ℕ × Option (List ℕ)))
     → k ≡ concept_kind c → id ≡ id_of c → value ≡ value_text k (fact_meaning c) → decimals ≡ fact_decimals c k
     → dimensions ≡ flat_map (λ n. named_entry n (dimension_entry c k n)) (names (levels c))
@@ -68,3 +116,41 @@ fact_parts c k id value decimals dimensions h a v d e =
     let of_kind : (j : Kind) → Fact = λ j. record { id = id_of c; value = value_text j (fact_meaning c); decimals = fact_decimals c j; dimensions = flat_map (λ n. named_entry n (dimension_entry c j n)) (names (levels c)) } in
     let parts : ◌≡◌ {A = Fact} (record { id = id; value = value; decimals = decimals; dimensions = dimensions }) (of_kind k) = λ i. record { id = a i; value = v i; decimals = d i; dimensions = e i } in
     parts ∙ ap of_kind h
+
+-- the last step: dimensions, decimals and value read together
+module _ (c : Cell) (k : Kind) (same : k ≡ concept_kind c) where
+  abbrev rest : Option CellFault
+  rest = least (rest_faults c k)
+
+  abbrev pub given_dimensions : List (List ℕ × Option (List ℕ))
+  given_dimensions = flat_map (λ n. named_entry n (dimension_entry c k n)) (names (levels c))
+
+  -- what the three say together
+  abbrev pub Together : Type 0
+  Together = (List (List ℕ × Option (List ℕ)) × Option ℤ) × Option (List ℕ)
+
+  pub all_three : (d : Result (List (List ℕ × Option (List ℕ))) CellFault) (n : Result (Option ℤ) CellFault) (t : Result (Option (List ℕ)) CellFault)
+      → d ≡ unless (least (flat_map (dimension_faults c k) (names (levels c)))) (Ok given_dimensions)
+      → n ≡ unless (least (decimals_faults c k)) (Ok (fact_decimals c k))
+      → t ≡ unless (least (number_faults c k)) (Ok (value_text k (fact_meaning c)))
+      → both pair (both pair d n) t ≡ unless rest (Ok ((given_dimensions, fact_decimals c k), value_text k (fact_meaning c)))
+  unfolding rest_faults
+  all_three d n t hd hn ht =
+      ap (λ x. both pair (both pair x n) t) hd
+      ∙ ap (λ x. both pair (both pair (unless (least (flat_map (dimension_faults c k) (names (levels c)))) (Ok given_dimensions)) x) t) hn
+      ∙ ap (λ x. both pair x t) (both_unless pair (flat_map (dimension_faults c k) (names (levels c))) (decimals_faults c k) given_dimensions (fact_decimals c k))
+      ∙ ap (λ x. both pair (unless (least (flat_map (dimension_faults c k) (names (levels c)) ++ decimals_faults c k)) (Ok (given_dimensions, fact_decimals c k))) x) ht
+      ∙ both_unless pair (flat_map (dimension_faults c k) (names (levels c)) ++ decimals_faults c k) (number_faults c k) (given_dimensions, fact_decimals c k) (value_text k (fact_meaning c))
+
+  pub fact_fault : (f : CellFault) (r : Result Together CellFault) → r ≡ Err f → r ≡ unless rest (Ok ((given_dimensions, fact_decimals c k), value_text k (fact_meaning c))) → Err f ≡ unless rest (Ok (fact_of c))
+  fact_fault f r is e = ap (λ o. unless o (Ok (fact_of c))) (read_fault rest ((given_dimensions, fact_decimals c k), value_text k (fact_meaning c)) f (sym is ∙ e))
+
+  pub fact_whole : (id : List ℕ) (w : Together) (r : Result Together CellFault) → id ≡ id_of c
+      → r ≡ Ok w → r ≡ unless rest (Ok ((given_dimensions, fact_decimals c k), value_text k (fact_meaning c)))
+      → Ok (record { id = id; value = w.1; decimals = w.0.1; dimensions = w.0.0 }) ≡ unless rest (Ok (fact_of c))
+  fact_whole id w r a is e =
+      let all : Together = ((given_dimensions, fact_decimals c k), value_text k (fact_meaning c)) in
+      let none : None ≡ rest = read_none rest all w (sym is ∙ e) in
+      let parts : w ≡ all = read_value rest all w (sym is ∙ e) in
+      ap Ok (fact_parts c k id w.1 w.0.1 w.0.0 same a (ap (λ (x : Together). x.1) parts) (ap (λ (x : Together). x.0.1) parts) (ap (λ (x : Together). x.0.0) parts))
+      ∙ ap (λ o. unless o (Ok (fact_of c))) none

@@ -1,15 +1,18 @@
 -- Entries of groups, put over those of a column, are what the levels of a cell write.
-use Rattle.std.proofs.Common.{◌≡◌, ℕ, Bool, true, false, cond, reverse, List, [], ◌∷◌, ◌++◌, map, Option, Some, None, refl, sym, ap, subst, ◌∙◌}
+use Rattle.std.proofs.Common.{◌≡◌, ◌<◌, ◌+◌, ℕ, length, take, get_or, arith, Bool, true, false, cond, reverse, List, [], ◌∷◌, ◌++◌, map, Option, Some, None, refl, sym, ap, subst, ◌∙◌}
 use Rattle.std.specs.List.{fold, flat_map, AllByRecursion}
-use Rattle.std.specs.Option.{option_or, option_map, is_some, option_to_list}
-use Rattle.std.specs.Ordering.{match_ordering, nat_cmp, ordering_reverse}
-use Rattle.std.specs.Cmp.Lexicographic.{slice_cmp, nat_list_cmp_total}
+use Rattle.std.specs.Option.{option_or, option_map, option_to_list}
+use Rattle.std.specs.Ordering.{match_ordering, ordering_reverse}
+use Rattle.std.specs.Cmp.Lexicographic.{nat_list_cmp_total}
 use Rattle.std.specs.FinMap.{slice_cmp-IsAntisymmetric, nat_cmp-IsAntisymmetric}
 use Rattle.std.specs.declared.cmp.Ordering.{Ordering}
 use Rattle.std.specs.declared.cmp.Ordering.TheVariants.{Less, Equal, Greater}
 use Rattle.std.specs.Str.{bytes_eq}
 use Rattle.std.proofs.lemmas.Bool.{false≢true}
-use Rattle.std.proofs.lemmas.List.{reverse-append, map-append}
+use Rattle.std.specs.Borrow.{Bor}
+use Rattle.std.proofs.lemmas.List.{reverse-append, map-append, append-nil, take_more}
+use Rattle.std.proofs.lemmas.List.Sums.{fold-append}
+use Rattle.std.proofs.lemmas.Grind.{flat_map-append}
 use Rattle.std.proofs.lemmas.Slice.Eq.{bytes_eq-Decides}
 use Rattle.oim_names.specs.Lookup.{value_at}
 use Rattle.oim_meta.specs.ReportValue.{ReportValue}
@@ -17,11 +20,12 @@ use Rattle.oim_meta.specs.Readers.{column_of, template_of}
 use Rattle.oim_meta.specs.declared.data.Level.{Level}
 use Rattle.oim_meta.specs.declared.data.Written.{Written}
 use Rattle.oim_resolve.specs.Cell.{Cell, column, meaning_at}
-use Rattle.oim_resolve.specs.Merged.{named, merged_at, merged_levels, written_names, put_levels}
-use Rattle.oim_resolve.specs.Met.{row_entries, written_entries}
+use Rattle.oim_resolve.specs.ProgramLevels.{named, merged_at, merged_levels, written_names, put_levels}
+use Rattle.oim_resolve.specs.ProgramDimensions.{row_entries, written_entries}
 use Rattle.oim_resolve.specs.Order.{IsAscending}
-use Rattle.oim_resolve.specs.Planned.{Entry, Keyed, entry_in, planned_levels, planned_column, planned_level, put_entry, put_entries, group_in, seen_planned, seen_keyed}
-use Rattle.oim_resolve.specs.declared.planned.Planned.{Planned}
+use Rattle.oim_resolve.specs.ProgramPlan.{Entry, Keyed, entry_in, planned_levels, planned_column, planned_level, put_entry, put_entries, keep, over, with_named, group_in, seen_planned, seen_keyed, seen_flagged, seen_group}
+use Rattle.oim_resolve.specs.declared.plan.dimension.PlannedDimension.{PlannedDimension}
+use Rattle.oim_resolve.specs.declared.plan.group.PlannedGroup.{PlannedGroup}
 use Rattle.oim_resolve.specs.Rows.{planned_named, planned_groups, row_map}
 use Rattle.oim_resolve.specs.Written.{put_name, names, written, levels, named_groups, group_named}
 use Rattle.oim_resolve.proofs.Ascending.{order, Precedes, turned, earlier, IsAscending-put, IsAscending-fold, IsAscending-names}
@@ -83,11 +87,6 @@ none_before : {V : Type 0} (n : List ℕ) (ks : List (List ℕ × V)) → Preced
 none_before n [] h = refl
 none_before n (k ∷ ks) h = ap (λ b. cond b (Some k.1) (value_at n ks)) (apart_too n k.0 h.0) ∙ none_before n ks h.1
 
--- of two entries of one name the first stays where it is own
-abbrev keep : Option (Entry × Bool) → Entry × Bool → Entry × Bool
-keep None v = v
-keep (Some x) v = cond x.1 x v
-
 abbrev put_at : List ℕ → Keyed → Option (Entry × Bool) → Option (Entry × Bool)
 put_at n e o = cond (bytes_eq e.0 n) (Some (keep o e.1)) o
 
@@ -131,10 +130,6 @@ value_at-put n (k ∷ ks) e h = value_at-match n e.0 k.0 e.1 k.1 ks (order e.0 k
 
 abbrev AllOwn : List Keyed → Type 0
 AllOwn es = AllByRecursion (λ e. e.1.1 ≡ true) es
-
-abbrev over : Option (Entry × Bool) → Option (Entry × Bool) → Option (Entry × Bool)
-over o None = o
-over o (Some v) = Some (keep o v)
 
 kept_own : (b : Bool) (x v : Entry × Bool) → x.1 ≡ b → v.1 ≡ true → (cond b x v).1 ≡ true
 kept_own true x v e h = e
@@ -338,7 +333,7 @@ module _ (r : ReportValue) (t : ℕ) where
 
 -- A ROW
 
-pub seen_entries : (ps : List Planned) → map seen_planned ps ≡ map (λ k. k.1.0) (map seen_keyed ps)
+pub seen_entries : (ps : List PlannedDimension) → map seen_planned ps ≡ map (λ k. k.1.0) (map seen_keyed ps)
 seen_entries [] = refl
 seen_entries (p ∷ ps) = ap (λ es. seen_planned p ∷ es) (seen_entries ps)
 
@@ -366,9 +361,82 @@ row_map_is c =
     ap (λ gs. map (λ k. k.1.0) (fold put_entries (planned_column c.report c.table c.column) gs)) (planned_groups-are c (column c).from)
     ∙ entries_are c.report c.table c.report.level (template_of c.report c.table).level (column c).level (named_groups c)
 
+-- the entry of a name
+pub row_lookup : (c : Cell) (n : List ℕ) → option_map (λ x. x.0) (value_at n (row_map c)) ≡ option_map (entry_in c.report c.table n) (written (levels c) n)
+unfolding row_map planned_column
+row_lookup c n =
+    let a = c.report.level in
+    let b = (template_of c.report c.table).level in
+    let d = (column c).level in
+    ap (λ gs. option_map (λ x. x.0) (value_at n (fold put_entries (planned_column c.report c.table c.column) gs))) (planned_groups-are c (column c).from)
+    ∙ ap (option_map (λ x. x.0)) (looked_up c.report c.table a b d (named_groups c) n)
+    ∙ plain (picks (merged_at a b d n) (named_groups c) n)
+    ∙ ap (option_map (entry_in c.report c.table n)) (picks_written c.report c.table a b d (named_groups c) n)
+  where
+    plain : (o : Option (Written × Bool)) → option_map (λ x. x.0) (option_map (flagged c.report c.table n) o) ≡ option_map (entry_in c.report c.table n) (option_map (λ x. x.0) o)
+    plain None = refl
+    plain (Some x) = refl
+
+-- a look-up with one group more
+pub lookup_over : (c : Cell) (n : List ℕ) (is : List ℕ) (l : Level) (K : List Keyed) → K ≡ fold put_entries (planned_column c.report c.table c.column) (planned_groups c is)
+    → value_at n (put_entries K (planned_level c.report c.table l)) ≡ over (value_at n K) (value_at n (planned_level c.report c.table l))
+unfolding planned_column
+lookup_over c n is l K e =
+    let r = c.report in
+    let t = c.table in
+    let gs = flat_map (λ i. option_to_list (group_named (column_of r t i) (meaning_at c i))) is in
+    let start = planned_levels r t r.level (template_of r t).level (column c).level in
+    let same : K ≡ with r t start gs = e ∙ ap (fold put_entries start) (planned_groups-are c is) in
+    let ascends = subst (λ ks. IsAscending (keys ks)) (sym same) (ascending-groups r t gs start (start_ascends r t r.level (template_of r t).level (column c).level gs)) in
+    value_at-fold n (planned_level r t l) K (subst AllOwn (sym (planned_level-is r t l)) (all_own r t l.dimensions)) ascends
+
 -- where the row names no group
 pub column_is : (c : Cell) → named_groups c ≡ [] → map (λ k. k.1.0) (planned_column c.report c.table c.column) ≡ row_entries c
 unfolding row_entries planned_column
 column_is c h =
     ap (λ gs. map (λ k. k.1.0) (fold put_entries (planned_column c.report c.table c.column) (map (planned_level c.report c.table) gs))) (sym h)
     ∙ entries_are c.report c.table c.report.level (template_of c.report c.table).level (column c).level (named_groups c)
+
+-- where the column has no groups
+pub nothing_named : (c : Cell) → length (column c).from ≡ 0 → named_groups c ≡ []
+nothing_named c h = by (column c).from h
+  where
+    by : (is : List ℕ) → length is ≡ 0 → flat_map (λ i. option_to_list (group_named (column_of c.report c.table i) (meaning_at c i))) is ≡ []
+    by [] e = refl
+    by (i ∷ is) e = absurd (omega (arith, e))
+
+-- the level of the group that a cell names
+pub level_named : (o : Option (Bor PlannedGroup)) (p : Option Level) (F : Level → List Keyed) → option_map (λ g. (seen_group g.now).1) o ≡ option_map (λ l. (l, F l)) p → option_map (λ g. g.now.level.now) o ≡ p
+level_named o p F e = firsts o ∙ ap (option_map (λ x. x.0)) e ∙ back p
+  where
+    firsts : (o : Option (Bor PlannedGroup)) → option_map (λ g. g.now.level.now) o ≡ option_map (λ (x : Level × List Keyed). x.0) (option_map (λ g. (seen_group g.now).1) o)
+    firsts None = refl
+    firsts (Some g) = refl
+
+    back : (p : Option Level) → option_map (λ (x : Level × List Keyed). x.0) (option_map (λ l. (l, F l)) p) ≡ p
+    back None = refl
+    back (Some l) = refl
+
+pub without_flag : (o : Option (Bor PlannedDimension)) → option_map (λ p. seen_planned p.now) o ≡ option_map (λ x. x.0) (option_map seen_flagged o)
+without_flag None = refl
+without_flag (Some p) = refl
+
+-- a look-up with the groups of one row cell more
+pub lookup_more : (c : Cell) (n : List ℕ) (is : List ℕ) (k d : ℕ) (o : Option (Entry × Bool)) → k < length is
+    → o ≡ value_at n (fold put_entries (planned_column c.report c.table c.column) (planned_groups c (take k is)))
+    → with_named n o (planned_named c (get_or is k d)) ≡ value_at n (fold put_entries (planned_column c.report c.table c.column) (planned_groups c (take (k + 1) is)))
+lookup_more c n is k d o h e =
+    let start = planned_column c.report c.table c.column in
+    let before = planned_groups c (take k is) in
+    let more : planned_groups c (take (k + 1) is) ≡ before ++ map (λ (g : Level × List Keyed). g.1) (option_to_list (planned_named c (get_or is k d))) =
+    ap (planned_groups c) (take_more is k d h)
+    ∙ ap (map (λ (g : Level × List Keyed). g.1)) (flat_map-append (λ i. option_to_list (planned_named c i)) (take k is) (get_or is k d ∷ []) ∙ ap (λ xs. flat_map (λ i. option_to_list (planned_named c i)) (take k is) ++ xs) (append-nil (option_to_list (planned_named c (get_or is k d)))))
+    ∙ map-append (λ (g : Level × List Keyed). g.1) (flat_map (λ i. option_to_list (planned_named c i)) (take k is)) (option_to_list (planned_named c (get_or is k d))) in
+    by (group_named (column_of c.report c.table (get_or is k d)) (meaning_at c (get_or is k d)))
+    ∙ ap (value_at n) (sym (fold-append put_entries start before (map (λ (g : Level × List Keyed). g.1) (option_to_list (planned_named c (get_or is k d))))))
+    ∙ ap (λ gs. value_at n (fold put_entries start gs)) (sym more)
+  where
+    by : (l : Option Level) → with_named n o (option_map (λ l. (l, planned_level c.report c.table l)) l)
+        ≡ value_at n (fold put_entries (fold put_entries (planned_column c.report c.table c.column) (planned_groups c (take k is))) (map (λ (g : Level × List Keyed). g.1) (option_to_list (option_map (λ l. (l, planned_level c.report c.table l)) l))))
+    by None = e
+    by (Some l) = ap (λ p. over p (value_at n (planned_level c.report c.table l))) e ∙ sym (lookup_over c n (take k is) l (fold put_entries (planned_column c.report c.table c.column) (planned_groups c (take k is))) refl)

@@ -9,7 +9,7 @@ use Rattle.oim_meta.specs.declared.data.Level.{Level}
 use Rattle.oim_meta.specs.declared.data.Written.{Written}
 use Rattle.oim_meta.specs.declared.data.WrittenDecimals.{WrittenDecimals}
 use Rattle.std.specs.Borrow.{Bor}
-use Rattle.oim_resolve.specs.PlaceOf.{held}
+use Rattle.oim_resolve.specs.ProgramCell.{held}
 use Rattle.oim_resolve.specs.Written.{written, written_decimals, overridden, dimensions_at}
 
 -- what the first level that writes a name says

@@ -8,9 +8,9 @@ use Rattle.std.specs.declared.cmp.Ordering.{Ordering}
 use Rattle.std.specs.declared.cmp.Ordering.TheVariants.{Less, Equal, Greater}
 use Rattle.std.proofs.lemmas.List.{take_more, take_all, at_drop_more, at_drop_all, take-append-drop, map-append, take-map, drop-map, get_or-map, length-map, take-set, length-set, drop-set-lt}
 use Rattle.std.proofs.lemmas.Grind.{get_or-set_at}
-use Rattle.oim_resolve.specs.declared.planned.Planned.{Planned}
-use Rattle.oim_resolve.specs.PlaceOf.{held}
-use Rattle.oim_resolve.specs.Planned.{Keyed, put_entry, seen_keyed}
+use Rattle.oim_resolve.specs.declared.plan.dimension.PlannedDimension.{PlannedDimension}
+use Rattle.oim_resolve.specs.ProgramCell.{held}
+use Rattle.oim_resolve.specs.ProgramPlan.{Keyed, put_entry, seen_keyed}
 
 -- the entries below place i come before e
 abbrev pub PutsEntryFrom : List Keyed → ℕ → Keyed → Type 0
@@ -42,17 +42,17 @@ put_entry_last : (ks : List Keyed) (i : ℕ) (e : Keyed) → i ≡ length ks →
 put_entry_last ks i e h p = p ∙ ap (λ xs. take i ks ++ xs) (at_drop_all (λ xs. put_entry xs e) ks i (omega arith)) ∙ ap (λ xs. xs ++ e ∷ []) (take_all i ks (omega arith))
 
 -- the same of a list of references
-abbrev seen : List (Bor Planned) → List Keyed
+abbrev seen : List (Bor PlannedDimension) → List Keyed
 seen ks = map seen_keyed (held ks)
 
-abbrev lent : Bor Planned → Keyed
+abbrev lent : Bor PlannedDimension → Keyed
 lent x = seen_keyed x.now
 
-seen-is : (ks : List (Bor Planned)) → seen ks ≡ map lent ks
+seen-is : (ks : List (Bor PlannedDimension)) → seen ks ≡ map lent ks
 seen-is [] = refl
 seen-is (k ∷ ks) = ap (λ xs. lent k ∷ xs) (seen-is ks)
 
-module _ (ks : List (Bor Planned)) (i : ℕ) (n k : Bor Planned) (h : i < length ks) (is : k ≡ get_or ks i k) (p : PutsEntryFrom (seen ks) i (lent n)) where
+module _ (ks : List (Bor PlannedDimension)) (i : ℕ) (n k : Bor PlannedDimension) (h : i < length ks) (is : k ≡ get_or ks i k) (p : PutsEntryFrom (seen ks) i (lent n)) where
   entry-at : get_or (map lent ks) i (lent k) ≡ lent k
   entry-at = get_or-map lent ks i k (lent k) h ∙ ap lent (sym is)
 
@@ -65,7 +65,7 @@ module _ (ks : List (Bor Planned)) (i : ℕ) (n k : Bor Planned) (h : i < length
   ordered : (o : Ordering) → slice_cmp nat_cmp n.now.name k.now.name ≡ o → slice_cmp nat_cmp (lent n).0 (get_or (map lent ks) i (lent k)).0 ≡ o
   ordered o e = ap (λ (x : Keyed). slice_cmp nat_cmp n.now.name x.0) entry-at ∙ e
 
-  around : (x : Bor Planned) (rest : List (Bor Planned)) → seen (take i ks ++ x ∷ rest) ≡ take i (map lent ks) ++ lent x ∷ map lent rest
+  around : (x : Bor PlannedDimension) (rest : List (Bor PlannedDimension)) → seen (take i ks ++ x ∷ rest) ≡ take i (map lent ks) ++ lent x ∷ map lent rest
   around x rest = seen-is (take i ks ++ x ∷ rest) ∙ map-append lent (take i ks) (x ∷ rest) ∙ ap (λ xs. xs ++ lent x ∷ map lent rest) (sym (take-map lent i ks))
 
   pub entry_less : slice_cmp nat_cmp n.now.name k.now.name ≡ Less → seen (insert ks i n) ≡ put_entry (seen ks) (lent n)
@@ -91,7 +91,7 @@ module _ (ks : List (Bor Planned)) (i : ℕ) (n k : Bor Planned) (h : i < length
   pub entry_more : slice_cmp nat_cmp n.now.name k.now.name ≡ Greater → PutsEntryFrom (seen ks) (i + 1) (lent n)
   entry_more e = subst (λ xs. PutsEntryFrom xs (i + 1) (lent n)) (sym (seen-is ks)) (put_entry_more (map lent ks) i (lent n) (lent k) in_range (ordered Greater e) from)
 
-pub entry_last : (ks : List (Bor Planned)) (i : ℕ) (n : Bor Planned) → i ≡ length ks → PutsEntryFrom (seen ks) i (lent n) → seen (ks ++ n ∷ []) ≡ put_entry (seen ks) (lent n)
+pub entry_last : (ks : List (Bor PlannedDimension)) (i : ℕ) (n : Bor PlannedDimension) → i ≡ length ks → PutsEntryFrom (seen ks) i (lent n) → seen (ks ++ n ∷ []) ≡ put_entry (seen ks) (lent n)
 entry_last ks i n h p =
     seen-is (ks ++ n ∷ []) ∙ map-append lent ks (n ∷ [])
     ∙ sym (put_entry_last (map lent ks) i (lent n) (rw (length-map ks lent) h) (subst (λ xs. PutsEntryFrom xs i (lent n)) (seen-is ks) p))

@@ -2,7 +2,7 @@
 -- The faults of each step are a set, and a cell has the fault of the least number of the first step that has one.
 use Rattle.std.specs.Prelude.{ℕ, ℤ, List, [], ◌∷◌, ◌++◌, Bool, true, false, ◌&&◌, ◌||◌, not, Option, Some, None, is_none, is_some, Result, Ok, Err, codes, if◌then◌else◌}
 use Rattle.std.specs.List.{list_any, flat_map}
-use Rattle.std.specs.Option.{option_map, option_and_then, option_map_or, option_to_list, unwrap_or}
+use Rattle.std.specs.Option.{option_map, option_and_then, option_map_or, option_or, unwrap_or}
 use Rattle.std.specs.Str.{bytes_eq}
 use Rattle.oim_names.specs.Lookup.{value_at}
 use Rattle.oim_cells.specs.Cells.{Meaning, numeral_of, accuracy_of}
@@ -28,8 +28,8 @@ use Rattle.oim_resolve.specs.declared.fact.CellFault.{CellFault}
 use Rattle.oim_resolve.specs.declared.fact.CellFault.TheVariants.{UnknownSpecial, UnknownGroup, NoConcept, UnknownName, BadReference, BadValue, BadPeriod, NotDuration, BadDecimals, BadNumber}
 use Rattle.oim_resolve.specs.declared.role.Role.{Role}
 use Rattle.oim_resolve.specs.declared.role.Role.TheVariants as role
-use Rattle.oim_resolve.specs.Cell.{Cell, column, text_at, meaning_at}
-use Rattle.oim_resolve.specs.Written.{levels, written, written_decimals, names, group_named}
+use Rattle.oim_resolve.specs.Cell.{Cell, column, meaning_at}
+use Rattle.oim_resolve.specs.Written.{levels, written, written_decimals, names}
 use Rattle.oim_resolve.specs.Values.{value, side_of, decimals_value, Stated, Fixed, Read}
 use Rattle.oim_resolve.specs.Faults.{fault_if, least, unless}
 
@@ -86,7 +86,8 @@ abbrev pub concept_type : Kind → Option Kind
 concept_type (kind.Number n) = Some (kind.Number n)
 concept_type kind.Text = Some kind.Text
 concept_type kind.Other = Some kind.Other
-concept_type _ = None
+concept_type kind.Explicit = None
+concept_type kind.Typed = None
 
 -- the concept type of a declared QName
 abbrev pub concept_type_of : ReportValue → List ℕ → Option Kind
@@ -103,10 +104,14 @@ concept_faults_of r v =
 abbrev pub concept_faults : Cell → List CellFault
 concept_faults c = concept_faults_of c.report (given c (codes "concept"))
 
--- the kind of the cell's concept, where it has one
+-- the kind of the concept that a value names
 abbrev pub text_kind : ReportValue → Meaning → Kind
 text_kind r (m.Text t) = unwrap_or (concept_type_of r t) kind.Other
 text_kind r _ = kind.Other
+
+-- a concept's value read: its least fault, or the kind that it names
+abbrev pub concept_read : ReportValue → Meaning → Result Kind CellFault
+concept_read r v = unless (least (concept_faults_of r v)) (Ok (text_kind r v))
 
 abbrev pub concept_kind : Cell → Kind
 concept_kind c = text_kind c.report (given c (codes "concept"))
@@ -115,7 +120,17 @@ concept_kind c = text_kind c.report (given c (codes "concept"))
 
 abbrev pub is_numeric : Kind → Bool
 is_numeric (kind.Number n) = true
-is_numeric _ = false
+is_numeric kind.Text = false
+is_numeric kind.Other = false
+is_numeric kind.Explicit = false
+is_numeric kind.Typed = false
+
+abbrev pub is_of_text : Kind → Bool
+is_of_text kind.Text = true
+is_of_text (kind.Number n) = false
+is_of_text kind.Other = false
+is_of_text kind.Explicit = false
+is_of_text kind.Typed = false
 
 -- a dimension of the taxonomy is typed or explicit
 abbrev pub taxonomy_role : Option Kind → Role
@@ -143,9 +158,12 @@ is_period _ = false
 -- a unit is dropped where the concept is not numeric, a language where it is not text
 abbrev pub is_dropped : Kind → Role → Bool
 is_dropped k role.Unit = not (is_numeric k)
-is_dropped kind.Text role.Language = false
-is_dropped k role.Language = true
-is_dropped k _ = false
+is_dropped k role.Language = not (is_of_text k)
+is_dropped k role.Concept = false
+is_dropped k role.Entity = false
+is_dropped k role.Period = false
+is_dropped k role.Explicit = false
+is_dropped k role.Typed = false
 
 -- the form that entity, unit, language and explicit dimensions have
 abbrev pub has_form : ReportValue → Role → List ℕ → Bool
@@ -153,7 +171,9 @@ has_form r role.Entity t = is_some (sqname_of r.namespaces t)
 has_form r role.Unit t = is_some (unit_of r.namespaces t)
 has_form r role.Language t = is_some (language_of t)
 has_form r role.Explicit t = is_some (qname_of r.namespaces t)
-has_form r _ t = true
+has_form r role.Concept t = true
+has_form r role.Period t = true
+has_form r role.Typed t = true
 
 -- the side of a period: nothing where a side is asked of an instant
 abbrev pub sided : Side → Reading → Option Reading
@@ -193,6 +213,10 @@ is_pure r _ _ = false
 abbrev pub entry_given : ReportValue → Role → Side → Meaning → Option (Option (List ℕ))
 entry_given r o s v = if is_pure r o v then None else entry_of o s v
 
+-- a dimension that is not dropped, read: its least fault, or what it gives a fact
+abbrev pub value_read : ReportValue → Role → Side → Meaning → Result (Option (Option (List ℕ))) CellFault
+value_read r o s v = unless (least (value_faults_of r o s v)) (Ok (entry_given r o s v))
+
 abbrev pub dimension_faults : Cell → Kind → List ℕ → List CellFault
 dimension_faults c k n =
     if is_dropped k (role_of c.report n) then [] else value_faults_of c.report (role_of c.report n) (side_given c n) (given c n)
@@ -229,16 +253,25 @@ stated_accuracy (Fixed a) = Some a
 stated_accuracy (Read (m.Text t)) = accuracy_of t
 stated_accuracy (Read v) = None
 
+-- what is stated, read: its least fault, or the accuracy
+abbrev pub stated_read : Stated → Result (Option Accuracy) CellFault
+stated_read s = unless (least (stated_faults s)) (Ok (stated_accuracy s))
+
+abbrev pub decimals_faults_of : Kind → Meaning → Stated → List CellFault
+decimals_faults_of k v s = if looks_at_decimals k v then stated_faults s else []
+
 abbrev pub decimals_faults : Cell → Kind → List CellFault
-decimals_faults c k = if looks_at_decimals k (fact_meaning c) then stated_faults (stated c) else []
+decimals_faults c k = decimals_faults_of k (fact_meaning c) (stated c)
 
 abbrev pub is_empty : Meaning → Bool
 is_empty m.Empty = true
 is_empty _ = false
 
+abbrev pub number_faults_of : Kind → Meaning → List CellFault
+number_faults_of k v = fault_if BadNumber (is_numeric k && (is_empty v || is_text (λ t. is_none (numeral k (m.Text t))) v))
+
 abbrev pub number_faults : Cell → Kind → List CellFault
-number_faults c k =
-    fault_if BadNumber (is_numeric k && (is_empty (fact_meaning c) || is_text (λ t. is_none (numeral k (m.Text t))) (fact_meaning c)))
+number_faults c k = number_faults_of k (fact_meaning c)
 
 unfoldable pub rest_faults : Cell → Kind → List CellFault
 rest_faults c k = flat_map (dimension_faults c k) (names (levels c)) ++ decimals_faults c k ++ number_faults c k
@@ -252,6 +285,10 @@ value_text (kind.Number n) (m.Text t) = option_map (λ p. p.0) (numeral_of n t)
 value_text k (m.Text t) = Some t
 value_text k _ = None
 
+-- the fact cell read: its least fault, or the value
+abbrev pub value_text_read : Kind → Meaning → Result (Option (List ℕ)) CellFault
+value_text_read k v = unless (least (number_faults_of k v)) (Ok (value_text k v))
+
 -- an accuracy of some places
 abbrev pub places : Accuracy → Option ℤ
 places (Places n) = Some n
@@ -263,6 +300,10 @@ decimals_given k v s =
     if is_numeric k && not (is_nil v)
     then option_and_then places (if is_none (suffix k v) then stated_accuracy s else suffix k v)
     else None
+
+-- the decimals read: their least fault, or those of the fact
+abbrev pub decimals_read : Kind → Meaning → Stated → Result (Option ℤ) CellFault
+decimals_read k v s = unless (least (decimals_faults_of k v s)) (Ok (decimals_given k v s))
 
 abbrev pub fact_decimals : Cell → Kind → Option ℤ
 fact_decimals c k = decimals_given k (fact_meaning c) (stated c)
@@ -292,3 +333,9 @@ cell_result c =
     else unless (least (cell_and_group_faults c))
     (unless (least (concept_faults c))
     (unless (least (rest_faults c (concept_kind c))) (Ok (Some (fact_of c)))))
+
+-- the answer that the first two steps have, if any: no fact where the cell says nothing, else their least fault. They take no memory
+unfoldable pub early_result : Cell → Option (Result (Option Fact) CellFault)
+early_result c =
+    if is_absent (fact_meaning c) then Some (Ok None)
+    else option_map Err (option_or (least (cell_and_group_faults c)) (least (concept_faults c)))

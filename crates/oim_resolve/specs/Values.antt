@@ -2,7 +2,7 @@
 -- (xBRL-CSV 1.0, column and parameter references, special values)
 use Rattle.std.specs.Prelude.{ℕ, List, [], ◌∷◌, Option, Some, None, decimal}
 use Rattle.std.specs.List.{position}
-use Rattle.std.specs.Option.{option_map, option_or, option_and_then, option_map_or}
+use Rattle.std.specs.Option.{option_or, option_and_then, option_map_or}
 use Rattle.std.specs.Str.{bytes_eq}
 use Rattle.oim_cells.specs.Cells.{Meaning, meaning_of}
 use Rattle.oim_cells.specs.Cells as m

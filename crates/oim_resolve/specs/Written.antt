@@ -1,6 +1,6 @@
 -- What the levels of a report write for the properties of a cell: report, template, property groups and column, of which the more
 -- specific overrides the more general. (xBRL-CSV 1.0, dimensions, decimals and property groups)
-use Rattle.std.specs.Prelude.{ℕ, List, [], ◌∷◌, ◌++◌, map, reverse, Option, Some, None}
+use Rattle.std.specs.Prelude.{ℕ, List, [], ◌∷◌, ◌++◌, map, reverse, Option, None}
 use Rattle.std.specs.List.{fold, flat_map}
 use Rattle.std.specs.Option.{option_or, option_to_list}
 use Rattle.std.specs.Ordering.{match_ordering, nat_cmp}

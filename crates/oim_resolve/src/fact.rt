@@ -1,3 +1,5 @@
+//! What a cell is read from and what it gives: a row of a table, a fact or a fault.
+
 ghost use Rattle.std.specs.Prelude.{◌≡◌};
 ghost use Rattle.oim_resolve.specs.Faults.{number_of, name_of};
 ghost use Rattle.oim_resolve.specs.declared.fact.CellFault.TheVariants.{Memory};
@@ -35,27 +37,27 @@ pub struct Fact {
 /// What is wrong with a cell (xBRL-CSV 1.0).
 #[derive(Clone, Copy, Debug, PartialEq, Eq)]
 pub enum CellFault {
-    /// A text that begins with a single `#` and is no special value.
+    /// A text that begins with a single `#` and is not a special value.
     UnknownSpecial,
     /// A group cell that names no property group of its column.
     UnknownGroup,
     /// No concept is given.
     NoConcept,
-    /// The concept is no name of a concept in the types.
+    /// The concept is not the name of a concept in the types table.
     UnknownName,
     /// A dimension that is not typed is nil or empty.
     BadReference,
-    /// An entity, a unit, a language or a member of an explicit dimension has not its form.
+    /// An entity, a unit, a language or a member of an explicit dimension is not well-formed.
     BadValue,
-    /// A period has not its form.
+    /// A period is not well-formed.
     BadPeriod,
     /// A side is asked of an instant.
     NotDuration,
     /// Decimals that are neither an integer nor `INF`.
     BadDecimals,
-    /// The cell of a number is no numeral.
+    /// The cell of a number is not a numeral.
     BadNumber,
-    /// Want of memory.
+    /// Memory ran out.
     Memory,
 }
 

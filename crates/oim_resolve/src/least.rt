@@ -1,10 +1,12 @@
+//! Two readings together: of two faults the lesser.
+
 ghost use Rattle.std.specs.Prelude.{◌≡◌};
-ghost use Rattle.oim_resolve.specs.Faults.{lesser, least_of};
+ghost use Rattle.oim_resolve.specs.Faults.{both, lesser};
 
 use crate::fact::CellFault;
 
 /// The fault with the lesser number.
-fn lesser(first: CellFault, second: CellFault) -> CellFault
+pub(crate) fn lesser(first: CellFault, second: CellFault) -> CellFault
     ensures { result ≡ lesser first second }
 {
     if first.number() <= second.number() {
@@ -14,13 +16,16 @@ fn lesser(first: CellFault, second: CellFault) -> CellFault
     }
 }
 
-/// Of two faults that may be there, the lesser.
-pub(crate) fn least_of(first: Option<CellFault>, second: Option<CellFault>) -> Option<CellFault>
-    ensures { result ≡ least_of first second }
+/// What both readings give, or the lesser of their faults.
+pub(crate) fn both<A: Drop, B: Drop>(
+    first: Result<A, CellFault>,
+    second: Result<B, CellFault>,
+) -> Result<(A, B), CellFault>
+    ensures { result ≡ both (λ a b. (a, b)) first second }
 {
     match (first, second) {
-        (Some(first), Some(second)) => Some(lesser(first, second)),
-        (Some(first), None) => Some(first),
-        (None, second) => second,
+        (Ok(first), Ok(second)) => Ok((first, second)),
+        (Ok(_), Err(fault)) | (Err(fault), Ok(_)) => Err(fault),
+        (Err(first), Err(second)) => Err(lesser(first, second)),
     }
 }

@@ -1,26 +1,36 @@
 -- The definitions, executed on worked cases.
-use Rattle.std.proofs.Common.{◌≡◌, ◌++◌, ◌∷◌, [], ap, arith, ℕ, List, Some, None, Bool, true, false, codes, refl}
+use Rattle.std.proofs.Common.{◌≡◌, ◌++◌, ◌∷◌, [], ap, arith, ℕ, List, Some, None, Ok, Err, Bool, true, false, codes, refl}
 use Rattle.std.proofs.lemmas.Fmt.{decimal_digit}
 use Rattle.oim_meta.specs.Readers.{no_level}
 use Rattle.oim_meta.specs.ReportValue.{ReportValue}
 use Rattle.oim_meta.specs.declared.data.Column.{Column}
 use Rattle.oim_meta.specs.declared.data.ColumnKind.TheVariants as content
+use Rattle.std.specs.Str.{chars, is_utf8}
+use Rattle.csv.specs.Records.{field_at}
+use Rattle.oim_names.specs.Names.{is_ncname, is_name_char, is_name_start, is_plain_char, is_row_identifier}
+use Rattle.oim_names.specs.QName.{qname_of}
+use Rattle.oim_cells.specs.Cells.{meaning_of}
+use Rattle.oim_meta.specs.Grid.{Record}
+use Rattle.oim_meta.specs.declared.data.Written.TheVariants as written
+use Rattle.oim_meta.specs.declared.kind.Kind.TheVariants as type
+use Rattle.oim_resolve.specs.Facts.{cell_result, fact_of, rest_faults}
+use Rattle.oim_resolve.specs.declared.fact.Fact.{Fact}
 use Rattle.oim_rows.specs.Header.{fault_at, file_fault, header_fault, header_of}
-use Rattle.oim_rows.specs.RowFacts.{Reading, cell_at, id_kind, row_fault, row_id_text}
-use Rattle.oim_rows.specs.Streams.{ending, stream_of, table_stream}
+use Rattle.oim_rows.specs.RowFacts.{Reading, cell_at, id_kind, row_fault, row_id_text, row_result}
+use Rattle.oim_rows.specs.Streams.{ending, stream_from, stream_of, table_stream}
 use Rattle.oim_rows.specs.declared.fault.TableKind.TheVariants as kind
 
 abbrev columns : List Column
 columns =
-    record { id = codes "cash"; kind = content.Fact; level = no_level; groups = []; from = [] }
+    record { id = codes "cash"; kind = content.Fact; level = record { dimensions = (codes "concept", written.Text (codes "eg:Note")) ∷ []; decimals = None }; groups = []; from = [] }
     ∷ record { id = codes "k"; kind = content.Plain; level = no_level; groups = []; from = [] } ∷ []
 
--- a report of one table with these two columns, whose rows have their identifiers in the second
+-- a report of one table with these two columns, a text and the row identifier
 abbrev report : Bool → ReportValue
 report optional = record {
   info = record { base_url = None; taxonomy = [] };
-  namespaces = [];
-  types = [];
+  namespaces = (codes "eg", codes "http://example.com/eg") ∷ [];
+  types = (codes "http://example.com/eg", (codes "Note", type.Text) ∷ []) ∷ [];
   level = no_level;
   templates = record { id = codes "m"; columns = columns; row_id_column = Some 1; level = no_level } ∷ [];
   tables = record { id = codes "t1"; url = codes "t1.csv"; is_optional = optional; template = 0; parameters = [] } ∷ [];
@@ -65,3 +75,48 @@ numbered_row = ap (λ (t : List ℕ). codes "r_" ++ t) (decimal_digit 7 (omega a
 
 great_place : fault_at 0 1 5000000000 kind.NotUtf8 ≡ fault_at 0 1 4294967295 kind.NotUtf8
 great_place = refl
+
+-- ROWS: the first fault of a row, in the order 26, 27, 41, 28, 29, 30, then its cells
+abbrev line : List ℕ → List ℕ → Record
+line cash k = cash ∷ k ∷ []
+
+abbrev bytes : ℕ → List ℕ
+bytes b = b ∷ []
+
+row_fault_order : row_fault reading 2 [] (bytes 255 ∷ []) ∷ row_fault reading 2 [] (line (codes "x") (bytes 255)) ∷ row_fault reading 2 [] (line (codes "x") []) ∷ []
+    ≡ Some (fault_at 0 2 0 kind.Ragged) ∷ Some (fault_at 0 2 2 kind.NotUtf8) ∷ Some (fault_at 0 2 0 kind.TooManyRows) ∷ []
+unfolding stream_from cell_result rest_faults fact_of meaning_of chars is_row_identifier is_plain_char is_ncname is_name_char is_name_start qname_of field_at is_utf8 lib.Utf8.encode
+row_fault_order = refl
+
+row_id_faults : row_fault reading 1 (codes "a" ∷ codes "b" ∷ []) (line (codes "x") []) ∷ row_fault reading 1 (codes "a b" ∷ []) (line (codes "x") (codes "a b"))
+    ∷ row_fault reading 1 (codes "a" ∷ codes "b" ∷ []) (line (codes "x") (codes "a")) ∷ row_fault reading 1 (codes "a" ∷ codes "b" ∷ []) (line (codes "x") (codes "c")) ∷ []
+    ≡ Some (fault_at 0 1 2 kind.MissingRowId) ∷ Some (fault_at 0 1 2 kind.BadRowId) ∷ Some (fault_at 0 1 2 kind.RepeatedRowId) ∷ None ∷ []
+unfolding stream_from cell_result rest_faults fact_of meaning_of chars is_row_identifier is_plain_char is_ncname is_name_char is_name_start qname_of field_at is_utf8 lib.Utf8.encode
+row_id_faults = refl
+
+abbrev note : List ℕ → List ℕ → Fact
+note id text = record { id = codes "t1." ++ id ++ codes ".cash"; value = Some text; decimals = None; dimensions = (codes "concept", Some (codes "eg:Note")) ∷ [] }
+
+row_results : row_result reading 1 [] (line (codes "x") (codes "a")) ∷ row_result reading 1 [] (line [] (codes "a")) ∷ row_result reading 1 [] (line (codes "#foo") (codes "a")) ∷ row_result reading 1 [] (line (codes "#foo") []) ∷ []
+    ≡ Ok (note (codes "a") (codes "x") ∷ []) ∷ Ok [] ∷ Err (fault_at 0 1 1 kind.UnknownSpecial) ∷ Err (fault_at 0 1 2 kind.MissingRowId) ∷ []
+unfolding stream_from cell_result rest_faults fact_of meaning_of chars is_row_identifier is_plain_char is_ncname is_name_char is_name_start qname_of field_at is_utf8 lib.Utf8.encode
+row_results = refl
+
+-- STREAMS
+abbrev file : List Record → List Record
+file rows = line (codes "cash") (codes "k") ∷ rows
+
+whole_stream : stream_of (report false) 0 2 (file (line (codes "x") (codes "a") ∷ line [] (codes "b") ∷ []))
+    ≡ record { rows = (note (codes "a") (codes "x") ∷ []) ∷ [] ∷ []; fault = None }
+unfolding stream_from cell_result rest_faults fact_of meaning_of chars is_row_identifier is_plain_char is_ncname is_name_char is_name_start qname_of field_at is_utf8 lib.Utf8.encode
+whole_stream = refl
+
+stream_to_a_repeated_id : stream_of (report false) 0 9 (file (line (codes "x") (codes "a") ∷ line (codes "y") (codes "a") ∷ line (codes "z") (codes "b") ∷ []))
+    ≡ record { rows = (note (codes "a") (codes "x") ∷ []) ∷ []; fault = Some (fault_at 0 2 2 kind.RepeatedRowId) }
+unfolding stream_from cell_result rest_faults fact_of meaning_of chars is_row_identifier is_plain_char is_ncname is_name_char is_name_start qname_of field_at is_utf8 lib.Utf8.encode
+stream_to_a_repeated_id = refl
+
+stream_to_the_limit : stream_of (report false) 0 1 (file (line (codes "x") (codes "a") ∷ line (codes "y") (codes "b") ∷ []))
+    ≡ record { rows = (note (codes "a") (codes "x") ∷ []) ∷ []; fault = Some (fault_at 0 2 0 kind.TooManyRows) }
+unfolding stream_from cell_result rest_faults fact_of meaning_of chars is_row_identifier is_plain_char is_ncname is_name_char is_name_start qname_of field_at is_utf8 lib.Utf8.encode
+stream_to_the_limit = refl

@@ -1,14 +1,16 @@
 -- One row more of a table's stream.
-use Rattle.std.proofs.Common.{◌≡◌, ◌+◌, ℕ, List, [], ◌∷◌, true, false, Option, Some, None, Result, Ok, Err, refl, sym, inl, inr, option_map, IfSome}
+use Rattle.std.proofs.Common.{◌≡◌, ◌⊎◌, ◌+◌, ℕ, Bool, List, [], ◌∷◌, true, false, Option, Some, None, Result, Ok, Err, refl, sym, ap, subst, inl, inr, option_map, IfOk, IfSome, OnSome}
 use Rattle.oim_meta.specs.Grid.{Field, Record, grid}
 use Rattle.oim_meta.specs.Taking.{TakesRecord}
 use Rattle.oim_resolve.specs.declared.fact.Fact.{Fact}
 use Rattle.oim_meta.specs.Readers.{columns_of}
 use Rattle.oim_meta.specs.ReportValue.{ReportValue}
+use Rattle.oim_meta.specs.declared.records.ReadFault.{ReadFault}
+use Rattle.oim_meta.specs.declared.records.ReadFault.TheVariants as read
 use Rattle.oim_rows.specs.Header.{Header, file_fault, file_header_fault, header_fault, header_of}
 use Rattle.oim_rows.specs.declared.fault.TableKind.TheVariants as kind
 use Rattle.oim_rows.specs.RowFacts.{Reading, id_place_of, ids_after, row_result}
-use Rattle.oim_rows.specs.Streams.{GivesNext, OrNoMemory, Stream, TakesHeader, stream_from, stream_of}
+use Rattle.oim_rows.specs.Streams.{GivesNext, IsOutside, OrNoMemory, Stream, early_header_fault, early_row_answer, fault_of_read, row_answer, TakesHeader, stream_from, stream_of}
 use Rattle.oim_rows.specs.declared.fault.TableFault.{TableFault}
 
 pub gives_end : (table n : ℕ) (g : Reading) (ids : List Field) (old new : Option (List Record)) (r : Record) (after : Option Stream) → TakesRecord old false r new
@@ -39,6 +41,54 @@ gives_fault n g ids (Some []) new r x after h o = cc h.0
 gives_fault n g ids (Some (y ∷ rs)) new r x after h (inl o) = inl (inr (cc o))
 gives_fault n g ids (Some (y ∷ rs)) new r x after h (inr o) = inr (rw (← h.1, ← o) refl)
 
+outside : (table : ℕ) (f : ReadFault) → IsOutside table (fault_of_read table f)
+outside table read.Read = inl refl
+outside table read.Memory = inr refl
+
+known_or_not : {A : Type 0} (o : Option A) (P : A → Type 0) → ((a : A) → P a) → IfSome o P
+known_or_not None P h = tt
+known_or_not (Some a) P h = h a
+
+-- a fault of the row itself
+pub early_fault : (o : Option TableFault) (x : TableFault) → IfSome o (λ f. ◌≡◌ {A = Result (List Fact) TableFault} (Err x) (Err f))
+    → IfSome (option_map Err o) (λ a. ◌≡◌ {A = Result (Option (List Fact)) TableFault} (Err x) a)
+early_fault None x h = tt
+early_fault (Some f) x h = ap row_answer h
+
+-- the reader's answer for a row, and what is made of it
+pub gives_answer : (n : ℕ) (g : Reading) (ids ids2 : List Field) (old new : Option (List Record)) (r : Record) (found : Result Bool ReadFault) (result : Result (Option (List Fact)) TableFault)
+    → IfOk found (λ b. TakesRecord old b r new) → IfSome (early_row_answer g n ids found r) (λ a. result ≡ a)
+    → (found ≡ Ok true → OrNoMemory g.table result (row_answer (row_result g n ids r))) → IfOk result (λ o. OnSome o (ids2 ≡ ids_after (id_place_of g) ids r))
+    → IfSome old (λ rs. GivesNext g.table (stream_from g n ids rs) result (option_map (stream_from g (n + 1) ids2) new))
+gives_answer n g ids ids2 old new r (Err f) result took early row kept =
+    known_or_not old (λ rs. GivesNext g.table (stream_from g n ids rs) result (option_map (stream_from g (n + 1) ids2) new))
+    (λ rs. subst (λ x. GivesNext g.table (stream_from g n ids rs) x (option_map (stream_from g (n + 1) ids2) new)) (sym early) (inl (outside g.table f)))
+gives_answer n g ids ids2 old new r (Ok false) result took early row kept =
+    subst (λ x. IfSome old (λ rs. GivesNext g.table (stream_from g n ids rs) x (option_map (stream_from g (n + 1) ids2) new))) (sym early)
+    (gives_end g.table n g ids old new r (option_map (stream_from g (n + 1) ids2) new) took)
+gives_answer n g ids ids2 old new r (Ok true) result took early row kept = by result (row refl) kept
+  where
+    by : (x : Result (Option (List Fact)) TableFault) → OrNoMemory g.table x (row_answer (row_result g n ids r)) → IfOk x (λ o. OnSome o (ids2 ≡ ids_after (id_place_of g) ids r))
+        → IfSome old (λ rs. GivesNext g.table (stream_from g n ids rs) x (option_map (stream_from g (n + 1) ids2) new))
+    by (Ok (Some facts)) o e = gives_row n g ids ids2 old new r facts took (given (row_result g n ids r) facts o) e
+      where
+        given : (a : Result (List Fact) TableFault) (facts : List Fact) → OrNoMemory g.table (Ok (Some facts)) (row_answer a) → OrNoMemory g.table (Ok facts) a
+        given a facts (inl e) = cc e
+        given (Ok fs) facts (inr e) = inr (cc e)
+        given (Err x) facts (inr e) = cc e
+    by (Ok None) o e = absurd (never (row_result g n ids r) o)
+      where
+        never : (a : Result (List Fact) TableFault) → OrNoMemory g.table (Ok None) (row_answer a) → ⊥
+        never a (inl e) = cc e
+        never (Ok fs) (inr e) = cc e
+        never (Err x) (inr e) = cc e
+    by (Err x) o e = gives_fault n g ids old new r x (option_map (stream_from g (n + 1) ids2) new) took (faulty (row_result g n ids r) x o)
+      where
+        faulty : (a : Result (List Fact) TableFault) (x : TableFault) → OrNoMemory g.table (Err x) (row_answer a) → OrNoMemory g.table (Err x) a
+        faulty a x (inl e) = inl (cc e)
+        faulty (Ok fs) x (inr e) = cc e
+        faulty (Err y) x (inr e) = inr (cc e)
+
 pub takes_header : (report : ReportValue) (table : ℕ) (old new : Option (List Record)) (r : Record) (h : Header) → TakesRecord old true r new → header_fault report table r ≡ None → h ≡ header_of (columns_of report table) r
     → TakesHeader report table old h new
 takes_header report table None new r h took none e = tt
@@ -56,6 +106,26 @@ pub no_header : (report : ReportValue) (table : ℕ) (old new : Option (List Rec
 no_header report table None new r took = tt
 no_header report table (Some []) new r took = refl
 no_header report table (Some (y ∷ rs)) new r took = cc took.0
+
+-- the reader's answer for the header
+took_one : (old new : Option (List Record)) (r : Record) (found : Result Bool ReadFault) → IfOk found (λ b. TakesRecord old b r new) → found ≡ Ok true → TakesRecord old true r new
+took_one old new r found h e = subst (λ x. IfOk x (λ b. TakesRecord old b r new)) e h
+
+pub header_taken : (report : ReportValue) (table : ℕ) (old new : Option (List Record)) (r : Record) (h : Header) (found : Result Bool ReadFault) → IfOk found (λ b. TakesRecord old b r new)
+    → found ≡ Ok true → header_fault report table r ≡ None → h ≡ header_of (columns_of report table) r → TakesHeader report table old h new
+header_taken report table old new r h found took is none e = takes_header report table old new r h (took_one old new r found took is) none e
+
+pub header_refused : (report : ReportValue) (table : ℕ) (old new : Option (List Record)) (r : Record) (found : Result Bool ReadFault) (x : TableFault) → IfOk found (λ b. TakesRecord old b r new)
+    → IfSome (early_header_fault report table found r) (λ e. ◌≡◌ {A = Result Header TableFault} (Err x) (Err e))
+    → (found ≡ Ok true → (x ≡ file_fault table kind.Memory) ⊎ (header_fault report table r ≡ Some x))
+    → IsOutside table x ⊎ IfSome old (λ rs. file_header_fault report table rs ≡ Some x)
+header_refused report table old new r (Err f) x took early late = inl (subst (λ y. IsOutside table y) (sym (cc early)) (outside table f))
+header_refused report table old new r (Ok false) x took early late = inr (subst (λ y. IfSome old (λ rs. file_header_fault report table rs ≡ Some y)) (sym (cc early)) (no_header report table old new r took))
+header_refused report table old new r (Ok true) x took early late = by (late refl)
+  where
+    by : ((x ≡ file_fault table kind.Memory) ⊎ (header_fault report table r ≡ Some x)) → IsOutside table x ⊎ IfSome old (λ rs. file_header_fault report table rs ≡ Some x)
+    by (inl e) = inl (inr e)
+    by (inr e) = inr (faulty_header report table old new r x took e)
 
 -- what is said of the records is said of the bytes that they were made of
 pub IfSome-mapped : {A B : Type 0} (f : A → B) (o : Option A) (P : B → Type 0) → IfSome (option_map f o) P → IfSome o (λ x. P (f x))

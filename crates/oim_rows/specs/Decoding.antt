@@ -3,7 +3,7 @@ use Rattle.std.specs.Prelude.{◌≡◌, ◌<◌, List, ℕ, Option, map, length
 use Rattle.std.specs.List.{range_with_len}
 use Rattle.oim_meta.specs.Readers.{columns_of, template_of}
 use Rattle.oim_meta.specs.declared.data.Column.{Column}
-use Rattle.oim_resolve.specs.Plans.{PlanOf}
+use Rattle.oim_resolve.specs.ProgramPlan.{PlanOf}
 use Rattle.oim_rows.specs.Header.{Header}
 use Rattle.oim_rows.specs.RowFacts.{row_id_place, source_of_column}
 

@@ -32,6 +32,12 @@ abbrev pub or_else : {A : Type 0} → Option A → Option A → Option A
 or_else None b = b
 or_else (Some a) b = Some a
 
+-- the first of a list that is there
+abbrev pub first_of : {A : Type 0} → List (Option A) → Option A
+first_of [] = None
+first_of (o ∷ []) = o
+first_of (o ∷ p ∷ os) = or_else o (first_of (p ∷ os))
+
 -- the place of the column with this identifier
 abbrev pub place_of : List Column → Field → Option ℕ
 place_of columns f = position_from (λ c. bytes_eq c.id f) 0 columns
@@ -66,12 +72,32 @@ abbrev pub names_row_id : Option ℕ → Header → Bool
 names_row_id None h = true
 names_row_id (Some c) h = list_any (is_column c) h
 
--- the first fault of a table's header: a cell that names no column, a column twice, no column of row identifiers
+-- a cell that names no column
+abbrev pub unknown_fault : ReportValue → ℕ → Record → Option TableFault
+unknown_fault report table r = option_map (λ p. fault_at table 0 (p + 1) kind.UnknownHeader) (position_from (is_unknown (columns_of report table)) 0 r)
+
+-- a column twice
+abbrev pub repeated_fault : ℕ → Header → Option TableFault
+repeated_fault table h = option_map (λ p. fault_at table 0 (p + 1) kind.RepeatedHeader) (repeat_from 0 [] h)
+
+-- no column of row identifiers
+abbrev pub row_id_fault : ReportValue → ℕ → Header → Option TableFault
+row_id_fault report table h = if names_row_id (template_of report table).row_id_column h then None else Some (file_fault table kind.NoRowIdColumn)
+
+-- the faults of a table's header, in the order of their numbers
+abbrev pub header_faults : ReportValue → ℕ → Record → List (Option TableFault)
+header_faults report table r =
+    unknown_fault report table r
+    ∷ repeated_fault table (header_of (columns_of report table) r)
+    ∷ row_id_fault report table (header_of (columns_of report table) r)
+    ∷ []
+
 abbrev pub header_fault : ReportValue → ℕ → Record → Option TableFault
-header_fault report table r =
-    or_else (option_map (λ p. fault_at table 0 (p + 1) kind.UnknownHeader) (position_from (is_unknown (columns_of report table)) 0 r))
-    (or_else (option_map (λ p. fault_at table 0 (p + 1) kind.RepeatedHeader) (repeat_from 0 [] (header_of (columns_of report table) r)))
-    (if names_row_id (template_of report table).row_id_column (header_of (columns_of report table) r) then None else Some (file_fault table kind.NoRowIdColumn)))
+header_fault report table r = first_of (header_faults report table r)
+
+-- a column twice, or no column of row identifiers
+abbrev pub columns_fault : ReportValue → ℕ → Header → Option TableFault
+columns_fault report table h = or_else (repeated_fault table h) (row_id_fault report table h)
 
 -- the first fault of a table's file before its rows
 abbrev pub file_header_fault : ReportValue → ℕ → List Record → Option TableFault

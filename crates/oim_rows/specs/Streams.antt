@@ -1,12 +1,14 @@
 -- A table's stream: all its facts, row by row, up to its first fault.
 -- xBRL-CSV 1.0, table files: the first record is the header, row n is the nth record after it.
-use Rattle.std.specs.Prelude.{⊤, List, [], ◌∷◌, ◌≡◌, ◌⊎◌, ℕ, ◌+◌, if◌then◌else◌, Option, Some, None, Result, Ok, Err}
+use Rattle.std.specs.Prelude.{⊤, List, [], ◌∷◌, ◌≡◌, ◌⊎◌, ℕ, ◌+◌, Bool, true, false, if◌then◌else◌, Option, Some, None, option_map, Result, Ok, Err}
 use Rattle.oim_meta.specs.Grid.{Field, Record, grid}
 use Rattle.oim_meta.specs.Readers.{columns_of, table_of}
 use Rattle.oim_meta.specs.ReportValue.{ReportValue}
+use Rattle.oim_meta.specs.declared.records.ReadFault.{ReadFault}
+use Rattle.oim_meta.specs.declared.records.ReadFault.TheVariants as read
 use Rattle.oim_resolve.specs.declared.fact.Fact.{Fact}
-use Rattle.oim_rows.specs.Header.{Header, file_fault, header_fault, header_of}
-use Rattle.oim_rows.specs.RowFacts.{Reading, id_place_of, ids_after, row_result}
+use Rattle.oim_rows.specs.Header.{Header, file_fault, header_fault, header_of, unknown_fault}
+use Rattle.oim_rows.specs.RowFacts.{Reading, id_place_of, ids_after, row_fault, row_result}
 use Rattle.oim_rows.specs.declared.fault.TableFault.{TableFault}
 use Rattle.oim_rows.specs.declared.fault.TableKind.TheVariants as kind
 
@@ -48,6 +50,28 @@ table_stream report table limit (Some bytes) = stream_of report table limit (gri
 -- the reader failed, or a growth was refused
 abbrev pub IsOutside : ℕ → TableFault → Type 0
 IsOutside table e = (e ≡ file_fault table kind.Read) ⊎ (e ≡ file_fault table kind.Memory)
+
+-- the fault of a table whose reader gives no record
+abbrev pub fault_of_read : ℕ → ReadFault → TableFault
+fault_of_read table read.Read = file_fault table kind.Read
+fault_of_read table read.Memory = file_fault table kind.Memory
+
+-- what the reader's answer for the header gives without memory: its own fault, that there is no record, or a cell that names no column
+abbrev pub early_header_fault : ReportValue → ℕ → Result Bool ReadFault → Record → Option TableFault
+early_header_fault report table (Err f) r = Some (fault_of_read table f)
+early_header_fault report table (Ok false) r = Some (file_fault table kind.NoHeader)
+early_header_fault report table (Ok true) r = unknown_fault report table r
+
+-- what the reader's answer for row n gives without memory: its own fault, the end, or a fault of the row itself
+abbrev pub early_row_answer : Reading → ℕ → List Field → Result Bool ReadFault → Record → Option (Result (Option (List Fact)) TableFault)
+early_row_answer g n ids (Err f) r = Some (Err (fault_of_read g.table f))
+early_row_answer g n ids (Ok false) r = Some (Ok None)
+early_row_answer g n ids (Ok true) r = option_map Err (row_fault g n ids r)
+
+-- the facts of a row as an answer
+abbrev pub row_answer : Result (List Fact) TableFault → Result (Option (List Fact)) TableFault
+row_answer (Ok facts) = Ok (Some facts)
+row_answer (Err e) = Err e
 
 -- the answer, unless a growth was refused
 abbrev pub OrNoMemory : {A : Type 0} → ℕ → Result A TableFault → Result A TableFault → Type 0

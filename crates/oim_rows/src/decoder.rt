@@ -210,6 +210,7 @@ impl Decoder<'_> {
     }
 }
 
+ghost use Rattle.std.specs.Prelude.{IfSome};
 ghost use Rattle.oim_meta.specs.Readers.{columns_of};
 ghost use Rattle.oim_rows.specs.RowFacts.{fact_at, holds_facts, is_fact_column, kind_of_cell};
 ghost use Rattle.oim_rows.specs.Streams.{OrNoMemory};
@@ -302,7 +303,7 @@ impl Decoder<'_> {
     }
 }
 
-ghost use Rattle.std.specs.Prelude.{OnOk, IfSome, IsSome, false, nat_lt};
+ghost use Rattle.std.specs.Prelude.{OnOk, IsSome, false, nat_lt};
 ghost use Rattle.std.specs.List.{list_any};
 ghost use Rattle.oim_rows.specs.Header.{fault_at};
 ghost use Rattle.oim_rows.specs.RowFacts.{id_place_of, ids_after, row_result, IsNewId};
@@ -366,6 +367,7 @@ impl Decoder<'_> {
         row: &ByteRecord,
     ) -> Result<Items<Fact>, TableFault>
         ensures facts { OrNoMemory (self.now).table result (row_result self.now number ids.old (fields_of row.now)) }
+        ensures own { IfSome (row_fault self.now number ids.old (fields_of row.now)) (λ fault. result ≡ Err fault) }
         ensures ids { OnOk result (ids.new ≡ ids_after (id_place_of self.now) ids.old (fields_of row.now)) }
         ensures within { OnOk result (number ≤ (self.now).limit) }
     {

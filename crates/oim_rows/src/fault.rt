@@ -26,7 +26,7 @@ pub enum TableKind {
     TooManyRows,
     /// 28: the cell of the row identifier is empty.
     MissingRowId,
-    /// 29: it is no row identifier.
+    /// 29: it is not a row identifier.
     BadRowId,
     /// 30: an earlier row of the table has it.
     RepeatedRowId,
@@ -36,19 +36,19 @@ pub enum TableKind {
     UnknownGroup,
     /// 33: there is no concept.
     NoConcept,
-    /// 34: the concept is no declared name or has no concept type.
+    /// 34: the concept is not a declared name, or has no concept type.
     UnknownName,
     /// 35: a reference gives nil or the empty text to a dimension that isn't typed.
     BadReference,
-    /// 36: an entity, unit, language or explicit member of the wrong form.
+    /// 36: an entity, a unit, a language or an explicit member is not well-formed.
     BadValue,
-    /// 37: no period.
+    /// 37: a period is not well-formed.
     BadPeriod,
     /// 38: a side is asked of an instant.
     NotDuration,
-    /// 39: no decimals.
+    /// 39: decimals are neither an integer nor `INF`.
     BadDecimals,
-    /// 40: no numeral of its kind.
+    /// 40: the cell of a number is not a numeral of its kind.
     BadNumber,
     /// 42: a growth was refused.
     Memory,

@@ -1,15 +1,16 @@
 //! The header of a table file.
 
-ghost use Rattle.std.specs.Prelude.{◌≡◌, ◌≤◌, ◌<◌, ◌+◌, [], IfOk, None, Some, take, length};
+ghost use Rattle.std.specs.Prelude.{◌≡◌, ◌≤◌, ◌<◌, ◌+◌, ◌⊎◌, [], IfOk, IfErr, IfSome, None, Some, Ok, Err, true, take, length};
 ghost use Rattle.std.specs.List.{list_any, position_from};
 ghost use Rattle.std.specs.Str.{bytes_eq};
 ghost use Rattle.csv.specs.Records.{field_at, fields_of};
 ghost use Rattle.oim_meta.specs.Readers.{columns_of as columns_in, template_of};
-ghost use Rattle.oim_rows.specs.Header.{named_column, fault_at, header_fault, header_of, is_column, is_unknown, names_row_id, place_of, repeat_from};
+ghost use Rattle.oim_rows.specs.Header.{columns_fault, named_column, fault_at, header_fault, header_of, is_column, is_unknown, names_row_id, place_of, repeat_from};
+ghost use Rattle.oim_rows.specs.Streams.{early_header_fault, fault_of_read};
 
 use crate::fault::{TableFault, TableKind};
 use csv::ByteRecord;
-use oim_meta::{Column, Report};
+use oim_meta::{Column, ReadFault, Report};
 use std::alloc::{AllocError, Global};
 
 /// The field at a place.
@@ -68,7 +69,7 @@ fn first_unknown(columns: &[Column], row: &ByteRecord) -> Option<usize>
 }
 
 /// The column of each header cell.
-pub fn columns_of(
+fn columns_of(
     alloc: Global,
     columns: &[Column],
     row: &ByteRecord,
@@ -168,20 +169,11 @@ pub fn whole_fault(table: usize, kind: TableKind) -> TableFault
     }
 }
 
-/// The first fault of a header record, whose columns are `header`.
-pub fn fault_of(
-    report: &Report,
-    table: usize,
-    row: &ByteRecord,
-    header: &[Option<usize>],
-) -> Option<TableFault>
-    requires place { table < length report.now.tables }
-    requires header { header.now ≡ header_of (columns_in report.now table) (fields_of row.now) }
-    ensures { result ≡ header_fault report.now table (fields_of row.now) }
+/// The first fault of a header record's columns.
+fn columns_fault(report: &Report, table: usize, header: &[Option<usize>]) -> Option<TableFault>
+    requires { table < length report.now.tables }
+    ensures { result ≡ columns_fault report.now table header.now }
 {
-    if let Some(place) = first_unknown(report.template_columns(table), row) {
-        return Some(fault_at_place(table, 0, place, TableKind::UnknownHeader));
-    }
     if let Some(place) = first_repeated(header) {
         return Some(fault_at_place(table, 0, place, TableKind::RepeatedHeader));
     }
@@ -189,4 +181,47 @@ pub fn fault_of(
         return Some(whole_fault(table, TableKind::NoRowIdColumn));
     }
     None
+}
+
+/// The fault of a table whose reader gives no record.
+pub fn fault_of_read(table: usize, fault: ReadFault) -> TableFault
+    ensures { result ≡ fault_of_read table fault }
+{
+    match fault {
+        ReadFault::Read => whole_fault(table, TableKind::Read),
+        ReadFault::Memory => whole_fault(table, TableKind::Memory),
+    }
+}
+
+/// The columns of a table's header, where `found` is the reader's answer for it and `row` the record.
+/// Memory is taken only once each cell names a column.
+pub fn take_header(
+    alloc: Global,
+    report: &Report,
+    table: usize,
+    found: Result<bool, ReadFault>,
+    row: &ByteRecord,
+) -> Result<Vec<Option<usize>>, TableFault>
+    requires { table < length report.now.tables }
+    ensures early { IfSome (early_header_fault report.now table found (fields_of row.now)) (λ e. result ≡ Err e) }
+    ensures header { IfOk result (λ h. (found ≡ Ok true) × (header_fault report.now table (fields_of row.now) ≡ None)
+        × (h.items ≡ header_of (columns_in report.now table) (fields_of row.now))) }
+    ensures fault { found ≡ Ok true → IfErr result (λ e. (e ≡ file_fault table TableKind.Memory) ⊎ (header_fault report.now table (fields_of row.now) ≡ Some e)) }
+{
+    match found {
+        Ok(true) => {}
+        Ok(false) => return Err(whole_fault(table, TableKind::NoHeader)),
+        Err(fault) => return Err(fault_of_read(table, fault)),
+    }
+    let columns = report.template_columns(table);
+    if let Some(place) = first_unknown(columns, row) {
+        return Err(fault_at_place(table, 0, place, TableKind::UnknownHeader));
+    }
+    let Ok(header) = columns_of(alloc, columns, row) else {
+        return Err(whole_fault(table, TableKind::Memory));
+    };
+    match columns_fault(report, table, header.as_slice()) {
+        Some(fault) => Err(fault),
+        None => Ok(header),
+    }
 }

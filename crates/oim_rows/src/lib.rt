@@ -4,9 +4,8 @@
 //! header, and each further record is a row. What it gives is exactly the table's stream: the
 //! facts of each row before the first bad one, in header order, and then the end or the table's
 //! first fault, with its row and its place in the header. A row with any fault gives no fact.
-//! A failed read and want of memory apart, which may end a table at any row. After the end or a
-//! fault it answers the same again and reads nothing. A table ends at the limit of rows at the
-//! latest.
+//! Only a failed read or running out of memory may end a table earlier. After the end or a fault
+//! it answers the same again and reads nothing. A table ends at the limit of rows at the latest.
 //!
 //! Table files are those of xBRL-CSV 1.0.
 #![tactic(auto)]

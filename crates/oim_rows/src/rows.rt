@@ -1,14 +1,15 @@
 //! The rows of one table, one at a time.
 
-ghost use Rattle.std.specs.Prelude.{◌≡◌, ◌⊎◌, ◌≤◌, ◌<◌, ◌+◌, ◌∷◌, [], IfOk, IfErr, IfSome, OnSome, None, Some, option_map, length};
+ghost use Rattle.std.specs.Prelude.{◌≡◌, ◌⊎◌, ◌≤◌, ◌<◌, ◌+◌, ◌∷◌, [], IfOk, IfErr, IfSome, OnSome, None, Some, Ok, true, option_map, length};
 ghost use Rattle.csv.specs.Records.{fields_of};
 ghost use Rattle.oim_meta.specs.Grid.{grid};
 ghost use Rattle.oim_rows.specs.Header.{file_header_fault};
-ghost use Rattle.oim_rows.specs.Streams.{GivesNext, IsOutside, TakesHeader, answer_of, kept_answer, stream_from, stream_of};
+ghost use Rattle.oim_rows.specs.RowFacts.{id_place_of, ids_after, row_result};
+ghost use Rattle.oim_rows.specs.Streams.{GivesNext, IsOutside, OrNoMemory, TakesHeader, answer_of, early_row_answer, row_answer, kept_answer, stream_from, stream_of};
 
 use crate::decoder::Decoder;
 use crate::fault::{TableFault, TableKind};
-use crate::header::{columns_of, fault_of, whole_fault};
+use crate::header::{fault_of_read, take_header, whole_fault};
 use crate::ids::RowIds;
 use csv::ByteRecord;
 use oim_meta::{Limits, ReadFault, Records, Report};
@@ -63,15 +64,6 @@ impl<'a, R: Read> Model for Rows<'a, R> {
     ghost invariant = { λ a. (a.given ≤ a.decoder.limit) × (a.decoder.limit < 2 ^ 32 - 1) };
 }
 
-fn fault_of_read(table: usize, fault: ReadFault) -> TableFault
-    ensures { IsOutside table result }
-{
-    match fault {
-        ReadFault::Read => whole_fault(table, TableKind::Read),
-        ReadFault::Memory => whole_fault(table, TableKind::Memory),
-    }
-}
-
 /// The columns of a table's header, the first record.
 fn read_header<R: Read>(
     alloc: Global,
@@ -84,17 +76,31 @@ fn read_header<R: Read>(
     ensures header { IfOk result (λ h. TakesHeader report.now table records.old h.items records.new) }
     ensures fault { IfErr result (λ e. IsOutside table e ⊎ IfSome records.old (λ rs. file_header_fault report.now table rs ≡ Some e)) }
 {
-    match records.read(row) {
-        Ok(true) => {}
-        Ok(false) => return Err(whole_fault(table, TableKind::NoHeader)),
-        Err(fault) => return Err(fault_of_read(table, fault)),
-    }
-    let Ok(header) = columns_of(alloc, report.template_columns(table), row) else {
-        return Err(whole_fault(table, TableKind::Memory));
-    };
-    match fault_of(report, table, row, header.as_slice()) {
-        Some(fault) => Err(fault),
-        None => Ok(header),
+    let found = records.read(row);
+    take_header(alloc, report, table, found, row)
+}
+
+/// The facts of row `number`, where `found` is the reader's answer for it and `row` the record.
+fn take_row(
+    alloc: Global,
+    decoder: &Decoder,
+    found: Result<bool, ReadFault>,
+    row: &ByteRecord,
+    ids: &mut RowIds,
+    number: u32,
+) -> Result<Option<RowFacts>, TableFault>
+    ensures early { IfSome (early_row_answer decoder.now number ids.old found (fields_of row.now)) (λ answer. result ≡ answer) }
+    ensures row { found ≡ Ok true → OrNoMemory (decoder.now).table result (row_answer (row_result decoder.now number ids.old (fields_of row.now))) }
+    ensures ids { IfOk result (λ o. OnSome o (ids.new ≡ ids_after (id_place_of decoder.now) ids.old (fields_of row.now))) }
+    ensures within { IfOk result (λ o. OnSome o (number ≤ (decoder.now).limit)) }
+{
+    match found {
+        Ok(true) => match decoder.facts(alloc, number, ids, row) {
+            Ok(facts) => Ok(Some(facts)),
+            Err(fault) => Err(fault),
+        },
+        Ok(false) => Ok(None),
+        Err(fault) => Err(fault_of_read(decoder.table(), fault)),
     }
 }
 
@@ -110,14 +116,8 @@ fn read_row<R: Read>(
     ensures next { IfSome records.old (λ rs. GivesNext (decoder.now).table (stream_from decoder.now number ids.old rs) result (option_map (stream_from decoder.now (number + 1) ids.new) records.new)) }
     ensures within { IfOk result (λ o. OnSome o (number ≤ (decoder.now).limit)) }
 {
-    match records.read(row) {
-        Ok(true) => match decoder.facts(alloc, number, ids, row) {
-            Ok(facts) => Ok(Some(facts)),
-            Err(fault) => Err(fault),
-        },
-        Ok(false) => Ok(None),
-        Err(fault) => Err(fault_of_read(decoder.table(), fault)),
-    }
+    let found = records.read(row);
+    take_row(alloc, decoder, found, row, ids, number)
 }
 
 impl<'a, R: Read + Drop> Rows<'a, R> {

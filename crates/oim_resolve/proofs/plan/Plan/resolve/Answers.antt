@@ -6,7 +6,7 @@ use Rattle.oim_resolve.proofs.plan.Plan.resolve.Goals as goal
 
 pub returns-clause-names : goal.returns-clause-names
 returns-clause-names c =
-    elim c.resolve_planned.ensures [
+    elim c.resolve_planned.ensures.result [
       | inl e ↦ subst HasNamesInOrder (sym e) tt
       | inr e ↦ subst HasNamesInOrder (sym e) (names_in_order (cell_of c.self.inside.report.now c.self.inside.table c.args.row.now c.args.column))
     ]

@@ -1,0 +1,31 @@
+use Rattle.std.proofs.Common.{◌<◌, List, length, map, sym, subst, ap, ◌∙◌}
+use Rattle.oim_meta.specs.declared.data.Column.{Column}
+use Rattle.oim_resolve.specs.declared.plan.column.PlannedColumn.{PlannedColumn}
+use Rattle.oim_resolve.specs.ProgramCell.{cell_at, held}
+use Rattle.oim_resolve.specs.ProgramPlan.{Keyed, seen_keyed}
+use Rattle.oim_resolve.proofs.Overlays.{row_map_is, column_is, nothing_named, seen_entries}
+use Rattle.oim_resolve.proofs.cell.dimensions.CellDimensions.new.Goals as goal
+
+pub invariant_of-result : goal.invariant_of-result
+invariant_of-result c =
+    let p = c.args.cell.place in
+    let k = c.index-columns-place.result in
+    let planned = c.args.cell.planned p.column k (subst (λ x. p.column < x) (sym c.args.cell.all) p.in_range.0.column) in
+    let nothing = nothing_named (cell_at p) (sym (c.len.ensures ∙ ap (λ (x : Column). length x.from) c.column.ensures.column) ∙ c.if-len-eq0.true) in
+    record {
+      all = (
+        ap held c.new.ensures.items ∙ sym nothing,
+        seen_entries k.planned.items ∙ ap (λ (es : List Keyed). map (λ k. k.1.0) es) (ap (λ (x : PlannedColumn). map seen_keyed x.planned.items) c.index-columns-place.is ∙ planned.0) ∙ column_is (cell_at p) nothing,
+      );
+    }
+
+pub invariant_of-result-2 : goal.invariant_of-result-2
+invariant_of-result-2 c =
+    let p = c.args.cell.place in
+    let planned = held c.in_ok-groups.planned.items in
+    record {
+      all = (
+        c.in_ok-groups.ensures.0,
+        seen_entries planned ∙ ap (λ (es : List Keyed). map (λ k. k.1.0) es) c.in_ok-groups.ensures.1 ∙ row_map_is (cell_at p),
+      );
+    }

@@ -1,0 +1,14 @@
+//! One cell of a table, from its texts to its fact.
+
+mod decimals;
+mod dimensions;
+mod entries;
+mod identifier;
+mod place;
+mod planned_cell;
+mod texts;
+mod value;
+
+pub(crate) use crate::cell::place::Place;
+pub(crate) use crate::cell::planned_cell::PlannedCell;
+pub(crate) use crate::cell::texts::{place_of, side_of};

@@ -1,0 +1,210 @@
+//! A cell, with the columns of its table made ready: the three steps to its fact.
+
+ghost use Rattle.std.specs.Prelude.{◌≡◌, ◌<◌, ◌⊎◌, length, codes, IfSome};
+ghost use Rattle.std.specs.List.{list_any};
+ghost use Rattle.std.specs.Option.{option_map};
+ghost use Rattle.oim_names.specs.Lookup.{value_at};
+ghost use Rattle.oim_cells.specs.Cells.{seen_meaning};
+ghost use Rattle.oim_meta.specs.Readers.{column_of, columns_of};
+ghost use Rattle.oim_resolve.specs.Cell.{column, meaning_at};
+ghost use Rattle.oim_resolve.specs.Facts.{cell_and_group_faults, cell_result, concept_read, early_result, fact_meaning, given, is_absent, is_unknown, names_no_group};
+ghost use Rattle.oim_resolve.specs.Faults.{least};
+ghost use Rattle.oim_resolve.specs.ProgramCell.{cell_at};
+ghost use Rattle.oim_resolve.specs.ProgramDimensions.{dimension_concept};
+ghost use Rattle.oim_resolve.specs.ProgramPlan.{ArePlanned, over, seen_flagged, seen_group, seen_planned, with_named};
+ghost use Rattle.oim_resolve.specs.Rows.{planned_named, row_map};
+ghost use Rattle.oim_resolve.specs.Written.{group_named};
+
+use crate::cell::dimensions::CellDimensions;
+use crate::cell::place::Place;
+use crate::cell::value::CellValue;
+use crate::dimension::read_concept;
+use crate::fact::{CellFault, Fact};
+use crate::plan::{PlannedColumn, PlannedDimension, PlannedGroup, find_dimension, find_group};
+use oim_cells::CellMeaning;
+use oim_meta::Kind;
+use std::alloc::Global;
+
+/// A cell, with the columns of its table made ready.
+#[derive(Clone, Copy)]
+pub(crate) struct PlannedCell<'a> {
+    pub(crate) place: Place<'a>,
+    pub(crate) columns: &'a [PlannedColumn<'a>],
+    ghost planned: { ArePlanned place.report.now place.table columns.now },
+    ghost all: { length columns.now ≡ length (columns_of place.report.now place.table) },
+}
+
+/// Of two dimensions of one name the first where it is the column's own, or an earlier group's.
+fn over<'a>(
+    first: Option<&'a PlannedDimension<'a>>,
+    second: Option<&'a PlannedDimension<'a>>,
+) -> Option<&'a PlannedDimension<'a>>
+    ensures { option_map seen_flagged result ≡ over (option_map seen_flagged first.entry) (option_map seen_flagged second.entry) }
+{
+    match (first, second) {
+        (Some(first), Some(second)) => {
+            if first.is_own {
+                Some(first)
+            } else {
+                Some(second)
+            }
+        }
+        (Some(first), None) => Some(first),
+        (None, second) => second,
+    }
+}
+
+fn is_absent(meaning: CellMeaning<'_>) -> bool
+    ensures { result ≡ is_absent (seen_meaning meaning.entry) }
+{
+    matches!(&meaning, CellMeaning::Absent)
+}
+
+impl<'a> PlannedCell<'a> {
+    /// The group that the row's cell at a place names.
+    pub(crate) fn named_group(&self, i: usize) -> Option<&'a PlannedGroup<'a>>
+        requires { i < length (columns_of self.now.place.report.now self.now.place.table) }
+        ensures group { option_map (λ g. (seen_group g.now).1) result ≡ planned_named (cell_at self.now.place) i }
+        ensures level { option_map (λ g. g.now.level.now) result
+            ≡ group_named (column_of self.now.place.report.now self.now.place.table i) (meaning_at (cell_at self.now.place) i) }
+    {
+        let columns = self.columns;
+        match self.place.meaning_at(i) {
+            CellMeaning::Text(name) => find_group(columns[i].groups.as_slice(), name),
+            CellMeaning::Absent | CellMeaning::Nil | CellMeaning::Empty | CellMeaning::Unknown =>
+                None,
+        }
+    }
+
+    /// Whether a group cell says something, and names no group of its column.
+    fn names_no_group(&self, i: usize) -> bool
+        requires { i < length (columns_of self.now.place.report.now self.now.place.table) }
+        ensures { result ≡ names_no_group (cell_at self.now.place) i }
+    {
+        match self.place.meaning_at(i) {
+            CellMeaning::Text(_) => self.named_group(i).is_none(),
+            CellMeaning::Nil | CellMeaning::Empty => true,
+            CellMeaning::Absent | CellMeaning::Unknown => false,
+        }
+    }
+
+    /// Whether a group cell has no meaning.
+    fn has_unknown_group(&self) -> bool
+        ensures { result ≡ list_any (λ i. is_unknown (meaning_at (cell_at self.now.place) i)) (column (cell_at self.now.place)).from }
+    {
+        let column = self
+            .place
+            .report
+            .column(self.place.table, self.place.column);
+        for i in column.from.as_slice() {
+            if let CellMeaning::Unknown = self.place.meaning_at(*i) {
+                return true;
+            }
+        }
+        false
+    }
+
+    /// Whether a group cell names no group.
+    fn has_bad_group(&self) -> bool
+        ensures { result ≡ list_any (names_no_group (cell_at self.now.place)) (column (cell_at self.now.place)).from }
+    {
+        let column = self
+            .place
+            .report
+            .column(self.place.table, self.place.column);
+        for i in column.from.as_slice() {
+            if self.names_no_group(*i) {
+                return true;
+            }
+        }
+        false
+    }
+
+    /// The least fault of the cell and its groups. It takes no memory.
+    fn cell_and_group_fault(&self, meaning: CellMeaning<'a>) -> Option<CellFault>
+        requires { seen_meaning meaning ≡ fact_meaning (cell_at self.now.place) }
+        ensures { result ≡ least (cell_and_group_faults (cell_at self.now.place)) }
+    {
+        if matches!(&meaning, CellMeaning::Unknown) || self.has_unknown_group() {
+            Some(CellFault::UnknownSpecial)
+        } else if self.has_bad_group() {
+            Some(CellFault::UnknownGroup)
+        } else {
+            None
+        }
+    }
+
+    /// The concept, with that of the group that the row's cell at a place names.
+    fn with_group(
+        &self,
+        concept: Option<&'a PlannedDimension<'a>>,
+        i: usize,
+    ) -> Option<&'a PlannedDimension<'a>>
+        requires { i < length (columns_of self.now.place.report.now self.now.place.table) }
+        ensures { option_map seen_flagged result ≡ with_named (codes "concept") (option_map seen_flagged concept.entry) (planned_named (cell_at self.now.place) i) }
+    {
+        match self.named_group(i) {
+            Some(group) => over(concept, find_dimension(group.planned.as_slice(), "concept")),
+            None => concept,
+        }
+    }
+
+    /// The concept, where a level writes it. It takes no memory.
+    #[tactic(auto, unfolding(crate::specs::Rows::row_map))]
+    fn concept(&self) -> Option<&'a PlannedDimension<'a>>
+        ensures { option_map seen_flagged result ≡ value_at (codes "concept") (row_map (cell_at self.now.place)) }
+    {
+        let columns = self.columns;
+        let column = self
+            .place
+            .report
+            .column(self.place.table, self.place.column);
+        let mut concept = find_dimension(columns[self.place.column].planned.as_slice(), "concept");
+        for i in column.from.as_slice() {
+            concept = self.with_group(concept, *i);
+        }
+        concept
+    }
+
+    /// The kind of a concept, or the least fault of its value.
+    fn read_dimension(&self, concept: Option<&PlannedDimension<'a>>) -> Result<Kind, CellFault>
+        ensures { result ≡ dimension_concept (cell_at self.now.place) (option_map (λ p. seen_planned p.now) concept.entry) }
+    {
+        match concept {
+            Some(dimension) => match &dimension.literal {
+                Some(literal) => literal.concept,
+                None => read_concept(self.place.report, self.place.row_meaning(dimension)),
+            },
+            None => Err(CellFault::NoConcept),
+        }
+    }
+
+    /// The kind of the cell's concept, or the least fault of its value. It takes no memory.
+    fn read_concept(&self) -> Result<Kind, CellFault>
+        ensures { result ≡ concept_read (cell_at self.now.place).report (given (cell_at self.now.place) (codes "concept")) }
+    {
+        self.read_dimension(self.concept())
+    }
+
+    /// The fact of the cell, if it has one.
+    pub(crate) fn resolve(&self, alloc: Global) -> Result<Option<Fact>, CellFault>
+        ensures early { IfSome (early_result (cell_at self.now.place)) (λ answer. result ≡ answer) }
+        ensures result { (result ≡ Err CellFault.Memory) ⊎ (result ≡ cell_result (cell_at self.now.place)) }
+    {
+        let meaning = self.place.fact_meaning();
+        if is_absent(meaning) {
+            return Ok(None);
+        }
+        if let Some(fault) = self.cell_and_group_fault(meaning) {
+            return Err(fault);
+        }
+        let kind = match self.read_concept() {
+            Ok(kind) => kind,
+            Err(fault) => return Err(fault),
+        };
+        match CellDimensions::fact_of(alloc, *self, CellValue::new(kind, meaning)) {
+            Ok(fact) => Ok(Some(fact)),
+            Err(fault) => Err(fault),
+        }
+    }
+}

@@ -1,0 +1,114 @@
+//! The value of one dimension of a fact.
+
+ghost use Rattle.std.specs.Prelude.{◌≡◌, IfOk, Some, Ok, Err, if◌then◌else◌};
+ghost use Rattle.std.specs.Option.{option_map};
+ghost use Rattle.oim_period.specs.Reads.{reading_of};
+ghost use Rattle.oim_cells.specs.Cells.{seen_meaning, Text as a_text};
+ghost use Rattle.oim_resolve.specs.declared.role.Role.TheVariants as role;
+ghost use Rattle.oim_resolve.specs.Facts.{sided, value_read};
+
+use crate::fact::CellFault;
+use crate::role::Role;
+use oim_cells::CellMeaning;
+use oim_meta::{Report, Side};
+use oim_names::{Text, UnitKind, language, qname, sqname, unit};
+use oim_period::{Period, read};
+use std::alloc::{AllocError, Global};
+
+/// What a dimension gives a fact: nothing, or nil (`Some(None)`), or a text.
+pub type Entry = Option<Option<Text>>;
+
+/// The side of a period: None where a side is asked of an instant.
+fn sided(side: Side, period: Period) -> Option<Period>
+    ensures { option_map reading_of result ≡ sided side (reading_of period) }
+{
+    match side {
+        Side::Whole => Some(period),
+        Side::Start => period.start_instant(),
+        Side::End => period.end_instant(),
+    }
+}
+
+fn read_period(
+    alloc: Global,
+    report: &Report,
+    side: Side,
+    text: &str,
+) -> Result<Result<Entry, CellFault>, AllocError>
+    ensures { IfOk result (λ r. r ≡ value_read report.now role.Period side (a_text text.now)) }
+{
+    let Some(period) = read(text) else {
+        return Ok(Err(CellFault::BadPeriod));
+    };
+    match sided(side, period) {
+        Some(period) => Ok(Ok(Some(Some(Text::new(period.text(alloc)?))))),
+        None => Ok(Err(CellFault::NotDuration)),
+    }
+}
+
+/// A text as it stands, where it has the form that its dimension asks for.
+fn taken(alloc: Global, has_form: bool, text: &str) -> Result<Result<Entry, CellFault>, AllocError>
+    ensures { IfOk result (λ r. r ≡ if has_form then Ok (Some (Some text.now)) else Err CellFault.BadValue) }
+{
+    if has_form {
+        Ok(Ok(Some(Some(Text::from_str(alloc, text)?))))
+    } else {
+        Ok(Err(CellFault::BadValue))
+    }
+}
+
+fn read_text(
+    alloc: Global,
+    report: &Report,
+    role: Role,
+    side: Side,
+    text: &str,
+) -> Result<Result<Entry, CellFault>, AllocError>
+    ensures { IfOk result (λ r. r ≡ value_read report.now role side (a_text text.now)) }
+{
+    let namespaces = report.namespaces();
+    match role {
+        Role::Period => read_period(alloc, report, side, text),
+        Role::Language => match language(alloc, text)? {
+            Some(language) => Ok(Ok(Some(Some(Text::new(language))))),
+            None => Ok(Err(CellFault::BadValue)),
+        },
+        Role::Unit => match unit(namespaces, text) {
+            Some(UnitKind::Pure) => Ok(Ok(None)),
+            Some(UnitKind::Written) => taken(alloc, true, text),
+            None => taken(alloc, false, text),
+        },
+        Role::Entity => taken(alloc, sqname(namespaces, text).is_some(), text),
+        Role::Explicit => taken(alloc, qname(namespaces, text).is_some(), text),
+        Role::Concept | Role::Typed => taken(alloc, true, text),
+    }
+}
+
+/// What a dimension that is not dropped gives a fact, or the least fault of its value:
+/// `UnknownSpecial`; `BadReference` where it is nil or empty and the dimension is not typed;
+/// `BadValue` where an entity, a unit, a language or an explicit member is not well-formed; `BadPeriod`;
+/// `NotDuration` where a side is asked of an instant. A pure unit gives nothing. Fails where memory
+/// is short. (xBRL-CSV 1.0, dimensions)
+pub fn read_value(
+    alloc: Global,
+    report: &Report,
+    role: Role,
+    side: Side,
+    value: CellMeaning<'_>,
+) -> Result<Result<Entry, CellFault>, AllocError>
+    ensures { IfOk result (λ r. r ≡ value_read report.now role side (seen_meaning value.entry)) }
+{
+    match value {
+        CellMeaning::Absent => Ok(Ok(None)),
+        CellMeaning::Unknown => Ok(Err(CellFault::UnknownSpecial)),
+        CellMeaning::Text(text) => read_text(alloc, report, role, side, text),
+        CellMeaning::Nil => match role {
+            Role::Typed => Ok(Ok(Some(None))),
+            _ => Ok(Err(CellFault::BadReference)),
+        },
+        CellMeaning::Empty => match role {
+            Role::Typed => Ok(Ok(Some(Some(Text::from_str(alloc, "")?)))),
+            _ => Ok(Err(CellFault::BadReference)),
+        },
+    }
+}

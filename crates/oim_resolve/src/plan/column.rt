@@ -1,0 +1,84 @@
+//! A column, made ready for the rows.
+
+ghost use Rattle.std.specs.Prelude.{◌≡◌, ◌<◌, map, length, IfOk};
+ghost use Rattle.oim_meta.specs.Readers.{columns_of, column_of};
+ghost use Rattle.oim_resolve.specs.ProgramPlan.{group_in, planned_column, planned_levels, seen_group, seen_keyed};
+
+use crate::plan::dimension::{PlannedDimension, plan_dimension};
+use crate::plan::group::{PlannedGroup, plan_groups};
+use crate::plan::levels;
+use oim_meta::{Level, Report};
+use oim_names::find;
+use std::alloc::{AllocError, Global};
+
+/// A column: what it, its template and the report write, merged in byte order of name, and its
+/// property groups.
+#[derive(Drop)]
+pub(crate) struct PlannedColumn<'a> {
+    pub(crate) planned: Vec<PlannedDimension<'a>>,
+    pub(crate) groups: Vec<PlannedGroup<'a>>,
+}
+
+/// What a column, its template and the report write, merged in byte order of names.
+#[tactic(auto, unfolding(crate::specs::ProgramPlan::planned_levels))]
+fn plan_levels<'a>(
+    alloc: Global,
+    report: &'a Report,
+    table: usize,
+    general: &'a Level,
+    template: &'a Level,
+    column: &'a Level,
+) -> Result<Vec<PlannedDimension<'a>>, AllocError>
+    requires { table < length report.now.tables }
+    ensures { IfOk result (λ v. map seen_keyed v.items ≡ planned_levels report.now table general.now template.now column.now) }
+{
+    let both = [template, general];
+    let names = levels::names(alloc, &[column, template, general])?;
+    let mut planned = Vec::new(alloc);
+    for name in names.as_slice() {
+        if let Some(written) = find(column.dimensions.as_slice(), name) {
+            planned.push(plan_dimension(alloc, report, table, name, written, true)?)?;
+        } else if let Some(written) = levels::written(&both, name) {
+            planned.push(plan_dimension(alloc, report, table, name, written, false)?)?;
+        }
+    }
+    Ok(planned)
+}
+
+/// The merged dimensions of a column.
+fn plan_dimensions(
+    alloc: Global,
+    report: &Report,
+    table: usize,
+    column: usize,
+) -> Result<Vec<PlannedDimension<'_>>, AllocError>
+    requires table { table < length report.now.tables }
+    requires column { column < length (columns_of report.now table) }
+    ensures { IfOk result (λ v. map seen_keyed v.items ≡ planned_column report.now table column) }
+{
+    plan_levels(
+        alloc,
+        report,
+        table,
+        report.report_level(),
+        report.template_level(table),
+        &report.column(table, column).level,
+    )
+}
+
+/// A column, made ready for the rows.
+pub(crate) fn plan_column(
+    alloc: Global,
+    report: &Report,
+    table: usize,
+    column: usize,
+) -> Result<PlannedColumn<'_>, AllocError>
+    requires table { table < length report.now.tables }
+    requires column { column < length (columns_of report.now table) }
+    ensures { IfOk result (λ k. (map seen_keyed k.planned.items ≡ planned_column report.now table column)
+        × (map seen_group k.groups.items ≡ map (group_in report.now table) (column_of report.now table column).groups)) }
+{
+    let planned = plan_dimensions(alloc, report, table, column)?;
+    let groups = plan_groups(alloc, report, table, report.column(table, column))?;
+    Ok(PlannedColumn { planned, groups })
+}

@@ -1,0 +1,97 @@
+//! What several levels write: names, dimensions and decimals.
+
+ghost use Rattle.std.specs.Prelude.{◌≡◌, ◌∷◌, ◌++◌, [], map, reverse, IfOk, OnOk};
+ghost use Rattle.std.specs.List.{fold};
+ghost use Rattle.std.specs.Option.{option_map};
+ghost use Rattle.oim_resolve.specs.ProgramCell.{held};
+ghost use Rattle.oim_resolve.specs.Written.{written, written_decimals, put_name, names};
+
+use oim_meta::{Level, Written, WrittenDecimals};
+use oim_names::find;
+use std::alloc::{AllocError, Global};
+use std::cmp::Ordering;
+
+/// What is written for a dimension, by the most specific level that writes it.
+#[tactic(auto, using(crate::proofs::Overrides::written_reversed))]
+pub(crate) fn written<'a>(levels: &[&'a Level], name: &str) -> Option<&'a Written>
+    ensures { option_map (λ w. w.now) result ≡ written (reverse (held levels.now)) name.now }
+{
+    for level in levels {
+        if let Some(value) = find(level.dimensions.as_slice(), name) {
+            return Some(value);
+        }
+    }
+    None
+}
+
+/// What is written for decimals.
+#[tactic(auto, using(crate::proofs::Overrides::decimals_reversed))]
+fn written_decimals<'a>(levels: &[&'a Level]) -> Option<&'a WrittenDecimals>
+    ensures { option_map (λ w. w.now) result ≡ written_decimals (reverse (held levels.now)) }
+{
+    for level in levels {
+        if let Some(value) = level.decimals.as_ref() {
+            return Some(value);
+        }
+    }
+    None
+}
+
+/// What is written for decimals: by the column, else by a group, else by template or report.
+pub(crate) fn decimals_in<'a>(
+    report: &'a Level,
+    template: &'a Level,
+    groups: &[&'a Level],
+    column: &'a Level,
+) -> Option<&'a WrittenDecimals>
+    ensures { option_map (λ w. w.now) result
+        ≡ written_decimals (report.now ∷ template.now ∷ (reverse (held groups.now) ++ column.now ∷ [])) }
+{
+    if let Some(decimals) = column.decimals.as_ref() {
+        return Some(decimals);
+    }
+    if let Some(decimals) = written_decimals(groups) {
+        return Some(decimals);
+    }
+    written_decimals(&[template, report])
+}
+
+/// Puts a name in its place in byte order, unless it stands there.
+fn put_name<'a>(names: &mut Vec<&'a str>, name: &'a str) -> Result<(), AllocError>
+    ensures { OnOk result (held names.new.items ≡ put_name (held names.old.items) name.now) }
+{
+    for i in 0..names.len() {
+        match name.cmp(names[i]) {
+            Ordering::Less => {
+                names.insert(i, name)?;
+                return Ok(());
+            }
+            Ordering::Equal => return Ok(()),
+            Ordering::Greater => {}
+        }
+    }
+    names.push(name)?;
+    Ok(())
+}
+
+/// Puts the names that a level writes.
+fn put_names<'a>(names: &mut Vec<&'a str>, level: &'a Level) -> Result<(), AllocError>
+    ensures { OnOk result
+        (held names.new.items ≡ fold put_name (held names.old.items) (map (λ e. e.0) level.now.dimensions)) }
+{
+    for (name, _) in level.dimensions.as_slice() {
+        put_name(names, name.as_str())?;
+    }
+    Ok(())
+}
+
+/// The names that the levels write, in byte order, each once.
+pub(crate) fn names<'a>(alloc: Global, levels: &[&'a Level]) -> Result<Vec<&'a str>, AllocError>
+    ensures { IfOk result (λ v. held v.items ≡ names (reverse (held levels.now))) }
+{
+    let mut names = Vec::new(alloc);
+    for level in levels {
+        put_names(&mut names, level)?;
+    }
+    Ok(names)
+}

@@ -1,0 +1,75 @@
+//! A literal, read beforehand.
+
+ghost use Rattle.std.specs.Prelude.{◌≡◌, IfOk};
+ghost use Rattle.std.specs.Option.{option_map};
+ghost use Rattle.oim_cells.specs.Cells.{seen_meaning};
+ghost use Rattle.oim_resolve.specs.ProgramPlan.{literal_in, literal_of};
+
+use crate::dimension::{Entry, read_concept, read_value};
+use crate::fact::CellFault;
+use crate::role::Role;
+use oim_cells::CellMeaning;
+use oim_meta::{Kind, Report, Side, Written};
+use std::alloc::{AllocError, Global};
+
+/// A literal, read beforehand.
+#[derive(Drop)]
+pub(crate) struct Literal {
+    /// What it gives a fact, or what is wrong with it, where its dimension is not dropped.
+    pub(crate) value: Result<Entry, CellFault>,
+    /// The kind of the concept that it names, or what is wrong with it as a concept.
+    pub(crate) concept: Result<Kind, CellFault>,
+}
+
+/// The meaning of a literal.
+pub(crate) fn literal_of(written: &Written) -> Option<CellMeaning<'_>>
+    ensures { option_map seen_meaning result ≡ literal_of written.now }
+{
+    match written {
+        Written::Absent => Some(CellMeaning::Absent),
+        Written::Nil => Some(CellMeaning::Nil),
+        Written::Empty => Some(CellMeaning::Empty),
+        Written::Text(text) => Some(CellMeaning::Text(text.as_str())),
+        Written::RowNumber(_) | Written::Named(_, _) => None,
+    }
+}
+
+/// The same, its text shared by all facts that have it.
+fn shared(value: Result<Entry, CellFault>) -> Result<Result<Entry, CellFault>, AllocError>
+    ensures { IfOk result (λ e. e ≡ value) }
+{
+    match value {
+        Ok(Some(Some(text))) => Ok(Ok(Some(Some(text.share()?)))),
+        Ok(Some(None)) => Ok(Ok(Some(None))),
+        Ok(None) => Ok(Ok(None)),
+        Err(fault) => Ok(Err(fault)),
+    }
+}
+
+impl Literal {
+    /// What a literal gives each row.
+    pub(crate) fn new(
+        alloc: Global,
+        report: &Report,
+        role: Role,
+        side: Side,
+        value: CellMeaning<'_>,
+    ) -> Result<Literal, AllocError>
+        ensures { IfOk result (λ l. l ≡ literal_in report.now role side (seen_meaning value.entry)) }
+    {
+        Ok(Literal {
+            value: shared(read_value(alloc, report, role, side, value)?)?,
+            concept: read_concept(report, value),
+        })
+    }
+
+    /// What it gives a fact, or what is wrong with it.
+    pub(crate) fn read(&self) -> Result<Result<Entry, CellFault>, AllocError>
+        ensures { IfOk result (λ r. r ≡ (self.now).value) }
+    {
+        match &self.value {
+            Ok(entry) => Ok(Ok(entry.clone()?)),
+            Err(fault) => Ok(Err(*fault)),
+        }
+    }
+}

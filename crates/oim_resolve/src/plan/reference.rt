@@ -1,0 +1,37 @@
+//! What a reference names.
+
+ghost use Rattle.std.specs.Prelude.{◌≡◌, ◌<◌, length};
+ghost use Rattle.std.specs.Option.{option_map};
+ghost use Rattle.oim_resolve.specs.ProgramPlan.{reference_of, seen_reference};
+
+use crate::cell::place_of;
+use oim_meta::{Report, Written};
+
+/// What a reference names: the place of a column, and a parameter.
+#[derive(Clone, Copy)]
+pub(crate) struct Reference<'a> {
+    pub(crate) place: Option<usize>,
+    pub(crate) parameter: Option<&'a str>,
+}
+
+/// What a reference names.
+pub(crate) fn reference_of<'a>(
+    report: &'a Report,
+    table: usize,
+    written: &'a Written,
+) -> Option<Reference<'a>>
+    requires { table < length report.now.tables }
+    ensures { option_map seen_reference result ≡ reference_of report.now table written.now }
+{
+    match written {
+        Written::Named(name, _) => Some(Reference {
+            place: place_of(report.template_columns(table), name.as_str()),
+            parameter: report.parameter(table, name.as_str()),
+        }),
+        Written::Absent
+        | Written::Nil
+        | Written::Empty
+        | Written::Text(_)
+        | Written::RowNumber(_) => None,
+    }
+}
