@@ -96,4 +96,3 @@ pub facts_text_is : (fs : List Fact) → facts_text fs ≡ more_text false fs
 unfolding facts_text
 facts_text_is [] = refl
 facts_text_is (f ∷ fs) = joined_more f fs
-

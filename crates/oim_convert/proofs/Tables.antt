@@ -5,6 +5,7 @@ use Rattle.std.proofs.lemmas.Bool.{eq-eqb, ne_eqb}
 use Rattle.oim_json.specs.Document.{facts_text, tail_text, text_after}
 use Rattle.oim_json.specs.JsonText.{head_text}
 use Rattle.oim_json.specs.Sinks.{SinkView, Broke, Wrote}
+use Rattle.oim_json.specs.declared.mark.Mark.{Mark}
 use Rattle.oim_json.specs.declared.mark.WriteFault.{WriteFault}
 use Rattle.oim_merge.proofs.Going.{all_refusals, broke_before, broke_later, open_facts, refused_facts, wrote_twice}
 use Rattle.oim_merge.specs.Histories.{all_of, document, facts_before, refusals, tail_for}
@@ -26,7 +27,8 @@ use Rattle.oim_convert.specs.Histories.{AreDecoded, IsDecoded, IsGiven}
 use Rattle.oim_convert.specs.Runs.{AreStreams}
 use Rattle.oim_convert.specs.Sending.{IsReading}
 use Rattle.oim_convert.specs.Serial.{Refuses}
-use Rattle.oim_convert.specs.Steps.{ReadTable, ReadTables, ReadsTable, ReadsTables, WritesFacts, has_any, more_text, wanted_of}
+use Rattle.oim_convert.specs.Steps.{IsHalted, Marks, ReadTable, ReadTables, ReadsTable, ReadsTables, WritesFacts, as_end, has_any, more_text, wanted_of}
+use Rattle.oim_convert.specs.declared.halt.Halt.{Halt}
 use Rattle.oim_convert.specs.declared.halt.Halt.TheVariants as halt
 use Rattle.oim_convert.proofs.Going.{facts_text_is, has_any_append, has_file, has_no_file, more_text_append, wrote_nothing}
 use Rattle.oim_convert.proofs.Sent.{reading_more, rows_end, rows_fault, rows_short, so_far, unopened_given}
@@ -74,7 +76,7 @@ module _ (t : ℕ) (first now next : SinkView) (any n n2 : Bool) (whole : Stream
   row_passed false is w gives = record { facts = w.facts ++ row; reading = reading_more whole t left after w.facts (w.facts ++ row) row w.reading gives refl; has = w.has; text = w.text }
 
   -- memory was short for a row, of which some facts are written
-  pub row_short : (table : ℕ) (result : Endings.Ending) (wanted : Bool) → wanted ≡ true → result ≡ Refused (file_fault table kind.Memory) → IsWriting wanted first now any n whole left
+  row_short : (table : ℕ) (result : Endings.Ending) (wanted : Bool) → wanted ≡ true → result ≡ Refused (file_fault table kind.Memory) → IsWriting wanted first now any n whole left
       → IfSome left (λ st. GivesNext t st (Ok (Some row)) after) → WritesFacts now next n n2 row (Err halt.Memory) → ReadTable table wanted first next any n2 whole result
   row_short table result false is short w gives wrote = absurd (cc)
   row_short table result true is short w gives wrote =
@@ -90,7 +92,7 @@ module _ (t : ℕ) (first now next : SinkView) (any n n2 : Bool) (whole : Stream
       not_closed : (e : Endings.Ending) (f : TableFault) → e ≡ Refused f → e ≡ Closed → ⊥
       not_closed e f is closed = cc
 
-  pub row_broke : (table : ℕ) (w : WriteFault) (wanted : Bool) → wanted ≡ true → IsWriting wanted first now any n whole left
+  row_broke : (table : ℕ) (w : WriteFault) (wanted : Bool) → wanted ≡ true → IsWriting wanted first now any n whole left
       → IfSome left (λ st. GivesNext t st (Ok (Some row)) after) → WritesFacts now next n n2 row (Err (halt.Write w)) → ReadsTable table wanted first next any n2 whole (Err w)
   row_broke table w false is writing gives broke = absurd (cc)
   row_broke table w true is writing gives broke =
@@ -104,6 +106,17 @@ module _ (t : ℕ) (first now next : SinkView) (any n n2 : Bool) (whole : Stream
         subst (λ x. Broke first next x w) (sym text)
             (broke_later first now next (more_text any fs) (more_text n row ++ more_text (has_any n row) rest.0) w writing.text (broke_before now next (more_text n row) (more_text (has_any n row) rest.0) w broke)),
       )
+
+-- the writing of a row stopped
+pub row_stopped : (table t : ℕ) (wanted : Bool) (first now next : SinkView) (any n n2 : Bool) (whole : Stream) (left after : Option Stream) (row : List Fact) (h : Halt) → wanted ≡ true → IsWriting wanted first now any n whole left
+    → IfSome left (λ st. GivesNext t st (Ok (Some row)) after) → WritesFacts now next n n2 row (Err h) → ReadsTable table wanted first next any n2 whole (as_end table h)
+row_stopped table t wanted first now next any n n2 whole left after row halt.Memory is w gives wrote =
+    row_short t first now next any n n2 whole left after row table (Refused (file_fault table kind.Memory)) wanted is refl w gives wrote
+row_stopped table t wanted first now next any n n2 whole left after row (halt.Write fault) is w gives broke = row_broke t first now next any n n2 whole left after row table fault wanted is w gives broke
+
+pub stopped_marks : (table : ℕ) (first now next : Mark) (h : Halt) → now ≡ first → IsHalted now next (Err h) → Marks first next (as_end table h)
+stopped_marks table first now next halt.Memory same marked = marked ∙ same
+stopped_marks table first now next (halt.Write w) same marked = marked
 
 pub rows_done : (table t : ℕ) (wanted : Bool) (first now : SinkView) (any n : Bool) (whole : Stream) (left after : Option Stream) → IsWriting wanted first now any n whole left
     → IfSome left (λ st. GivesNext t st (Ok None) after) → ReadTable table wanted first now any n whole Closed
@@ -239,6 +252,10 @@ table_broke first now next any any' done s later faults table true w clear r bro
     (broke_later first now next (more_text false before) (more_text any (facts_of s) ++ more_text (has_any any (facts_of s)) behind) w r.text
     (broke_before now next (more_text any (facts_of s)) (more_text (has_any any (facts_of s)) behind) w broke.1))
 
+length_more : (xs : List (Option (List ℕ))) (x : Option (List ℕ)) → length (xs ++ x ∷ []) ≡ length xs + 1
+length_more [] x = omega arith
+length_more (y ∷ ys) x = let rest = length_more ys x in omega (arith, rest)
+
 -- the files of the readers that are left, and what was read of the files before them
 pub record HasRead {R : Type 0} (told : R → Option (List ℕ)) (report : ReportValue) (limit table : ℕ) (first now : SinkView) (any : Bool) (faults : List TableFault) (left : List (Option R)) (files : List (Option (List ℕ))) : Type 0 where
   pub done : List (Option (List ℕ))
@@ -280,10 +297,6 @@ module _ {R : Type 0} (told : R → Option (List ℕ)) (report : ReportValue) (l
               read = subst (λ ss. ReadTables first next any' ss faults') (sym streams)
                   (table_read first now next any any' (streams_from report limit 0 h.done) (table_stream report table limit f) faults faults' e more table wanted (streams_len report limit 0 h.done ∙ h.count) is h.read (one f are.0));
             }
-
-        length_more : (xs : List (Option (List ℕ))) (x : Option (List ℕ)) → length (xs ++ x ∷ []) ≡ length xs + 1
-        length_more [] x = omega arith
-        length_more (y ∷ ys) x = let rest = length_more ys x in omega (arith, rest)
 
     pub next_broke : (w : WriteFault) → HasRead told report limit table first now any faults (reader ∷ left) files
         → ((file : Option (List ℕ)) → IsFileOf told reader file → ReadsTable table wanted now next any any' (table_stream report table limit file) (Err w))

@@ -9,9 +9,11 @@ use Rattle.oim_json.specs.declared.mark.WriteFault.{WriteFault}
 use Rattle.oim_merge.specs.Histories.{all_of, facts_before, refusals}
 use Rattle.oim_resolve.specs.declared.fact.Fact.{Fact}
 use Rattle.oim_ring.specs.declared.item.Ending as Endings
-use Rattle.oim_ring.specs.declared.item.Ending.TheVariants.{Closed}
+use Rattle.oim_ring.specs.declared.item.Ending.TheVariants.{Closed, Refused}
 use Rattle.oim_ring.specs.declared.item.Item.{Item}
+use Rattle.oim_rows.specs.Header.{file_fault}
 use Rattle.oim_rows.specs.Streams.{Stream}
+use Rattle.oim_rows.specs.declared.fault.TableKind.TheVariants as kind
 use Rattle.oim_rows.specs.declared.fault.TableFault.{TableFault}
 use Rattle.oim_convert.specs.Answer.{facts_of, histories_of}
 use Rattle.oim_convert.specs.Histories.{AreDecoded, IsGiven}
@@ -54,6 +56,11 @@ IsHalted old new (Err (halt.Write w)) = new ≡ mark_of w
 abbrev pub Marks : {A : Type 0} → Mark → Mark → Result A WriteFault → Type 0
 Marks old new (Ok a) = new ≡ old
 Marks old new (Err w) = new ≡ mark_of w
+
+-- the ending of a table where the writing of its facts stopped: want of memory refuses it
+abbrev pub as_end : ℕ → Halt → Result Endings.Ending WriteFault
+as_end table halt.Memory = Ok (Refused (file_fault table kind.Memory))
+as_end table (halt.Write w) = Err w
 
 -- of these facts, those that are written: all, or none once a table is refused
 abbrev pub wanted_of : Bool → List Fact → List Fact

@@ -10,7 +10,7 @@ ghost use Rattle.oim_rows.specs.Streams.{table_stream};
 ghost use Rattle.oim_convert.specs.Answer.{streams};
 ghost use Rattle.oim_convert.specs.Files.{IsFileOf, AreFilesOf};
 ghost use Rattle.oim_convert.specs.Serial.{Converts, HasBegun, IsOfTables, Leaves};
-ghost use Rattle.oim_convert.specs.Steps.{IsHalted, Marks, ReadsTable, ReadsTables, WritesFact, WritesFacts};
+ghost use Rattle.oim_convert.specs.Steps.{IsHalted, Marks, ReadsTable, ReadsTables, WritesFact, WritesFacts, as_end};
 ghost use Rattle.oim_convert.specs.declared.fault.ConvertFault.TheVariants as fault;
 
 use crate::decode::{refused, without_file};
@@ -73,6 +73,16 @@ fn write_facts<W: Sink>(
     Ok(())
 }
 
+/// How a table ends where the writing of its facts stopped: want of memory refuses it.
+fn stopped(table: usize, halt: Halt) -> Result<Ending, WriteFault>
+    ensures { result ≡ as_end table halt }
+{
+    match halt {
+        Halt::Memory => Ok(refused(table, TableKind::Memory)),
+        Halt::Write(fault) => Err(fault),
+    }
+}
+
 /// Reads the rows that are left to their end, writes their facts if they are wanted, and says how
 /// the table ends. Want of memory refuses the table.
 fn write_rows<R: Read + Drop, W: Sink>(
@@ -93,8 +103,7 @@ fn write_rows<R: Read + Drop, W: Sink>(
                 if wanted {
                     match write_facts(alloc, sink, any, facts.as_slice()) {
                         Ok(()) => {}
-                        Err(Halt::Memory) => return Ok(refused(table, TableKind::Memory)),
-                        Err(Halt::Write(fault)) => return Err(fault),
+                        Err(halt) => return stopped(table, halt),
                     }
                 }
             }
@@ -266,5 +275,13 @@ pub fn convert_serial<R: Read + Drop, W: Sink>(
     let Ok(faults) = Vec::with_capacity(alloc, readers.len()) else {
         return Err(ConvertFault::Memory);
     };
-    write_document(alloc, report, head.as_slice(), readers, limits, faults, sink)
+    write_document(
+        alloc,
+        report,
+        head.as_slice(),
+        readers,
+        limits,
+        faults,
+        sink,
+    )
 }

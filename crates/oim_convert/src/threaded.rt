@@ -96,7 +96,9 @@ fn run_ready<R: Read + Drop + Send, T: Threads + Wait + Sync, W: Sink>(
         unmerged,
         places,
     } = ready;
-    let (claims, worked) = work_crew(rt, alloc, report, limits, crew, starts, unmerged, head, sink);
+    let (claims, worked) = work_crew(
+        rt, alloc, report, limits, crew, starts, unmerged, head, sink,
+    );
     let Worked {
         shifts,
         merged,
