@@ -1,6 +1,6 @@
 -- Histories that nothing cut short, and the document of streams.
-use Rattle.std.specs.Prelude.{◌≡◌, ◌⊎◌, ℕ, ◌+◌, true, List, [], ◌∷◌, ◌++◌, map}
-use Rattle.std.proofs.Common.{refl, sym, ap, ◌∙◌, subst, append_assoc, append-nil, inl, inr}
+use Rattle.std.specs.Prelude.{◌≡◌, ℕ, ◌+◌, true, List, [], ◌∷◌, ◌++◌}
+use Rattle.std.proofs.Common.{refl, sym, ap, ◌∙◌, subst, append_assoc, inl, inr}
 use Rattle.oim_json.specs.Document.{text_after}
 use Rattle.oim_json.specs.JsonText.{head_text}
 use Rattle.oim_json.specs.Sinks.{SinkView}
@@ -17,7 +17,7 @@ use Rattle.oim_ring.specs.declared.item.Item.{Item}
 use Rattle.oim_ring.specs.declared.item.Item.TheVariants.{Block, Ending}
 use Rattle.oim_rows.specs.Streams.{Stream}
 use Rattle.oim_rows.specs.declared.fault.TableFault.{TableFault}
-use Rattle.oim_convert.specs.Answer.{IsAnswer, answer_text, ending_of, facts_of, histories_of, history_of}
+use Rattle.oim_convert.specs.Answer.{IsAnswer, answer_text, ending_of, facts_of, histories_of}
 use Rattle.oim_convert.specs.Histories.{AreDecoded, IsGiven, IsHistory, IsStream, facts_in}
 use Rattle.oim_convert.specs.Runs.{AreStreams}
 

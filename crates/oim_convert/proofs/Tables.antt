@@ -1,8 +1,8 @@
 -- Tables that are read and written on one thread.
-use Rattle.std.specs.Prelude.{◌≡◌, ◌⊎◌, ◌==◌, ℕ, ◌+◌, List, [], ◌∷◌, ◌++◌, Bool, true, false, Option, Some, None, Ok, Err, IfSome, length, map}
-use Rattle.std.proofs.Common.{refl, sym, ap, ◌∙◌, subst, append_assoc, append-nil, arith, inl, inr}
+use Rattle.std.specs.Prelude.{◌≡◌, ◌==◌, ℕ, ◌+◌, List, [], ◌∷◌, ◌++◌, Bool, true, false, Option, Some, None, Ok, Err, IfSome, length}
+use Rattle.std.proofs.Common.{refl, sym, ap, ◌∙◌, subst, append_assoc, append-nil, arith, inl}
 use Rattle.std.proofs.lemmas.Bool.{eq-eqb, ne_eqb}
-use Rattle.oim_json.specs.Document.{facts_text, tail_text, text_after}
+use Rattle.oim_json.specs.Document.{tail_text, text_after}
 use Rattle.oim_json.specs.JsonText.{head_text}
 use Rattle.oim_json.specs.Sinks.{SinkView, Broke, Wrote}
 use Rattle.oim_json.specs.declared.mark.Mark.{Mark}
@@ -10,18 +10,17 @@ use Rattle.oim_json.specs.declared.mark.WriteFault.{WriteFault}
 use Rattle.oim_merge.proofs.Going.{all_refusals, broke_before, broke_later, open_facts, refused_facts, wrote_twice}
 use Rattle.oim_merge.specs.Histories.{all_of, document, facts_before, refusals, tail_for}
 use Rattle.oim_merge.specs.declared.progress.MergeEnd.TheVariants as end
-use Rattle.oim_meta.specs.Grid.{grid}
 use Rattle.oim_meta.specs.ReportValue.{ReportValue}
 use Rattle.oim_resolve.specs.declared.fact.Fact.{Fact}
 use Rattle.oim_ring.specs.declared.item.Ending as Endings
 use Rattle.oim_ring.specs.declared.item.Ending.TheVariants.{Closed, Refused}
 use Rattle.oim_ring.specs.declared.item.Item.{Item}
 use Rattle.oim_ring.specs.declared.item.Item.TheVariants.{Block, Ending}
-use Rattle.oim_rows.specs.Header.{file_fault, file_header_fault}
-use Rattle.oim_rows.specs.Streams.{GivesNext, IsOutside, Stream, stream_of, table_stream}
+use Rattle.oim_rows.specs.Header.{file_fault}
+use Rattle.oim_rows.specs.Streams.{GivesNext, Stream, table_stream}
 use Rattle.oim_rows.specs.declared.fault.TableFault.{TableFault}
 use Rattle.oim_rows.specs.declared.fault.TableKind.TheVariants as kind
-use Rattle.oim_convert.specs.Answer.{IsAnswer, answer_text, ending_of, facts_of, histories_of, history_of, row_after_row, streams_from}
+use Rattle.oim_convert.specs.Answer.{IsAnswer, answer_text, ending_of, facts_of, histories_of, history_of, streams_from}
 use Rattle.oim_convert.specs.Files.{IsFileOf, AreFilesOf}
 use Rattle.oim_convert.specs.Histories.{AreDecoded, IsDecoded, IsGiven}
 use Rattle.oim_convert.specs.Runs.{AreStreams}
@@ -30,8 +29,8 @@ use Rattle.oim_convert.specs.Serial.{Refuses}
 use Rattle.oim_convert.specs.Steps.{IsHalted, Marks, ReadTable, ReadTables, ReadsTable, ReadsTables, WritesFacts, as_end, has_any, more_text, wanted_of}
 use Rattle.oim_convert.specs.declared.halt.Halt.{Halt}
 use Rattle.oim_convert.specs.declared.halt.Halt.TheVariants as halt
-use Rattle.oim_convert.proofs.Going.{facts_text_is, has_any_append, has_file, has_no_file, more_text_append, wrote_nothing}
-use Rattle.oim_convert.proofs.Sent.{reading_more, rows_end, rows_fault, rows_short, so_far, unopened_given}
+use Rattle.oim_convert.proofs.Going.{facts_text_is, has_any_append, has_no_file, more_text_append, wrote_nothing}
+use Rattle.oim_convert.proofs.Sent.{reading_more, rows_end, rows_fault, rows_short, so_far}
 use Rattle.oim_convert.proofs.Streams.{open_streams, streams_answer, streams_facts, streams_refusals, streams_text}
 
 -- THE ROWS OF A TABLE

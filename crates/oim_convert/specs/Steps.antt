@@ -1,5 +1,5 @@
 -- What the parts of a conversion on one thread write, each from the sink as it is.
-use Rattle.std.specs.Prelude.{◌≡◌, ◌++◌, ⊤, ℕ, List, [], ◌∷◌, Bool, true, false, Result, Ok, Err}
+use Rattle.std.specs.Prelude.{◌≡◌, ◌++◌, ℕ, List, [], ◌∷◌, Bool, true, false, Result, Ok, Err}
 use mathlib.Core.List.{IsPrefix}
 use Rattle.oim_json.specs.Document.{piece}
 use Rattle.oim_json.specs.JsonText.{member_text}

@@ -2,7 +2,6 @@ use Rattle.std.specs.Prelude.{◌≡◌, [], false, length}
 use Rattle.std.proofs.Common.{◌∙◌, ap, refl, subst, sym, arith}
 use Rattle.std.specs.Vec.Iter.{into_iter_items}
 use Rattle.oim_json.specs.Sinks.{sink_at}
-use Rattle.oim_convert.specs.Files.{AreFilesOf}
 use Rattle.oim_convert.proofs.Going.{nothing_left}
 use Rattle.oim_convert.proofs.Tables.{HasRead, files_begin, files_end, next_broke, next_read, wanted_so}
 use Rattle.oim_convert.proofs.serial.convert_tables.Goals as goal

@@ -1,4 +1,4 @@
-use Rattle.std.specs.Prelude.{◌≡◌, List, length}
+use Rattle.std.specs.Prelude.{List, length}
 use Rattle.std.proofs.Common.{ap, sym, ◌∙◌, subst}
 use Rattle.oim_json.specs.Sinks.{sink_at}
 use Rattle.oim_ring.specs.Ends.{DrainView}
