@@ -72,7 +72,8 @@ Ends given old new (outcome.Report source.Types f) = Unwritten old new × IsType
 Ends given old new (outcome.Run fault.Memory) = Unwritten old new
 Ends given old new o = ConvertedTexts given old new o
 
--- a flush that failed is a failed write
+-- a flush that failed is a failed write, where something was written before it
 abbrev pub flushed : Outcome → Outcome
 flushed outcome.Done = outcome.Output write.Failed
+flushed (outcome.Table id f) = outcome.Output write.Failed
 flushed o = o

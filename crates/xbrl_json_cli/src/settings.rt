@@ -1,9 +1,9 @@
 //! What the command line asks for.
 
-ghost use Rattle.std.specs.Prelude.{◌≡◌, ◌≤◌, IfOk, IfSome, false, map, option_map};
+ghost use Rattle.std.specs.Prelude.{◌≡◌, ◌≤◌, ◌↔◌, IfOk, IfSome, IsTrue, false, map, option_map};
 ghost use Rattle.clap.specs.Words.{app_of, first_of, found_of, matches_of, one_of, rows_of, rule_of};
 ghost use Rattle.xbrl_json_cli.specs.CommandLine as spec;
-ghost use Rattle.xbrl_json_cli.specs.CommandLine.{HasSettings, IsNumberOf, command_line};
+ghost use Rattle.xbrl_json_cli.specs.CommandLine.{HasSettings, IsInput, IsNumberOf, command_line};
 
 use clap::builder::ValueParser;
 use clap::error::ErrorKind;
@@ -16,6 +16,23 @@ const MOST_WORKERS: usize = 64;
 
 /// The largest size of a table's ring.
 const LARGEST_RING: usize = 65_536;
+
+/// The end of the help.
+const MORE_HELP: &str = r#"Example:
+  xbrl-json report/meta.json --types report/types.csv --out report.json
+
+The files of the tables and of the parameters lie beside META, at the paths that it names.
+
+The table of types is a CSV file with the header "namespace,name,type" and one line for each
+concept and dimension of the taxonomy. A concept's type is integer, decimal, double, text or other,
+a dimension's is explicit or typed:
+  http://example.com/eg,Cash,integer
+
+Exit status:
+  0  the document is written
+  1  the report has a fault, which standard error names
+  2  the words of the command line are wrong
+  3  a file cannot be read or written, or memory ran out"#;
 
 /// What a run is asked for.
 #[derive(Drop)]
@@ -30,6 +47,15 @@ pub struct Settings {
     pub ring: usize,
     /// The path of the document, `None` for standard output.
     pub out: Option<Text>,
+}
+
+impl Settings {
+    /// Whether this is the path of the metadata or of the types table.
+    pub fn reads(&self, path: &str) -> bool
+        ensures { IsTrue result ↔ IsInput self.now path.now }
+    {
+        self.meta.as_str() == path || self.types.as_str() == path
+    }
 }
 
 /// An argument with one value.
@@ -72,7 +98,7 @@ fn command<'a>(alloc: Global) -> Result<Command<'a>, AllocError>
     ensures { IfOk result (λ c. app_of c ≡ command_line) }
 {
     let meta = one_value(alloc, "meta", "META", "The metadata file of the report").required(true);
-    let types = option(alloc, "types", "FILE", "The table of concept types").required(true);
+    let types = option(alloc, "types", "FILE", "The table of types of concepts and dimensions").required(true);
     let workers = number_option(
         alloc,
         "workers",
@@ -85,16 +111,18 @@ fn command<'a>(alloc: Global) -> Result<Command<'a>, AllocError>
         "ring",
         65536,
         "1024",
-        "How many blocks of facts of a table may wait",
+        "How many blocks of facts of one table may wait to be written",
     );
     let out = option(
         alloc,
         "out",
         "FILE",
-        "Where the document goes, in place of standard output",
+        "The file of the document, cut to nothing at once [default: standard output]",
     );
     Command::new(alloc, "xbrl-json")
         .about("Converts a report in xBRL-CSV to xBRL-JSON")
+        .version("0.1.0")
+        .after_help(MORE_HELP)
         .no_binary_name(true)
         .arg(meta)?
         .arg(types)?
