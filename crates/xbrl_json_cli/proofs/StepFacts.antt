@@ -1,8 +1,10 @@
 -- What the steps of a run give, from what the calls in them answer.
-use Rattle.std.proofs.Common.{⊤, ◌≡◌, ◌∙◌, refl, sym, ap, subst, ℕ, ◌+◌, ◌⊎◌, List, [], ◌∷◌, ◌++◌, take, Option, Some, None, IfSome, IfOk, IfErr, option_map, Result, Ok, Err, inl, inr, append_assoc}
+use Rattle.std.proofs.Common.{◌≡◌, ◌∙◌, refl, sym, ap, subst, ℕ, ◌+◌, ◌⊎◌, List, [], ◌∷◌, ◌++◌, take, Option, Some, None, IfSome, IfOk, IfErr, option_map, unwrap_or, Result, Ok, Err, inl, inr, append_assoc}
 use Rattle.oim_convert.specs.Files.{IsFileOf}
 use Rattle.oim_meta.specs.CsvFiles.{OrOutside}
+use Rattle.oim_meta.specs.Grid.{grid}
 use Rattle.oim_meta.specs.Parameters.{ParametersValue}
+use Rattle.oim_meta.specs.ParametersFile.{parameters_result}
 use Rattle.oim_meta.specs.ReportValue.{ReportValue}
 use Rattle.oim_meta.specs.Types.{TypesValue}
 use Rattle.oim_meta.specs.declared.fault.MetaFault.{MetaFault}
@@ -11,7 +13,7 @@ use Rattle.xbrl_json_cli.proofs.MetadataFacts.{report_taken, url_taken}
 use Rattle.xbrl_json_cli.specs.Conversion.{profile}
 use Rattle.xbrl_json_cli.specs.Folders.{Files}
 use Rattle.xbrl_json_cli.specs.Metadata.{report_result, url_result}
-use Rattle.xbrl_json_cli.specs.Steps.{IsAmong, Passes, Step, Stops, Takes, bytes_at, looking, metadata_steps, missing, no_memory, opening, parameters_at, parameters_of, parameters_steps, reading, report_at, step, steps, types_at, types_steps, url_at, value_or, wrong}
+use Rattle.xbrl_json_cli.specs.Steps.{IsAmong, IsEarly, Passes, Step, Stops, Takes, bytes_at, looking, metadata_steps, missing, no_memory, opening, parameters_at, parameters_of, parameters_steps, reading, report_at, step, steps, types_at, types_steps, url_at, value_or, wrong}
 use Rattle.xbrl_json_cli.specs.declared.outcome.Outcome.{Outcome}
 use Rattle.xbrl_json_cli.specs.declared.outcome.Outcome.TheVariants as outcome
 use Rattle.xbrl_json_cli.specs.declared.outcome.Source.{Source}
@@ -52,29 +54,29 @@ stops_at here later o ends = record { before = []; here = here; later = later; s
 -- ONE STEP
 
 -- a file that was opened, or not
+opened_by : {R : Type 0} (told : R → Option (List ℕ)) (r : R) (path : List ℕ) (file : Option (List ℕ)) → IsFileOf told (Some r) file
+    → Passes (step (missing path file) (no_memory ∷ []) ∷ []) × (told r ≡ Some (unwrap_or file []))
+opened_by told r path None h = absurd h
+opened_by told r path (Some bytes) h = ((refl, tt), h)
+
 pub opened_is : {R : Type 0} (told : R → Option (List ℕ)) (r : R) (known : Option Files) (path : List ℕ)
     → IfSome known (λ files. IsFileOf told (Some r) (files path))
-    → IfSome known (λ files. Takes {X = R} (opening files path ∷ []) (λ x. told x ≡ Some (bytes_at files path)) (Ok r))
+    → IfSome known (λ files. Passes (opening files path ∷ []) × (told r ≡ Some (bytes_at files path)))
 opened_is told r None path is = tt
-opened_is told r (Some files) path is = by_file (files path) is
-  where
-    by_file : (file : Option (List ℕ)) → IsFileOf told (Some r) file
-        → Takes {X = R} (step (missing path file) (no_memory ∷ []) ∷ []) (λ x. told x ≡ Some (unwrap_or file [])) (Ok r)
-    by_file None h = absurd h
-    by_file (Some bytes) h = ((refl, tt), h)
+opened_is told r (Some files) path is = opened_by told r path (files path) is
+
+not_opened_by : {R : Type 0} (told : R → Option (List ℕ)) (path : List ℕ) (o : Outcome) (file : Option (List ℕ)) → IsFileOf {R = R} told None file
+    → (o ≡ outcome.CannotRead path) ⊎ (o ≡ no_memory) → (missing path file ≡ Some o) ⊎ IsAmong o (no_memory ∷ [])
+not_opened_by told path o None h (inl is) = inl (ap Some (sym is))
+not_opened_by told path o None h (inr is) = inr (inl is)
+not_opened_by told path o (Some bytes) h any = absurd h
 
 pub not_opened : {R : Type 0} (told : R → Option (List ℕ)) (known : Option Files) (path : List ℕ) (o : Outcome)
     → IfSome known (λ files. IsFileOf {R = R} told None (files path))
     → (o ≡ outcome.CannotRead path) ⊎ (o ≡ no_memory)
-    → IfSome known (λ files. Takes {X = R} (opening files path ∷ []) (λ x. told x ≡ Some (bytes_at files path)) (Err o))
+    → IfSome known (λ files. Stops (opening files path ∷ []) o)
 not_opened told None path o is said = tt
-not_opened told (Some files) path o is said = stops_at (opening files path) [] o (by_file (files path) is said)
-  where
-    by_file : (file : Option (List ℕ)) → IsFileOf {R = R} told None file → (o ≡ outcome.CannotRead path) ⊎ (o ≡ no_memory)
-        → (missing path file ≡ Some o) ⊎ IsAmong o (no_memory ∷ [])
-    by_file None h (inl is) = inl (ap Some (sym is))
-    by_file None h (inr is) = inr (inl is)
-    by_file (Some bytes) h any = absurd h
+not_opened told (Some files) path o is said = stops_at (opening files path) [] o (not_opened_by told path o (files path) is said)
 
 -- A FILE THAT IS READ
 
@@ -122,11 +124,11 @@ module _ {R A : Type 0} (told : R → Option (List ℕ)) (r : R) (s : Source) (r
       (stops_at (reading s (read (bytes_at files path))) [] o
       (fault_read f (read (bytes_at files path)) (subst (λ k. IfSome k (λ bytes. OrOutside {A = A} (Err f) (read bytes))) is.1 answer)))
 
-  -- a file that was not opened is not read
-  pub reads_none : (known : Option Files) (path : List ℕ) (o : Outcome) → IfSome known (λ files. Stops (opening files path ∷ []) o)
-      → IfSome known (λ files. Read files path (Err o))
-  reads_none None path o stop = tt
-  reads_none (Some files) path o stop = stops_first (opening files path ∷ []) (reading s (read (bytes_at files path)) ∷ []) o stop
+-- a file that was not opened is not read
+pub reads_none : {A : Type 0} (s : Source) (read : List ℕ → Result A MetaFault) (known : Option Files) (path : List ℕ) (o : Outcome) → IfSome known (λ files. Stops (opening files path ∷ []) o)
+    → IfSome known (λ files. Stops (opening files path ∷ reading s (read (bytes_at files path)) ∷ []) o)
+reads_none s read None path o stop = tt
+reads_none s read (Some files) path o stop = stops_first (opening files path ∷ []) (reading s (read (bytes_at files path)) ∷ []) o stop
 
 -- THE METADATA
 
@@ -148,10 +150,10 @@ metadata_read told r items (Some files) path (Ok v) is bytes refusal =
 metadata_read told r items (Some files) path (Err o) is bytes refusal =
     stops_later (opening files path ∷ []) (step None unread ∷ []) o is.0 (stops_at (step None unread) [] o (inr refusal))
 
-pub metadata_none : {V : Type 0} (items : V → List ℕ) (known : Option Files) (path : List ℕ) (o : Outcome) → IfSome known (λ files. Stops (opening files path ∷ []) o)
-    → IfSome known (λ files. IsMetadata items files path (Err o))
-metadata_none items None path o s = tt
-metadata_none items (Some files) path o s = stops_first (opening files path ∷ []) (step None unread ∷ []) o s
+pub metadata_none : (known : Option Files) (path : List ℕ) (o : Outcome) → IfSome known (λ files. Stops (opening files path ∷ []) o)
+    → IfSome known (λ files. Stops (metadata_steps files path) o)
+metadata_none None path o s = tt
+metadata_none (Some files) path o s = stops_first (opening files path ∷ []) (step None unread ∷ []) o s
 
 -- a reader read up to the limit
 pub read_most : {R : Type 0} (told : R → Option (List ℕ)) (r inner : R) (limit : ℕ) (start items : List ℕ) → inner ≡ r → limit ≡ most → start ≡ []
@@ -276,3 +278,68 @@ module _ (files : Files) (base meta types : List ℕ) where
           (stops_later (types_steps files types) (from_url files base meta types) o typed.0
           (stops_later (looking (url_at files meta) ∷ []) (from_parameters files base meta types) o looked
           (stops_later (parameters_steps files base (value_or None (url_at files meta))) (from_report files base meta types) o found takes)))
+
+-- the same, where a folder tells its files
+pub metadata_stop : (told : Option Files) (base meta types : List ℕ) (o : Outcome) → IfSome told (λ files. Stops (metadata_steps files meta) o)
+    → IfSome told (λ files. IsReport files base meta types (Err o))
+metadata_stop None base meta types o s = tt
+metadata_stop (Some files) base meta types o s = metadata_stops files base meta types o s
+
+pub types_stop : (told : Option Files) (base meta types items : List ℕ) (o : Outcome) → IfSome told (λ files. HasRead files meta items)
+    → IfSome told (λ files. Stops (types_steps files types) o) → IfSome told (λ files. IsReport files base meta types (Err o))
+types_stop None base meta types items o read s = tt
+types_stop (Some files) base meta types items o read s = types_stops files base meta types items o read s
+
+pub url_stop : (told : Option Files) (base meta types items : List ℕ) (known : TypesValue) (o : Outcome) → IfSome told (λ files. HasRead files meta items)
+    → IfSome told (λ files. HasTypes files types known) → Stops (looking (url_result profile items) ∷ []) o → IfSome told (λ files. IsReport files base meta types (Err o))
+url_stop None base meta types items known o read typed s = tt
+url_stop (Some files) base meta types items known o read typed s = url_stops files base meta types items known o read typed s
+
+pub parameters_stop : (told : Option Files) (base meta types items : List ℕ) (known : TypesValue) (url : Option (List ℕ)) (o : Outcome) → IfSome told (λ files. HasRead files meta items)
+    → IfSome told (λ files. HasTypes files types known) → HasUrl items url → IfSome told (λ files. Stops (parameters_steps files base url) o)
+    → IfSome told (λ files. IsReport files base meta types (Err o))
+parameters_stop None base meta types items known url o read typed named s = tt
+parameters_stop (Some files) base meta types items known url o read typed named s = parameters_stops files base meta types items known url o read typed named s
+
+pub report_stop : (told : Option Files) (base meta types items : List ℕ) (known : TypesValue) (url : Option (List ℕ)) (given : ParametersValue) (result : Result ReportValue Outcome)
+    → IfSome told (λ files. HasRead files meta items) → IfSome told (λ files. HasTypes files types known) → HasUrl items url → IfSome told (λ files. HasParameters files base url given)
+    → Takes {X = ReportValue} (looking (report_result profile given known items) ∷ []) (λ r. report_result profile given known items ≡ Ok r) result
+    → IfSome told (λ files. IsReport files base meta types result)
+report_stop None base meta types items known url given result read typed named parameters takes = tt
+report_stop (Some files) base meta types items known url given result read typed named parameters takes =
+    report_ends files base meta types items known url given result read typed named parameters takes
+
+-- THE PARAMETERS FILE
+
+abbrev pub IsParameters : Files → List ℕ → Option (List ℕ) → Result ParametersValue Outcome → Type 0
+IsParameters files base url result = Takes {X = ParametersValue} (parameters_steps files base url) (λ p. parameters_at files base url ≡ Ok p) result
+
+pub no_parameters : (known : Option Files) (base : List ℕ) (url : Option (List ℕ)) (given : ParametersValue) → url ≡ None → given ≡ []
+    → IfSome known (λ files. IsParameters files base url (Ok given))
+no_parameters None base url given none is = tt
+no_parameters (Some files) base url given none is = subst (λ u. IsParameters files base u (Ok given)) (sym none) (tt, ap Ok (sym is))
+
+pub no_path : (known : Option Files) (base url : List ℕ) (o : Outcome) → o ≡ no_memory → IfSome known (λ files. IsParameters files base (Some url) (Err o))
+no_path None base url o is = tt
+no_path (Some files) base url o is =
+    stops_at (opening files (base ++ url)) (reading source.Parameters (parameters_at files base (Some url)) ∷ []) o (inr (inl is))
+
+abbrev ReadAt : Files → List ℕ → Result ParametersValue Outcome → Type 0
+ReadAt files path result =
+    Takes {X = ParametersValue} (opening files path ∷ reading source.Parameters (parameters_result (grid (bytes_at files path))) ∷ []) (λ p. parameters_result (grid (bytes_at files path)) ≡ Ok p) result
+
+pub at_path : (known : Option Files) (base url path : List ℕ) (result : Result ParametersValue Outcome) → path ≡ base ++ url → IfSome known (λ files. ReadAt files path result)
+    → IfSome known (λ files. IsParameters files base (Some url) result)
+at_path known base url path result is read = subst (λ p. IfSome known (λ files. ReadAt files p result)) is read
+
+-- THE OUTCOMES OF A RUN THAT ENDS EARLY
+
+pub missing_early : (path : List ℕ) (o : Outcome) → (o ≡ outcome.CannotRead path) ⊎ (o ≡ no_memory) → IsEarly o
+missing_early path o (inl is) = subst IsEarly (sym is) tt
+missing_early path o (inr is) = subst IsEarly (sym is) refl
+
+pub unread_early : {V : Type 0} (result : Result V Outcome) → IfErr result (λ o. IsAmong o unread) → IfErr result IsEarly
+unread_early (Ok v) among = tt
+unread_early (Err o) (inl is) = subst IsEarly (sym is) tt
+unread_early (Err o) (inr (inl is)) = subst IsEarly (sym is) refl
+unread_early (Err o) (inr (inr none)) = absurd none

@@ -6,7 +6,7 @@ ghost use Rattle.oim_convert.specs.Answer.{streams};
 ghost use Rattle.oim_convert.specs.Files.{AreFilesOf};
 ghost use Rattle.oim_convert.specs.Runs.{early_fault};
 ghost use Rattle.oim_convert.specs.Steps.{sink_at};
-ghost use Rattle.xbrl_json_cli.specs.Conversion.{Ends, Reads, flushed, profile, texts};
+ghost use Rattle.xbrl_json_cli.specs.Conversion.{Buffered, Ends, Reads, flushed, profile, texts};
 ghost use Rattle.xbrl_json_cli.specs.Outcomes.{EndsAs, Leaves, name_in, outcome_by, table_ids};
 
 use crate::held::{METADATA, TABLE, TYPES};
@@ -178,7 +178,9 @@ pub fn convert_to<T: Threads + Wait + Sync, W: Write + Drop>(
     rt: &T,
     alloc: Global,
     to: W,
-) -> Outcome {
+) -> Outcome
+    ensures { Buffered (Ends (texts 1 1 profile METADATA.now TYPES.now (Some TABLE.now ∷ []))) result }
+{
     let Ok(mut buffered) = BufWriter::with_capacity(alloc, 65536, to) else {
         return Outcome::Run(ConvertFault::Memory);
     };

@@ -96,10 +96,7 @@ pub struct Disk<'a, H> {
 /// Whether the system says that there is no such file: it was not found, or a part of its path is
 /// not a folder.
 fn is_missing(error: &io::Error) -> bool {
-    matches!(
-        error.kind(),
-        ErrorKind::NotFound | ErrorKind::NotADirectory
-    )
+    matches!(error.kind(), ErrorKind::NotFound | ErrorKind::NotADirectory)
 }
 
 impl<'a, H: Files> Folder<DiskFile<'a, H>> for Disk<'a, H>

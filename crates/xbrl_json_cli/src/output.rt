@@ -2,6 +2,8 @@
 
 ghost use Rattle.std.specs.Prelude.{◌≡◌, ◌⊎◌, IfSome};
 ghost use Rattle.xbrl_json_cli.specs.CommandLine.{IsInput};
+ghost use Rattle.xbrl_json_cli.specs.Conversion.{Buffered};
+ghost use Rattle.xbrl_json_cli.specs.Runs.{EndsOver};
 ghost use Rattle.xbrl_json_cli.specs.Steps as spec;
 ghost use Rattle.xbrl_json_cli.specs.declared.outcome.Outcome.TheVariants as outcome;
 
@@ -15,7 +17,6 @@ use oim_json::Marked;
 use oim_names::Text;
 use std::alloc::Global;
 use std::io::{BufWriter, Read, Write};
-use std::rt::Files;
 use std::sync::Wait;
 use std::thread::Threads;
 use std::{fs, io};
@@ -27,7 +28,10 @@ pub fn run_to<R: Read + Drop + Send, F: Folder<R>, T: Threads + Wait + Sync, W: 
     settings: &Settings,
     folder: &mut F,
     to: W,
-) -> Outcome {
+) -> Outcome
+    ensures { IfSome (F.files folder.old) (λ files.
+        Buffered (EndsOver files settings.now.meta settings.now.types settings.now.workers settings.now.ring) result) }
+{
     let Ok(mut buffered) = BufWriter::with_capacity(alloc, 65536, to) else {
         return no_memory();
     };
@@ -48,13 +52,7 @@ fn cannot_write(alloc: Global, path: &str) -> Outcome
 /// Runs over the system's files, to the file of `settings.out`, which is made or cut to nothing
 /// before anything is read, or to standard output. Where `settings.out` is the path of the metadata
 /// or of the types table it cannot be written, and nothing is touched.
-pub fn convert_as<H: Files + Print + Threads + Wait + Sync>(
-    rt: &H,
-    alloc: Global,
-    settings: &Settings,
-) -> Outcome
-where
-    H::File: Read + Write + Drop + Send,
+pub fn convert_as(rt: &HostRuntime, alloc: Global, settings: &Settings) -> Outcome
     ensures { IfSome settings.now.out (λ path. IsInput settings.now path → (result ≡ outcome.CannotWrite path) ⊎ (result ≡ spec.no_memory)) }
 {
     let mut disk = Disk { rt };

@@ -1,12 +1,12 @@
 //! What the command line asks for.
 
 ghost use Rattle.std.specs.Prelude.{◌≡◌, ◌≤◌, ◌↔◌, IfOk, IfSome, IsTrue, false, map, option_map};
-ghost use Rattle.clap.specs.Words.{app_of, first_of, found_of, matches_of, one_of, rows_of, rule_of};
+ghost use Rattle.clap.specs.Kinds.{FailsBy};
+ghost use Rattle.clap.specs.Words.{app_of, fault_of, first_of, found_of, matches_of, one_of, rows_of, rule_of};
 ghost use Rattle.xbrl_json_cli.specs.CommandLine as spec;
 ghost use Rattle.xbrl_json_cli.specs.CommandLine.{HasSettings, IsInput, IsNumberOf, command_line};
 
 use clap::builder::ValueParser;
-use clap::error::ErrorKind;
 use clap::{Arg, ArgAction, ArgMatches, Command, Error};
 use oim_names::Text;
 use std::alloc::{AllocError, Global};
@@ -98,7 +98,13 @@ fn command<'a>(alloc: Global) -> Result<Command<'a>, AllocError>
     ensures { IfOk result (λ c. app_of c ≡ command_line) }
 {
     let meta = one_value(alloc, "meta", "META", "The metadata file of the report").required(true);
-    let types = option(alloc, "types", "FILE", "The table of types of concepts and dimensions").required(true);
+    let types = option(
+        alloc,
+        "types",
+        "FILE",
+        "The table of types of concepts and dimensions",
+    )
+    .required(true);
     let workers = number_option(
         alloc,
         "workers",
@@ -182,16 +188,19 @@ fn settings_in(alloc: Global, matches: &ArgMatches<'_>) -> Result<Option<Setting
 /// [--ring K] [--out FILE]`, with 4 workers and rings of 1,024 unless the words say otherwise.
 /// Workers are 1 to 64, a ring's size 1 to 65,536.
 ///
-/// Fails where the words are no such command line, ask for help, or memory is short; the error has
-/// the text to show.
+/// Fails exactly where the definition of the command line refuses the words, by one of the kinds that
+/// it gives, or where they ask for help or the version; or where memory runs out. The error has the
+/// text to show.
 pub fn job(alloc: Global, words: &[&str]) -> Result<Settings, Error>
     ensures values { IfOk result (HasSettings (matches_of command_line (map (λ w. w.now) words.now))) }
     ensures workers { IfOk result (λ s. (1 ≤ s.workers) × (s.workers ≤ 64)) }
     ensures ring { IfOk result (λ s. (1 ≤ s.ring) × (s.ring ≤ 65536)) }
+    ensures fails { FailsBy (fault_of command_line (map (λ w. w.now) words.now)) result }
 {
     let matches = command(alloc)?.try_get_matches_from(words)?;
     match settings_in(alloc, &matches)? {
         Some(settings) => Ok(settings),
-        None => Err(command(alloc)?.error(ErrorKind::MissingRequiredArgument, "")?),
+        // A parse that succeeds has every value, so this is never reached.
+        None => Err(Error::from(AllocError)),
     }
 }
