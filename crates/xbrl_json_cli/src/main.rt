@@ -63,6 +63,8 @@ use std::alloc::Global;
 use std::io;
 use std::io::ErrorKind;
 use std::process::ExitCode;
+use std::sync::Wait;
+use std::thread::Threads;
 
 /// The status of an outcome, whose line is printed. What cannot be printed is left out.
 fn told<H: Eprint>(rt: &H, alloc: Global, outcome: &Outcome) -> u8
@@ -88,18 +90,23 @@ fn explained<H: Print + Eprint>(rt: &H, error: &clap::Error) -> u8
 }
 
 /// The status of a run with these words, without the program's name.
-fn started(rt: &HostRuntime, alloc: Global, words: &[&str]) -> u8 {
+fn started<T: Threads + Wait + Sync>(
+    rt: &HostRuntime,
+    threads: &T,
+    alloc: Global,
+    words: &[&str],
+) -> u8 {
     if words.is_empty() {
-        return told(rt, alloc, &convert_to(rt, alloc, io::writer(rt)));
+        return told(rt, alloc, &convert_to(threads, alloc, io::writer(rt)));
     }
     match settings::job(alloc, words) {
-        Ok(settings) => told(rt, alloc, &convert_as(rt, alloc, &settings)),
+        Ok(settings) => told(rt, alloc, &convert_as(rt, threads, alloc, &settings)),
         Err(error) => explained(rt, &error),
     }
 }
 
 /// The status of a run with these arguments, the program's name among them.
-fn program(rt: &HostRuntime) -> u8 {
+fn program<T: Threads + Wait + Sync>(rt: &HostRuntime, threads: &T) -> u8 {
     let alloc = rt.alloc();
     let no_memory = Outcome::Run(ConvertFault::Memory);
     let args = match std::env::args(rt) {
@@ -117,11 +124,11 @@ fn program(rt: &HostRuntime) -> u8 {
     };
     let words = args.iter().map(|word| word.as_str());
     match words.collect::<Vec<&str>>(alloc) {
-        Ok(words) => started(rt, alloc, words.as_slice()),
+        Ok(words) => started(rt, threads, alloc, words.as_slice()),
         Err(_) => told(rt, alloc, &no_memory),
     }
 }
 
 fn main(rt: HostRuntime) -> ExitCode {
-    ExitCode::from(program(&rt))
+    ExitCode::from(program(&rt, &rt))
 }

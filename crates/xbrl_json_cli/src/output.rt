@@ -51,19 +51,25 @@ fn cannot_write(alloc: Global, path: &str) -> Outcome
 
 /// Runs over the system's files, to the file of `settings.out`, which is made or cut to nothing
 /// before anything is read, or to standard output. Where `settings.out` is the path of the metadata
-/// or of the types table it cannot be written, and nothing is touched.
-pub fn convert_as(rt: &HostRuntime, alloc: Global, settings: &Settings) -> Outcome
+/// or of the types table it cannot be written, and nothing is touched. The threads are taken apart
+/// from the system's other parts.
+pub fn convert_as<T: Threads + Wait + Sync>(
+    rt: &HostRuntime,
+    threads: &T,
+    alloc: Global,
+    settings: &Settings,
+) -> Outcome
     ensures { IfSome settings.now.out (λ path. IsInput settings.now path → (result ≡ outcome.CannotWrite path) ⊎ (result ≡ spec.no_memory)) }
 {
     let mut disk = Disk { rt };
     let Some(path) = &settings.out else {
-        return run_to(rt, alloc, settings, &mut disk, io::writer(rt));
+        return run_to(threads, alloc, settings, &mut disk, io::writer(rt));
     };
     if settings.reads(path.as_str()) {
         return cannot_write(alloc, path.as_str());
     }
     match fs::create(rt, path.as_str()) {
-        Ok(file) => run_to(rt, alloc, settings, &mut disk, file),
+        Ok(file) => run_to(threads, alloc, settings, &mut disk, file),
         Err(_) => cannot_write(alloc, path.as_str()),
     }
 }

@@ -197,7 +197,10 @@ pub fn job(alloc: Global, words: &[&str]) -> Result<Settings, Error>
     ensures ring { IfOk result (λ s. (1 ≤ s.ring) × (s.ring ≤ 65536)) }
     ensures fails { FailsBy (fault_of command_line (map (λ w. w.now) words.now)) result }
 {
-    let matches = command(alloc)?.try_get_matches_from(words)?;
+    let matches = match command(alloc)?.try_get_matches_from(words) {
+        Ok(matches) => matches,
+        Err(error) => return Err(error),
+    };
     match settings_in(alloc, &matches)? {
         Some(settings) => Ok(settings),
         // A parse that succeeds has every value, so this is never reached.

@@ -3,6 +3,7 @@ use Rattle.oim_meta.specs.Grid.{grid}
 use Rattle.oim_meta.specs.Parameters.{ParametersValue}
 use Rattle.oim_meta.specs.ParametersFile.{parameters_result}
 use Rattle.xbrl_json_cli.specs.Steps.{parameters_at, parameters_steps}
+use Rattle.xbrl_json_cli.specs.declared.outcome.Outcome.TheVariants as outcome
 use Rattle.xbrl_json_cli.specs.declared.outcome.Source.TheVariants as source
 use Rattle.xbrl_json_cli.proofs.StepFacts.{at_path, no_path, reads_fault, reads_none, reads_value}
 use Rattle.xbrl_json_cli.proofs.steps.parameters_of.Goals as goal
@@ -23,6 +24,6 @@ returns-in-Ok-read_parameters-clause-gives g c =
 
 pub returns-clause-gives : goal.returns-clause-gives
 returns-clause-gives g c =
-    at_path (g.F.Folder.files c.args.folder.now) c.args.base.now c.args.url.now c.as_str.result.now _ (search rules)
+    at_path (g.F.Folder.files c.args.folder.now) c.args.base.now c.args.url.now c.as_str.result.now (Err (outcome.Report source.Parameters c.in-Err-read_parameters.fault)) (search rules)
     (reads_fault g.R.Read.remaining c.in-Ok-opened.reader source.Parameters (λ bytes. parameters_result (grid bytes)) (g.F.Folder.files c.args.folder.now) c.as_str.result.now c.in-Err-read_parameters.fault
     c.in-Ok-opened.ensures.gives c.in-Err-read_parameters.ensures)
