@@ -1,7 +1,7 @@
 -- How a run ends, from how its conversion does.
-use Rattle.std.specs.Prelude.{◌≡◌, ◌⊎◌, ℕ, suc, List, [], ◌∷◌, ◌++◌, map, take, ◌+◌, ◌<◌, Option, Some, None, IfOk, IfSome, Result, Ok, Err, length, slice_index_or}
+use Rattle.std.specs.Prelude.{◌≡◌, ◌⊎◌, Bool, true, false, if◌then◌else◌, ℕ, suc, List, [], ◌∷◌, ◌++◌, map, take, ◌+◌, ◌<◌, Option, Some, None, IfOk, IfSome, Result, Ok, Err, length, slice_index_or}
 use Rattle.std.proofs.Common.{refl, sym, ap, subst, ◌∙◌, inl, inr}
-use Rattle.std.proofs.lemmas.List.{map_more}
+use Rattle.std.proofs.lemmas.List.{length-append, map_more}
 use Rattle.std.proofs.Math.ListN.{get_or-map}
 use Rattle.std.specs.Io.KnownBytes.{Keeps}
 use Rattle.oim_convert.specs.Answer.{streams}
@@ -18,12 +18,14 @@ use Rattle.oim_meta.specs.ReportValue.{ReportValue}
 use Rattle.oim_meta.specs.declared.data.Table.{Table}
 use Rattle.oim_meta.specs.declared.fault.MetaFault.{MetaFault}
 use Rattle.oim_rows.specs.Streams.{Stream}
-use Rattle.xbrl_json_cli.proofs.Threads.{answered, in_range, never_lost}
-use Rattle.xbrl_json_cli.specs.Conversion.{ConvertedTexts, Ends, SaysWith, Texts, profile}
+use Rattle.xbrl_json_cli.proofs.Threads.{answered, in_range, left, never_lost}
+use Rattle.xbrl_json_cli.proofs.StepFacts.{IsReport}
+use Rattle.oim_json.specs.declared.mark.Mark.TheVariants as «marks»
+use Rattle.xbrl_json_cli.specs.Conversion.{Buffered, ConvertedTexts, Ends, SaysWith, Texts, flushed, profile}
 use Rattle.xbrl_json_cli.specs.Folders.{Files, IsFolderOf}
-use Rattle.xbrl_json_cli.specs.Outcomes.{EndsAs, Unwritten, name_in, outcome_at, outcome_by, table_ids}
-use Rattle.xbrl_json_cli.specs.Runs.{EndsBy, EndsOver, range_fault, table_file, table_files}
-use Rattle.xbrl_json_cli.specs.Steps.{EndsEarly, Early, Gives, IsWant, report_at}
+use Rattle.xbrl_json_cli.specs.Outcomes.{EndsAs, Leaves, Unwritten, name_in, outcome_at, outcome_by, table_ids}
+use Rattle.xbrl_json_cli.specs.Runs.{EndsOver, range_fault, table_file, table_files}
+use Rattle.xbrl_json_cli.specs.Steps.{IsEarly, no_memory, report_at, steps}
 use Rattle.xbrl_json_cli.specs.declared.outcome.Outcome.{Outcome}
 use Rattle.xbrl_json_cli.specs.declared.outcome.Outcome.TheVariants as outcome
 use Rattle.xbrl_json_cli.specs.declared.outcome.Source.{Source}
@@ -138,33 +140,29 @@ one_more told (Some at) base path tables i rs rs' r l is more are opened =
     subst (λ xs. AreFilesOf told xs (map (table_file at base) (take (i + 1) tables))) (sym more)
     (subst (λ fs. AreFilesOf told (rs ++ r ∷ []) fs) (sym same) both)
 
+pub one_longer : {A : Type 0} (xs ys : List A) (x : A) (n : ℕ) → ys ≡ xs ++ x ∷ [] → length xs ≡ n → length ys ≡ n + 1
+one_longer xs ys x n more is = ap length more ∙ length-append xs (x ∷ []) ∙ ap (λ k. k + 1) is
+
 -- a run that stops before the conversion
-want_by : (files : Files) (base : List ℕ) (range : Option ConvertFault) (report : ReportValue) (sink : SinkView) (o : Outcome) → IsWant o → EndsBy files base range (Ok report) sink sink o
-want_by files base range report sink o want = inl (want, (refl, keeps_same sink.told))
-
-stop_by : (files : Files) (base : List ℕ) (range : Option ConvertFault) (step : Result ReportValue Early) (sink : SinkView) (o : Outcome) → Gives {X = ReportValue} (λ r. r) (Err o) step
-    → EndsBy files base range step sink sink o
-stop_by files base range (Ok report) sink o want = want_by files base range report sink o want
-stop_by files base range (Err e) sink o ends = (ends, (refl, keeps_same sink.told))
-
 pub stops : (known : Option Files) (base meta types : List ℕ) (workers ring : ℕ) (sink : SinkView) (o : Outcome) → IsFolderOf base meta
-    → IfSome known (λ files. Gives {X = ReportValue} (λ r. r) (Err o) (report_at files base meta types))
+    → IfSome known (λ files. IsReport files base meta types (Err o))
     → IfSome known (λ files. EndsOver files meta types workers ring sink sink o)
-stops None base meta types workers ring sink o folder gives = tt
-stops (Some files) base meta types workers ring sink o folder gives =
-    record { base = base; folder = folder; ends = stop_by files base (range_fault workers ring) (report_at files base meta types) sink o gives }
+stops None base meta types workers ring sink o folder stop = tt
+stops (Some files) base meta types workers ring sink o folder stop =
+    record { base = base; folder = folder; ends = inl (stop, (refl, keeps_same sink.told)) }
 
-pub wants : (known : Option Files) (base meta types : List ℕ) (workers ring : ℕ) (sink : SinkView) (o : Outcome) (report : ReportValue) → IsFolderOf base meta
-    → IfSome known (λ files. report_at files base meta types ≡ Ok report) → IsWant o
-    → IfSome known (λ files. EndsOver files meta types workers ring sink sink o)
-wants None base meta types workers ring sink o report folder is want = tt
-wants (Some files) base meta types workers ring sink o report folder is want =
-    let range = range_fault workers ring in
-    record { base = base; folder = folder; ends = subst (λ s. EndsBy files base range s sink sink o) (sym is) (want_by files base range report sink o want) }
+pub early_leaves : (range : Option ConvertFault) (sink : SinkView) (o : Outcome) → IsEarly o → Leaves range sink sink o
+early_leaves range sink outcome.Done early = absurd early
+early_leaves range sink (outcome.Report s f) early = (refl, keeps_same sink.told)
+early_leaves range sink (outcome.Table id f) early = absurd early
+early_leaves range sink (outcome.CannotRead path) early = (refl, keeps_same sink.told)
+early_leaves range sink (outcome.CannotWrite path) early = absurd early
+early_leaves range sink (outcome.Run f) early = inl (early, (refl, keeps_same sink.told))
+early_leaves range sink (outcome.Output w) early = absurd early
 
 -- a run whose tables are converted
 pub runs : {R : Type 0} (told : R → Option (List ℕ)) (known : Option Files) (base meta types : List ℕ) (workers ring : ℕ) (old new : SinkView) (o : Outcome) (report : ReportValue) (readers : List (Option R)) → IsFolderOf base meta
-    → IfSome known (λ files. report_at files base meta types ≡ Ok report)
+    → IfSome known (λ files. IsReport files base meta types (Ok report))
     → IfSome known (λ files. AreFilesOf told readers (table_files files base report))
     → ((files : List (Option (List ℕ))) → AreFilesOf told readers files
     → EndsAs (early_fault workers ring (length files) (length report.tables)) report (streams report profile.rows files) old new o)
@@ -175,6 +173,66 @@ runs told (Some files) base meta types workers ring old new o report readers fol
     record {
       base = base;
       folder = folder;
-      ends = subst (λ s. EndsBy files base (range_fault workers ring) s old new o) (sym is)
-          (inr (run_ends workers ring report tables old new o (length_map (table_file files base) report.tables) (converts tables are)));
+      ends = inr (record {
+        report = report;
+        passed = is.0;
+        given = is.1;
+        ends = run_ends workers ring report tables old new o (length_map (table_file files base) report.tables) (converts tables are);
+      });
     }
+
+-- a run that found no memory for the readers of its tables
+pub short : (known : Option Files) (base meta types : List ℕ) (workers ring : ℕ) (sink : SinkView) (o : Outcome) (report : ReportValue) → IsFolderOf base meta
+    → IfSome known (λ files. IsReport files base meta types (Ok report)) → o ≡ no_memory
+    → IfSome known (λ files. EndsOver files meta types workers ring sink sink o)
+short None base meta types workers ring sink o report folder is none = tt
+short (Some files) base meta types workers ring sink o report folder is none =
+    record {
+      base = base;
+      folder = folder;
+      ends = inr (record {
+        report = report;
+        passed = is.0;
+        given = is.1;
+        ends = subst (EndsAs (range_fault workers ring) report (streams report profile.rows (table_files files base report)) sink sink) (sym none)
+            (no_memory_ends (range_fault workers ring) report (streams report profile.rows (table_files files base report)) sink);
+      });
+    }
+
+-- what every outcome leaves
+pub converted_leaves : (workers ring readers : ℕ) (report : ReportValue) (old new : SinkView) (r : Result Run ConvertFault) (names : List (List ℕ)) (o : Outcome)
+    → o ≡ outcome_by (name_in names) r → AnswersFault (early_fault workers ring readers (length report.tables)) r
+    → Writes report (length report.tables) old.mark new.mark old.told new.told r
+    → Leaves (early_fault workers ring readers (length report.tables)) old new o
+converted_leaves workers ring readers report old new r names o is faults writes =
+    let early = early_fault workers ring readers (length report.tables) in
+    subst (Leaves early old new) (sym is) (left report (length report.tables) old new (name_in names) early r (never_lost workers ring readers (length report.tables)) faults writes)
+
+pub short_leaves : (range : Option ConvertFault) (sink : SinkView) (o : Outcome) → o ≡ no_memory → Leaves range sink sink o
+short_leaves range sink o none = subst (Leaves range sink sink) (sym none) (inl (refl, (refl, keeps_same sink.told)))
+
+pub run_leaves : (workers ring readers tables : ℕ) (old new : SinkView) (o : Outcome) → readers ≡ tables → Leaves (early_fault workers ring readers tables) old new o → Leaves (range_fault workers ring) old new o
+run_leaves workers ring readers tables old new o many = subst (λ early. Leaves early old new o) (in_range workers ring readers tables many)
+
+-- BEHIND A BUFFER
+
+flushed_or : (failed : Bool) (ended o : Outcome) → o ≡ (if failed then flushed ended else ended) → (o ≡ ended) ⊎ (o ≡ flushed ended)
+flushed_or true ended o is = inr is
+flushed_or false ended o is = inl is
+
+pub behind : (ends : SinkView → SinkView → Outcome → Type 0) (before after : SinkView) (ended o : Outcome) (failed : Bool)
+    → before.mark ≡ «marks».Fine → ends before after ended → o ≡ (if failed then flushed ended else ended) → Buffered ends o
+behind ends before after ended o failed fine run is =
+    inr (record { ended = ended; before = before; after = after; fine = fine; run = run; last = flushed_or failed ended o is })
+
+pub behind_told : (known : Option Files) (meta types : List ℕ) (workers ring : ℕ) (before after : SinkView) (ended o : Outcome) (failed : Bool) → before.mark ≡ «marks».Fine
+    → IfSome known (λ files. EndsOver files meta types workers ring before after ended) → o ≡ (if failed then flushed ended else ended)
+    → IfSome known (λ files. Buffered (EndsOver files meta types workers ring) o)
+behind_told None meta types workers ring before after ended o failed fine run is = tt
+behind_told (Some files) meta types workers ring before after ended o failed fine run is =
+    behind (EndsOver files meta types workers ring) before after ended o failed fine run is
+
+pub no_buffer : (known : Option Files) (meta types : List ℕ) (workers ring : ℕ) (o : Outcome) → o ≡ no_memory
+    → IfSome known (λ files. Buffered (EndsOver files meta types workers ring) o)
+no_buffer None meta types workers ring o is = tt
+no_buffer (Some files) meta types workers ring o is = inl is

@@ -1,5 +1,5 @@
 -- The definitions, executed on worked cases.
-use Rattle.std.proofs.Common.{◌≡◌, ◌++◌, ◌∷◌, [], ℕ, List, Option, Some, None, Err, false, codes, refl, if◌then◌else◌}
+use Rattle.std.proofs.Common.{◌≡◌, ◌++◌, ◌∷◌, [], ℕ, List, Option, Some, None, Err, false, codes, map, refl, take, if◌then◌else◌}
 use Rattle.std.specs.Str.{bytes_eq}
 use Rattle.clap.proofs.OnLiterals.{clap_on_literals}
 use Rattle.clap.specs.Words.{Row, Text, fault_of, first_of, matches_of, one_of}
@@ -10,6 +10,7 @@ use Rattle.oim_merge.specs.declared.progress.MergeEnd.TheVariants as end
 use Rattle.oim_meta.specs.Readers.{no_level}
 use Rattle.oim_meta.specs.ReportValue.{ReportValue}
 use Rattle.oim_meta.specs.declared.data.Table.{Table}
+use Rattle.oim_meta.specs.declared.fault.MetaFault.TheVariants as refused
 use Rattle.oim_rows.specs.Header.{fault_at}
 use Rattle.oim_rows.specs.declared.fault.TableKind.TheVariants as table
 use Rattle.xbrl_json_cli.specs.CommandLine.{command_line}
@@ -18,7 +19,8 @@ use Rattle.xbrl_json_cli.specs.Folders.{Files}
 use Rattle.xbrl_json_cli.specs.Lines.{status_of}
 use Rattle.xbrl_json_cli.specs.Outcomes.{name_in, outcome_at, table_ids}
 use Rattle.xbrl_json_cli.specs.Runs.{range_fault, table_files}
-use Rattle.xbrl_json_cli.specs.Steps.{missing, report_at}
+use Rattle.xbrl_json_cli.specs.Steps.{metadata_steps, no_memory, opening, parameters_steps, reading, step}
+use Rattle.xbrl_json_cli.specs.declared.outcome.Source.TheVariants as source
 use Rattle.xbrl_json_cli.specs.declared.outcome.Outcome.TheVariants as outcome
 
 -- ---- the command line
@@ -80,6 +82,14 @@ sixty_five_workers : fault_of command_line (codes "--workers" ∷ codes "65" ∷
 unfolding clap_on_literals command_line
 sixty_five_workers = refl
 
+help_wanted : fault_of command_line (codes "--help" ∷ []) ≡ kind.DisplayHelp ∷ []
+unfolding clap_on_literals command_line
+help_wanted = refl
+
+version_wanted : fault_of command_line (codes "--version" ∷ []) ≡ kind.DisplayVersion ∷ []
+unfolding clap_on_literals command_line
+version_wanted = refl
+
 another_word : fault_of command_line (codes "more.json" ∷ least) ≡ kind.UnknownArgument ∷ []
 unfolding clap_on_literals command_line
 another_word = refl
@@ -89,13 +99,27 @@ another_word = refl
 abbrev held : Files
 held path = if bytes_eq path (codes "f/m.json") then Some (codes "{")
     else if bytes_eq path (codes "f/t1.csv") then Some (codes "cash\n")
+    else if bytes_eq path (codes "f/types.csv") then Some (codes "name\n")
     else None
 
-no_metadata : report_at held (codes "f/") (codes "x.json") (codes "x.csv") ≡ Err (missing (codes "x.json"))
-no_metadata = refl
+missing_metadata : map (λ s. s.fault) (metadata_steps held (codes "x.json")) ≡ Some (outcome.CannotRead (codes "x.json")) ∷ None ∷ []
+missing_metadata = refl
 
-no_types : report_at held (codes "f/") (codes "f/m.json") (codes "x.csv") ≡ Err (missing (codes "x.csv"))
-no_types = refl
+missing_types : map (λ s. s.fault) (metadata_steps held (codes "f/m.json") ++ opening held (codes "x.csv") ∷ []) ≡ None ∷ None ∷ Some (outcome.CannotRead (codes "x.csv")) ∷ []
+missing_types = refl
+
+wrong_types : reading {A = ReportValue} source.Types (Err refused.BadTypes)
+    ≡ step (Some (outcome.Report source.Types refused.BadTypes)) (outcome.Report source.Types refused.Read ∷ outcome.Report source.Types refused.Memory ∷ [])
+wrong_types = refl
+
+no_parameters : parameters_steps held (codes "f/") None ≡ []
+no_parameters = refl
+
+missing_parameters : map (λ s. s.fault) (take 1 (parameters_steps held (codes "f/") (Some (codes "p.csv")))) ≡ Some (outcome.CannotRead (codes "f/p.csv")) ∷ []
+missing_parameters = refl
+
+unread_metadata : map (λ s. s.refusals) (metadata_steps held (codes "f/m.json")) ≡ (no_memory ∷ []) ∷ (outcome.Report source.Report refused.Read ∷ no_memory ∷ []) ∷ []
+unread_metadata = refl
 
 abbrev first : Table
 first = record { id = codes "t1"; url = codes "t1.csv"; is_optional = false; template = 0; parameters = [] }
@@ -144,6 +168,12 @@ second_table = refl
 
 failed_flush : flushed outcome.Done ≡ outcome.Output write.Failed
 failed_flush = refl
+
+failed_flush_of_a_table : flushed (outcome.Table (codes "t2") (fault_at 1 2 1 table.BadNumber)) ≡ outcome.Output write.Failed
+failed_flush_of_a_table = refl
+
+failed_flush_of_nothing : flushed (outcome.CannotRead (codes "x.json")) ≡ outcome.CannotRead (codes "x.json")
+failed_flush_of_nothing = refl
 
 status_of_a_table : status_of (outcome.Table (codes "t2") (fault_at 1 2 1 table.BadNumber)) ≡ 1
 status_of_a_table = refl

@@ -27,8 +27,9 @@ use Rattle.oim_rows.specs.Streams.{IsOutside, Stream}
 use Rattle.oim_rows.specs.declared.fault.TableFault.{TableFault}
 use Rattle.oim_rows.specs.declared.fault.TableKind.TheVariants as kind
 use Rattle.xbrl_json_cli.proofs.Histories.{Agrees, Cut, Unserved, agreed_text, cut_prefix, decoded_from, head_prefix, no_facts_text, refused_text, unserved}
-use Rattle.xbrl_json_cli.specs.Outcomes.{EndsAs, Refuses, outcome_at, outcome_by}
+use Rattle.xbrl_json_cli.specs.Outcomes.{EndsAs, Leaves, Refuses, Unwritten, outcome_at, outcome_by}
 use Rattle.xbrl_json_cli.specs.Runs.{range_fault}
+use Rattle.xbrl_json_cli.specs.declared.outcome.Outcome.{Outcome}
 use Rattle.xbrl_json_cli.specs.declared.outcome.Outcome.TheVariants as outcome
 
 -- THE FAULT THAT IS FOUND FIRST
@@ -172,3 +173,34 @@ module _ (report : ReportValue) (ss : List Stream) (old new : SinkView) where
   answered (Some f) (Err fault.WrongReaders) never histories faults writes = (inl (ap outcome.Run (err_same fault.WrongReaders f faults)), writes)
   answered (Some f) (Err (fault.Table e)) never histories faults writes = absurd writes
   answered (Some f) (Err (fault.Write w)) never histories faults writes = absurd writes
+
+-- WHAT IS LEFT BEHIND
+
+module _ (report : ReportValue) (tables : ℕ) (old new : SinkView) (name : ℕ → List ℕ) where
+  ended_leaves : (hs : List (List Item)) (e : MergeEnd) → Merges old.mark new.mark old.told new.told (document (head_text report) hs) hs e
+      → Leaves None old new (outcome_at name e)
+  ended_leaves hs end.Complete m = (refl, m.1)
+  ended_leaves hs (end.Refused f) m = (refl, m.1)
+  ended_leaves hs (end.Write w) m = (refl, m.0)
+
+  out_of_range : (f g : ConvertFault) → Same (Err g) (Err f) → Unwritten old new → Leaves (Some f) old new (outcome.Run g)
+  out_of_range f g is none = inr (inl (ap Some (sym (err_same g f is)), none))
+
+  pub left : (early : Option ConvertFault) (r : Result Run ConvertFault) → (early ≡ Some fault.Lost → ⊥) → AnswersFault early r
+      → Writes report tables old.mark new.mark old.told new.told r → Leaves early old new (outcome_by name r)
+  left None (Ok run) never faults writes = ended_leaves run.drains.items run.end writes.1
+  left None (Err fault.Memory) never faults writes = inl (refl, writes)
+  left None (Err fault.Lost) never faults writes = inr (inr (refl, refl))
+  left None (Err fault.BadWorkers) never faults writes = absurd faults
+  left None (Err fault.BadSize) never faults writes = absurd faults
+  left None (Err fault.WrongReaders) never faults writes = absurd faults
+  left None (Err (fault.Table e)) never faults writes = absurd faults
+  left None (Err (fault.Write w)) never faults writes = absurd faults
+  left (Some f) (Ok run) never faults writes = absurd (ok_no_err run f faults)
+  left (Some f) (Err fault.Memory) never faults writes = inl (refl, writes)
+  left (Some f) (Err fault.Lost) never faults writes = absurd (never (ap Some (sym (err_same fault.Lost f faults))))
+  left (Some f) (Err fault.BadWorkers) never faults writes = out_of_range f fault.BadWorkers faults writes
+  left (Some f) (Err fault.BadSize) never faults writes = out_of_range f fault.BadSize faults writes
+  left (Some f) (Err fault.WrongReaders) never faults writes = out_of_range f fault.WrongReaders faults writes
+  left (Some f) (Err (fault.Table e)) never faults writes = absurd writes
+  left (Some f) (Err (fault.Write w)) never faults writes = absurd writes

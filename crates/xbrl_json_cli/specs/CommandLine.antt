@@ -1,5 +1,5 @@
 -- The command line, and what its words ask for.
-use Rattle.std.specs.Prelude.{◌≡◌, ℕ, true, List, [], ◌∷◌, Option, Some, None, codes, option_map}
+use Rattle.std.specs.Prelude.{◌≡◌, ◌⊎◌, ℕ, true, List, [], ◌∷◌, Option, Some, None, codes, option_map}
 use Rattle.std.specs.Prelude.{string_bytes}
 use Rattle.std.specs.Str.Parse.{digits_value, without_leading_plus}
 use Rattle.clap.specs.Words.{App, Row, Rule, Text, first_of, new_app, new_rule, one_of, with_rule}
@@ -20,13 +20,13 @@ abbrev pub number_option : Text → ℕ → Text → Rule
 number_option id most default =
     record (option id) { parser = Some (Unsigned 1 most); defaults = default ∷ [] }
 
--- META --types FILE [--workers N] [--ring K] [--out FILE], without the program's name
+-- META --types FILE [--workers N] [--ring K] [--out FILE], without the program's name; or --help, or --version
 unfoldable pub command_line : App
 command_line = with_rule
     (with_rule
     (with_rule
     (with_rule
-    (with_rule (on_top (λ s. record s { no_binary_name = true }) (new_app (codes "xbrl-json")))
+    (with_rule (on_top (λ s. record s { no_binary_name = true; has_version = true }) (new_app (codes "xbrl-json")))
     (record (one_value (codes "meta")) { required = true }))
     (record (option (codes "types")) { required = true }))
     (number_option (codes "workers") 64 (codes "4")))
@@ -45,3 +45,7 @@ HasSettings rows s = (first_of (codes "meta") rows ≡ Some s.meta)
     × IsNumberOf (one_of (codes "workers") rows) s.workers
     × IsNumberOf (one_of (codes "ring") rows) s.ring
     × (first_of (codes "out") rows ≡ s.out)
+
+-- the path is one of those that the run reads by the settings alone
+abbrev pub IsInput : Settings → List ℕ → Type 0
+IsInput s path = (path ≡ s.meta) ⊎ (path ≡ s.types)

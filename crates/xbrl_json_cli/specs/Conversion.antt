@@ -1,6 +1,6 @@
 -- What becomes of a report whose files are given by their bytes.
 -- xBRL-CSV 1.0 (the metadata and the table files), xBRL-JSON 1.0 (the document).
-use Rattle.std.specs.Prelude.{◌≡◌, length, ℕ, List, [], Option, Result, Ok, Err}
+use Rattle.std.specs.Prelude.{◌≡◌, ◌⊎◌, length, ℕ, List, [], Option, Result, Ok, Err}
 use Rattle.oim_meta.specs.CsvFiles.{OrOutside}
 use Rattle.oim_meta.specs.Grid.{grid}
 use Rattle.oim_meta.specs.Reading.{SaysReport, IsFault}
@@ -9,6 +9,7 @@ use Rattle.oim_meta.specs.Types.{TypesValue}
 use Rattle.oim_meta.specs.TypesFile.{types_result}
 use Rattle.oim_meta.specs.declared.fault.MetaFault.{MetaFault}
 use Rattle.oim_meta.specs.declared.limits.Limits.{Limits}
+use Rattle.oim_json.specs.declared.mark.Mark.TheVariants as «marks»
 use Rattle.oim_json.specs.declared.mark.WriteFault.TheVariants as write
 use Rattle.oim_convert.specs.Answer.{streams}
 use Rattle.oim_convert.specs.Runs.{early_fault}
@@ -72,7 +73,20 @@ Ends given old new (outcome.Report source.Types f) = Unwritten old new × IsType
 Ends given old new (outcome.Run fault.Memory) = Unwritten old new
 Ends given old new o = ConvertedTexts given old new o
 
--- a flush that failed is a failed write
+-- a flush that failed is a failed write, where something was written before it
 abbrev pub flushed : Outcome → Outcome
 flushed outcome.Done = outcome.Output write.Failed
+flushed (outcome.Table id f) = outcome.Output write.Failed
 flushed o = o
+
+-- a run to a writer behind a buffer: memory ran out for the buffer, or the run ended so behind the buffer, which was flushed then
+pub record EndsBehind (ends : SinkView → SinkView → Outcome → Type 0) (o : Outcome) : Type 0 where
+  pub ended : Outcome
+  pub before : SinkView
+  pub after : SinkView
+  pub fine : before.mark ≡ «marks».Fine
+  pub run : ends before after ended
+  pub last : (o ≡ ended) ⊎ (o ≡ flushed ended)
+
+abbrev pub Buffered : (SinkView → SinkView → Outcome → Type 0) → Outcome → Type 0
+Buffered ends o = (o ≡ outcome.Run fault.Memory) ⊎ EndsBehind ends o

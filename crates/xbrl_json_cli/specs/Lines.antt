@@ -1,6 +1,8 @@
 -- What the program says of each outcome: its exit status, and its line on standard error.
 use Rattle.std.specs.Prelude.{ℕ, List, [], ◌∷◌, ◌++◌, codes}
 use Rattle.std.specs.Fmt.{decimal}
+use Rattle.clap.specs.declared.error.kind.ErrorKind.{ErrorKind}
+use Rattle.clap.specs.declared.error.kind.ErrorKind.TheVariants as kind
 use Rattle.oim_meta.specs.FaultNames.{fault_name, fault_number}
 use Rattle.oim_rows.specs.FaultNames as table_fault
 use Rattle.oim_convert.specs.FaultNames as convert_fault
@@ -18,6 +20,13 @@ status_of (outcome.CannotRead path) = 3
 status_of (outcome.CannotWrite path) = 3
 status_of (outcome.Run f) = 3
 status_of (outcome.Output f) = 3
+
+-- the status of words that the command line's definition refuses for this: help and the version are what was asked for
+abbrev pub words_status : ErrorKind → ℕ
+words_status kind.DisplayHelp = 0
+words_status kind.DisplayVersion = 0
+words_status kind.OutOfMemory = 3
+words_status _ = 2
 
 abbrev pub source_name : Source → List ℕ
 source_name source.Report = codes "report"

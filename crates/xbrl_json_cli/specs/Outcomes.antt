@@ -9,6 +9,7 @@ use Rattle.oim_convert.specs.declared.fault.ConvertFault.{ConvertFault}
 use Rattle.oim_convert.specs.declared.fault.ConvertFault.TheVariants as fault
 use Rattle.oim_convert.specs.declared.run.Run.{Run}
 use Rattle.oim_json.specs.JsonText.{head_text}
+use Rattle.oim_json.specs.Sinks.{mark_of}
 use Rattle.oim_merge.specs.declared.progress.MergeEnd.{MergeEnd}
 use Rattle.oim_merge.specs.declared.progress.MergeEnd.TheVariants as end
 use Rattle.oim_meta.specs.Readers.{table_of}
@@ -71,3 +72,19 @@ EndsAs None report ss old new (outcome.Table id e) = (id ≡ (table_of report e.
 EndsAs None report ss old new (outcome.Output w) = Converts report ss old.mark new.mark old.told new.told (Err (fault.Write w))
 EndsAs None report ss old new (outcome.Run f) = Breaks report old new f
 EndsAs None report ss old new o = ⊥
+
+-- a run that could not begin, or lost the end of a ring, whatever the readers: memory ran out or the settings are out of range,
+-- and nothing is written; or the end was lost, and the settings are in range
+abbrev pub LeavesRun : Option ConvertFault → SinkView → SinkView → ConvertFault → Type 0
+LeavesRun range old new f = ((f ≡ fault.Memory) × Unwritten old new) ⊎ ((range ≡ Some f) × Unwritten old new) ⊎ ((f ≡ fault.Lost) × (range ≡ None))
+
+-- what an outcome leaves behind, whatever the files and their readers: nothing is written where a file is at fault; the sink
+-- has the mark of a failed write exactly where the outcome says so; a conversion began only with settings in range
+abbrev pub Leaves : Option ConvertFault → SinkView → SinkView → Outcome → Type 0
+Leaves range old new outcome.Done = (range ≡ None) × (new.mark ≡ old.mark)
+Leaves range old new (outcome.Report s f) = Unwritten old new
+Leaves range old new (outcome.Table id f) = (range ≡ None) × (new.mark ≡ old.mark)
+Leaves range old new (outcome.CannotRead path) = Unwritten old new
+Leaves range old new (outcome.CannotWrite path) = ⊥
+Leaves range old new (outcome.Run f) = LeavesRun range old new f
+Leaves range old new (outcome.Output w) = (range ≡ None) × (new.mark ≡ mark_of w)

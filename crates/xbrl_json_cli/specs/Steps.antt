@@ -1,6 +1,6 @@
--- The steps of a run before its tables are read: the report that the files of a folder give, or the first fault.
+-- The steps of a run before its tables are read, in order, and the report that the files of a folder give.
 -- xBRL-CSV 1.0 (the metadata, the parameters file).
-use Rattle.std.specs.Prelude.{⊤, ◌≡◌, ◌⊎◌, ℕ, List, [], ◌++◌, Option, Some, None, Result, Ok, Err}
+use Rattle.std.specs.Prelude.{⊤, ◌≡◌, ◌⊎◌, ℕ, List, [], ◌∷◌, ◌++◌, Option, Some, None, Result, Ok, Err, unwrap_or}
 use Rattle.oim_convert.specs.declared.fault.ConvertFault.{ConvertFault}
 use Rattle.oim_convert.specs.declared.fault.ConvertFault.TheVariants as fault
 use Rattle.oim_meta.specs.Grid.{grid}
@@ -10,7 +10,7 @@ use Rattle.oim_meta.specs.ReportValue.{ReportValue}
 use Rattle.oim_meta.specs.Types.{TypesValue}
 use Rattle.oim_meta.specs.TypesFile.{types_result}
 use Rattle.oim_meta.specs.declared.fault.MetaFault.{MetaFault}
-use Rattle.oim_meta.specs.declared.fault.MetaFault.TheVariants as meta
+use Rattle.oim_meta.specs.declared.fault.MetaFault.TheVariants as refused
 use Rattle.xbrl_json_cli.specs.Conversion.{profile}
 use Rattle.xbrl_json_cli.specs.Folders.{Files}
 use Rattle.xbrl_json_cli.specs.Metadata.{report_result, url_result}
@@ -19,73 +19,119 @@ use Rattle.xbrl_json_cli.specs.declared.outcome.Outcome.TheVariants as outcome
 use Rattle.xbrl_json_cli.specs.declared.outcome.Source.{Source}
 use Rattle.xbrl_json_cli.specs.declared.outcome.Source.TheVariants as source
 
--- a fault that stands before the conversion: a file that is not there, or one that is wrong
-pub data Early : Type 0 where
-  missing : List ℕ → Early
-  wrong : Source → MetaFault → Early
-
--- the next step, where there is no fault yet
-abbrev pub and_then : {A B : Type 0} → Result A Early → (A → Result B Early) → Result B Early
-and_then (Ok a) next = next a
-and_then (Err e) next = Err e
+-- ---- what the files say
 
 -- the bytes of the file at a path
-abbrev pub there : List ℕ → Option (List ℕ) → Result (List ℕ) Early
-there path None = Err (missing path)
-there path (Some bytes) = Ok bytes
+abbrev pub bytes_at : Files → List ℕ → List ℕ
+bytes_at files path = unwrap_or (files path) []
 
-abbrev pub read_at : Files → List ℕ → Result (List ℕ) Early
-read_at files path = there path (files path)
+-- the value that a file is read as, empty where it has a fault
+abbrev pub value_or : {A : Type 0} → A → Result A MetaFault → A
+value_or empty (Ok a) = a
+value_or empty (Err f) = empty
 
--- what a file is read as
-abbrev pub in_file : {A : Type 0} → Source → Result A MetaFault → Result A Early
-in_file s (Ok a) = Ok a
-in_file s (Err f) = Err (wrong s f)
+-- the types table
+abbrev pub types_at : Files → List ℕ → Result TypesValue MetaFault
+types_at files types = types_result (grid (bytes_at files types))
 
-abbrev pub types_at : Files → List ℕ → Result TypesValue Early
-types_at files path = and_then (read_at files path) (λ bytes. in_file source.Types (types_result (grid bytes)))
-
-abbrev pub parameters_read : Files → List ℕ → Result ParametersValue Early
-parameters_read files path = and_then (read_at files path) (λ bytes. in_file source.Parameters (parameters_result (grid bytes)))
+-- the name of the parameters file, if the metadata has one
+abbrev pub url_at : Files → List ℕ → Result (Option (List ℕ)) MetaFault
+url_at files meta = url_result profile (bytes_at files meta)
 
 -- the parameters, none where no file is named
-abbrev pub parameters_at : Files → List ℕ → Option (List ℕ) → Result ParametersValue Early
+abbrev pub parameters_at : Files → List ℕ → Option (List ℕ) → Result ParametersValue MetaFault
 parameters_at files base None = Ok []
-parameters_at files base (Some url) = parameters_read files (base ++ url)
+parameters_at files base (Some url) = parameters_result (grid (bytes_at files (base ++ url)))
 
--- the report of the files, or the first fault in the order of the steps: the metadata is read, then the types table, then the
--- name of the parameters file is looked up and that file read, and last the metadata is read as a report
-abbrev pub report_at : Files → (base meta types : List ℕ) → Result ReportValue Early
-report_at files base meta types =
-    and_then (read_at files meta) (λ metadata.
-    and_then (types_at files types) (λ known.
-    and_then (in_file source.Report (url_result profile metadata)) (λ url.
-    and_then (parameters_at files base url) (λ parameters.
-    in_file source.Report (report_result profile parameters known metadata)))))
+abbrev pub parameters_of : Files → (base meta : List ℕ) → ParametersValue
+parameters_of files base meta = value_or [] (parameters_at files base (value_or None (url_at files meta)))
 
--- a fault that no file has: want of memory, or a reader that failed
-abbrev pub IsRefusal : MetaFault → Type 0
-IsRefusal meta.Memory = ⊤
-IsRefusal meta.Read = ⊤
-IsRefusal f = ⊥
+-- the report
+abbrev pub report_at : Files → (base meta types : List ℕ) → Result ReportValue MetaFault
+report_at files base meta types = report_result profile (parameters_of files base meta) (value_or [] (types_at files types)) (bytes_at files meta)
 
-abbrev pub IsNoMemory : ConvertFault → Type 0
-IsNoMemory fault.Memory = ⊤
-IsNoMemory f = ⊥
+-- ---- the steps
 
--- a run that wanted memory, or whose reader failed
-abbrev pub IsWant : Outcome → Type 0
-IsWant (outcome.Report s f) = IsRefusal f
-IsWant (outcome.Run f) = IsNoMemory f
-IsWant o = ⊥
+-- a step: the outcome that names the fault of the files there, if they have it; and the outcomes that may come in its place
+-- whatever the files hold, since a read may fail and memory may run out
+pub record Step : Type 0 where
+  pub fault : Option Outcome
+  pub refusals : List Outcome
 
--- the outcome that names an early fault
-abbrev pub EndsEarly : Early → Outcome → Type 0
-EndsEarly (missing path) o = o ≡ outcome.CannotRead path
-EndsEarly (wrong s f) o = o ≡ outcome.Report s f
+abbrev pub step : Option Outcome → List Outcome → Step
+step fault refusals = record { fault = fault; refusals = refusals }
 
--- a step that was taken gave what the files say, or ended with the fault that they have; want of memory and readers apart
-abbrev pub Gives : {X Y : Type 0} → (X → Y) → Result X Outcome → Result Y Early → Type 0
-Gives view (Ok x) step = step ≡ Ok (view x)
-Gives view (Err o) (Ok y) = IsWant o
-Gives view (Err o) (Err e) = EndsEarly e o ⊎ IsWant o
+abbrev pub no_memory : Outcome
+no_memory = outcome.Run fault.Memory
+
+-- there is no file
+abbrev pub missing : List ℕ → Option (List ℕ) → Option Outcome
+missing path None = Some (outcome.CannotRead path)
+missing path (Some bytes) = None
+
+-- the file of this source is wrong
+abbrev pub wrong : {A : Type 0} → Source → Result A MetaFault → Option Outcome
+wrong s (Ok a) = None
+wrong s (Err f) = Some (outcome.Report s f)
+
+abbrev pub opening : Files → List ℕ → Step
+opening files path = step (missing path (files path)) (no_memory ∷ [])
+
+abbrev pub reading : {A : Type 0} → Source → Result A MetaFault → Step
+reading s answer = step (wrong s answer) (outcome.Report s refused.Read ∷ outcome.Report s refused.Memory ∷ [])
+
+-- what was read of the metadata is looked at, and no file is read
+abbrev pub looking : {A : Type 0} → Result A MetaFault → Step
+looking answer = step (wrong source.Report answer) (outcome.Report source.Report refused.Memory ∷ [])
+
+abbrev pub metadata_steps : Files → List ℕ → List Step
+metadata_steps files meta = opening files meta ∷ step None (outcome.Report source.Report refused.Read ∷ no_memory ∷ []) ∷ []
+
+abbrev pub types_steps : Files → List ℕ → List Step
+types_steps files types = opening files types ∷ reading source.Types (types_at files types) ∷ []
+
+abbrev pub parameters_steps : Files → List ℕ → Option (List ℕ) → List Step
+parameters_steps files base None = []
+parameters_steps files base (Some url) = opening files (base ++ url) ∷ reading source.Parameters (parameters_at files base (Some url)) ∷ []
+
+-- the metadata is read, then the types table, then the name of the parameters file is looked up and that file read, and last
+-- the metadata is looked at as a report
+abbrev pub steps : Files → (base meta types : List ℕ) → List Step
+steps files base meta types =
+    metadata_steps files meta
+    ++ (types_steps files types
+    ++ (looking (url_at files meta) ∷ []
+    ++ (parameters_steps files base (value_or None (url_at files meta))
+    ++ looking (report_at files base meta types) ∷ [])))
+
+-- ---- how they are taken
+
+abbrev pub IsAmong : Outcome → List Outcome → Type 0
+IsAmong o [] = ⊥
+IsAmong o (x ∷ xs) = (o ≡ x) ⊎ IsAmong o xs
+
+-- none of the steps has a fault
+abbrev pub Passes : List Step → Type 0
+Passes [] = ⊤
+Passes (s ∷ later) = (s.fault ≡ None) × Passes later
+
+-- the run ends at a step with none before it that has a fault: by the fault there, or refused
+pub record Stops (steps : List Step) (o : Outcome) : Type 0 where
+  pub before : List Step
+  pub here : Step
+  pub later : List Step
+  pub split : steps ≡ before ++ here ∷ later
+  pub passed : Passes before
+  pub ends : (here.fault ≡ Some o) ⊎ IsAmong o here.refusals
+
+-- all steps were taken and the value is right, or the run ends at one of them
+abbrev pub Takes : {X : Type 0} → List Step → (X → Type 0) → Result X Outcome → Type 0
+Takes steps right (Ok x) = Passes steps × right x
+Takes steps right (Err o) = Stops steps o
+
+-- the outcomes of a run that ends at a step, whatever the folder
+abbrev pub IsEarly : Outcome → Type 0
+IsEarly (outcome.Report s f) = ⊤
+IsEarly (outcome.CannotRead path) = ⊤
+IsEarly (outcome.Run f) = f ≡ fault.Memory
+IsEarly o = ⊥

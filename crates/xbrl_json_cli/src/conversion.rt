@@ -6,8 +6,8 @@ ghost use Rattle.oim_convert.specs.Answer.{streams};
 ghost use Rattle.oim_convert.specs.Files.{AreFilesOf};
 ghost use Rattle.oim_convert.specs.Runs.{early_fault};
 ghost use Rattle.oim_convert.specs.Steps.{sink_at};
-ghost use Rattle.xbrl_json_cli.specs.Conversion.{Ends, Reads, flushed, profile, texts};
-ghost use Rattle.xbrl_json_cli.specs.Outcomes.{EndsAs, name_in, outcome_by, table_ids};
+ghost use Rattle.xbrl_json_cli.specs.Conversion.{Buffered, Ends, Reads, flushed, profile, texts};
+ghost use Rattle.xbrl_json_cli.specs.Outcomes.{EndsAs, Leaves, name_in, outcome_by, table_ids};
 
 use crate::held::{METADATA, TABLE, TYPES};
 use crate::outcome::{Outcome, Source};
@@ -83,8 +83,8 @@ fn ending(alloc: Global, names: Vec<Text>, answer: Result<Run, ConvertFault>) ->
 /// Converts a report, given a reader of the file of each table, in table order, where `None` is a
 /// table without a file, by so many workers, over rings of this size. Writes its document in
 /// xBRL-JSON 1.0 to the sink, and answers how the conversion ended, which is the same for every
-/// number of workers, ring size and schedule, want of memory and of threads and failed readers
-/// apart. The names that an outcome needs are made first. `limits.rows` is at most 4,294,967,294.
+/// number of workers, ring size and schedule, apart from failed reads and running out of memory or
+/// threads. The names that an outcome needs are made first. `limits.rows` is at most 4,294,967,294.
 /// It waits for its workers.
 pub fn convert_report<R: Read + Drop + Send, T: Threads + Wait + Sync, W: Sink>(
     rt: &T,
@@ -97,9 +97,10 @@ pub fn convert_report<R: Read + Drop + Send, T: Threads + Wait + Sync, W: Sink>(
     sink: &mut W,
 ) -> Outcome
     requires { limits.rows ≤ 4294967294 }
-    ensures { (files : List (Option (List ℕ))) → AreFilesOf R.remaining readers.items files
+    ensures ends { (files : List (Option (List ℕ))) → AreFilesOf R.remaining readers.items files
         → EndsAs (early_fault workers ring (length files) (length report.now.tables)) report.now (streams report.now limits.rows files)
         (sink_at (W.mark sink.old) (W.told sink.old)) (sink_at (W.mark sink.new) (W.told sink.new)) result }
+    ensures leaves { Leaves (early_fault workers ring (length readers.items) (length report.now.tables)) (sink_at (W.mark sink.old) (W.told sink.old)) (sink_at (W.mark sink.new) (W.told sink.new)) result }
 {
     let Ok(names) = names_of(alloc, report) else {
         return Outcome::Run(ConvertFault::Memory);
@@ -161,13 +162,13 @@ pub fn convert_held<T: Threads + Wait + Sync, W: Sink>(
     )
 }
 
-/// The outcome once what is written was flushed, where it could be. A flush that fails after a
-/// whole document is a failed write.
+/// The outcome after the flush of what was written. A flush that fails is a failed write, after a
+/// whole document and after the unfinished document of a refused table.
 pub fn after_flush(outcome: Outcome, flush: io::Result<()>) -> Outcome
     ensures { result ≡ (if is_err flush then flushed outcome else outcome) }
 {
     match (outcome, flush) {
-        (Outcome::Done, Err(_)) => Outcome::Output(WriteFault::Failed),
+        (Outcome::Done | Outcome::Table(_, _), Err(_)) => Outcome::Output(WriteFault::Failed),
         (outcome, _) => outcome,
     }
 }
@@ -177,7 +178,9 @@ pub fn convert_to<T: Threads + Wait + Sync, W: Write + Drop>(
     rt: &T,
     alloc: Global,
     to: W,
-) -> Outcome {
+) -> Outcome
+    ensures { Buffered (Ends (texts 1 1 profile METADATA.now TYPES.now (Some TABLE.now ∷ []))) result }
+{
     let Ok(mut buffered) = BufWriter::with_capacity(alloc, 65536, to) else {
         return Outcome::Run(ConvertFault::Memory);
     };

@@ -6,7 +6,8 @@
 //!
 //! What the crate promises:
 //! - `job` that is Ok has the values that the words give, and the defaults for those that they
-//!   leave out; workers are 1 to 64, a ring's size 1 to 65,536;
+//!   leave out; workers are 1 to 64, a ring's size 1 to 65,536; and it fails for exactly the words
+//!   that the command line's definition refuses, apart from running out of memory;
 //! - `run`, over any folder that tells its bytes honestly, ends as the folder's files say: by the
 //!   first fault of the metadata, the types table and the parameters file, in the order in which
 //!   they are read, and then nothing is written; else as the conversion of the report that they
@@ -15,11 +16,15 @@
 //! - `convert_texts` says the same of a report whose files are given by their bytes, and
 //!   `convert_held` of the held texts;
 //! - `status` and `line` are the exit status and the line on standard error of each outcome, and a
-//!   flush that fails after a whole document is a failed write.
+//!   flush that fails after a document, whole or unfinished, is a failed write.
 //!
 //! What the system's files hold, what its output takes, and what it says of the arguments, is not
 //! claimed.
 #![tactic(auto)]
+
+ghost use Rattle.std.specs.Prelude.{◌≡◌};
+ghost use Rattle.clap.specs.Values.{kind_of};
+ghost use Rattle.xbrl_json_cli.specs.Lines.{status_of, words_status};
 
 mod conversion;
 mod folder;
@@ -56,49 +61,52 @@ use outcome::Outcome;
 use output::convert_as;
 use std::alloc::Global;
 use std::io;
-use std::io::{ErrorKind, Read, Write};
+use std::io::ErrorKind;
 use std::process::ExitCode;
-use std::rt::{Env, Files};
 use std::sync::Wait;
 use std::thread::Threads;
 
 /// The status of an outcome, whose line is printed. What cannot be printed is left out.
-fn told<H: Eprint>(rt: &H, alloc: Global, outcome: &Outcome) -> u8 {
+fn told<H: Eprint>(rt: &H, alloc: Global, outcome: &Outcome) -> u8
+    ensures { result ≡ status_of outcome.now }
+{
     if let Ok(line) = outcome::line(alloc, outcome) {
         let _ = rt.eprint(line.as_str());
     }
     outcome::status(outcome)
 }
 
-/// The status of a command line that is not understood, or asks for help.
-fn explained<H: Print + Eprint>(rt: &H, error: &clap::Error) -> u8 {
+/// The status of words that are not understood, or that ask for help or the version, with what is
+/// to be said printed.
+fn explained<H: Print + Eprint>(rt: &H, error: &clap::Error) -> u8
+    ensures { result ≡ words_status (kind_of error.now) }
+{
     let _ = error.print(rt);
-    if error.use_stderr() { 2 } else { 0 }
+    match error.kind() {
+        clap::error::ErrorKind::DisplayHelp | clap::error::ErrorKind::DisplayVersion => 0,
+        clap::error::ErrorKind::OutOfMemory => 3,
+        _ => 2,
+    }
 }
 
 /// The status of a run with these words, without the program's name.
-fn started<H: Files + Print + Eprint + Threads + Wait + Sync>(
-    rt: &H,
+fn started<T: Threads + Wait + Sync>(
+    rt: &HostRuntime,
+    threads: &T,
     alloc: Global,
     words: &[&str],
-) -> u8
-where
-    H::File: Read + Write + Drop + Send,
-{
+) -> u8 {
     if words.is_empty() {
-        return told(rt, alloc, &convert_to(rt, alloc, io::writer(rt)));
+        return told(rt, alloc, &convert_to(threads, alloc, io::writer(rt)));
     }
     match settings::job(alloc, words) {
-        Ok(settings) => told(rt, alloc, &convert_as(rt, alloc, &settings)),
+        Ok(settings) => told(rt, alloc, &convert_as(rt, threads, alloc, &settings)),
         Err(error) => explained(rt, &error),
     }
 }
 
 /// The status of a run with these arguments, the program's name among them.
-fn program<H: Files + Env + Print + Eprint + AllocGlobal + Threads + Wait + Sync>(rt: &H) -> u8
-where
-    H::File: Read + Write + Drop + Send,
-{
+fn program<T: Threads + Wait + Sync>(rt: &HostRuntime, threads: &T) -> u8 {
     let alloc = rt.alloc();
     let no_memory = Outcome::Run(ConvertFault::Memory);
     let args = match std::env::args(rt) {
@@ -116,11 +124,11 @@ where
     };
     let words = args.iter().map(|word| word.as_str());
     match words.collect::<Vec<&str>>(alloc) {
-        Ok(words) => started(rt, alloc, words.as_slice()),
+        Ok(words) => started(rt, threads, alloc, words.as_slice()),
         Err(_) => told(rt, alloc, &no_memory),
     }
 }
 
 fn main(rt: HostRuntime) -> ExitCode {
-    ExitCode::from(program(&rt))
+    ExitCode::from(program(&rt, &rt))
 }

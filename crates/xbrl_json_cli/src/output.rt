@@ -1,7 +1,14 @@
-//! A run over the system's files, to a file or to standard output.
+//! Where a run's document goes: to a file or to standard output, behind a buffer.
+
+ghost use Rattle.std.specs.Prelude.{◌≡◌, ◌⊎◌, IfSome};
+ghost use Rattle.xbrl_json_cli.specs.CommandLine.{IsInput};
+ghost use Rattle.xbrl_json_cli.specs.Conversion.{Buffered};
+ghost use Rattle.xbrl_json_cli.specs.Runs.{EndsOver};
+ghost use Rattle.xbrl_json_cli.specs.Steps as spec;
+ghost use Rattle.xbrl_json_cli.specs.declared.outcome.Outcome.TheVariants as outcome;
 
 use crate::conversion::after_flush;
-use crate::folder::Disk;
+use crate::folder::{Disk, Folder};
 use crate::outcome::Outcome;
 use crate::running::run;
 use crate::settings::Settings;
@@ -10,52 +17,59 @@ use oim_json::Marked;
 use oim_names::Text;
 use std::alloc::Global;
 use std::io::{BufWriter, Read, Write};
-use std::rt::Files;
 use std::sync::Wait;
 use std::thread::Threads;
 use std::{fs, io};
 
-/// Runs over the system's files to a writer, and flushes it.
-fn run_to<H: Files + Threads + Wait + Sync, W: Write + Drop>(
-    rt: &H,
+/// Runs over the files of a folder to a writer, and flushes it.
+pub fn run_to<R: Read + Drop + Send, F: Folder<R>, T: Threads + Wait + Sync, W: Write + Drop>(
+    rt: &T,
     alloc: Global,
     settings: &Settings,
+    folder: &mut F,
     to: W,
 ) -> Outcome
-where
-    H::File: Read + Drop + Send,
+    ensures { IfSome (F.files folder.old) (λ files.
+        Buffered (EndsOver files settings.now.meta settings.now.types settings.now.workers settings.now.ring) result) }
 {
     let Ok(mut buffered) = BufWriter::with_capacity(alloc, 65536, to) else {
         return no_memory();
     };
-    let outcome = run(
-        rt,
-        alloc,
-        settings,
-        &mut Disk { rt },
-        &mut Marked::new(&mut buffered),
-    );
+    let outcome = run(rt, alloc, settings, folder, &mut Marked::new(&mut buffered));
     after_flush(outcome, buffered.flush())
 }
 
+/// The outcome of a run whose document cannot go to the file at this path.
+fn cannot_write(alloc: Global, path: &str) -> Outcome
+    ensures { (result ≡ outcome.CannotWrite path.now) ⊎ (result ≡ spec.no_memory) }
+{
+    match Text::from_str(alloc, path) {
+        Ok(path) => Outcome::CannotWrite(path),
+        Err(_) => no_memory(),
+    }
+}
+
 /// Runs over the system's files, to the file of `settings.out`, which is made or cut to nothing
-/// before anything is read, or to standard output.
-pub fn convert_as<H: Files + Print + Threads + Wait + Sync>(
-    rt: &H,
+/// before anything is read, or to standard output. Where `settings.out` is the path of the metadata
+/// or of the types table it cannot be written, and nothing is touched. The threads are taken apart
+/// from the system's other parts.
+pub fn convert_as<T: Threads + Wait + Sync>(
+    rt: &HostRuntime,
+    threads: &T,
     alloc: Global,
     settings: &Settings,
 ) -> Outcome
-where
-    H::File: Read + Write + Drop + Send,
+    ensures { IfSome settings.now.out (λ path. IsInput settings.now path → (result ≡ outcome.CannotWrite path) ⊎ (result ≡ spec.no_memory)) }
 {
+    let mut disk = Disk { rt };
     let Some(path) = &settings.out else {
-        return run_to(rt, alloc, settings, io::writer(rt));
+        return run_to(threads, alloc, settings, &mut disk, io::writer(rt));
     };
+    if settings.reads(path.as_str()) {
+        return cannot_write(alloc, path.as_str());
+    }
     match fs::create(rt, path.as_str()) {
-        Ok(file) => run_to(rt, alloc, settings, file),
-        Err(_) => match Text::from_str(alloc, path.as_str()) {
-            Ok(path) => Outcome::CannotWrite(path),
-            Err(_) => no_memory(),
-        },
+        Ok(file) => run_to(threads, alloc, settings, &mut disk, file),
+        Err(_) => cannot_write(alloc, path.as_str()),
     }
 }

@@ -1,10 +1,11 @@
 //! A run: the files of a folder to a document.
 
-ghost use Rattle.std.specs.Prelude.{◌≡◌, IfSome, IfErr, IfOk};
+ghost use Rattle.std.specs.Prelude.{◌≡◌, IfSome, IfErr, IfOk, length};
 ghost use Rattle.oim_convert.specs.Files.{AreFilesOf};
 ghost use Rattle.oim_convert.specs.Steps.{sink_at};
-ghost use Rattle.xbrl_json_cli.specs.Runs.{EndsOver, table_files};
-ghost use Rattle.xbrl_json_cli.specs.Steps.{IsWant};
+ghost use Rattle.xbrl_json_cli.specs.Outcomes.{Leaves};
+ghost use Rattle.xbrl_json_cli.specs.Runs.{EndsOver, range_fault, table_files};
+ghost use Rattle.xbrl_json_cli.specs.Steps as spec;
 
 use crate::conversion::convert_report;
 use crate::folder::{Folder, folder_of};
@@ -18,22 +19,24 @@ use std::io::Read;
 use std::sync::Wait;
 use std::thread::Threads;
 
-/// A reader of each table's file, in table order; a file that is not there is `None`.
-fn open_tables<R: Read + Drop, F: Folder<R>>(
+/// A reader of each table's file, in table order, which opens it no sooner than it is read. A file
+/// that is not there is `None`.
+fn find_tables<R: Read + Drop, F: Folder<R>>(
     alloc: Global,
     folder: &mut F,
     base: &str,
     report: &Report,
 ) -> Result<Vec<Option<R>>, Outcome>
-    ensures opens { IfSome (F.files folder.old) (λ files. IfOk result (λ readers. AreFilesOf R.remaining readers.items (table_files files base.now report.now))) }
-    ensures wants { IfErr result (λ o. IsWant o) }
+    ensures finds { IfSome (F.files folder.old) (λ files. IfOk result (λ readers. AreFilesOf R.remaining readers.items (table_files files base.now report.now))) }
+    ensures count { IfOk result (λ readers. length readers.items ≡ length report.now.tables) }
+    ensures short { IfErr result (λ o. o ≡ spec.no_memory) }
 {
     let mut readers = Vec::new(alloc);
     for table in 0..report.tables() {
         let Ok(path) = path_in(alloc, base, report.table_url(table)) else {
             return Err(no_memory());
         };
-        let reader = folder.open(path.as_str());
+        let reader = folder.find(path);
         if readers.push(reader).is_err() {
             return Err(no_memory());
         }
@@ -47,13 +50,15 @@ fn open_tables<R: Read + Drop, F: Folder<R>>(
 /// run ended: the first fault of the metadata, the types table and the parameters file, in the
 /// order in which they are read, with nothing written; else as the conversion of the tables ends,
 /// by `settings.workers` workers over rings of the size `settings.ring`. A table's file that is not
-/// there is a missing file and no other fault.
+/// there is a missing file and no other fault. It is opened once a worker has drawn the table; where
+/// that is refused, the table's read fails.
 ///
 /// Done says that exactly the document of the files' bytes is written, Table that its first refused
 /// table was refused and the unfinished document is written, at every number of workers, ring size
-/// and schedule; want of memory, want of threads and failed readers show as Memory, NoThread and
-/// Read. Run has BadWorkers exactly where no early fault and no want of memory came before and the
-/// workers are not 1 to 64, BadSize where they are and the ring's size is not 1 to 65,536; Lost
+/// and schedule. Running out of memory or threads and failed reads show as Memory, NoThread and
+/// Read, a failed read of the metadata, the types table or the parameters file as Report with its
+/// source. Run has BadWorkers exactly where no early fault came before, memory did not run out, and
+/// the workers are not 1 to 64, BadSize where they are and the ring's size is not 1 to 65,536; Lost
 /// where the token of a ring was lost, after all was written. It waits for its workers.
 pub fn run<R: Read + Drop + Send, F: Folder<R>, T: Threads + Wait + Sync, W: Sink>(
     rt: &T,
@@ -62,8 +67,12 @@ pub fn run<R: Read + Drop + Send, F: Folder<R>, T: Threads + Wait + Sync, W: Sin
     folder: &mut F,
     sink: &mut W,
 ) -> Outcome
-    ensures { IfSome (F.files folder.old) (λ files.
+    // Of a folder that tells its files: how the run ends.
+    ensures ends { IfSome (F.files folder.old) (λ files.
         EndsOver files settings.now.meta settings.now.types settings.now.workers settings.now.ring (sink_at (W.mark sink.old) (W.told sink.old)) (sink_at (W.mark sink.new) (W.told sink.new)) result) }
+
+    // Of every folder: what each outcome leaves behind.
+    ensures leaves { Leaves (range_fault settings.now.workers settings.now.ring) (sink_at (W.mark sink.old) (W.told sink.old)) (sink_at (W.mark sink.new) (W.told sink.new)) result }
 {
     let meta = settings.meta.as_str();
     let types = settings.types.as_str();
@@ -72,7 +81,7 @@ pub fn run<R: Read + Drop + Send, F: Folder<R>, T: Threads + Wait + Sync, W: Sin
         Ok(report) => report,
         Err(outcome) => return outcome,
     };
-    let readers = match open_tables(alloc, folder, base, &report) {
+    let readers = match find_tables(alloc, folder, base, &report) {
         Ok(readers) => readers,
         Err(outcome) => return outcome,
     };

@@ -1,12 +1,12 @@
 //! What the command line asks for.
 
-ghost use Rattle.std.specs.Prelude.{◌≡◌, ◌≤◌, IfOk, IfSome, false, map, option_map};
-ghost use Rattle.clap.specs.Words.{app_of, first_of, found_of, matches_of, one_of, rows_of, rule_of};
+ghost use Rattle.std.specs.Prelude.{◌≡◌, ◌≤◌, ◌↔◌, IfOk, IfSome, IsTrue, false, map, option_map};
+ghost use Rattle.clap.specs.Kinds.{FailsBy};
+ghost use Rattle.clap.specs.Words.{app_of, fault_of, first_of, found_of, matches_of, one_of, rows_of, rule_of};
 ghost use Rattle.xbrl_json_cli.specs.CommandLine as spec;
-ghost use Rattle.xbrl_json_cli.specs.CommandLine.{HasSettings, IsNumberOf, command_line};
+ghost use Rattle.xbrl_json_cli.specs.CommandLine.{HasSettings, IsInput, IsNumberOf, command_line};
 
 use clap::builder::ValueParser;
-use clap::error::ErrorKind;
 use clap::{Arg, ArgAction, ArgMatches, Command, Error};
 use oim_names::Text;
 use std::alloc::{AllocError, Global};
@@ -16,6 +16,23 @@ const MOST_WORKERS: usize = 64;
 
 /// The largest size of a table's ring.
 const LARGEST_RING: usize = 65_536;
+
+/// The end of the help.
+const MORE_HELP: &str = r#"Example:
+  xbrl-json report/meta.json --types report/types.csv --out report.json
+
+The files of the tables and of the parameters lie beside META, at the paths that it names.
+
+The table of types is a CSV file with the header "namespace,name,type" and one line for each
+concept and dimension of the taxonomy. A concept's type is integer, decimal, double, text or other,
+a dimension's is explicit or typed:
+  http://example.com/eg,Cash,integer
+
+Exit status:
+  0  the document is written
+  1  the report has a fault, which standard error names
+  2  the words of the command line are wrong
+  3  a file cannot be read or written, or memory ran out"#;
 
 /// What a run is asked for.
 #[derive(Drop)]
@@ -30,6 +47,15 @@ pub struct Settings {
     pub ring: usize,
     /// The path of the document, `None` for standard output.
     pub out: Option<Text>,
+}
+
+impl Settings {
+    /// Whether this is the path of the metadata or of the types table.
+    pub fn reads(&self, path: &str) -> bool
+        ensures { IsTrue result ↔ IsInput self.now path.now }
+    {
+        self.meta.as_str() == path || self.types.as_str() == path
+    }
 }
 
 /// An argument with one value.
@@ -72,7 +98,13 @@ fn command<'a>(alloc: Global) -> Result<Command<'a>, AllocError>
     ensures { IfOk result (λ c. app_of c ≡ command_line) }
 {
     let meta = one_value(alloc, "meta", "META", "The metadata file of the report").required(true);
-    let types = option(alloc, "types", "FILE", "The table of concept types").required(true);
+    let types = option(
+        alloc,
+        "types",
+        "FILE",
+        "The table of types of concepts and dimensions",
+    )
+    .required(true);
     let workers = number_option(
         alloc,
         "workers",
@@ -85,16 +117,18 @@ fn command<'a>(alloc: Global) -> Result<Command<'a>, AllocError>
         "ring",
         65536,
         "1024",
-        "How many blocks of facts of a table may wait",
+        "How many blocks of facts of one table may wait to be written",
     );
     let out = option(
         alloc,
         "out",
         "FILE",
-        "Where the document goes, in place of standard output",
+        "The file of the document, cut to nothing at once [default: standard output]",
     );
     Command::new(alloc, "xbrl-json")
         .about("Converts a report in xBRL-CSV to xBRL-JSON")
+        .version("0.1.0")
+        .after_help(MORE_HELP)
         .no_binary_name(true)
         .arg(meta)?
         .arg(types)?
@@ -154,16 +188,22 @@ fn settings_in(alloc: Global, matches: &ArgMatches<'_>) -> Result<Option<Setting
 /// [--ring K] [--out FILE]`, with 4 workers and rings of 1,024 unless the words say otherwise.
 /// Workers are 1 to 64, a ring's size 1 to 65,536.
 ///
-/// Fails where the words are no such command line, ask for help, or memory is short; the error has
-/// the text to show.
+/// Fails exactly where the definition of the command line refuses the words, by one of the kinds that
+/// it gives, or where they ask for help or the version; or where memory runs out. The error has the
+/// text to show.
 pub fn job(alloc: Global, words: &[&str]) -> Result<Settings, Error>
     ensures values { IfOk result (HasSettings (matches_of command_line (map (λ w. w.now) words.now))) }
     ensures workers { IfOk result (λ s. (1 ≤ s.workers) × (s.workers ≤ 64)) }
     ensures ring { IfOk result (λ s. (1 ≤ s.ring) × (s.ring ≤ 65536)) }
+    ensures fails { FailsBy (fault_of command_line (map (λ w. w.now) words.now)) result }
 {
-    let matches = command(alloc)?.try_get_matches_from(words)?;
+    let matches = match command(alloc)?.try_get_matches_from(words) {
+        Ok(matches) => matches,
+        Err(error) => return Err(error),
+    };
     match settings_in(alloc, &matches)? {
         Some(settings) => Ok(settings),
-        None => Err(command(alloc)?.error(ErrorKind::MissingRequiredArgument, "")?),
+        // A parse that succeeds has every value, so this is never reached.
+        None => Err(Error::from(AllocError)),
     }
 }

@@ -1,11 +1,15 @@
 //! The steps of a run before its tables are read: each reads a file, or ends with the outcome that
 //! names the file and its fault.
 
-ghost use Rattle.std.specs.Prelude.{◌≡◌, ◌⊎◌, ◌+◌, ◌++◌, IfOk, IfSome, Ok, option_map, string_bytes, take};
+ghost use Rattle.std.specs.Prelude.{◌≡◌, ◌≢◌, ◌⊎◌, ◌+◌, ◌++◌, [], ◌∷◌, IfErr, IfOk, IfSome, Ok, Some, option_map, string_bytes, take};
+ghost use Rattle.std.specs.IoError.{error_kind};
 ghost use Rattle.xbrl_json_cli.specs.Conversion.{profile};
 ghost use Rattle.xbrl_json_cli.specs.Metadata.{report_result, url_result};
-ghost use Rattle.xbrl_json_cli.specs.Steps.{EndsEarly, Gives, IsWant, and_then, in_file, missing, parameters_at, parameters_read, read_at, report_at, types_at};
+ghost use Rattle.xbrl_json_cli.specs.Steps as spec;
+ghost use Rattle.xbrl_json_cli.specs.Steps.{IsAmong, IsEarly, Takes, bytes_at, looking, metadata_steps, opening, parameters_at, parameters_steps, report_at, steps, types_at, types_steps};
+ghost use Rattle.xbrl_json_cli.specs.declared.outcome.Outcome.TheVariants as outcome;
 ghost use Rattle.xbrl_json_cli.specs.declared.outcome.Source.TheVariants as source;
+ghost use Rattle.oim_meta.specs.declared.fault.MetaFault.TheVariants as refused;
 
 use crate::folder::Folder;
 use crate::outcome::{Outcome, Source};
@@ -28,16 +32,16 @@ pub fn path_in(alloc: Global, base: &str, url: &str) -> Result<String, AllocErro
     Ok(path)
 }
 
-/// The outcome of a run that wants memory.
+/// The outcome of a run that runs out of memory.
 pub fn no_memory() -> Outcome
-    ensures { IsWant result }
+    ensures { result ≡ spec.no_memory }
 {
     Outcome::Run(ConvertFault::Memory)
 }
 
 /// The outcome of a run that lacks a file.
 fn cannot_read(alloc: Global, path: &str) -> Outcome
-    ensures { EndsEarly (missing path.now) result ⊎ IsWant result }
+    ensures { (result ≡ outcome.CannotRead path.now) ⊎ (result ≡ spec.no_memory) }
 {
     match Text::from_str(alloc, path) {
         Ok(path) => Outcome::CannotRead(path),
@@ -45,9 +49,28 @@ fn cannot_read(alloc: Global, path: &str) -> Outcome
     }
 }
 
+/// A reader of the file at a path.
+fn opened<R: Read + Drop, F: Folder<R>>(
+    alloc: Global,
+    folder: &mut F,
+    path: &str,
+) -> Result<R, Outcome>
+    ensures same { F.files folder.new ≡ F.files folder.old }
+    ensures gives { IfSome (F.files folder.old) (λ files.
+        Takes (opening files path.now ∷ []) (λ r. R.remaining r ≡ Some (bytes_at files path.now)) result) }
+    ensures early { IfErr result IsEarly }
+{
+    match folder.open(path) {
+        Some(reader) => Ok(reader),
+        None => Err(cannot_read(alloc, path)),
+    }
+}
+
 /// The outcome of a metadata that could not be read.
 fn unread(error: io::Error) -> Outcome
-    ensures { IsWant result }
+    ensures memory { error_kind error ≡ ErrorKind.OutOfMemory → result ≡ spec.no_memory }
+    ensures read { error_kind error ≢ ErrorKind.OutOfMemory → result ≡ outcome.Report source.Report refused.Read }
+    ensures one { IsAmong result (outcome.Report source.Report refused.Read ∷ spec.no_memory ∷ []) }
 {
     match error.kind() {
         ErrorKind::OutOfMemory => no_memory(),
@@ -57,7 +80,8 @@ fn unread(error: io::Error) -> Outcome
 
 /// The bytes of a metadata, one past the limit at most.
 fn bytes_of<R: Read + Drop>(alloc: Global, reader: R) -> Result<Vec<u8>, Outcome>
-    ensures { IfSome (R.remaining reader) (λ bytes. Gives (λ v. v.items) result (Ok (take (profile.metadata + 1) bytes))) }
+    ensures bytes { IfSome (R.remaining reader) (λ bytes. IfOk result (λ v. v.items ≡ take (profile.metadata + 1) bytes)) }
+    ensures refused { IfErr result (λ o. IsAmong o (outcome.Report source.Report refused.Read ∷ spec.no_memory ∷ [])) }
 {
     let mut bytes = Vec::new(alloc);
     let most = Limits::profile().metadata as u64 + 1;
@@ -75,11 +99,12 @@ fn metadata_at<R: Read + Drop, F: Folder<R>>(
 ) -> Result<Vec<u8>, Outcome>
     ensures same { F.files folder.new ≡ F.files folder.old }
     ensures gives { IfSome (F.files folder.old) (λ files.
-        Gives (λ v. v.items) result (and_then (read_at files path.now) (λ bytes. Ok (take (profile.metadata + 1) bytes)))) }
+        Takes (metadata_steps files path.now) (λ v. v.items ≡ take (profile.metadata + 1) (bytes_at files path.now)) result) }
+    ensures early { IfErr result IsEarly }
 {
-    match folder.open(path) {
-        Some(reader) => bytes_of(alloc, reader),
-        None => Err(cannot_read(alloc, path)),
+    match opened(alloc, folder, path) {
+        Ok(reader) => bytes_of(alloc, reader),
+        Err(outcome) => Err(outcome),
     }
 }
 
@@ -90,10 +115,12 @@ fn types_in<R: Read + Drop, F: Folder<R>>(
     path: &str,
 ) -> Result<Types, Outcome>
     ensures same { F.files folder.new ≡ F.files folder.old }
-    ensures gives { IfSome (F.files folder.old) (λ files. Gives (λ t. t) result (types_at files path.now)) }
+    ensures gives { IfSome (F.files folder.old) (λ files. Takes (types_steps files path.now) (λ t. types_at files path.now ≡ Ok t) result) }
+    ensures early { IfErr result IsEarly }
 {
-    let Some(reader) = folder.open(path) else {
-        return Err(cannot_read(alloc, path));
+    let reader = match opened(alloc, folder, path) {
+        Ok(reader) => reader,
+        Err(outcome) => return Err(outcome),
     };
     match read_types(alloc, reader) {
         Ok(types) => Ok(types),
@@ -101,17 +128,24 @@ fn types_in<R: Read + Drop, F: Folder<R>>(
     }
 }
 
-/// The parameters of the file at a path.
+/// The parameters of the file whose path begins with `base` and goes on with its URL.
 fn parameters_of<R: Read + Drop, F: Folder<R>>(
     alloc: Global,
     folder: &mut F,
-    path: &str,
+    base: &str,
+    url: &str,
 ) -> Result<Parameters, Outcome>
     ensures same { F.files folder.new ≡ F.files folder.old }
-    ensures gives { IfSome (F.files folder.old) (λ files. Gives (λ p. p) result (parameters_read files path.now)) }
+    ensures gives { IfSome (F.files folder.old) (λ files.
+        Takes (parameters_steps files base.now (Some url.now)) (λ p. parameters_at files base.now (Some url.now) ≡ Ok p) result) }
+    ensures early { IfErr result IsEarly }
 {
-    let Some(reader) = folder.open(path) else {
-        return Err(cannot_read(alloc, path));
+    let Ok(path) = path_in(alloc, base, url) else {
+        return Err(no_memory());
+    };
+    let reader = match opened(alloc, folder, path.as_str()) {
+        Ok(reader) => reader,
+        Err(outcome) => return Err(outcome),
     };
     match read_parameters(alloc, reader) {
         Ok(parameters) => Ok(parameters),
@@ -127,20 +161,20 @@ fn parameters_in<R: Read + Drop, F: Folder<R>>(
     url: Option<Text>,
 ) -> Result<Parameters, Outcome>
     ensures same { F.files folder.new ≡ F.files folder.old }
-    ensures gives { IfSome (F.files folder.old) (λ files. Gives (λ p. p) result (parameters_at files base.now url)) }
+    ensures gives { IfSome (F.files folder.old) (λ files.
+        Takes (parameters_steps files base.now url) (λ p. parameters_at files base.now url ≡ Ok p) result) }
+    ensures early { IfErr result IsEarly }
 {
-    let Some(url) = url else {
-        return Ok(Parameters::none(alloc));
-    };
-    match path_in(alloc, base, url.as_str()) {
-        Ok(path) => parameters_of(alloc, folder, path.as_str()),
-        Err(_) => Err(no_memory()),
+    match url {
+        Some(url) => parameters_of(alloc, folder, base, url.as_str()),
+        None => Ok(Parameters::none(alloc)),
     }
 }
 
 /// The name of the parameters file, if any.
 fn url_in(alloc: Global, metadata: &[u8]) -> Result<Option<Text>, Outcome>
-    ensures { Gives (λ u. u) result (in_file source.Report (url_result profile metadata.now)) }
+    ensures gives { Takes (looking (url_result profile metadata.now) ∷ []) (λ u. url_result profile metadata.now ≡ Ok u) result }
+    ensures early { IfErr result IsEarly }
 {
     match parameter_url(alloc, metadata, &Limits::profile()) {
         Ok(url) => Ok(url),
@@ -155,7 +189,8 @@ fn report_in(
     parameters: Parameters,
     types: Types,
 ) -> Result<Report, Outcome>
-    ensures { Gives (λ r. r) result (in_file source.Report (report_result profile parameters types metadata.now)) }
+    ensures gives { Takes (looking (report_result profile parameters types metadata.now) ∷ []) (λ r. report_result profile parameters types metadata.now ≡ Ok r) result }
+    ensures early { IfErr result IsEarly }
 {
     match read_report(alloc, metadata, parameters, types, &Limits::profile()) {
         Ok(report) => Ok(report),
@@ -167,7 +202,8 @@ fn report_in(
 /// `types` and the parameters file that the metadata names, whose path begins with `base`. Else the
 /// outcome that names the first fault, in the order in which the files are read: the metadata is
 /// read, one byte past the limit at most, then the types table, then the parameters file, and last
-/// the metadata is looked at as a report.
+/// the metadata is looked at as a report. A read that fails ends the run with Read (17) and the
+/// source of its file.
 pub fn report_of<R: Read + Drop, F: Folder<R>>(
     alloc: Global,
     folder: &mut F,
@@ -176,7 +212,9 @@ pub fn report_of<R: Read + Drop, F: Folder<R>>(
     types: &str,
 ) -> Result<Report, Outcome>
     ensures same { F.files folder.new ≡ F.files folder.old }
-    ensures gives { IfSome (F.files folder.old) (λ files. Gives (λ r. r) result (report_at files base.now meta.now types.now)) }
+    ensures gives { IfSome (F.files folder.old) (λ files.
+        Takes (steps files base.now meta.now types.now) (λ r. report_at files base.now meta.now types.now ≡ Ok r) result) }
+    ensures early { IfErr result IsEarly }
 {
     let metadata = match metadata_at(alloc, folder, meta) {
         Ok(metadata) => metadata,

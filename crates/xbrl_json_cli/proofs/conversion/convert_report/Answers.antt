@@ -2,14 +2,21 @@ use Rattle.oim_convert.specs.Answer.{streams}
 use Rattle.oim_convert.specs.Runs.{early_fault}
 use Rattle.oim_convert.specs.Steps.{sink_at}
 use Rattle.std.proofs.Common.{length}
-use Rattle.xbrl_json_cli.proofs.Endings.{as_many, converted, no_memory_ends}
+use Rattle.xbrl_json_cli.proofs.Endings.{as_many, converted, converted_leaves}
 use Rattle.xbrl_json_cli.proofs.conversion.convert_report.Goals as goal
 
-pub returns : goal.returns
-returns g c = λ files are.
+pub returns-clause-ends : goal.returns-clause-ends
+returns-clause-ends g c = λ files are.
     converted c.args.workers c.args.ring (length c.args.readers.items) c.args.limits.rows c.args.report.now files
     (sink_at (g.W.Sink.mark c.args.sink.now) (g.W.Sink.told c.args.sink.now))
     (sink_at (g.W.Sink.mark c.convert-answer.new.sink) (g.W.Sink.told c.convert-answer.new.sink))
     c.convert-answer.result c.in-Ok.names.items c.ending.result
     c.in-Ok.ensures c.ending.ensures (as_many g.R.Read.remaining c.args.readers.items files are)
     (c.convert-answer.ensures.histories files are) c.convert-answer.ensures.faults c.convert-answer.ensures.writes
+
+pub returns-clause-leaves : goal.returns-clause-leaves
+returns-clause-leaves g c =
+    converted_leaves c.args.workers c.args.ring (length c.args.readers.items) c.args.report.now
+    (sink_at (g.W.Sink.mark c.args.sink.now) (g.W.Sink.told c.args.sink.now))
+    (sink_at (g.W.Sink.mark c.convert-answer.new.sink) (g.W.Sink.told c.convert-answer.new.sink))
+    c.convert-answer.result c.in-Ok.names.items c.ending.result c.ending.ensures c.convert-answer.ensures.faults c.convert-answer.ensures.writes

@@ -12,4 +12,4 @@ returns g c = λ files are.
     c.in-Ok.report
     c.in-Ok.ensures
     c.convert_report.result
-    (c.convert_report.ensures files are)
+    (c.convert_report.ensures.ends files are)

@@ -19,8 +19,10 @@ returns c =
     ap rule_of c.required-meta.ensures ∙ ap required c.one_value.ensures.rule in
     let types : rule_of c.required-types.result ≡ required (option (codes "types")) =
     ap rule_of c.required-types.ensures ∙ ap required c.option.ensures.rule in
-    let empty : app_of c.no_binary_name.result ≡ on_top (λ s. record s { no_binary_name = true }) (new_app (codes "xbrl-json")) =
-    ap app_of_fields c.no_binary_name.ensures ∙ ap (on_top (λ s. record s { no_binary_name = true })) (ap app_of_fields c.about.ensures ∙ c.new.ensures.app) in
+    let versioned : app_of c.version.result ≡ on_top (λ s. record s { has_version = true }) (new_app (codes "xbrl-json")) =
+    ap app_of_fields c.version.ensures ∙ ap (on_top (λ s. record s { has_version = true })) (ap app_of_fields c.about.ensures ∙ c.new.ensures.app) in
+    let empty : app_of c.no_binary_name.result ≡ on_top (λ s. record s { no_binary_name = true; has_version = true }) (new_app (codes "xbrl-json")) =
+    ap app_of_fields c.no_binary_name.ensures ∙ ap (on_top (λ s. record s { no_binary_name = true })) (ap app_of_fields c.after_help.ensures ∙ versioned) in
     let one = c.in_ok-arg.ensures.shape (ap is_global c.required-meta.ensures ∙ c.one_value.ensures.local) ∙ ap₂ with_rule empty meta in
     let two = c.in_ok-arg-2.ensures.shape (ap is_global c.required-types.ensures ∙ c.option.ensures.local) ∙ ap₂ with_rule one types in
     let three = c.in_ok-arg-3.ensures.shape c.number_option-workers.ensures.local ∙ ap₂ with_rule two c.number_option-workers.ensures.rule in

@@ -1,32 +1,36 @@
 use Rattle.std.proofs.Common.{◌≡◌, ◌∙◌, sym, subst, IfSome, Ok, Err}
 use Rattle.oim_meta.specs.Parameters.{ParametersValue}
 use Rattle.oim_meta.specs.Types.{TypesValue}
-use Rattle.xbrl_json_cli.specs.Steps.{Gives, parameters_at, types_at}
-use Rattle.xbrl_json_cli.proofs.StepFacts.{HasRead, parameters_stop, report_stop, types_stop, url_stop}
+use Rattle.xbrl_json_cli.specs.Steps.{Stops, parameters_steps, types_steps}
+use Rattle.xbrl_json_cli.proofs.StepFacts.{HasParameters, HasRead, HasTypes, metadata_stop, parameters_stop, report_stop, types_stop, url_stop}
 use Rattle.xbrl_json_cli.proofs.steps.report_of.Goals as goal
+
+pub returns-in-Err-clause-gives : goal.returns-in-Err-clause-gives
+returns-in-Err-clause-gives g c =
+    metadata_stop (g.F.Folder.files c.args.folder.now) c.args.base.now c.args.meta.now c.args.types.now c.in-Err.outcome c.in-Err.ensures.gives
 
 pub returns-in-Err-types_in-clause-gives : goal.returns-in-Err-types_in-clause-gives
 returns-in-Err-types_in-clause-gives g c =
     types_stop (g.F.Folder.files c.args.folder.now) c.args.base.now c.args.meta.now c.args.types.now c.in-Ok.metadata.items c.in-Err-types_in.outcome
     c.in-Ok.ensures.gives
-    (subst (λ k. IfSome k (λ files. Gives {X = TypesValue} (λ t. t) (Err c.in-Err-types_in.outcome) (types_at files c.args.types.now))) c.in-Ok.ensures.same c.in-Err-types_in.ensures.gives)
+    (subst (λ k. IfSome k (λ files. Stops (types_steps files c.args.types.now) c.in-Err-types_in.outcome)) c.in-Ok.ensures.same c.in-Err-types_in.ensures.gives)
 
 pub returns-in-Err-url_in-clause-gives : goal.returns-in-Err-url_in-clause-gives
 returns-in-Err-url_in-clause-gives g c =
     let told = g.F.Folder.files c.args.folder.now in
     url_stop told c.args.base.now c.args.meta.now c.args.types.now c.as_slice-metadata.result.now c.in-Ok-types_in.types c.in-Err-url_in.outcome
     (subst (λ xs. IfSome told (λ files. HasRead files c.args.meta.now xs)) (sym c.as_slice-metadata.ensures.value) c.in-Ok.ensures.gives)
-    (subst (λ k. IfSome k (λ files. types_at files c.args.types.now ≡ Ok c.in-Ok-types_in.types)) c.in-Ok.ensures.same c.in-Ok-types_in.ensures.gives)
-    c.in-Err-url_in.ensures
+    (subst (λ k. IfSome k (λ files. HasTypes files c.args.types.now c.in-Ok-types_in.types)) c.in-Ok.ensures.same c.in-Ok-types_in.ensures.gives)
+    c.in-Err-url_in.ensures.gives
 
 pub returns-in-Err-parameters_in-clause-gives : goal.returns-in-Err-parameters_in-clause-gives
 returns-in-Err-parameters_in-clause-gives g c =
     let told = g.F.Folder.files c.args.folder.now in
     parameters_stop told c.args.base.now c.args.meta.now c.args.types.now c.as_slice-metadata.result.now c.in-Ok-types_in.types c.in-Ok-url_in.url c.in-Err-parameters_in.outcome
     (subst (λ xs. IfSome told (λ files. HasRead files c.args.meta.now xs)) (sym c.as_slice-metadata.ensures.value) c.in-Ok.ensures.gives)
-    (subst (λ k. IfSome k (λ files. types_at files c.args.types.now ≡ Ok c.in-Ok-types_in.types)) c.in-Ok.ensures.same c.in-Ok-types_in.ensures.gives)
-    c.in-Ok-url_in.ensures
-    (subst (λ k. IfSome k (λ files. Gives {X = ParametersValue} (λ p. p) (Err c.in-Err-parameters_in.outcome) (parameters_at files c.args.base.now c.in-Ok-url_in.url)))
+    (subst (λ k. IfSome k (λ files. HasTypes files c.args.types.now c.in-Ok-types_in.types)) c.in-Ok.ensures.same c.in-Ok-types_in.ensures.gives)
+    c.in-Ok-url_in.ensures.gives
+    (subst (λ k. IfSome k (λ files. Stops (parameters_steps files c.args.base.now c.in-Ok-url_in.url) c.in-Err-parameters_in.outcome))
     (c.in-Ok-types_in.ensures.same ∙ c.in-Ok.ensures.same) c.in-Err-parameters_in.ensures.gives)
 
 pub returns-clause-gives : goal.returns-clause-gives
@@ -34,7 +38,7 @@ returns-clause-gives g c =
     let told = g.F.Folder.files c.args.folder.now in
     report_stop told c.args.base.now c.args.meta.now c.args.types.now c.as_slice-metadata.result.now c.in-Ok-types_in.types c.in-Ok-url_in.url c.in-Ok-parameters_in.parameters c.report_in.result
     (subst (λ xs. IfSome told (λ files. HasRead files c.args.meta.now xs)) (sym c.as_slice-metadata.ensures.value) c.in-Ok.ensures.gives)
-    (subst (λ k. IfSome k (λ files. types_at files c.args.types.now ≡ Ok c.in-Ok-types_in.types)) c.in-Ok.ensures.same c.in-Ok-types_in.ensures.gives)
-    c.in-Ok-url_in.ensures
-    (subst (λ k. IfSome k (λ files. parameters_at files c.args.base.now c.in-Ok-url_in.url ≡ Ok c.in-Ok-parameters_in.parameters)) (c.in-Ok-types_in.ensures.same ∙ c.in-Ok.ensures.same) c.in-Ok-parameters_in.ensures.gives)
-    c.report_in.ensures
+    (subst (λ k. IfSome k (λ files. HasTypes files c.args.types.now c.in-Ok-types_in.types)) c.in-Ok.ensures.same c.in-Ok-types_in.ensures.gives)
+    c.in-Ok-url_in.ensures.gives
+    (subst (λ k. IfSome k (λ files. HasParameters files c.args.base.now c.in-Ok-url_in.url c.in-Ok-parameters_in.parameters)) (c.in-Ok-types_in.ensures.same ∙ c.in-Ok.ensures.same) c.in-Ok-parameters_in.ensures.gives)
+    c.report_in.ensures.gives
