@@ -63,7 +63,8 @@ impl<'a, R: Read> Model for Rows<'a, R> {
     ghost invariant = { λ a. (a.given ≤ a.decoder.limit) × (a.decoder.limit < 2 ^ 32 - 1) };
 }
 
-fn fault_of_read(table: usize, fault: ReadFault) -> TableFault
+/// What a reader's fault is as a table's: Read or Memory.
+pub fn fault_of_read(table: usize, fault: ReadFault) -> TableFault
     ensures { IsOutside table result }
 {
     match fault {
@@ -73,7 +74,7 @@ fn fault_of_read(table: usize, fault: ReadFault) -> TableFault
 }
 
 /// The columns of a table's header, the first record.
-fn read_header<R: Read>(
+pub(crate) fn read_header<R: Read>(
     alloc: Global,
     report: &Report,
     table: usize,
