@@ -330,6 +330,13 @@ impl Decoder<'_> {
         self.table
     }
 
+    /// The column of each header cell, none for an empty one.
+    pub fn header(&self) -> &[Option<usize>]
+        ensures { result.now ≡ (self.now).header }
+    {
+        self.header.as_slice()
+    }
+
     /// The first fault of a row, but for its cells.
     fn fault_of_row(&self, number: u32, ids: &RowIds, row: &ByteRecord) -> Option<TableFault>
         ensures { result ≡ row_fault self.now number ids.now (fields_of row.now) }
