@@ -1,5 +1,5 @@
 -- Rows that are read from a table's stream, one after another.
-use Rattle.std.proofs.Common.{◌≡◌, ◌⊎◌, ℕ, List, [], ◌∷◌, ◌++◌, Bool, true, false, Option, Some, None, Result, Ok, Err, IfSome, refl, ap, sym, subst, ◌∙◌, inl, inr, append-nil, append_assoc}
+use Rattle.std.proofs.Common.{◌≡◌, ◌⊎◌, ℕ, List, [], ◌∷◌, ◌++◌, Bool, true, false, Option, Some, None, Result, Ok, Err, IfSome, IsSome, refl, ap, sym, subst, ◌∙◌, inl, inr, append-nil, append_assoc}
 use mathlib.Core.List.{IsPrefix}
 use Rattle.std.specs.List.{flat_map}
 use Rattle.std.proofs.lemmas.Grind.{flat_map-append}
@@ -103,3 +103,8 @@ pub memory_given : (table : ℕ) (first : Option Stream) (before pending after :
 memory_given table first before pending after left left' e reads none short over =
     weaker first (λ s. HasRead table s before pending left) (λ s. GivesBlock table before s (Err e) after left')
     (λ s h. record { rows = h.0; reads = subst (ReadsRows table s h.0) (sym over) (broken_off table s h.0 left e h.1 (inr short)); answers = (none, over, inr short) }) reads
+
+-- an answer that is there is some
+pub no_answer : {A : Type 0} (o : Option A) → None ≡ o → IsSome o → ⊥
+no_answer None none some = cc some
+no_answer (Some x) none some = cc none

@@ -97,14 +97,17 @@ put_one fs i f out now then ends noted noted' h is so marks grown marked =
     let text : then ≡ out ++ behind_commas (take (i + 1) fs) =
     grown ∙ ap (λ t. t ++ behind_comma f) so ∙ append_assoc out (behind_commas front) (behind_comma f) ∙ ap (λ t. out ++ t) (sym (texts_push front f) ∙ ap behind_commas more) in
     let long : length then ≡ length out + length (behind_commas (front ++ f ∷ [])) =
-    ap length text ∙ length-append out (behind_commas (take (i + 1) fs)) ∙ ap (λ t. length out + length (behind_commas t)) (sym more) in
-    (text, marked ∙ ap (λ t. t ++ length then ∷ []) marks ∙ append_assoc ends (ends_from (length out) front) (length then ∷ [])
-      ∙ ap (λ k. ends ++ (ends_from (length out) front ++ k ∷ [])) long ∙ ap (λ t. ends ++ t) (sym (ends_push (length out) front f) ∙ ap (ends_from (length out)) more))
+    ap length text ∙ length-append out (behind_commas (take (i + 1) fs)) ∙ ap (λ t. length out + length (behind_commas t)) (sym more) in (
+      text,
+      marked ∙ ap (λ t. t ++ length then ∷ []) marks ∙ append_assoc ends (ends_from (length out) front) (length then ∷ [])
+          ∙ ap (λ k. ends ++ (ends_from (length out) front ++ k ∷ [])) long ∙ ap (λ t. ends ++ t) (sym (ends_push (length out) front f) ∙ ap (ends_from (length out)) more),
+    )
 
 -- what is held of more facts
 pub held_more : (out out' ends ends' : List ℕ) (fs gs hs : List Fact) → out ≡ behind_commas fs → ends ≡ ends_from 0 fs → out' ≡ out ++ behind_commas gs → ends' ≡ ends ++ ends_from (length out) gs → hs ≡ fs ++ gs
     → (out' ≡ behind_commas hs) × (ends' ≡ ends_from 0 hs)
 held_more out out' ends ends' fs gs hs is marks more noted all =
-    let here : length out ≡ 0 + length (behind_commas fs) = omega (arith, ap length is) in
-    (more ∙ ap (λ t. t ++ behind_commas gs) is ∙ sym (texts_append fs gs) ∙ ap behind_commas (sym all),
-      noted ∙ ap (λ t. t ++ ends_from (length out) gs) marks ∙ ap (λ k. ends_from 0 fs ++ ends_from k gs) here ∙ sym (ends_append 0 fs gs) ∙ ap (ends_from 0) (sym all))
+    let here : length out ≡ 0 + length (behind_commas fs) = omega (arith, ap length is) in (
+      more ∙ ap (λ t. t ++ behind_commas gs) is ∙ sym (texts_append fs gs) ∙ ap behind_commas (sym all),
+      noted ∙ ap (λ t. t ++ ends_from (length out) gs) marks ∙ ap (λ k. ends_from 0 fs ++ ends_from k gs) here ∙ sym (ends_append 0 fs gs) ∙ ap (ends_from 0) (sym all),
+    )

@@ -132,12 +132,7 @@ impl Batch {
     }
 
     // The facts from a place on, whose texts stand in `room`.
-    fn from_place(
-        &self,
-        alloc: Global,
-        count: usize,
-        room: Vec<u8>,
-    ) -> Result<Batch, AllocError>
+    fn from_place(&self, alloc: Global, count: usize, room: Vec<u8>) -> Result<Batch, AllocError>
         requires some { 1 ≤ count }
         requires there { count ≤ length self.now }
         ensures { IfOk result (λ b. b ≡ drop count self.now) }
@@ -188,11 +183,7 @@ fn behind(ends: &[usize], count: usize) -> &[usize]
 }
 
 // The same ends, counted from a place.
-fn counted_from(
-    alloc: Global,
-    ends: &[usize],
-    start: usize,
-) -> Result<Vec<usize>, AllocError>
+fn counted_from(alloc: Global, ends: &[usize], start: usize) -> Result<Vec<usize>, AllocError>
     ensures { IfOk result (λ counted. counted.items ≡ map (λ end. end - start) ends.now) }
 {
     let mut counted = Vec::with_capacity(alloc, ends.len())?;

@@ -91,7 +91,10 @@ impl<'a> RowWriter<'a> {
         let Ok(cells) = self.decoder.row(alloc, number, row.as_byte_record()) else {
             return Err(RowFault::Memory);
         };
-        match self.decoder.facts_of_row(alloc, &cells, self.decoder.header()) {
+        match self
+            .decoder
+            .facts_of_row(alloc, &cells, self.decoder.header())
+        {
             Ok(facts) => match put_facts(alloc, facts.as_slice(), out, ends) {
                 Ok(()) => Ok(()),
                 Err(_) => Err(RowFault::Memory),
