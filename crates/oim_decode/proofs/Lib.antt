@@ -1,3 +1,4 @@
 pub mod Cuts
 pub mod Advances
 pub mod RowLaws
+mod Examples
