@@ -4,6 +4,7 @@ use Rattle.std.specs.List.{list_all}
 use Rattle.std.specs.Fmt.{digits}
 use Rattle.oim_meta.specs.ReportValue.{ReportValue}
 use Rattle.oim_resolve.specs.declared.fact.Fact.{Fact}
+use Rattle.oim_json.specs.Blocks.{behind_commas, ends_from}
 use Rattle.oim_json.specs.JsonText.{escaped_byte, is_unescaped, quoted, value_text, dimension_text, decimals_text, member_text, namespace_text, base_url_text, head_text}
 
 cash : Fact
@@ -79,3 +80,15 @@ backslash_escaped = refl
 
 line_feed_escaped : list_all is_unescaped (codes "a\nb") ≡ false
 line_feed_escaped = refl
+
+-- two facts in a block: each behind a comma, and where each ends
+brief : Fact
+brief = record { id = codes "a"; value = None; decimals = None; dimensions = [] }
+
+brief_texts : behind_commas (brief ∷ brief ∷ []) ≡ codes ",\"a\":{\"dimensions\":{},\"value\":null},\"a\":{\"dimensions\":{},\"value\":null}"
+unfolding behind_commas brief escaped_byte quoted value_text decimals_text member_text
+brief_texts = refl
+
+brief_ends : ends_from 0 (brief ∷ brief ∷ []) ≡ 35 ∷ 70 ∷ []
+unfolding ends_from brief escaped_byte quoted value_text decimals_text member_text
+brief_ends = refl

@@ -1,5 +1,6 @@
 pub mod Quoted
 pub mod Joined
+pub mod Blocks
 pub mod Lines
 mod Examples
 pub mod Writes

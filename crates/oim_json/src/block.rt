@@ -1,59 +1,81 @@
-ghost use Rattle.std.specs.Prelude.{◌≡◌, ◌≤◌, length, IfOk};
+//! Blocks: the texts of some facts.
+
+ghost use Rattle.std.specs.Prelude.{◌≡◌, ◌≤◌, ◌<◌, ◌+◌, [], Some, drop, take, length, option_map, slice_get, slice_range, IfOk};
+ghost use Rattle.oim_json.specs.Blocks.{behind_commas, ends_from};
 ghost use Rattle.oim_json.specs.Document.{facts_text};
+ghost use Rattle.oim_json.specs.JsonText.{member_text};
 ghost use Rattle.oim_json.specs.Lines.{IsOneLine};
 
-use crate::write::push_joined;
+use crate::member::push_member;
 use oim_names::Items;
 use oim_resolve::Fact;
 use std::alloc::{AllocError, Global};
 use std::marker::Model;
-use std::snapshot::Snapshot;
+use told::Told;
 
 /// The texts of 1 to 256 facts, joined by commas. A contract sees the list of facts, which no code
 /// holds any more.
 #[derive(Drop)]
 pub struct Block {
+    // each text behind a comma
     bytes: Vec<u8>,
-    count: usize,
-    facts: Snapshot<Items<Fact>>,
+    // where each text ends
+    ends: Vec<usize>,
+    facts: Told<Items<Fact>>,
 }
 
 impl Model for Block {
     ghost use Rattle.std.specs.Prelude.{◌≡◌, ◌≤◌, List, length};
     ghost use Rattle.oim_resolve.specs.declared.fact.Fact.{Fact as FactValue};
-    ghost use Rattle.oim_json.specs.Document.{facts_text};
+    ghost use Rattle.oim_json.specs.Blocks.{behind_commas, ends_from};
 
     ghost Value = { List FactValue };
 
     ghost view = { λ b. b.facts.value };
 
-    ghost invariant = { λ b. (b.bytes.items ≡ facts_text b.facts.value) × (b.count ≡ length b.facts.value) × (1 ≤ b.count) × (b.count ≤ 256) };
+    ghost invariant = { λ b. (b.bytes.items ≡ behind_commas b.facts.value) × (b.ends.items ≡ ends_from 0 b.facts.value) × (1 ≤ length b.facts.value) × (length b.facts.value ≤ 256) };
 }
 
 /// The block of 1 to 256 facts. Fails where memory is short.
-#[tactic(auto, unfolding(crate::specs::Document::facts_text))]
 pub fn block_of(alloc: Global, facts: &Items<Fact>) -> Result<Block, AllocError>
     requires some { 1 ≤ length facts.now }
     requires most { length facts.now ≤ 256 }
     ensures { IfOk result (λ b. b ≡ facts.now) }
 {
     let mut bytes = Vec::new(alloc);
-    push_joined(alloc, &mut bytes, facts.as_slice())?;
+    let mut ends = Vec::with_capacity(alloc, facts.len())?;
+    for fact in facts.as_slice() {
+        bytes.push(b',')?;
+        push_member(alloc, &mut bytes, fact)?;
+        ends.push(bytes.len())?;
+    }
     Ok(Block {
         bytes,
-        count: facts.len(),
-        facts: Snapshot::of(facts),
+        ends,
+        facts: Told::seen(facts),
     })
 }
 
 impl Block {
+    /// A block of the texts of 1 to 256 facts, each behind a comma, of where each of them ends, and
+    /// of what is told of the facts.
+    pub fn from_parts(bytes: Vec<u8>, ends: Vec<usize>, facts: Told<Items<Fact>>) -> Block
+        requires texts { bytes.items ≡ behind_commas facts.value }
+        requires ends { ends.items ≡ ends_from 0 facts.value }
+        requires some { 1 ≤ length facts.value }
+        requires most { length facts.value ≤ 256 }
+        ensures { result ≡ facts.value }
+    {
+        Block { bytes, ends, facts }
+    }
+
     /// How many facts there are, 1 to 256.
     pub fn count(&self) -> usize
         ensures count { result ≡ length self.now }
         ensures some { 1 ≤ result }
         ensures most { result ≤ 256 }
     {
-        self.count
+        self.ends.len()
     }
 
     /// The texts of the facts, joined by commas, without a line feed.
@@ -61,6 +83,49 @@ impl Block {
         ensures text { result.now ≡ facts_text self.now }
         ensures one_line { IsOneLine result.now }
     {
-        self.bytes.as_slice()
+        without_first(self.bytes.as_slice())
     }
+
+    /// The text of the fact at a place, counted from 0: its identifier and its object.
+    pub fn text(&self, i: usize) -> &[u8]
+        requires { i < length self.now }
+        ensures { option_map member_text (slice_get self.now i) ≡ Some result.now }
+    {
+        part(self.bytes.as_slice(), self.start_of(i), self.ends[i])
+    }
+
+    // where the text of a fact begins
+    fn start_of(&self, i: usize) -> usize
+        requires { i < length self.now }
+        ensures { result ≡ length (behind_commas (take i self.now)) + 1 }
+    {
+        if i == 0 {
+            return 1;
+        }
+        self.ends[i - 1] + 1
+    }
+
+    /// The room of the texts, without them, for those of another block. It takes no memory.
+    pub fn into_room(self) -> Vec<u8>
+        ensures { result.items ≡ [] }
+    {
+        let mut room = self.bytes;
+        room.clear();
+        room
+    }
+}
+
+fn without_first(text: &[u8]) -> &[u8]
+    requires { 1 ≤ length text.now }
+    ensures { result.now ≡ drop 1 text.now }
+{
+    &text[1..]
+}
+
+fn part(text: &[u8], start: usize, end: usize) -> &[u8]
+    requires order { start ≤ end }
+    requires within { end ≤ length text.now }
+    ensures { result.now ≡ slice_range text.now start end }
+{
+    &text[start..end]
 }

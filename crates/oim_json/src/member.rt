@@ -53,7 +53,7 @@ impl Member {
 }
 
 #[tactic(auto, using(std::proofs::Common::append_assoc), unfolding(crate::specs::JsonText::member_text))]
-fn push_member(alloc: Global, out: &mut Vec<u8>, fact: &Fact) -> Result<(), AllocError>
+pub(crate) fn push_member(alloc: Global, out: &mut Vec<u8>, fact: &Fact) -> Result<(), AllocError>
     ensures { OnOk result (out.new.items ≡ out.old.items ++ member_text fact.now) }
 {
     push_text(alloc, out, fact.id.as_str())?;

@@ -1,6 +1,6 @@
 mod Places
 mod FactLists
-mod StreamLaws
+pub mod StreamLaws
 mod WholeLaw
 mod DotFacts
 mod FactIds

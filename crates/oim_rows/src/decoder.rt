@@ -14,7 +14,7 @@ use csv::ByteRecord;
 use std::alloc::{AllocError, Global};
 
 /// What is wrong with a row identifier.
-fn kind_of_id(ids: &RowIds, text: &str) -> Option<TableKind>
+pub(crate) fn kind_of_id(ids: &RowIds, text: &str) -> Option<TableKind>
     ensures { result ≡ id_kind ids.now text.now }
 {
     if text.is_empty() {
@@ -39,7 +39,7 @@ fn is_no_text(cell: &[u8]) -> bool
 }
 
 /// The first cell that is no text.
-fn first_not_text(row: &ByteRecord) -> Option<usize>
+pub(crate) fn first_not_text(row: &ByteRecord) -> Option<usize>
     ensures { result ≡ position_from is_not_text 0 (fields_of row.now) }
 {
     for i in 0..row.len() {
@@ -51,7 +51,7 @@ fn first_not_text(row: &ByteRecord) -> Option<usize>
 }
 
 /// The text of a cell, or the empty text where there is none.
-fn text_at(row: &ByteRecord, place: Option<usize>) -> &str
+pub(crate) fn text_at(row: &ByteRecord, place: Option<usize>) -> &str
     requires { IsTextRecord (fields_of row.now) }
     ensures { result.now ≡ field_or_empty (fields_of row.now) place }
 {
@@ -118,7 +118,7 @@ fn sources_of(
 }
 
 /// The place in a header of the row identifier, where the template has a column for it.
-fn place_of_id(header: &[Option<usize>], column: Option<usize>) -> Option<usize>
+pub(crate) fn place_of_id(header: &[Option<usize>], column: Option<usize>) -> Option<usize>
     ensures { result ≡ row_id_place column header.now }
 {
     match column {
@@ -128,6 +128,7 @@ fn place_of_id(header: &[Option<usize>], column: Option<usize>) -> Option<usize>
 }
 
 impl<'a> Decoder<'a> {
+    /// How the rows of a table are read under this header. Fails where memory is short.
     pub fn new(
         alloc: Global,
         report: &'a Report,
@@ -199,8 +200,8 @@ impl Decoder<'_> {
         }
     }
 
-    /// A record as a row, with a cell for each column of the template.
-    fn row(&self, alloc: Global, number: u32, row: &ByteRecord) -> Result<Row, AllocError>
+    /// A record as a row, with a cell for each column of the template. Fails where memory is short.
+    pub fn row(&self, alloc: Global, number: u32, row: &ByteRecord) -> Result<Row, AllocError>
         requires { IsTextRecord (fields_of row.now) }
         ensures { IfOk result (λ r. r ≡ row_of self.now number (fields_of row.now)) }
     {
@@ -278,8 +279,10 @@ impl Decoder<'_> {
         }
     }
 
-    /// The facts of a row, in header order.
-    fn facts_of_row(
+    /// The facts of a row, in header order, for the columns that `header` names.
+    ///
+    /// Fails with the fault of the first cell that has one, and with Memory where memory is short.
+    pub fn facts_of_row(
         &self,
         alloc: Global,
         row: &Row,
@@ -309,7 +312,7 @@ ghost use Rattle.oim_rows.specs.Header.{fault_at};
 ghost use Rattle.oim_rows.specs.RowFacts.{id_place_of, ids_after, row_result, IsNewId};
 
 /// The fault of a row as a whole.
-fn fault_of_whole_row(table: usize, row: u32, kind: TableKind) -> TableFault
+pub(crate) fn fault_of_whole_row(table: usize, row: u32, kind: TableKind) -> TableFault
     ensures { result ≡ fault_at table row 0 kind }
 {
     TableFault {
@@ -326,6 +329,13 @@ impl Decoder<'_> {
         ensures { result ≡ (self.now).table }
     {
         self.table
+    }
+
+    /// The column of each header cell, none for an empty one.
+    pub fn header(&self) -> &[Option<usize>]
+        ensures { result.now ≡ (self.now).header }
+    {
+        self.header.as_slice()
     }
 
     /// The first fault of a row, but for its cells.

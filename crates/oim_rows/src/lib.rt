@@ -12,11 +12,16 @@
 
 mod decoder;
 mod fault;
+mod form;
 mod header;
 mod ids;
 mod laws;
 mod rows;
 
+pub use decoder::Decoder;
 pub use fault::{TableFault, TableKind};
+pub use form::RowForm;
+pub use header::{fault_of_read, whole_fault};
+pub use ids::RowIds;
 pub use laws::{fact_identifiers_differ, stream_is_of_all_rows};
 pub use rows::{RowFacts, Rows};

@@ -65,7 +65,7 @@ impl<'a, R: Read> Model for Rows<'a, R> {
 }
 
 /// The columns of a table's header, the first record.
-fn read_header<R: Read>(
+pub(crate) fn read_header<R: Read>(
     alloc: Global,
     report: &Report,
     table: usize,

@@ -1,0 +1,113 @@
+-- Texts of facts that are written, cut and moved.
+use Rattle.std.proofs.Common.{◌≡◌, ℕ, zero, suc, ◌+◌, ◌-◌, ◌≤◌, ◌<◌, List, [], ◌∷◌, ◌++◌, Bool, true, false, Option, Some, None, length, take, drop, get_or, map, refl, ap, sym, ◌∙◌, arith, append-nil, append_assoc, length-append, cond}
+use mathlib.Core.List.{IsPrefix}
+use Rattle.std.specs.List.{position_from}
+use Rattle.std.specs.Str.{is_utf8}
+use Rattle.std.proofs.lemmas.List.{take_at, drop_at, drop-append-le, take-append-le, length-take-le, take-append-drop, take_more}
+use Rattle.std.proofs.lemmas.Str.{IsUtf8-from_is_utf8}
+use Rattle.csv.specs.Records.{AllText}
+use Rattle.oim_resolve.specs.declared.fact.Fact.{Fact}
+use Rattle.oim_rows.specs.RowFacts.{is_not_text}
+use Rattle.oim_json.specs.JsonText.{member_text}
+use Rattle.oim_json.specs.Blocks.{behind_comma, behind_commas, ends_from}
+use Rattle.oim_json.proofs.Blocks.{texts_append, texts_cut, texts_push, ends_append, ends_length, ends_push, nothing_written, read_end}
+
+-- FRONTS
+
+pub prefix_same : (xs ys : List ℕ) → ys ≡ xs → IsPrefix xs ys
+prefix_same xs ys e = ([], append-nil xs ∙ sym e)
+
+pub prefix_more : (xs ys zs : List ℕ) → ys ≡ xs ++ zs → IsPrefix xs ys
+prefix_more xs ys zs e = (zs, sym e)
+
+pub prefix_through : (xs ys zs : List ℕ) → IsPrefix xs ys → IsPrefix ys zs → IsPrefix xs zs
+prefix_through xs ys zs (a, p) (b, q) = (a ++ b, sym (append_assoc xs a b) ∙ ap (λ t. t ++ b) p ∙ q)
+
+-- what was there before is what stays of a longer list
+pub cut_back : (xs ys : List ℕ) (n : ℕ) → IsPrefix xs ys → n ≡ length xs → take n ys ≡ xs
+cut_back xs ys n (t, p) e = ap (take n) (sym p) ∙ take_at xs t n (sym e)
+
+-- RECORDS OF TEXT
+
+pub all_text : (n : ℕ) (r : List (List ℕ)) → position_from is_not_text n r ≡ None → AllText r
+unfolding AllText
+all_text n [] none = tt
+all_text n (f ∷ fs) none = by (is_utf8 f) refl none (all_text (n + 1) fs)
+  where
+    by : (b : Bool) → is_utf8 f ≡ b → position_from is_not_text n (f ∷ fs) ≡ None → (position_from is_not_text (n + 1) fs ≡ None → AllText fs) → AllText (f ∷ fs)
+    by true e k more = (IsUtf8-from_is_utf8 f e, more (rw e at k))
+    by false e k more = let some : Some n ≡ None = rw e at k in cc some
+
+-- BATCHES
+
+-- the texts and ends of the first facts
+pub first_texts : (n at : ℕ) (fs : List Fact) (bytes : List ℕ) → bytes ≡ behind_commas fs → at ≡ length (behind_commas (take n fs)) → take at bytes ≡ behind_commas (take n fs)
+first_texts n at fs bytes is here = ap (take at) (is ∙ texts_cut n fs) ∙ take_at (behind_commas (take n fs)) (behind_commas (drop n fs)) at (sym here)
+
+pub rest_texts : (n at : ℕ) (fs : List Fact) (bytes : List ℕ) → bytes ≡ behind_commas fs → at ≡ length (behind_commas (take n fs)) → drop at bytes ≡ behind_commas (drop n fs)
+rest_texts n at fs bytes is here = ap (drop at) (is ∙ texts_cut n fs) ∙ drop_at (behind_commas (take n fs)) (behind_commas (drop n fs)) at (sym here)
+
+ends_split : (n : ℕ) (fs : List Fact) → ends_from 0 fs ≡ ends_from 0 (take n fs) ++ ends_from (length (behind_commas (take n fs))) (drop n fs)
+ends_split n fs =
+    let here : 0 + length (behind_commas (take n fs)) ≡ length (behind_commas (take n fs)) = omega arith in
+    ap (ends_from 0) (sym (take-append-drop n fs)) ∙ ends_append 0 (take n fs) (drop n fs) ∙ ap (λ k. ends_from 0 (take n fs) ++ ends_from k (drop n fs)) here
+
+pub first_ends : (n : ℕ) (fs : List Fact) (ends : List ℕ) → n ≤ length fs → ends ≡ ends_from 0 fs → take n ends ≡ ends_from 0 (take n fs)
+first_ends n fs ends h is =
+    ap (take n) (is ∙ ends_split n fs) ∙ take_at (ends_from 0 (take n fs)) (ends_from (length (behind_commas (take n fs))) (drop n fs)) n (ends_length 0 (take n fs) ∙ length-take-le n fs h)
+
+-- ends are counted from another place
+moved : (n k : ℕ) (fs : List Fact) → map (λ e. e - k) (ends_from (k + n) fs) ≡ ends_from n fs
+unfolding ends_from
+moved n k [] = refl
+moved n k (f ∷ fs) =
+    let long = length (behind_comma f) in
+    let less : ((k + n) + long) - k ≡ n + long = omega arith in
+    let there : (k + n) + long ≡ k + (n + long) = omega arith in
+    ap (λ e. e ∷ map (λ x. x - k) (ends_from ((k + n) + long) fs)) less ∙ ap (λ t. (n + long) ∷ t) (ap (λ m. map (λ x. x - k) (ends_from m fs)) there ∙ moved (n + long) k fs)
+
+pub rest_ends : (n at : ℕ) (fs : List Fact) (ends : List ℕ) → n ≤ length fs → ends ≡ ends_from 0 fs → at ≡ length (behind_commas (take n fs)) → map (λ e. e - at) (drop n ends) ≡ ends_from 0 (drop n fs)
+rest_ends n at fs ends h is here =
+    let none : at + 0 ≡ length (behind_commas (take n fs)) = omega arith in
+    let back : drop n ends ≡ ends_from (at + 0) (drop n fs) =
+    ap (drop n) (is ∙ ends_split n fs) ∙ drop_at (ends_from 0 (take n fs)) (ends_from (length (behind_commas (take n fs))) (drop n fs)) n (ends_length 0 (take n fs) ∙ length-take-le n fs h) ∙ ap (λ k. ends_from k (drop n fs)) (sym none) in
+    ap (map (λ e. e - at)) back ∙ moved 0 at (drop n fs)
+
+-- where the first n facts end
+pub end_of_first : (n : ℕ) (fs : List Fact) (ends : List ℕ) (at : ℕ) → ends ≡ ends_from 0 fs → 1 ≤ n → n ≤ length fs → at ≡ get_or ends (n - 1) at → at ≡ length (behind_commas (take n fs))
+end_of_first n fs ends at is some h got =
+    let one : (n - 1) + 1 ≡ n = omega arith in
+    read_end fs ends (n - 1) at is (omega arith) got ∙ ap (λ k. length (behind_commas (take k fs))) one
+
+pub drop_before : (n : ℕ) (fs : List Fact) → length (behind_commas (take n fs)) ≤ length (behind_commas fs)
+drop_before n fs = omega (arith, ap length (texts_cut n fs), length-append (behind_commas (take n fs)) (behind_commas (drop n fs)))
+
+-- WRITING
+
+pub nothing_more : (out ends : List ℕ) (n : ℕ) → (out ≡ out ++ behind_commas []) × (ends ≡ ends ++ ends_from n [])
+unfolding behind_commas ends_from
+nothing_more out ends n = (sym (append-nil out), sym (append-nil ends))
+
+-- one fact more
+pub put_one : (fs : List Fact) (i : ℕ) (f : Fact) (out now then ends noted noted' : List ℕ) → i < length fs → f ≡ get_or fs i f → now ≡ out ++ behind_commas (take i fs) → noted ≡ ends ++ ends_from (length out) (take i fs)
+    → then ≡ now ++ behind_comma f → noted' ≡ noted ++ length then ∷ [] → (then ≡ out ++ behind_commas (take (i + 1) fs)) × (noted' ≡ ends ++ ends_from (length out) (take (i + 1) fs))
+put_one fs i f out now then ends noted noted' h is so marks grown marked =
+    let front = take i fs in
+    let more : front ++ f ∷ [] ≡ take (i + 1) fs = ap (λ g. front ++ g ∷ []) is ∙ sym (take_more fs i f h) in
+    let text : then ≡ out ++ behind_commas (take (i + 1) fs) =
+    grown ∙ ap (λ t. t ++ behind_comma f) so ∙ append_assoc out (behind_commas front) (behind_comma f) ∙ ap (λ t. out ++ t) (sym (texts_push front f) ∙ ap behind_commas more) in
+    let long : length then ≡ length out + length (behind_commas (front ++ f ∷ [])) =
+    ap length text ∙ length-append out (behind_commas (take (i + 1) fs)) ∙ ap (λ t. length out + length (behind_commas t)) (sym more) in (
+      text,
+      marked ∙ ap (λ t. t ++ length then ∷ []) marks ∙ append_assoc ends (ends_from (length out) front) (length then ∷ [])
+          ∙ ap (λ k. ends ++ (ends_from (length out) front ++ k ∷ [])) long ∙ ap (λ t. ends ++ t) (sym (ends_push (length out) front f) ∙ ap (ends_from (length out)) more),
+    )
+
+-- what is held of more facts
+pub held_more : (out out' ends ends' : List ℕ) (fs gs hs : List Fact) → out ≡ behind_commas fs → ends ≡ ends_from 0 fs → out' ≡ out ++ behind_commas gs → ends' ≡ ends ++ ends_from (length out) gs → hs ≡ fs ++ gs
+    → (out' ≡ behind_commas hs) × (ends' ≡ ends_from 0 hs)
+held_more out out' ends ends' fs gs hs is marks more noted all =
+    let here : length out ≡ 0 + length (behind_commas fs) = omega (arith, ap length is) in (
+      more ∙ ap (λ t. t ++ behind_commas gs) is ∙ sym (texts_append fs gs) ∙ ap behind_commas (sym all),
+      noted ∙ ap (λ t. t ++ ends_from (length out) gs) marks ∙ ap (λ k. ends_from 0 fs ++ ends_from k gs) here ∙ sym (ends_append 0 fs gs) ∙ ap (ends_from 0) (sym all),
+    )

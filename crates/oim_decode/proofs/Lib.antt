@@ -1,0 +1,4 @@
+pub mod Cuts
+pub mod Advances
+pub mod RowLaws
+mod Examples

@@ -1,0 +1,66 @@
+-- A row's facts, by what its table is read by and by what its rows are written by.
+use Rattle.std.proofs.Common.{◌≡◌, ◌⊎◌, ℕ, List, Option, Some, None, Bool, true, false, Result, Ok, Err, IfSome, option_map, ◌+◌, ◌++◌, refl, ap, sym, subst, ◌∙◌, inl, inr}
+use Rattle.oim_meta.specs.Grid.{Field, Record}
+use Rattle.oim_meta.specs.Taking.{TakesRecord}
+use Rattle.oim_resolve.specs.declared.fact.Fact.{Fact}
+use Rattle.oim_resolve.specs.declared.fact.Row.{Row}
+use Rattle.oim_rows.specs.Header.{Header}
+use Rattle.oim_rows.specs.RowFacts.{Reading, checked, facts_from, id_place_of, ids_after, row_fault, row_of, row_result}
+use Rattle.oim_rows.specs.Streams.{GivesNext, OrNoMemory, Stream, IsOutside, stream_from}
+use Rattle.oim_rows.proofs.StreamLaws.{gives_end, gives_fault, gives_row}
+use Rattle.oim_rows.specs.declared.fault.TableFault.{TableFault}
+use Rattle.oim_decode.specs.Blocks.{AddsRow}
+use Rattle.oim_decode.specs.RowTexts.{AddsFacts, IsAnswer, Writing, facts_in, row_facts, writing_of}
+
+pub same_answer : (g : Reading) (w : Writing) (n : ℕ) (fields fields' : Record) (row : Row) (h : Header) → writing_of g ≡ w → row ≡ row_of g n fields' → fields' ≡ fields → h ≡ g.header
+    → facts_from g.report g.table row 0 h ≡ row_facts w n fields
+same_answer g w n fields fields' row h same is text head =
+    ap (λ x. facts_from g.report g.table x 0 h) is ∙ ap (λ x. facts_from g.report g.table (row_of g n x) 0 h) text ∙ ap (λ x. facts_from g.report g.table (row_of g n fields) 0 x) head ∙ ap (λ x. row_facts x n fields) same
+
+pub answer_moved : (t : ℕ) (result a b : Result (List Fact) TableFault) → a ≡ b → OrNoMemory t result a → OrNoMemory t result b
+answer_moved t result a b e (inl h) = inl h
+answer_moved t result a b e (inr h) = inr (h ∙ e)
+
+pub facts_are : (t : ℕ) (facts : List Fact) (answer : Result (List Fact) TableFault) → OrNoMemory t (Ok facts) answer → (answer ≡ Ok (facts_in answer)) × (facts_in answer ≡ facts)
+facts_are t facts answer (inl h) = absurd (cc h)
+facts_are t facts answer (inr h) = (sym h ∙ ap (λ x. Ok (facts_in x)) h, ap facts_in (sym h))
+
+pub known : {A : Type 0} (o : Option A) → IfSome o (λ _. Unit {0})
+known None = tt
+known (Some x) = tt
+
+-- apart from its cells a row has no fault
+pub row_answer : (g : Reading) (w : Writing) (n : ℕ) (ids : List Field) (r : Record) → row_fault g n ids r ≡ None → w ≡ writing_of g → row_result g n ids r ≡ row_facts w n r
+row_answer g w n ids r none is = ap (λ o. checked o (facts_from g.report g.table (row_of g n r) 0 g.header)) none ∙ ap (λ x. row_facts x n r) (sym is)
+
+-- what a read record adds
+pub adds_end : (table n : ℕ) (g : Reading) (ids : List Field) (before : List Fact) (old new : Option (List Record)) (r : Record) (after : Option Stream) → TakesRecord old false r new
+    → IfSome (option_map (stream_from g n ids) old) (λ s. AddsRow table s before before (Ok false) after)
+adds_end table n g ids before None new r after took = tt
+adds_end table n g ids before (Some rs) new r after took = (refl, gives_end table n g ids (Some rs) new r after took)
+
+pub adds_fault : (n : ℕ) (g : Reading) (ids : List Field) (before now : List Fact) (old new : Option (List Record)) (r : Record) (e : TableFault) (after : Option Stream) → TakesRecord old true r new
+    → now ≡ before → OrNoMemory g.table (Err e) (row_result g n ids r) → IfSome (option_map (stream_from g n ids) old) (λ s. AddsRow g.table s before now (Err e) after)
+adds_fault n g ids before now None new r e after took same why = tt
+adds_fault n g ids before now (Some rs) new r e after took same why = (same, gives_fault n g ids (Some rs) new r e after took why)
+
+pub adds_outside : (n : ℕ) (g : Reading) (ids : List Field) (before : List Fact) (old : Option (List Record)) (e : TableFault) (after : Option Stream) → IsOutside g.table e
+    → IfSome (option_map (stream_from g n ids) old) (λ s. AddsRow g.table s before before (Err e) after)
+adds_outside n g ids before None e after outside = tt
+adds_outside n g ids before (Some rs) e after outside = (refl, inl outside)
+
+pub adds_row : (n : ℕ) (g : Reading) (ids ids2 : List Field) (before now : List Fact) (old new : Option (List Record)) (r : Record) → TakesRecord old true r new
+    → (row_result g n ids r ≡ Ok (facts_in (row_result g n ids r))) × (now ≡ before ++ facts_in (row_result g n ids r)) → ids2 ≡ ids_after (id_place_of g) ids r
+    → IfSome (option_map (stream_from g n ids) old) (λ s. AddsRow g.table s before now (Ok true) (option_map (stream_from g (n + 1) ids2) new))
+adds_row n g ids ids2 before now None new r took added kept = tt
+adds_row n g ids ids2 before now (Some rs) new r took added kept =
+    (facts_in (row_result g n ids r), added.1, gives_row n g ids ids2 (Some rs) new r (facts_in (row_result g n ids r)) took (inr (sym added.0)) kept)
+
+-- a fault of a row that has none but for its cells
+pub why_failed : (table : ℕ) (answer : Result (List Fact) TableFault) (before after : List Fact) (e : TableFault) → AddsFacts table answer before after (Err e) → OrNoMemory table (Err e) answer
+why_failed table answer before after e (same, inl short) = inl (ap (λ x. Err x) short)
+why_failed table answer before after e (same, inr is) = inr (sym is)
+
+-- a row's own fault is its answer
+pub own_fault : (g : Reading) (n : ℕ) (ids : List Field) (r : Record) (e : TableFault) → row_fault g n ids r ≡ Some e → OrNoMemory g.table (Err e) (row_result g n ids r)
+own_fault g n ids r e is = inr (sym (ap (λ o. checked o (facts_from g.report g.table (row_of g n r) 0 g.header)) is))

@@ -1,0 +1,20 @@
+use Rattle.std.proofs.Common.{inl, inr}
+use Rattle.std.proofs.lemmas.Option.{IfSome_then}
+use Rattle.oim_rows.proofs.StreamLaws.{opened_stream}
+use Rattle.oim_decode.proofs.RowLaws.{known}
+use Rattle.oim_decode.proofs.text_rows.TextRows.open.Goals as goal
+
+pub returns-in_default-clause-fault : goal.returns-in_default-clause-fault
+returns-in_default-clause-fault g c = IfSome_then (g.R.Read.remaining c.args.reader) (known (g.R.Read.remaining c.args.reader)) (λ bytes h. inl (inr c.whole_fault.ensures))
+
+pub returns-clause-stream : goal.returns-clause-stream
+returns-clause-stream g c =
+    let both = opened_stream c.args.report.now c.args.table c.args.limit (g.R.Read.remaining c.args.reader) c.new-records.result c.read.new.records c.in-Ok.form.header c.in-Ok.form c.new-3.result
+    c.new-records.ensures c.in-Ok.ensures.header c.in-Ok.ensures.form c.new-3.ensures in
+    IfSome_then (g.R.Read.remaining c.args.reader) both (λ bytes h. h.0)
+
+pub returns-clause-header : goal.returns-clause-header
+returns-clause-header g c =
+    let both = opened_stream c.args.report.now c.args.table c.args.limit (g.R.Read.remaining c.args.reader) c.new-records.result c.read.new.records c.in-Ok.form.header c.in-Ok.form c.new-3.result
+    c.new-records.ensures c.in-Ok.ensures.header c.in-Ok.ensures.form c.new-3.ensures in
+    IfSome_then (g.R.Read.remaining c.args.reader) both (λ bytes h. h.1)

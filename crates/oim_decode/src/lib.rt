@@ -1,0 +1,18 @@
+//! The rows of one table as blocks of JSON text.
+//!
+//! `TableBlocks` reads a table's file record by record, and gives the texts of its facts in blocks. What it gives is
+//! exactly the table's stream: the facts of each row before the first bad one, in header order, and then the end or the
+//! table's first fault. A row with any fault gives no fact. Apart from a failed read and running out of memory, which may
+//! end a table at any row. After the end or a fault it answers the same again and reads nothing.
+//!
+//! No fact lies in memory as a value: a row's cells are written as text, and the list of the facts is remembered for
+//! contracts alone.
+#![tactic(auto)]
+
+mod batch;
+mod remember;
+mod row_writer;
+mod table;
+mod text_rows;
+
+pub use table::TableBlocks;

@@ -1,0 +1,163 @@
+//! The facts of one table, in blocks of text.
+
+ghost use Rattle.std.specs.Prelude.{◌≡◌, ◌⊎◌, ◌≤◌, ◌<◌, ◌+◌, [], IfErr, IfOk, IfSome, None, Some, length};
+ghost use Rattle.oim_meta.specs.Grid.{grid};
+ghost use Rattle.oim_rows.specs.Header.{file_header_fault};
+ghost use Rattle.oim_rows.specs.Streams.{IsOutside, answer_of, stream_of};
+ghost use Rattle.oim_decode.specs.Blocks.{GivesBlock, KeepsAnswer};
+
+use crate::batch::Batch;
+use crate::text_rows::TextRows;
+use oim_json::Block;
+use oim_meta::{Limits, Report};
+use oim_rows::{TableFault, TableKind, whole_fault};
+use std::alloc::Global;
+use std::io::Read;
+use std::marker::Model;
+
+/// How many facts a block has at most.
+const MOST: usize = 256;
+
+/// What comes after the facts that are read.
+#[derive(Clone, Copy)]
+enum Progress {
+    Reading,
+    Ended,
+    Failed(TableFault),
+}
+
+/// The facts of one table that are left, as blocks of text. It borrows the table's report. A contract
+/// sees the table's place, the limit, how many rows were read, the facts that are read and not given,
+/// the stream behind them where the reader tells its bytes, and what is answered again once the
+/// table is settled.
+#[derive(Drop)]
+pub struct TableBlocks<'a, R: Read> {
+    alloc: Global,
+    rows: TextRows<'a, R>,
+    batch: Batch,
+    progress: Progress,
+}
+
+impl<'a, R: Read> Model for TableBlocks<'a, R> {
+    ghost use Rattle.oim_decode.specs.Blocks.{BlocksLeft, blocks_left};
+
+    ghost Value = { BlocksLeft };
+
+    ghost view = { λ a. blocks_left a.rows a.batch a.progress };
+}
+
+impl<'a, R: Read + Drop> TableBlocks<'a, R> {
+    /// Reads the header of the table at this place of a report, past one byte-order mark. The rows
+    /// are at most `limits.rows`, itself at most 4,294,967,294.
+    ///
+    /// Fails with the header's first fault, in this order: NoHeader, UnknownHeader, RepeatedHeader,
+    /// NoRowIdColumn. Fails with Read where the reader failed, and with Memory where memory is
+    /// short.
+    pub fn open(
+        alloc: Global,
+        report: &'a Report,
+        table: usize,
+        reader: R,
+        limits: Limits,
+    ) -> Result<TableBlocks<'a, R>, TableFault>
+        requires place { table < length report.now.tables }
+        requires rows { limits.rows ≤ 4294967294 }
+
+        // The facts of the table, where its header has no fault.
+        ensures start { IfOk result (λ blocks. (blocks.table ≡ table) × (blocks.limit ≡ limits.rows) × (blocks.given ≡ 0) × (blocks.pending ≡ []) × (blocks.answered ≡ None)) }
+        ensures stream { IfSome (R.remaining reader) (λ bytes. IfOk result (λ blocks. blocks.left ≡ Some (stream_of report.now table limits.rows (grid bytes)))) }
+        ensures header { IfSome (R.remaining reader) (λ bytes. IfOk result (λ _. file_header_fault report.now table (grid bytes) ≡ None)) }
+
+        // Its fault, unless the reader failed or memory was refused.
+        ensures fault { IfSome (R.remaining reader) (λ bytes. IfErr result (λ e. IsOutside table e ⊎ (file_header_fault report.now table (grid bytes) ≡ Some e))) }
+    {
+        match TextRows::open(alloc, report, table, reader, limits.rows) {
+            Ok(rows) => Ok(TableBlocks {
+                alloc,
+                rows,
+                batch: Batch::new(alloc),
+                progress: Progress::Reading,
+            }),
+            Err(fault) => Err(fault),
+        }
+    }
+}
+
+ghost use Rattle.std.specs.Prelude.{◌++◌, IsSome, List};
+ghost use Rattle.oim_resolve.specs.declared.fact.Fact.{Fact as FactValue};
+ghost use Rattle.oim_decode.specs.Blocks.{ReadsRows, facts_of_rows};
+
+impl<R: Read> TableBlocks<'_, R> {
+    /// The next facts in header order and row by row, 1 to 256 of them, or None at the end. A block
+    /// has whole rows where they fit. `room` is where further texts are put, and may be that of an
+    /// earlier block. After the end or a fault it answers the same again and reads nothing.
+    ///
+    /// Fails, where the facts of all rows before were given, with the first fault of the first bad
+    /// row, in this order: Ragged, NotUtf8, TooManyRows, MissingRowId, BadRowId, RepeatedRowId, then
+    /// the faults of its cells from left to right. Fails with Read where the reader failed, and with
+    /// Memory where memory is short.
+    pub fn next_block(&mut self, room: Vec<u8>) -> Result<Option<Block>, TableFault>
+        ensures next { IfSome self.old.left (λ s. GivesBlock self.old.table self.old.pending s result self.new.pending self.new.left) }
+        ensures kept { KeepsAnswer result self.new.answered }
+        ensures again { IfSome self.old.answered (λ kept. self.old.pending ≡ [] → (result ≡ answer_of kept) × (self.new ≡ self.old)) }
+
+        ensures same { (self.new.table ≡ self.old.table) × (self.new.limit ≡ self.old.limit) }
+    {
+        let whole = self.fill();
+        let count = self.batch.count();
+        if count == 0 {
+            return match self.progress {
+                Progress::Failed(fault) => Err(fault),
+                Progress::Reading | Progress::Ended => Ok(None),
+            };
+        }
+        match self.batch.take_block(self.alloc, share(count, whole), room) {
+            Ok(block) => Ok(Some(block)),
+            Err(_) => {
+                let fault = whole_fault(self.rows.table(), TableKind::Memory);
+                self.batch = Batch::new(self.alloc);
+                self.progress = Progress::Failed(fault);
+                Err(fault)
+            }
+        }
+    }
+
+    // Reads rows until there are the facts of a block, and says how many facts were there before the
+    // last row.
+    fn fill(&mut self) -> usize
+        ensures reads { IfSome self.old.left (λ s. (rows : List (List FactValue)) × ReadsRows self.old.table s rows self.new.left × (self.new.pending ≡ self.old.pending ++ facts_of_rows rows)) }
+        ensures settled { self.new.answered ≡ None → 256 ≤ length self.new.pending }
+        ensures again { IsSome self.old.answered → self.new ≡ self.old }
+        ensures same { (self.new.table ≡ self.old.table) × (self.new.limit ≡ self.old.limit) }
+        ensures whole { result ≤ 256 }
+    {
+        let mut whole = 0;
+        while self.batch.count() < MOST {
+            match self.progress {
+                Progress::Reading => {}
+                Progress::Ended | Progress::Failed(_) => return whole,
+            }
+            whole = self.batch.count();
+            match self.rows.next_row(&mut self.batch) {
+                Ok(true) => {}
+                Ok(false) => self.progress = Progress::Ended,
+                Err(fault) => self.progress = Progress::Failed(fault),
+            }
+        }
+        whole
+    }
+}
+
+// How many of these facts make the next block, where so many stood before the last row.
+fn share(count: usize, whole: usize) -> usize
+    requires some { 1 ≤ count }
+    requires whole { whole ≤ 256 }
+    ensures some { 1 ≤ result }
+    ensures most { result ≤ 256 }
+    ensures there { result ≤ count }
+{
+    if count <= MOST {
+        return count;
+    }
+    if whole > 0 { whole } else { MOST }
+}

@@ -1,0 +1,172 @@
+//! The form of a table's rows: what makes a record a row, before its cells are resolved.
+
+ghost use Rattle.std.specs.Prelude.{◌≡◌, ◌⊎◌, ◌<◌, IfOk, IfErr, IfSome, OnOk, length};
+ghost use Rattle.std.specs.String.{string_bytes};
+ghost use Rattle.csv.specs.Records.{fields_of};
+ghost use Rattle.oim_rows.specs.Header.{file_header_fault};
+ghost use Rattle.oim_rows.specs.RowFacts.{IsNewId, id_place_of, ids_after, row_fault, row_id_text};
+ghost use Rattle.oim_rows.specs.Streams.{IsOutside, TakesHeader};
+
+use crate::decoder::{fault_of_whole_row, first_not_text, kind_of_id, place_of_id, text_at};
+use crate::fault::{TableFault, TableKind};
+use crate::header::fault_at_place;
+use crate::ids::RowIds;
+use crate::rows::read_header;
+use csv::{ByteRecord, StringRecord};
+use itoa::Buffer;
+use oim_meta::{Records, Report};
+use std::alloc::{AllocError, Global};
+use std::io::Read;
+use std::marker::Model;
+
+/// What the rows of one table are told by. A contract sees the report, the table's place, the most
+/// rows that it may have, and its header.
+#[derive(Drop)]
+pub struct RowForm<'a> {
+    report: &'a Report,
+    table: usize,
+    limit: u32,
+    header: Vec<Option<usize>>,
+    // the place in the header of the row identifier
+    id_place: Option<usize>,
+}
+
+impl<'a> Model for RowForm<'a> {
+    ghost use Rattle.std.specs.Prelude.{◌≡◌, ◌<◌, length};
+    ghost use Rattle.oim_meta.specs.Readers.{template_of};
+    ghost use Rattle.oim_rows.specs.RowFacts.{Reading, row_id_place};
+
+    ghost Value = { Reading };
+
+    ghost view = { λ a. record { report = a.report.now; table = a.table; limit = a.limit; header = a.header.items } };
+
+    ghost invariant = { λ a. (a.table < length a.report.now.tables) × (a.id_place ≡ row_id_place (template_of a.report.now a.table).row_id_column a.header.items) };
+}
+
+impl<'a> RowForm<'a> {
+    /// Reads the header of a table, the first record of its file, into `row`. The rows are at most
+    /// `limit`.
+    ///
+    /// Fails with the header's first fault, in this order: NoHeader, UnknownHeader, RepeatedHeader,
+    /// NoRowIdColumn. Fails with Read where the reader failed, and with Memory where memory is
+    /// short.
+    pub fn read<R: Read>(
+        alloc: Global,
+        report: &'a Report,
+        table: usize,
+        limit: u32,
+        records: &mut Records<R>,
+        row: &mut ByteRecord,
+    ) -> Result<RowForm<'a>, TableFault>
+        requires { table < length report.now.tables }
+        ensures form { IfOk result (λ f. f ≡ record { report = report.now; table = table; limit = limit; header = f.header }) }
+        ensures header { IfOk result (λ f. TakesHeader report.now table records.old f.header records.new) }
+        ensures fault { IfErr result (λ e. IsOutside table e ⊎ IfSome records.old (λ rs. file_header_fault report.now table rs ≡ Some e)) }
+    {
+        let header = match read_header(alloc, report, table, records, row) {
+            Ok(header) => header,
+            Err(fault) => return Err(fault),
+        };
+        let id_place = place_of_id(header.as_slice(), report.row_id_column(table));
+        Ok(RowForm {
+            report,
+            table,
+            limit,
+            header,
+            id_place,
+        })
+    }
+}
+
+impl RowForm<'_> {
+    /// The place of the table in its report.
+    pub fn table(&self) -> usize
+        ensures value { result ≡ (self.now).table }
+        ensures within { result < length (self.now).report.tables }
+    {
+        self.table
+    }
+
+    /// The column of each header cell, none for an empty one.
+    pub fn header(&self) -> &[Option<usize>]
+        ensures { result.now ≡ (self.now).header }
+    {
+        self.header.as_slice()
+    }
+
+    /// The first fault of row `number`, but for its cells, where `ids` are the identifiers of the
+    /// rows before it.
+    pub fn fault_of_row(&self, number: u32, ids: &RowIds, row: &ByteRecord) -> Option<TableFault>
+        ensures { result ≡ row_fault self.now number ids.now (fields_of row.now) }
+    {
+        if row.len() != self.header.len() {
+            return Some(fault_of_whole_row(self.table, number, TableKind::Ragged));
+        }
+        if let Some(place) = first_not_text(row) {
+            return Some(fault_at_place(self.table, number, place, TableKind::NotUtf8));
+        }
+        if number > self.limit {
+            return Some(fault_of_whole_row(self.table, number, TableKind::TooManyRows));
+        }
+        let place = self.id_place?;
+        let kind = kind_of_id(ids, text_at(row, Some(place)))?;
+        Some(fault_at_place(self.table, number, place, kind))
+    }
+
+    /// Puts the identifier of row `number` in place of what `id` holds. Fails where memory is short.
+    pub fn read_id(
+        &self,
+        number: u32,
+        row: &StringRecord,
+        id: &mut String,
+    ) -> Result<(), AllocError>
+        ensures { OnOk result (string_bytes id.new ≡ row_id_text (id_place_of self.now) number (fields_of row.now)) }
+    {
+        id.clear();
+        match self.id_place {
+            Some(place) => id.push_str(text_or_empty(row, place)),
+            None => push_number(id, number),
+        }
+    }
+
+    /// Adds the identifier of a row to those before it, where the table has a column for them. Fails
+    /// where memory is short.
+    pub fn keep_id(
+        &self,
+        alloc: Global,
+        row: &StringRecord,
+        ids: &mut RowIds,
+    ) -> Result<(), AllocError>
+        requires { IsNewId (id_place_of self.now) ids.old (fields_of row.now) }
+        ensures { OnOk result (ids.new ≡ ids_after (id_place_of self.now) ids.old (fields_of row.now)) }
+    {
+        if let Some(place) = self.id_place {
+            ids.push(String::from_str(alloc, text_or_empty(row, place))?)?;
+        }
+        Ok(())
+    }
+}
+
+ghost use Rattle.std.specs.Prelude.{[], unwrap_or};
+ghost use Rattle.csv.specs.Records.{field_at};
+
+// The text of a cell, or the empty text where there is none.
+fn text_or_empty(row: &StringRecord, place: usize) -> &str
+    ensures { result.now ≡ unwrap_or (field_at (fields_of row.now) place) [] }
+{
+    match row.get(place) {
+        Some(cell) => cell,
+        None => "",
+    }
+}
+
+ghost use Rattle.std.specs.Prelude.{◌++◌, codes, decimal, Some};
+
+// The identifier of a row that has no cell for it.
+fn push_number(id: &mut String, number: u32) -> Result<(), AllocError>
+    ensures { OnOk result (string_bytes id.new ≡ string_bytes id.old ++ (codes "r_" ++ decimal number)) }
+{
+    let mut buffer = Buffer::new();
+    id.push_str("r_")?;
+    id.push_str(buffer.format(number))
+}
