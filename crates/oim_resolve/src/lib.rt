@@ -40,3 +40,4 @@ pub use compiled::compile;
 pub use fact::{CellFault, Fact, Row};
 pub use plan::Plan;
 pub use result::resolve;
+pub use role::Role;

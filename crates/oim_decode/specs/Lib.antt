@@ -1,0 +1,4 @@
+pub mod Slots
+pub mod Answers
+pub mod Kept
+pub mod KeptDecimals
