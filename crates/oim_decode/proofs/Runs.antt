@@ -1,6 +1,7 @@
 -- Texts that are appended piece by piece: runs of bytes that stand for themselves, and escapes between them.
 use Rattle.std.proofs.Common.{◌≡◌, ℕ, ◌+◌, ◌-◌, ◌<◌, ◌≤◌, List, [], ◌∷◌, ◌++◌, Bool, true, false, length, take, drop, get_or, refl, sym, ap, ◌∙◌, arith, append_assoc, append-nil, length-drop}
-use Rattle.std.specs.Prelude.{if◌then◌else◌}
+use Rattle.std.specs.Prelude.{if◌then◌else◌, Result, Ok, Err, is_ok}
+use Rattle.std.specs.Result.{OnOk}
 use Rattle.std.specs.List.{flat_map}
 use Rattle.std.proofs.lemmas.List.{take_more, get_or-drop}
 use Rattle.std.proofs.lemmas.Grind.{flat_map-append}
@@ -38,6 +39,11 @@ pub spelled_escape : (start out xs : List ℕ) (from i d : ℕ) → i < length x
 spelled_escape start out xs from i d lt h =
     ap (λ t. t ++ escaped_byte (get_or xs i d)) h ∙ append_assoc start (flat_map escaped_byte (take i xs)) (escaped_byte (get_or xs i d))
     ∙ ap (λ t. start ++ t) (sym (escaped_more xs i d lt))
+
+-- the last of several appends
+pub appended : {E : Type 0} (r : Result (Unit {0}) E) (before more whole out : List ℕ) → out ≡ (if is_ok r then before ++ more else before) → before ++ more ≡ whole → OnOk r (out ≡ whole)
+appended (Ok x) before more whole out e same = e ∙ same
+appended (Err x) before more whole out e same = tt
 
 pub prefix_same : (xs : List ℕ) → IsPrefix xs xs
 prefix_same xs = ([], append-nil xs)

@@ -2,3 +2,4 @@ pub mod Slots
 pub mod Answers
 pub mod Kept
 pub mod KeptDecimals
+pub mod Digits

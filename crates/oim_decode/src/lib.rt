@@ -10,6 +10,7 @@ mod decimals;
 mod decimals_slot;
 mod kept;
 mod kept_decimals;
+mod numeral;
 mod place;
 mod slot;
 mod source;

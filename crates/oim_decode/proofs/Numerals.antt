@@ -1,0 +1,84 @@
+-- Texts that are split as numerals in one pass.
+use Rattle.std.proofs.Common.{◌≡◌, ℕ, zero, suc, ◌+◌, ◌-◌, ◌<◌, ◌≤◌, Bool, true, false, cond, ◌==◌, ◌||◌, List, [], ◌∷◌, ◌++◌, length, take, drop, get_or, reverse, inl, inr, Option, Some, None, refl, sym, subst, ap, ◌∙◌, arith, codes, append_assoc, length-append, length-drop, length-take}
+use Rattle.std.specs.Str.Parse.{AllDigits, without_leading_sign}
+use Rattle.std.proofs.lemmas.Bool.{ne_eqb}
+use Rattle.std.proofs.Math.Seq.{take-add}
+use Rattle.std.specs.Char.{digit_value}
+use Rattle.std.proofs.lemmas.List.{take_more, get_or-reverse, reverse-reverse, length-reverse}
+use Rattle.oim_cells.specs.declared.cells.NumberKind.{NumberKind}
+use Rattle.oim_cells.specs.declared.cells.NumberKind.TheVariants.{Integer, Decimal, Double}
+use Rattle.oim_cells.specs.Blanks.{is_blank, without_front, without_back, trimmed}
+use Rattle.oim_cells.specs.Numeral.{IsDecimal, IsNumeralOf, pointed, no_power}
+use Rattle.oim_decode.specs.Digits.{IsPointed, begins_with_sign}
+
+-- digits, one more
+pub digits_push : (xs : List ℕ) (d : ℕ) → AllDigits 10 xs → digit_value d < 10 → AllDigits 10 (xs ++ d ∷ [])
+digits_push [] d h k = (k, tt)
+digits_push (x ∷ xs) d h k = (h.0, digits_push xs d h.1 k)
+
+pub not_blank : (c : ℕ) → 32 < c → is_blank c ≡ false
+not_blank c h = rw (ne_eqb c 32 (λ e. omega (arith, e)), ne_eqb c 9 (λ e. omega (arith, e)), ne_eqb c 13 (λ e. omega (arith, e)), ne_eqb c 10 (λ e. omega (arith, e))) refl
+
+front_stays : (s : List ℕ) → 0 < length s → 32 < get_or s 0 0 → without_front s ≡ s
+front_stays [] h k = absurd (omega (arith, h))
+front_stays (c ∷ cs) h k = rw (not_blank c k) refl
+
+back_stays : (s : List ℕ) → 0 < length s → 32 < get_or s (length s - 1) 0 → without_back s ≡ s
+back_stays s h k =
+    let at : length s - 1 ≡ length s - 1 - 0 = omega arith in
+    let last : 32 < get_or (reverse s) 0 0 = subst (λ c. 32 < c) (ap (λ n. get_or s n 0) at ∙ sym (get_or-reverse s 0 0 h)) k in
+    let some : 0 < length (reverse s) = omega (arith, length-reverse s) in
+    ap reverse (front_stays (reverse s) some last) ∙ reverse-reverse s
+
+pub bare_stays : (s : List ℕ) → 0 < length s → 32 < get_or s 0 0 → 32 < get_or s (length s - 1) 0 → trimmed s ≡ s
+bare_stays s h first last = ap without_back (front_stays s h first) ∙ back_stays s h last
+
+-- a sign and digits with at most one point are a numeral
+pub is_numeral : (kind : NumberKind) (s u : List ℕ) → without_leading_sign s ≡ u → 0 < length u → AllDigits 10 u → IsNumeralOf kind s
+is_numeral Integer s u e h d = rw e (h, d)
+is_numeral Decimal s u e h d = inl (rw e (h, d))
+is_numeral Double s u e h d = no_power s (inl (rw e (h, d)))
+
+pointed_decimal : (s u : List ℕ) → without_leading_sign s ≡ u → 1 < length u → IsPointed u → IsDecimal s
+pointed_decimal s u e h p =
+    let some : 0 < length p.before + length p.after = omega (arith, ap length p.whole, length-append (p.before ++ codes ".") p.after, length-append p.before (codes ".")) in
+    inr (rw (e, p.whole) (pointed p.before p.after p.before_digits p.after_digits some))
+
+pub is_pointed_numeral : (kind : NumberKind) (s u : List ℕ) → (kind ≡ Integer → ⊥) → without_leading_sign s ≡ u → 1 < length u → IsPointed u → IsNumeralOf kind s
+is_pointed_numeral Integer s u n e h p = absurd (n refl)
+is_pointed_numeral Decimal s u n e h p = pointed_decimal s u e h p
+is_pointed_numeral Double s u n e h p = no_power s (pointed_decimal s u e h p)
+
+-- digits, a point and digits
+pub pointed_there : (xs : List ℕ) (n m : ℕ) → n < length xs → get_or xs n 0 ≡ 46 → AllDigits 10 (take n xs) → AllDigits 10 (take m (drop (n + 1) xs)) → IsPointed (take (n + 1 + m) xs)
+pointed_there xs n m lt point before after =
+    let front : take (n + 1) xs ≡ take n xs ++ codes "." = take_more xs n 0 lt ∙ ap (λ c. take n xs ++ c ∷ []) point in
+    record {
+      before = take n xs;
+      after = take m (drop (n + 1) xs);
+      whole = take-add (n + 1) m xs ∙ ap (λ t. t ++ take m (drop (n + 1) xs)) front;
+      before_digits = before;
+      after_digits = after;
+    }
+
+signed_by : (b d : Bool) (c : ℕ) (xs : List ℕ) → (b || d) ≡ true → cond b xs (drop (cond d 1 0) (c ∷ xs)) ≡ xs
+signed_by true d c xs h = refl
+signed_by false true c xs h = refl
+signed_by false false c xs h = absurd (cc)
+
+unsigned_by : (b d : Bool) (xs : List ℕ) → (b || d) ≡ false → cond b (drop 1 xs) (drop (cond d 1 0) xs) ≡ xs
+unsigned_by true d xs h = absurd (cc)
+unsigned_by false true xs h = absurd (cc)
+unsigned_by false false xs h = refl
+
+pub signed : (xs : List ℕ) (k : ℕ) → begins_with_sign xs ≡ true → without_leading_sign (take (1 + k) xs) ≡ take k (drop 1 xs)
+signed [] k h = absurd (cc)
+signed (c ∷ cs) k h = let more : 1 + k ≡ suc k = omega arith in rw more (signed_by (c == 45) (c == 43) c (take k cs) h)
+
+pub unsigned : (xs : List ℕ) (k : ℕ) → begins_with_sign xs ≡ false → without_leading_sign (take (0 + k) xs) ≡ take k (drop 0 xs)
+unsigned xs k h = let same : 0 + k ≡ k = omega arith in rw same (unsigned_at xs k h)
+  where
+    unsigned_at : (xs : List ℕ) (k : ℕ) → begins_with_sign xs ≡ false → without_leading_sign (take k xs) ≡ take k xs
+    unsigned_at xs zero h = refl
+    unsigned_at [] (suc k) h = refl
+    unsigned_at (c ∷ cs) (suc k) h = unsigned_by (c == 45) (c == 43) (c ∷ take k cs) h
