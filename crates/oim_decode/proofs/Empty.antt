@@ -1,5 +1,5 @@
 -- The empty text gives nothing, in any role.
-use Rattle.std.proofs.Common.{◌≡◌, ℕ, List, [], Option, Some, None, Err, false, refl, sym, ap, ◌∙◌}
+use Rattle.std.proofs.Common.{◌≡◌, [], None, Err, false, refl, sym, ap, ◌∙◌}
 use Rattle.std.specs.String.{string_bytes}
 use Rattle.oim_cells.specs.Cells.{meaning_of, Absent}
 use Rattle.oim_meta.specs.ReportValue.{ReportValue}

@@ -1,15 +1,15 @@
 -- What references give in rows, and what texts give in roles, found by computing the definitions.
-use Rattle.std.proofs.Common.{◌≡◌, ℕ, List, [], ◌∷◌, Option, Some, None, Ok, Err, codes, refl, ap, arith, ◌<◌}
+use Rattle.std.proofs.Common.{◌≡◌, ℕ, List, [], ◌∷◌, Some, None, Ok, Err, codes, refl, ap, arith}
 use Rattle.std.proofs.lemmas.Fmt.{decimal_digit}
 use Rattle.std.specs.Fmt.{digits}
 use Rattle.std.specs.Str.{chars}
 use Rattle.csv.specs.Records.{field_at}
 use Rattle.oim_names.specs.Bindings.{Bindings}
 use Rattle.oim_names.specs.Names.{is_ncname, is_name_char, is_name_start}
-use Rattle.oim_names.specs.QName.{qname_of, sqname_of}
+use Rattle.oim_names.specs.QName.{qname_of}
 use Rattle.oim_names.specs.Unit.{unit_of}
 use Rattle.oim_names.specs.Language.{language_of}
-use Rattle.oim_cells.specs.Cells.{Meaning, Absent, Nil, Empty, Text, meaning_of, accuracy_of}
+use Rattle.oim_cells.specs.Cells.{Absent, Nil, Empty, Text, meaning_of, accuracy_of}
 use Rattle.oim_cells.specs.declared.cells.NumberKind.TheVariants as number
 use Rattle.oim_meta.specs.Grid.{Record}
 use Rattle.oim_meta.specs.ReportValue.{ReportValue}

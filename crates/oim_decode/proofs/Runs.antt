@@ -1,5 +1,5 @@
 -- Texts that are appended piece by piece: runs of bytes that stand for themselves, and escapes between them.
-use Rattle.std.proofs.Common.{◌≡◌, ℕ, ◌+◌, ◌-◌, ◌<◌, ◌≤◌, List, [], ◌∷◌, ◌++◌, Bool, true, false, length, take, drop, get_or, refl, sym, ap, ◌∙◌, arith, append_assoc, append-nil, length-drop}
+use Rattle.std.proofs.Common.{◌≡◌, ℕ, ◌+◌, ◌-◌, ◌<◌, ◌≤◌, List, [], ◌∷◌, ◌++◌, Bool, true, false, length, take, drop, get_or, sym, ap, ◌∙◌, arith, append_assoc, append-nil, length-drop}
 use Rattle.std.specs.Prelude.{if◌then◌else◌, Result, Ok, Err, is_ok}
 use Rattle.std.specs.Result.{OnOk}
 use Rattle.std.specs.List.{flat_map}

@@ -1,5 +1,5 @@
 -- The texts that a reference for decimals had, each kept with what it states.
-use Rattle.std.specs.Prelude.{◌≡◌, List, []}
+use Rattle.std.specs.Prelude.{◌≡◌, []}
 use Rattle.std.specs.String.{string_bytes}
 use Rattle.oim_cells.specs.Cells.{Meaning, meaning_of}
 use Rattle.oim_resolve.specs.Facts.{stated_faults}

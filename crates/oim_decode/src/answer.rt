@@ -40,11 +40,7 @@ pub(crate) fn nothing(fault: Option<CellFault>) -> Answer
 }
 
 /// Appends a text in quotes, perhaps with a fault.
-fn written(
-    fault: Option<CellFault>,
-    text: &str,
-    out: &mut Vec<u8>,
-) -> Result<Answer, AllocError>
+fn written(fault: Option<CellFault>, text: &str, out: &mut Vec<u8>) -> Result<Answer, AllocError>
     ensures answer { IfOk result (λ a. a ≡ record { fault = fault; is_written = true }) }
     ensures text { OnOk result (out.new.items ≡ out.old.items ++ quoted text.now) }
 {
@@ -58,7 +54,11 @@ fn written(
 fn bad_value_unless(is_good: bool) -> Option<CellFault>
     ensures { result ≡ (if is_good then None else Some fault.BadValue) }
 {
-    if is_good { None } else { Some(CellFault::BadValue) }
+    if is_good {
+        None
+    } else {
+        Some(CellFault::BadValue)
+    }
 }
 
 /// The fault of a dimension that is nil or empty: none where it is typed.
@@ -161,8 +161,16 @@ fn text_answer(
         Role::Period => period_answer(alloc, report, side, text, out),
         Role::Unit => unit_answer(report, side, text, out),
         Role::Language => language_answer(alloc, report, side, text, out),
-        Role::Entity => written(bad_value_unless(sqname(namespaces, text).is_some()), text, out),
-        Role::Explicit => written(bad_value_unless(qname(namespaces, text).is_some()), text, out),
+        Role::Entity => written(
+            bad_value_unless(sqname(namespaces, text).is_some()),
+            text,
+            out,
+        ),
+        Role::Explicit => written(
+            bad_value_unless(qname(namespaces, text).is_some()),
+            text,
+            out,
+        ),
         Role::Concept | Role::Typed => written(None, text, out),
     }
 }

@@ -117,5 +117,15 @@ fn put_code(out: &mut Vec<u8>, byte: u8) -> Result<(), AllocError>
     requires { byte < 32 }
     ensures { out.new.items ≡ (if is_ok result then out.old.items ++ (92 ∷ 117 ∷ 48 ∷ 48 ∷ digit_char (byte / 16) ∷ digit_char (byte % 16) ∷ []) else out.old.items) }
 {
-    put(out, &[b'\\', b'u', b'0', b'0', hex_digit(byte / 16), hex_digit(byte % 16)])
+    put(
+        out,
+        &[
+            b'\\',
+            b'u',
+            b'0',
+            b'0',
+            hex_digit(byte / 16),
+            hex_digit(byte % 16),
+        ],
+    )
 }

@@ -6,7 +6,7 @@ ghost use Rattle.std.specs.Str.Parse.{AllDigits, without_leading_sign};
 ghost use Rattle.oim_cells.specs.Blanks.{trimmed};
 ghost use Rattle.oim_cells.specs.Cells.{numeral_of, seen_numeral};
 ghost use Rattle.oim_cells.specs.Numeral.{IsNumeralOf, IsSplit};
-ghost use Rattle.oim_decode.specs.Digits.{IsUnsigned, begins_with_sign};
+ghost use Rattle.oim_decode.specs.Digits.{IsUnsigned, begins_with_sign, takes_point};
 
 use oim_cells::{Accuracy, NumberKind, decimals, split_numeral};
 
@@ -60,6 +60,17 @@ fn sign_len(text: &[u8]) -> usize
     if has_sign(text) { 1 } else { 0 }
 }
 
+/// Whether a numeral of the kind may have a point.
+#[inline(always)]
+fn takes_point(kind: NumberKind) -> bool
+    ensures { result ≡ takes_point kind }
+{
+    match kind {
+        NumberKind::Integer => false,
+        NumberKind::Decimal | NumberKind::Double => true,
+    }
+}
+
 /// How long a numeral of the kind is that a text begins with: an optional sign, and digits with at
 /// most one point, none in an integer. 0 where there is none.
 #[inline]
@@ -69,22 +80,24 @@ fn numeral_len(kind: NumberKind, text: &[u8]) -> usize
 {
     let start = sign_len(text);
     let (len, has_point) = unsigned_len(&text[start..]);
-    let is_integer = matches!(&kind, NumberKind::Integer);
     if has_point {
-        if is_integer || len == 1 { 0 } else { start + len }
-    } else if len == 0 {
-        0
-    } else {
-        start + len
+        if len <= 1 {
+            return 0;
+        }
+        if takes_point(kind) {
+            return start + len;
+        }
+        return 0;
     }
+    if len == 0 { 0 } else { start + len }
 }
 
 /// Whether a text begins and ends with a byte above a space.
 #[inline(always)]
-fn is_bare(text: &[u8]) -> bool
+fn is_bare(text: &str) -> bool
     ensures { result ≡ true → trimmed text.now ≡ text.now }
 {
-    match text {
+    match text.as_bytes() {
         [] => false,
         [only] => *only > b' ',
         [first, .., last] => *first > b' ' && *last > b' ',
@@ -98,7 +111,7 @@ fn plain(kind: NumberKind, text: &str) -> Option<(&str, Option<Accuracy>)>
     ensures { IfSome result (λ r. IsSplit kind (trimmed text.now) r.0.now r.1) }
 {
     let len = numeral_len(kind, text.as_bytes());
-    if len == 0 || !is_bare(text.as_bytes()) {
+    if len == 0 || !is_bare(text) {
         return None;
     }
     if len == text.len() {

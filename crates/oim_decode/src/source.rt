@@ -22,12 +22,7 @@ impl<'a> SourceOf<'a> {
     /// The text of the reference in a row, whose number has these digits: empty where nothing is
     /// given.
     #[inline(always)]
-    pub(crate) fn text_in<'r>(
-        self,
-        number: u32,
-        digits: &'r str,
-        row: &'r StringRecord,
-    ) -> &'r str
+    pub(crate) fn text_in<'r>(self, number: u32, digits: &'r str, row: &'r StringRecord) -> &'r str
     where
         'a: 'r,
         requires { digits.now ≡ decimal number }

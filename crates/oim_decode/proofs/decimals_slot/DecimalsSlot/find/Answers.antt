@@ -24,8 +24,7 @@ returns-then-eq-clause-text c =
 
 pub invariant_of-self-2 : goal.invariant_of-self-2
 invariant_of-self-2 c =
-    let within : c.place_for-at.result < length c.self.inside.kept.items = omega (arith, c.self.inside.kept.ok.0) in
-    (
+    let within : c.place_for-at.result < length c.self.inside.kept.items = omega (arith, c.self.inside.kept.ok.0) in (
       All-set AreDecimals c.self.inside.kept.items c.place_for-at.result c.read.new.self c.read.ensures.kept c.self.invariant.0,
       omega (arith, length-set c.self.inside.kept.items c.place_for-at.result c.read.new.self),
     )
