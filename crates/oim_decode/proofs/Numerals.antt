@@ -1,14 +1,13 @@
 -- Texts that are split as numerals in one pass.
-use Rattle.std.proofs.Common.{◌≡◌, ℕ, zero, suc, ◌+◌, ◌-◌, ◌<◌, ◌≤◌, Bool, true, false, cond, ◌==◌, ◌||◌, List, [], ◌∷◌, ◌++◌, length, take, drop, get_or, reverse, inl, inr, Some, None, refl, sym, subst, ap, ◌∙◌, arith, codes, append_assoc, length-append}
+use Rattle.std.proofs.Common.{◌≡◌, ℕ, zero, suc, ◌+◌, ◌-◌, ◌<◌, ◌≤◌, Bool, true, false, cond, ◌==◌, ◌||◌, List, [], ◌∷◌, ◌++◌, length, take, drop, get_or, inl, inr, Some, None, refl, sym, subst, ap, ◌∙◌, arith, codes, append_assoc, length-append}
 use Rattle.std.specs.Str.Parse.{AllDigits, without_leading_sign}
-use Rattle.std.proofs.lemmas.Bool.{ne_eqb}
 use Rattle.std.proofs.Math.Seq.{take-add}
 use Rattle.std.specs.Char.{digit_value}
-use Rattle.std.proofs.lemmas.List.{take_more, take_rest, take_all, take-append-drop, length-take-le, get_or-reverse, reverse-reverse, length-reverse}
+use Rattle.std.proofs.lemmas.List.{take_more, take_rest, take_all, take-append-drop, length-take-le}
 use Rattle.oim_cells.specs.declared.cells.Accuracy.{Accuracy}
 use Rattle.oim_cells.specs.declared.cells.NumberKind.{NumberKind}
 use Rattle.oim_cells.specs.declared.cells.NumberKind.TheVariants.{Integer, Decimal, Double}
-use Rattle.oim_cells.specs.Blanks.{is_blank, without_front, without_back, trimmed}
+use Rattle.oim_cells.specs.Blanks.{trimmed}
 use Rattle.oim_cells.specs.Numeral.{IsDecimal, IsNumeralOf, IsDecimals, IsSplit, suffixed, bare, pointed, no_power}
 use Rattle.oim_decode.specs.Digits.{IsPointed, begins_with_sign, takes_point}
 
@@ -16,23 +15,6 @@ use Rattle.oim_decode.specs.Digits.{IsPointed, begins_with_sign, takes_point}
 pub digits_push : (xs : List ℕ) (d : ℕ) → AllDigits 10 xs → digit_value d < 10 → AllDigits 10 (xs ++ d ∷ [])
 digits_push [] d h k = (k, tt)
 digits_push (x ∷ xs) d h k = (h.0, digits_push xs d h.1 k)
-
-pub not_blank : (c : ℕ) → 32 < c → is_blank c ≡ false
-not_blank c h = rw (ne_eqb c 32 (λ e. omega (arith, e)), ne_eqb c 9 (λ e. omega (arith, e)), ne_eqb c 13 (λ e. omega (arith, e)), ne_eqb c 10 (λ e. omega (arith, e))) refl
-
-front_stays : (s : List ℕ) → 0 < length s → 32 < get_or s 0 0 → without_front s ≡ s
-front_stays [] h k = absurd (omega (arith, h))
-front_stays (c ∷ cs) h k = rw (not_blank c k) refl
-
-back_stays : (s : List ℕ) → 0 < length s → 32 < get_or s (length s - 1) 0 → without_back s ≡ s
-back_stays s h k =
-    let at : length s - 1 ≡ length s - 1 - 0 = omega arith in
-    let last : 32 < get_or (reverse s) 0 0 = subst (λ c. 32 < c) (ap (λ n. get_or s n 0) at ∙ sym (get_or-reverse s 0 0 h)) k in
-    let some : 0 < length (reverse s) = omega (arith, length-reverse s) in
-    ap reverse (front_stays (reverse s) some last) ∙ reverse-reverse s
-
-pub bare_stays : (s : List ℕ) → 0 < length s → 32 < get_or s 0 0 → 32 < get_or s (length s - 1) 0 → trimmed s ≡ s
-bare_stays s h first last = ap without_back (front_stays s h first) ∙ back_stays s h last
 
 -- a sign and digits with at most one point are a numeral
 is_numeral : (kind : NumberKind) (s u : List ℕ) → without_leading_sign s ≡ u → 0 < length u → AllDigits 10 u → IsNumeralOf kind s

@@ -1,8 +1,10 @@
 //! What a value gives a fact in a role, read in one pass: its least fault, or its JSON text.
 
 ghost use Rattle.std.specs.Prelude.{◌≡◌, ◌++◌, [], IfOk, OnOk, Some, None, true, false, if◌then◌else◌};
-ghost use Rattle.std.specs.Option.{option_map};
+ghost use Rattle.std.specs.Option.{option_and_then, option_map};
+ghost use Rattle.oim_names.specs.QName.{qname_of};
 ghost use Rattle.oim_cells.specs.Cells.{seen_meaning, Text as a_text};
+ghost use Rattle.oim_meta.specs.Readers.{kind_of};
 ghost use Rattle.oim_resolve.specs.declared.role.Role.TheVariants as role;
 ghost use Rattle.oim_resolve.specs.declared.fact.CellFault.TheVariants as fault;
 ghost use Rattle.oim_period.specs.Reads.{reading_of};
@@ -29,7 +31,7 @@ pub(crate) struct Answer {
     pub(crate) is_written: bool,
 }
 
-/// Nothing is given, perhaps with a fault.
+/// An answer that gives nothing, perhaps with a fault.
 pub(crate) fn nothing(fault: Option<CellFault>) -> Answer
     ensures { result ≡ record { fault = fault; is_written = false } }
 {
@@ -51,6 +53,7 @@ fn written(fault: Option<CellFault>, text: &str, out: &mut Vec<u8>) -> Result<An
     })
 }
 
+/// The fault of a value that is not well-formed in its role.
 fn bad_value_unless(is_good: bool) -> Option<CellFault>
     ensures { result ≡ (if is_good then None else Some fault.BadValue) }
 {
@@ -221,10 +224,6 @@ pub(crate) fn concept_of(report: &Report, value: CellMeaning<'_>) -> Result<Kind
         },
     }
 }
-
-ghost use Rattle.std.specs.Option.{option_and_then};
-ghost use Rattle.oim_names.specs.QName.{qname_of};
-ghost use Rattle.oim_meta.specs.Readers.{kind_of};
 
 /// The kind of a declared QName.
 fn kind_of_name(report: &Report, text: &str) -> Option<Kind>

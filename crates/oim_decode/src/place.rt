@@ -5,7 +5,7 @@ ghost use Rattle.std.specs.Prelude.{◌<◌};
 /// How many texts are kept.
 pub(crate) const PLACES: usize = 32;
 
-/// Some place for a text among so many. No answer depends on which.
+/// Some place for a text, below `places`. No answer depends on which place it is.
 #[inline(always)]
 pub(crate) fn place_for(text: &[u8], places: usize) -> usize
     requires { 0 < places }
