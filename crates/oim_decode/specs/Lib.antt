@@ -1,2 +1,7 @@
 pub mod RowTexts
 pub mod Blocks
+pub mod Slots
+pub mod Answers
+pub mod Kept
+pub mod KeptDecimals
+pub mod Digits

@@ -9,9 +9,19 @@
 //! contracts alone.
 #![tactic(auto)]
 
+mod answer;
+mod append;
 mod batch;
+mod decimals;
+mod decimals_slot;
+mod kept;
+mod kept_decimals;
+mod numeral;
+mod place;
 mod remember;
 mod row_writer;
+mod slot;
+mod source;
 mod table;
 mod text_rows;
 

@@ -49,7 +49,7 @@ three true quote slash h = absurd (cc)
 is_not : (k b : ℕ) → nat_lt k 32 ≡ true → nat_lt b 32 ≡ false → (b == k) ≡ false
 is_not k b small large = eqb_of b k (λ e. let low : nat_lt k 32 ≡ false = subst (λ n. nat_lt n 32 ≡ false) e large in let bad : true ≡ false = sym small ∙ low in cc)
 
-unescaped : (b : ℕ) → is_unescaped b ≡ true → escaped_byte b ≡ b ∷ []
+pub unescaped : (b : ℕ) → is_unescaped b ≡ true → escaped_byte b ≡ b ∷ []
 unfolding escaped_byte
 unescaped b h =
     let t = three (nat_lt b 32) (b == 34) (b == 92) h in
@@ -60,7 +60,7 @@ two true true h = (refl, refl)
 two true false h = absurd (cc)
 two false b h = absurd (cc)
 
-all_unescaped : (s : List ℕ) → list_all is_unescaped s ≡ true → flat_map escaped_byte s ≡ s
+pub all_unescaped : (s : List ℕ) → list_all is_unescaped s ≡ true → flat_map escaped_byte s ≡ s
 all_unescaped [] h = refl
 all_unescaped (c ∷ s) h = let t = two _ _ h in rw (unescaped c t.0, all_unescaped s t.1) refl
 

@@ -1,0 +1,28 @@
+-- What the texts mean that a reference has where no cell and no parameter is given, and where it is the number of the row.
+use Rattle.std.proofs.Common.{◌≡◌, ℕ, ◌<◌, ◌^◌, ◌==◌, List, [], ◌∷◌, length, true, Option, None, sym, subst, ◌∙◌, arith, refl}
+use Rattle.std.specs.Prelude.{decimal}
+use Rattle.std.specs.Char.{digit_value}
+use Rattle.std.specs.Str.Parse.{IsNumeral}
+use Rattle.std.proofs.lemmas.Bool.{eqb-true}
+use Rattle.std.proofs.lemmas.Fmt.{decimal_is_IsNumeral}
+use Rattle.std.proofs.lemmas.List.{nil_from_length}
+use Rattle.oim_cells.specs.Cells.{nothing, plain, meaning_of, Absent, Text}
+use Rattle.oim_cells.proofs.Meanings.{meaning_law}
+use Rattle.oim_meta.specs.Grid.{Record}
+use Rattle.oim_rows.specs.RowFacts.{field_or_empty}
+use Rattle.oim_decode.specs.Slots.{Named, source_meaning}
+
+pub empty_meaning : meaning_of [] ≡ Absent
+empty_meaning = sym (meaning_law nothing)
+
+digits_meaning : (ds : List ℕ) → IsNumeral 10 ds → meaning_of ds ≡ Text ds
+digits_meaning [] h = absurd (omega (arith, h.0))
+digits_meaning (c ∷ cs) h =
+    sym (meaning_law (plain c cs (λ e. let bad : digit_value 35 < 10 = subst (λ k. digit_value k < 10) e h.1.0 in absurd (omega (arith, bad)))))
+
+pub number_meaning : (n : ℕ) → n < 2 ^ 64 → meaning_of (decimal n) ≡ Text (decimal n)
+number_meaning n h = digits_meaning (decimal n) (decimal_is_IsNumeral n h).0
+
+pub nothing_named : (place : Option ℕ) (n : ℕ) (r : Record) (cell : List ℕ) → cell ≡ field_or_empty r place → (length cell == 0) ≡ true → meaning_of [] ≡ source_meaning (Named place None) n r
+nothing_named place n r cell is none =
+    let empty : field_or_empty r place ≡ [] = sym is ∙ nil_from_length cell (eqb-true (length cell) 0 none) in empty_meaning ∙ rw (empty) refl
