@@ -1,10 +1,10 @@
 -- The definitions, executed on worked cases.
-use Rattle.std.proofs.Common.{◌≡◌, [], ◌∷◌, Some, None, Ok, Err, List, refl, codes, inl, inr}
+use Rattle.std.proofs.Common.{◌≡◌, [], ◌∷◌, Some, None, refl, codes, inl, inr}
 use Rattle.oim_resolve.specs.declared.fact.Fact.{Fact}
-use Rattle.oim_rows.specs.Header.{fault_at, file_fault}
-use Rattle.oim_rows.specs.Streams.{Stream, ending}
+use Rattle.oim_rows.specs.Header.{file_fault}
+use Rattle.oim_rows.specs.Streams.{ending}
 use Rattle.oim_rows.specs.declared.fault.TableKind.TheVariants as kind
-use Rattle.oim_decode.specs.Blocks.{AnswersFacts, ReadsRows, facts_of_rows, left_of}
+use Rattle.oim_decode.specs.Blocks.{ReadsRows, facts_of_rows, left_of}
 use Rattle.oim_decode.specs.declared.table.Progress.TheVariants as progress
 
 abbrev a : Fact
@@ -28,8 +28,3 @@ one_of_two = inl (refl, refl)
 -- the reader failed after the first
 broken : ReadsRows 0 (record { rows = (a ∷ []) ∷ (b ∷ []) ∷ []; fault = None }) ((a ∷ []) ∷ []) (Some (ending (Some (file_fault 0 kind.Read))))
 broken = inr (((b ∷ []) ∷ [], refl), file_fault 0 kind.Read, inl refl, refl)
-
--- a row's own fault comes only when every fact before it was given
-not_yet : AnswersFacts 0 (a ∷ []) (Err (fault_at 0 2 0 kind.Ragged)) [] (Some (ending (Some (fault_at 0 2 0 kind.Ragged)))) → ⊥
-not_yet (none, left, inl given) = cc given
-not_yet (none, left, inr short) = cc short
