@@ -1,9 +1,11 @@
-// The end of a ring that takes.
+//! The end of a ring that takes.
+
 ghost use Rattle.std.specs.Prelude.{◌≡◌, false, [], ◌∷◌, ◌++◌, IfSome, IfNone};
 ghost use Rattle.rtrb.specs.Ring.{received};
 ghost use Rattle.oim_ring.specs.Ends.{taker_ring};
 ghost use Rattle.oim_ring.specs.Items.{blocks_only};
 
+use crate::backlog::Place;
 use crate::feed::Closed;
 use crate::item::Item;
 use crate::waiting::Waiting;
@@ -16,6 +18,7 @@ use std::sync::Wait;
 pub struct Drain {
     consumer: Consumer<Item>,
     waiting: Waiting,
+    place: Place,
 }
 
 impl Model for Drain {
@@ -44,10 +47,14 @@ impl Model for Drained {
 }
 
 impl Drain {
-    pub(crate) fn new(consumer: Consumer<Item>, waiting: Waiting) -> Drain
+    pub(crate) fn new(consumer: Consumer<Item>, waiting: Waiting, place: Place) -> Drain
         ensures { (result.ring ≡ taker_ring consumer) × (result.taken ≡ received consumer) }
     {
-        Drain { consumer, waiting }
+        Drain {
+            consumer,
+            waiting,
+            place,
+        }
     }
 
     /// Takes the next item. None where nothing was found, and then nothing changed. It takes no memory
@@ -57,13 +64,17 @@ impl Drain {
         ensures some { IfSome result (λ item. self.new.taken ≡ self.old.taken ++ item ∷ []) }
         ensures none { IfNone result (self.new.taken ≡ self.old.taken) }
     {
+        self.place.take_turn();
         let item = self.consumer.pop().ok()?;
+        if let Item::Block(_) = item {
+            self.place.less();
+        }
         self.waiting.wake();
         Some(item)
     }
 
-    /// Waits until the feed sends an item, or no more where it sent one since this drain last waited.
-    /// To be called where nothing was found; what was taken stays as it is.
+    /// Waits until the feed sends an item, and not at all if it sent one since this drain last waited.
+    /// To be called where nothing was found. What was taken stays as it is.
     pub fn wait<R: Wait>(&self, rt: &R) {
         self.waiting.wait(rt);
     }
@@ -80,6 +91,7 @@ impl Drain {
         let Drain {
             mut consumer,
             waiting: _,
+            place: _,
         } = self;
         consumer.slots_after(&mut finished);
         Drained { consumer }

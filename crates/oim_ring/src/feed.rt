@@ -1,11 +1,14 @@
-// The end of a ring that sends.
+//! The end of a ring that sends.
+
 ghost use Rattle.std.specs.Prelude.{◌≡◌, ◌<◌, [], ◌∷◌, ◌++◌, true, length, IsOk, OnOk, IfErr};
 ghost use Rattle.rtrb.specs.Ring.{sent, producer_capacity};
 ghost use Rattle.oim_ring.specs.Closing.{Closes};
 ghost use Rattle.oim_ring.specs.Ends.{sender_ring};
+ghost use Rattle.oim_ring.specs.FaultNames.{name_of, number_of};
 ghost use Rattle.oim_ring.specs.Items.{blocks_only};
 ghost use Rattle.oim_ring.specs.declared.item.Item.TheVariants as items;
 
+use crate::backlog::Place;
 use crate::item::{Ending, Item};
 use crate::waiting::Waiting;
 use oim_json::Block;
@@ -19,6 +22,7 @@ use std::sync::Wait;
 pub struct Feed {
     producer: Producer<Item>,
     waiting: Waiting,
+    place: Place,
 }
 
 impl Model for Feed {
@@ -56,18 +60,44 @@ impl Model for Closed {
 /// Why a feed was not closed.
 #[derive(Drop)]
 pub enum CloseFault {
-    /// The ring is full: the feed and the ending, unchanged.
+    /// 65: the ring is full. The feed and the ending, unchanged.
     Full(Feed, Ending),
-    /// The ending was sent, and there is no token of the finished feed.
+    /// 66: the ending was sent, and there is no token of the finished feed.
     Lost,
 }
 
+impl CloseFault {
+    /// The fault's number, 65 or 66.
+    pub fn number(&self) -> u32
+        ensures { result ≡ number_of self.now }
+    {
+        match self {
+            CloseFault::Full(_, _) => 65,
+            CloseFault::Lost => 66,
+        }
+    }
+
+    /// The fault's name.
+    pub fn name(&self) -> &'static str
+        ensures { result.now ≡ name_of self.now }
+    {
+        match self {
+            CloseFault::Full(_, _) => "Full",
+            CloseFault::Lost => "Lost",
+        }
+    }
+}
+
 impl Feed {
-    pub(crate) fn new(producer: Producer<Item>, waiting: Waiting) -> Feed
+    pub(crate) fn new(producer: Producer<Item>, waiting: Waiting, place: Place) -> Feed
         requires { sent producer ≡ [] }
         ensures { (result.ring ≡ sender_ring producer) × (result.size ≡ producer_capacity producer) × (result.sent ≡ []) }
     {
-        Feed { producer, waiting }
+        Feed {
+            producer,
+            waiting,
+            place,
+        }
     }
 
     /// Sends a block. Err: the ring is full; the block comes back unchanged, and nothing changed. While
@@ -79,12 +109,16 @@ impl Feed {
         ensures room { length self.old.sent < self.old.size → IsOk result }
         ensures open { blocks_only self.new.sent ≡ true }
     {
+        self.place.more();
         match self.producer.push(Item::Block(block)) {
             Ok(()) => {
                 self.waiting.wake();
                 Ok(())
             }
-            Err(PushError::Full(Item::Block(block))) => Err(block),
+            Err(PushError::Full(Item::Block(block))) => {
+                self.place.less();
+                Err(block)
+            }
             Err(PushError::Full(Item::Ending(_))) => unreachable!(),
         }
     }
@@ -98,10 +132,18 @@ impl Feed {
         let Feed {
             mut producer,
             waiting,
+            place,
         } = self;
         match producer.push(Item::Ending(ending)) {
             Ok(()) => {}
-            Err(_) => return Err(CloseFault::Full(Feed { producer, waiting }, ending)),
+            Err(_) => {
+                let feed = Feed {
+                    producer,
+                    waiting,
+                    place,
+                };
+                return Err(CloseFault::Full(feed, ending));
+            }
         }
         let finished = producer.finish();
         waiting.wake();
@@ -111,9 +153,15 @@ impl Feed {
         }
     }
 
-    /// Waits until the drain takes an item, or no more where it took one since this feed last waited.
-    /// To be called where the ring was found full; what was sent stays as it is.
+    /// Waits until the drain takes an item, and not at all if it took one since this feed last waited.
+    /// To be called where the ring was found full. What was sent stays as it is.
     pub fn wait<R: Wait>(&self, rt: &R) {
         self.waiting.wait(rt);
+    }
+
+    /// Waits while the report's rings hold as many blocks as they may together and nothing was asked
+    /// of this feed's drain yet. To be called before a block is put. What was sent stays as it is.
+    pub fn wait_for_turn<R: Wait>(&self, rt: &R) {
+        self.place.wait(rt);
     }
 }

@@ -1,4 +1,5 @@
-// What a ring holds.
+//! What a ring holds.
+
 use oim_json::Block;
 use oim_rows::TableFault;
 

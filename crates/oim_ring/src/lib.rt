@@ -9,12 +9,14 @@
 //! - `take` that gives an item has taken it, and None has changed nothing;
 //! - `settle` shows that what was taken is what was sent, each item once and in order.
 //!
-//! No lock stands round a ring, and none of these calls waits: `Feed::wait` and `Drain::wait` alone
-//! sleep, until the other end has moved. That a ring holds no more items than its size, that `take`
+//! No lock stands round a ring, and none of these calls waits: `Feed::wait`, `Feed::wait_for_turn`
+//! and `Drain::wait` alone sleep, until the other end or the writer has moved. `Lanes` opens the
+//! rings of one report, whose feeds wait for their turn while too many blocks wait in all. That a ring holds no more items than its size, that `take`
 //! finds what was put, that `close` gives the token while the drain is there, and that a wait ends,
 //! is shown by tests alone.
 #![tactic(auto)]
 
+mod backlog;
 mod drain;
 mod feed;
 mod item;
@@ -24,4 +26,4 @@ mod waiting;
 pub use drain::{Drain, Drained};
 pub use feed::{CloseFault, Closed, Feed};
 pub use item::{Ending, Item};
-pub use opening::lane;
+pub use opening::{Lanes, lane};

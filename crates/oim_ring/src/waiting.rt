@@ -1,4 +1,5 @@
-// How the two ends of a ring wait for one another.
+//! How the two ends of a ring wait for one another.
+
 use crossbeam_utils::sync::{Parker, Unparker};
 use std::alloc::{AllocError, Global};
 use std::sync::Wait;
@@ -33,7 +34,7 @@ impl Waiting {
         self.other.unpark();
     }
 
-    /// Waits until the other end wakes this one, or no more where it did since the last wait.
+    /// Waits until the other end wakes this one, and not at all if it did so since the last wait.
     pub(crate) fn wait<R: Wait>(&self, rt: &R) {
         self.own.park(rt);
     }
