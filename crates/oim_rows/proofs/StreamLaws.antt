@@ -1,5 +1,5 @@
 -- One row more of a table's stream.
-use Rattle.std.proofs.Common.{◌≡◌, ◌⊎◌, ◌+◌, ℕ, Bool, List, [], ◌∷◌, true, false, Option, Some, None, Result, Ok, Err, refl, sym, ap, subst, inl, inr, option_map, IfOk, IfSome, OnSome}
+use Rattle.std.proofs.Common.{◌≡◌, ◌⊎◌, ◌+◌, ℕ, Bool, List, [], ◌∷◌, true, false, Option, Some, None, Result, Ok, Err, refl, sym, ap, subst, inl, inr, option_map, IfOk, IfSome, MatchResult, OnSome}
 use Rattle.oim_meta.specs.Grid.{Field, Record, grid}
 use Rattle.oim_meta.specs.Taking.{TakesRecord}
 use Rattle.oim_resolve.specs.declared.fact.Fact.{Fact}
@@ -143,3 +143,22 @@ pub opened_stream : (report : ReportValue) (table limit : ℕ) (known : Option (
     → IfSome known (λ bytes. (option_map (stream_from g 1 ids) new ≡ Some (stream_of report table limit (grid bytes))) × (file_header_fault report table (grid bytes) ≡ None))
 opened_stream report table limit None old new h g ids e took reading none = tt
 opened_stream report table limit (Some bytes) old new h g ids e took reading none = rw (reading, none) (opened_at report table limit (grid bytes) new h (rw e at took))
+
+-- what is said of an answer, where it is Ok
+pub when_ok : {A E : Type 0} (r : Result A E) (P : A → Type 0) (Q : E → Type 0) → MatchResult r P Q → IfOk r P
+when_ok (Ok a) P Q h = h
+when_ok (Err e) P Q h = tt
+
+-- a header was refused, seen from the bytes of the file
+pub refused_header : (report : ReportValue) (table : ℕ) (file : Option (List ℕ)) (records : Option (List Record)) (e : TableFault) → records ≡ option_map grid file
+    → IsOutside table e ⊎ IfSome records (λ rs. file_header_fault report table rs ≡ Some e)
+    → IfSome file (λ bytes. IsOutside table e ⊎ (file_header_fault report table (grid bytes) ≡ Some e))
+refused_header report table None records e is h = tt
+refused_header report table (Some bytes) records e is (inl o) = inl o
+refused_header report table (Some bytes) records e is (inr h) = inr (subst (λ x. IfSome x (λ rs. file_header_fault report table rs ≡ Some e)) is h)
+
+-- memory was refused for a table, whatever its file
+pub refused_memory : (report : ReportValue) (table : ℕ) (file : Option (List ℕ)) (e : TableFault) → e ≡ file_fault table kind.Memory
+    → IfSome file (λ bytes. IsOutside table e ⊎ (file_header_fault report table (grid bytes) ≡ Some e))
+refused_memory report table None e is = tt
+refused_memory report table (Some bytes) e is = inl (inr is)
