@@ -1,6 +1,6 @@
 -- Texts written one after another.
 use Rattle.std.specs.Prelude.{◌≡◌, ◌≤◌, ℕ, List, [], ◌∷◌, ◌++◌, Bool, true, false, Option, Some, None, length, map}
-use Rattle.std.proofs.Common.{refl, sym, ap, ◌∙◌, subst, append_assoc, append-nil, arith}
+use Rattle.std.proofs.Common.{refl, sym, ap, ◌∙◌, append_assoc, append-nil, arith}
 use Rattle.oim_json.proofs.Writes.{appends_nothing}
 use Rattle.oim_json.specs.Document.{facts_text, piece}
 use Rattle.oim_json.specs.JsonText.{joined, member_text}

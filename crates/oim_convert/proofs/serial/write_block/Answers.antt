@@ -1,5 +1,5 @@
-use Rattle.std.specs.Prelude.{◌≤◌, ◌≡◌, length, true}
-use Rattle.std.proofs.Common.{arith, ap, sym, ◌∙◌, subst}
+use Rattle.std.specs.Prelude.{◌≤◌, length}
+use Rattle.std.proofs.Common.{arith, ◌∙◌, subst}
 use Rattle.std.proofs.lemmas.Bool.{lt-ltb}
 use Rattle.oim_json.specs.Sinks.{sink_at, Broke, Wrote}
 use Rattle.oim_convert.proofs.Going.{block_text, has_block}
