@@ -1,12 +1,10 @@
 -- Texts written one after another.
-use Rattle.std.specs.Prelude.{◌≡◌, ℕ, List, [], ◌∷◌, ◌++◌, Bool, true, false, Option, Some, None, Result, Ok, Err, length, map}
-use Rattle.std.proofs.Common.{refl, sym, ap, ◌∙◌, subst, append_assoc, append-nil, arith}
+use Rattle.std.specs.Prelude.{◌≡◌, ◌≤◌, ℕ, List, [], ◌∷◌, ◌++◌, Bool, true, false, Option, Some, None, length, map}
+use Rattle.std.proofs.Common.{refl, sym, ap, ◌∙◌, append_assoc, append-nil, arith}
 use Rattle.oim_json.proofs.Writes.{appends_nothing}
 use Rattle.oim_json.specs.Document.{facts_text, piece}
 use Rattle.oim_json.specs.JsonText.{joined, member_text}
-use Rattle.oim_json.specs.Sinks.{SinkView, Broke, Wrote}
-use Rattle.oim_json.specs.declared.mark.WriteFault.{WriteFault}
-use Rattle.oim_merge.proofs.Going.{broke_before, broke_later, wrote_twice}
+use Rattle.oim_json.specs.Sinks.{SinkView, Wrote}
 use Rattle.oim_meta.specs.Grid.{Record}
 use Rattle.oim_meta.specs.ReportValue.{ReportValue}
 use Rattle.oim_resolve.specs.declared.fact.Fact.{Fact}
@@ -14,9 +12,7 @@ use Rattle.oim_rows.specs.Header.{file_header_fault}
 use Rattle.oim_rows.specs.Streams.{ending, stream_of}
 use Rattle.oim_rows.specs.declared.fault.TableFault.{TableFault}
 use Rattle.oim_convert.specs.Files.{IsFileOf}
-use Rattle.oim_convert.specs.Steps.{WritesFact, WritesFacts, more_text, has_any}
-use Rattle.oim_convert.specs.declared.halt.Halt.{Halt}
-use Rattle.oim_convert.specs.declared.halt.Halt.TheVariants as halt
+use Rattle.oim_convert.specs.Steps.{more_text, has_any}
 
 pub wrote_nothing : (s : SinkView) → Wrote s s []
 wrote_nothing s = (refl, appends_nothing s.told)
@@ -36,35 +32,6 @@ pub has_any_append : (any : Bool) (xs ys : List Fact) → has_any any (xs ++ ys)
 has_any_append any [] ys = refl
 has_any_append any (f ∷ fs) [] = refl
 has_any_append any (f ∷ fs) (g ∷ gs) = refl
-
-pub no_facts : (s : SinkView) (any : Bool) → WritesFacts s s any any [] (Ok tt)
-no_facts s any = (refl, wrote_nothing s)
-
-pub fact_first : (a b c : SinkView) (any any1 any2 : Bool) (f : Fact) (fs : List Fact) (r : Result (Unit {0}) Halt)
-    → (any1 ≡ true) × Wrote a b (piece any (member_text f)) → WritesFacts b c any1 any2 fs r → WritesFacts a c any any2 (f ∷ fs) r
-fact_first a b c any any1 any2 f fs (Ok u) (e, p) (e2, q) = (e2 ∙ has_true any1 fs e, wrote_twice a b c (piece any (member_text f)) (more_text true fs) p (subst (λ n. Wrote b c (more_text n fs)) e q))
-  where
-    has_true : (n : Bool) (fs : List Fact) → n ≡ true → has_any n fs ≡ true
-    has_true n [] e = e
-    has_true n (g ∷ gs) e = refl
-fact_first a b c any any1 any2 f fs (Err halt.Memory) (e, p) q =
-    record {
-      written = f ∷ q.written;
-      some = (q.some.0, ap (λ l. f ∷ l) q.some.1);
-      text = wrote_twice a b c (piece any (member_text f)) (more_text true q.written) p (subst (λ n. Wrote b c (more_text n q.written)) e q.text);
-    }
-fact_first a b c any any1 any2 f fs (Err (halt.Write w)) (e, p) q =
-    broke_later a b c (piece any (member_text f)) (more_text true fs) w p (subst (λ n. Broke b c (more_text n fs) w) e q)
-
-pub fact_memory : (a b : SinkView) (any any' : Bool) (f : Fact) (fs : List Fact) → Wrote a b [] → WritesFacts a b any any' (f ∷ fs) (Err halt.Memory)
-fact_memory a b any any' f fs p = record { written = []; some = (f ∷ fs, refl); text = p }
-
-pub fact_broke : (a b : SinkView) (any any' : Bool) (f : Fact) (fs : List Fact) (w : WriteFault) → Broke a b (piece any (member_text f)) w → WritesFacts a b any any' (f ∷ fs) (Err (halt.Write w))
-fact_broke a b any any' f fs w p = broke_before a b (piece any (member_text f)) (more_text true fs) w p
-
-pub fact_stopped : (a b : SinkView) (any any' : Bool) (f : Fact) (fs : List Fact) (h : Halt) → WritesFact a b any any' f (Err h) → WritesFacts a b any any' (f ∷ fs) (Err h)
-fact_stopped a b any any' f fs halt.Memory p = fact_memory a b any any' f fs p
-fact_stopped a b any any' f fs (halt.Write w) p = fact_broke a b any any' f fs w p
 
 -- FILES
 
@@ -96,3 +63,14 @@ pub facts_text_is : (fs : List Fact) → facts_text fs ≡ more_text false fs
 unfolding facts_text
 facts_text_is [] = refl
 facts_text_is (f ∷ fs) = joined_more f fs
+
+-- a block's texts are those of its facts
+pub block_text : (any : Bool) (fs : List Fact) → 1 ≤ length fs → piece any (facts_text fs) ≡ more_text any fs
+unfolding facts_text
+block_text any [] some = absurd (omega (arith, some))
+block_text true (f ∷ fs) some = ap (λ t. 44 ∷ t) (joined_more f fs)
+block_text false (f ∷ fs) some = joined_more f fs
+
+pub has_block : (any : Bool) (fs : List Fact) → 1 ≤ length fs → true ≡ has_any any fs
+has_block any [] some = absurd (omega (arith, some))
+has_block any (f ∷ fs) some = refl

@@ -1,7 +1,9 @@
--- Facts that are gathered and sent, row after row.
-use Rattle.std.specs.Prelude.{◌≡◌, ◌⊎◌, ℕ, List, [], ◌∷◌, ◌++◌, true, Option, Some, None, Ok, Err, IfSome}
+-- What is sent of a table, block after block.
+use Rattle.std.specs.Prelude.{◌≡◌, ◌⊎◌, ℕ, List, [], ◌∷◌, ◌++◌, true, Option, Some, None, Result, Ok, Err, IfSome}
 use Rattle.std.proofs.Common.{refl, sym, ap, ◌∙◌, subst, append_assoc, append-nil, inl, inr}
+use Rattle.std.proofs.lemmas.Grind.{flat_map-append}
 use mathlib.Core.List.{IsPrefix}
+use Rattle.oim_decode.specs.Blocks.{AnswersFacts, GivesBlock, ReadsRows, facts_of_rows}
 use Rattle.oim_meta.specs.Grid.{grid}
 use Rattle.oim_meta.specs.ReportValue.{ReportValue}
 use Rattle.oim_resolve.specs.declared.fact.Fact.{Fact}
@@ -11,13 +13,12 @@ use Rattle.oim_ring.specs.declared.item.Ending.TheVariants.{Closed, Refused}
 use Rattle.oim_ring.specs.declared.item.Item.{Item}
 use Rattle.oim_ring.specs.declared.item.Item.TheVariants.{Block, Ending}
 use Rattle.oim_rows.specs.Header.{file_fault, file_header_fault}
-use Rattle.oim_rows.specs.Streams.{GivesNext, IsOutside, Stream, ending, stream_of, table_stream}
+use Rattle.oim_rows.specs.Streams.{IsOutside, Stream, ending, stream_of, table_stream}
 use Rattle.oim_rows.specs.declared.fault.TableFault.{TableFault}
 use Rattle.oim_rows.specs.declared.fault.TableKind.TheVariants as kind
 use Rattle.oim_convert.specs.Answer.{ending_of, facts_of, row_after_row}
 use Rattle.oim_convert.specs.Files.{IsFileOf}
 use Rattle.oim_convert.specs.Histories.{IsDecoded, IsGiven, facts_in}
-use Rattle.oim_convert.specs.Sending.{Ends, IsReading}
 use Rattle.oim_convert.proofs.Going.{has_file, has_no_file, refused_header}
 
 -- BLOCKS
@@ -30,116 +31,127 @@ facts_push (Ending e ∷ items) facts = facts_push items facts
 pub block_sent : (old new : List Item) (facts : List Fact) → new ≡ old ++ Block facts ∷ [] → facts_in new ≡ facts_in old ++ facts
 block_sent old new facts e = ap facts_in e ∙ facts_push old facts
 
--- THE FACTS OF A ROW
-
-pub row_more : (all sent gathered sent' gathered' left before : List Fact) (f : Fact) → sent' ++ gathered' ≡ sent ++ gathered ++ f ∷ [] → before ≡ f ∷ left
-    → (sent ++ gathered) ++ before ≡ all → (sent' ++ gathered') ++ left ≡ all
-row_more all sent gathered sent' gathered' left before f e step so =
-    ap (λ l. l ++ left) e ∙ (append_assoc (sent ++ gathered) (f ∷ []) left ∙ (ap (λ l. (sent ++ gathered) ++ l) (sym step) ∙ so))
-
-pub row_short : (all sent gathered sent' left before : List Fact) (f : Fact) → IsPrefix sent' (sent ++ gathered ++ f ∷ []) → before ≡ f ∷ left
-    → (sent ++ gathered) ++ before ≡ all → IsPrefix sent' all
-row_short all sent gathered sent' left before f (rest, is) step so = (
-  rest ++ left,
-  sym (append_assoc sent' rest left) ∙ row_more all sent gathered sent' rest left before f is step so,
-)
-
-pub row_done : (all sent gathered left : List Fact) → left ≡ [] → (sent ++ gathered) ++ left ≡ all → sent ++ gathered ≡ all
-row_done all sent gathered left none so = sym (append-nil (sent ++ gathered)) ∙ (ap (λ l. (sent ++ gathered) ++ l) (sym none) ∙ so)
-
-pub prefix_of_more : (xs ys zs : List Fact) → ys ≡ xs → IsPrefix ys (xs ++ zs)
-prefix_of_more xs ys zs e = (zs, ap (λ l. l ++ zs) e)
-
 -- ROWS
 
-pub rows_append : (xs ys : List (List Fact)) → row_after_row (xs ++ ys) ≡ row_after_row xs ++ row_after_row ys
+rows_append : (xs ys : List (List Fact)) → row_after_row (xs ++ ys) ≡ row_after_row xs ++ row_after_row ys
 rows_append [] ys = refl
 rows_append (x ∷ xs) ys = ap (λ l. x ++ l) (rows_append xs ys) ∙ sym (append_assoc x (row_after_row xs) (row_after_row ys))
 
-pub reading_begins : (left : Option Stream) (facts : List Fact) → facts ≡ [] → IfSome left (λ whole. IsReading whole left facts)
-reading_begins None facts none = tt
-reading_begins (Some s) facts none = record { rows = []; rest = s; left_is = refl; split = refl; same = refl; holds = none }
+rows_are : (rows : List (List Fact)) → facts_of_rows rows ≡ row_after_row rows
+rows_are [] = refl
+rows_are (r ∷ rs) = ap (λ l. r ++ l) (rows_are rs)
 
--- what is left gives what its stream says
-gives_rest : (left : Option Stream) (rest : Stream) (P : Stream → Type 0) → left ≡ Some rest → IfSome left P → P rest
-gives_rest None rest P e h = absurd (cc)
-gives_rest (Some s) rest P e h = let same : s ≡ rest = cc in subst P same h
-
-row_given : (whole rest : Stream) (t : ℕ) (after : Option Stream) (rows : List (List Fact)) (facts facts' row : List Fact) → GivesNext t rest (Ok (Some row)) after
-    → whole.rows ≡ rows ++ rest.rows → whole.fault ≡ rest.fault → facts ≡ row_after_row rows → facts' ≡ facts ++ row → IsReading whole after facts'
-row_given whole rest t None rows facts facts' row gives split same holds more = absurd gives
-row_given whole rest t (Some s) rows facts facts' row gives split same holds more =
-    record {
-      rows = rows ++ row ∷ [];
-      rest = s;
-      left_is = refl;
-      split = split ∙ (ap (λ (x : Stream). rows ++ x.rows) gives ∙ sym (append_assoc rows (row ∷ []) s.rows));
-      same = same ∙ ap (λ (x : Stream). x.fault) gives;
-      holds = more ∙ (ap (λ l. l ++ row) holds ∙ (ap (λ l. row_after_row rows ++ l) (sym (append-nil row)) ∙ sym (rows_append rows (row ∷ []))));
-    }
-
-pub reading_more : (whole : Stream) (t : ℕ) (left after : Option Stream) (facts facts' row : List Fact) → IsReading whole left facts → IfSome left (λ s. GivesNext t s (Ok (Some row)) after)
-    → facts' ≡ facts ++ row → IsReading whole after facts'
-reading_more whole t left after facts facts' row r gives more =
-    row_given whole r.rest t after r.rows facts facts' row (gives_rest left r.rest (λ s. GivesNext t s (Ok (Some row)) after) r.left_is gives) r.split r.same r.holds more
-
--- the facts of the rows so far are the first of the table
-pub so_far : (whole : Stream) (left : Option Stream) (facts sent : List Fact) → IsReading whole left facts → IsPrefix sent facts → IsPrefix sent (facts_of whole)
-so_far whole left facts sent r (more, is) = (
-  more ++ row_after_row r.rest.rows,
-  sym (append_assoc sent more (row_after_row r.rest.rows)) ∙ (ap (λ l. l ++ row_after_row r.rest.rows) (is ∙ r.holds) ∙ (sym (rows_append r.rows r.rest.rows) ∙ sym (ap row_after_row r.split))),
+-- the facts of the first rows are the first of the table
+first_facts : (whole : Stream) (rows : List (List Fact)) (given more : List Fact) → IsPrefix rows whole.rows → given ++ more ≡ row_after_row rows → IsPrefix given (facts_of whole)
+first_facts whole rows given more (later, is) all = (
+  more ++ row_after_row later,
+  sym (append_assoc given more (row_after_row later)) ∙ (ap (λ l. l ++ row_after_row later) all ∙ (sym (rows_append rows later) ∙ ap row_after_row is)),
 )
 
-short_so_far : (table : ℕ) (whole : Stream) (left : Option Stream) (facts sent : List Fact) (result : Endings.Ending) → IsReading whole left facts → IsPrefix sent facts → result ≡ Refused (file_fault table kind.Memory)
-    → IsGiven table whole sent result
-short_so_far table whole left facts sent result r some is = inr (inr (record { some = so_far whole left facts sent r some; refused = is }))
+rows_before : (table : ℕ) (whole : Stream) (rows : List (List Fact)) (left : Option Stream) → ReadsRows table whole rows left → IsPrefix rows whole.rows
+rows_before table whole rows None reads = absurd reads
+rows_before table whole rows (Some rest) (inl (split, same)) = (rest.rows, sym split)
+rows_before table whole rows (Some rest) (inr (some, e, outside, only)) = some
 
--- memory was short for the facts of a row
-pub rows_short : (table t : ℕ) (whole : Stream) (left after : Option Stream) (facts row sent : List Fact) (result : Endings.Ending) → IsReading whole left facts
-    → IfSome left (λ s. GivesNext t s (Ok (Some row)) after) → IsPrefix sent (facts ++ row) → result ≡ Refused (file_fault table kind.Memory) → IsGiven table whole sent result
-rows_short table t whole left after facts row sent result r gives some is =
-    short_so_far table whole after (facts ++ row) sent result (reading_more whole t left after facts (facts ++ row) row r gives refl) some is
+same_stream : (s : Stream) (o : Option TableFault) → [] ≡ s.rows → o ≡ s.fault → s ≡ ending o
+same_stream s o none same = ap (λ (rows : List (List Fact)). record { rows = rows; fault = s.fault }) (sym none) ∙ ap ending (sym same)
 
--- the rows have come to their end, or to the fault of the stream
-last_row : (whole rest : Stream) (rows : List (List Fact)) (facts : List Fact) (o : Option TableFault) → rest ≡ ending o → whole.rows ≡ rows ++ rest.rows → whole.fault ≡ rest.fault → facts ≡ row_after_row rows
-    → (facts ≡ facts_of whole) × (whole.fault ≡ o)
-last_row whole rest rows facts o over split same holds = (
-  holds ∙ sym (ap row_after_row (split ∙ (ap (λ (x : Stream). rows ++ x.rows) over ∙ append-nil rows))),
-  same ∙ ap (λ (x : Stream). x.fault) over,
-)
+-- rows that were read behind others
+reads_on : (table : ℕ) (whole mid : Stream) (rows more : List (List Fact)) (left : Option Stream) → ReadsRows table whole rows (Some mid) → ReadsRows table mid more left → ReadsRows table whole (rows ++ more) left
+reads_on table whole mid rows more None first next = absurd next
+reads_on table whole mid rows more (Some rest) (inl (split, same)) (inl (split2, same2)) =
+    inl (split ∙ (ap (λ l. rows ++ l) split2 ∙ sym (append_assoc rows more rest.rows)), same ∙ same2)
+reads_on table whole mid rows more (Some rest) (inl (split, same)) (inr (some, e, outside, only)) =
+    inr ((some.0, append_assoc rows more some.0 ∙ (ap (λ l. rows ++ l) some.1 ∙ sym split)), e, outside, only)
+reads_on table whole mid rows [] (Some rest) (inr (some, e, outside, only)) (inl (split2, same2)) =
+    let rest_is : rest ≡ ending (Some e) = same_stream rest (Some e) (ap (λ (x : Stream). x.rows) (sym only) ∙ split2) (ap (λ (x : Stream). x.fault) (sym only) ∙ same2) in
+    inr ((some.0, ap (λ l. l ++ some.0) (append-nil rows) ∙ some.1), e, outside, rest_is)
+reads_on table whole mid rows (m ∷ more) (Some rest) (inr (some, e, outside, only)) (inl (split2, same2)) =
+    let no : [] ≡ m ∷ (more ++ rest.rows) = ap (λ (x : Stream). x.rows) (sym only) ∙ split2 in absurd (cc no)
+reads_on table whole mid rows [] (Some rest) (inr (some, e, outside, only)) (inr (some2, e2, outside2, only2)) =
+    inr ((some.0, ap (λ l. l ++ some.0) (append-nil rows) ∙ some.1), e2, outside2, only2)
+reads_on table whole mid rows (m ∷ more) (Some rest) (inr (some, e, outside, only)) (inr (some2, e2, outside2, only2)) =
+    let no : m ∷ (more ++ some2.0) ≡ [] = some2.1 ∙ ap (λ (x : Stream). x.rows) only in absurd (cc no)
 
-whole_given : (table : ℕ) (whole : Stream) (left : Option Stream) (facts sent : List Fact) (o : Option TableFault) (result : Endings.Ending) → (r : IsReading whole left facts) → r.rest ≡ ending o
-    → Ends table facts sent (ending_of o) result → IsGiven table whole sent result
-whole_given table whole left facts sent o result r over (inl (all, is)) =
-    let last = last_row whole r.rest r.rows facts o over r.split r.same r.holds in inl (all ∙ last.0, is ∙ ap ending_of (sym last.1))
-whole_given table whole left facts sent o result r over (inr (some, is)) = short_so_far table whole left facts sent result r some is
+-- THE BLOCKS OF A TABLE
 
-pub rows_end : (table t : ℕ) (whole : Stream) (left after : Option Stream) (facts sent : List Fact) (result : Endings.Ending) → IsReading whole left facts → IfSome left (λ s. GivesNext t s (Ok None) after)
-    → Ends table facts sent Closed result → IsGiven table whole sent result
-rows_end table t whole left after facts sent result r gives ends =
-    whole_given table whole left facts sent None result r (gives_rest left r.rest (λ s. GivesNext t s (Ok None) after) r.left_is gives) ends
+-- of the rows that were read these facts are given and these are pending, and this stream is left
+pub record IsReading (table : ℕ) (whole : Stream) (given pending : List Fact) (left : Option Stream) : Type 0 where
+  pub rows : List (List Fact)
+  pub reads : ReadsRows table whole rows left
+  pub holds : given ++ pending ≡ facts_of_rows rows
 
-rows_before : (whole : Stream) (left : Option Stream) (facts : List Fact) → (r : IsReading whole left facts) → IsPrefix r.rows whole.rows
-rows_before whole left facts r = (r.rest.rows, sym r.split)
+pub reading_begins : (table : ℕ) (left : Option Stream) (given pending : List Fact) → given ≡ [] → pending ≡ [] → IfSome left (λ whole. IsReading table whole given pending left)
+reading_begins table None given pending none waits = tt
+reading_begins table (Some s) given pending none waits = record { rows = []; reads = inl (refl, refl); holds = ap (λ l. l ++ pending) none ∙ waits }
 
--- the reader failed, or memory was short
-outside_given : (table : ℕ) (whole : Stream) (left : Option Stream) (facts sent : List Fact) (e : TableFault) (result : Endings.Ending) → IsReading whole left facts → IsOutside table e
-    → Ends table facts sent (Refused e) result → IsGiven table whole sent result
-outside_given table whole left facts sent e result r outside (inr (some, is)) = short_so_far table whole left facts sent result r some is
-outside_given table whole left facts sent e result r (inl unread) (inl (all, is)) =
-    inr (inl (record { rows = r.rows; some = rows_before whole left facts r; holds = all ∙ r.holds; refused = is ∙ ap (λ x. Refused x) unread }))
-outside_given table whole left facts sent e result r (inr short) (inl (all, is)) =
-    short_so_far table whole left facts sent result r ([], append-nil sent ∙ all) (is ∙ ap (λ x. Refused x) short)
+-- all that was read, once an answer is given over it
+record HasRead (table : ℕ) (whole : Stream) (given : List Fact) (result : Result (Option (List Fact)) TableFault) (pending : List Fact) (left : Option Stream) : Type 0 where
+  rows : List (List Fact)
+  reads : ReadsRows table whole rows left
+  facts : List Fact
+  holds : given ++ facts ≡ facts_of_rows rows
+  answers : AnswersFacts table facts result pending left
 
-fault_given : (table : ℕ) (whole : Stream) (left : Option Stream) (facts sent : List Fact) (e : TableFault) (result : Endings.Ending) → (r : IsReading whole left facts) → IsOutside table e ⊎ (r.rest ≡ ending (Some e))
-    → Ends table facts sent (Refused e) result → IsGiven table whole sent result
-fault_given table whole left facts sent e result r (inl outside) ends = outside_given table whole left facts sent e result r outside ends
-fault_given table whole left facts sent e result r (inr over) ends = whole_given table whole left facts sent (Some e) result r over ends
+module _ (table : ℕ) (whole : Stream) (given before pending : List Fact) (after : Option Stream) where
+  has_read : (left : Option Stream) (result : Result (Option (List Fact)) TableFault) → IsReading table whole given before left → IfSome left (λ s. GivesBlock table before s result pending after)
+      → HasRead table whole given result pending after
+  has_read None result r gives = absurd r.reads
+  has_read (Some s) result r gives =
+      record {
+        rows = r.rows ++ gives.rows;
+        reads = reads_on table whole s r.rows gives.rows after r.reads gives.reads;
+        facts = before ++ facts_of_rows gives.rows;
+        holds = sym (append_assoc given before (facts_of_rows gives.rows)) ∙ (ap (λ l. l ++ facts_of_rows gives.rows) r.holds ∙ sym (flat_map-append (λ (row : List Fact). row) r.rows gives.rows));
+        answers = gives.answers;
+      }
 
-pub rows_fault : (table : ℕ) (whole : Stream) (left after : Option Stream) (facts sent : List Fact) (e : TableFault) (result : Endings.Ending) → IsReading whole left facts → IfSome left (λ s. GivesNext table s (Err e) after)
-    → Ends table facts sent (Refused e) result → IsGiven table whole sent result
-rows_fault table whole left after facts sent e result r gives ends =
-    fault_given table whole left facts sent e result r (gives_rest left r.rest (λ s. GivesNext table s (Err e) after) r.left_is gives) ends
+  pub block_given : (left : Option Stream) (block given' : List Fact) → IsReading table whole given before left → IfSome left (λ s. GivesBlock table before s (Ok (Some block)) pending after) → given' ≡ given ++ block
+      → IsReading table whole given' pending after
+  block_given left block given' r gives more =
+      let h = has_read left (Ok (Some block)) r gives in
+      record { rows = h.rows; reads = h.reads; holds = ap (λ l. l ++ pending) more ∙ (append_assoc given block pending ∙ (ap (λ l. given ++ l) (sym h.answers) ∙ h.holds)) }
+
+-- the facts that are given are the first of the table
+pub so_far : (table : ℕ) (whole : Stream) (given pending : List Fact) (left : Option Stream) → IsReading table whole given pending left → IsPrefix given (facts_of whole)
+so_far table whole given pending left r = first_facts whole r.rows given pending (rows_before table whole r.rows left r.reads) (r.holds ∙ rows_are r.rows)
+
+-- a table that ends before its stream does
+pub cut_short : (table : ℕ) (whole : Stream) (given pending : List Fact) (left : Option Stream) (e : Endings.Ending) → IsReading table whole given pending left → e ≡ Refused (file_fault table kind.Memory) → IsGiven table whole given e
+cut_short table whole given pending left e r is = inr (inr (record { some = so_far table whole given pending left r; refused = is }))
+
+-- the reader failed, or memory was short, behind these rows
+outside_given : (table : ℕ) (whole : Stream) (rows : List (List Fact)) (given : List Fact) (e f : TableFault) → IsPrefix rows whole.rows → IsOutside table e → f ≡ e → given ≡ row_after_row rows → IsGiven table whole given (Refused f)
+outside_given table whole rows given e f some (inl unread) is all = inr (inl (record { rows = rows; some = some; holds = all; refused = ap (λ x. Refused x) (is ∙ unread) }))
+outside_given table whole rows given e f some (inr short) is all =
+    inr (inr (record { some = first_facts whole rows given [] some (append-nil given ∙ all); refused = ap (λ x. Refused x) (is ∙ short) }))
+
+-- all that was read is given, and only an ending is left
+all_given : (table : ℕ) (whole : Stream) (rows : List (List Fact)) (given : List Fact) (o : Option TableFault) → ReadsRows table whole rows (Some (ending o)) → given ≡ row_after_row rows → IsGiven table whole given (ending_of o)
+all_given table whole rows given o (inl (split, same)) all = inl (all ∙ sym (ap row_after_row (split ∙ append-nil rows)), ap ending_of (sym same))
+all_given table whole rows given None (inr (some, e, outside, only)) all = let no : None ≡ Some e = ap (λ (x : Stream). x.fault) only in absurd (cc no)
+all_given table whole rows given (Some f) (inr (some, e, outside, only)) all =
+    let one : Some f ≡ Some e = ap (λ (x : Stream). x.fault) only in let same : f ≡ e = cc one in outside_given table whole rows given e f some outside same all
+
+nothing_waits : (given facts all : List Fact) → given ++ facts ≡ all → facts ≡ [] → given ≡ all
+nothing_waits given facts all holds none = sym (append-nil given) ∙ (ap (λ l. given ++ l) (sym none) ∙ holds)
+
+module _ (table : ℕ) (whole : Stream) (given before pending : List Fact) (left after : Option Stream) (r : IsReading table whole given before left) where
+  pub end_given : IfSome left (λ s. GivesBlock table before s (Ok None) pending after) → IsGiven table whole given Closed
+  end_given gives =
+      let h = has_read table whole given before pending after left (Ok None) r gives in
+      all_given table whole h.rows given None (subst (ReadsRows table whole h.rows) h.answers.2 h.reads) (nothing_waits given h.facts (facts_of_rows h.rows) h.holds h.answers.0 ∙ rows_are h.rows)
+
+  pub fault_given : (e : TableFault) → IfSome left (λ s. GivesBlock table before s (Err e) pending after) → IsGiven table whole given (Refused e)
+  fault_given e gives = by h.answers.2
+    where
+      h : HasRead table whole given (Err e) pending after
+      h = has_read table whole given before pending after left (Err e) r gives
+
+      by : (h.facts ≡ []) ⊎ (e ≡ file_fault table kind.Memory) → IsGiven table whole given (Refused e)
+      by (inl none) = all_given table whole h.rows given (Some e) (subst (ReadsRows table whole h.rows) h.answers.1 h.reads) (nothing_waits given h.facts (facts_of_rows h.rows) h.holds none ∙ rows_are h.rows)
+      by (inr short) =
+          inr (inr (record { some = first_facts whole h.rows given h.facts (rows_before table whole h.rows after h.reads) (h.holds ∙ rows_are h.rows); refused = ap (λ x. Refused x) short }))
 
 -- FILES
 
@@ -147,8 +159,7 @@ rows_fault table whole left after facts sent e result r gives ends =
 pub unopened_given : (report : ReportValue) (table limit : ℕ) (bytes : List ℕ) (sent : List Fact) (e : TableFault) → IsOutside table e ⊎ (file_header_fault report table (grid bytes) ≡ Some e) → sent ≡ []
     → IsGiven table (table_stream report table limit (Some bytes)) sent (Refused e)
 unopened_given report table limit bytes sent e (inl outside) none =
-    let whole = stream_of report table limit (grid bytes) in
-    outside_given table whole (Some whole) [] sent e (Refused e) (record { rows = []; rest = whole; left_is = refl; split = refl; same = refl; holds = refl }) outside (inl (none, refl))
+    let whole = stream_of report table limit (grid bytes) in outside_given table whole [] sent e e (whole.rows, refl) outside refl none
 unopened_given report table limit bytes sent e (inr bad) none =
     let is = refused_header report table limit (grid bytes) e bad in inl (none ∙ sym (ap facts_of is), ap (λ (s : Stream). ending_of s.fault) (sym is))
 

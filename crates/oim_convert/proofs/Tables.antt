@@ -5,11 +5,11 @@ use Rattle.std.proofs.lemmas.Bool.{eq-eqb, ne_eqb}
 use Rattle.oim_json.specs.Document.{tail_text, text_after}
 use Rattle.oim_json.specs.JsonText.{head_text}
 use Rattle.oim_json.specs.Sinks.{SinkView, Broke, Wrote}
-use Rattle.oim_json.specs.declared.mark.Mark.{Mark}
 use Rattle.oim_json.specs.declared.mark.WriteFault.{WriteFault}
 use Rattle.oim_merge.proofs.Going.{all_refusals, broke_before, broke_later, open_facts, refused_facts, wrote_twice}
 use Rattle.oim_merge.specs.Histories.{all_of, document, facts_before, refusals, tail_for}
 use Rattle.oim_merge.specs.declared.progress.MergeEnd.TheVariants as end
+use Rattle.oim_decode.specs.Blocks.{GivesBlock}
 use Rattle.oim_meta.specs.ReportValue.{ReportValue}
 use Rattle.oim_resolve.specs.declared.fact.Fact.{Fact}
 use Rattle.oim_ring.specs.declared.item.Ending as Endings
@@ -17,115 +17,89 @@ use Rattle.oim_ring.specs.declared.item.Ending.TheVariants.{Closed, Refused}
 use Rattle.oim_ring.specs.declared.item.Item.{Item}
 use Rattle.oim_ring.specs.declared.item.Item.TheVariants.{Block, Ending}
 use Rattle.oim_rows.specs.Header.{file_fault}
-use Rattle.oim_rows.specs.Streams.{GivesNext, Stream, table_stream}
+use Rattle.oim_rows.specs.Streams.{Stream, table_stream}
 use Rattle.oim_rows.specs.declared.fault.TableFault.{TableFault}
 use Rattle.oim_rows.specs.declared.fault.TableKind.TheVariants as kind
 use Rattle.oim_convert.specs.Answer.{IsAnswer, answer_text, ending_of, facts_of, histories_of, history_of, streams_from}
 use Rattle.oim_convert.specs.Files.{IsFileOf, AreFilesOf}
 use Rattle.oim_convert.specs.Histories.{AreDecoded, IsDecoded, IsGiven}
 use Rattle.oim_convert.specs.Runs.{AreStreams}
-use Rattle.oim_convert.specs.Sending.{IsReading}
 use Rattle.oim_convert.specs.Serial.{Refuses}
-use Rattle.oim_convert.specs.Steps.{IsHalted, Marks, ReadTable, ReadTables, ReadsTable, ReadsTables, WritesFacts, as_end, has_any, more_text, wanted_of}
-use Rattle.oim_convert.specs.declared.halt.Halt.{Halt}
-use Rattle.oim_convert.specs.declared.halt.Halt.TheVariants as halt
+use Rattle.oim_convert.specs.Steps.{ReadTable, ReadTables, ReadsTable, ReadsTables, WritesFacts, has_any, more_text, wanted_of}
 use Rattle.oim_convert.proofs.Going.{facts_text_is, has_any_append, has_no_file, more_text_append, wrote_nothing}
-use Rattle.oim_convert.proofs.Sent.{reading_more, rows_end, rows_fault, rows_short, so_far}
+use Rattle.oim_convert.proofs.Sent.{IsReading, block_given, cut_short, end_given, fault_given, reading_begins, so_far}
 use Rattle.oim_convert.proofs.Streams.{open_streams, streams_answer, streams_facts, streams_refusals, streams_text}
 
--- THE ROWS OF A TABLE
+-- THE BLOCKS OF A TABLE
 
 nothing_wanted : (w : Bool) → wanted_of w [] ≡ []
 nothing_wanted true = refl
 nothing_wanted false = refl
 
 -- these facts of the table were given so far, and written if they were wanted
-pub record IsWriting (wanted : Bool) (first now : SinkView) (any any_now : Bool) (whole : Stream) (left : Option Stream) : Type 0 where
+pub record IsWriting (table : ℕ) (wanted : Bool) (first now : SinkView) (any any_now : Bool) (whole : Stream) (pending : List Fact) (left : Option Stream) : Type 0 where
   pub facts : List Fact
-  pub reading : IsReading whole left facts
+  pub reading : IsReading table whole facts pending left
   pub has : any_now ≡ has_any any (wanted_of wanted facts)
   pub text : Wrote first now (more_text any (wanted_of wanted facts))
 
-pub writing_begins : (wanted : Bool) (a : SinkView) (any : Bool) (left : Option Stream) → IfSome left (λ whole. IsWriting wanted a a any any whole left)
-writing_begins wanted a any None = tt
-writing_begins wanted a any (Some s) =
+pub writing_begins : (table : ℕ) (wanted : Bool) (a : SinkView) (any : Bool) (pending : List Fact) (left : Option Stream) → pending ≡ [] → IfSome left (λ whole. IsWriting table wanted a a any any whole pending left)
+writing_begins table wanted a any pending None nil = tt
+writing_begins table wanted a any pending (Some s) nil =
     let none = sym (nothing_wanted wanted) in
     record {
       facts = [];
-      reading = record { rows = []; rest = s; left_is = refl; split = refl; same = refl; holds = refl };
+      reading = reading_begins table (Some s) [] pending refl nil;
       has = ap (has_any any) none;
       text = subst (λ (fs : List Fact). Wrote a a (more_text any fs)) none (wrote_nothing a);
     }
 
-module _ (t : ℕ) (first now next : SinkView) (any n n2 : Bool) (whole : Stream) (left after : Option Stream) (row : List Fact) where
-  pub row_written : (wanted : Bool) → wanted ≡ true → IsWriting wanted first now any n whole left → IfSome left (λ st. GivesNext t st (Ok (Some row)) after) → WritesFacts now next n n2 row (Ok tt)
-      → IsWriting wanted first next any n2 whole after
-  row_written false is w gives wrote = absurd (cc)
-  row_written true is w gives wrote =
+module _ (table : ℕ) (first now next : SinkView) (any n n2 : Bool) (whole : Stream) (before pending : List Fact) (left after : Option Stream) (block : List Fact) where
+  pub block_written : (wanted : Bool) → wanted ≡ true → IsWriting table wanted first now any n whole before left → IfSome left (λ st. GivesBlock table before st (Ok (Some block)) pending after)
+      → WritesFacts now next n n2 block (Ok tt) → IsWriting table wanted first next any n2 whole pending after
+  block_written false is w gives wrote = absurd (cc)
+  block_written true is w gives wrote =
       record {
-        facts = w.facts ++ row;
-        reading = reading_more whole t left after w.facts (w.facts ++ row) row w.reading gives refl;
-        has = wrote.0 ∙ (ap (λ b. has_any b row) w.has ∙ sym (has_any_append any w.facts row));
-        text = subst (λ x. Wrote first next x) (sym (more_text_append any w.facts row))
-            (wrote_twice first now next (more_text any w.facts) (more_text (has_any any w.facts) row) w.text (subst (λ b. Wrote now next (more_text b row)) w.has wrote.1));
+        facts = w.facts ++ block;
+        reading = block_given table whole w.facts before pending after left block (w.facts ++ block) w.reading gives refl;
+        has = wrote.0 ∙ (ap (λ b. has_any b block) w.has ∙ sym (has_any_append any w.facts block));
+        text = subst (λ x. Wrote first next x) (sym (more_text_append any w.facts block))
+            (wrote_twice first now next (more_text any w.facts) (more_text (has_any any w.facts) block) w.text (subst (λ b. Wrote now next (more_text b block)) w.has wrote.1));
       }
 
-  pub row_passed : (wanted : Bool) → wanted ≡ false → IsWriting wanted first now any n whole left → IfSome left (λ st. GivesNext t st (Ok (Some row)) after) → IsWriting wanted first now any n whole after
-  row_passed true is w gives = absurd (cc)
-  row_passed false is w gives = record { facts = w.facts ++ row; reading = reading_more whole t left after w.facts (w.facts ++ row) row w.reading gives refl; has = w.has; text = w.text }
+  pub block_passed : (wanted : Bool) → wanted ≡ false → IsWriting table wanted first now any n whole before left → IfSome left (λ st. GivesBlock table before st (Ok (Some block)) pending after)
+      → IsWriting table wanted first now any n whole pending after
+  block_passed true is w gives = absurd (cc)
+  block_passed false is w gives =
+      record { facts = w.facts ++ block; reading = block_given table whole w.facts before pending after left block (w.facts ++ block) w.reading gives refl; has = w.has; text = w.text }
 
-  -- memory was short for a row, of which some facts are written
-  row_short : (table : ℕ) (result : Endings.Ending) (wanted : Bool) → wanted ≡ true → result ≡ Refused (file_fault table kind.Memory) → IsWriting wanted first now any n whole left
-      → IfSome left (λ st. GivesNext t st (Ok (Some row)) after) → WritesFacts now next n n2 row (Err halt.Memory) → ReadTable table wanted first next any n2 whole result
-  row_short table result false is short w gives wrote = absurd (cc)
-  row_short table result true is short w gives wrote =
-      record {
-        facts = w.facts ++ wrote.written;
-        given = rows_short table t whole left after w.facts row (w.facts ++ wrote.written) result w.reading gives
-            (wrote.some.0, append_assoc w.facts wrote.written wrote.some.0 ∙ ap (λ l. w.facts ++ l) wrote.some.1) short;
-        has = λ closed. absurd (not_closed result (file_fault table kind.Memory) short closed);
-        text = subst (λ x. Wrote first next x) (sym (more_text_append any w.facts wrote.written))
-            (wrote_twice first now next (more_text any w.facts) (more_text (has_any any w.facts) wrote.written) w.text (subst (λ b. Wrote now next (more_text b wrote.written)) w.has wrote.text));
-      }
-    where
-      not_closed : (e : Endings.Ending) (f : TableFault) → e ≡ Refused f → e ≡ Closed → ⊥
-      not_closed e f is closed = cc
-
-  row_broke : (table : ℕ) (w : WriteFault) (wanted : Bool) → wanted ≡ true → IsWriting wanted first now any n whole left
-      → IfSome left (λ st. GivesNext t st (Ok (Some row)) after) → WritesFacts now next n n2 row (Err (halt.Write w)) → ReadsTable table wanted first next any n2 whole (Err w)
-  row_broke table w false is writing gives broke = absurd (cc)
-  row_broke table w true is writing gives broke =
+  pub block_broke : (w : WriteFault) (wanted : Bool) → wanted ≡ true → IsWriting table wanted first now any n whole before left
+      → IfSome left (λ st. GivesBlock table before st (Ok (Some block)) pending after) → WritesFacts now next n n2 block (Err w) → ReadsTable table wanted first next any n2 whole (Err w)
+  block_broke w false is writing gives broke = absurd (cc)
+  block_broke w true is writing gives broke =
       let fs = writing.facts in
-      let read = reading_more whole t left after fs (fs ++ row) row writing.reading gives refl in
-      let rest = so_far whole after (fs ++ row) (fs ++ row) read ([], append-nil (fs ++ row)) in
-      let all : facts_of whole ≡ fs ++ (row ++ rest.0) = sym rest.1 ∙ append_assoc fs row rest.0 in
-      let text : more_text any (facts_of whole) ≡ more_text any fs ++ (more_text n row ++ more_text (has_any n row) rest.0) =
-      ap (more_text any) all ∙ (more_text_append any fs (row ++ rest.0) ∙ (ap (λ b. more_text any fs ++ more_text b (row ++ rest.0)) (sym writing.has) ∙ ap (λ l. more_text any fs ++ l) (more_text_append n row rest.0))) in (
+      let read = block_given table whole fs before pending after left block (fs ++ block) writing.reading gives refl in
+      let rest = so_far table whole (fs ++ block) pending after read in
+      let all : facts_of whole ≡ fs ++ (block ++ rest.0) = sym rest.1 ∙ append_assoc fs block rest.0 in
+      let text : more_text any (facts_of whole) ≡ more_text any fs ++ (more_text n block ++ more_text (has_any n block) rest.0) =
+      ap (more_text any) all
+      ∙ (more_text_append any fs (block ++ rest.0) ∙ (ap (λ b. more_text any fs ++ more_text b (block ++ rest.0)) (sym writing.has) ∙ ap (λ l. more_text any fs ++ l) (more_text_append n block rest.0))) in (
         refl,
         subst (λ x. Broke first next x w) (sym text)
-            (broke_later first now next (more_text any fs) (more_text n row ++ more_text (has_any n row) rest.0) w writing.text (broke_before now next (more_text n row) (more_text (has_any n row) rest.0) w broke)),
+            (broke_later first now next (more_text any fs) (more_text n block ++ more_text (has_any n block) rest.0) w writing.text (broke_before now next (more_text n block) (more_text (has_any n block) rest.0) w broke)),
       )
 
--- the writing of a row stopped
-pub row_stopped : (table t : ℕ) (wanted : Bool) (first now next : SinkView) (any n n2 : Bool) (whole : Stream) (left after : Option Stream) (row : List Fact) (h : Halt) → wanted ≡ true → IsWriting wanted first now any n whole left
-    → IfSome left (λ st. GivesNext t st (Ok (Some row)) after) → WritesFacts now next n n2 row (Err h) → ReadsTable table wanted first next any n2 whole (as_end table h)
-row_stopped table t wanted first now next any n n2 whole left after row halt.Memory is w gives wrote =
-    row_short t first now next any n n2 whole left after row table (Refused (file_fault table kind.Memory)) wanted is refl w gives wrote
-row_stopped table t wanted first now next any n n2 whole left after row (halt.Write fault) is w gives broke = row_broke t first now next any n n2 whole left after row table fault wanted is w gives broke
+module _ (table : ℕ) (wanted : Bool) (first now : SinkView) (any n : Bool) (whole : Stream) (before pending : List Fact) (left after : Option Stream) (w : IsWriting table wanted first now any n whole before left) where
+  pub blocks_done : IfSome left (λ st. GivesBlock table before st (Ok None) pending after) → ReadTable table wanted first now any n whole Closed
+  blocks_done gives = record { facts = w.facts; given = end_given table whole w.facts before pending left after w.reading gives; has = λ _. w.has; text = w.text }
 
-pub stopped_marks : (table : ℕ) (first now next : Mark) (h : Halt) → now ≡ first → IsHalted now next (Err h) → Marks first next (as_end table h)
-stopped_marks table first now next halt.Memory same marked = marked ∙ same
-stopped_marks table first now next (halt.Write w) same marked = marked
+  pub blocks_refused : (e : TableFault) → IfSome left (λ st. GivesBlock table before st (Err e) pending after) → ReadTable table wanted first now any n whole (Refused e)
+  blocks_refused e gives = record { facts = w.facts; given = fault_given table whole w.facts before pending left after w.reading e gives; has = λ _. w.has; text = w.text }
 
-pub rows_done : (table t : ℕ) (wanted : Bool) (first now : SinkView) (any n : Bool) (whole : Stream) (left after : Option Stream) → IsWriting wanted first now any n whole left
-    → IfSome left (λ st. GivesNext t st (Ok None) after) → ReadTable table wanted first now any n whole Closed
-rows_done table t wanted first now any n whole left after w gives =
-    record { facts = w.facts; given = rows_end table t whole left after w.facts w.facts Closed w.reading gives (inl (refl, refl)); has = λ _. w.has; text = w.text }
-
-pub rows_refused : (table : ℕ) (wanted : Bool) (first now : SinkView) (any n : Bool) (whole : Stream) (left after : Option Stream) (e : TableFault) → IsWriting wanted first now any n whole left
-    → IfSome left (λ st. GivesNext table st (Err e) after) → ReadTable table wanted first now any n whole (Refused e)
-rows_refused table wanted first now any n whole left after e w gives =
-    record { facts = w.facts; given = rows_fault table whole left after w.facts w.facts e (Refused e) w.reading gives (inl (refl, refl)); has = λ _. w.has; text = w.text }
+pub blocks_cut : (table : ℕ) (wanted : Bool) (first now : SinkView) (any n : Bool) (whole : Stream) (pending : List Fact) (left : Option Stream) (e : Endings.Ending) → e ≡ Refused (file_fault table kind.Memory)
+    → IsWriting table wanted first now any n whole pending left → ReadTable table wanted first now any n whole e
+blocks_cut table wanted first now any n whole pending left e short w =
+    record { facts = w.facts; given = cut_short table whole w.facts pending left e w.reading short; has = λ _. w.has; text = w.text }
 
 -- FILES
 

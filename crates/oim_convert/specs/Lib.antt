@@ -7,7 +7,6 @@ pub mod Numbers
 pub mod Claims
 pub mod Views
 pub mod Histories
-pub mod Sending
 pub mod Shifts
 pub mod Jobs
 pub mod Runs

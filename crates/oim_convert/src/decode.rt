@@ -1,22 +1,20 @@
 //! Decoding a table into its ring.
 
-ghost use Rattle.std.specs.Prelude.{◌≡◌, ◌≤◌, ◌<◌, ℕ, List, [], ◌++◌, length, Option, Some, None, IfSome};
+ghost use Rattle.std.specs.Prelude.{◌≡◌, ◌≤◌, ◌<◌, ℕ, List, [], length, Option, Some, None, IfSome};
 ghost use Rattle.oim_convert.specs.Answer.{ending_of};
 ghost use Rattle.oim_convert.specs.Files.{IsFileOf};
 ghost use Rattle.oim_convert.specs.Histories.{IsDecoded, IsGiven, facts_in};
-ghost use Rattle.oim_convert.specs.Sending.{Ends};
 ghost use Rattle.oim_ring.specs.declared.item.Ending.TheVariants.{Refused};
 ghost use Rattle.oim_rows.specs.Header.{file_fault};
 ghost use Rattle.oim_rows.specs.Streams.{table_stream};
 ghost use Rattle.oim_rows.specs.declared.fault.TableKind.TheVariants as kind;
 
 use crate::job::Job;
-use crate::sending::{close_waiting, send_rest, send_row};
+use crate::sending::{close_waiting, put_waiting};
+use oim_decode::TableBlocks;
 use oim_meta::{Limits, Report};
-use oim_names::Items;
-use oim_resolve::Fact;
 use oim_ring::{Closed, Ending, Feed};
-use oim_rows::{Rows, TableFault, TableKind};
+use oim_rows::{TableFault, TableKind};
 use std::alloc::Global;
 use std::io::Read;
 use std::sync::Wait;
@@ -88,55 +86,30 @@ fn send_file<R: Read + Drop, T: Wait>(
     ensures ring { feed.new.ring ≡ feed.old.ring }
     ensures given { IfSome (R.remaining reader) (λ bytes. IsGiven table (table_stream report.now table limits.rows (Some bytes)) (facts_in feed.new.sent) result) }
 {
-    match Rows::open(alloc, report, table, reader, limits) {
-        Ok(mut rows) => send_rows(rt, alloc, &mut rows, table, feed),
+    match TableBlocks::open(alloc, report, table, reader, limits) {
+        Ok(mut blocks) => send_blocks(rt, alloc, &mut blocks, feed),
         Err(fault) => Ending::Refused(fault),
     }
 }
 
-/// Sends the facts of the rows that are left, and says how the table ends.
-fn send_rows<R: Read + Drop, T: Wait>(
+/// Sends the blocks that are left, and says how the table ends.
+fn send_blocks<R: Read + Drop, T: Wait>(
     rt: &T,
     alloc: Global,
-    rows: &mut Rows<'_, R>,
-    table: usize,
+    blocks: &mut TableBlocks<'_, R>,
     feed: &mut Feed,
 ) -> Ending
-    requires table { rows.old.table ≡ table }
+    requires begun { blocks.old.pending ≡ [] }
     requires fresh { feed.old.sent ≡ [] }
     ensures ring { feed.new.ring ≡ feed.old.ring }
-    ensures given { IfSome rows.old.left (λ s. IsGiven table s (facts_in feed.new.sent) result) }
+    ensures given { IfSome blocks.old.left (λ s. IsGiven blocks.old.table s (facts_in feed.new.sent) result) }
 {
-    let mut gathered = Items::new(alloc);
-    loop {
-        match rows.next() {
-            Ok(Some(row)) => match send_row(rt, alloc, feed, &mut gathered, row) {
-                Ok(()) => {}
-                Err(_) => return refused(table, TableKind::Memory),
-            },
-            Ok(None) => return end_table(rt, alloc, table, feed, &gathered, Ending::Closed),
-            Err(fault) => {
-                return end_table(rt, alloc, table, feed, &gathered, Ending::Refused(fault));
-            }
+    for _ in rt.forever() {
+        match blocks.next_block(Vec::new(alloc)) {
+            Ok(Some(block)) => put_waiting(rt, feed, block),
+            Ok(None) => return Ending::Closed,
+            Err(fault) => return Ending::Refused(fault),
         }
     }
-}
-
-/// Sends what is gathered, and says how a table ends that has come to this ending.
-fn end_table<T: Wait>(
-    rt: &T,
-    alloc: Global,
-    table: usize,
-    feed: &mut Feed,
-    gathered: &Items<Fact>,
-    ending: Ending,
-) -> Ending
-    requires { length gathered.now < 256 }
-    ensures ring { feed.new.ring ≡ feed.old.ring }
-    ensures ends { Ends table (facts_in feed.old.sent ++ gathered.now) (facts_in feed.new.sent) ending result }
-{
-    match send_rest(rt, alloc, feed, gathered) {
-        Ok(()) => ending,
-        Err(_) => refused(table, TableKind::Memory),
-    }
+    unreachable!()
 }

@@ -4,8 +4,11 @@ ghost use Rattle.std.specs.Prelude.{◌≡◌, ◌≤◌, length, IfOk, map};
 ghost use Rattle.oim_convert.specs.Jobs.{Each, IsLane, IsOpened};
 
 use crate::job::Job;
-use oim_ring::{Drain, lane};
+use oim_ring::{Drain, Lanes};
 use std::alloc::{AllocError, Global};
+
+/// How many full rings' worth of blocks may wait in all rings together.
+const FULL_RINGS: usize = 4;
 
 /// A job and a drain for each reader, in order, with nothing sent and nothing taken.
 pub(crate) fn open_lanes<R: Drop>(
@@ -19,11 +22,12 @@ pub(crate) fn open_lanes<R: Drop>(
     ensures drains { IfOk result (λ r. Each (IsLane r.0.items) 0 r.1.items) }
     ensures count { IfOk result (λ r. length r.1.items ≡ length r.0.items) }
 {
+    let mut lanes = Lanes::new(alloc, size.saturating_mul(FULL_RINGS))?;
     let mut jobs = Vec::new(alloc);
     let mut drains = Vec::new(alloc);
     for reader in readers {
         let table = jobs.len();
-        let (feed, drain) = lane(alloc, size)?;
+        let (feed, drain) = lanes.open(alloc, size)?;
         jobs.push(Job {
             table,
             reader,

@@ -39,7 +39,6 @@ mod crew;
 mod deal;
 mod decode;
 mod fault;
-mod halt;
 mod job;
 mod lanes;
 mod run;

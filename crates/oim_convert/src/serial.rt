@@ -10,17 +10,16 @@ ghost use Rattle.oim_rows.specs.Streams.{table_stream};
 ghost use Rattle.oim_convert.specs.Answer.{streams};
 ghost use Rattle.oim_convert.specs.Files.{IsFileOf, AreFilesOf};
 ghost use Rattle.oim_convert.specs.Serial.{Converts, HasBegun, IsOfTables, Leaves};
-ghost use Rattle.oim_convert.specs.Steps.{IsHalted, Marks, ReadsTable, ReadsTables, WritesFact, WritesFacts, as_end};
+ghost use Rattle.oim_convert.specs.Steps.{Marks, ReadsTable, ReadsTables, WritesFacts};
 ghost use Rattle.oim_convert.specs.declared.fault.ConvertFault.TheVariants as fault;
 
 use crate::decode::{refused, without_file};
 use crate::fault::ConvertFault;
-use crate::halt::Halt;
-use oim_json::{Sink, TAIL, WriteFault, head, member_of, write_all_of};
+use oim_decode::TableBlocks;
+use oim_json::{Block, Sink, TAIL, WriteFault, head, write_all_of};
 use oim_meta::{Limits, Report};
-use oim_resolve::Fact;
 use oim_ring::Ending;
-use oim_rows::{Rows, TableFault, TableKind};
+use oim_rows::{TableFault, TableKind};
 use std::alloc::Global;
 use std::io::Read;
 
@@ -37,73 +36,44 @@ fn write_piece<W: Sink>(sink: &mut W, any: bool, bytes: &[u8]) -> Result<(), Wri
     }
 }
 
-/// Writes the text of a fact.
-fn write_fact<W: Sink>(alloc: Global, sink: &mut W, any: &mut bool, fact: &Fact) -> Result<(), Halt>
-    ensures writes { WritesFact (sink_at (W.mark sink.old) (W.told sink.old)) (sink_at (W.mark sink.new) (W.told sink.new)) any.old any.new fact.now result }
-    ensures marked { IsHalted (W.mark sink.old) (W.mark sink.new) result }
+/// Writes the facts of a block. It has one at least.
+fn write_block<W: Sink>(sink: &mut W, any: &mut bool, block: &Block) -> Result<(), WriteFault>
+    ensures writes { WritesFacts (sink_at (W.mark sink.old) (W.told sink.old)) (sink_at (W.mark sink.new) (W.told sink.new)) any.old any.new block.now result }
+    ensures marked { Marks (W.mark sink.old) (W.mark sink.new) result }
 {
-    let Ok(member) = member_of(alloc, fact) else {
-        return Err(Halt::Memory);
-    };
-    match write_piece(sink, *any, member.bytes()) {
+    let some = block.count() > 0;
+    match write_piece(sink, *any, block.bytes()) {
         Ok(()) => {
-            *any = true;
+            *any = some;
             Ok(())
         }
-        Err(fault) => Err(Halt::Write(fault)),
+        Err(fault) => Err(fault),
     }
 }
 
-/// Writes the texts of facts.
-fn write_facts<W: Sink>(
+/// Reads the blocks that are left to their end, writes their facts if they are wanted, and says how
+/// the table ends.
+fn write_blocks<R: Read + Drop, W: Sink>(
     alloc: Global,
-    sink: &mut W,
-    any: &mut bool,
-    facts: &[Fact],
-) -> Result<(), Halt>
-    ensures writes { WritesFacts (sink_at (W.mark sink.old) (W.told sink.old)) (sink_at (W.mark sink.new) (W.told sink.new)) any.old any.new facts.now result }
-    ensures marked { IsHalted (W.mark sink.old) (W.mark sink.new) result }
-{
-    for fact in facts {
-        match write_fact(alloc, sink, any, fact) {
-            Ok(()) => {}
-            Err(halt) => return Err(halt),
-        }
-    }
-    Ok(())
-}
-
-/// How a table ends where the writing of its facts stopped: want of memory refuses it.
-fn stopped(table: usize, halt: Halt) -> Result<Ending, WriteFault>
-    ensures { result ≡ as_end table halt }
-{
-    match halt {
-        Halt::Memory => Ok(refused(table, TableKind::Memory)),
-        Halt::Write(fault) => Err(fault),
-    }
-}
-
-/// Reads the rows that are left to their end, writes their facts if they are wanted, and says how
-/// the table ends. Want of memory refuses the table.
-fn write_rows<R: Read + Drop, W: Sink>(
-    alloc: Global,
-    rows: &mut Rows<'_, R>,
+    blocks: &mut TableBlocks<'_, R>,
     table: usize,
     wanted: bool,
     sink: &mut W,
     any: &mut bool,
 ) -> Result<Ending, WriteFault>
-    requires { rows.old.table ≡ table }
-    ensures reads { IfSome rows.old.left (λ s. ReadsTable table wanted (sink_at (W.mark sink.old) (W.told sink.old)) (sink_at (W.mark sink.new) (W.told sink.new)) any.old any.new s result) }
+    requires table { blocks.old.table ≡ table }
+    requires begun { blocks.old.pending ≡ [] }
+    ensures reads { IfSome blocks.old.left (λ s. ReadsTable table wanted (sink_at (W.mark sink.old) (W.told sink.old)) (sink_at (W.mark sink.new) (W.told sink.new)) any.old any.new s result) }
     ensures marked { Marks (W.mark sink.old) (W.mark sink.new) result }
 {
-    loop {
-        match rows.next() {
-            Ok(Some(facts)) => {
+    // The bound is never reached: a table has fewer blocks.
+    for _ in 0..u64::MAX {
+        match blocks.next_block(Vec::new(alloc)) {
+            Ok(Some(block)) => {
                 if wanted {
-                    match write_facts(alloc, sink, any, facts.as_slice()) {
+                    match write_block(sink, any, &block) {
                         Ok(()) => {}
-                        Err(halt) => return stopped(table, halt),
+                        Err(fault) => return Err(fault),
                     }
                 }
             }
@@ -111,6 +81,7 @@ fn write_rows<R: Read + Drop, W: Sink>(
             Err(fault) => return Ok(Ending::Refused(fault)),
         }
     }
+    Ok(refused(table, TableKind::Memory))
 }
 
 /// Reads a table's file to its end, writes its facts if they are wanted, and says how the table
@@ -130,8 +101,8 @@ fn convert_file<R: Read + Drop, W: Sink>(
     ensures reads { IfSome (R.remaining reader) (λ bytes. ReadsTable table wanted (sink_at (W.mark sink.old) (W.told sink.old)) (sink_at (W.mark sink.new) (W.told sink.new)) any.old any.new (table_stream report.now table limits.rows (Some bytes)) result) }
     ensures marked { Marks (W.mark sink.old) (W.mark sink.new) result }
 {
-    match Rows::open(alloc, report, table, reader, limits) {
-        Ok(mut rows) => write_rows(alloc, &mut rows, table, wanted, sink, any),
+    match TableBlocks::open(alloc, report, table, reader, limits) {
+        Ok(mut blocks) => write_blocks(alloc, &mut blocks, table, wanted, sink, any),
         Err(fault) => Ok(Ending::Refused(fault)),
     }
 }

@@ -12,9 +12,9 @@ use Rattle.oim_convert.proofs.serial.convert_file.Goals as goal
 pub returns-in-Ok-clause-reads : goal.returns-in-Ok-clause-reads
 returns-in-Ok-clause-reads g c =
     let old = sink_at (g.W.Sink.mark c.args.sink.now) (g.W.Sink.told c.args.sink.now) in
-    let new = sink_at (g.W.Sink.mark c.write_rows.new.sink) (g.W.Sink.told c.write_rows.new.sink) in
+    let new = sink_at (g.W.Sink.mark c.write_blocks.new.sink) (g.W.Sink.told c.write_blocks.new.sink) in
     IfSome_then (g.R.Read.remaining c.args.reader) c.in-Ok.ensures.stream (λ bytes left.
-    subst (λ o. IfSome o (λ s. ReadsTable c.args.table c.args.wanted old new c.args.any.now c.write_rows.new.any s c.write_rows.result)) left c.write_rows.ensures.reads)
+    subst (λ o. IfSome o (λ s. ReadsTable c.args.table c.args.wanted old new c.args.any.now c.write_blocks.new.any s c.write_blocks.result)) left c.write_blocks.ensures.reads)
 
 pub returns-in-Err-clause-reads : goal.returns-in-Err-clause-reads
 returns-in-Err-clause-reads g c =
