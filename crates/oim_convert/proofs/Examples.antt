@@ -1,8 +1,11 @@
 -- The definitions, executed on small histories.
-use Rattle.std.specs.Prelude.{◌≡◌, ℕ, List, [], ◌∷◌, ◌++◌, Some, None}
-use Rattle.std.proofs.Common.{Err, arith, refl, codes, inl, inr}
-use Rattle.oim_json.specs.Document.{tail_text}
-use Rattle.oim_merge.specs.Histories.{document}
+use Rattle.std.specs.Prelude.{◌≡◌, ℕ, false, List, [], ◌∷◌, ◌++◌, Some, None}
+use Rattle.std.proofs.Common.{arith, refl, codes, inl, inr}
+use Rattle.oim_json.specs.Document.{tail_text, text_after}
+use Rattle.oim_json.specs.Sinks.{SinkView}
+use Rattle.oim_merge.specs.Histories.{all_of, document, facts_before, refusals}
+use Rattle.oim_merge.specs.declared.progress.MergeEnd.TheVariants as end
+use Rattle.oim_meta.specs.ReportValue.{ReportValue}
 use Rattle.oim_resolve.specs.declared.fact.Fact.{Fact}
 use Rattle.oim_ring.specs.Ends.{ClosedView}
 use Rattle.oim_ring.specs.declared.item.Ending.TheVariants.{Closed, Refused}
@@ -11,11 +14,12 @@ use Rattle.oim_rows.specs.Header.{fault_at, file_fault}
 use Rattle.oim_rows.specs.Streams.{Stream}
 use Rattle.oim_rows.specs.declared.fault.TableFault.{TableFault}
 use Rattle.oim_rows.specs.declared.fault.TableKind.TheVariants as kind
-use Rattle.oim_convert.specs.Answer.{facts_until, refusal, tail_for, text_after}
+use Rattle.oim_convert.specs.Answer.{IsAnswer, histories_of}
 use Rattle.oim_convert.specs.Histories.{AreUnserved, IsDecoded, IsStream}
 use Rattle.oim_convert.specs.Runs.{AreStreams, IsCut, early_fault}
 use Rattle.oim_convert.specs.Jobs.{placed}
-use Rattle.oim_convert.specs.Serial.{IsOfTables}
+use Rattle.oim_convert.specs.Serial.{AreBelow}
+use Rattle.oim_convert.specs.Steps.{wanted_of}
 use Rattle.oim_convert.specs.declared.fault.ConvertFault.TheVariants as fault
 use Rattle.oim_convert.specs.declared.job.Token.{Token}
 
@@ -104,25 +108,28 @@ unserved = (refl, (refl, tt))
 both : AreStreams (whole ∷ broken ∷ []) ((Block (first ∷ second ∷ []) ∷ Ending Closed ∷ []) ∷ (Block (third ∷ []) ∷ Ending (Refused ragged) ∷ []) ∷ [])
 both = (one_block, (refused_stream, tt))
 
--- ANSWERS: the second table of three is refused
+-- ANSWERS: the second table of three is refused, and the fourth too
 
-answered : facts_until (whole ∷ broken ∷ whole ∷ []) ≡ first ∷ second ∷ third ∷ []
-unfolding whole broken
+late : TableFault
+late = fault_at 3 0 1 kind.UnknownHeader
+
+unread_header : Stream
+unread_header = record { rows = []; fault = Some late }
+
+answered : facts_before (all_of (histories_of (whole ∷ broken ∷ whole ∷ unread_header ∷ []))) ≡ first ∷ second ∷ third ∷ []
+unfolding whole broken unread_header
 answered = refl
 
-answered_fault : refusal (whole ∷ broken ∷ whole ∷ []) ≡ Some ragged
-unfolding whole broken
-answered_fault = refl
+-- each refused table's fault, in table order
+answered_faults : refusals (all_of (histories_of (whole ∷ broken ∷ whole ∷ unread_header ∷ []))) ≡ ragged ∷ late ∷ []
+unfolding whole broken unread_header
+answered_faults = refl
 
-no_tail : tail_for (refusal (whole ∷ broken ∷ [])) ≡ []
-unfolding whole broken
-no_tail = refl
-
-with_tail : tail_for (refusal (whole ∷ [])) ≡ tail_text
+no_faults : refusals (all_of (histories_of (whole ∷ whole ∷ []))) ≡ []
 unfolding whole
-with_tail = refl
+no_faults = refl
 
--- the document of their histories is the head and the facts up to the refusal, with no tail
+-- the document of histories is the head and the facts up to the refusal, with no tail
 unfinished_document : document (codes "head") ((Block (first ∷ second ∷ []) ∷ Ending Closed ∷ []) ∷ (Block (third ∷ []) ∷ Ending (Refused ragged) ∷ []) ∷ [])
     ≡ text_after (codes "head") (first ∷ second ∷ third ∷ []) ++ []
 unfinished_document = refl
@@ -130,15 +137,34 @@ unfinished_document = refl
 finished_document : document (codes "head") ((Block (first ∷ []) ∷ Ending Closed ∷ []) ∷ (Ending Closed ∷ []) ∷ []) ≡ text_after (codes "head") (first ∷ []) ++ tail_text
 finished_document = refl
 
+-- two threads that were wanting are two faults
+unserved_faults : refusals (all_of ((Ending (Refused (file_fault 0 kind.NoThread)) ∷ []) ∷ (Ending (Refused (file_fault 1 kind.NoThread)) ∷ []) ∷ [])) ≡ file_fault 0 kind.NoThread ∷ file_fault 1 kind.NoThread ∷ []
+unserved_faults = refl
+
+-- what a report is never answered with
+module _ (report : ReportValue) (old new : SinkView) where
+  not_the_first_alone : IsAnswer report (whole ∷ broken ∷ unread_header ∷ []) old new (ragged ∷ []) end.Refused → ⊥
+  unfolding whole broken unread_header
+  not_the_first_alone answer = let e = answer.0 in cc
+
+  not_complete : IsAnswer report (whole ∷ broken ∷ []) old new (ragged ∷ []) end.Complete → ⊥
+  not_complete answer = let e = answer.1.0 in cc
+
+-- WRITING
+
+-- once a table is refused, no fact is wanted
+none_wanted : wanted_of false (first ∷ []) ≡ []
+none_wanted = refl
+
 -- TABLES AND TOKENS
 
-fault_of_the_second : IsOfTables 2 (Err (fault.Table ragged))
+faults_of_the_second : AreBelow 2 (ragged ∷ [])
 unfolding ragged
-fault_of_the_second = omega arith
+faults_of_the_second = (omega arith, tt)
 
-fault_of_no_table : IsOfTables 1 (Err (fault.Table ragged)) → ⊥
+fault_of_no_table : AreBelow 1 (ragged ∷ []) → ⊥
 unfolding ragged
-fault_of_no_table below = omega (arith, below)
+fault_of_no_table below = omega (arith, below.0)
 
 token : ℕ → ClosedView → Token
 token table closed = record { table = table; closed = Some closed }

@@ -1,4 +1,6 @@
 pub mod Going
+pub mod Streams
+pub mod Tables
 pub mod Sums
 pub mod Keeps
 pub mod Shares

@@ -14,9 +14,9 @@ use Rattle.oim_rows.specs.Header.{file_fault, file_header_fault}
 use Rattle.oim_rows.specs.Streams.{GivesNext, IsOutside, Stream, ending, stream_of, table_stream}
 use Rattle.oim_rows.specs.declared.fault.TableFault.{TableFault}
 use Rattle.oim_rows.specs.declared.fault.TableKind.TheVariants as kind
-use Rattle.oim_convert.specs.Answer.{facts_of, row_after_row}
+use Rattle.oim_convert.specs.Answer.{ending_of, facts_of, row_after_row}
 use Rattle.oim_convert.specs.Files.{IsFileOf}
-use Rattle.oim_convert.specs.Histories.{IsDecoded, IsGiven, ending_of, facts_in}
+use Rattle.oim_convert.specs.Histories.{IsDecoded, IsGiven, facts_in}
 use Rattle.oim_convert.specs.Sending.{Ends, IsReading}
 use Rattle.oim_convert.proofs.Going.{has_file, has_no_file, refused_header}
 
@@ -84,7 +84,7 @@ reading_more whole t left after facts facts' row r gives more =
     row_given whole r.rest t after r.rows facts facts' row (gives_rest left r.rest (λ s. GivesNext t s (Ok (Some row)) after) r.left_is gives) r.split r.same r.holds more
 
 -- the facts of the rows so far are the first of the table
-so_far : (whole : Stream) (left : Option Stream) (facts sent : List Fact) → IsReading whole left facts → IsPrefix sent facts → IsPrefix sent (facts_of whole)
+pub so_far : (whole : Stream) (left : Option Stream) (facts sent : List Fact) → IsReading whole left facts → IsPrefix sent facts → IsPrefix sent (facts_of whole)
 so_far whole left facts sent r (more, is) = (
   more ++ row_after_row r.rest.rows,
   sym (append_assoc sent more (row_after_row r.rest.rows)) ∙ (ap (λ l. l ++ row_after_row r.rest.rows) (is ∙ r.holds) ∙ (sym (rows_append r.rows r.rest.rows) ∙ sym (ap row_after_row r.split))),

@@ -4,7 +4,7 @@ use Rattle.std.proofs.Common.{arith, refl, ap, sym, ◌∙◌, subst}
 use Rattle.std.specs.List.{AllZip}
 use Rattle.std.proofs.lemmas.List.Elements.{All-head, All-tail, All-cons}
 use Rattle.oim_meta.specs.ReportValue.{ReportValue}
-use Rattle.oim_merge.specs.Merging.{IsFresh, EndsEach, rings_of}
+use Rattle.oim_merge.specs.Merging.{EndEach, IsFresh, rings_of, taken_of}
 use Rattle.oim_ring.specs.Ends.{ClosedView, DrainView}
 use Rattle.oim_ring.specs.Items.{blocks_only, EndsOnce}
 use Rattle.oim_ring.specs.declared.item.Ending.{Ending}
@@ -43,15 +43,15 @@ module _ {R : Type 0} (plan : List (Job R)) where
   lanes_fresh n [] each = λ k d lt. absurd (omega arith)
   lanes_fresh n (x ∷ xs) each = All-cons (λ (d : DrainView). d.taken ≡ []) x xs each.0.fresh (lanes_fresh (suc n) xs each.1)
 
-  pub lanes_ended : (n : ℕ) (old new : List DrainView) → rings_of new ≡ rings_of old → EndsEach new → Each (IsLane plan) n old → Each (IsEnded plan) n new
+  pub lanes_ended : (n : ℕ) (old new : List DrainView) → rings_of new ≡ rings_of old → EndEach (taken_of new) → Each (IsLane plan) n old → Each (IsEnded plan) n new
   lanes_ended n [] [] rings ended each = tt
   lanes_ended n [] (y ∷ ys) rings ended each = absurd (cc)
   lanes_ended n (x ∷ xs) [] rings ended each = tt
   lanes_ended n (x ∷ xs) (y ∷ ys) rings ended each =
       let ring : y.ring ≡ x.ring = cc in
       let rest : rings_of ys ≡ rings_of xs = cc in (
-        record { job = each.0.job; planned = each.0.planned; ring = ring ∙ each.0.ring; ended = ends_ended y.taken (All-head (λ (d : DrainView). EndsOnce d.taken) y ys ended) },
-        lanes_ended (suc n) xs ys rest (All-tail (λ (d : DrainView). EndsOnce d.taken) y ys ended) each.1,
+        record { job = each.0.job; planned = each.0.planned; ring = ring ∙ each.0.ring; ended = ends_ended y.taken (All-head EndsOnce y.taken (taken_of ys) ended) },
+        lanes_ended (suc n) xs ys rest (All-tail EndsOnce y.taken (taken_of ys) ended) each.1,
       )
 
 opened_at : {R : Type 0} (n k : ℕ) (jobs : List (Job R)) (job : Job R) → Each IsOpened n jobs → slice_get jobs k ≡ Some job → (job.table ≡ n + k) × (k < length jobs) × (job.feed.sent ≡ [])

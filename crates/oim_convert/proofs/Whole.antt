@@ -1,39 +1,31 @@
 -- What the histories of all tables come to.
 use Rattle.std.specs.Prelude.{◌≡◌, ◌⊎◌, ℕ, ◌+◌, zero, suc, Bool, true, false, List, [], ◌∷◌, ◌++◌, Option, Some, None, Result, Ok, Err, IfOk, length, map, replicate, slice_get}
-use Rattle.std.proofs.Common.{arith, refl, sym, ap, ◌∙◌, subst, append_assoc, inl, inr}
-use Rattle.std.specs.Io.KnownBytes.{Appends}
-use Rattle.std.specs.Option.{option_or}
-use Rattle.oim_json.specs.JsonText.{head_text}
-use Rattle.oim_json.specs.Sinks.{AppendsPrefix}
-use Rattle.oim_json.specs.declared.mark.Mark.{Mark}
-use Rattle.oim_merge.specs.Histories as merged
-use Rattle.oim_merge.specs.Histories.{all_of, document, facts_before}
-use Rattle.oim_merge.specs.Merging.{Merges, rings_of}
-use Rattle.oim_merge.specs.declared.progress.MergeEnd.{MergeEnd}
-use Rattle.oim_merge.specs.declared.progress.MergeEnd.TheVariants as end
+use Rattle.std.proofs.Common.{arith, refl, sym, ap, ◌∙◌, subst, inl, inr}
+use Rattle.oim_json.specs.Sinks.{SinkView}
+use Rattle.oim_merge.specs.Merging.{rings_of}
 use Rattle.oim_meta.specs.ReportValue.{ReportValue}
 use Rattle.oim_resolve.specs.declared.fact.Fact.{Fact}
 use Rattle.oim_ring.specs.Ends.{ClosedView, DrainView}
-use Rattle.oim_ring.specs.Items.{blocks_only}
 use Rattle.oim_ring.specs.declared.item.Ending as Endings
 use Rattle.oim_ring.specs.declared.item.Ending.TheVariants.{Refused}
 use Rattle.oim_ring.specs.declared.item.Item.{Item}
-use Rattle.oim_ring.specs.declared.item.Item.TheVariants.{Block, Ending}
+use Rattle.oim_ring.specs.declared.item.Item.TheVariants.{Ending}
 use Rattle.oim_rows.specs.Header.{file_fault}
 use Rattle.oim_rows.specs.Streams.{Stream, table_stream}
 use Rattle.oim_rows.specs.declared.fault.TableFault.{TableFault}
 use Rattle.oim_rows.specs.declared.fault.TableKind.{TableKind}
 use Rattle.oim_rows.specs.declared.fault.TableKind.TheVariants as kind
-use Rattle.oim_convert.specs.Answer.{answer_text, facts_of, facts_until, refusal, streams, streams_from, tail_for, text_after, unless_refused}
+use Rattle.oim_convert.specs.Answer.{IsAnswer, ending_of, streams, streams_from}
 use Rattle.oim_convert.specs.Files.{AreFilesOf, IsFileOf}
-use Rattle.oim_convert.specs.Histories.{AreDecoded, AreUnserved, IsDecoded, IsGiven, IsHistory, IsStream, ending_of, facts_in}
+use Rattle.oim_convert.specs.Histories.{AreDecoded, AreUnserved, IsDecoded, IsGiven, IsHistory, IsStream}
 use Rattle.oim_convert.specs.Jobs.{Each, EachSlot, IsTable}
 use Rattle.oim_convert.specs.Preparing.{HasTables}
-use Rattle.oim_convert.specs.Runs.{AreHistories, AreStreams, AreThreaded, AreUncut, IsAnswer, IsCut, IsOuter, IsThreadless, Writes}
+use Rattle.oim_convert.specs.Runs.{AreHistories, AreStreams, AreThreaded, AreUncut, IsCut, IsOuter, IsRun, IsThreadless, Writes}
 use Rattle.oim_convert.specs.declared.fault.ConvertFault.{ConvertFault}
 use Rattle.oim_convert.specs.declared.job.Job.{Job}
 use Rattle.oim_convert.specs.declared.run.Run.{Run}
 use Rattle.oim_convert.proofs.Own.{IsOwn, has_thread, own_table}
+use Rattle.oim_convert.proofs.Streams.{stream_of_whole, streams_answer}
 
 -- ROOM
 
@@ -118,9 +110,6 @@ module _ {R : Type 0} (told : R → Option (List ℕ)) (report : ReportValue) (l
 
 -- HISTORIES THAT NOTHING CUT SHORT
 
-stream_of_whole : (s : Stream) (facts : List Fact) (ending : Endings.Ending) (h : List Item) → (facts ≡ facts_of s) × (ending ≡ ending_of s.fault) → IsHistory facts ending h → IsStream s h
-stream_of_whole s facts ending h (e, f) is = subst (λ (x : Endings.Ending). IsHistory (facts_of s) x h) f (subst (λ (fs : List Fact). IsHistory fs ending h) e is)
-
 cut_is : (facts : List Fact) (ending : Endings.Ending) (h : List Item) (table : ℕ) (k : TableKind) → IsOuter k → ending ≡ Refused (file_fault table k) → IsHistory facts ending h → IsCut h
 cut_is facts ending h table k outer e is = record { before = is.before; fault = file_fault table k; outer = outer; is = is.is ∙ ap (λ (x : Endings.Ending). is.before ++ Ending x ∷ []) e }
 
@@ -144,65 +133,6 @@ uncut_unserved i (s ∷ ss) (h ∷ hs) all uncut = absurd (uncut.0 (record { bef
 pub uncut_streams : (ss : List Stream) (hs : List (List Item)) → AreHistories ss hs → AreUncut hs → AreStreams ss hs
 uncut_streams ss hs (inl decoded) uncut = uncut_decoded 0 ss hs decoded uncut
 uncut_streams ss hs (inr unserved) uncut = uncut_unserved 0 ss hs unserved uncut
-
--- THE DOCUMENT OF STREAMS
-
-blocks_refusal : (before more : List Item) → blocks_only before ≡ true → merged.refusal (before ++ more) ≡ merged.refusal more
-blocks_refusal [] more only = refl
-blocks_refusal (Block fs ∷ rest) more only = blocks_refusal rest more only
-blocks_refusal (Ending e ∷ rest) more only = absurd (cc)
-
-blocks_facts : (before more : List Item) → blocks_only before ≡ true → facts_before (before ++ more) ≡ facts_in before ++ facts_before more
-blocks_facts [] more only = refl
-blocks_facts (Block fs ∷ rest) more only = ap (λ l. fs ++ l) (blocks_facts rest more only) ∙ sym (append_assoc fs (facts_in rest) (facts_before more))
-blocks_facts (Ending e ∷ rest) more only = absurd (cc)
-
-end_refusal : (o : Option TableFault) (rest : List Item) → merged.refusal (Ending (ending_of o) ∷ rest) ≡ option_or o (merged.refusal rest)
-end_refusal None rest = refl
-end_refusal (Some e) rest = refl
-
-end_facts : (o : Option TableFault) (rest : List Item) → facts_before (Ending (ending_of o) ∷ rest) ≡ unless_refused o (facts_before rest)
-end_facts None rest = refl
-end_facts (Some e) rest = refl
-
-split_history : (before : List Item) (e : Endings.Ending) (h rest : List Item) → h ≡ before ++ Ending e ∷ [] → h ++ rest ≡ before ++ (Ending e ∷ rest)
-split_history before e h rest is = ap (λ l. l ++ rest) is ∙ append_assoc before (Ending e ∷ []) rest
-
-streams_refusal : (ss : List Stream) (hs : List (List Item)) → AreStreams ss hs → merged.refusal (all_of hs) ≡ refusal ss
-streams_refusal [] [] all = refl
-streams_refusal [] (h ∷ hs) all = absurd all
-streams_refusal (s ∷ ss) [] all = absurd all
-streams_refusal (s ∷ ss) (h ∷ hs) all =
-    let is = all.0 in
-    ap merged.refusal (split_history is.before (ending_of s.fault) h (all_of hs) is.is)
-    ∙ (blocks_refusal is.before (Ending (ending_of s.fault) ∷ all_of hs) is.blocks ∙ (end_refusal s.fault (all_of hs) ∙ ap (λ o. option_or s.fault o) (streams_refusal ss hs all.1)))
-
-streams_facts : (ss : List Stream) (hs : List (List Item)) → AreStreams ss hs → facts_before (all_of hs) ≡ facts_until ss
-streams_facts [] [] all = refl
-streams_facts [] (h ∷ hs) all = absurd all
-streams_facts (s ∷ ss) [] all = absurd all
-streams_facts (s ∷ ss) (h ∷ hs) all =
-    let is = all.0 in
-    ap facts_before (split_history is.before (ending_of s.fault) h (all_of hs) is.is)
-    ∙ (blocks_facts is.before (Ending (ending_of s.fault) ∷ all_of hs) is.blocks
-    ∙ (ap (λ l. l ++ facts_before (Ending (ending_of s.fault) ∷ all_of hs)) is.holds ∙ ap (λ l. facts_of s ++ l) (end_facts s.fault (all_of hs) ∙ ap (λ l. unless_refused s.fault l) (streams_facts ss hs all.1))))
-
-tails : (o : Option TableFault) → merged.tail_for o ≡ tail_for o
-tails None = refl
-tails (Some e) = refl
-
-streams_text : (report : ReportValue) (ss : List Stream) (hs : List (List Item)) → AreStreams ss hs → document (head_text report) hs ≡ answer_text report ss
-streams_text report ss hs all =
-    ap (λ fs. text_after (head_text report) fs ++ merged.tail_for (merged.refusal (all_of hs))) (streams_facts ss hs all)
-    ∙ ap (λ l. text_after (head_text report) (facts_until ss) ++ l) (tails (merged.refusal (all_of hs)) ∙ ap tail_for (streams_refusal ss hs all))
-
-pub streams_answer : (report : ReportValue) (ss : List Stream) (hs : List (List Item)) (mark mark' : Mark) (told told' : Option (List ℕ)) (e : MergeEnd) → AreStreams ss hs
-    → Merges mark mark' told told' (document (head_text report) hs) hs e → IsAnswer report ss mark mark' told told' e
-streams_answer report ss hs mark mark' told told' end.Complete all m =
-    (sym (streams_refusal ss hs all) ∙ m.0, m.1, subst (λ (t : List ℕ). Appends told told' t) (streams_text report ss hs all) m.2)
-streams_answer report ss hs mark mark' told told' (end.Refused f) all m =
-    (sym (streams_refusal ss hs all) ∙ m.0, m.1, subst (λ (t : List ℕ). Appends told told' t) (streams_text report ss hs all) m.2)
-streams_answer report ss hs mark mark' told told' (end.Write w) all m = (m.0, subst (λ (t : List ℕ). AppendsPrefix told told' t) (streams_text report ss hs all) m.1)
 
 -- WANT OF A THREAD
 
@@ -255,20 +185,23 @@ threads_of report limit files hs (inr unserved) = inl unserved
 -- A RUN
 
 module _ {R : Type 0} (told : R → Option (List ℕ)) (report : ReportValue) (limit : ℕ) (plan : List (Job R)) (readers : List (Option R)) (same : map (λ (job : Job R). job.reader) plan ≡ readers)
-    (count : length readers ≡ length report.tables) (files : List (Option (List ℕ))) (are : AreFilesOf told readers files) (mark mark' : Mark) (told_before told_after : Option (List ℕ)) where
-  pub run_histories : (r : Result Run ConvertFault) → IfOk r (λ run. HasTables told report limit plan run.drains.items) → Writes report (length report.tables) mark mark' told_before told_after r
+    (count : length readers ≡ length report.tables) (files : List (Option (List ℕ))) (are : AreFilesOf told readers files) (old new : SinkView) where
+  histories : (run : Run) → HasTables told report limit plan run.drains.items → IsRun report (length report.tables) old new run → AreHistories (streams report limit files) run.drains.items
+  histories run has writes = tables_are told report limit plan readers same run.drains.items files (writes.count ∙ sym count) are has
+
+  pub run_histories : (r : Result Run ConvertFault) → IfOk r (λ run. HasTables told report limit plan run.drains.items) → Writes report (length report.tables) old new r
       → IfOk r (λ run. AreHistories (streams report limit files) run.drains.items)
-  run_histories (Ok run) has writes = tables_are told report limit plan readers same run.drains.items files (writes.0 ∙ sym count) are has
+  run_histories (Ok run) has writes = histories run has writes
   run_histories (Err e) has writes = tt
 
-  pub run_headline : (r : Result Run ConvertFault) → IfOk r (λ run. HasTables told report limit plan run.drains.items) → Writes report (length report.tables) mark mark' told_before told_after r
-      → IfOk r (λ run. AreUncut run.drains.items → AreStreams (streams report limit files) run.drains.items × IsAnswer report (streams report limit files) mark mark' told_before told_after run.end)
+  pub run_headline : (r : Result Run ConvertFault) → IfOk r (λ run. HasTables told report limit plan run.drains.items) → Writes report (length report.tables) old new r
+      → IfOk r (λ run. AreUncut run.drains.items → AreStreams (streams report limit files) run.drains.items × IsAnswer report (streams report limit files) old new run.faults.items run.end)
   run_headline (Ok run) has writes = λ uncut.
-      let all = uncut_streams (streams report limit files) run.drains.items (tables_are told report limit plan readers same run.drains.items files (writes.0 ∙ sym count) are has) uncut in
-      (all, streams_answer report (streams report limit files) run.drains.items mark mark' told_before told_after run.end all writes.1)
+      let all = uncut_streams (streams report limit files) run.drains.items (histories run has writes) uncut in
+      (all, streams_answer report (streams report limit files) run.drains.items old new run.faults.items run.end all writes.merged)
   run_headline (Err e) has writes = tt
 
-  pub run_threads : (r : Result Run ConvertFault) → IfOk r (λ run. HasTables told report limit plan run.drains.items) → Writes report (length report.tables) mark mark' told_before told_after r
+  pub run_threads : (r : Result Run ConvertFault) → IfOk r (λ run. HasTables told report limit plan run.drains.items) → Writes report (length report.tables) old new r
       → IfOk r (λ run. AreUnserved 0 (streams report limit files) run.drains.items ⊎ AreThreaded run.drains.items)
-  run_threads (Ok run) has writes = threads_of report limit files run.drains.items (tables_are told report limit plan readers same run.drains.items files (writes.0 ∙ sym count) are has)
+  run_threads (Ok run) has writes = threads_of report limit files run.drains.items (histories run has writes)
   run_threads (Err e) has writes = tt

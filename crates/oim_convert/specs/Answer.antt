@@ -1,13 +1,19 @@
--- The answer of a report: the document of all facts, or the first refused table's fault and the unfinished document.
+-- The answer of a report: the streams of its tables, read as histories.
 -- xBRL-CSV 1.0 (a report is the facts of its tables), xBRL-JSON 1.0 (the document).
-use Rattle.std.specs.Prelude.{ℕ, ◌+◌, List, [], ◌∷◌, ◌++◌, Option, Some, None}
-use Rattle.std.specs.Option.{option_or}
+use Rattle.std.specs.Prelude.{ℕ, ◌+◌, List, [], ◌∷◌, ◌++◌, Option, Some, None, map}
+use Rattle.oim_json.specs.JsonText.{head_text}
+use Rattle.oim_json.specs.Sinks.{SinkView}
+use Rattle.oim_merge.specs.Histories.{document}
+use Rattle.oim_merge.specs.Merging.{Merges}
+use Rattle.oim_merge.specs.declared.progress.MergeEnd.{MergeEnd}
 use Rattle.oim_meta.specs.ReportValue.{ReportValue}
 use Rattle.oim_resolve.specs.declared.fact.Fact.{Fact}
+use Rattle.oim_ring.specs.declared.item.Ending as Endings
+use Rattle.oim_ring.specs.declared.item.Ending.TheVariants.{Closed, Refused}
+use Rattle.oim_ring.specs.declared.item.Item.{Item}
+use Rattle.oim_ring.specs.declared.item.Item.TheVariants.{Block, Ending}
 use Rattle.oim_rows.specs.Streams.{Stream, table_stream}
 use Rattle.oim_rows.specs.declared.fault.TableFault.{TableFault}
-use Rattle.oim_json.specs.Document.{facts_text, tail_text}
-use Rattle.oim_json.specs.JsonText.{head_text}
 
 -- the streams of tables, the first of which stands at place i
 abbrev pub streams_from : ReportValue → ℕ → ℕ → List (Option (List ℕ)) → List Stream
@@ -27,30 +33,24 @@ row_after_row (r ∷ rs) = r ++ row_after_row rs
 abbrev pub facts_of : Stream → List Fact
 facts_of s = row_after_row s.rows
 
--- nothing comes after a refusal
-abbrev pub unless_refused : Option TableFault → List Fact → List Fact
-unless_refused None facts = facts
-unless_refused (Some e) facts = []
+-- the ending of a table that has this fault, or none
+abbrev pub ending_of : Option TableFault → Endings.Ending
+ending_of None = Closed
+ending_of (Some e) = Refused e
 
--- the facts of the tables up to and with the first refused one
-abbrev pub facts_until : List Stream → List Fact
-facts_until [] = []
-facts_until (s ∷ ss) = facts_of s ++ unless_refused s.fault (facts_until ss)
+-- a stream as a history: all its facts, and then its ending
+abbrev pub history_of : Stream → List Item
+history_of s = Block (facts_of s) ∷ Ending (ending_of s.fault) ∷ []
 
--- the fault of the first refused table
-abbrev pub refusal : List Stream → Option TableFault
-refusal [] = None
-refusal (s ∷ ss) = option_or s.fault (refusal ss)
+abbrev pub histories_of : List Stream → List (List Item)
+histories_of ss = map history_of ss
 
--- the tail stands exactly where no table is refused
-abbrev pub tail_for : Option TableFault → List ℕ
-tail_for None = tail_text
-tail_for (Some e) = []
-
--- a document up to the end of these facts
-abbrev pub text_after : List ℕ → List Fact → List ℕ
-text_after head facts = head ++ facts_text facts
-
--- what a report with these streams is answered with
+-- the text that a report with these streams is answered with: the whole document, or the unfinished one up to and with the
+-- first refused table
 abbrev pub answer_text : ReportValue → List Stream → List ℕ
-answer_text report ss = text_after (head_text report) (facts_until ss) ++ tail_for (refusal ss)
+answer_text report ss = document (head_text report) (histories_of ss)
+
+-- the answer of a report with these streams: the fault of each refused table, in table order; Complete where there is none, else
+-- Refused; and the text. By a failed write, a beginning of the text
+abbrev pub IsAnswer : ReportValue → List Stream → SinkView → SinkView → List TableFault → MergeEnd → Type 0
+IsAnswer report ss old new faults end = Merges old new (head_text report) (histories_of ss) faults end

@@ -9,7 +9,7 @@ number_of fault.BadSize = 51
 number_of fault.WrongReaders = 52
 number_of fault.Memory = 53
 number_of fault.Lost = 54
-number_of (fault.Table e) = 55
+number_of (fault.Tables faults) = 55
 number_of (fault.Write w) = 56
 
 abbrev pub name_of : ConvertFault → List ℕ
@@ -18,5 +18,5 @@ name_of fault.BadSize = codes "BadSize"
 name_of fault.WrongReaders = codes "WrongReaders"
 name_of fault.Memory = codes "Memory"
 name_of fault.Lost = codes "Lost"
-name_of (fault.Table e) = codes "Table"
+name_of (fault.Tables faults) = codes "Tables"
 name_of (fault.Write w) = codes "Write"

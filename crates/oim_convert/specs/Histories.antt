@@ -1,29 +1,23 @@
 -- The history of a table: the blocks of facts that were sent into its ring, and then one ending.
 -- xBRL-CSV 1.0: a report is the facts of its tables.
-use Rattle.std.specs.Prelude.{◌≡◌, ◌⊎◌, ⊤, ℕ, ◌+◌, true, List, [], ◌∷◌, ◌++◌, Option, Some, None}
+use Rattle.std.specs.Prelude.{◌≡◌, ◌⊎◌, ⊤, ℕ, ◌+◌, true, List, [], ◌∷◌, ◌++◌}
 use mathlib.Core.List.{IsPrefix}
 use Rattle.oim_resolve.specs.declared.fact.Fact.{Fact}
 use Rattle.oim_ring.specs.Items.{blocks_only}
 use Rattle.oim_ring.specs.declared.item.Ending as Endings
-use Rattle.oim_ring.specs.declared.item.Ending.TheVariants.{Closed, Refused}
+use Rattle.oim_ring.specs.declared.item.Ending.TheVariants.{Refused}
 use Rattle.oim_ring.specs.declared.item.Item.{Item}
 use Rattle.oim_ring.specs.declared.item.Item.TheVariants.{Block, Ending}
 use Rattle.oim_rows.specs.Header.{file_fault}
 use Rattle.oim_rows.specs.Streams.{Stream}
-use Rattle.oim_rows.specs.declared.fault.TableFault.{TableFault}
 use Rattle.oim_rows.specs.declared.fault.TableKind.TheVariants as kind
-use Rattle.oim_convert.specs.Answer.{facts_of, row_after_row}
+use Rattle.oim_convert.specs.Answer.{ending_of, facts_of, row_after_row}
 
 -- the facts of blocks, in order
 abbrev pub facts_in : List Item → List Fact
 facts_in [] = []
 facts_in (Block facts ∷ items) = facts ++ facts_in items
 facts_in (Ending ending ∷ items) = facts_in items
-
--- the ending of a table that has this fault, or none
-abbrev pub ending_of : Option TableFault → Endings.Ending
-ending_of None = Closed
-ending_of (Some e) = Refused e
 
 -- blocks of these facts, then this ending, and nothing after it
 pub record IsHistory (facts : List Fact) (ending : Endings.Ending) (history : List Item) : Type 0 where

@@ -4,6 +4,7 @@ use Rattle.oim_meta.specs.ReportValue.{ReportValue}
 use Rattle.oim_ring.specs.declared.item.Item.{Item}
 use Rattle.oim_convert.specs.Jobs.{Each, IsLane, IsOpened, IsTable}
 use Rattle.oim_convert.specs.Shifts.{IsCrew}
+use Rattle.oim_convert.specs.Working.{HasRoom}
 use Rattle.oim_convert.specs.declared.closing.Places.{Places}
 use Rattle.oim_convert.specs.declared.fault.ConvertFault.{ConvertFault}
 use Rattle.oim_convert.specs.declared.fault.ConvertFault.TheVariants as fault
@@ -17,12 +18,13 @@ pub record ArePlaces {R : Type 0} (tables workers : ℕ) (places : Places R) : T
   pub seats : (places.seats.items ≡ []) × (workers ≤ vec_capacity places.seats)
   pub settled : (places.settled.items ≡ []) × (tables ≤ vec_capacity places.settled)
 
--- a crew over the jobs of all tables, a drain for each, and room for what comes back
+-- a crew over the jobs of all tables, a drain for each with room for its fault, and room for what comes back
 pub record IsReady {R T : Type 0} (ready : Ready R T) : Type 0 where
   pub crew : IsCrew ready.crew
   pub jobs : Each IsOpened 0 ready.crew.claims.items
-  pub drains : Each (IsLane ready.crew.claims.items) 0 ready.drains.items
-  pub count : length ready.drains.items ≡ length ready.crew.claims.items
+  pub drains : Each (IsLane ready.crew.claims.items) 0 ready.unmerged.drains.items
+  pub count : length ready.unmerged.drains.items ≡ length ready.crew.claims.items
+  pub faults : HasRoom ready.unmerged
   pub places : ArePlaces (length ready.crew.claims.items) ready.crew.claims.workers ready.places
 
 -- the histories of all tables of the plan, which were served by workers or not
@@ -37,5 +39,5 @@ HasRun (Err fault.Memory) = ⊥
 HasRun (Err fault.BadWorkers) = ⊥
 HasRun (Err fault.BadSize) = ⊥
 HasRun (Err fault.WrongReaders) = ⊥
-HasRun (Err (fault.Table e)) = ⊥
+HasRun (Err (fault.Tables faults)) = ⊥
 HasRun (Err (fault.Write w)) = ⊥

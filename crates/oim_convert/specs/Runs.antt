@@ -1,14 +1,10 @@
 -- What a conversion on threads answers.
 -- xBRL-CSV 1.0 (a report is the facts of its tables), xBRL-JSON 1.0 (the document).
 use Rattle.std.specs.Prelude.{◌≡◌, ◌⊎◌, ⊤, ℕ, ◌||◌, ◌==◌, nat_lt, if◌then◌else◌, List, [], ◌∷◌, ◌++◌, Option, Some, None, Result, Ok, Err, length}
-use Rattle.std.specs.Io.KnownBytes.{Appends, Keeps}
 use Rattle.oim_json.specs.JsonText.{head_text}
-use Rattle.oim_json.specs.Sinks.{AppendsPrefix, mark_of}
-use Rattle.oim_json.specs.declared.mark.Mark.{Mark}
-use Rattle.oim_merge.specs.Histories.{document}
-use Rattle.oim_merge.specs.Merging.{Merges}
+use Rattle.oim_json.specs.Sinks.{SinkView, Unwritten}
+use Rattle.oim_merge.specs.Merging.{EndEach, Merges}
 use Rattle.oim_merge.specs.declared.progress.MergeEnd.{MergeEnd}
-use Rattle.oim_merge.specs.declared.progress.MergeEnd.TheVariants as end
 use Rattle.oim_meta.specs.ReportValue.{ReportValue}
 use Rattle.oim_ring.specs.declared.item.Ending.TheVariants.{Refused}
 use Rattle.oim_ring.specs.declared.item.Item.{Item}
@@ -17,7 +13,6 @@ use Rattle.oim_rows.specs.Streams.{Stream}
 use Rattle.oim_rows.specs.declared.fault.TableFault.{TableFault}
 use Rattle.oim_rows.specs.declared.fault.TableKind.{TableKind}
 use Rattle.oim_rows.specs.declared.fault.TableKind.TheVariants as kind
-use Rattle.oim_convert.specs.Answer.{answer_text, refusal}
 use Rattle.oim_convert.specs.Histories.{AreDecoded, AreUnserved, IsStream}
 use Rattle.oim_convert.specs.declared.fault.ConvertFault.{ConvertFault}
 use Rattle.oim_convert.specs.declared.fault.ConvertFault.TheVariants as fault
@@ -40,7 +35,7 @@ AnswersFault None (Err fault.Lost) = ⊤
 AnswersFault None (Err fault.BadWorkers) = ⊥
 AnswersFault None (Err fault.BadSize) = ⊥
 AnswersFault None (Err fault.WrongReaders) = ⊥
-AnswersFault None (Err (fault.Table e)) = ⊥
+AnswersFault None (Err (fault.Tables faults)) = ⊥
 AnswersFault None (Err (fault.Write w)) = ⊥
 
 -- the histories of a report's tables: each table was decoded, or no thread was there and none was
@@ -82,28 +77,28 @@ abbrev pub AreThreaded : List (List Item) → Type 0
 AreThreaded [] = ⊤
 AreThreaded (h ∷ hs) = (¬ IsThreadless h) × AreThreaded hs
 
--- the end that a report with these streams is answered with, and the bytes that are written: its document, or the
--- unfinished document up to the first refused table; where a write failed, a beginning of these
-abbrev pub IsAnswer : ReportValue → List Stream → Mark → Mark → Option (List ℕ) → Option (List ℕ) → MergeEnd → Type 0
-IsAnswer report ss mark mark' told told' end.Complete = (refusal ss ≡ None) × (mark' ≡ mark) × Appends told told' (answer_text report ss)
-IsAnswer report ss mark mark' told told' (end.Refused e) = (refusal ss ≡ Some e) × (mark' ≡ mark) × Appends told told' (answer_text report ss)
-IsAnswer report ss mark mark' told told' (end.Write w) = (mark' ≡ mark_of w) × AppendsPrefix told told' (answer_text report ss)
-
 -- a token was lost: what was written is the document of some histories, one for each table, or a beginning of it
-pub record IsLost (report : ReportValue) (tables : ℕ) (mark mark' : Mark) (told told' : Option (List ℕ)) : Type 0 where
+pub record IsLost (report : ReportValue) (tables : ℕ) (old new : SinkView) : Type 0 where
   pub histories : List (List Item)
   pub count : length histories ≡ tables
+  pub ended : EndEach histories
+  pub faults : List TableFault
   pub end : MergeEnd
-  pub merged : Merges mark mark' told told' (document (head_text report) histories) histories end
+  pub merged : Merges old new (head_text report) histories faults end
+
+-- a run of this many tables: the history of each has one ending, and its faults, its end and what is written are those of the histories
+pub record IsRun (report : ReportValue) (tables : ℕ) (old new : SinkView) (run : Run) : Type 0 where
+  pub count : length run.drains.items ≡ tables
+  pub ended : EndEach run.drains.items
+  pub merged : Merges old new (head_text report) run.drains.items run.faults.items run.end
 
 -- what is written: the document of the run's histories up to its end; nothing by a fault but Lost
-abbrev pub Writes : ReportValue → ℕ → Mark → Mark → Option (List ℕ) → Option (List ℕ) → Result Run ConvertFault → Type 0
-Writes report tables mark mark' told told' (Ok run) =
-    (length run.drains.items ≡ tables) × Merges mark mark' told told' (document (head_text report) run.drains.items) run.drains.items run.end
-Writes report tables mark mark' told told' (Err fault.Lost) = IsLost report tables mark mark' told told'
-Writes report tables mark mark' told told' (Err fault.Memory) = (mark' ≡ mark) × Keeps told told'
-Writes report tables mark mark' told told' (Err fault.BadWorkers) = (mark' ≡ mark) × Keeps told told'
-Writes report tables mark mark' told told' (Err fault.BadSize) = (mark' ≡ mark) × Keeps told told'
-Writes report tables mark mark' told told' (Err fault.WrongReaders) = (mark' ≡ mark) × Keeps told told'
-Writes report tables mark mark' told told' (Err (fault.Table e)) = ⊥
-Writes report tables mark mark' told told' (Err (fault.Write w)) = ⊥
+abbrev pub Writes : ReportValue → ℕ → SinkView → SinkView → Result Run ConvertFault → Type 0
+Writes report tables old new (Ok run) = IsRun report tables old new run
+Writes report tables old new (Err fault.Lost) = IsLost report tables old new
+Writes report tables old new (Err fault.Memory) = Unwritten old new
+Writes report tables old new (Err fault.BadWorkers) = Unwritten old new
+Writes report tables old new (Err fault.BadSize) = Unwritten old new
+Writes report tables old new (Err fault.WrongReaders) = Unwritten old new
+Writes report tables old new (Err (fault.Tables faults)) = ⊥
+Writes report tables old new (Err (fault.Write w)) = ⊥

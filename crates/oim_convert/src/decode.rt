@@ -1,8 +1,9 @@
 //! Decoding a table into its ring.
 
 ghost use Rattle.std.specs.Prelude.{◌≡◌, ◌≤◌, ◌<◌, ℕ, List, [], ◌++◌, length, Option, Some, None, IfSome};
+ghost use Rattle.oim_convert.specs.Answer.{ending_of};
 ghost use Rattle.oim_convert.specs.Files.{IsFileOf};
-ghost use Rattle.oim_convert.specs.Histories.{IsDecoded, IsGiven, ending_of, facts_in};
+ghost use Rattle.oim_convert.specs.Histories.{IsDecoded, IsGiven, facts_in};
 ghost use Rattle.oim_convert.specs.Sending.{Ends};
 ghost use Rattle.oim_ring.specs.declared.item.Ending.TheVariants.{Refused};
 ghost use Rattle.oim_rows.specs.Header.{file_fault};
@@ -61,7 +62,7 @@ pub(crate) fn decode<R: Read + Drop, T: Wait>(
 }
 
 /// How a table without a file ends.
-fn without_file(report: &Report, table: usize) -> Ending
+pub(crate) fn without_file(report: &Report, table: usize) -> Ending
     requires { table < length report.now.tables }
     ensures { (limit : ℕ) → result ≡ ending_of (table_stream report.now table limit None).fault }
 {

@@ -7,7 +7,7 @@ use oim_json::WriteFault;
 use oim_rows::TableFault;
 
 /// Why a conversion ends without a whole document.
-#[derive(Clone, Copy, Debug, PartialEq, Eq)]
+#[derive(Debug, PartialEq, Eq, Drop)]
 pub enum ConvertFault {
     /// 50: the workers are not 1 to 64.
     BadWorkers,
@@ -19,8 +19,8 @@ pub enum ConvertFault {
     Memory,
     /// 54: the end of a ring was lost.
     Lost,
-    /// 55: a table has a fault.
-    Table(TableFault),
+    /// 55: tables have faults: the first fault of each that has one, in table order.
+    Tables(Vec<TableFault>),
     /// 56: a write failed.
     Write(WriteFault),
 }
@@ -36,7 +36,7 @@ impl ConvertFault {
             ConvertFault::WrongReaders => 52,
             ConvertFault::Memory => 53,
             ConvertFault::Lost => 54,
-            ConvertFault::Table(_) => 55,
+            ConvertFault::Tables(_) => 55,
             ConvertFault::Write(_) => 56,
         }
     }
@@ -51,7 +51,7 @@ impl ConvertFault {
             ConvertFault::WrongReaders => "WrongReaders",
             ConvertFault::Memory => "Memory",
             ConvertFault::Lost => "Lost",
-            ConvertFault::Table(_) => "Table",
+            ConvertFault::Tables(_) => "Tables",
             ConvertFault::Write(_) => "Write",
         }
     }

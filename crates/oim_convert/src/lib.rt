@@ -2,9 +2,9 @@
 //!
 //! What the crate promises of `convert_serial`, on one thread:
 //! - Ok has written exactly the document of all facts, in table order (`specs/Answer.antt`);
-//! - a table fault is the first refused table's, with exactly the unfinished document up to it; a
-//!   table whose reader fails or that finds no memory ends so too, with some of its own facts; the
-//!   table that it names is one of the report;
+//! - Tables has the first fault of each refused table, in table order, with exactly the unfinished
+//!   document up to and with the first of them; a table whose reader fails or that finds no memory
+//!   is refused so too, and then has given some of its own facts (`specs/Serial.antt`);
 //! - a write fault leaves a beginning of the defined bytes, and is the sink's mark;
 //! - WrongReaders comes exactly where the readers are not as many as the tables; it and Memory
 //!   write nothing.
@@ -12,12 +12,13 @@
 //! What it promises of `convert`, on threads, for every number of workers, ring size and schedule:
 //! - each history is its table's stream, or a beginning of it that a failed read or want of memory
 //!   ended; NoThread ends all tables or none (`specs/Histories.antt`);
-//! - the end is that of the histories, and what is written is their document, the unfinished one up
-//!   to the first refusal, or by a write fault a beginning of it;
-//! - where nothing cut a history short, each is its table's stream, and end and bytes are the
-//!   defined answer of the report (`specs/Runs.antt`);
+//! - the faults and the end are those of the histories, each of which has one ending, and what is
+//!   written is their document, the unfinished one up to and with the first refused table, or by a
+//!   write fault a beginning of it;
+//! - where nothing cut a history short, each is its table's stream, and faults, end and bytes are
+//!   the defined answer of the report (`specs/Runs.antt`);
 //! - BadWorkers, BadSize and WrongReaders come exactly where each is the first that is due; they and
-//!   Memory write nothing, and Lost comes after the document of the histories.
+//!   Memory write nothing, and Lost comes after the document of some histories, one for each table.
 //!
 //! A run is answered only after its claims were closed with all their seats: what the workers gave
 //! back is for each table once (`finish` of `src/closing.rt`).

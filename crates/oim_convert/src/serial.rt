@@ -1,24 +1,25 @@
 //! The conversion on one thread.
 
-ghost use Rattle.std.specs.Prelude.{◌≡◌, ◌≢◌, ◌↔◌, ◌≤◌, ◌<◌, ℕ, List, Option, Some, None, Ok, Err, IfSome, length, false, if◌then◌else◌};
-ghost use Rattle.oim_json.specs.Sinks.{WritesAll};
-ghost use Rattle.oim_convert.specs.Steps.{WritesFact, WritesFacts, WritesTable, WritesTables, IsHalted, IsTableHalted, as_fault, as_table_halt, piece, sink_at};
-ghost use Rattle.oim_convert.specs.Serial.{Converts, HasBegun, IsOfTables, Leaves};
-ghost use Rattle.oim_convert.specs.declared.fault.ConvertFault.TheVariants as fault;
+ghost use Rattle.std.specs.Prelude.{◌≡◌, ◌≢◌, ◌↔◌, ◌≤◌, ◌<◌, ◌+◌, ◌++◌, ℕ, List, [], ◌∷◌, Option, Some, Err, IfSome, length, vec_len, vec_capacity};
+ghost use Rattle.oim_json.specs.Document.{piece};
 ghost use Rattle.oim_json.specs.JsonText.{head_text};
+ghost use Rattle.oim_json.specs.Sinks.{WritesAll, sink_at};
+ghost use Rattle.oim_merge.specs.Histories.{refusals};
+ghost use Rattle.oim_ring.specs.declared.item.Item.TheVariants as items;
+ghost use Rattle.oim_rows.specs.Streams.{table_stream};
 ghost use Rattle.oim_convert.specs.Answer.{streams};
 ghost use Rattle.oim_convert.specs.Files.{IsFileOf, AreFilesOf};
-ghost use Rattle.oim_convert.specs.declared.halt.TableHalt.TheVariants.{Refused};
-ghost use Rattle.oim_meta.specs.Readers.{table_of};
-ghost use Rattle.oim_rows.specs.Header.{file_fault};
-ghost use Rattle.oim_rows.specs.Streams.{table_stream};
-ghost use Rattle.oim_rows.specs.declared.fault.TableKind.TheVariants as kind;
+ghost use Rattle.oim_convert.specs.Serial.{Converts, HasBegun, IsOfTables, Leaves};
+ghost use Rattle.oim_convert.specs.Steps.{IsHalted, Marks, ReadsTable, ReadsTables, WritesFact, WritesFacts, as_end};
+ghost use Rattle.oim_convert.specs.declared.fault.ConvertFault.TheVariants as fault;
 
+use crate::decode::{refused, without_file};
 use crate::fault::ConvertFault;
-use crate::halt::{Halt, TableHalt};
+use crate::halt::Halt;
 use oim_json::{Sink, TAIL, WriteFault, head, member_of, write_all_of};
 use oim_meta::{Limits, Report};
 use oim_resolve::Fact;
+use oim_ring::Ending;
 use oim_rows::{Rows, TableFault, TableKind};
 use std::alloc::Global;
 use std::io::Read;
@@ -39,7 +40,7 @@ fn write_piece<W: Sink>(sink: &mut W, any: bool, bytes: &[u8]) -> Result<(), Wri
 /// Writes the text of a fact.
 fn write_fact<W: Sink>(alloc: Global, sink: &mut W, any: &mut bool, fact: &Fact) -> Result<(), Halt>
     ensures writes { WritesFact (sink_at (W.mark sink.old) (W.told sink.old)) (sink_at (W.mark sink.new) (W.told sink.new)) any.old any.new fact.now result }
-    ensures marked { IsHalted (W.mark sink.new) result }
+    ensures marked { IsHalted (W.mark sink.old) (W.mark sink.new) result }
 {
     let Ok(member) = member_of(alloc, fact) else {
         return Err(Halt::Memory);
@@ -61,7 +62,7 @@ fn write_facts<W: Sink>(
     facts: &[Fact],
 ) -> Result<(), Halt>
     ensures writes { WritesFacts (sink_at (W.mark sink.old) (W.told sink.old)) (sink_at (W.mark sink.new) (W.told sink.new)) any.old any.new facts.now result }
-    ensures marked { IsHalted (W.mark sink.new) result }
+    ensures marked { IsHalted (W.mark sink.old) (W.mark sink.new) result }
 {
     for fact in facts {
         match write_fact(alloc, sink, any, fact) {
@@ -72,148 +73,168 @@ fn write_facts<W: Sink>(
     Ok(())
 }
 
-/// What stops a table where the writing of facts stopped: want of memory refuses it.
-fn table_halt(table: usize, halt: Halt) -> TableHalt
-    ensures { result ≡ as_table_halt table halt }
+/// How a table ends where the writing of its facts stopped: want of memory refuses it.
+fn stopped(table: usize, halt: Halt) -> Result<Ending, WriteFault>
+    ensures { result ≡ as_end table halt }
 {
     match halt {
-        Halt::Memory => TableHalt::Refused(TableFault {
-            table,
-            row: 0,
-            column: 0,
-            kind: TableKind::Memory,
-        }),
-        Halt::Write(fault) => TableHalt::Write(fault),
+        Halt::Memory => Ok(refused(table, TableKind::Memory)),
+        Halt::Write(fault) => Err(fault),
     }
 }
 
-/// Writes the facts of the rows that are left.
+/// Reads the rows that are left to their end, writes their facts if they are wanted, and says how
+/// the table ends. Want of memory refuses the table.
 fn write_rows<R: Read + Drop, W: Sink>(
     alloc: Global,
     rows: &mut Rows<'_, R>,
     table: usize,
+    wanted: bool,
     sink: &mut W,
     any: &mut bool,
-) -> Result<(), TableHalt>
+) -> Result<Ending, WriteFault>
     requires { rows.old.table ≡ table }
-    ensures writes { IfSome rows.old.left (λ s. WritesTable table (sink_at (W.mark sink.old) (W.told sink.old)) (sink_at (W.mark sink.new) (W.told sink.new)) any.old any.new s result) }
-    ensures marked { IsTableHalted (W.mark sink.new) result }
+    ensures reads { IfSome rows.old.left (λ s. ReadsTable table wanted (sink_at (W.mark sink.old) (W.told sink.old)) (sink_at (W.mark sink.new) (W.told sink.new)) any.old any.new s result) }
+    ensures marked { Marks (W.mark sink.old) (W.mark sink.new) result }
 {
     loop {
         match rows.next() {
-            Ok(Some(facts)) => match write_facts(alloc, sink, any, facts.as_slice()) {
-                Ok(()) => {}
-                Err(halt) => return Err(table_halt(table, halt)),
-            },
-            Ok(None) => return Ok(()),
-            Err(fault) => return Err(TableHalt::Refused(fault)),
+            Ok(Some(facts)) => {
+                if wanted {
+                    match write_facts(alloc, sink, any, facts.as_slice()) {
+                        Ok(()) => {}
+                        Err(halt) => return stopped(table, halt),
+                    }
+                }
+            }
+            Ok(None) => return Ok(Ending::Closed),
+            Err(fault) => return Ok(Ending::Refused(fault)),
         }
     }
 }
 
-/// What a table without a file is answered with.
-fn without_file(report: &Report, table: usize) -> Result<(), TableHalt>
-    requires { table < length report.now.tables }
-    ensures { result ≡ (if (table_of report.now table).is_optional then Ok tt else Err (Refused (file_fault table kind.NoFile))) }
+/// Reads a table's file to its end, writes its facts if they are wanted, and says how the table
+/// ends.
+fn convert_file<R: Read + Drop, W: Sink>(
+    alloc: Global,
+    report: &Report,
+    table: usize,
+    reader: R,
+    limits: Limits,
+    wanted: bool,
+    sink: &mut W,
+    any: &mut bool,
+) -> Result<Ending, WriteFault>
+    requires place { table < length report.now.tables }
+    requires rows { limits.rows ≤ 4294967294 }
+    ensures reads { IfSome (R.remaining reader) (λ bytes. ReadsTable table wanted (sink_at (W.mark sink.old) (W.told sink.old)) (sink_at (W.mark sink.new) (W.told sink.new)) any.old any.new (table_stream report.now table limits.rows (Some bytes)) result) }
+    ensures marked { Marks (W.mark sink.old) (W.mark sink.new) result }
 {
-    if report.is_optional(table) {
-        return Ok(());
+    match Rows::open(alloc, report, table, reader, limits) {
+        Ok(mut rows) => write_rows(alloc, &mut rows, table, wanted, sink, any),
+        Err(fault) => Ok(Ending::Refused(fault)),
     }
-    Err(TableHalt::Refused(TableFault {
-        table,
-        row: 0,
-        column: 0,
-        kind: TableKind::NoFile,
-    }))
 }
 
-/// Writes the facts of a table.
+/// Reads a table to its end, writes its facts if they are wanted, and says how it ends.
 fn convert_table<R: Read + Drop, W: Sink>(
     alloc: Global,
     report: &Report,
     table: usize,
     reader: Option<R>,
     limits: Limits,
+    wanted: bool,
     sink: &mut W,
     any: &mut bool,
-) -> Result<(), TableHalt>
+) -> Result<Ending, WriteFault>
     requires place { table < length report.now.tables }
     requires rows { limits.rows ≤ 4294967294 }
-    ensures writes { (file : Option (List ℕ)) → IsFileOf R.remaining reader file
-        → WritesTable table (sink_at (W.mark sink.old) (W.told sink.old)) (sink_at (W.mark sink.new) (W.told sink.new)) any.old any.new (table_stream report.now table limits.rows file) result }
-    ensures marked { IsTableHalted (W.mark sink.new) result }
+    ensures reads { (file : Option (List ℕ)) → IsFileOf R.remaining reader file
+        → ReadsTable table wanted (sink_at (W.mark sink.old) (W.told sink.old)) (sink_at (W.mark sink.new) (W.told sink.new)) any.old any.new (table_stream report.now table limits.rows file) result }
+    ensures marked { Marks (W.mark sink.old) (W.mark sink.new) result }
 {
-    let Some(reader) = reader else {
-        return without_file(report, table);
-    };
-    match Rows::open(alloc, report, table, reader, limits) {
-        Ok(mut rows) => write_rows(alloc, &mut rows, table, sink, any),
-        Err(fault) => Err(TableHalt::Refused(fault)),
+    match reader {
+        None => Ok(without_file(report, table)),
+        Some(reader) => convert_file(alloc, report, table, reader, limits, wanted, sink, any),
     }
 }
 
-/// Writes the facts of all tables, up to the first that is refused.
+/// Notes the fault of a table that ended refused.
+fn note(ending: Ending, faults: &mut Vec<TableFault>)
+    requires { vec_len faults.old < vec_capacity faults.old }
+    ensures faults { faults.new.items ≡ faults.old.items ++ refusals (items.Ending ending ∷ []) }
+    ensures count { vec_len faults.new ≤ vec_len faults.old + 1 }
+    ensures room { vec_capacity faults.new ≡ vec_capacity faults.old }
+{
+    match ending {
+        Ending::Closed => {}
+        Ending::Refused(fault) => faults.push_reserved(fault),
+    }
+}
+
+/// Reads all tables to their ends, writes the facts up to and with the first that is refused, and
+/// notes the fault of each that is. A failed write ends it.
 fn convert_tables<R: Read + Drop, W: Sink>(
     alloc: Global,
     report: &Report,
     readers: Vec<Option<R>>,
     limits: Limits,
+    faults: &mut Vec<TableFault>,
     sink: &mut W,
-) -> Result<(), TableHalt>
+) -> Result<(), WriteFault>
     requires count { length readers.items ≡ length report.now.tables }
     requires rows { limits.rows ≤ 4294967294 }
-    ensures writes { (files : List (Option (List ℕ))) → AreFilesOf R.remaining readers.items files
-        → WritesTables 0 (sink_at (W.mark sink.old) (W.told sink.old)) (sink_at (W.mark sink.new) (W.told sink.new)) false (streams report.now limits.rows files) result }
-    ensures marked { IsTableHalted (W.mark sink.new) result }
+    requires empty { faults.old.items ≡ [] }
+    requires room { length readers.items ≤ vec_capacity faults.old }
+    ensures reads { (files : List (Option (List ℕ))) → AreFilesOf R.remaining readers.items files
+        → ReadsTables (sink_at (W.mark sink.old) (W.told sink.old)) (sink_at (W.mark sink.new) (W.told sink.new)) (streams report.now limits.rows files) faults.new.items result }
+    ensures marked { Marks (W.mark sink.old) (W.mark sink.new) result }
 {
     let mut any = false;
     let mut table = 0;
     for reader in readers {
-        match convert_table(alloc, report, table, reader, limits, sink, &mut any) {
-            Ok(()) => {}
-            Err(halt) => return Err(halt),
+        let wanted = faults.is_empty();
+        match convert_table(alloc, report, table, reader, limits, wanted, sink, &mut any) {
+            Ok(ending) => note(ending, faults),
+            Err(fault) => return Err(fault),
         }
         table += 1;
     }
     Ok(())
 }
 
-/// Writes a report's document behind its head.
+/// Writes a report's document behind its head. The faults are empty, with room for one of each table.
 fn write_document<R: Read + Drop, W: Sink>(
     alloc: Global,
     report: &Report,
     head: &[u8],
     readers: Vec<Option<R>>,
     limits: Limits,
+    mut faults: Vec<TableFault>,
     sink: &mut W,
 ) -> Result<(), ConvertFault>
     requires head { head.now ≡ head_text report.now }
     requires count { length readers.items ≡ length report.now.tables }
     requires rows { limits.rows ≤ 4294967294 }
+    requires empty { faults.items ≡ [] }
+    requires room { length readers.items ≤ vec_capacity faults }
     ensures converts { (files : List (Option (List ℕ))) → AreFilesOf R.remaining readers.items files
-        → Converts report.now (streams report.now limits.rows files) (W.mark sink.old) (W.mark sink.new) (W.told sink.old) (W.told sink.new) result }
-    ensures leaves { Leaves (W.mark sink.old) (W.mark sink.new) (W.told sink.old) (W.told sink.new) result }
+        → Converts report.now (streams report.now limits.rows files) (sink_at (W.mark sink.old) (W.told sink.old)) (sink_at (W.mark sink.new) (W.told sink.new)) result }
+    ensures leaves { Leaves (sink_at (W.mark sink.old) (W.told sink.old)) (sink_at (W.mark sink.new) (W.told sink.new)) result }
     ensures begun { HasBegun result }
 {
     if let Err(fault) = write_all_of(sink, head) {
         return Err(ConvertFault::Write(fault));
     }
-    if let Err(halt) = convert_tables(alloc, report, readers, limits, sink) {
-        return Err(fault_of(halt));
+    if let Err(fault) = convert_tables(alloc, report, readers, limits, &mut faults, sink) {
+        return Err(ConvertFault::Write(fault));
+    }
+    if !faults.is_empty() {
+        return Err(ConvertFault::Tables(faults));
     }
     match write_all_of(sink, TAIL) {
         Ok(()) => Ok(()),
         Err(fault) => Err(ConvertFault::Write(fault)),
-    }
-}
-
-/// The fault of a conversion that stopped at a table.
-fn fault_of(halt: TableHalt) -> ConvertFault
-    ensures { result ≡ as_fault halt }
-{
-    match halt {
-        TableHalt::Refused(fault) => ConvertFault::Table(fault),
-        TableHalt::Write(fault) => ConvertFault::Write(fault),
     }
 }
 
@@ -222,10 +243,11 @@ fn fault_of(halt: TableHalt) -> ConvertFault
 /// most 4,294,967,294.
 ///
 /// Fails with WrongReaders exactly where the readers are not as many as the tables, and with Memory
-/// where memory is short before anything is written; both write nothing. Fails with Table at the
-/// first table that has a fault, once the facts before the fault are written, the document
-/// unfinished; a table whose reader fails or that finds no memory ends so too. Fails with Write
-/// where a write failed, a beginning of the document written.
+/// where memory is short before anything is written; both write nothing. Fails with Tables where a
+/// table has a fault: each such table's first fault, in table order, once all tables are read and
+/// the facts up to the first of these faults are written, the document unfinished. A table whose
+/// reader fails or that finds no memory is refused so too. Fails with Write where a write failed, a
+/// beginning of the document written, and then reads no further.
 pub fn convert_serial<R: Read + Drop, W: Sink>(
     alloc: Global,
     report: &Report,
@@ -237,12 +259,12 @@ pub fn convert_serial<R: Read + Drop, W: Sink>(
 
     // What is written and answered, where the readers tell their bytes.
     ensures converts { (files : List (Option (List ℕ))) → AreFilesOf R.remaining readers.items files
-        → Converts report.now (streams report.now limits.rows files) (W.mark sink.old) (W.mark sink.new) (W.told sink.old) (W.told sink.new) result }
+        → Converts report.now (streams report.now limits.rows files) (sink_at (W.mark sink.old) (W.told sink.old)) (sink_at (W.mark sink.new) (W.told sink.new)) result }
     ensures tables { (files : List (Option (List ℕ))) → AreFilesOf R.remaining readers.items files → IsOfTables (length report.now.tables) result }
 
     // What is so for all readers.
     ensures readers { (result ≡ Err fault.WrongReaders) ↔ (length readers.items ≢ length report.now.tables) }
-    ensures leaves { Leaves (W.mark sink.old) (W.mark sink.new) (W.told sink.old) (W.told sink.new) result }
+    ensures leaves { Leaves (sink_at (W.mark sink.old) (W.told sink.old)) (sink_at (W.mark sink.new) (W.told sink.new)) result }
 {
     if readers.len() != report.tables() {
         return Err(ConvertFault::WrongReaders);
@@ -250,5 +272,16 @@ pub fn convert_serial<R: Read + Drop, W: Sink>(
     let Ok(head) = head(alloc, report) else {
         return Err(ConvertFault::Memory);
     };
-    write_document(alloc, report, head.as_slice(), readers, limits, sink)
+    let Ok(faults) = Vec::with_capacity(alloc, readers.len()) else {
+        return Err(ConvertFault::Memory);
+    };
+    write_document(
+        alloc,
+        report,
+        head.as_slice(),
+        readers,
+        limits,
+        faults,
+        sink,
+    )
 }

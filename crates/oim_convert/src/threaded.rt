@@ -1,12 +1,13 @@
 //! The conversion on threads.
 
 ghost use Rattle.std.specs.Prelude.{◌≡◌, ◌⊎◌, ◌≤◌, ◌<◌, ℕ, List, [], Option, None, IfOk, IfNone, length, map, replicate, vec_capacity};
-ghost use Rattle.oim_convert.specs.Answer.{streams};
+ghost use Rattle.oim_convert.specs.Answer.{IsAnswer, streams};
 ghost use Rattle.oim_convert.specs.Files.{AreFilesOf};
 ghost use Rattle.oim_convert.specs.Histories.{AreUnserved};
 ghost use Rattle.oim_convert.specs.Preparing.{HasRun, HasTables, IsReady};
-ghost use Rattle.oim_convert.specs.Runs.{AnswersFault, AreHistories, AreStreams, AreThreaded, AreUncut, IsAnswer, Writes, early_fault};
+ghost use Rattle.oim_convert.specs.Runs.{AnswersFault, AreHistories, AreStreams, AreThreaded, AreUncut, Writes, early_fault};
 ghost use Rattle.oim_json.specs.JsonText.{head_text};
+ghost use Rattle.oim_json.specs.Sinks.{sink_at};
 
 use crate::closing::{Places, finish, places_of};
 use crate::crew::{Crew, crew_of};
@@ -15,10 +16,9 @@ use crate::job::{Job, Token};
 use crate::lanes::open_lanes;
 use crate::run::Run;
 use crate::serving::Serving;
-use crate::working::{Merged, Worked, work_crew};
+use crate::working::{Merged, Unmerged, Worked, work_crew};
 use oim_json::{Sink, head};
 use oim_meta::{Limits, Report};
-use oim_ring::Drain;
 use std::alloc::{AllocError, Global};
 use std::io::Read;
 use std::sync::Wait;
@@ -45,7 +45,7 @@ fn fault_before(workers: usize, size: usize, readers: usize, tables: usize) -> O
 #[derive(Drop)]
 struct Ready<R: Read + Drop, T: Wait> {
     crew: Crew<Job<R>, Token, Serving, T, Report>,
-    drains: Vec<Drain>,
+    unmerged: Unmerged,
     places: Places<R>,
 }
 
@@ -64,9 +64,10 @@ fn prepare<R: Read + Drop, T: Wait>(
     let (jobs, drains) = open_lanes(alloc, readers, size)?;
     let places = places_of(alloc, jobs.len(), workers)?;
     let crew = crew_of(alloc, jobs, workers)?;
+    let faults = Vec::with_capacity(alloc, drains.len())?;
     Ok(Ready {
         crew,
-        drains,
+        unmerged: Unmerged { drains, faults },
         places,
     })
 }
@@ -88,22 +89,32 @@ fn run_ready<R: Read + Drop + Send, T: Threads + Wait + Sync, W: Sink>(
     requires head { head.now ≡ head_text report.now }
     ensures run { HasRun result }
     ensures tables { IfOk result (λ run. HasTables R.remaining report.now limits.rows ready.crew.claims.items run.drains.items) }
-    ensures writes { Writes report.now (length report.now.tables) (W.mark sink.old) (W.mark sink.new) (W.told sink.old) (W.told sink.new) result }
+    ensures writes { Writes report.now (length report.now.tables) (sink_at (W.mark sink.old) (W.told sink.old)) (sink_at (W.mark sink.new) (W.told sink.new)) result }
 {
     let Ready {
         crew,
-        drains,
+        unmerged,
         places,
     } = ready;
-    let (claims, worked) = work_crew(rt, alloc, report, limits, crew, starts, drains, head, sink);
+    let (claims, worked) = work_crew(
+        rt, alloc, report, limits, crew, starts, unmerged, head, sink,
+    );
     let Worked {
         shifts,
         merged,
         served,
     } = worked;
-    let Merged { drains, end } = merged;
+    let Merged {
+        drains,
+        faults,
+        end,
+    } = merged;
     match finish(report, limits, served, claims, shifts, drains, places) {
-        Some(drains) => Ok(Run { drains, end }),
+        Some(drains) => Ok(Run {
+            drains,
+            faults,
+            end,
+        }),
         None => Err(ConvertFault::Lost),
     }
 }
@@ -117,8 +128,10 @@ fn run_ready<R: Read + Drop + Send, T: Threads + Wait + Sync, W: Sink>(
 ///
 /// Each history is its table's stream, or a beginning of it that a failed read (Read) or want of
 /// memory (Memory) ended. Where no worker could be started every table is refused with NoThread,
-/// else none is. The end is Complete where no table is refused, else the first refused table's
-/// fault; or Write where a write failed before, a beginning of the document written.
+/// else none is. The run has the fault of each refused table, in table order, whatever its end is.
+/// The end is Complete where there is none of them; else Refused, the document unfinished after the
+/// facts of the first such table; or Write where a write failed before that, a beginning of the
+/// document written.
 ///
 /// Fails with BadWorkers where the workers are not 1 to 64, else with BadSize where the ring's size
 /// is not 1 to 65,536, else with WrongReaders where the readers are not as many as the tables, and
@@ -145,11 +158,11 @@ pub fn convert<R: Read + Drop + Send, T: Threads + Wait + Sync, W: Sink>(
         → IfOk result (λ run. AreUnserved 0 (streams report.now limits.rows files) run.drains.items ⊎ AreThreaded run.drains.items) }
     ensures headline { (files : List (Option (List ℕ))) → AreFilesOf R.remaining readers.items files
         → IfOk result (λ run. AreUncut run.drains.items → AreStreams (streams report.now limits.rows files) run.drains.items
-        × IsAnswer report.now (streams report.now limits.rows files) (W.mark sink.old) (W.mark sink.new) (W.told sink.old) (W.told sink.new) run.end) }
+        × IsAnswer report.now (streams report.now limits.rows files) (sink_at (W.mark sink.old) (W.told sink.old)) (sink_at (W.mark sink.new) (W.told sink.new)) run.faults.items run.end) }
 
     // What is so for all readers: each fault exactly where it is due, and what is written.
     ensures faults { AnswersFault (early_fault workers size (length readers.items) (length report.now.tables)) result }
-    ensures writes { Writes report.now (length report.now.tables) (W.mark sink.old) (W.mark sink.new) (W.told sink.old) (W.told sink.new) result }
+    ensures writes { Writes report.now (length report.now.tables) (sink_at (W.mark sink.old) (W.told sink.old)) (sink_at (W.mark sink.new) (W.told sink.new)) result }
 {
     convert_with_starts(
         rt, alloc, report, readers, workers, workers, size, limits, sink,
@@ -178,11 +191,11 @@ pub fn convert_with_starts<R: Read + Drop + Send, T: Threads + Wait + Sync, W: S
         → IfOk result (λ run. AreUnserved 0 (streams report.now limits.rows files) run.drains.items ⊎ AreThreaded run.drains.items) }
     ensures headline { (files : List (Option (List ℕ))) → AreFilesOf R.remaining readers.items files
         → IfOk result (λ run. AreUncut run.drains.items → AreStreams (streams report.now limits.rows files) run.drains.items
-        × IsAnswer report.now (streams report.now limits.rows files) (W.mark sink.old) (W.mark sink.new) (W.told sink.old) (W.told sink.new) run.end) }
+        × IsAnswer report.now (streams report.now limits.rows files) (sink_at (W.mark sink.old) (W.told sink.old)) (sink_at (W.mark sink.new) (W.told sink.new)) run.faults.items run.end) }
 
     // What is so for all readers: each fault exactly where it is due, and what is written.
     ensures faults { AnswersFault (early_fault workers size (length readers.items) (length report.now.tables)) result }
-    ensures writes { Writes report.now (length report.now.tables) (W.mark sink.old) (W.mark sink.new) (W.told sink.old) (W.told sink.new) result }
+    ensures writes { Writes report.now (length report.now.tables) (sink_at (W.mark sink.old) (W.told sink.old)) (sink_at (W.mark sink.new) (W.told sink.new)) result }
 {
     match fault_before(workers, size, readers.len(), report.tables()) {
         Some(fault) => return Err(fault),

@@ -1,11 +1,11 @@
 //! A scope in which workers decode tables while the caller's thread merges.
 
 ghost use Rattle.std.specs.Prelude.{◌≡◌, All, cond, length, vec_len};
-ghost use Rattle.oim_merge.specs.Histories.{document};
-ghost use Rattle.oim_merge.specs.Merging.{EndsEach, IsFresh, Merges, rings_of, taken_of};
+ghost use Rattle.oim_json.specs.Sinks.{sink_at};
+ghost use Rattle.oim_merge.specs.Merging.{IsFresh};
 ghost use Rattle.oim_convert.specs.Jobs.{CanServe, Gives, gives_of};
 ghost use Rattle.oim_convert.specs.Shifts.{ArePosts, CanServeAll, IsCrew, IsShift};
-ghost use Rattle.oim_convert.specs.Working.{IsMerged};
+ghost use Rattle.oim_convert.specs.Working.{HasRoom, IsMerged};
 
 use crate::claims::Claims;
 use crate::crew::{Crew, Posts, join_crew, start_crew};
@@ -16,6 +16,7 @@ use oim_json::Sink;
 use oim_merge::{MergeEnd, merge};
 use oim_meta::{Limits, Report};
 use oim_ring::Drain;
+use oim_rows::TableFault;
 use std::alloc::Global;
 use std::io::Read;
 use std::sync::Wait;
@@ -23,23 +24,38 @@ use std::sync::atomic::AtomicBool;
 use std::thread;
 use std::thread::Threads;
 
-/// Drains that were taken to their endings, and how the merge ended.
+/// The drains of all tables, from which nothing was taken, and room for the fault of each.
+#[derive(Drop)]
+pub(crate) struct Unmerged {
+    pub(crate) drains: Vec<Drain>,
+    pub(crate) faults: Vec<TableFault>,
+}
+
+/// Drains that were taken to their endings, the faults of those that were refused, and how the
+/// merge ended.
 #[derive(Drop)]
 pub(crate) struct Merged {
     pub(crate) drains: Vec<Drain>,
+    pub(crate) faults: Vec<TableFault>,
     pub(crate) end: MergeEnd,
 }
 
 /// Merges all drains into the sink.
-fn merge_all<T: Wait, W: Sink>(rt: &T, drains: Vec<Drain>, head: &[u8], sink: &mut W) -> Merged
-    requires { IsFresh drains.items }
-    ensures rings { rings_of result.drains.items ≡ rings_of drains.items }
-    ensures ended { EndsEach result.drains.items }
-    ensures merged { Merges (W.mark sink.old) (W.mark sink.new) (W.told sink.old) (W.told sink.new) (document head.now (taken_of result.drains.items)) (taken_of result.drains.items) result.end }
+fn merge_all<T: Wait, W: Sink>(rt: &T, unmerged: Unmerged, head: &[u8], sink: &mut W) -> Merged
+    requires fresh { IsFresh unmerged.drains.items }
+    requires room { HasRoom unmerged }
+    ensures { IsMerged head.now (sink_at (W.mark sink.old) (W.told sink.old)) (sink_at (W.mark sink.new) (W.told sink.new)) unmerged.drains.items result }
 {
-    let mut drains = drains;
-    let end = merge(rt, drains.as_mut_slice(), head, sink);
-    Merged { drains, end }
+    let Unmerged {
+        mut drains,
+        mut faults,
+    } = unmerged;
+    let end = merge(rt, drains.as_mut_slice(), head, &mut faults, sink);
+    Merged {
+        drains,
+        faults,
+        end,
+    }
 }
 
 /// What the workers and the merge have come to.
@@ -67,17 +83,17 @@ fn work_and_merge<R: Read + Drop + Send, T: Threads + Wait + Sync, W: Sink>(
     posts: Posts<Job<R>, Token, Serving, T, Report>,
     stops: &[AtomicBool],
     starts: usize,
-    drains: Vec<Drain>,
+    unmerged: Unmerged,
     head: &[u8],
     sink: &mut W,
 ) -> Worked<R>
     requires items { CanServeAll (CanServe report.now server.now.limits.rows) claims.now.items × CanServeAll (CanServe report.now spare.now.limits.rows) claims.now.items }
     requires posts { ArePosts claims.now posts }
     requires stops { length stops.now ≡ claims.now.workers }
-    requires fresh { IsFresh drains.items }
+    requires fresh { IsFresh unmerged.drains.items × HasRoom unmerged }
     ensures shifts { All (IsShift (gives_of R.remaining (cond result.served server.now spare.now) report.now) claims.now) result.shifts.items }
     ensures count { vec_len result.shifts ≡ claims.now.workers }
-    ensures merged { IsMerged head.now (W.mark sink.old) (W.mark sink.new) (W.told sink.old) (W.told sink.new) drains.items result.merged }
+    ensures merged { IsMerged head.now (sink_at (W.mark sink.old) (W.told sink.old)) (sink_at (W.mark sink.new) (W.told sink.new)) unmerged.drains.items result.merged }
 {
     let lent = &mut *sink;
     let returned = thread::scope(
@@ -87,18 +103,18 @@ fn work_and_merge<R: Read + Drop + Send, T: Threads + Wait + Sync, W: Sink>(
             requires items { CanServeAll (CanServe report.now server.now.limits.rows) claims.now.items × CanServeAll (CanServe report.now spare.now.limits.rows) claims.now.items }
             requires posts { ArePosts claims.now posts }
             requires stops { length stops.now ≡ claims.now.workers }
-            requires fresh { IsFresh drains.items }
+            requires fresh { IsFresh unmerged.drains.items × HasRoom unmerged }
             ensures same_sink { result.sink.ghost_name ≡ lent.entry.ghost_name }
             ensures shifts { All (IsShift (gives_of R.remaining (cond result.worked.served server.entry.now spare.entry.now) report.entry.now) claims.entry.now) result.worked.shifts.items }
             ensures count { vec_len result.worked.shifts ≡ claims.entry.now.workers }
-            ensures merged { IsMerged head.entry.now (W.mark lent.entry.now) (W.mark result.sink.now) (W.told lent.entry.now) (W.told result.sink.now) drains.items result.worked.merged }
+            ensures merged { IsMerged head.entry.now (sink_at (W.mark lent.entry.now) (W.told lent.entry.now)) (sink_at (W.mark result.sink.now) (W.told result.sink.now)) unmerged.drains.items result.worked.merged }
         {
             let posts = posts;
             let Posts { stations, mut room } = posts;
             let served = start_crew(
                 scope, rt, report, server, spare, claims, stations, stops, starts, &mut room,
             );
-            let merged = merge_all(rt, drains, head, lent);
+            let merged = merge_all(rt, unmerged, head, lent);
             let shifts = join_crew(rt, report, server, spare, served, claims, room);
             Returned {
                 worked: Worked {
@@ -123,17 +139,17 @@ pub(crate) fn work_crew<R: Read + Drop + Send, T: Threads + Wait + Sync, W: Sink
     limits: Limits,
     crew: Crew<Job<R>, Token, Serving, T, Report>,
     starts: usize,
-    drains: Vec<Drain>,
+    unmerged: Unmerged,
     head: &[u8],
     sink: &mut W,
 ) -> (Claims<Job<R>>, Worked<R>)
     requires crew { IsCrew crew }
     requires items { CanServeAll (CanServe report.now limits.rows) crew.claims.items }
-    requires fresh { IsFresh drains.items }
+    requires fresh { IsFresh unmerged.drains.items × HasRoom unmerged }
     ensures claims { result.0 ≡ crew.claims }
     ensures shifts { All (IsShift (Gives R.remaining report.now limits.rows result.1.served) result.0) result.1.shifts.items }
     ensures count { vec_len result.1.shifts ≡ result.0.workers }
-    ensures merged { IsMerged head.now (W.mark sink.old) (W.mark sink.new) (W.told sink.old) (W.told sink.new) drains.items result.1.merged }
+    ensures merged { IsMerged head.now (sink_at (W.mark sink.old) (W.told sink.old)) (sink_at (W.mark sink.new) (W.told sink.new)) unmerged.drains.items result.1.merged }
 {
     let Crew {
         claims,
@@ -152,7 +168,7 @@ pub(crate) fn work_crew<R: Read + Drop + Send, T: Threads + Wait + Sync, W: Sink
     };
     let flags = stops.as_slice();
     let worked = work_and_merge(
-        rt, report, &server, &spare, &claims, posts, flags, starts, drains, head, sink,
+        rt, report, &server, &spare, &claims, posts, flags, starts, unmerged, head, sink,
     );
     (claims, worked)
 }

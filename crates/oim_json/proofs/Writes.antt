@@ -1,9 +1,9 @@
 -- Writes one after another.
-use Rattle.std.specs.Prelude.{◌≡◌, ℕ, ◌+◌, ◌-◌, ◌≤◌, List, [], ◌++◌, Option, Some, None, length, take, drop}
+use Rattle.std.specs.Prelude.{◌≡◌, ℕ, ◌+◌, ◌-◌, ◌≤◌, ◌<◌, List, [], ◌++◌, Option, Some, None, length, take, drop}
 use Rattle.std.proofs.Common.{arith, sym, ap, ◌∙◌, append_assoc, append-nil, subst, length-drop}
 use Rattle.std.proofs.Math.Seq.{take-add, take-length}
 use Rattle.std.specs.Io.KnownBytes.{Appends, Keeps}
-use Rattle.std.proofs.lemmas.List.{take-append-drop}
+use Rattle.std.proofs.lemmas.List.{length-take-le, take-append-drop}
 use Rattle.oim_json.specs.Sinks.{AppendsPrefix}
 
 pub appends_nothing : (a : Option (List ℕ)) → Appends a a []
@@ -40,5 +40,5 @@ writes_more a b c xs i n le at p q =
     (omega (arith, length-drop i xs), appends_more a b c xs i n p q')
 
 -- a write that took nothing, once the first i bytes are out
-pub stops : (a b c : Option (List ℕ)) (xs : List ℕ) (i : ℕ) → Appends a b (take i xs) → Keeps b c → AppendsPrefix a c xs
-stops a b c xs i p q = (take i xs, (drop i xs, take-append-drop i xs), keeps_appends a b c (take i xs) p q)
+pub stops : (a b c : Option (List ℕ)) (xs : List ℕ) (i : ℕ) → i < length xs → Appends a b (take i xs) → Keeps b c → AppendsPrefix a c xs
+stops a b c xs i less p q = (take i xs, (drop i xs, take-append-drop i xs), keeps_appends a b c (take i xs) p q, let len = length-take-le i xs (omega (arith, less)) in omega (arith, less, len))

@@ -12,9 +12,9 @@ abbrev pub mark_of : WriteFault → Mark
 mark_of faults.Failed = «marks».Failed
 mark_of faults.Zero = «marks».Zero
 
--- known bytes grow by a beginning of bs
+-- known bytes grow by a beginning of bs, and not by all of it
 abbrev pub AppendsPrefix : Option (List ℕ) → Option (List ℕ) → List ℕ → Type 0
-AppendsPrefix old new bs = (written : List ℕ) × IsPrefix written bs × Appends old new written
+AppendsPrefix old new bs = (written : List ℕ) × IsPrefix written bs × Appends old new written × (length written < length bs)
 
 -- one write of bs took the n bytes that it answered and kept the mark, where n is not 0. Else it took nothing and left its mark
 abbrev pub WritesSome : {E : Type 0} → Mark → Mark → Option (List ℕ) → Option (List ℕ) → Result ℕ E → List ℕ → Type 0
@@ -26,3 +26,23 @@ WritesSome mark mark' old new r bs =
 -- all of bs was written and the mark kept, or a beginning was and the mark is the fault
 abbrev pub WritesAll : Mark → Mark → Option (List ℕ) → Option (List ℕ) → Result (Unit {0}) WriteFault → List ℕ → Type 0
 WritesAll mark mark' old new r bs = MatchResult r (λ _. (mark' ≡ mark) × Appends old new bs) (λ e. (mark' ≡ mark_of e) × AppendsPrefix old new bs)
+
+-- a sink, by its mark and the bytes that it tells
+pub record SinkView : Type 0 where
+  pub mark : Mark
+  pub told : Option (List ℕ)
+
+abbrev pub sink_at : Mark → Option (List ℕ) → SinkView
+sink_at mark told = record { mark = mark; told = told }
+
+-- all of a text was written
+abbrev pub Wrote : SinkView → SinkView → List ℕ → Type 0
+Wrote old new text = (new.mark ≡ old.mark) × Appends old.told new.told text
+
+-- a write failed on the way, and a beginning of the text was written
+abbrev pub Broke : SinkView → SinkView → List ℕ → WriteFault → Type 0
+Broke old new text fault = (new.mark ≡ mark_of fault) × AppendsPrefix old.told new.told text
+
+-- nothing was written
+abbrev pub Unwritten : SinkView → SinkView → Type 0
+Unwritten old new = (new.mark ≡ old.mark) × Keeps old.told new.told

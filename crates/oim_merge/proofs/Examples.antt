@@ -1,9 +1,9 @@
 -- The document of histories, executed on worked cases.
-use Rattle.std.proofs.Common.{◌≡◌, ℕ, ◌∷◌, [], List, Option, Some, None, ap, codes, refl}
+use Rattle.std.proofs.Common.{◌≡◌, ℕ, ◌∷◌, [], List, None, ap, codes, refl}
 use Rattle.oim_json.specs.Document.{facts_text}
 use Rattle.oim_json.specs.JsonText.{decimals_text, dimension_text, escaped_byte, member_text, quoted, value_text}
-use Rattle.oim_json.specs.declared.mark.Mark.{Mark}
-use Rattle.oim_merge.specs.Histories.{all_of, document, facts_before, refusal}
+use Rattle.oim_json.specs.Sinks.{SinkView}
+use Rattle.oim_merge.specs.Histories.{all_of, document, facts_before, refusals}
 use Rattle.oim_merge.specs.Merging.{Merges}
 use Rattle.oim_merge.specs.declared.progress.MergeEnd.TheVariants as end
 use Rattle.oim_resolve.specs.declared.fact.Fact.{Fact}
@@ -72,30 +72,41 @@ refused_at_once : document (codes "{") ((Ending (Refused first_fault) ∷ []) �
 unfolding facts_text
 refused_at_once = refl
 
-no_refusal : refusal (all_of (whole_a ∷ empty ∷ whole_b ∷ [])) ≡ None
+no_refusal : refusals (all_of (whole_a ∷ empty ∷ whole_b ∷ [])) ≡ []
 no_refusal = refl
 
-refusal_of_the_second : refusal (all_of (whole_a ∷ refused_b ∷ [])) ≡ Some second_fault
+refusal_of_the_second : refusals (all_of (whole_a ∷ refused_b ∷ [])) ≡ second_fault ∷ []
 refusal_of_the_second = refl
 
--- of two refused tables the first in order
-refusal_of_the_first : refusal (all_of (refused_a ∷ refused_b ∷ [])) ≡ Some first_fault
-refusal_of_the_first = refl
+-- of two refused tables both, in their order, though a whole table stands between them
+refusals_of_both : refusals (all_of (refused_a ∷ whole_b ∷ refused_b ∷ [])) ≡ first_fault ∷ second_fault ∷ []
+refusals_of_both = refl
+
+-- the document of two refused tables ends with the first
+both_refused : document (codes "{") (refused_a ∷ refused_b ∷ []) ≡ codes "{\"a\":{\"dimensions\":{},\"value\":null}"
+unfolding facts_text member_text decimals_text dimension_text value_text quoted escaped_byte
+both_refused = refl
 
 facts_up_to_the_refusal : facts_before (all_of (whole_b ∷ refused_a ∷ whole_b ∷ [])) ≡ b ∷ a ∷ []
 facts_up_to_the_refusal = refl
 
 -- what a merge never answers
-module _ (mark mark' : Mark) (told told' : Option (List ℕ)) (text : List ℕ) where
-  not_the_later_fault : Merges mark mark' told told' text (refused_a ∷ refused_b ∷ []) (end.Refused second_fault) → ⊥
-  not_the_later_fault m =
+module _ (old new : SinkView) (head : List ℕ) where
+  not_the_first_alone : Merges old new head (refused_a ∷ refused_b ∷ []) (first_fault ∷ []) end.Refused → ⊥
+  not_the_first_alone m = let e = m.0 in cc
+
+  not_in_another_order : Merges old new head (refused_a ∷ refused_b ∷ []) (second_fault ∷ first_fault ∷ []) end.Refused → ⊥
+  not_in_another_order m =
       let e = m.0 in
       let same : second_fault ≡ first_fault = cc in
       let table : second_fault.table ≡ first_fault.table = ap (λ (f : TableFault). f.table) same in
       cc
 
-  not_complete : Merges mark mark' told told' text (whole_a ∷ refused_b ∷ []) end.Complete → ⊥
-  not_complete m = let e = m.0 in cc
+  not_complete : Merges old new head (whole_a ∷ refused_b ∷ []) (second_fault ∷ []) end.Complete → ⊥
+  not_complete m = let e = m.1.0 in cc
 
-  no_fault_of_its_own : Merges mark mark' told told' text (whole_a ∷ whole_b ∷ []) (end.Refused first_fault) → ⊥
+  no_fault_of_its_own : Merges old new head (whole_a ∷ whole_b ∷ []) (first_fault ∷ []) end.Refused → ⊥
   no_fault_of_its_own m = let e = m.0 in cc
+
+  not_refused_without_fault : Merges old new head (whole_a ∷ whole_b ∷ []) [] end.Refused → ⊥
+  not_refused_without_fault m = m.1.0 refl

@@ -1,7 +1,7 @@
 -- The text of histories. A history is what was taken from one ring: blocks of facts, and then an ending.
 -- xBRL-CSV 1.0 (a report is the facts of its tables), xBRL-JSON 1.0 (the document).
-use Rattle.std.specs.Prelude.{ℕ, List, [], ◌∷◌, ◌++◌, Option, Some, None}
-use Rattle.oim_json.specs.Document.{facts_text, tail_text}
+use Rattle.std.specs.Prelude.{ℕ, List, [], ◌∷◌, ◌++◌}
+use Rattle.oim_json.specs.Document.{tail_text, text_after}
 use Rattle.oim_resolve.specs.declared.fact.Fact.{Fact}
 use Rattle.oim_ring.specs.declared.item.Ending.TheVariants.{Closed, Refused}
 use Rattle.oim_ring.specs.declared.item.Item.{Item}
@@ -13,12 +13,12 @@ abbrev pub all_of : List (List Item) → List Item
 all_of [] = []
 all_of (h ∷ hs) = h ++ all_of hs
 
--- the fault of the first refusal
-abbrev pub refusal : List Item → Option TableFault
-refusal [] = None
-refusal (Block facts ∷ items) = refusal items
-refusal (Ending Closed ∷ items) = refusal items
-refusal (Ending (Refused fault) ∷ items) = Some fault
+-- the faults of the endings that are refused, in order
+abbrev pub refusals : List Item → List TableFault
+refusals [] = []
+refusals (Block facts ∷ items) = refusals items
+refusals (Ending Closed ∷ items) = refusals items
+refusals (Ending (Refused fault) ∷ items) = fault ∷ refusals items
 
 -- the facts of the blocks before the first refusal
 abbrev pub facts_before : List Item → List Fact
@@ -28,13 +28,9 @@ facts_before (Ending Closed ∷ items) = facts_before items
 facts_before (Ending (Refused fault) ∷ items) = []
 
 -- the tail stands exactly where nothing is refused
-abbrev pub tail_for : Option TableFault → List ℕ
-tail_for None = tail_text
-tail_for (Some fault) = []
-
--- a document up to the end of these facts
-abbrev pub text_after : List ℕ → List Fact → List ℕ
-text_after head facts = head ++ facts_text facts
+abbrev pub tail_for : List TableFault → List ℕ
+tail_for [] = tail_text
+tail_for (fault ∷ faults) = []
 
 -- a document up to the end of these items
 abbrev pub unfinished : List ℕ → List Item → List ℕ
@@ -42,4 +38,4 @@ unfinished head items = text_after head (facts_before items)
 
 -- the head, the facts before the first refusal, and the tail exactly where all endings are Closed
 abbrev pub document : List ℕ → List (List Item) → List ℕ
-document head hs = unfinished head (all_of hs) ++ tail_for (refusal (all_of hs))
+document head hs = unfinished head (all_of hs) ++ tail_for (refusals (all_of hs))

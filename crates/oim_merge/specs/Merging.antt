@@ -1,14 +1,13 @@
 -- What a merge does.
-use Rattle.std.specs.Prelude.{◌≡◌, ℕ, List, [], Option, Some, None, All, map}
-use Rattle.std.specs.Io.KnownBytes.{Appends}
-use Rattle.oim_json.specs.declared.mark.Mark.{Mark}
-use Rattle.oim_json.specs.Sinks.{AppendsPrefix, mark_of}
+use Rattle.std.specs.Prelude.{◌≡◌, ℕ, List, [], All, map}
+use Rattle.oim_json.specs.Sinks.{SinkView, Broke, Wrote}
 use Rattle.oim_merge.specs.declared.progress.MergeEnd.{MergeEnd}
 use Rattle.oim_merge.specs.declared.progress.MergeEnd.TheVariants.{Complete, Refused, Write}
-use Rattle.oim_merge.specs.Histories.{all_of, refusal}
+use Rattle.oim_merge.specs.Histories.{all_of, document, refusals}
 use Rattle.oim_ring.specs.declared.item.Item.{Item}
 use Rattle.oim_ring.specs.Ends.{DrainView, Ring}
 use Rattle.oim_ring.specs.Items.{EndsOnce}
+use Rattle.oim_rows.specs.declared.fault.TableFault.{TableFault}
 
 abbrev pub rings_of : List DrainView → List Ring
 rings_of drains = map (λ d. d.ring) drains
@@ -21,12 +20,16 @@ taken_of drains = map (λ d. d.taken) drains
 abbrev pub IsFresh : List DrainView → Type 0
 IsFresh drains = All (λ d. d.taken ≡ []) drains
 
--- each drain was taken to its ending and no further
-abbrev pub EndsEach : List DrainView → Type 0
-EndsEach drains = All (λ d. EndsOnce d.taken) drains
+-- each history has one ending, and that is its last item
+abbrev pub EndEach : List (List Item) → Type 0
+EndEach hs = All EndsOnce hs
 
--- the end that a merge answers, and the bytes that it wrote of this text of the histories
-abbrev pub Merges : Mark → Mark → Option (List ℕ) → Option (List ℕ) → List ℕ → List (List Item) → MergeEnd → Type 0
-Merges mark mark' told told' text hs Complete = (refusal (all_of hs) ≡ None) × (mark' ≡ mark) × Appends told told' text
-Merges mark mark' told told' text hs (Refused fault) = (refusal (all_of hs) ≡ Some fault) × (mark' ≡ mark) × Appends told told' text
-Merges mark mark' told told' text hs (Write fault) = (mark' ≡ mark_of fault) × AppendsPrefix told told' text
+-- how the writing of a text ends, where the tables have these faults: whole, as it is where there is a fault, or at a failed write
+abbrev pub EndsWith : SinkView → SinkView → List ℕ → List TableFault → MergeEnd → Type 0
+EndsWith old new text faults Complete = (faults ≡ []) × Wrote old new text
+EndsWith old new text faults Refused = (¬ (faults ≡ [])) × Wrote old new text
+EndsWith old new text faults (Write fault) = Broke old new text fault
+
+-- these histories are merged behind this head: the faults are those of all refusals, in order, and what is written is the document
+abbrev pub Merges : SinkView → SinkView → List ℕ → List (List Item) → List TableFault → MergeEnd → Type 0
+Merges old new head hs faults end = (faults ≡ refusals (all_of hs)) × EndsWith old new (document head hs) faults end

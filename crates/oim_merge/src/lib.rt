@@ -4,10 +4,10 @@
 //! - it takes each drain, in order, to its ending and no further;
 //! - what it wrote is the text of the lists taken (`specs/Histories.antt`): the head, the facts of
 //!   the blocks before the first refusal, and the tail exactly where no table is refused;
-//! - it answers Complete only where every ending is Closed, and Refused only with the fault of the
-//!   first ending that is Refused;
-//! - it answers Write where a write failed or took nothing; then it wrote a beginning of that text,
-//!   and the fault is the sink's mark.
+//! - it gives the fault of each ending that is Refused, in table order, whatever the end is;
+//! - it answers Complete only where there is none of them, and Refused only where there is one;
+//! - it answers Write where a write failed or took nothing before that text was whole; then it wrote
+//!   a beginning of the text, and the fault is the sink's mark.
 //!
 //! It waits, and that it returns is not promised.
 #![tactic(auto)]

@@ -1,42 +1,53 @@
-// Merging the rings.
-ghost use Rattle.std.specs.Prelude.{◌≡◌, ◌≤◌, ℕ, List, [], ◌∷◌, Option};
-ghost use Rattle.oim_json.specs.Sinks.{WritesAll};
-ghost use Rattle.oim_json.specs.declared.mark.Mark.{Mark};
-ghost use Rattle.oim_merge.specs.Histories.{document};
-ghost use Rattle.oim_merge.specs.Merging.{IsFresh, EndsEach, Merges, rings_of, taken_of};
-ghost use Rattle.oim_merge.specs.Steps.{Advances, Begins, Ends, piece};
+//! Merging the rings.
+
+ghost use Rattle.std.specs.Prelude.{◌≡◌, ◌≤◌, ◌<◌, ◌+◌, ◌++◌, List, [], ◌∷◌, length, vec_len, vec_capacity};
+ghost use Rattle.oim_json.specs.Document.{piece};
+ghost use Rattle.oim_json.specs.Sinks.{SinkView, WritesAll, sink_at};
+ghost use Rattle.oim_merge.specs.Histories.{refusals};
+ghost use Rattle.oim_merge.specs.Merging.{IsFresh, EndEach, Merges, rings_of, taken_of};
+ghost use Rattle.oim_merge.specs.Steps.{Advances, Begins, Ends};
 ghost use Rattle.oim_ring.specs.Items.{EndsOnce};
 ghost use Rattle.oim_ring.specs.declared.item.Item.TheVariants as items;
 
 use crate::progress::{MergeEnd, Progress, Standing};
 use oim_json::{Block, Sink, WriteFault, tail, write_all_of};
 use oim_ring::{Drain, Ending, Item};
+use oim_rows::TableFault;
 use std::sync::Wait;
 
 /// Writes the document that begins with this head and has the facts of all drains, in order. It takes
 /// each drain to its ending and no further, writes until a refusal or a write fault, and after that
 /// only drains. Nothing may have been taken from any drain. It waits for items, and takes no memory
-/// beyond what the sink takes.
+/// beyond what the sink takes: `faults` is empty and has room for one fault of each drain.
 ///
-/// Complete: every drain ended closed, and the document is whole. Refused: the fault of the first
-/// drain, in their order, that ended refused; the facts before that are written, and no tail. Write:
-/// a write failed (Failed) or took nothing (Zero), and a beginning of the document is written.
-pub fn merge<R: Wait, W: Sink>(rt: &R, drains: &mut [Drain], head: &[u8], sink: &mut W) -> MergeEnd
-    requires { IsFresh drains.old }
+/// Whatever the end is, `faults` then holds the fault of each drain that ended refused, in their
+/// order. Complete: every drain ended closed, and the document is whole. Refused: a drain ended
+/// refused; the facts before the first such ending are written, and no tail. Write: a write failed
+/// (Failed) or took nothing (Zero), and a beginning of the document is written.
+pub fn merge<R: Wait, W: Sink>(
+    rt: &R,
+    drains: &mut [Drain],
+    head: &[u8],
+    faults: &mut Vec<TableFault>,
+    sink: &mut W,
+) -> MergeEnd
+    requires fresh { IsFresh drains.old }
+    requires empty { faults.old.items ≡ [] }
+    requires room { length drains.old ≤ vec_capacity faults.old }
     ensures rings { rings_of drains.new ≡ rings_of drains.old }
-    ensures ended { EndsEach drains.new }
-    ensures merged { Merges (W.mark sink.old) (W.mark sink.new) (W.told sink.old) (W.told sink.new) (document head.now (taken_of drains.new)) (taken_of drains.new) result }
+    ensures ended { EndEach (taken_of drains.new) }
+    ensures merged { Merges (sink_at (W.mark sink.old) (W.told sink.old)) (sink_at (W.mark sink.new) (W.told sink.new)) head.now (taken_of drains.new) faults.new.items result }
 {
     let mut progress = begin(head, sink);
     for drain in drains.iter_mut() {
-        take_all(rt, drain, &mut progress, sink);
+        take_all(rt, drain, &mut progress, faults, sink);
     }
     finish(progress, sink)
 }
 
 // Writes the head.
 fn begin<W: Sink>(head: &[u8], sink: &mut W) -> Progress
-    ensures { Begins head.now (W.mark sink.old) (W.mark sink.new) (W.told sink.old) (W.told sink.new) result }
+    ensures { Begins head.now (sink_at (W.mark sink.old) (W.told sink.old)) (sink_at (W.mark sink.new) (W.told sink.new)) result }
 {
     let standing = match write_all_of(sink, head) {
         Ok(()) => Standing::Open,
@@ -48,19 +59,29 @@ fn begin<W: Sink>(head: &[u8], sink: &mut W) -> Progress
     }
 }
 
-// Takes a drain to its ending, and writes what it gives.
-fn take_all<R: Wait, W: Sink>(rt: &R, drain: &mut Drain, progress: &mut Progress, sink: &mut W)
-    requires { drain.old.taken ≡ [] }
+// Takes a drain to its ending, writes what it gives, and notes its fault where it is refused.
+fn take_all<R: Wait, W: Sink>(
+    rt: &R,
+    drain: &mut Drain,
+    progress: &mut Progress,
+    faults: &mut Vec<TableFault>,
+    sink: &mut W,
+)
+    requires fresh { drain.old.taken ≡ [] }
+    requires room { vec_len faults.old < vec_capacity faults.old }
     ensures ring { drain.new.ring ≡ drain.old.ring }
     ensures ended { EndsOnce drain.new.taken }
-    ensures advances { Advances progress.old progress.new (W.mark sink.old) (W.mark sink.new) (W.told sink.old) (W.told sink.new) drain.new.taken }
+    ensures faults { faults.new.items ≡ faults.old.items ++ refusals drain.new.taken }
+    ensures count { vec_len faults.new ≤ vec_len faults.old + 1 }
+    ensures room { vec_capacity faults.new ≡ vec_capacity faults.old }
+    ensures advances { Advances progress.old progress.new (sink_at (W.mark sink.old) (W.told sink.old)) (sink_at (W.mark sink.new) (W.told sink.new)) drain.new.taken }
 {
     for _ in rt.forever() {
         match drain.take() {
             None => drain.wait(rt),
             Some(Item::Block(block)) => write_block(&block, progress, sink),
             Some(Item::Ending(ending)) => {
-                end_table(ending, progress);
+                end_table(ending, progress, faults);
                 return;
             }
         }
@@ -70,7 +91,7 @@ fn take_all<R: Wait, W: Sink>(rt: &R, drain: &mut Drain, progress: &mut Progress
 
 // Writes a block while the document is written. A block has one fact at least.
 fn write_block<W: Sink>(block: &Block, progress: &mut Progress, sink: &mut W)
-    ensures { Advances progress.old progress.new (W.mark sink.old) (W.mark sink.new) (W.told sink.old) (W.told sink.new) (items.Block block.now ∷ []) }
+    ensures { Advances progress.old progress.new (sink_at (W.mark sink.old) (W.told sink.old)) (sink_at (W.mark sink.new) (W.told sink.new)) (items.Block block.now ∷ []) }
 {
     let any = block.count() > 0;
     match progress.standing {
@@ -78,7 +99,7 @@ fn write_block<W: Sink>(block: &Block, progress: &mut Progress, sink: &mut W)
             Ok(()) => progress.any = any,
             Err(fault) => progress.standing = Standing::Broken(fault),
         },
-        Standing::Refused(_) => {}
+        Standing::Refused => {}
         Standing::Broken(_) => {}
     }
 }
@@ -96,30 +117,37 @@ fn write_piece<W: Sink>(bytes: &[u8], any: bool, sink: &mut W) -> Result<(), Wri
     }
 }
 
-// Notes how a table ends. The first refusal stands.
-fn end_table(ending: Ending, progress: &mut Progress)
-    ensures { (mark : Mark) (told : Option (List ℕ)) → Advances progress.old progress.new mark mark told told (items.Ending ending ∷ []) }
+// Notes how a table ends: its fault, and that the document is over where it was still written.
+fn end_table(ending: Ending, progress: &mut Progress, faults: &mut Vec<TableFault>)
+    requires { vec_len faults.old < vec_capacity faults.old }
+    ensures faults { faults.new.items ≡ faults.old.items ++ refusals (items.Ending ending ∷ []) }
+    ensures count { vec_len faults.new ≤ vec_len faults.old + 1 }
+    ensures room { vec_capacity faults.new ≡ vec_capacity faults.old }
+    ensures advances { (sink : SinkView) → Advances progress.old progress.new sink sink (items.Ending ending ∷ []) }
 {
     match ending {
         Ending::Closed => {}
-        Ending::Refused(fault) => match progress.standing {
-            Standing::Open => progress.standing = Standing::Refused(fault),
-            Standing::Refused(_first) => {}
-            Standing::Broken(_) => {}
-        },
+        Ending::Refused(fault) => {
+            faults.push_reserved(fault);
+            match progress.standing {
+                Standing::Open => progress.standing = Standing::Refused,
+                Standing::Refused => {}
+                Standing::Broken(_) => {}
+            }
+        }
     }
 }
 
 // Writes the tail where the document is whole.
 fn finish<W: Sink>(progress: Progress, sink: &mut W) -> MergeEnd
-    ensures { Ends progress (W.mark sink.old) (W.mark sink.new) (W.told sink.old) (W.told sink.new) result }
+    ensures { Ends progress (sink_at (W.mark sink.old) (W.told sink.old)) (sink_at (W.mark sink.new) (W.told sink.new)) result }
 {
     match progress.standing {
         Standing::Open => match write_all_of(sink, tail()) {
             Ok(()) => MergeEnd::Complete,
             Err(fault) => MergeEnd::Write(fault),
         },
-        Standing::Refused(fault) => MergeEnd::Refused(fault),
+        Standing::Refused => MergeEnd::Refused,
         Standing::Broken(fault) => MergeEnd::Write(fault),
     }
 }

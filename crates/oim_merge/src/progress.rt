@@ -1,14 +1,14 @@
-// How far a document is written.
+//! How far a document is written.
+
 use oim_json::WriteFault;
-use oim_rows::TableFault;
 
 /// How a merge ended.
 #[derive(Clone, Copy, PartialEq, Eq, Debug)]
 pub enum MergeEnd {
     /// Every table ended closed, and the document is whole.
     Complete,
-    /// The fault of the first table that was refused.
-    Refused(TableFault),
+    /// A table was refused. The facts up to and with the first of these tables are written.
+    Refused,
     /// A write failed or took nothing, before any table was refused.
     Write(WriteFault),
 }
@@ -17,7 +17,7 @@ pub enum MergeEnd {
 #[derive(Clone, Copy)]
 pub(crate) enum Standing {
     Open,
-    Refused(TableFault),
+    Refused,
     Broken(WriteFault),
 }
 

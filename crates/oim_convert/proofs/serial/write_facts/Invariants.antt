@@ -1,6 +1,7 @@
 use Rattle.std.proofs.Common.{drop}
 use Rattle.std.specs.Prelude.{Bool, Result}
-use Rattle.oim_convert.specs.Steps.{SinkView, WritesFacts, sink_at}
+use Rattle.oim_json.specs.Sinks.{SinkView, sink_at}
+use Rattle.oim_convert.specs.Steps.{WritesFacts}
 use Rattle.oim_convert.specs.declared.halt.Halt.{Halt}
 use Rattle.oim_convert.proofs.serial.write_facts.Given as goal
 

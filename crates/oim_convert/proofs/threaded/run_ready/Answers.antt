@@ -1,8 +1,8 @@
 use Rattle.std.specs.Prelude.{◌≡◌, ℕ, List, length}
 use Rattle.std.proofs.Common.{ap, refl, sym, ◌∙◌, subst}
 use Rattle.oim_json.specs.JsonText.{head_text}
-use Rattle.oim_merge.specs.Histories.{document}
-use Rattle.oim_merge.specs.Merging.{Merges, taken_of}
+use Rattle.oim_json.specs.Sinks.{sink_at}
+use Rattle.oim_merge.specs.Merging.{EndEach, Merges, taken_of}
 use Rattle.oim_ring.specs.Ends.{DrainView}
 use Rattle.oim_ring.specs.declared.item.Item.{Item}
 use Rattle.oim_convert.specs.Claims.{Claiming}
@@ -17,17 +17,17 @@ pub work_crew-claims-requires-clause-items : goal.work_crew-claims-requires-clau
 work_crew-claims-requires-clause-items g c κs within = opened_serve c.args.report.now c.args.limits.rows c.args.ready.crew.claims.items c.requires.ready.jobs c.requires.count c.requires.rows
 
 pub work_crew-claims-requires-clause-fresh : goal.work_crew-claims-requires-clause-fresh
-work_crew-claims-requires-clause-fresh g c κs within = lanes_fresh c.args.ready.crew.claims.items 0 c.args.ready.drains.items c.requires.ready.drains
+work_crew-claims-requires-clause-fresh g c κs within = (lanes_fresh c.args.ready.crew.claims.items 0 c.args.ready.unmerged.drains.items c.requires.ready.drains, c.requires.ready.faults)
 
 pub finish-requires-clause-drains : goal.finish-requires-clause-drains
 finish-requires-clause-drains g c =
     let ended = c.work_crew-claims.result.1.merged.drains.items in
     subst (λ (z : Claiming (Job g.row.R.Denot)). Each (IsEnded z.items) 0 ended) (sym c.work_crew-claims.ensures.claims)
-    (lanes_ended c.args.ready.crew.claims.items 0 c.args.ready.drains.items ended c.work_crew-claims.ensures.merged.rings c.work_crew-claims.ensures.merged.ended c.requires.ready.drains)
+    (lanes_ended c.args.ready.crew.claims.items 0 c.args.ready.unmerged.drains.items ended c.work_crew-claims.ensures.merged.rings c.work_crew-claims.ensures.merged.ended c.requires.ready.drains)
 
 pub finish-requires-clause-count : goal.finish-requires-clause-count
 finish-requires-clause-count g c =
-    rings_len c.work_crew-claims.result.1.merged.drains.items c.args.ready.drains.items c.work_crew-claims.ensures.merged.rings
+    rings_len c.work_crew-claims.result.1.merged.drains.items c.args.ready.unmerged.drains.items c.work_crew-claims.ensures.merged.rings
     ∙ (c.requires.ready.count ∙ ap (λ (z : Claiming (Job g.row.R.Denot)). length z.items) (sym c.work_crew-claims.ensures.claims))
 
 pub finish-requires-clause-places : goal.finish-requires-clause-places
@@ -42,23 +42,28 @@ pub returns-in-Some-clause-writes : goal.returns-in-Some-clause-writes
 returns-in-Some-clause-writes g c =
     let ended = c.work_crew-claims.result.1.merged.drains.items in
     let taken : c.in-Some.drains.items ≡ taken_of ended = c.in-Some.ensures.taken in
-    let end = c.work_crew-claims.result.1.merged.end in
-    let Wrote : List ℕ → List (List Item) → Type 0 =
-    λ head hs. Merges (g.W.Sink.mark c.args.sink.now) (g.W.Sink.mark c.work_crew-claims.new.sink) (g.W.Sink.told c.args.sink.now) (g.W.Sink.told c.work_crew-claims.new.sink) (document head hs) hs end in
-    let merged : Wrote (head_text c.args.report.now) (taken_of ended) = subst (λ h. Wrote h (taken_of ended)) c.requires.head c.work_crew-claims.ensures.merged.written in (
-      as_many (λ (d : DrainView). d.taken) ended c.in-Some.drains.items (sym taken) ∙ (rings_len ended c.args.ready.drains.items c.work_crew-claims.ensures.merged.rings ∙ (c.requires.ready.count ∙ c.requires.count)),
-      subst (λ hs. Wrote (head_text c.args.report.now) hs) (sym taken) merged,
-    )
+    let merged = c.work_crew-claims.result.1.merged in
+    let old = sink_at (g.W.Sink.mark c.args.sink.now) (g.W.Sink.told c.args.sink.now) in
+    let new = sink_at (g.W.Sink.mark c.work_crew-claims.new.sink) (g.W.Sink.told c.work_crew-claims.new.sink) in
+    let Wrote : List ℕ → List (List Item) → Type 0 = λ head hs. Merges old new head hs merged.faults.items merged.end in
+    let written : Wrote (head_text c.args.report.now) (taken_of ended) = subst (λ h. Wrote h (taken_of ended)) c.requires.head c.work_crew-claims.ensures.merged.written in record {
+      count = as_many (λ (d : DrainView). d.taken) ended c.in-Some.drains.items (sym taken) ∙ (rings_len ended c.args.ready.unmerged.drains.items c.work_crew-claims.ensures.merged.rings ∙ (c.requires.ready.count ∙ c.requires.count));
+      ended = subst (λ hs. EndEach hs) (sym taken) c.work_crew-claims.ensures.merged.ended;
+      merged = subst (λ hs. Wrote (head_text c.args.report.now) hs) (sym taken) written;
+    }
 
 pub returns-in-None-clause-writes : goal.returns-in-None-clause-writes
 returns-in-None-clause-writes g c =
     let ended = c.work_crew-claims.result.1.merged.drains.items in
-    let end = c.work_crew-claims.result.1.merged.end in
-    let Wrote : List ℕ → Type 0 =
-    λ head. Merges (g.W.Sink.mark c.args.sink.now) (g.W.Sink.mark c.work_crew-claims.new.sink) (g.W.Sink.told c.args.sink.now) (g.W.Sink.told c.work_crew-claims.new.sink) (document head (taken_of ended)) (taken_of ended) end in
+    let merged = c.work_crew-claims.result.1.merged in
+    let old = sink_at (g.W.Sink.mark c.args.sink.now) (g.W.Sink.told c.args.sink.now) in
+    let new = sink_at (g.W.Sink.mark c.work_crew-claims.new.sink) (g.W.Sink.told c.work_crew-claims.new.sink) in
+    let Wrote : List ℕ → Type 0 = λ head. Merges old new head (taken_of ended) merged.faults.items merged.end in
     record {
       histories = taken_of ended;
-      count = as_many (λ (d : DrainView). d.taken) ended (taken_of ended) refl ∙ (rings_len ended c.args.ready.drains.items c.work_crew-claims.ensures.merged.rings ∙ (c.requires.ready.count ∙ c.requires.count));
-      end = end;
+      count = as_many (λ (d : DrainView). d.taken) ended (taken_of ended) refl ∙ (rings_len ended c.args.ready.unmerged.drains.items c.work_crew-claims.ensures.merged.rings ∙ (c.requires.ready.count ∙ c.requires.count));
+      ended = c.work_crew-claims.ensures.merged.ended;
+      faults = merged.faults.items;
+      end = merged.end;
       merged = subst Wrote c.requires.head c.work_crew-claims.ensures.merged.written;
     }

@@ -1,12 +1,18 @@
 use Rattle.std.specs.Prelude.{List, length}
 use Rattle.std.proofs.Common.{ap, sym, ◌∙◌, subst}
+use Rattle.oim_json.specs.Sinks.{sink_at}
 use Rattle.oim_ring.specs.Ends.{DrainView}
-use Rattle.oim_merge.specs.Histories.{document}
-use Rattle.oim_merge.specs.Merging.{Merges, taken_of}
+use Rattle.oim_merge.specs.Merging.{EndEach, Merges, rings_of, taken_of}
 use Rattle.oim_convert.proofs.Written.{written_back}
 use Rattle.oim_convert.proofs.working.merge_all.Goals as goal
 
-pub returns-clause-merged : goal.returns-clause-merged
-returns-clause-merged g c =
-    let back = written_back c.args.drains.len c.merge-end.new.drains c.args.drains.items (c.merge-end.auto.drains ∙ ap (λ l. length l) c.as_mut_slice.ensures.value) c.args.drains.ok.0 in
-    subst (λ (l : List DrainView). Merges (g.W.Sink.mark c.args.sink.now) (g.W.Sink.mark c.merge-end.new.sink) (g.W.Sink.told c.args.sink.now) (g.W.Sink.told c.merge-end.new.sink) (document c.args.head.now (taken_of l)) (taken_of l) c.merge-end.result) (sym back) c.merge-end.ensures.merged
+pub returns : goal.returns
+returns g c =
+    let old = sink_at (g.W.Sink.mark c.args.sink.now) (g.W.Sink.told c.args.sink.now) in
+    let new = sink_at (g.W.Sink.mark c.merge-end.new.sink) (g.W.Sink.told c.merge-end.new.sink) in
+    let before = c.args.unmerged.drains in
+    let same = sym (written_back before.len c.merge-end.new.drains before.items (c.merge-end.auto.drains ∙ ap (λ l. length l) c.as_mut_slice.ensures.value) before.ok.0) in record {
+      rings = ap rings_of (sym same) ∙ (c.merge-end.ensures.rings ∙ ap rings_of c.as_mut_slice.ensures.value);
+      ended = subst (λ (l : List DrainView). EndEach (taken_of l)) same c.merge-end.ensures.ended;
+      written = subst (λ (l : List DrainView). Merges old new c.args.head.now (taken_of l) c.merge-end.new.faults.items c.merge-end.result) same c.merge-end.ensures.merged;
+    }

@@ -12,7 +12,7 @@ loop-at-preserved g c =
 pub returns-in-Ok-eq0 : goal.returns-in-Ok-eq0
 returns-in-Ok-eq0 g c =
     let wrote = c.in-Ok-eq0.ensures.1 (omega arith) in
-    (wrote.0, stops _ _ _ _ _ c.loop-at.invariant.2 wrote.1)
+    (wrote.0, stops _ _ _ _ _ (omega arith) c.loop-at.invariant.2 wrote.1)
 
 pub returns-in-Err : goal.returns-in-Err
-returns-in-Err g c = let wrote = c.in-Err.ensures in (wrote.0, stops _ _ _ _ _ c.loop-at.invariant.2 wrote.1)
+returns-in-Err g c = let wrote = c.in-Err.ensures in (wrote.0, stops _ _ _ _ _ (omega arith) c.loop-at.invariant.2 wrote.1)

@@ -1,7 +1,8 @@
 use Rattle.std.specs.Prelude.{◌≤◌, ◌∷◌, [], ◌++◌, Bool, true, length}
 use Rattle.std.proofs.Common.{arith, sym, subst}
 use Rattle.std.proofs.lemmas.Bool.{lt-ltb}
-use Rattle.oim_merge.specs.Steps.{SinkView, StandsAt}
+use Rattle.oim_json.specs.Sinks.{sink_at}
+use Rattle.oim_merge.specs.Steps.{StandsAt}
 use Rattle.oim_merge.specs.declared.progress.Standing.TheVariants as standings
 use Rattle.oim_ring.specs.declared.item.Item.TheVariants as items
 use Rattle.oim_merge.proofs.Going.{over_stays, stands_as, block_written, block_broken}
@@ -10,22 +11,22 @@ use Rattle.oim_merge.proofs.merging.write_block.Goals as goal
 pub returns-in-Ok : goal.returns-in-Ok
 returns-in-Ok g c = λ first head before st.
     let p = c.args.progress.now in let fs = c.args.block.now in
-    let now : SinkView = record { mark = g.W.Sink.mark c.args.sink.now; told = g.W.Sink.told c.args.sink.now } in
-    let later : SinkView = record { mark = g.W.Sink.mark c.write_piece.new.sink; told = g.W.Sink.told c.write_piece.new.sink } in
+    let now = sink_at (g.W.Sink.mark c.args.sink.now) (g.W.Sink.told c.args.sink.now) in
+    let later = sink_at (g.W.Sink.mark c.write_piece.new.sink) (g.W.Sink.told c.write_piece.new.sink) in
     let wrote = rw c.bytes.ensures.text at c.in-Ok.ensures in
     let some : 1 ≤ length fs = omega (arith, c.count-any.ensures.count, c.count-any.ensures.some) in
     subst (λ (any : Bool). StandsAt first later head (before ++ items.Block fs ∷ []) any p.standing) (sym (lt-ltb 0 c.count-any.result c.count-any.ensures.some))
     (stands_as first later head (before ++ items.Block fs ∷ []) true standings.Open p.standing (sym c.in-Open.is)
-    (block_written first now head before p.any later fs some (stands_as first now head before p.any p.standing standings.Open c.in-Open.is st) wrote.0 wrote.1))
+    (block_written first now head before p.any later fs some (stands_as first now head before p.any p.standing standings.Open c.in-Open.is st) wrote))
 
 pub returns-in-Err : goal.returns-in-Err
 returns-in-Err g c = λ first head before st.
     let p = c.args.progress.now in let fs = c.args.block.now in
-    let now : SinkView = record { mark = g.W.Sink.mark c.args.sink.now; told = g.W.Sink.told c.args.sink.now } in
-    let later : SinkView = record { mark = g.W.Sink.mark c.write_piece.new.sink; told = g.W.Sink.told c.write_piece.new.sink } in
+    let now = sink_at (g.W.Sink.mark c.args.sink.now) (g.W.Sink.told c.args.sink.now) in
+    let later = sink_at (g.W.Sink.mark c.write_piece.new.sink) (g.W.Sink.told c.write_piece.new.sink) in
     let wrote = rw c.bytes.ensures.text at c.in-Err.ensures in
     let some : 1 ≤ length fs = omega (arith, c.count-any.ensures.count, c.count-any.ensures.some) in
-    block_broken first now head before p.any later fs c.in-Err.fault some (stands_as first now head before p.any p.standing standings.Open c.in-Open.is st) wrote.0 wrote.1
+    block_broken first now head before p.any later fs c.in-Err.fault some (stands_as first now head before p.any p.standing standings.Open c.in-Open.is st) wrote
 
 pub returns-in-Refused : goal.returns-in-Refused
 returns-in-Refused g c = λ first head before st. over_stays first _ head before _ _ _ (rw c.in-Refused.is tt) st
