@@ -23,7 +23,7 @@ use Rattle.xbrl_json_cli.specs.Folders.{Files, IsFolderOf}
 use Rattle.xbrl_json_cli.specs.Naming.{outcome_by}
 use Rattle.xbrl_json_cli.specs.Outcomes.{EndsAs, Leaves, table_ids}
 use Rattle.xbrl_json_cli.specs.Runs.{EndsOver, range_fault, table_file, table_files}
-use Rattle.xbrl_json_cli.specs.Steps.{IsEarly, no_memory, report_at, steps}
+use Rattle.xbrl_json_cli.specs.Steps.{IsEarly, no_memory}
 use Rattle.xbrl_json_cli.specs.declared.outcome.Outcome.{Outcome}
 use Rattle.xbrl_json_cli.specs.declared.outcome.Outcome.TheVariants as outcome
 use Rattle.xbrl_json_cli.specs.declared.outcome.Source.{Source}

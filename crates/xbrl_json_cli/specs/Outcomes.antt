@@ -1,6 +1,6 @@
 -- What the outcome of a conversion says, at every number of workers and every size of the rings.
 -- xBRL-CSV 1.0 (a report is the facts of its tables), xBRL-JSON 1.0 (the document).
-use Rattle.std.specs.Prelude.{⊤, ◌≡◌, ◌⊎◌, map, slice_index_or, length, ℕ, List, [], ◌∷◌, Option, Some, None, Result, Ok, Err}
+use Rattle.std.specs.Prelude.{⊤, ◌≡◌, ◌⊎◌, map, slice_index_or, length, ℕ, List, [], ◌∷◌, Option, Some, None}
 use Rattle.oim_convert.specs.Answer.{IsAnswer}
 use Rattle.oim_convert.specs.Runs.{AreHistories, IsLost, IsOuter}
 use Rattle.oim_convert.specs.declared.fault.ConvertFault.{ConvertFault}

@@ -1,5 +1,3 @@
-use Rattle.oim_convert.specs.Answer.{streams}
-use Rattle.oim_convert.specs.Runs.{early_fault}
 use Rattle.oim_json.specs.Sinks.{sink_at}
 use Rattle.std.proofs.Common.{length, rules, vec_capacity}
 use Rattle.xbrl_json_cli.proofs.Threads.{roomy}
