@@ -1,5 +1,5 @@
 -- What the getters of a parse give, by the rows that the parse made.
-use Rattle.std.proofs.Common.{◌≡◌, ◌∙◌, ℕ, List, Option, Some, None, Result, Ok, refl}
+use Rattle.std.proofs.Common.{◌≡◌, ℕ, List, Option, Some, None, Result, Ok, refl}
 use Rattle.std.specs.Str.Parse.{ParsesUnsigned}
 use Rattle.clap.specs.Words.{ReadsOne, Text}
 use Rattle.xbrl_json_cli.specs.CommandLine.{IsNumberOf}

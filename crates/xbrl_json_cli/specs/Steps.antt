@@ -1,7 +1,6 @@
 -- The steps of a run before its tables are read, in order, and the report that the files of a folder give.
 -- xBRL-CSV 1.0 (the metadata, the parameters file).
 use Rattle.std.specs.Prelude.{⊤, ◌≡◌, ◌⊎◌, ℕ, List, [], ◌∷◌, ◌++◌, Option, Some, None, Result, Ok, Err, unwrap_or}
-use Rattle.oim_convert.specs.declared.fault.ConvertFault.{ConvertFault}
 use Rattle.oim_convert.specs.declared.fault.ConvertFault.TheVariants as fault
 use Rattle.oim_meta.specs.Grid.{grid}
 use Rattle.oim_meta.specs.Parameters.{ParametersValue}

@@ -1,4 +1,4 @@
-use Rattle.std.proofs.Common.{◌≡◌, ◌+◌, arith, rules, subst, sym, Some, None, List, ℕ, take}
+use Rattle.std.proofs.Common.{◌≡◌, ◌+◌, arith, rules, subst, sym, Some, None, take}
 use Rattle.std.proofs.lemmas.Str.Pattern.{rfind_char}
 use Rattle.xbrl_json_cli.specs.Folders.{IsFolderOf}
 use Rattle.xbrl_json_cli.proofs.FolderFacts.{folder_at, no_folder}

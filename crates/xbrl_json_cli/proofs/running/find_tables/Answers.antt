@@ -1,4 +1,4 @@
-use Rattle.std.proofs.Common.{◌≡◌, ◌∙◌, ap, arith, subst, rules, IfSome, string_bytes}
+use Rattle.std.proofs.Common.{◌∙◌, arith, subst, rules, IfSome, string_bytes}
 use Rattle.oim_convert.specs.Files.{IsFileOf}
 use Rattle.xbrl_json_cli.proofs.Endings.{one_longer, one_more}
 use Rattle.xbrl_json_cli.proofs.running.find_tables.Goals as goal

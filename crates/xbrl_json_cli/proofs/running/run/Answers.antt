@@ -1,9 +1,8 @@
-use Rattle.std.proofs.Common.{◌≡◌, ◌∙◌, subst, IfSome, List, ℕ, Option, Ok, Err, length}
+use Rattle.std.proofs.Common.{◌≡◌, subst, IfSome, List, ℕ, Option, length}
 use Rattle.oim_convert.specs.Files.{AreFilesOf}
-use Rattle.oim_convert.specs.Steps.{SinkView, sink_at}
+use Rattle.oim_json.specs.Sinks.{SinkView, sink_at}
 use Rattle.oim_convert.specs.Answer.{streams}
 use Rattle.oim_convert.specs.Runs.{early_fault}
-use Rattle.xbrl_json_cli.specs.Conversion.{profile}
 use Rattle.xbrl_json_cli.specs.Folders.{Files}
 use Rattle.xbrl_json_cli.specs.Outcomes.{EndsAs}
 use Rattle.xbrl_json_cli.specs.Runs.{EndsOver, range_fault, table_files}

@@ -1,4 +1,4 @@
-use Rattle.std.proofs.Common.{rules, ◌≡◌, ◌+◌, ap, [], List, ℕ}
+use Rattle.std.proofs.Common.{rules}
 use Rattle.xbrl_json_cli.proofs.StepFacts.{read_most}
 use Rattle.xbrl_json_cli.proofs.steps.bytes_of.Goals as goal
 

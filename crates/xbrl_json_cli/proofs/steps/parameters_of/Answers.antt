@@ -1,8 +1,6 @@
-use Rattle.std.proofs.Common.{◌++◌, Err, Ok, Some, IfSome, rules, string_bytes, subst}
+use Rattle.std.proofs.Common.{Err, Ok, rules}
 use Rattle.oim_meta.specs.Grid.{grid}
-use Rattle.oim_meta.specs.Parameters.{ParametersValue}
 use Rattle.oim_meta.specs.ParametersFile.{parameters_result}
-use Rattle.xbrl_json_cli.specs.Steps.{parameters_at, parameters_steps}
 use Rattle.xbrl_json_cli.specs.declared.outcome.Outcome.TheVariants as outcome
 use Rattle.xbrl_json_cli.specs.declared.outcome.Source.TheVariants as source
 use Rattle.xbrl_json_cli.proofs.StepFacts.{at_path, no_path, reads_fault, reads_none, reads_value}

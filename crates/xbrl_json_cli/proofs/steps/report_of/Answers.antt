@@ -1,6 +1,4 @@
-use Rattle.std.proofs.Common.{◌≡◌, ◌∙◌, sym, subst, IfSome, Ok, Err}
-use Rattle.oim_meta.specs.Parameters.{ParametersValue}
-use Rattle.oim_meta.specs.Types.{TypesValue}
+use Rattle.std.proofs.Common.{◌∙◌, sym, subst, IfSome}
 use Rattle.xbrl_json_cli.specs.Steps.{Stops, parameters_steps, types_steps}
 use Rattle.xbrl_json_cli.proofs.StepFacts.{HasParameters, HasRead, HasTypes, metadata_stop, parameters_stop, report_stop, types_stop, url_stop}
 use Rattle.xbrl_json_cli.proofs.steps.report_of.Goals as goal

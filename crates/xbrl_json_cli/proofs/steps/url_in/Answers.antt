@@ -1,4 +1,4 @@
-use Rattle.std.proofs.Common.{subst, Option, List, ℕ}
+use Rattle.std.proofs.Common.{subst}
 use Rattle.oim_meta.specs.Reading.{IsUrlFault, SaysUrl}
 use Rattle.xbrl_json_cli.specs.Conversion.{profile}
 use Rattle.xbrl_json_cli.specs.Metadata.{url_result}
