@@ -6,14 +6,13 @@ ghost use Rattle.std.specs.Prelude.{◌≤◌};
 use crate::conversion::{convert_held, convert_texts};
 use crate::held::{METADATA, TABLE, TYPES};
 use crate::outcome::{Outcome, line, status};
+use crate::tests_writers::Narrow;
 use oim_convert::{ConvertFault, convert_serial};
 use oim_json::{Marked, WriteFault};
 use oim_meta::{Limits, Parameters, Report, read_report, read_types};
 use oim_names::Text;
 use oim_rows::{Rows, TableFault, TableKind};
 use std::alloc::{AllocError, Global};
-use std::io;
-use std::io::Write;
 use std::process::Abort;
 use std::sync::Wait;
 use std::test::Fail;
@@ -110,10 +109,11 @@ fn serial_line(
 }
 
 /// The report of a metadata, with the held types.
-fn report_from(alloc: Global, metadata: &str) -> Result<Report, Fail> {
+fn report_from(alloc: Global, metadata: &str) -> Result<Box<Report>, Fail> {
     let types = read_types(alloc, TYPES.as_bytes())?;
     let parameters = Parameters::none(alloc);
-    Ok(read_report(alloc, metadata.as_bytes(), parameters, types, &two_rows())?)
+    let report = read_report(alloc, metadata.as_bytes(), parameters, types, &two_rows())?;
+    Ok(Box::new(alloc, report)?)
 }
 
 /// The document and the line of a conversion on one thread.
@@ -624,34 +624,6 @@ fn the_address_of_a_report(rt: HostRuntime) -> Result<(), Fail> {
         document.as_str(),
         "",
     )
-}
-
-/// A writer that takes at most `most` bytes a call, and once `room` bytes are out no more: it fails
-/// then, or answers 0.
-#[derive(Drop)]
-struct Narrow {
-    taken: Vec<u8>,
-    most: usize,
-    room: usize,
-    fails: bool,
-}
-
-impl Write for Narrow {
-    fn write(&mut self, bytes: &[u8]) -> io::Result<usize> {
-        if self.taken.len() >= self.room {
-            if self.fails {
-                return Err(io::Error::from(io::ErrorKind::Other));
-            }
-            return Ok(0);
-        }
-        let count = bytes.len().min(self.most).min(self.room - self.taken.len());
-        self.taken.extend_from_slice(&bytes[..count])?;
-        Ok(count)
-    }
-
-    fn flush(&mut self) -> io::Result<()> {
-        Ok(())
-    }
 }
 
 /// Writers, as the bytes of a call, the room, and whether they fail or answer 0 then, each with the

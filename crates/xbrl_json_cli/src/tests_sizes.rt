@@ -17,7 +17,7 @@ use std::thread::Threads;
 type Way = (usize, usize);
 
 /// The numbers from 1 on, so many, with a blank between two.
-fn numbers(alloc: Global, count: u32) -> Result<String, AllocError> {
+pub(crate) fn numbers(alloc: Global, count: u32) -> Result<String, AllocError> {
     let mut text = String::from_str(alloc, "1")?;
     for number in 2..=count {
         let next = format!(in alloc; " {number}")?;
@@ -27,7 +27,7 @@ fn numbers(alloc: Global, count: u32) -> Result<String, AllocError> {
 }
 
 /// A text for each number, which stands in it for `@`, with this text between two.
-fn of_each(
+pub(crate) fn of_each(
     alloc: Global,
     numbers: &str,
     pattern: &str,
@@ -239,14 +239,14 @@ fn blocks_before_a_bad_cell(rt: HostRuntime) -> Result<(), Fail> {
 }
 
 /// The numbers from 1 to 64 in byte order.
-const ORDER: &str =
+pub(crate) const ORDER: &str =
     "1 10 11 12 13 14 15 16 17 18 19 2 20 21 22 23 24 25 26 27 28 29 3 30 31 32 33 34 35 36 37 38 39 4 40 41 42 43 44 45 46 47 48 49 5 50 51 52 53 54 55 56 57 58 59 6 60 61 62 63 64 7 8 9";
 
 /// The place of 40 among them, counted from 0.
 const PLACE: usize = 34;
 
 /// A report of the tables t1 to t64.
-fn report_of_tables(alloc: Global) -> Result<Report, Fail> {
+fn report_of_tables(alloc: Global) -> Result<Box<Report>, Fail> {
     let numbers = numbers(alloc, 64)?;
     let table = r#""t@":{"url":"t@.csv","template":"p"}"#;
     let tables = of_each(alloc, numbers.as_str(), table, ",")?;
@@ -258,7 +258,7 @@ fn report_of_tables(alloc: Global) -> Result<Report, Fail> {
 }
 
 /// The held report with one text in place of another.
-fn edited_report<'a>(alloc: Global, from: &'a str, to: &'a str) -> Result<Report, Fail> {
+fn edited_report<'a>(alloc: Global, from: &'a str, to: &'a str) -> Result<Box<Report>, Fail> {
     let edits = [(from, to)];
     report_of(alloc, edits.as_slice())
 }
@@ -308,8 +308,78 @@ fn sixty_four_tables(rt: HostRuntime) -> Result<(), Fail> {
     Ok(())
 }
 
+/// The facts of the 64 tables, where each has rows of these numbers.
+fn facts_of_rows(alloc: Global, rows: &str) -> Result<String, AllocError> {
+    let mut facts = String::new(alloc);
+    for table in ORDER.split(' ') {
+        let fact = format!(in alloc; "t{table}.r_@.cash - Cash EUR @; ")?;
+        facts.push_str(of_each(alloc, rows, fact.as_str(), "")?.as_str())?;
+    }
+    Ok(facts)
+}
+
+/// The files of the 64 tables, each with rows of these numbers.
+fn files_of_rows(alloc: Global, rows: &str) -> Result<Vec<String>, AllocError> {
+    let rows = of_each(alloc, rows, "@\n", "")?;
+    let mut files = Vec::new(alloc);
+    for _ in ORDER.split(' ') {
+        files.push(format!(in alloc; "cash\n{}", rows.as_str())?)?;
+    }
+    Ok(files)
+}
+
+/// The first other way of the report of 64 tables of so many rows each.
+fn other_way_of_full_tables(
+    rt: &(impl AllocGlobal + Threads + Wait + Sync),
+    rows: u32,
+    ways: &[Way],
+) -> Result<Option<Way>, Fail> {
+    let alloc = rt.alloc();
+    let report = report_of_tables(alloc)?;
+    let rows = numbers(alloc, rows)?;
+    let files = files_of_rows(alloc, rows.as_str())?;
+    let facts = facts_of_rows(alloc, rows.as_str())?;
+    let expected = document_of(alloc, facts.as_str(), "")?;
+    let files = files.as_slice();
+    other_way(rt, &report, files, ways, expected.as_str(), None)
+}
+
+#[test]
+fn sixty_four_tables_of_a_thousand_rows(rt: HostRuntime) -> Result<(), Fail> {
+    let ways = [(2, 1), (8, 1), (64, 1), (2, 1_024), (8, 1_024), (64, 1_024)];
+    let other = other_way_of_full_tables(&rt, 1_000, ways.as_slice())?;
+    assert_eq!(rt; other, None);
+    Ok(())
+}
+
+/// The first other way of a table with a cell of so many bytes.
+fn other_way_of_text(
+    rt: &(impl AllocGlobal + Threads + Wait + Sync),
+    bytes: usize,
+) -> Result<Option<Way>, Fail> {
+    let alloc = rt.alloc();
+    let mut text = String::new(alloc);
+    for _ in 0..bytes {
+        text.push('x')?;
+    }
+    let file = format!(in alloc; "note\n{}\n", text.as_str())?;
+    let facts = format!(in alloc; "t1.r_1.note - Note - {}", text.as_str())?;
+    let expected = document_of(alloc, facts.as_str(), "")?;
+    let report = report_of(alloc, &[])?;
+    other_way_of_one(rt, &report, file, &[(2, 1)], expected.as_str(), None)
+}
+
+#[test]
+fn long_cells(rt: HostRuntime) -> Result<(), Fail> {
+    for bytes in [4_096, 4_097, 100_000] {
+        let other = other_way_of_text(&rt, bytes)?;
+        assert_eq!(rt; other, None, "of {bytes} bytes");
+    }
+    Ok(())
+}
+
 /// A report of one table with as many columns.
-fn report_of_columns(alloc: Global, numbers: &str) -> Result<Report, Fail> {
+fn report_of_columns(alloc: Global, numbers: &str) -> Result<Box<Report>, Fail> {
     let column = r#""c@":{"dimensions":{"concept":"eg:Cash"}}"#;
     let columns = of_each(alloc, numbers, column, ",")?;
     edited_report(
