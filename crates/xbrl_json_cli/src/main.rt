@@ -41,6 +41,8 @@ mod tests_cells;
 #[cfg(test)]
 mod tests_copies;
 #[cfg(test)]
+mod tests_ends;
+#[cfg(test)]
 mod tests_files;
 #[cfg(test)]
 mod tests_metadata;

@@ -4,10 +4,10 @@ ghost use Rattle.std.specs.Prelude.{◌≤◌};
 
 use crate::tests::{Edits, document_of};
 use crate::tests_cells::report_of;
+use crate::tests_ends::{Ends, is_run_so, is_serial_so, refused};
 use crate::tests_sizes::{numbers, of_each};
-use oim_convert::{ConvertFault, Run, convert, convert_serial};
+use oim_convert::{ConvertFault, convert, convert_serial};
 use oim_json::Marked;
-use oim_merge::MergeEnd;
 use oim_meta::{Limits, Report};
 use oim_rows::{Rows, TableFault, TableKind};
 use std::alloc::{AllocError, Global};
@@ -44,57 +44,48 @@ fn thousand_rows() -> Limits
     }
 }
 
-/// What a conversion on threads answers, as the one on one thread does.
-fn answer_of(answer: Result<Run, ConvertFault>) -> Option<ConvertFault> {
-    match answer {
-        Ok(run) => match run.end {
-            MergeEnd::Complete => None,
-            MergeEnd::Refused(fault) => Some(ConvertFault::Table(fault)),
-            MergeEnd::Write(fault) => Some(ConvertFault::Write(fault)),
-        },
-        Err(fault) => Some(fault),
-    }
-}
-
-/// What two workers answer of a report of one table, behind what they write.
+/// Whether two workers end so with a report of one table, behind what they write.
 fn threaded<R: Read + Drop + Send>(
     rt: &(impl AllocGlobal + Threads + Wait + Sync),
     report: &Report,
     reader: R,
     document: &mut Vec<u8>,
-) -> Result<Option<ConvertFault>, AllocError> {
+    ends: Ends<'_>,
+) -> Result<bool, AllocError> {
     let readers = vec![in rt.alloc(); Some(reader)]?;
     let sink = &mut Marked::new(document);
     let limits = thousand_rows();
     let answer = convert(rt, rt.alloc(), report, readers, 2, 1, limits, sink);
-    Ok(answer_of(answer))
+    Ok(is_run_so(&answer, ends))
 }
 
-/// What one thread answers of it, behind what it writes.
+/// Whether one thread ends so with it, behind what it writes.
 fn serial<R: Read + Drop>(
     alloc: Global,
     report: &Report,
     reader: R,
     document: &mut Vec<u8>,
-) -> Result<Option<ConvertFault>, AllocError> {
+    ends: Ends<'_>,
+) -> Result<bool, AllocError> {
     let readers = vec![in alloc; Some(reader)]?;
     let sink = &mut Marked::new(document);
-    Ok(convert_serial(alloc, report, readers, thousand_rows(), sink).err())
+    let answer = convert_serial(alloc, report, readers, thousand_rows(), sink);
+    Ok(is_serial_so(&answer, ends))
 }
 
-/// Whether both give this document and this answer.
+/// Whether both give this document and end so.
 fn both_end<R: Read + Drop + Send + Copy>(
     rt: &(impl AllocGlobal + Threads + Wait + Sync),
     report: &Report,
     reader: R,
     expected: &[u8],
-    fault: Option<ConvertFault>,
+    ends: Ends<'_>,
 ) -> Result<bool, AllocError> {
     let mut document = Vec::new(rt.alloc());
-    let is_threaded = threaded(rt, report, reader, &mut document)? == fault;
+    let is_threaded = threaded(rt, report, reader, &mut document, ends)?;
     let is_written = document.as_slice() == expected;
     let mut document = Vec::new(rt.alloc());
-    let is_serial = serial(rt.alloc(), report, reader, &mut document)? == fault;
+    let is_serial = serial(rt.alloc(), report, reader, &mut document, ends)?;
     Ok(is_threaded && is_written && is_serial && document.as_slice() == expected)
 }
 
@@ -109,14 +100,14 @@ fn is_ended(rt: &(impl AllocGlobal + Threads + Wait + Sync)) -> Result<bool, Fai
         bytes: b"cash\n".as_slice(),
         row: b"1\n".as_slice(),
     };
-    let fault = TableFault {
+    let faults = [TableFault {
         table: 0,
         row: 1_001,
         column: 0,
         kind: TableKind::TooManyRows,
-    };
-    let fault = Some(ConvertFault::Table(fault));
-    Ok(both_end(rt, &report, reader, expected.as_bytes(), fault)?)
+    }];
+    let ends = refused(faults.as_slice());
+    Ok(both_end(rt, &report, reader, expected.as_bytes(), ends)?)
 }
 
 #[test]
@@ -134,6 +125,21 @@ const LANGUAGE: Edits<'static> = &[(
 /// A table with a quoted cell that has quotes, a line feed and a control character.
 const ESCAPES: &str = "cash,note\n1,\"say \"\"hi\"\" \\\n\u{e9}\u{1}\"\n";
 
+/// The faults of tables that one thread answers, behind what it writes.
+fn serial_faults(
+    alloc: Global,
+    report: &Report,
+    file: &[u8],
+    document: &mut Vec<u8>,
+) -> Result<Vec<TableFault>, AllocError> {
+    let readers = vec![in alloc; Some(file)]?;
+    let sink = &mut Marked::new(document);
+    match convert_serial(alloc, report, readers, thousand_rows(), sink) {
+        Err(ConvertFault::Tables(faults)) => Ok(faults),
+        Ok(()) | Err(_) => Ok(Vec::new(alloc)),
+    }
+}
+
 /// Whether two workers write and answer what one thread does.
 fn is_as_alone(
     rt: &(impl AllocGlobal + Threads + Wait + Sync),
@@ -141,10 +147,10 @@ fn is_as_alone(
     file: &[u8],
 ) -> Result<bool, AllocError> {
     let mut expected = Vec::new(rt.alloc());
-    let fault = serial(rt.alloc(), report, file, &mut expected)?;
+    let faults = serial_faults(rt.alloc(), report, file, &mut expected)?;
     let mut document = Vec::new(rt.alloc());
-    let answer = threaded(rt, report, file, &mut document)?;
-    Ok(answer == fault && document.as_slice() == expected.as_slice())
+    let is_ended = threaded(rt, report, file, &mut document, refused(faults.as_slice()))?;
+    Ok(is_ended && document.as_slice() == expected.as_slice())
 }
 
 /// The first length of a beginning of the table for which they do not.

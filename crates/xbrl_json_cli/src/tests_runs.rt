@@ -162,12 +162,15 @@ fn is_refused(
     refuses(rt, metadata.as_str(), count, document, said)
 }
 
+/// What is said of three tables, the second of which is refused, and the third too.
+const BOTH: &str =
+    "xbrl-json: table t2, row 2, column 1: BadNumber (40)\nxbrl-json: table t3, row 0, column 1: UnknownHeader (23)\n";
+
 /// Whether the facts before a bad cell are written, and no more.
 fn stops_at_a_cell(rt: &(impl AllocGlobal + Threads + Wait + Sync)) -> Result<bool, Fail> {
     let facts = "t1.r_1.cash - Cash EUR 5; t2.r_1.cash - Cash EUR 1";
     let document = document_of(rt.alloc(), facts, "BadNumber")?;
-    let said = "xbrl-json: table t2, row 2, column 1: BadNumber (40)\n";
-    is_refused(rt, 5, document.as_str(), said)
+    is_refused(rt, 5, document.as_str(), BOTH)
 }
 
 #[test]
@@ -179,7 +182,7 @@ fn a_bad_cell(rt: HostRuntime) -> Result<(), Fail> {
 
 #[test]
 fn no_file_of_a_table(rt: HostRuntime) -> Result<(), Fail> {
-    let said = "xbrl-json: table t1, row 0, column 0: NoFile (20)\n";
+    let said = "xbrl-json: table t1, row 0, column 0: NoFile (20)\nxbrl-json: table t2, row 0, column 0: NoFile (20)\nxbrl-json: table t3, row 0, column 0: NoFile (20)\n";
     let refused = is_refused(&rt, 2, HEAD, said)?;
     assert!(rt; refused);
     Ok(())
@@ -203,7 +206,7 @@ fn is_refused_by(
         ("t2.csv", b"cash\n1\nx\n".as_slice()),
         ("t3.csv", b"nope\n1\n".as_slice()),
     ];
-    let said = ("xbrl-json: table t2, row 2, column 1: BadNumber (40)\n", 1);
+    let said = (BOTH, 1);
     ends(
         rt,
         &settings,

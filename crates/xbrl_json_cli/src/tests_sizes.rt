@@ -3,9 +3,9 @@
 
 use crate::tests::document_of;
 use crate::tests_cells::report_of;
-use oim_convert::{ConvertFault, convert, convert_serial};
+use crate::tests_ends::{Ends, WHOLE, is_run_so, is_serial_so, refused};
+use oim_convert::{convert, convert_serial};
 use oim_json::Marked;
-use oim_merge::MergeEnd;
 use oim_meta::{Limits, Report};
 use oim_rows::{TableFault, TableKind};
 use std::alloc::{AllocError, Global};
@@ -52,56 +52,48 @@ fn readers<'a>(alloc: Global, files: &'a [String]) -> Result<Vec<Option<&'a [u8]
     Ok(readers)
 }
 
-/// What a conversion on one thread answers, behind what it writes.
+/// Whether a conversion on one thread ends so, behind what it writes.
 fn serial(
     alloc: Global,
     report: &Report,
     files: &[String],
     document: &mut Vec<u8>,
-) -> Result<Option<ConvertFault>, Fail> {
+    ends: Ends<'_>,
+) -> Result<bool, Fail> {
     let readers = readers(alloc, files)?;
     let sink = &mut Marked::new(document);
-    Ok(convert_serial(alloc, report, readers, Limits::profile(), sink).err())
+    let answer = convert_serial(alloc, report, readers, Limits::profile(), sink);
+    Ok(is_serial_so(&answer, ends))
 }
 
-/// The fault with which a merge ended.
-fn fault_of(end: MergeEnd) -> Option<ConvertFault> {
-    match end {
-        MergeEnd::Complete => None,
-        MergeEnd::Refused(fault) => Some(ConvertFault::Table(fault)),
-        MergeEnd::Write(fault) => Some(ConvertFault::Write(fault)),
-    }
-}
-
-/// What a conversion on threads answers, behind what it writes.
+/// Whether a conversion on threads ends so, behind what it writes.
 fn threaded(
     rt: &(impl AllocGlobal + Threads + Wait + Sync),
     report: &Report,
     files: &[String],
     way: Way,
     document: &mut Vec<u8>,
-) -> Result<Option<ConvertFault>, Fail> {
+    ends: Ends<'_>,
+) -> Result<bool, Fail> {
     let alloc = rt.alloc();
     let readers = readers(alloc, files)?;
     let sink = &mut Marked::new(document);
     let limits = Limits::profile();
-    match convert(rt, alloc, report, readers, way.0, way.1, limits, sink) {
-        Ok(run) => Ok(fault_of(run.end)),
-        Err(fault) => Ok(Some(fault)),
-    }
+    let answer = convert(rt, alloc, report, readers, way.0, way.1, limits, sink);
+    Ok(is_run_so(&answer, ends))
 }
 
-/// Whether a conversion on one thread writes this document and answers this fault.
+/// Whether a conversion on one thread writes this document and ends so.
 fn is_serial(
     alloc: Global,
     report: &Report,
     files: &[String],
     expected: &str,
-    fault: Option<ConvertFault>,
+    ends: Ends<'_>,
 ) -> Result<bool, Fail> {
     let mut document = Vec::new(alloc);
-    let answer = serial(alloc, report, files, &mut document)?;
-    Ok(answer == fault && document.as_slice() == expected.as_bytes())
+    let is_ended = serial(alloc, report, files, &mut document, ends)?;
+    Ok(is_ended && document.as_slice() == expected.as_bytes())
 }
 
 /// Whether a conversion on threads does.
@@ -111,11 +103,11 @@ fn is_threaded(
     files: &[String],
     way: Way,
     expected: &str,
-    fault: Option<ConvertFault>,
+    ends: Ends<'_>,
 ) -> Result<bool, Fail> {
     let mut document = Vec::new(rt.alloc());
-    let answer = threaded(rt, report, files, way, &mut document)?;
-    Ok(answer == fault && document.as_slice() == expected.as_bytes())
+    let is_ended = threaded(rt, report, files, way, &mut document, ends)?;
+    Ok(is_ended && document.as_slice() == expected.as_bytes())
 }
 
 /// The first of these ways in which a conversion ends otherwise, which is (0, 0) where it does on
@@ -126,13 +118,13 @@ fn other_way(
     files: &[String],
     ways: &[Way],
     expected: &str,
-    fault: Option<ConvertFault>,
+    ends: Ends<'_>,
 ) -> Result<Option<Way>, Fail> {
-    if !is_serial(rt.alloc(), report, files, expected, fault)? {
+    if !is_serial(rt.alloc(), report, files, expected, ends)? {
         return Ok(Some((0, 0)));
     }
     for way in ways {
-        if !is_threaded(rt, report, files, *way, expected, fault)? {
+        if !is_threaded(rt, report, files, *way, expected, ends)? {
             return Ok(Some(*way));
         }
     }
@@ -146,10 +138,10 @@ fn other_way_of_one(
     file: String,
     ways: &[Way],
     expected: &str,
-    fault: Option<ConvertFault>,
+    ends: Ends<'_>,
 ) -> Result<Option<Way>, Fail> {
     let files = [file];
-    other_way(rt, report, files.as_slice(), ways, expected, fault)
+    other_way(rt, report, files.as_slice(), ways, expected, ends)
 }
 
 /// The same, for a table of so many rows, behind which this text stands.
@@ -158,17 +150,17 @@ fn other_way_of_rows(
     rows: u32,
     ways: &[Way],
     rest: &str,
-    fault: Option<ConvertFault>,
+    ends: Ends<'_>,
 ) -> Result<Option<Way>, Fail> {
     let alloc = rt.alloc();
     let numbers = numbers(alloc, rows)?;
     let rows = of_each(alloc, numbers.as_str(), "@\n", "")?;
     let facts = of_each(alloc, numbers.as_str(), "t1.r_@.cash - Cash EUR @", "; ")?;
-    let ending = if fault.is_some() { "unfinished" } else { "" };
+    let ending = if ends.faults.is_empty() { "" } else { "unfinished" };
     let expected = document_of(alloc, facts.as_str(), ending)?;
     let file = format!(in alloc; "cash\n{}{rest}", rows.as_str())?;
     let report = report_of(alloc, &[])?;
-    other_way_of_one(rt, &report, file, ways, expected.as_str(), fault)
+    other_way_of_one(rt, &report, file, ways, expected.as_str(), ends)
 }
 
 /// The same, for a table of a thousand rows and rings of this size.
@@ -177,7 +169,7 @@ fn other_way_of_a_thousand(
     ring: usize,
 ) -> Result<Option<Way>, Fail> {
     let ways = [(1, ring), (2, ring), (8, ring)];
-    other_way_of_rows(rt, 1_000, ways.as_slice(), "", None)
+    other_way_of_rows(rt, 1_000, ways.as_slice(), "", WHOLE)
 }
 
 #[test]
@@ -212,27 +204,28 @@ fn a_thousand_rows_over_rings_of_65_536(rt: HostRuntime) -> Result<(), Fail> {
 #[test]
 fn blocks_of_rows(rt: HostRuntime) -> Result<(), Fail> {
     for rows in [1, 255, 256, 257, 512, 600] {
-        let other = other_way_of_rows(&rt, rows, &[(2, 1)], "", None)?;
+        let other = other_way_of_rows(&rt, rows, &[(2, 1)], "", WHOLE)?;
         assert_eq!(rt; other, None, "of {rows} rows");
     }
     Ok(())
 }
 
 /// A bad cell in column 1 of a row.
-fn bad_number(table: usize, row: u32) -> Option<ConvertFault> {
-    Some(ConvertFault::Table(TableFault {
+fn bad_number(table: usize, row: u32) -> TableFault {
+    TableFault {
         table,
         row,
         column: 1,
         kind: TableKind::BadNumber,
-    }))
+    }
 }
 
 #[test]
 fn blocks_before_a_bad_cell(rt: HostRuntime) -> Result<(), Fail> {
     for rows in [3, 255, 256, 257] {
-        let fault = bad_number(0, rows + 1);
-        let other = other_way_of_rows(&rt, rows, &[(2, 1)], "x\n1\n", fault)?;
+        let faults = [bad_number(0, rows + 1)];
+        let ends = refused(faults.as_slice());
+        let other = other_way_of_rows(&rt, rows, &[(2, 1)], "x\n1\n", ends)?;
         assert_eq!(rt; other, None, "behind {rows} rows");
     }
     Ok(())
@@ -279,13 +272,13 @@ fn other_way_of_tables(
     rt: &(impl AllocGlobal + Threads + Wait + Sync),
     second: &str,
     numbers: &str,
-    fault: Option<ConvertFault>,
+    ends: Ends<'_>,
 ) -> Result<Option<Way>, Fail> {
     let alloc = rt.alloc();
     let report = report_of_tables(alloc)?;
     let files = files_of_tables(alloc, second)?;
     let facts = of_each(alloc, numbers, "t@.r_1.cash - Cash EUR @", "; ")?;
-    let ending = if fault.is_some() { "unfinished" } else { "" };
+    let ending = if ends.faults.is_empty() { "" } else { "unfinished" };
     let expected = document_of(alloc, facts.as_str(), ending)?;
     let ways = [(8, 1), (1, 1), (8, 1_024), (64, 4)];
     other_way(
@@ -294,15 +287,17 @@ fn other_way_of_tables(
         files.as_slice(),
         ways.as_slice(),
         expected.as_str(),
-        fault,
+        ends,
     )
 }
 
 #[test]
 fn sixty_four_tables(rt: HostRuntime) -> Result<(), Fail> {
     let (before, _) = ORDER.split_once(" 41 ").ok_or("no 41")?;
-    for (second, numbers, fault) in [("", ORDER, None), ("x\n", before, bad_number(PLACE, 2))] {
-        let other = other_way_of_tables(&rt, second, numbers, fault)?;
+    let faults = [bad_number(PLACE, 2)];
+    let ends = refused(faults.as_slice());
+    for (second, numbers, ends) in [("", ORDER, WHOLE), ("x\n", before, ends)] {
+        let other = other_way_of_tables(&rt, second, numbers, ends)?;
         assert_eq!(rt; other, None, "where table 40 has {second}");
     }
     Ok(())
@@ -341,7 +336,7 @@ fn other_way_of_full_tables(
     let facts = facts_of_rows(alloc, rows.as_str())?;
     let expected = document_of(alloc, facts.as_str(), "")?;
     let files = files.as_slice();
-    other_way(rt, &report, files, ways, expected.as_str(), None)
+    other_way(rt, &report, files, ways, expected.as_str(), WHOLE)
 }
 
 #[test]
@@ -366,7 +361,7 @@ fn other_way_of_text(
     let facts = format!(in alloc; "t1.r_1.note - Note - {}", text.as_str())?;
     let expected = document_of(alloc, facts.as_str(), "")?;
     let report = report_of(alloc, &[])?;
-    other_way_of_one(rt, &report, file, &[(2, 1)], expected.as_str(), None)
+    other_way_of_one(rt, &report, file, &[(2, 1)], expected.as_str(), WHOLE)
 }
 
 #[test]
@@ -415,7 +410,7 @@ fn other_way_of_columns(
     let facts = facts_of_columns(alloc, numbers.as_str())?;
     let expected = document_of(alloc, facts.as_str(), "")?;
     let file = file_of_columns(alloc, numbers.as_str())?;
-    other_way_of_one(rt, &report, file, ways, expected.as_str(), None)
+    other_way_of_one(rt, &report, file, ways, expected.as_str(), WHOLE)
 }
 
 #[test]

@@ -3,11 +3,11 @@
 
 use crate::tests::{Edits, HEAD, THREE, document_of};
 use crate::tests_cells::report_of;
-use crate::tests_threads::{converts_alone, end_of, file_of, readers_of};
+use crate::tests_ends::{Ends, WHOLE, is_run_so, refused};
+use crate::tests_threads::{converts_alone, ends_so, file_of, readers_of};
 use crate::tests_writers::Narrow;
 use oim_convert::{Claims, convert_with_starts};
 use oim_json::{Marked, WriteFault};
-use oim_merge::MergeEnd;
 use oim_meta::{Limits, Report};
 use oim_rows::{TableFault, TableKind};
 use std::alloc::{AllocError, Global};
@@ -20,19 +20,33 @@ use std::thread::Threads;
 
 const NO_TABLES: Edits<'static> = &[(r#"{"t1":{"url":"t1.csv","template":"p"}}"#, "{}")];
 
-const BAD_NUMBER: TableFault = TableFault {
-    table: 1,
-    row: 2,
-    column: 1,
-    kind: TableKind::BadNumber,
-};
+/// The faults of three tables, the second of which is refused, and the third too.
+const REFUSED: [TableFault; 2] = [
+    TableFault {
+        table: 1,
+        row: 2,
+        column: 1,
+        kind: TableKind::BadNumber,
+    },
+    TableFault {
+        table: 2,
+        row: 0,
+        column: 1,
+        kind: TableKind::UnknownHeader,
+    },
+];
 
-const NO_THREAD: TableFault = TableFault {
-    table: 0,
-    row: 0,
-    column: 0,
-    kind: TableKind::NoThread,
-};
+/// The faults of three tables for which no thread is there.
+const NO_THREADS: [TableFault; 3] = [no_thread(0), no_thread(1), no_thread(2)];
+
+const fn no_thread(table: usize) -> TableFault {
+    TableFault {
+        table,
+        row: 0,
+        column: 0,
+        kind: TableKind::NoThread,
+    }
+}
 
 /// The files of a report of three tables, the second of which is refused, and the third too.
 const FILES: &[&[u8]] = &[b"cash\n5\n", b"cash\n1\nx\n", b"nope\n1\n"];
@@ -40,17 +54,18 @@ const FILES: &[&[u8]] = &[b"cash\n5\n", b"cash\n1\nx\n", b"nope\n1\n"];
 /// How many workers there are, and how many of them are started.
 type Crew = (usize, usize);
 
-/// How a conversion by such a crew ends, behind what it writes.
+/// Whether a conversion by such a crew ends so, behind what it writes.
 fn started_end(
     rt: &(impl AllocGlobal + Threads + Wait + Sync),
     report: &Report,
     readers: Vec<Option<&[u8]>>,
     crew: Crew,
     document: &mut Vec<u8>,
-) -> Option<MergeEnd> {
+    ends: Ends<'_>,
+) -> bool {
     let sink = &mut Marked::new(document);
     let limits = Limits::profile();
-    match convert_with_starts(
+    let answer = convert_with_starts(
         rt,
         rt.alloc(),
         report,
@@ -60,10 +75,8 @@ fn started_end(
         1024,
         limits,
         sink,
-    ) {
-        Ok(run) => Some(run.end),
-        Err(_) => None,
-    }
+    );
+    is_run_so(&answer, ends)
 }
 
 /// Whether a conversion of these files by such a crew ends so, with this document.
@@ -73,12 +86,12 @@ fn ends(
     files: &[&[u8]],
     crew: Crew,
     expected: &str,
-    end: MergeEnd,
+    so: Ends<'_>,
 ) -> Result<bool, AllocError> {
     let readers = readers_of(rt.alloc(), files)?;
     let mut document = Vec::new(rt.alloc());
-    let ended = started_end(rt, report, readers, crew, &mut document);
-    Ok(ended == Some(end) && document.as_slice() == expected.as_bytes())
+    let is_ended = started_end(rt, report, readers, crew, &mut document, so);
+    Ok(is_ended && document.as_slice() == expected.as_bytes())
 }
 
 /// Whether three tables, the second of which is refused, end so by such a crew.
@@ -87,8 +100,7 @@ fn is_refused(rt: &(impl AllocGlobal + Threads + Wait + Sync), crew: Crew) -> Re
     let report = report_of(alloc, THREE)?;
     let facts = "t1.r_1.cash - Cash EUR 5; t2.r_1.cash - Cash EUR 1";
     let expected = document_of(alloc, facts, "BadNumber")?;
-    let end = MergeEnd::Refused(BAD_NUMBER);
-    Ok(ends(rt, &report, FILES, crew, expected.as_str(), end)?)
+    Ok(ends(rt, &report, FILES, crew, expected.as_str(), refused(&REFUSED))?)
 }
 
 #[test]
@@ -108,19 +120,19 @@ fn ends_unstarted(
     edits: Edits<'_>,
     files: &[&[u8]],
     expected: &str,
-    end: MergeEnd,
+    so: Ends<'_>,
 ) -> Result<bool, Fail> {
     let report = report_of(rt.alloc(), edits)?;
-    Ok(ends(rt, &report, files, (8, 0), expected, end)?)
+    Ok(ends(rt, &report, files, (8, 0), expected, so)?)
 }
 
 #[test]
 fn no_started_worker_is_no_thread(rt: HostRuntime) -> Result<(), Fail> {
     let one = [b"cash,note\n100,first\n".as_slice()];
     for (edits, files) in [(THREE, FILES), ([].as_slice(), one.as_slice())] {
-        let end = MergeEnd::Refused(NO_THREAD);
-        let refused = ends_unstarted(&rt, edits, files, HEAD, end)?;
-        assert!(rt; refused, "of {} tables", files.len());
+        let so = refused(&NO_THREADS[..files.len().min(3)]);
+        let is_refused = ends_unstarted(&rt, edits, files, HEAD, so)?;
+        assert!(rt; is_refused, "of {} tables", files.len());
     }
     Ok(())
 }
@@ -133,7 +145,7 @@ fn is_whole_unstarted(rt: &(impl AllocGlobal + Threads + Wait + Sync)) -> Result
         NO_TABLES,
         [].as_slice(),
         expected.as_str(),
-        MergeEnd::Complete,
+        WHOLE,
     )
 }
 
@@ -213,8 +225,11 @@ fn fails_behind(
     let ended = AtomicUsize::new(0);
     let readers = ending_readers(rt.alloc(), 3, bytes, &ended)?;
     let mut narrow = Narrow::new(rt.alloc(), expected.len(), true);
-    let end = end_of(rt, report, readers, 3, 1, &mut narrow);
-    let is_failed = end == Some(MergeEnd::Write(WriteFault::Failed));
+    let so = Ends {
+        faults: &[],
+        write: Some(WriteFault::Failed),
+    };
+    let is_failed = ends_so(rt, report, readers, 3, 1, &mut narrow, so);
     let are_ended = ended.load(Ordering::SeqCst) == 3;
     Ok(is_failed && are_ended && narrow.taken.as_slice() == expected)
 }

@@ -3,9 +3,9 @@
 
 use crate::tests::{THREE, document_of};
 use crate::tests_cells::report_of;
-use crate::tests_threads::{end_of, readers_of};
+use crate::tests_ends::Ends;
+use crate::tests_threads::{ends_so, readers_of};
 use oim_json::WriteFault;
-use oim_merge::MergeEnd;
 use oim_meta::Report;
 use oim_rows::{TableFault, TableKind};
 use std::alloc::{AllocError, Global};
@@ -58,26 +58,37 @@ impl Write for Narrow {
 /// Three tables, the second of which is refused, and the third too.
 const FILES: &[&[u8]] = &[b"cash\n5\n", b"cash\n1\nx\n", b"nope\n1\n"];
 
-const BAD_NUMBER: TableFault = TableFault {
-    table: 1,
-    row: 2,
-    column: 1,
-    kind: TableKind::BadNumber,
-};
+/// Their faults.
+const REFUSED: [TableFault; 2] = [
+    TableFault {
+        table: 1,
+        row: 2,
+        column: 1,
+        kind: TableKind::BadNumber,
+    },
+    TableFault {
+        table: 2,
+        row: 0,
+        column: 1,
+        kind: TableKind::UnknownHeader,
+    },
+];
 
 /// How many workers there are, the size of the rings, and whether the writer fails or answers 0.
 type Way = (usize, usize, bool);
 
-/// How a conversion to a writer of so much room ends, of a document of so many bytes.
-fn wanted(room: usize, whole: usize, fails: bool) -> MergeEnd {
-    if room >= whole {
-        return MergeEnd::Refused(BAD_NUMBER);
-    }
-    MergeEnd::Write(if fails {
+/// How a conversion to a writer with this much room ends, where the document has `whole` bytes. Every
+/// refused table is answered, whether a write fails or not.
+fn wanted(room: usize, whole: usize, fails: bool) -> Ends<'static> {
+    let fault = if fails {
         WriteFault::Failed
     } else {
         WriteFault::Zero
-    })
+    };
+    Ends {
+        faults: &REFUSED,
+        write: if room >= whole { None } else { Some(fault) },
+    }
 }
 
 /// Whether a conversion writes just what there is room for of this document, and ends so.
@@ -90,8 +101,8 @@ fn fills(
 ) -> Result<bool, AllocError> {
     let readers = readers_of(rt.alloc(), FILES)?;
     let mut narrow = Narrow::new(rt.alloc(), room, way.2);
-    let end = end_of(rt, report, readers, way.0, way.1, &mut narrow);
-    let is_ended = end == Some(wanted(room, whole.len(), way.2));
+    let so = wanted(room, whole.len(), way.2);
+    let is_ended = ends_so(rt, report, readers, way.0, way.1, &mut narrow, so);
     Ok(is_ended && whole.get(..room) == Some(narrow.taken.as_slice()))
 }
 
