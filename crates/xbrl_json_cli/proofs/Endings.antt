@@ -2,18 +2,15 @@
 use Rattle.std.specs.Prelude.{◌≡◌, ◌⊎◌, Bool, true, false, if◌then◌else◌, ℕ, suc, List, [], ◌∷◌, ◌++◌, map, take, ◌+◌, ◌<◌, Option, Some, None, IfOk, IfSome, Result, Ok, Err, length, slice_index_or}
 use Rattle.std.proofs.Common.{refl, sym, ap, subst, ◌∙◌, inl, inr}
 use Rattle.std.proofs.lemmas.List.{length-append, map_more}
-use Rattle.std.proofs.Math.ListN.{get_or-map}
 use Rattle.std.specs.Io.KnownBytes.{Keeps}
-use Rattle.oim_convert.specs.Answer.{streams}
+use Rattle.oim_convert.specs.Answer.{IsAnswer, streams}
 use Rattle.oim_convert.specs.Files.{AreFilesOf, IsFileOf}
-use Rattle.oim_convert.specs.Runs.{AnswersFault, AreHistories, Writes, early_fault}
-use Rattle.oim_convert.specs.Steps.{SinkView}
+use Rattle.oim_convert.specs.Runs.{AnswersFault, AreHistories, AreStreams, AreUncut, Writes, early_fault}
 use Rattle.oim_convert.specs.declared.fault.ConvertFault.{ConvertFault}
 use Rattle.oim_convert.specs.declared.fault.ConvertFault.TheVariants as fault
 use Rattle.oim_convert.specs.declared.run.Run.{Run}
-use Rattle.oim_merge.specs.declared.progress.MergeEnd.{MergeEnd}
-use Rattle.oim_merge.specs.declared.progress.MergeEnd.TheVariants as end
-use Rattle.oim_meta.specs.Readers.{no_table, table_of}
+use Rattle.oim_json.specs.Sinks.{SinkView, Unwritten}
+use Rattle.oim_meta.specs.Readers.{no_table}
 use Rattle.oim_meta.specs.ReportValue.{ReportValue}
 use Rattle.oim_meta.specs.declared.data.Table.{Table}
 use Rattle.oim_meta.specs.declared.fault.MetaFault.{MetaFault}
@@ -23,7 +20,8 @@ use Rattle.xbrl_json_cli.proofs.StepFacts.{IsReport}
 use Rattle.oim_json.specs.declared.mark.Mark.TheVariants as «marks»
 use Rattle.xbrl_json_cli.specs.Conversion.{Buffered, ConvertedTexts, Ends, SaysWith, Texts, flushed, profile}
 use Rattle.xbrl_json_cli.specs.Folders.{Files, IsFolderOf}
-use Rattle.xbrl_json_cli.specs.Outcomes.{EndsAs, Leaves, Unwritten, name_in, outcome_at, outcome_by, table_ids}
+use Rattle.xbrl_json_cli.specs.Naming.{outcome_by}
+use Rattle.xbrl_json_cli.specs.Outcomes.{EndsAs, Leaves, table_ids}
 use Rattle.xbrl_json_cli.specs.Runs.{EndsOver, range_fault, table_file, table_files}
 use Rattle.xbrl_json_cli.specs.Steps.{IsEarly, no_memory, report_at, steps}
 use Rattle.xbrl_json_cli.specs.declared.outcome.Outcome.{Outcome}
@@ -42,34 +40,22 @@ keeps_same : (a : Option (List ℕ)) → Keeps a a
 keeps_same None = tt
 keeps_same (Some xs) = refl
 
--- the outcome by the kept names is that by the report
-named_at : (report : ReportValue) (names : List (List ℕ)) (e : MergeEnd) → names ≡ table_ids report
-    → outcome_at (name_in names) e ≡ outcome_at (λ i. (table_of report i).id) e
-named_at report names end.Complete is = refl
-named_at report names (end.Refused e) is =
-    ap (λ id. outcome.Table id e) (ap (λ ns. name_in ns e.table) is ∙ get_or-map (λ (t : Table). t.id) report.tables e.table no_table)
-named_at report names (end.Write w) is = refl
-
-named_so : (report : ReportValue) (names : List (List ℕ)) (r : Result Run ConvertFault) → names ≡ table_ids report
-    → outcome_by (name_in names) r ≡ outcome_by (λ i. (table_of report i).id) r
-named_so report names (Ok run) is = named_at report names run.end is
-named_so report names (Err f) is = refl
-
 -- a conversion that found no memory for the names
 pub no_memory_ends : (early : Option ConvertFault) (report : ReportValue) (ss : List Stream) (sink : SinkView) → EndsAs early report ss sink sink (outcome.Run fault.Memory)
 no_memory_ends None report ss sink = (refl, keeps_same sink.told)
 no_memory_ends (Some f) report ss sink = (inr refl, (refl, keeps_same sink.told))
 
 pub converted : (workers ring readers limit : ℕ) (report : ReportValue) (files : List (Option (List ℕ))) (old new : SinkView) (r : Result Run ConvertFault) (names : List (List ℕ)) (o : Outcome)
-    → names ≡ table_ids report → o ≡ outcome_by (name_in names) r → readers ≡ length files
+    → names ≡ table_ids report → o ≡ outcome_by names r → readers ≡ length files
     → IfOk r (λ run. AreHistories (streams report limit files) run.drains.items)
+    → IfOk r (λ run. AreUncut run.drains.items → AreStreams (streams report limit files) run.drains.items × IsAnswer report (streams report limit files) old new run.faults.items run.end)
     → AnswersFault (early_fault workers ring readers (length report.tables)) r
-    → Writes report (length report.tables) old.mark new.mark old.told new.told r
+    → Writes report (length report.tables) old new r
     → EndsAs (early_fault workers ring (length files) (length report.tables)) report (streams report limit files) old new o
-converted workers ring readers limit report files old new r names o named is many histories faults writes =
+converted workers ring readers limit report files old new r names o named is many histories headline faults writes =
     subst (λ n. EndsAs (early_fault workers ring n (length report.tables)) report (streams report limit files) old new o) many
-    (subst (EndsAs (early_fault workers ring readers (length report.tables)) report (streams report limit files) old new) (sym (is ∙ named_so report names r named))
-    (answered report (streams report limit files) old new (early_fault workers ring readers (length report.tables)) r (never_lost workers ring readers (length report.tables)) histories faults writes))
+    (subst (EndsAs (early_fault workers ring readers (length report.tables)) report (streams report limit files) old new) (sym is)
+    (answered report limit files old new names named (early_fault workers ring readers (length report.tables)) r (never_lost workers ring readers (length report.tables)) histories headline faults writes))
 
 -- of a report that texts say
 no_report : (early : Option ConvertFault) (report : ReportValue) (ss : List Stream) (old new : SinkView) (s : Source) (f : MetaFault) → EndsAs early report ss old new (outcome.Report s f) → ⊥
@@ -96,7 +82,7 @@ module _ (given : Texts) (old new : SinkView) (report : ReportValue) (says : Say
   ends (outcome.Report source.Report f) e = absurd (no_report found report said old new source.Report f e)
   ends (outcome.Report source.Types f) e = absurd (no_report found report said old new source.Types f e)
   ends (outcome.Report source.Parameters f) e = absurd (no_report found report said old new source.Parameters f e)
-  ends (outcome.Table id f) e = all_texts (outcome.Table id f) e
+  ends (outcome.Tables named) e = all_texts (outcome.Tables named) e
   ends (outcome.CannotRead p) e = all_texts (outcome.CannotRead p) e
   ends (outcome.CannotWrite p) e = all_texts (outcome.CannotWrite p) e
   ends (outcome.Output w) e = all_texts (outcome.Output w) e
@@ -105,7 +91,7 @@ module _ (given : Texts) (old new : SinkView) (report : ReportValue) (says : Say
   ends (outcome.Run fault.BadSize) e = all_texts (outcome.Run fault.BadSize) e
   ends (outcome.Run fault.WrongReaders) e = all_texts (outcome.Run fault.WrongReaders) e
   ends (outcome.Run fault.Lost) e = all_texts (outcome.Run fault.Lost) e
-  ends (outcome.Run (fault.Table t)) e = all_texts (outcome.Run (fault.Table t)) e
+  ends (outcome.Run (fault.Tables t)) e = all_texts (outcome.Run (fault.Tables t)) e
   ends (outcome.Run (fault.Write w)) e = all_texts (outcome.Run (fault.Write w)) e
 
 -- of a report whose tables each have a file, or none
@@ -154,7 +140,7 @@ stops (Some files) base meta types workers ring sink o folder stop =
 pub early_leaves : (range : Option ConvertFault) (sink : SinkView) (o : Outcome) → IsEarly o → Leaves range sink sink o
 early_leaves range sink outcome.Done early = absurd early
 early_leaves range sink (outcome.Report s f) early = (refl, keeps_same sink.told)
-early_leaves range sink (outcome.Table id f) early = absurd early
+early_leaves range sink (outcome.Tables named) early = absurd early
 early_leaves range sink (outcome.CannotRead path) early = (refl, keeps_same sink.told)
 early_leaves range sink (outcome.CannotWrite path) early = absurd early
 early_leaves range sink (outcome.Run f) early = inl (early, (refl, keeps_same sink.told))
@@ -201,12 +187,12 @@ short (Some files) base meta types workers ring sink o report folder is none =
 
 -- what every outcome leaves
 pub converted_leaves : (workers ring readers : ℕ) (report : ReportValue) (old new : SinkView) (r : Result Run ConvertFault) (names : List (List ℕ)) (o : Outcome)
-    → o ≡ outcome_by (name_in names) r → AnswersFault (early_fault workers ring readers (length report.tables)) r
-    → Writes report (length report.tables) old.mark new.mark old.told new.told r
+    → o ≡ outcome_by names r → AnswersFault (early_fault workers ring readers (length report.tables)) r
+    → Writes report (length report.tables) old new r
     → Leaves (early_fault workers ring readers (length report.tables)) old new o
 converted_leaves workers ring readers report old new r names o is faults writes =
     let early = early_fault workers ring readers (length report.tables) in
-    subst (Leaves early old new) (sym is) (left report (length report.tables) old new (name_in names) early r (never_lost workers ring readers (length report.tables)) faults writes)
+    subst (Leaves early old new) (sym is) (left report (length report.tables) old new names early r (never_lost workers ring readers (length report.tables)) faults writes)
 
 pub short_leaves : (range : Option ConvertFault) (sink : SinkView) (o : Outcome) → o ≡ no_memory → Leaves range sink sink o
 short_leaves range sink o none = subst (Leaves range sink sink) (sym none) (inl (refl, (refl, keeps_same sink.told)))

@@ -1,5 +1,6 @@
 -- The definitions, executed on worked cases.
 use Rattle.std.proofs.Common.{◌≡◌, ◌++◌, ◌∷◌, [], ℕ, List, Option, Some, None, Err, false, codes, map, refl, take, if◌then◌else◌}
+use Rattle.std.specs.Fmt.{digits}
 use Rattle.std.specs.Str.{bytes_eq}
 use Rattle.clap.proofs.OnLiterals.{clap_on_literals}
 use Rattle.clap.specs.Words.{Row, Text, fault_of, first_of, matches_of, one_of}
@@ -12,12 +13,14 @@ use Rattle.oim_meta.specs.ReportValue.{ReportValue}
 use Rattle.oim_meta.specs.declared.data.Table.{Table}
 use Rattle.oim_meta.specs.declared.fault.MetaFault.TheVariants as refused
 use Rattle.oim_rows.specs.Header.{fault_at}
+use Rattle.oim_rows.specs.declared.fault.TableFault.{TableFault}
 use Rattle.oim_rows.specs.declared.fault.TableKind.TheVariants as table
 use Rattle.xbrl_json_cli.specs.CommandLine.{command_line}
 use Rattle.xbrl_json_cli.specs.Conversion.{flushed}
 use Rattle.xbrl_json_cli.specs.Folders.{Files}
-use Rattle.xbrl_json_cli.specs.Lines.{status_of}
-use Rattle.xbrl_json_cli.specs.Outcomes.{name_in, outcome_at, table_ids}
+use Rattle.xbrl_json_cli.specs.Lines.{line_of, status_of}
+use Rattle.xbrl_json_cli.specs.Naming.{outcome_at}
+use Rattle.xbrl_json_cli.specs.Outcomes.{refused_tables, table_ids}
 use Rattle.xbrl_json_cli.specs.Runs.{range_fault, table_files}
 use Rattle.xbrl_json_cli.specs.Steps.{metadata_steps, no_memory, opening, parameters_steps, reading, step}
 use Rattle.xbrl_json_cli.specs.declared.outcome.Source.TheVariants as source
@@ -131,11 +134,11 @@ report = record {
   types = [];
   level = no_level;
   templates = [];
-  tables = first ∷ record first { id = codes "t2"; url = codes "t2.csv" } ∷ [];
+  tables = first ∷ record first { id = codes "t2"; url = codes "t2.csv" } ∷ record first { id = codes "t3"; url = codes "t3.csv" } ∷ [];
   parameters = [];
 }
 
-files_of_the_tables : table_files held (codes "f/") report ≡ Some (codes "cash\n") ∷ None ∷ []
+files_of_the_tables : table_files held (codes "f/") report ≡ Some (codes "cash\n") ∷ None ∷ None ∷ []
 files_of_the_tables = refl
 
 -- ---- settings out of range
@@ -160,20 +163,37 @@ ring_past_the_largest = refl
 
 -- ---- outcomes
 
-complete : outcome_at (name_in (table_ids report)) end.Complete ≡ outcome.Done
+abbrev bad_number : TableFault
+bad_number = fault_at 1 2 1 table.BadNumber
+
+abbrev unknown_header : TableFault
+unknown_header = fault_at 2 0 1 table.UnknownHeader
+
+abbrev two_refused : List (List ℕ × TableFault)
+two_refused = (codes "t2", bad_number) ∷ (codes "t3", unknown_header) ∷ []
+
+refused_by_their_identifiers : refused_tables report (bad_number ∷ unknown_header ∷ []) ≡ two_refused
+refused_by_their_identifiers = refl
+
+complete : outcome_at (table_ids report) [] end.Complete ≡ outcome.Done
 complete = refl
 
-second_table : outcome_at (name_in (table_ids report)) (end.Refused (fault_at 1 2 1 table.BadNumber)) ≡ outcome.Table (codes "t2") (fault_at 1 2 1 table.BadNumber)
-second_table = refl
+ends_with_two_refused : outcome_at (table_ids report) (bad_number ∷ unknown_header ∷ []) end.Refused ≡ outcome.Tables two_refused
+ends_with_two_refused = refl
 
 failed_flush : flushed outcome.Done ≡ outcome.Output write.Failed
 failed_flush = refl
 
-failed_flush_of_a_table : flushed (outcome.Table (codes "t2") (fault_at 1 2 1 table.BadNumber)) ≡ outcome.Output write.Failed
-failed_flush_of_a_table = refl
+failed_flush_of_refused_tables : flushed (outcome.Tables two_refused) ≡ outcome.Output write.Failed
+failed_flush_of_refused_tables = refl
 
 failed_flush_of_nothing : flushed (outcome.CannotRead (codes "x.json")) ≡ outcome.CannotRead (codes "x.json")
 failed_flush_of_nothing = refl
 
-status_of_a_table : status_of (outcome.Table (codes "t2") (fault_at 1 2 1 table.BadNumber)) ≡ 1
-status_of_a_table = refl
+status_of_refused_tables : status_of (outcome.Tables two_refused) ≡ 1
+status_of_refused_tables = refl
+
+line_of_each_refused_table : line_of (outcome.Tables two_refused)
+    ≡ codes "xbrl-json: table t2, row 2, column 1: BadNumber (40)\nxbrl-json: table t3, row 0, column 1: UnknownHeader (23)\n"
+unfolding digits
+line_of_each_refused_table = refl

@@ -1,7 +1,7 @@
 mod CommandLine
 mod Endings
 mod FolderFacts
-mod Histories
+mod Names
 mod Threads
 mod MetadataFacts
 mod StepFacts

@@ -9,13 +9,13 @@ use Rattle.oim_meta.specs.Types.{TypesValue}
 use Rattle.oim_meta.specs.TypesFile.{types_result}
 use Rattle.oim_meta.specs.declared.fault.MetaFault.{MetaFault}
 use Rattle.oim_meta.specs.declared.limits.Limits.{Limits}
+use Rattle.oim_json.specs.Sinks.{SinkView, Unwritten}
 use Rattle.oim_json.specs.declared.mark.Mark.TheVariants as «marks»
 use Rattle.oim_json.specs.declared.mark.WriteFault.TheVariants as write
 use Rattle.oim_convert.specs.Answer.{streams}
 use Rattle.oim_convert.specs.Runs.{early_fault}
-use Rattle.oim_convert.specs.Steps.{SinkView}
 use Rattle.oim_convert.specs.declared.fault.ConvertFault.TheVariants as fault
-use Rattle.xbrl_json_cli.specs.Outcomes.{EndsAs, Unwritten}
+use Rattle.xbrl_json_cli.specs.Outcomes.{EndsAs}
 use Rattle.xbrl_json_cli.specs.declared.outcome.Outcome.{Outcome}
 use Rattle.xbrl_json_cli.specs.declared.outcome.Outcome.TheVariants as outcome
 use Rattle.xbrl_json_cli.specs.declared.outcome.Source.TheVariants as source
@@ -76,7 +76,7 @@ Ends given old new o = ConvertedTexts given old new o
 -- a flush that failed is a failed write, where something was written before it
 abbrev pub flushed : Outcome → Outcome
 flushed outcome.Done = outcome.Output write.Failed
-flushed (outcome.Table id f) = outcome.Output write.Failed
+flushed (outcome.Tables named) = outcome.Output write.Failed
 flushed o = o
 
 -- a run to a writer behind a buffer: memory ran out for the buffer, or the run ended so behind the buffer, which was flushed then

@@ -3,6 +3,7 @@ pub mod Conversion
 pub mod Folders
 pub mod Lines
 pub mod Metadata
+pub mod Naming
 pub mod Outcomes
 pub mod Runs
 pub mod Steps

@@ -1,4 +1,4 @@
--- What the program says of each outcome: its exit status, and its line on standard error.
+-- What the program says of each outcome: its exit status, and its lines on standard error.
 use Rattle.std.specs.Prelude.{ℕ, List, [], ◌∷◌, ◌++◌, codes}
 use Rattle.std.specs.Fmt.{decimal}
 use Rattle.clap.specs.declared.error.kind.ErrorKind.{ErrorKind}
@@ -15,7 +15,7 @@ use Rattle.xbrl_json_cli.specs.declared.outcome.Source.TheVariants as source
 abbrev pub status_of : Outcome → ℕ
 status_of outcome.Done = 0
 status_of (outcome.Report s f) = 1
-status_of (outcome.Table id f) = 1
+status_of (outcome.Tables named) = 1
 status_of (outcome.CannotRead path) = 3
 status_of (outcome.CannotWrite path) = 3
 status_of (outcome.Run f) = 3
@@ -43,15 +43,20 @@ table_text id f =
     fault_text (codes "table " ++ (id ++ (codes ", row " ++ (decimal f.row ++ (codes ", column " ++ decimal f.column)))))
     (table_fault.name_of f.kind) (table_fault.number_of f.kind)
 
+-- the lines of refused tables, in order
+abbrev pub tables_text : List (List ℕ × TableFault) → List ℕ
+tables_text [] = []
+tables_text (named ∷ more) = table_text named.0 named.1 ++ tables_text more
+
 -- the line of a file that cannot be read or written
 abbrev pub path_text : List ℕ → List ℕ → List ℕ
 path_text what path = codes "xbrl-json: cannot " ++ (what ++ (codes " " ++ (path ++ 10 ∷ [])))
 
--- a finished document has no line
+-- a finished document has no line, and each refused table has one
 abbrev pub line_of : Outcome → List ℕ
 line_of outcome.Done = []
 line_of (outcome.Report s f) = fault_text (source_name s) (fault_name f) (fault_number f)
-line_of (outcome.Table id f) = table_text id f
+line_of (outcome.Tables named) = tables_text named
 line_of (outcome.CannotRead path) = path_text (codes "read") path
 line_of (outcome.CannotWrite path) = path_text (codes "write") path
 line_of (outcome.Run f) = fault_text (codes "run") (convert_fault.name_of f) (convert_fault.number_of f)

@@ -2,13 +2,13 @@
 use Rattle.std.specs.Prelude.{◌≡◌, ◌⊎◌, ℕ, List, ◌++◌, map, Option, Ok}
 use Rattle.oim_convert.specs.Answer.{streams}
 use Rattle.oim_convert.specs.Runs.{early_fault}
-use Rattle.oim_convert.specs.Steps.{SinkView}
 use Rattle.oim_convert.specs.declared.fault.ConvertFault.{ConvertFault}
+use Rattle.oim_json.specs.Sinks.{SinkView, Unwritten}
 use Rattle.oim_meta.specs.ReportValue.{ReportValue}
 use Rattle.oim_meta.specs.declared.data.Table.{Table}
 use Rattle.xbrl_json_cli.specs.Conversion.{profile}
 use Rattle.xbrl_json_cli.specs.Folders.{Files, IsFolderOf}
-use Rattle.xbrl_json_cli.specs.Outcomes.{EndsAs, Unwritten}
+use Rattle.xbrl_json_cli.specs.Outcomes.{EndsAs}
 use Rattle.xbrl_json_cli.specs.Steps.{Passes, Stops, report_at, steps}
 use Rattle.xbrl_json_cli.specs.declared.outcome.Outcome.{Outcome}
 

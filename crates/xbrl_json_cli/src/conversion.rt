@@ -1,13 +1,14 @@
 //! The conversion of a report, whose tables are given by readers, or all of whose files are given by
 //! their bytes.
 
-ghost use Rattle.std.specs.Prelude.{◌≡◌, ◌≤◌, ◌<◌, ℕ, List, [], ◌∷◌, Option, Some, None, IfOk, is_err, if◌then◌else◌, length};
+ghost use Rattle.std.specs.Prelude.{◌≡◌, ◌≤◌, ◌<◌, ℕ, List, [], ◌∷◌, Option, Some, None, IfOk, is_err, if◌then◌else◌, length, slice_set, vec_capacity};
 ghost use Rattle.oim_convert.specs.Answer.{streams};
 ghost use Rattle.oim_convert.specs.Files.{AreFilesOf};
 ghost use Rattle.oim_convert.specs.Runs.{early_fault};
-ghost use Rattle.oim_convert.specs.Steps.{sink_at};
+ghost use Rattle.oim_json.specs.Sinks.{sink_at};
+ghost use Rattle.xbrl_json_cli.specs.Naming.{outcome_by, with_names};
 ghost use Rattle.xbrl_json_cli.specs.Conversion.{Buffered, Ends, Reads, flushed, profile, texts};
-ghost use Rattle.xbrl_json_cli.specs.Outcomes.{EndsAs, Leaves, name_in, outcome_by, table_ids};
+ghost use Rattle.xbrl_json_cli.specs.Outcomes.{EndsAs, Leaves, name_in, table_ids};
 
 use crate::held::{METADATA, TABLE, TYPES};
 use crate::outcome::{Outcome, Source};
@@ -15,12 +16,13 @@ use oim_convert::{ConvertFault, Run, convert};
 use oim_json::{Marked, Sink, WriteFault};
 use oim_merge::MergeEnd;
 use oim_meta::{Limits, Parameters, Report, read_report, read_types};
-use oim_names::Text;
+use oim_names::{Items, Text};
+use oim_rows::TableFault;
 use std::alloc::{AllocError, Global};
-use std::io;
 use std::io::{BufWriter, Read, Write};
 use std::sync::Wait;
 use std::thread::Threads;
+use std::{io, mem};
 
 /// The report that a metadata says with the types of a types table, and with no parameters of a
 /// file. Else the outcome that names the fault of the types table, or of the metadata.
@@ -54,20 +56,48 @@ fn names_of(alloc: Global, report: &Report) -> Result<Vec<Text>, AllocError>
     Ok(names)
 }
 
-/// The name at a place, empty where the place is out of range.
-fn name_at(alloc: Global, names: Vec<Text>, place: usize) -> Text
-    ensures { result ≡ name_in names.items place }
+/// Takes the name at a place out of the names, empty where the place is out of range.
+fn take_name(alloc: Global, names: &mut [Text], place: usize) -> Text
+    ensures name { result ≡ name_in names.old place }
+    ensures left { names.new ≡ slice_set names.old place [] }
+{
+    let none = Text::new(String::new(alloc));
+    if place < names.len() {
+        mem::replace(&mut names[place], none)
+    } else {
+        none
+    }
+}
+
+/// The faults of refused tables, each behind the name at its table's place. They stand in `room`.
+fn named(
+    alloc: Global,
+    names: Vec<Text>,
+    faults: &[TableFault],
+    room: Vec<(Text, TableFault)>,
+) -> Items<(Text, TableFault)>
+    requires empty { room.items ≡ [] }
+    requires room { length faults.now ≤ vec_capacity room }
+    ensures { result ≡ with_names names.items faults.now }
 {
     let mut names = names;
-    if place < names.len() {
-        return names.swap_remove(place);
+    let mut list = room;
+    for fault in faults {
+        list.push_reserved((take_name(alloc, &mut names, fault.table), *fault));
     }
-    Text::new(String::new(alloc))
+    Items::from_vec(list)
 }
 
 /// The outcome of a conversion that answered so, where the tables have these names.
-fn ending(alloc: Global, names: Vec<Text>, answer: Result<Run, ConvertFault>) -> Outcome
-    ensures { result ≡ outcome_by (name_in names.items) answer }
+fn ending(
+    alloc: Global,
+    names: Vec<Text>,
+    room: Vec<(Text, TableFault)>,
+    answer: Result<Run, ConvertFault>,
+) -> Outcome
+    requires empty { room.items ≡ [] }
+    requires room { IfOk answer (λ run. length run.faults.items ≤ vec_capacity room) }
+    ensures { result ≡ outcome_by names.items answer }
 {
     let run = match answer {
         Ok(run) => run,
@@ -75,7 +105,7 @@ fn ending(alloc: Global, names: Vec<Text>, answer: Result<Run, ConvertFault>) ->
     };
     match run.end {
         MergeEnd::Complete => Outcome::Done,
-        MergeEnd::Refused(fault) => Outcome::Table(name_at(alloc, names, fault.table), fault),
+        MergeEnd::Refused => Outcome::Tables(named(alloc, names, run.faults.as_slice(), room)),
         MergeEnd::Write(fault) => Outcome::Output(fault),
     }
 }
@@ -84,7 +114,8 @@ fn ending(alloc: Global, names: Vec<Text>, answer: Result<Run, ConvertFault>) ->
 /// table without a file, by so many workers, over rings of this size. Writes its document in
 /// xBRL-JSON 1.0 to the sink, and answers how the conversion ended, which is the same for every
 /// number of workers, ring size and schedule, apart from failed reads and running out of memory or
-/// threads. The names that an outcome needs are made first. `limits.rows` is at most 4,294,967,294.
+/// threads. The names that an outcome needs, and the room for a list of refused tables, are made
+/// first; where memory is short for them it is Memory, with nothing written. `limits.rows` is at most 4,294,967,294.
 /// It waits for its workers.
 pub fn convert_report<R: Read + Drop + Send, T: Threads + Wait + Sync, W: Sink>(
     rt: &T,
@@ -105,8 +136,11 @@ pub fn convert_report<R: Read + Drop + Send, T: Threads + Wait + Sync, W: Sink>(
     let Ok(names) = names_of(alloc, report) else {
         return Outcome::Run(ConvertFault::Memory);
     };
+    let Ok(room) = Vec::with_capacity(alloc, report.tables()) else {
+        return Outcome::Run(ConvertFault::Memory);
+    };
     let answer = convert(rt, alloc, report, readers, workers, ring, limits, sink);
-    ending(alloc, names, answer)
+    ending(alloc, names, room, answer)
 }
 
 /// Converts a report, given by the bytes of its metadata and of its types table and by a reader of
@@ -163,12 +197,12 @@ pub fn convert_held<T: Threads + Wait + Sync, W: Sink>(
 }
 
 /// The outcome after the flush of what was written. A flush that fails is a failed write, after a
-/// whole document and after the unfinished document of a refused table.
+/// whole document and after the unfinished document of refused tables.
 pub fn after_flush(outcome: Outcome, flush: io::Result<()>) -> Outcome
     ensures { result ≡ (if is_err flush then flushed outcome else outcome) }
 {
     match (outcome, flush) {
-        (Outcome::Done | Outcome::Table(_, _), Err(_)) => Outcome::Output(WriteFault::Failed),
+        (Outcome::Done | Outcome::Tables(_), Err(_)) => Outcome::Output(WriteFault::Failed),
         (outcome, _) => outcome,
     }
 }

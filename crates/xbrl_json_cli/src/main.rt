@@ -11,12 +11,13 @@
 //! - `run`, over any folder that tells its bytes honestly, ends as the folder's files say: by the
 //!   first fault of the metadata, the types table and the parameters file, in the order in which
 //!   they are read, and then nothing is written; else as the conversion of the report that they
-//!   give, with just the document or the unfinished document written that this conversion gives, for
-//!   every number of workers, every size of the rings and every schedule of the threads;
+//!   give: the whole document, or every refused table in table order, each by its identifier with its
+//!   first fault, and the unfinished document up to and with the first of them, for every number of
+//!   workers, every size of the rings and every schedule of the threads;
 //! - `convert_texts` says the same of a report whose files are given by their bytes, and
 //!   `convert_held` of the held texts;
-//! - `status` and `line` are the exit status and the line on standard error of each outcome, and a
-//!   flush that fails after a document, whole or unfinished, is a failed write.
+//! - `status` and `line` are the exit status and the lines on standard error of each outcome, one
+//!   line for each refused table, and a flush that fails after a document, whole or unfinished, is a failed write.
 //!
 //! What the system's files hold, what its output takes, and what it says of the arguments, is not
 //! claimed.
@@ -74,7 +75,7 @@ use std::process::ExitCode;
 use std::sync::Wait;
 use std::thread::Threads;
 
-/// The status of an outcome, whose line is printed. What cannot be printed is left out.
+/// The status of an outcome, whose lines are printed. What cannot be printed is left out.
 fn told<H: Eprint>(rt: &H, alloc: Global, outcome: &Outcome) -> u8
     ensures { result ≡ status_of outcome.now }
 {

@@ -1,12 +1,12 @@
-//! How a run ended, with its exit status and its line on standard error.
+//! How a run ended, with its exit status and its lines on standard error.
 
 ghost use Rattle.std.specs.Prelude.{◌≡◌, IfOk, string_bytes};
-ghost use Rattle.xbrl_json_cli.specs.Lines.{fault_text, line_of, path_text, source_name, status_of, table_text};
+ghost use Rattle.xbrl_json_cli.specs.Lines.{fault_text, line_of, path_text, source_name, status_of, table_text, tables_text};
 
 use oim_convert::ConvertFault;
 use oim_json::WriteFault;
 use oim_meta::MetaFault;
-use oim_names::Text;
+use oim_names::{Items, Text};
 use oim_rows::TableFault;
 use std::alloc::{AllocError, Global};
 
@@ -41,8 +41,9 @@ pub enum Outcome {
     Done,
     /// The metadata, the parameters file or the types table has a fault; nothing is written.
     Report(Source, MetaFault),
-    /// A table has a fault; the document is unfinished. The text is the table's identifier.
-    Table(Text, TableFault),
+    /// Tables are refused; the document is unfinished. They stand in table order, each by its
+    /// identifier with its first fault.
+    Tables(Items<(Text, TableFault)>),
     /// The metadata, the types table or the parameters file, at this path, cannot be opened; nothing
     /// is written.
     CannotRead(Text),
@@ -62,7 +63,7 @@ pub fn status(outcome: &Outcome) -> u8
 {
     match outcome {
         Outcome::Done => 0,
-        Outcome::Report(_, _) | Outcome::Table(_, _) => 1,
+        Outcome::Report(_, _) | Outcome::Tables(_) => 1,
         Outcome::CannotRead(_) | Outcome::CannotWrite(_) | Outcome::Run(_) | Outcome::Output(_) => {
             3
         }
@@ -86,6 +87,18 @@ fn table_line(alloc: Global, id: &str, fault: &TableFault) -> Result<String, All
     fault_line(alloc, place.as_str(), fault.name(), fault.number())
 }
 
+/// The lines of refused tables, in order.
+fn table_lines(alloc: Global, named: &[(Text, TableFault)]) -> Result<String, AllocError>
+    ensures { IfOk result (λ s. string_bytes s ≡ tables_text named.now) }
+{
+    let mut lines = String::new(alloc);
+    for (id, fault) in named {
+        let line = table_line(alloc, id.as_str(), fault)?;
+        lines.push_str(line.as_str())?;
+    }
+    Ok(lines)
+}
+
 /// The line of a file that cannot be opened or made.
 fn path_line(alloc: Global, what: &str, path: &str) -> Result<String, AllocError>
     ensures { IfOk result (λ s. string_bytes s ≡ path_text what.now path.now) }
@@ -93,8 +106,8 @@ fn path_line(alloc: Global, what: &str, path: &str) -> Result<String, AllocError
     format!(in alloc; "xbrl-json: cannot {what} {path}\n")
 }
 
-/// The line on standard error, with its line feed; empty where the document is written. Fails where
-/// memory is short.
+/// The line on standard error, with its line feed; of refused tables one line each, in table order;
+/// empty where the document is written. Fails where memory is short.
 pub fn line(alloc: Global, outcome: &Outcome) -> Result<String, AllocError>
     ensures { IfOk result (λ s. string_bytes s ≡ line_of outcome.now) }
 {
@@ -103,7 +116,7 @@ pub fn line(alloc: Global, outcome: &Outcome) -> Result<String, AllocError>
         Outcome::Report(source, fault) => {
             fault_line(alloc, source.name(), fault.name(), fault.number())
         }
-        Outcome::Table(id, fault) => table_line(alloc, id.as_str(), fault),
+        Outcome::Tables(named) => table_lines(alloc, named.as_slice()),
         Outcome::CannotRead(path) => path_line(alloc, "read", path.as_str()),
         Outcome::CannotWrite(path) => path_line(alloc, "write", path.as_str()),
         Outcome::Run(fault) => fault_line(alloc, "run", fault.name(), fault.number()),

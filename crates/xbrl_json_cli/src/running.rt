@@ -2,7 +2,7 @@
 
 ghost use Rattle.std.specs.Prelude.{◌≡◌, IfSome, IfErr, IfOk, length};
 ghost use Rattle.oim_convert.specs.Files.{AreFilesOf};
-ghost use Rattle.oim_convert.specs.Steps.{sink_at};
+ghost use Rattle.oim_json.specs.Sinks.{sink_at};
 ghost use Rattle.xbrl_json_cli.specs.Outcomes.{Leaves};
 ghost use Rattle.xbrl_json_cli.specs.Runs.{EndsOver, range_fault, table_files};
 ghost use Rattle.xbrl_json_cli.specs.Steps as spec;
@@ -53,9 +53,9 @@ fn find_tables<R: Read + Drop, F: Folder<R>>(
 /// there is a missing file and no other fault. It is opened once a worker has drawn the table; where
 /// that is refused, the table's read fails.
 ///
-/// Done says that exactly the document of the files' bytes is written, Table that its first refused
-/// table was refused and the unfinished document is written, at every number of workers, ring size
-/// and schedule. Running out of memory or threads and failed reads show as Memory, NoThread and
+/// Done says that exactly the document of the files' bytes is written, Tables that these tables are
+/// refused, each by its first fault, in table order, and the unfinished document up to and with the
+/// first of them is written, at every number of workers, ring size and schedule. Running out of memory or threads and failed reads show as Memory, NoThread and
 /// Read, a failed read of the metadata, the types table or the parameters file as Report with its
 /// source. Run has BadWorkers exactly where no early fault came before, memory did not run out, and
 /// the workers are not 1 to 64, BadSize where they are and the ring's size is not 1 to 65,536; Lost

@@ -1,4 +1,4 @@
-use Rattle.oim_convert.specs.Steps.{sink_at}
+use Rattle.oim_json.specs.Sinks.{sink_at}
 use Rattle.xbrl_json_cli.proofs.Endings.{ends}
 use Rattle.xbrl_json_cli.specs.Conversion.{texts}
 use Rattle.xbrl_json_cli.proofs.conversion.convert_texts.Goals as goal

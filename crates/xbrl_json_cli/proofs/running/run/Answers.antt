@@ -1,6 +1,6 @@
 use Rattle.std.proofs.Common.{◌≡◌, ◌∙◌, subst, IfSome, List, ℕ, Option, Ok, Err, length}
 use Rattle.oim_convert.specs.Files.{AreFilesOf}
-use Rattle.oim_convert.specs.Steps.{SinkView, sink_at}
+use Rattle.oim_json.specs.Sinks.{SinkView, sink_at}
 use Rattle.oim_convert.specs.Answer.{streams}
 use Rattle.oim_convert.specs.Runs.{early_fault}
 use Rattle.xbrl_json_cli.specs.Conversion.{profile}

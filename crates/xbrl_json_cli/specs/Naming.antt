@@ -1,0 +1,25 @@
+-- The names of refused tables, taken out of a list of names one after the other.
+use Rattle.std.specs.Prelude.{ℕ, List, [], ◌∷◌, Result, Ok, Err, slice_set}
+use Rattle.oim_convert.specs.declared.fault.ConvertFault.{ConvertFault}
+use Rattle.oim_convert.specs.declared.run.Run.{Run}
+use Rattle.oim_merge.specs.declared.progress.MergeEnd.{MergeEnd}
+use Rattle.oim_merge.specs.declared.progress.MergeEnd.TheVariants as end
+use Rattle.oim_rows.specs.declared.fault.TableFault.{TableFault}
+use Rattle.xbrl_json_cli.specs.Outcomes.{name_in}
+use Rattle.xbrl_json_cli.specs.declared.outcome.Outcome.{Outcome}
+use Rattle.xbrl_json_cli.specs.declared.outcome.Outcome.TheVariants as outcome
+
+-- each fault behind the name at its table's place, which is taken out
+abbrev pub with_names : List (List ℕ) → List TableFault → List (List ℕ × TableFault)
+with_names names [] = []
+with_names names (e ∷ faults) = (name_in names e.table, e) ∷ with_names (slice_set names e.table []) faults
+
+-- the outcome of a conversion that answered so, where the tables have these names
+abbrev pub outcome_at : List (List ℕ) → List TableFault → MergeEnd → Outcome
+outcome_at names faults end.Complete = outcome.Done
+outcome_at names faults end.Refused = outcome.Tables (with_names names faults)
+outcome_at names faults (end.Write w) = outcome.Output w
+
+abbrev pub outcome_by : List (List ℕ) → Result Run ConvertFault → Outcome
+outcome_by names (Ok run) = outcome_at names run.faults.items run.end
+outcome_by names (Err f) = outcome.Run f
