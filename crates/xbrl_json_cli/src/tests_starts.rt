@@ -37,16 +37,26 @@ const REFUSED: [TableFault; 2] = [
 ];
 
 /// The faults of three tables for which no thread is there.
-const NO_THREADS: [TableFault; 3] = [no_thread(0), no_thread(1), no_thread(2)];
-
-const fn no_thread(table: usize) -> TableFault {
+const NO_THREADS: [TableFault; 3] = [
     TableFault {
-        table,
+        table: 0,
         row: 0,
         column: 0,
         kind: TableKind::NoThread,
-    }
-}
+    },
+    TableFault {
+        table: 1,
+        row: 0,
+        column: 0,
+        kind: TableKind::NoThread,
+    },
+    TableFault {
+        table: 2,
+        row: 0,
+        column: 0,
+        kind: TableKind::NoThread,
+    },
+];
 
 /// The files of a report of three tables, the second of which is refused, and the third too.
 const FILES: &[&[u8]] = &[b"cash\n5\n", b"cash\n1\nx\n", b"nope\n1\n"];
