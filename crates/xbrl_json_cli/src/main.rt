@@ -40,9 +40,15 @@ mod tests;
 #[cfg(test)]
 mod tests_cells;
 #[cfg(test)]
+mod tests_copies;
+#[cfg(test)]
+mod tests_ends;
+#[cfg(test)]
 mod tests_files;
 #[cfg(test)]
 mod tests_metadata;
+#[cfg(test)]
+mod tests_readers;
 #[cfg(test)]
 mod tests_reports;
 #[cfg(test)]
@@ -55,6 +61,8 @@ mod tests_sizes;
 mod tests_starts;
 #[cfg(test)]
 mod tests_threads;
+#[cfg(test)]
+mod tests_writers;
 
 use conversion::convert_to;
 use oim_convert::ConvertFault;

@@ -6,14 +6,14 @@ ghost use Rattle.std.specs.Prelude.{◌≤◌};
 use crate::conversion::{convert_held, convert_texts};
 use crate::held::{METADATA, TABLE, TYPES};
 use crate::outcome::{Outcome, line, status};
+use crate::tests_ends::{Ends, is_serial_so};
+use crate::tests_writers::Narrow;
 use oim_convert::{ConvertFault, convert_serial};
 use oim_json::{Marked, WriteFault};
 use oim_meta::{Limits, Parameters, Report, read_report, read_types};
-use oim_names::Text;
+use oim_names::{Items, Text};
 use oim_rows::{Rows, TableFault, TableKind};
 use std::alloc::{AllocError, Global};
-use std::io;
-use std::io::Write;
 use std::process::Abort;
 use std::sync::Wait;
 use std::test::Fail;
@@ -75,6 +75,23 @@ fn converted(
     Ok((document, line(alloc, &outcome)?))
 }
 
+/// The faults, each behind the identifier of its table.
+fn named(
+    alloc: Global,
+    report: &Report,
+    faults: &[TableFault],
+) -> Result<Items<(Text, TableFault)>, Fail> {
+    let mut named = Vec::new(alloc);
+    for fault in faults {
+        if fault.table >= report.tables() {
+            return Err(Fail::new("no such table"));
+        }
+        let name = Text::from_str(alloc, report.table_id(fault.table))?;
+        named.push((name, *fault))?;
+    }
+    Ok(Items::from_vec(named))
+}
+
 /// The outcome of a conversion on one thread that answered so.
 fn outcome_of(
     alloc: Global,
@@ -83,12 +100,8 @@ fn outcome_of(
 ) -> Result<Outcome, Fail> {
     match answer {
         Ok(()) => Ok(Outcome::Done),
-        Err(ConvertFault::Table(fault)) => {
-            if fault.table >= report.tables() {
-                return Err(Fail::new("no such table"));
-            }
-            let name = Text::from_str(alloc, report.table_id(fault.table))?;
-            Ok(Outcome::Table(name, fault))
+        Err(ConvertFault::Tables(faults)) => {
+            Ok(Outcome::Tables(named(alloc, report, faults.as_slice())?))
         }
         Err(ConvertFault::Write(fault)) => Ok(Outcome::Output(fault)),
         Err(fault) => Ok(Outcome::Run(fault)),
@@ -110,10 +123,11 @@ fn serial_line(
 }
 
 /// The report of a metadata, with the held types.
-fn report_from(alloc: Global, metadata: &str) -> Result<Report, Fail> {
+fn report_from(alloc: Global, metadata: &str) -> Result<Box<Report>, Fail> {
     let types = read_types(alloc, TYPES.as_bytes())?;
     let parameters = Parameters::none(alloc);
-    Ok(read_report(alloc, metadata.as_bytes(), parameters, types, &two_rows())?)
+    let report = read_report(alloc, metadata.as_bytes(), parameters, types, &two_rows())?;
+    Ok(Box::new(alloc, report)?)
 }
 
 /// The document and the line of a conversion on one thread.
@@ -178,11 +192,16 @@ pub(crate) fn document_of(alloc: Global, facts: &str, fault: &str) -> Result<Str
     Ok(document)
 }
 
-fn line_of(alloc: Global, fault: &str) -> Result<String, AllocError> {
-    if fault.is_empty() {
-        return Ok(String::new(alloc));
+/// The lines of faults, with `; ` between them.
+fn lines_of(alloc: Global, faults: &str) -> Result<String, AllocError> {
+    let mut lines = String::new(alloc);
+    for fault in faults.split("; ") {
+        if !fault.is_empty() {
+            let line = format!(in alloc; "xbrl-json: table {fault}\n")?;
+            lines.push_str(line.as_str())?;
+        }
     }
-    format!(in alloc; "xbrl-json: table {fault}\n")
+    Ok(lines)
 }
 
 /// Compares a document and a line with those that are expected.
@@ -228,7 +247,7 @@ fn check(
     let alloc = rt.alloc();
     let (facts, fault) = expected.split_once(" => ").ok_or("no fault")?;
     let metadata = edited(alloc, edits)?;
-    let said = line_of(alloc, fault)?;
+    let said = lines_of(alloc, fault)?;
     let document = document_of(alloc, facts, fault)?;
     check_both(
         rt,
@@ -350,7 +369,7 @@ fn tables_of_a_report(rt: HostRuntime) -> Result<(), Fail> {
             Some(b"cash\n1\nx\n".as_slice()),
             Some(b"nope\n1\n".as_slice()),
         ],
-        "t1.r_1.cash - Cash EUR 5; t2.r_1.cash - Cash EUR 1 => t2, row 2, column 1: BadNumber (40)",
+        "t1.r_1.cash - Cash EUR 5; t2.r_1.cash - Cash EUR 1 => t2, row 2, column 1: BadNumber (40); t3, row 0, column 1: UnknownHeader (23)",
     )?;
     check(
         &rt,
@@ -626,34 +645,6 @@ fn the_address_of_a_report(rt: HostRuntime) -> Result<(), Fail> {
     )
 }
 
-/// A writer that takes at most `most` bytes a call, and once `room` bytes are out no more: it fails
-/// then, or answers 0.
-#[derive(Drop)]
-struct Narrow {
-    taken: Vec<u8>,
-    most: usize,
-    room: usize,
-    fails: bool,
-}
-
-impl Write for Narrow {
-    fn write(&mut self, bytes: &[u8]) -> io::Result<usize> {
-        if self.taken.len() >= self.room {
-            if self.fails {
-                return Err(io::Error::from(io::ErrorKind::Other));
-            }
-            return Ok(0);
-        }
-        let count = bytes.len().min(self.most).min(self.room - self.taken.len());
-        self.taken.extend_from_slice(&bytes[..count])?;
-        Ok(count)
-    }
-
-    fn flush(&mut self) -> io::Result<()> {
-        Ok(())
-    }
-}
-
 /// Writers, as the bytes of a call, the room, and whether they fail or answer 0 then, each with the
 /// fault of a write.
 const WRITERS: [(usize, usize, bool, Option<WriteFault>); 4] = [
@@ -696,15 +687,17 @@ fn narrow_writers(rt: HostRuntime) -> Result<(), Fail> {
     Ok(())
 }
 
-/// What the held report's conversion on one thread answers, behind what it writes.
+/// Whether the held report's conversion on one thread ends so, behind what it writes.
 fn serial_held(
     alloc: Global,
     report: &Report,
     narrow: &mut Narrow,
-) -> Result<Option<ConvertFault>, Fail> {
+    ends: Ends<'_>,
+) -> Result<bool, Fail> {
     let tables = readers(alloc, [Some(TABLE.as_bytes())].as_slice())?;
     let sink = &mut Marked::new(narrow);
-    Ok(convert_serial(alloc, report, tables, Limits::profile(), sink).err())
+    let answer = convert_serial(alloc, report, tables, Limits::profile(), sink);
+    Ok(is_serial_so(&answer, ends))
 }
 
 /// Whether it writes these bytes to such a writer, and answers this fault.
@@ -715,12 +708,12 @@ fn is_narrow(
     written: &[u8],
     fault: Option<WriteFault>,
 ) -> Result<bool, Fail> {
-    let answer = serial_held(alloc, report, narrow)?;
-    let wanted = match fault {
-        Some(fault) => Some(ConvertFault::Write(fault)),
-        None => None,
+    let ends = Ends {
+        faults: &[],
+        write: fault,
     };
-    Ok(answer == wanted && narrow.taken.as_slice() == written)
+    let is_ended = serial_held(alloc, report, narrow, ends)?;
+    Ok(is_ended && narrow.taken.as_slice() == written)
 }
 
 #[test]
@@ -801,7 +794,7 @@ fn other_numbers_of_readers(rt: HostRuntime) -> Result<(), Fail> {
             Limits::profile(),
             sink,
         );
-        assert_eq!(rt; answer.err(), Some(ConvertFault::WrongReaders));
+        assert!(rt; matches!(&answer, Err(ConvertFault::WrongReaders)));
         assert!(rt; document.is_empty());
     }
     Ok(())

@@ -41,7 +41,7 @@ fn wanted(alloc: Global, expected: &str) -> Result<String, Fail> {
     }
 }
 
-fn row_of(alloc: Global, cells: &[&str]) -> Result<Row, Fail> {
+pub(crate) fn row_of(alloc: Global, cells: &[&str]) -> Result<Row, Fail> {
     let mut texts = Vec::new(alloc);
     for cell in cells {
         texts.push(Text::from_str(alloc, cell)?)?;
@@ -69,16 +69,17 @@ fn both(
 }
 
 /// The held report with each text replaced.
-pub(crate) fn report_of(alloc: Global, edits: Edits<'_>) -> Result<Report, Fail> {
+pub(crate) fn report_of(alloc: Global, edits: Edits<'_>) -> Result<Box<Report>, Fail> {
     let metadata = edited(alloc, edits)?;
     let types = read_types(alloc, TYPES.as_bytes())?;
-    Ok(read_report(
+    let report = read_report(
         alloc,
         metadata.as_bytes(),
         Parameters::none(alloc),
         types,
         &Limits::profile(),
-    )?)
+    )?;
+    Ok(Box::new(alloc, report)?)
 }
 
 /// Whether both say what is expected of a cell.

@@ -1,3 +1,5 @@
+//! Parameters files and types tables, read and refused.
+
 use oim_cells::NumberKind;
 use oim_meta::{Kind, MetaFault, read_parameters, read_types};
 use std::test::*;
@@ -84,4 +86,33 @@ fn types_refused(rt: HostRuntime) {
     ] {
         assert_eq!(rt; types_fault(&rt, bytes), Some(MetaFault::BadTypes));
     }
+}
+
+/// A file with this header and so many records, in each of which `@` is its number.
+fn file_of(rt: &HostRuntime, header: &str, record: &str, records: u32) -> Result<String, Fail> {
+    let (front, back) = record.split_once('@').unwrap_or((record, ""));
+    let mut file = String::from_str(rt.alloc(), header)?;
+    for number in 0..records {
+        let line = format!(in rt.alloc(); "{front}{number}{back}")?;
+        file.push_str(line.as_str())?;
+    }
+    Ok(file)
+}
+
+#[test]
+fn the_most_parameters(rt: HostRuntime) -> Result<(), Fail> {
+    for (records, fault) in [(65_536, None), (65_537, Some(MetaFault::TooLarge))] {
+        let file = file_of(&rt, "name,value\n", "p@,1\n", records)?;
+        assert_eq!(rt; parameters_fault(&rt, file.as_bytes()), fault);
+    }
+    Ok(())
+}
+
+#[test]
+fn the_most_types(rt: HostRuntime) -> Result<(), Fail> {
+    for (records, fault) in [(1_048_576, None), (1_048_577, Some(MetaFault::TooLarge))] {
+        let file = file_of(&rt, "namespace,name,type\n", "u,p@,text\n", records)?;
+        assert_eq!(rt; types_fault(&rt, file.as_bytes()), fault);
+    }
+    Ok(())
 }

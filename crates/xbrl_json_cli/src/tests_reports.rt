@@ -7,7 +7,8 @@ use crate::running::run;
 use crate::settings::job;
 use crate::tests::{Edits, THREE, document_of, edited};
 use crate::tests_cells::report_of;
-use oim_convert::{ConvertFault, convert_serial};
+use crate::tests_ends::{Ends, is_serial_so, refused};
+use oim_convert::convert_serial;
 use oim_json::Marked;
 use oim_meta::{Limits, Report};
 use oim_rows::{TableFault, TableKind};
@@ -36,15 +37,17 @@ impl Read for Cut<'_> {
     }
 }
 
-/// What a conversion answers, behind what it writes.
+/// Whether a conversion ends so, behind what it writes.
 fn convert(
     alloc: Global,
     report: &Report,
     readers: Vec<Option<Cut<'_>>>,
     document: &mut Vec<u8>,
-) -> Option<ConvertFault> {
+    ends: Ends<'_>,
+) -> bool {
     let sink = &mut Marked::new(document);
-    convert_serial(alloc, report, readers, Limits::profile(), sink).err()
+    let answer = convert_serial(alloc, report, readers, Limits::profile(), sink);
+    is_serial_so(&answer, ends)
 }
 
 fn readers_of<'a>(alloc: Global, tables: &[Cut<'a>]) -> Result<Vec<Option<Cut<'a>>>, AllocError> {
@@ -55,18 +58,18 @@ fn readers_of<'a>(alloc: Global, tables: &[Cut<'a>]) -> Result<Vec<Option<Cut<'a
     Ok(readers)
 }
 
-/// Whether a conversion writes this document and answers this fault.
+/// Whether a conversion writes this document and ends so.
 fn ends(
     alloc: Global,
     report: &Report,
     tables: &[Cut<'_>],
     expected: &str,
-    fault: Option<ConvertFault>,
+    ends: Ends<'_>,
 ) -> Result<bool, Fail> {
     let readers = readers_of(alloc, tables)?;
     let mut document = Vec::new(alloc);
-    let answer = convert(alloc, report, readers, &mut document);
-    Ok(answer == fault && document.as_slice() == expected.as_bytes())
+    let is_ended = convert(alloc, report, readers, &mut document, ends);
+    Ok(is_ended && document.as_slice() == expected.as_bytes())
 }
 
 /// Whether a report's unfinished document has these facts, with `; ` between them, and it ends with
@@ -79,8 +82,8 @@ fn is_refused(
     fault: TableFault,
 ) -> Result<bool, Fail> {
     let expected = document_of(alloc, facts, "unfinished")?;
-    let fault = Some(ConvertFault::Table(fault));
-    ends(alloc, report, tables, expected.as_str(), fault)
+    let faults = [fault];
+    ends(alloc, report, tables, expected.as_str(), refused(faults.as_slice()))
 }
 
 fn failed_read(table: usize) -> TableFault {
@@ -97,19 +100,9 @@ const FIRST: &str = "t1.r_1.cash - Cash EUR 100; t1.r_1.note - Note - first";
 const BOTH: &str =
     "t1.r_1.cash - Cash EUR 100; t1.r_1.note - Note - first; t1.r_2.cash - Cash EUR 200; t1.r_2.note - Note - second";
 
-/// Where the held table's reader fails, and the facts of the rows that it gave whole.
-const CUTS: &[(usize, &str)] = &[
-    (0, ""),
-    (6, ""),
-    (9, ""),
-    (10, ""),
-    (15, ""),
-    (19, ""),
-    (20, FIRST),
-    (27, FIRST),
-    (30, FIRST),
-    (31, BOTH),
-];
+/// The facts of the rows that the held table's reader gave whole, where it failed at a place from the
+/// first number on and before the second.
+const CUTS: &[(usize, usize, &str)] = &[(0, 20, ""), (20, 31, FIRST), (31, 32, BOTH)];
 
 /// Whether the held report ends so where its reader fails at this place.
 fn is_cut(
@@ -127,9 +120,11 @@ fn is_cut(
 
 /// The first place where the held report ends otherwise, with so many bytes a call.
 fn other_cut(alloc: Global, report: &Report, step: usize) -> Result<Option<usize>, Fail> {
-    for (place, facts) in CUTS {
-        if !is_cut(alloc, report, *place, step, facts)? {
-            return Ok(Some(*place));
+    for (from, to, facts) in CUTS {
+        for place in *from..*to {
+            if !is_cut(alloc, report, place, step, facts)? {
+                return Ok(Some(place));
+            }
         }
     }
     Ok(None)

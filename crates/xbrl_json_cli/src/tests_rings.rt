@@ -1,12 +1,13 @@
 //! Rings and their merge, as they run: what a full and an empty ring answer, two threads over one
 //! ring, and a report of three tables, the second of which is refused.
 
-ghost use Rattle.std.specs.Prelude.{◌≡◌, ◌<◌, [], length, IfOk, IfSome};
+ghost use Rattle.std.specs.Prelude.{◌≡◌, ◌<◌, ◌≤◌, [], length, vec_capacity, IfOk, IfSome};
 
 use crate::tests::{THREE, document_of};
 use crate::tests_cells::report_of;
+use crate::tests_ends::{Ends, is_merged_so, refused};
 use oim_json::{Block, Marked, Sink, WriteFault, block_of, head};
-use oim_merge::{MergeEnd, merge};
+use oim_merge::merge;
 use oim_meta::{Limits, Report};
 use oim_names::{Items, Text};
 use oim_resolve::Fact;
@@ -30,6 +31,17 @@ const BAD_NUMBER: TableFault = TableFault {
     column: 1,
     kind: TableKind::BadNumber,
 };
+
+/// The faults of three tables, the second of which is refused, and the third too.
+const REFUSED: [TableFault; 2] = [
+    BAD_NUMBER,
+    TableFault {
+        table: 2,
+        row: 0,
+        column: 1,
+        kind: TableKind::UnknownHeader,
+    },
+];
 
 /// A block of one fact, which this number identifies.
 fn block(alloc: Global, number: u32) -> Result<Block, AllocError> {
@@ -327,42 +339,45 @@ fn are_empty(drains: &mut [Drain]) -> bool {
     true
 }
 
-/// The end of a merge of three drains, which leaves nothing in their rings.
+/// Whether a merge of three drains ends so, and leaves nothing in their rings.
 fn merge_three<W: Sink>(
     rt: &impl Wait,
     first: Drain,
     second: Drain,
     third: Drain,
+    room: Vec<TableFault>,
     head: &[u8],
     sink: &mut W,
-) -> Option<MergeEnd>
+    ends: Ends<'_>,
+) -> bool
     requires first { first.taken ≡ [] }
     requires second { second.taken ≡ [] }
     requires third { third.taken ≡ [] }
+    requires empty { room.items ≡ [] }
+    requires room { 3 ≤ vec_capacity room }
 {
+    let mut faults = room;
     let mut drains = [first, second, third];
-    let end = merge(rt, &mut drains, head, sink);
-    if are_empty(&mut drains) {
-        Some(end)
-    } else {
-        None
-    }
+    let end = merge(rt, &mut drains, head, &mut faults, sink);
+    are_empty(&mut drains) && is_merged_so(faults.as_slice(), end, ends)
 }
 
-/// The end of a merge of a report's three tables, whose second is refused, and third too.
+/// Whether a merge of a report's three tables, whose second is refused, and third too, ends so.
 fn merge_tables<W: Sink>(
     rt: &(impl Wait + AllocGlobal),
     report: &Report,
     head: &[u8],
     sink: &mut W,
-) -> Option<MergeEnd>
+    ends: Ends<'_>,
+) -> Option<bool>
     requires { length report.now.tables ≡ 3 }
 {
     let alloc = rt.alloc();
     let first = drain_of(alloc, report, 0, b"cash\n5\n".as_slice())?;
     let second = drain_of(alloc, report, 1, b"cash\n1\nx\n".as_slice())?;
     let third = drain_of(alloc, report, 2, b"nope\n1\n".as_slice())?;
-    merge_three(rt, first, second, third, head, sink)
+    let room = Vec::with_capacity(alloc, 3).ok()?;
+    Some(merge_three(rt, first, second, third, room, head, sink, ends))
 }
 
 /// Whether the merge of the report's tables writes this document.
@@ -371,8 +386,9 @@ fn writes(rt: &(impl Wait + AllocGlobal), report: &Report, head: &[u8], expected
         return false;
     }
     let mut document = Vec::new(rt.alloc());
-    let end = merge_tables(rt, report, head, &mut Marked::new(&mut document));
-    end == Some(MergeEnd::Refused(BAD_NUMBER)) && document.as_slice() == expected
+    let sink = &mut Marked::new(&mut document);
+    let is_ended = merge_tables(rt, report, head, sink, refused(&REFUSED));
+    is_ended == Some(true) && document.as_slice() == expected
 }
 
 /// Whether a merge writes the facts before the first bad cell, and no more.
@@ -416,8 +432,12 @@ fn fails(rt: &(impl Wait + AllocGlobal), report: &Report, head: &[u8]) -> bool {
         return false;
     }
     let mut writer = Failing { calls: 0 };
-    let end = merge_tables(rt, report, head, &mut Marked::new(&mut writer));
-    end == Some(MergeEnd::Write(WriteFault::Failed)) && writer.calls == 1
+    let ends = Ends {
+        faults: &REFUSED,
+        write: Some(WriteFault::Failed),
+    };
+    let is_ended = merge_tables(rt, report, head, &mut Marked::new(&mut writer), ends);
+    is_ended == Some(true) && writer.calls == 1
 }
 
 /// Whether a merge to a writer that fails calls it once, and takes all from the rings.

@@ -7,12 +7,12 @@ use crate::outcome::{Outcome, line, status};
 use crate::running::run;
 use crate::settings::{Settings, job};
 use crate::tests::{Edits, HEAD, THREE, document_of, edited};
+use crate::tests_sizes::{ORDER, of_each};
+use crate::tests_writers::Narrow;
 use oim_convert::ConvertFault;
 use oim_json::Marked;
 use oim_names::Text;
 use std::alloc::Global;
-use std::io;
-use std::io::Write;
 use std::sync::Wait;
 use std::test::Fail;
 use std::thread::Threads;
@@ -25,28 +25,6 @@ type File<'a> = (&'a str, &'a [u8]);
 
 /// A run's line and its status.
 type Said<'a> = (&'a str, u8);
-
-/// A writer that fails once `room` bytes are out.
-#[derive(Drop)]
-struct Short {
-    taken: Vec<u8>,
-    room: usize,
-}
-
-impl Write for Short {
-    fn write(&mut self, bytes: &[u8]) -> io::Result<usize> {
-        if self.taken.len() >= self.room {
-            return Err(io::Error::from(io::ErrorKind::Other));
-        }
-        let count = bytes.len().min(self.room - self.taken.len());
-        self.taken.extend_from_slice(&bytes[..count])?;
-        Ok(count)
-    }
-
-    fn flush(&mut self) -> io::Result<()> {
-        Ok(())
-    }
-}
 
 /// The settings of these words, with a blank between two.
 fn settings_of(alloc: Global, words: &str) -> Result<Settings, Fail> {
@@ -68,14 +46,14 @@ fn run_over(
     rt: &(impl AllocGlobal + Threads + Wait + Sync),
     settings: &Settings,
     files: &[File<'_>],
-    short: &mut Short,
+    narrow: &mut Narrow,
 ) -> Outcome {
     run(
         rt,
         rt.alloc(),
         settings,
         &mut Texts { files },
-        &mut Marked::new(short),
+        &mut Marked::new(narrow),
     )
 }
 
@@ -89,10 +67,9 @@ fn ends(
     written: &[u8],
     said: Said<'_>,
 ) -> Result<bool, Fail> {
-    let taken = Vec::new(rt.alloc());
-    let mut short = Short { taken, room };
-    let outcome = run_over(rt, settings, files, &mut short);
-    let is_written = short.taken.as_slice() == written;
+    let mut narrow = Narrow::new(rt.alloc(), room, true);
+    let outcome = run_over(rt, settings, files, &mut narrow);
+    let is_written = narrow.taken.as_slice() == written;
     let is_said = says(rt.alloc(), &outcome, said)?;
     Ok(is_written && is_said)
 }
@@ -185,12 +162,15 @@ fn is_refused(
     refuses(rt, metadata.as_str(), count, document, said)
 }
 
+/// What is said of three tables, the second of which is refused, and the third too.
+const BOTH: &str =
+    "xbrl-json: table t2, row 2, column 1: BadNumber (40)\nxbrl-json: table t3, row 0, column 1: UnknownHeader (23)\n";
+
 /// Whether the facts before a bad cell are written, and no more.
 fn stops_at_a_cell(rt: &(impl AllocGlobal + Threads + Wait + Sync)) -> Result<bool, Fail> {
     let facts = "t1.r_1.cash - Cash EUR 5; t2.r_1.cash - Cash EUR 1";
     let document = document_of(rt.alloc(), facts, "BadNumber")?;
-    let said = "xbrl-json: table t2, row 2, column 1: BadNumber (40)\n";
-    is_refused(rt, 5, document.as_str(), said)
+    is_refused(rt, 5, document.as_str(), BOTH)
 }
 
 #[test]
@@ -202,7 +182,7 @@ fn a_bad_cell(rt: HostRuntime) -> Result<(), Fail> {
 
 #[test]
 fn no_file_of_a_table(rt: HostRuntime) -> Result<(), Fail> {
-    let said = "xbrl-json: table t1, row 0, column 0: NoFile (20)\n";
+    let said = "xbrl-json: table t1, row 0, column 0: NoFile (20)\nxbrl-json: table t2, row 0, column 0: NoFile (20)\nxbrl-json: table t3, row 0, column 0: NoFile (20)\n";
     let refused = is_refused(&rt, 2, HEAD, said)?;
     assert!(rt; refused);
     Ok(())
@@ -226,7 +206,7 @@ fn is_refused_by(
         ("t2.csv", b"cash\n1\nx\n".as_slice()),
         ("t3.csv", b"nope\n1\n".as_slice()),
     ];
-    let said = ("xbrl-json: table t2, row 2, column 1: BadNumber (40)\n", 1);
+    let said = (BOTH, 1);
     ends(
         rt,
         &settings,
@@ -255,6 +235,41 @@ fn every_number_of_workers(rt: HostRuntime) -> Result<(), Fail> {
         let refused = is_refused_in_a_way(&rt, workers, ring)?;
         assert!(rt; refused, "by {workers} workers over rings of {ring}");
     }
+    Ok(())
+}
+
+/// Whether a run over this metadata of 64 tables, which have one file, writes this document.
+fn writes_tables(
+    rt: &(impl AllocGlobal + Threads + Wait + Sync),
+    metadata: &str,
+    document: &str,
+) -> Result<bool, Fail> {
+    let settings = settings_of(rt.alloc(), WORDS)?;
+    let files = [
+        ("m.json", metadata.as_bytes()),
+        ("t.csv", TYPES.as_bytes()),
+        ("t1.csv", b"cash\n7\n".as_slice()),
+    ];
+    let files = files.as_slice();
+    ends(rt, &settings, files, 65_536, document.as_bytes(), ("", 0))
+}
+
+/// Whether a run writes the document of 64 tables that have one file.
+fn writes_64_tables(rt: &(impl AllocGlobal + Threads + Wait + Sync)) -> Result<bool, Fail> {
+    let alloc = rt.alloc();
+    let table = r#""t@":{"url":"t1.csv","template":"p"}"#;
+    let tables = of_each(alloc, ORDER, table, ",")?;
+    let edit = (r#""t1":{"url":"t1.csv","template":"p"}"#, tables.as_str());
+    let metadata = edited(alloc, &[edit])?;
+    let facts = of_each(alloc, ORDER, "t@.r_1.cash - Cash EUR 7", "; ")?;
+    let document = document_of(alloc, facts.as_str(), "")?;
+    writes_tables(rt, metadata.as_str(), document.as_str())
+}
+
+#[test]
+fn a_run_over_64_tables(rt: HostRuntime) -> Result<(), Fail> {
+    let writes = writes_64_tables(&rt)?;
+    assert!(rt; writes);
     Ok(())
 }
 

@@ -3,9 +3,9 @@
 
 use crate::tests::document_of;
 use crate::tests_cells::report_of;
-use oim_convert::{ConvertFault, convert, convert_serial};
+use crate::tests_ends::{Ends, WHOLE, is_run_so, is_serial_so, refused};
+use oim_convert::{convert, convert_serial};
 use oim_json::Marked;
-use oim_merge::MergeEnd;
 use oim_meta::{Limits, Report};
 use oim_rows::{TableFault, TableKind};
 use std::alloc::{AllocError, Global};
@@ -17,7 +17,7 @@ use std::thread::Threads;
 type Way = (usize, usize);
 
 /// The numbers from 1 on, so many, with a blank between two.
-fn numbers(alloc: Global, count: u32) -> Result<String, AllocError> {
+pub(crate) fn numbers(alloc: Global, count: u32) -> Result<String, AllocError> {
     let mut text = String::from_str(alloc, "1")?;
     for number in 2..=count {
         let next = format!(in alloc; " {number}")?;
@@ -27,7 +27,7 @@ fn numbers(alloc: Global, count: u32) -> Result<String, AllocError> {
 }
 
 /// A text for each number, which stands in it for `@`, with this text between two.
-fn of_each(
+pub(crate) fn of_each(
     alloc: Global,
     numbers: &str,
     pattern: &str,
@@ -52,56 +52,48 @@ fn readers<'a>(alloc: Global, files: &'a [String]) -> Result<Vec<Option<&'a [u8]
     Ok(readers)
 }
 
-/// What a conversion on one thread answers, behind what it writes.
+/// Whether a conversion on one thread ends so, behind what it writes.
 fn serial(
     alloc: Global,
     report: &Report,
     files: &[String],
     document: &mut Vec<u8>,
-) -> Result<Option<ConvertFault>, Fail> {
+    ends: Ends<'_>,
+) -> Result<bool, Fail> {
     let readers = readers(alloc, files)?;
     let sink = &mut Marked::new(document);
-    Ok(convert_serial(alloc, report, readers, Limits::profile(), sink).err())
+    let answer = convert_serial(alloc, report, readers, Limits::profile(), sink);
+    Ok(is_serial_so(&answer, ends))
 }
 
-/// The fault with which a merge ended.
-fn fault_of(end: MergeEnd) -> Option<ConvertFault> {
-    match end {
-        MergeEnd::Complete => None,
-        MergeEnd::Refused(fault) => Some(ConvertFault::Table(fault)),
-        MergeEnd::Write(fault) => Some(ConvertFault::Write(fault)),
-    }
-}
-
-/// What a conversion on threads answers, behind what it writes.
+/// Whether a conversion on threads ends so, behind what it writes.
 fn threaded(
     rt: &(impl AllocGlobal + Threads + Wait + Sync),
     report: &Report,
     files: &[String],
     way: Way,
     document: &mut Vec<u8>,
-) -> Result<Option<ConvertFault>, Fail> {
+    ends: Ends<'_>,
+) -> Result<bool, Fail> {
     let alloc = rt.alloc();
     let readers = readers(alloc, files)?;
     let sink = &mut Marked::new(document);
     let limits = Limits::profile();
-    match convert(rt, alloc, report, readers, way.0, way.1, limits, sink) {
-        Ok(run) => Ok(fault_of(run.end)),
-        Err(fault) => Ok(Some(fault)),
-    }
+    let answer = convert(rt, alloc, report, readers, way.0, way.1, limits, sink);
+    Ok(is_run_so(&answer, ends))
 }
 
-/// Whether a conversion on one thread writes this document and answers this fault.
+/// Whether a conversion on one thread writes this document and ends so.
 fn is_serial(
     alloc: Global,
     report: &Report,
     files: &[String],
     expected: &str,
-    fault: Option<ConvertFault>,
+    ends: Ends<'_>,
 ) -> Result<bool, Fail> {
     let mut document = Vec::new(alloc);
-    let answer = serial(alloc, report, files, &mut document)?;
-    Ok(answer == fault && document.as_slice() == expected.as_bytes())
+    let is_ended = serial(alloc, report, files, &mut document, ends)?;
+    Ok(is_ended && document.as_slice() == expected.as_bytes())
 }
 
 /// Whether a conversion on threads does.
@@ -111,11 +103,11 @@ fn is_threaded(
     files: &[String],
     way: Way,
     expected: &str,
-    fault: Option<ConvertFault>,
+    ends: Ends<'_>,
 ) -> Result<bool, Fail> {
     let mut document = Vec::new(rt.alloc());
-    let answer = threaded(rt, report, files, way, &mut document)?;
-    Ok(answer == fault && document.as_slice() == expected.as_bytes())
+    let is_ended = threaded(rt, report, files, way, &mut document, ends)?;
+    Ok(is_ended && document.as_slice() == expected.as_bytes())
 }
 
 /// The first of these ways in which a conversion ends otherwise, which is (0, 0) where it does on
@@ -126,13 +118,13 @@ fn other_way(
     files: &[String],
     ways: &[Way],
     expected: &str,
-    fault: Option<ConvertFault>,
+    ends: Ends<'_>,
 ) -> Result<Option<Way>, Fail> {
-    if !is_serial(rt.alloc(), report, files, expected, fault)? {
+    if !is_serial(rt.alloc(), report, files, expected, ends)? {
         return Ok(Some((0, 0)));
     }
     for way in ways {
-        if !is_threaded(rt, report, files, *way, expected, fault)? {
+        if !is_threaded(rt, report, files, *way, expected, ends)? {
             return Ok(Some(*way));
         }
     }
@@ -146,10 +138,10 @@ fn other_way_of_one(
     file: String,
     ways: &[Way],
     expected: &str,
-    fault: Option<ConvertFault>,
+    ends: Ends<'_>,
 ) -> Result<Option<Way>, Fail> {
     let files = [file];
-    other_way(rt, report, files.as_slice(), ways, expected, fault)
+    other_way(rt, report, files.as_slice(), ways, expected, ends)
 }
 
 /// The same, for a table of so many rows, behind which this text stands.
@@ -158,17 +150,17 @@ fn other_way_of_rows(
     rows: u32,
     ways: &[Way],
     rest: &str,
-    fault: Option<ConvertFault>,
+    ends: Ends<'_>,
 ) -> Result<Option<Way>, Fail> {
     let alloc = rt.alloc();
     let numbers = numbers(alloc, rows)?;
     let rows = of_each(alloc, numbers.as_str(), "@\n", "")?;
     let facts = of_each(alloc, numbers.as_str(), "t1.r_@.cash - Cash EUR @", "; ")?;
-    let ending = if fault.is_some() { "unfinished" } else { "" };
+    let ending = if ends.faults.is_empty() { "" } else { "unfinished" };
     let expected = document_of(alloc, facts.as_str(), ending)?;
     let file = format!(in alloc; "cash\n{}{rest}", rows.as_str())?;
     let report = report_of(alloc, &[])?;
-    other_way_of_one(rt, &report, file, ways, expected.as_str(), fault)
+    other_way_of_one(rt, &report, file, ways, expected.as_str(), ends)
 }
 
 /// The same, for a table of a thousand rows and rings of this size.
@@ -177,7 +169,7 @@ fn other_way_of_a_thousand(
     ring: usize,
 ) -> Result<Option<Way>, Fail> {
     let ways = [(1, ring), (2, ring), (8, ring)];
-    other_way_of_rows(rt, 1_000, ways.as_slice(), "", None)
+    other_way_of_rows(rt, 1_000, ways.as_slice(), "", WHOLE)
 }
 
 #[test]
@@ -212,41 +204,42 @@ fn a_thousand_rows_over_rings_of_65_536(rt: HostRuntime) -> Result<(), Fail> {
 #[test]
 fn blocks_of_rows(rt: HostRuntime) -> Result<(), Fail> {
     for rows in [1, 255, 256, 257, 512, 600] {
-        let other = other_way_of_rows(&rt, rows, &[(2, 1)], "", None)?;
+        let other = other_way_of_rows(&rt, rows, &[(2, 1)], "", WHOLE)?;
         assert_eq!(rt; other, None, "of {rows} rows");
     }
     Ok(())
 }
 
 /// A bad cell in column 1 of a row.
-fn bad_number(table: usize, row: u32) -> Option<ConvertFault> {
-    Some(ConvertFault::Table(TableFault {
+fn bad_number(table: usize, row: u32) -> TableFault {
+    TableFault {
         table,
         row,
         column: 1,
         kind: TableKind::BadNumber,
-    }))
+    }
 }
 
 #[test]
 fn blocks_before_a_bad_cell(rt: HostRuntime) -> Result<(), Fail> {
     for rows in [3, 255, 256, 257] {
-        let fault = bad_number(0, rows + 1);
-        let other = other_way_of_rows(&rt, rows, &[(2, 1)], "x\n1\n", fault)?;
+        let faults = [bad_number(0, rows + 1)];
+        let ends = refused(faults.as_slice());
+        let other = other_way_of_rows(&rt, rows, &[(2, 1)], "x\n1\n", ends)?;
         assert_eq!(rt; other, None, "behind {rows} rows");
     }
     Ok(())
 }
 
 /// The numbers from 1 to 64 in byte order.
-const ORDER: &str =
+pub(crate) const ORDER: &str =
     "1 10 11 12 13 14 15 16 17 18 19 2 20 21 22 23 24 25 26 27 28 29 3 30 31 32 33 34 35 36 37 38 39 4 40 41 42 43 44 45 46 47 48 49 5 50 51 52 53 54 55 56 57 58 59 6 60 61 62 63 64 7 8 9";
 
 /// The place of 40 among them, counted from 0.
 const PLACE: usize = 34;
 
 /// A report of the tables t1 to t64.
-fn report_of_tables(alloc: Global) -> Result<Report, Fail> {
+fn report_of_tables(alloc: Global) -> Result<Box<Report>, Fail> {
     let numbers = numbers(alloc, 64)?;
     let table = r#""t@":{"url":"t@.csv","template":"p"}"#;
     let tables = of_each(alloc, numbers.as_str(), table, ",")?;
@@ -258,7 +251,7 @@ fn report_of_tables(alloc: Global) -> Result<Report, Fail> {
 }
 
 /// The held report with one text in place of another.
-fn edited_report<'a>(alloc: Global, from: &'a str, to: &'a str) -> Result<Report, Fail> {
+fn edited_report<'a>(alloc: Global, from: &'a str, to: &'a str) -> Result<Box<Report>, Fail> {
     let edits = [(from, to)];
     report_of(alloc, edits.as_slice())
 }
@@ -279,13 +272,13 @@ fn other_way_of_tables(
     rt: &(impl AllocGlobal + Threads + Wait + Sync),
     second: &str,
     numbers: &str,
-    fault: Option<ConvertFault>,
+    ends: Ends<'_>,
 ) -> Result<Option<Way>, Fail> {
     let alloc = rt.alloc();
     let report = report_of_tables(alloc)?;
     let files = files_of_tables(alloc, second)?;
     let facts = of_each(alloc, numbers, "t@.r_1.cash - Cash EUR @", "; ")?;
-    let ending = if fault.is_some() { "unfinished" } else { "" };
+    let ending = if ends.faults.is_empty() { "" } else { "unfinished" };
     let expected = document_of(alloc, facts.as_str(), ending)?;
     let ways = [(8, 1), (1, 1), (8, 1_024), (64, 4)];
     other_way(
@@ -294,22 +287,94 @@ fn other_way_of_tables(
         files.as_slice(),
         ways.as_slice(),
         expected.as_str(),
-        fault,
+        ends,
     )
 }
 
 #[test]
 fn sixty_four_tables(rt: HostRuntime) -> Result<(), Fail> {
     let (before, _) = ORDER.split_once(" 41 ").ok_or("no 41")?;
-    for (second, numbers, fault) in [("", ORDER, None), ("x\n", before, bad_number(PLACE, 2))] {
-        let other = other_way_of_tables(&rt, second, numbers, fault)?;
+    let faults = [bad_number(PLACE, 2)];
+    let ends = refused(faults.as_slice());
+    for (second, numbers, ends) in [("", ORDER, WHOLE), ("x\n", before, ends)] {
+        let other = other_way_of_tables(&rt, second, numbers, ends)?;
         assert_eq!(rt; other, None, "where table 40 has {second}");
     }
     Ok(())
 }
 
+/// The facts of the 64 tables, where each has rows of these numbers.
+fn facts_of_rows(alloc: Global, rows: &str) -> Result<String, AllocError> {
+    let mut facts = String::new(alloc);
+    for table in ORDER.split(' ') {
+        let fact = format!(in alloc; "t{table}.r_@.cash - Cash EUR @; ")?;
+        facts.push_str(of_each(alloc, rows, fact.as_str(), "")?.as_str())?;
+    }
+    Ok(facts)
+}
+
+/// The files of the 64 tables, each with rows of these numbers.
+fn files_of_rows(alloc: Global, rows: &str) -> Result<Vec<String>, AllocError> {
+    let rows = of_each(alloc, rows, "@\n", "")?;
+    let mut files = Vec::new(alloc);
+    for _ in ORDER.split(' ') {
+        files.push(format!(in alloc; "cash\n{}", rows.as_str())?)?;
+    }
+    Ok(files)
+}
+
+/// The first other way of the report of 64 tables of so many rows each.
+fn other_way_of_full_tables(
+    rt: &(impl AllocGlobal + Threads + Wait + Sync),
+    rows: u32,
+    ways: &[Way],
+) -> Result<Option<Way>, Fail> {
+    let alloc = rt.alloc();
+    let report = report_of_tables(alloc)?;
+    let rows = numbers(alloc, rows)?;
+    let files = files_of_rows(alloc, rows.as_str())?;
+    let facts = facts_of_rows(alloc, rows.as_str())?;
+    let expected = document_of(alloc, facts.as_str(), "")?;
+    let files = files.as_slice();
+    other_way(rt, &report, files, ways, expected.as_str(), WHOLE)
+}
+
+#[test]
+fn sixty_four_tables_of_a_thousand_rows(rt: HostRuntime) -> Result<(), Fail> {
+    let ways = [(2, 1), (8, 1), (64, 1), (2, 1_024), (8, 1_024), (64, 1_024)];
+    let other = other_way_of_full_tables(&rt, 1_000, ways.as_slice())?;
+    assert_eq!(rt; other, None);
+    Ok(())
+}
+
+/// The first other way of a table with a cell of so many bytes.
+fn other_way_of_text(
+    rt: &(impl AllocGlobal + Threads + Wait + Sync),
+    bytes: usize,
+) -> Result<Option<Way>, Fail> {
+    let alloc = rt.alloc();
+    let mut text = String::new(alloc);
+    for _ in 0..bytes {
+        text.push('x')?;
+    }
+    let file = format!(in alloc; "note\n{}\n", text.as_str())?;
+    let facts = format!(in alloc; "t1.r_1.note - Note - {}", text.as_str())?;
+    let expected = document_of(alloc, facts.as_str(), "")?;
+    let report = report_of(alloc, &[])?;
+    other_way_of_one(rt, &report, file, &[(2, 1)], expected.as_str(), WHOLE)
+}
+
+#[test]
+fn long_cells(rt: HostRuntime) -> Result<(), Fail> {
+    for bytes in [4_096, 4_097, 100_000] {
+        let other = other_way_of_text(&rt, bytes)?;
+        assert_eq!(rt; other, None, "of {bytes} bytes");
+    }
+    Ok(())
+}
+
 /// A report of one table with as many columns.
-fn report_of_columns(alloc: Global, numbers: &str) -> Result<Report, Fail> {
+fn report_of_columns(alloc: Global, numbers: &str) -> Result<Box<Report>, Fail> {
     let column = r#""c@":{"dimensions":{"concept":"eg:Cash"}}"#;
     let columns = of_each(alloc, numbers, column, ",")?;
     edited_report(
@@ -345,7 +410,7 @@ fn other_way_of_columns(
     let facts = facts_of_columns(alloc, numbers.as_str())?;
     let expected = document_of(alloc, facts.as_str(), "")?;
     let file = file_of_columns(alloc, numbers.as_str())?;
-    other_way_of_one(rt, &report, file, ways, expected.as_str(), None)
+    other_way_of_one(rt, &report, file, ways, expected.as_str(), WHOLE)
 }
 
 #[test]

@@ -3,15 +3,16 @@
 
 use crate::tests::{Edits, HEAD, THREE, document_of};
 use crate::tests_cells::report_of;
-use crate::tests_threads::{converts_alone, end_of, file_of, readers_of};
+use crate::tests_ends::{Ends, WHOLE, is_run_so, refused};
+use crate::tests_threads::{converts_alone, ends_so, file_of, readers_of};
+use crate::tests_writers::Narrow;
 use oim_convert::{Claims, convert_with_starts};
 use oim_json::{Marked, WriteFault};
-use oim_merge::MergeEnd;
 use oim_meta::{Limits, Report};
 use oim_rows::{TableFault, TableKind};
 use std::alloc::{AllocError, Global};
 use std::io;
-use std::io::{Read, Write};
+use std::io::Read;
 use std::sync::Wait;
 use std::sync::atomic::{AtomicUsize, Ordering};
 use std::test::Fail;
@@ -19,82 +20,106 @@ use std::thread::Threads;
 
 const NO_TABLES: Edits<'static> = &[(r#"{"t1":{"url":"t1.csv","template":"p"}}"#, "{}")];
 
-const BAD_NUMBER: TableFault = TableFault {
-    table: 1,
-    row: 2,
-    column: 1,
-    kind: TableKind::BadNumber,
-};
+/// The faults of three tables, the second of which is refused, and the third too.
+const REFUSED: [TableFault; 2] = [
+    TableFault {
+        table: 1,
+        row: 2,
+        column: 1,
+        kind: TableKind::BadNumber,
+    },
+    TableFault {
+        table: 2,
+        row: 0,
+        column: 1,
+        kind: TableKind::UnknownHeader,
+    },
+];
 
-const NO_THREAD: TableFault = TableFault {
-    table: 0,
-    row: 0,
-    column: 0,
-    kind: TableKind::NoThread,
-};
+/// The faults of three tables for which no thread is there.
+const NO_THREADS: [TableFault; 3] = [
+    TableFault {
+        table: 0,
+        row: 0,
+        column: 0,
+        kind: TableKind::NoThread,
+    },
+    TableFault {
+        table: 1,
+        row: 0,
+        column: 0,
+        kind: TableKind::NoThread,
+    },
+    TableFault {
+        table: 2,
+        row: 0,
+        column: 0,
+        kind: TableKind::NoThread,
+    },
+];
 
 /// The files of a report of three tables, the second of which is refused, and the third too.
 const FILES: &[&[u8]] = &[b"cash\n5\n", b"cash\n1\nx\n", b"nope\n1\n"];
 
-/// How a conversion ends for which so many of three workers are started, behind what it writes.
+/// How many workers there are, and how many of them are started.
+type Crew = (usize, usize);
+
+/// Whether a conversion by such a crew ends so, behind what it writes.
 fn started_end(
     rt: &(impl AllocGlobal + Threads + Wait + Sync),
     report: &Report,
     readers: Vec<Option<&[u8]>>,
-    starts: usize,
+    crew: Crew,
     document: &mut Vec<u8>,
-) -> Option<MergeEnd> {
+    ends: Ends<'_>,
+) -> bool {
     let sink = &mut Marked::new(document);
     let limits = Limits::profile();
-    match convert_with_starts(
+    let answer = convert_with_starts(
         rt,
         rt.alloc(),
         report,
         readers,
-        3,
-        starts,
+        crew.0,
+        crew.1,
         1024,
         limits,
         sink,
-    ) {
-        Ok(run) => Some(run.end),
-        Err(_) => None,
-    }
+    );
+    is_run_so(&answer, ends)
 }
 
-/// Whether a conversion of these files ends so, with this document, where so many workers start.
+/// Whether a conversion of these files by such a crew ends so, with this document.
 fn ends(
     rt: &(impl AllocGlobal + Threads + Wait + Sync),
     report: &Report,
     files: &[&[u8]],
-    starts: usize,
+    crew: Crew,
     expected: &str,
-    end: MergeEnd,
+    so: Ends<'_>,
 ) -> Result<bool, AllocError> {
     let readers = readers_of(rt.alloc(), files)?;
     let mut document = Vec::new(rt.alloc());
-    let ended = started_end(rt, report, readers, starts, &mut document);
-    Ok(ended == Some(end) && document.as_slice() == expected.as_bytes())
+    let is_ended = started_end(rt, report, readers, crew, &mut document, so);
+    Ok(is_ended && document.as_slice() == expected.as_bytes())
 }
 
-/// Whether three tables, the second of which is refused, end so where so many workers start.
-fn is_refused(
-    rt: &(impl AllocGlobal + Threads + Wait + Sync),
-    starts: usize,
-) -> Result<bool, Fail> {
+/// Whether three tables, the second of which is refused, end so by such a crew.
+fn is_refused(rt: &(impl AllocGlobal + Threads + Wait + Sync), crew: Crew) -> Result<bool, Fail> {
     let alloc = rt.alloc();
     let report = report_of(alloc, THREE)?;
     let facts = "t1.r_1.cash - Cash EUR 5; t2.r_1.cash - Cash EUR 1";
     let expected = document_of(alloc, facts, "BadNumber")?;
-    let end = MergeEnd::Refused(BAD_NUMBER);
-    Ok(ends(rt, &report, FILES, starts, expected.as_str(), end)?)
+    Ok(ends(rt, &report, FILES, crew, expected.as_str(), refused(&REFUSED))?)
 }
 
 #[test]
 fn one_started_worker_is_enough(rt: HostRuntime) -> Result<(), Fail> {
-    for starts in [3, 2, 1] {
-        let refused = is_refused(&rt, starts)?;
-        assert!(rt; refused, "where {starts} are started");
+    for (workers, most) in [(3, 3), (8, 8)] {
+        for starts in 1..=most {
+            let refused = is_refused(&rt, (workers, starts))?;
+            assert!(rt; refused, "where {starts} of {workers} are started");
+        }
     }
     Ok(())
 }
@@ -105,19 +130,19 @@ fn ends_unstarted(
     edits: Edits<'_>,
     files: &[&[u8]],
     expected: &str,
-    end: MergeEnd,
+    so: Ends<'_>,
 ) -> Result<bool, Fail> {
     let report = report_of(rt.alloc(), edits)?;
-    Ok(ends(rt, &report, files, 0, expected, end)?)
+    Ok(ends(rt, &report, files, (8, 0), expected, so)?)
 }
 
 #[test]
 fn no_started_worker_is_no_thread(rt: HostRuntime) -> Result<(), Fail> {
     let one = [b"cash,note\n100,first\n".as_slice()];
     for (edits, files) in [(THREE, FILES), ([].as_slice(), one.as_slice())] {
-        let end = MergeEnd::Refused(NO_THREAD);
-        let refused = ends_unstarted(&rt, edits, files, HEAD, end)?;
-        assert!(rt; refused, "of {} tables", files.len());
+        let so = refused(&NO_THREADS[..files.len().min(3)]);
+        let is_refused = ends_unstarted(&rt, edits, files, HEAD, so)?;
+        assert!(rt; is_refused, "of {} tables", files.len());
     }
     Ok(())
 }
@@ -130,7 +155,7 @@ fn is_whole_unstarted(rt: &(impl AllocGlobal + Threads + Wait + Sync)) -> Result
         NO_TABLES,
         [].as_slice(),
         expected.as_str(),
-        MergeEnd::Complete,
+        WHOLE,
     )
 }
 
@@ -181,28 +206,6 @@ impl Read for Ended<'_> {
     }
 }
 
-/// A writer that fails once `room` bytes are out.
-#[derive(Drop)]
-struct Short {
-    taken: Vec<u8>,
-    room: usize,
-}
-
-impl Write for Short {
-    fn write(&mut self, bytes: &[u8]) -> io::Result<usize> {
-        if self.taken.len() >= self.room {
-            return Err(io::Error::from(io::ErrorKind::Other));
-        }
-        let count = bytes.len().min(self.room - self.taken.len());
-        self.taken.extend_from_slice(&bytes[..count])?;
-        Ok(count)
-    }
-
-    fn flush(&mut self) -> io::Result<()> {
-        Ok(())
-    }
-}
-
 /// Readers of so many tables of these bytes.
 fn ending_readers<'a>(
     alloc: Global,
@@ -231,13 +234,14 @@ fn fails_behind(
 ) -> Result<bool, AllocError> {
     let ended = AtomicUsize::new(0);
     let readers = ending_readers(rt.alloc(), 3, bytes, &ended)?;
-    let taken = Vec::new(rt.alloc());
-    let room = expected.len();
-    let mut short = Short { taken, room };
-    let end = end_of(rt, report, readers, 3, 1, &mut short);
-    let is_failed = end == Some(MergeEnd::Write(WriteFault::Failed));
+    let mut narrow = Narrow::new(rt.alloc(), expected.len(), true);
+    let so = Ends {
+        faults: &[],
+        write: Some(WriteFault::Failed),
+    };
+    let is_failed = ends_so(rt, report, readers, 3, 1, &mut narrow, so);
     let are_ended = ended.load(Ordering::SeqCst) == 3;
-    Ok(is_failed && are_ended && short.taken.as_slice() == expected)
+    Ok(is_failed && are_ended && narrow.taken.as_slice() == expected)
 }
 
 /// Whether it does so where so many quarters of the document can be written.

@@ -3,9 +3,9 @@
 
 use crate::tests::{HEAD, document_of};
 use crate::tests_cells::report_of;
+use crate::tests_ends::{Ends, WHOLE, is_run_so};
 use oim_convert::{convert, convert_serial};
 use oim_json::Marked;
-use oim_merge::MergeEnd;
 use oim_meta::{Limits, Report};
 use std::alloc::{AllocError, Global};
 use std::io::{Read, Write};
@@ -71,7 +71,7 @@ fn waiting<'a>(
 }
 
 /// The held report with so many tables t1, t2 and so on of its template.
-fn report_with(alloc: Global, tables: usize) -> Result<Report, Fail> {
+fn report_with(alloc: Global, tables: usize) -> Result<Box<Report>, Fail> {
     let mut text = String::from_str(alloc, "{")?;
     for table in 1..=tables {
         let comma = if table > 1 { "," } else { "" };
@@ -95,21 +95,20 @@ fn document_with(alloc: Global, tables: usize) -> Result<String, AllocError> {
     document_of(alloc, facts.as_str(), "")
 }
 
-/// How a conversion by so many workers over rings of this size ends, behind what it writes.
-pub(crate) fn end_of<R: Read + Drop + Send, W: Write>(
+/// Whether a conversion by this many workers over rings of this size ends so, behind what it writes.
+pub(crate) fn ends_so<R: Read + Drop + Send, W: Write>(
     rt: &(impl AllocGlobal + Threads + Wait + Sync),
     report: &Report,
     readers: Vec<Option<R>>,
     workers: usize,
     ring: usize,
     writer: &mut W,
-) -> Option<MergeEnd> {
+    so: Ends<'_>,
+) -> bool {
     let sink = &mut Marked::new(writer);
     let limits = Limits::profile();
-    match convert(rt, rt.alloc(), report, readers, workers, ring, limits, sink) {
-        Ok(run) => Some(run.end),
-        Err(_) => None,
-    }
+    let answer = convert(rt, rt.alloc(), report, readers, workers, ring, limits, sink);
+    is_run_so(&answer, so)
 }
 
 /// Whether so many workers convert such tables to this document.
@@ -123,8 +122,8 @@ fn converts(
     let asked = AtomicUsize::new(0);
     let readers = waiting(rt.alloc(), &asked, wanted)?;
     let mut document = Vec::new(rt.alloc());
-    let end = end_of(rt, report, readers, workers, 1024, &mut document);
-    Ok(end == Some(MergeEnd::Complete) && document.as_slice() == expected)
+    let is_whole = ends_so(rt, report, readers, workers, 1024, &mut document, WHOLE);
+    Ok(is_whole && document.as_slice() == expected)
 }
 
 /// Whether so many workers convert a report whose tables wait for so many first reads.
@@ -252,8 +251,8 @@ fn converts_late(
     let readers = vec![in rt.alloc(); Some(reader)]?;
     let taken = Vec::new(rt.alloc());
     let mut writer = Counting { taken, written };
-    let end = end_of(rt, report, readers, 1, 1024, &mut writer);
-    Ok(end == Some(MergeEnd::Complete) && writer.taken.as_slice() == expected)
+    let is_whole = ends_so(rt, report, readers, 1, 1024, &mut writer, WHOLE);
+    Ok(is_whole && writer.taken.as_slice() == expected)
 }
 
 /// Whether it converts a table in two halves to the document that one thread writes.

@@ -1,0 +1,144 @@
+//! Writers that take only so many bytes, and conversions on threads to such a writer for each number
+//! of bytes.
+
+use crate::tests::{THREE, document_of};
+use crate::tests_cells::report_of;
+use crate::tests_ends::Ends;
+use crate::tests_threads::{ends_so, readers_of};
+use oim_json::WriteFault;
+use oim_meta::Report;
+use oim_rows::{TableFault, TableKind};
+use std::alloc::{AllocError, Global};
+use std::io;
+use std::io::Write;
+use std::sync::Wait;
+use std::test::Fail;
+use std::thread::Threads;
+
+/// A writer that takes at most `most` bytes a call, and once `room` bytes are out no more: it fails
+/// then, or answers 0.
+#[derive(Drop)]
+pub(crate) struct Narrow {
+    pub(crate) taken: Vec<u8>,
+    pub(crate) most: usize,
+    pub(crate) room: usize,
+    pub(crate) fails: bool,
+}
+
+impl Narrow {
+    /// A writer that takes all bytes of a call, up to so many in all.
+    pub(crate) fn new(alloc: Global, room: usize, fails: bool) -> Narrow {
+        Narrow {
+            taken: Vec::new(alloc),
+            most: 65_536,
+            room,
+            fails,
+        }
+    }
+}
+
+impl Write for Narrow {
+    fn write(&mut self, bytes: &[u8]) -> io::Result<usize> {
+        if self.taken.len() >= self.room {
+            if self.fails {
+                return Err(io::Error::from(io::ErrorKind::Other));
+            }
+            return Ok(0);
+        }
+        let count = bytes.len().min(self.most).min(self.room - self.taken.len());
+        self.taken.extend_from_slice(&bytes[..count])?;
+        Ok(count)
+    }
+
+    fn flush(&mut self) -> io::Result<()> {
+        Ok(())
+    }
+}
+
+/// Three tables, the second of which is refused, and the third too.
+const FILES: &[&[u8]] = &[b"cash\n5\n", b"cash\n1\nx\n", b"nope\n1\n"];
+
+/// Their faults.
+const REFUSED: [TableFault; 2] = [
+    TableFault {
+        table: 1,
+        row: 2,
+        column: 1,
+        kind: TableKind::BadNumber,
+    },
+    TableFault {
+        table: 2,
+        row: 0,
+        column: 1,
+        kind: TableKind::UnknownHeader,
+    },
+];
+
+/// How many workers there are, the size of the rings, and whether the writer fails or answers 0.
+type Way = (usize, usize, bool);
+
+/// How a conversion to a writer with this much room ends, where the document has `whole` bytes. Every
+/// refused table is answered, whether a write fails or not.
+fn wanted(room: usize, whole: usize, fails: bool) -> Ends<'static> {
+    let fault = if fails {
+        WriteFault::Failed
+    } else {
+        WriteFault::Zero
+    };
+    Ends {
+        faults: &REFUSED,
+        write: if room >= whole { None } else { Some(fault) },
+    }
+}
+
+/// Whether a conversion writes just what there is room for of this document, and ends so.
+fn fills(
+    rt: &(impl AllocGlobal + Threads + Wait + Sync),
+    report: &Report,
+    way: Way,
+    room: usize,
+    whole: &[u8],
+) -> Result<bool, AllocError> {
+    let readers = readers_of(rt.alloc(), FILES)?;
+    let mut narrow = Narrow::new(rt.alloc(), room, way.2);
+    let so = wanted(room, whole.len(), way.2);
+    let is_ended = ends_so(rt, report, readers, way.0, way.1, &mut narrow, so);
+    Ok(is_ended && whole.get(..room) == Some(narrow.taken.as_slice()))
+}
+
+/// The first room for which a conversion does otherwise.
+fn other_room(
+    rt: &(impl AllocGlobal + Threads + Wait + Sync),
+    report: &Report,
+    way: Way,
+    whole: &[u8],
+) -> Result<Option<usize>, AllocError> {
+    for room in 0..=whole.len() {
+        if !fills(rt, report, way, room, whole)? {
+            return Ok(Some(room));
+        }
+    }
+    Ok(None)
+}
+
+/// The same, for a report of three tables, the second of which is refused.
+fn other_room_of_three(
+    rt: &(impl AllocGlobal + Threads + Wait + Sync),
+    way: Way,
+) -> Result<Option<usize>, Fail> {
+    let report = report_of(rt.alloc(), THREE)?;
+    let facts = "t1.r_1.cash - Cash EUR 5; t2.r_1.cash - Cash EUR 1";
+    let whole = document_of(rt.alloc(), facts, "BadNumber")?;
+    Ok(other_room(rt, &report, way, whole.as_bytes())?)
+}
+
+#[test]
+fn writers_of_each_room(rt: HostRuntime) -> Result<(), Fail> {
+    for fails in [true, false] {
+        for (workers, ring) in [(1, 1), (1, 4), (2, 1), (2, 4), (8, 1), (8, 4)] {
+            let other = other_room_of_three(&rt, (workers, ring, fails))?;
+            assert_eq!(rt; other, None, "by {workers} workers over rings of {ring}");
+        }
+    }
+    Ok(())
+}
