@@ -58,7 +58,11 @@ pub(crate) fn is_run_so(answer: &Result<Run, ConvertFault>, ends: Ends<'_>) -> b
 pub(crate) fn is_serial_so(answer: &Result<(), ConvertFault>, ends: Ends<'_>) -> bool {
     match answer {
         Ok(()) => merge_end(ends) == MergeEnd::Complete,
-        Err(ConvertFault::Tables(faults)) => is_merged_so(faults.as_slice(), MergeEnd::Refused, ends),
+        Err(ConvertFault::Tables(faults)) => is_merged_so(
+            faults.as_slice(),
+            MergeEnd::Refused,
+            ends,
+        ),
         Err(ConvertFault::Write(fault)) => ends.write == Some(*fault),
         Err(_) => false,
     }

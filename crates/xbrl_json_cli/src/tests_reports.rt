@@ -73,17 +73,16 @@ fn ends(
 }
 
 /// Whether a report's unfinished document has these facts, with `; ` between them, and it ends with
-/// this fault of a table.
+/// these faults of tables.
 fn is_refused(
     alloc: Global,
     report: &Report,
     tables: &[Cut<'_>],
     facts: &str,
-    fault: TableFault,
+    faults: &[TableFault],
 ) -> Result<bool, Fail> {
     let expected = document_of(alloc, facts, "unfinished")?;
-    let faults = [fault];
-    ends(alloc, report, tables, expected.as_str(), refused(faults.as_slice()))
+    ends(alloc, report, tables, expected.as_str(), refused(faults))
 }
 
 fn failed_read(table: usize) -> TableFault {
@@ -115,7 +114,7 @@ fn is_cut(
     let bytes = TABLE.as_bytes().get(..place).ok_or("no such place")?;
     let fails = true;
     let cut = Cut { bytes, step, fails };
-    is_refused(alloc, report, [cut].as_slice(), facts, failed_read(0))
+    is_refused(alloc, report, [cut].as_slice(), facts, &[failed_read(0)])
 }
 
 /// The first place where the held report ends otherwise, with so many bytes a call.
@@ -158,7 +157,16 @@ fn is_cut_between(alloc: Global) -> Result<bool, Fail> {
         reader(b"nope\n".as_slice(), false),
     ];
     let facts = "t1.r_1.cash - Cash EUR 5; t2.r_1.cash - Cash EUR 1";
-    is_refused(alloc, &report, tables.as_slice(), facts, failed_read(1))
+    let faults = [
+        failed_read(1),
+        TableFault {
+            table: 2,
+            row: 0,
+            column: 1,
+            kind: TableKind::UnknownHeader,
+        },
+    ];
+    is_refused(alloc, &report, tables.as_slice(), facts, faults.as_slice())
 }
 
 #[test]
@@ -178,7 +186,7 @@ fn is_refused_before(alloc: Global) -> Result<bool, Fail> {
         kind: TableKind::BadNumber,
     };
     let facts = "t1.r_1.cash - Cash EUR 1";
-    is_refused(alloc, &report, tables.as_slice(), facts, fault)
+    is_refused(alloc, &report, tables.as_slice(), facts, &[fault])
 }
 
 #[test]

@@ -182,7 +182,8 @@ fn a_bad_cell(rt: HostRuntime) -> Result<(), Fail> {
 
 #[test]
 fn no_file_of_a_table(rt: HostRuntime) -> Result<(), Fail> {
-    let said = "xbrl-json: table t1, row 0, column 0: NoFile (20)\nxbrl-json: table t2, row 0, column 0: NoFile (20)\nxbrl-json: table t3, row 0, column 0: NoFile (20)\n";
+    let said =
+        "xbrl-json: table t1, row 0, column 0: NoFile (20)\nxbrl-json: table t2, row 0, column 0: NoFile (20)\nxbrl-json: table t3, row 0, column 0: NoFile (20)\n";
     let refused = is_refused(&rt, 2, HEAD, said)?;
     assert!(rt; refused);
     Ok(())

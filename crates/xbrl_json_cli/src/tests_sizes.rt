@@ -156,7 +156,11 @@ fn other_way_of_rows(
     let numbers = numbers(alloc, rows)?;
     let rows = of_each(alloc, numbers.as_str(), "@\n", "")?;
     let facts = of_each(alloc, numbers.as_str(), "t1.r_@.cash - Cash EUR @", "; ")?;
-    let ending = if ends.faults.is_empty() { "" } else { "unfinished" };
+    let ending = if ends.faults.is_empty() {
+        ""
+    } else {
+        "unfinished"
+    };
     let expected = document_of(alloc, facts.as_str(), ending)?;
     let file = format!(in alloc; "cash\n{}{rest}", rows.as_str())?;
     let report = report_of(alloc, &[])?;
@@ -278,7 +282,11 @@ fn other_way_of_tables(
     let report = report_of_tables(alloc)?;
     let files = files_of_tables(alloc, second)?;
     let facts = of_each(alloc, numbers, "t@.r_1.cash - Cash EUR @", "; ")?;
-    let ending = if ends.faults.is_empty() { "" } else { "unfinished" };
+    let ending = if ends.faults.is_empty() {
+        ""
+    } else {
+        "unfinished"
+    };
     let expected = document_of(alloc, facts.as_str(), ending)?;
     let ways = [(8, 1), (1, 1), (8, 1_024), (64, 4)];
     other_way(

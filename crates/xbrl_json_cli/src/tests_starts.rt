@@ -110,7 +110,14 @@ fn is_refused(rt: &(impl AllocGlobal + Threads + Wait + Sync), crew: Crew) -> Re
     let report = report_of(alloc, THREE)?;
     let facts = "t1.r_1.cash - Cash EUR 5; t2.r_1.cash - Cash EUR 1";
     let expected = document_of(alloc, facts, "BadNumber")?;
-    Ok(ends(rt, &report, FILES, crew, expected.as_str(), refused(&REFUSED))?)
+    Ok(ends(
+        rt,
+        &report,
+        FILES,
+        crew,
+        expected.as_str(),
+        refused(&REFUSED),
+    )?)
 }
 
 #[test]
@@ -150,13 +157,7 @@ fn no_started_worker_is_no_thread(rt: HostRuntime) -> Result<(), Fail> {
 /// Whether a report without tables is whole where no worker starts.
 fn is_whole_unstarted(rt: &(impl AllocGlobal + Threads + Wait + Sync)) -> Result<bool, Fail> {
     let expected = document_of(rt.alloc(), "", "")?;
-    ends_unstarted(
-        rt,
-        NO_TABLES,
-        [].as_slice(),
-        expected.as_str(),
-        WHOLE,
-    )
+    ends_unstarted(rt, NO_TABLES, [].as_slice(), expected.as_str(), WHOLE)
 }
 
 #[test]
