@@ -5,3 +5,11 @@ pub mod Answers
 pub mod Kept
 pub mod KeptDecimals
 pub mod Digits
+pub mod Sources
+pub mod Pieces
+pub mod Ready
+pub mod Rest
+pub mod Rows
+pub mod ReadyTable
+pub mod Variants
+pub mod Facts
