@@ -1,6 +1,6 @@
 use Rattle.std.proofs.Common.{inl, inr}
 use Rattle.std.proofs.lemmas.Option.{IfSome_then}
-use Rattle.oim_rows.proofs.StreamLaws.{opened_stream}
+use Rattle.oim_rows.proofs.StreamLaws.{opened_stream, refused_header}
 use Rattle.oim_decode.proofs.RowLaws.{known}
 use Rattle.oim_decode.proofs.text_rows.TextRows.open.Goals as goal
 
@@ -18,3 +18,7 @@ returns-clause-header g c =
     let both = opened_stream c.args.report.now c.args.table c.args.limit (g.R.Read.remaining c.args.reader) c.new-records.result c.read.new.records c.in-Ok.form.header c.in-Ok.form c.new-3.result
     c.new-records.ensures c.in-Ok.ensures.header c.in-Ok.ensures.form c.new-3.ensures in
     IfSome_then (g.R.Read.remaining c.args.reader) both (λ bytes h. h.1)
+
+pub returns-in-Err-clause-fault : goal.returns-in-Err-clause-fault
+returns-in-Err-clause-fault g c =
+    refused_header c.args.report.now c.args.table (g.R.Read.remaining c.args.reader) c.new-records.result c.in-Err.fault c.new-records.ensures c.in-Err.ensures.fault
