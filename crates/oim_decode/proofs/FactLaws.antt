@@ -12,9 +12,10 @@ use Rattle.oim_meta.specs.declared.data.Written.{Written}
 use Rattle.oim_meta.specs.declared.kind.Kind.{Kind}
 use Rattle.oim_json.specs.JsonText.{member_text}
 use Rattle.oim_resolve.specs.Cell.{Cell}
-use Rattle.oim_resolve.specs.Facts.{given, fact_meaning, fact_of, concept_kind, rest_faults, decimals_given, stated, stated_by}
+use Rattle.oim_resolve.specs.Facts.{role_of, given, fact_meaning, fact_of, concept_kind, rest_faults, decimals_given, stated, stated_by}
 use Rattle.oim_resolve.specs.Facts as f
 use Rattle.oim_resolve.specs.Faults.{least, least_of}
+use Rattle.oim_resolve.specs.declared.role.Role.TheVariants.{Concept}
 use Rattle.oim_resolve.specs.Values.{value, Stated}
 use Rattle.oim_resolve.specs.Written.{levels, written, written_decimals}
 use Rattle.oim_rows.specs.Header.{Header}
@@ -35,6 +36,10 @@ by_concept : (o : Option Written) (e : EntryView) → Some (written_of e) ≡ op
 by_concept None e h = absurd (cc)
 by_concept (Some x) e h = sym (ap (option_map (λ (q : List ℕ × Written). q.1)) h)
 
+by_name : (o : Option Written) (e : EntryView) → Some (written_of e) ≡ option_map (λ x. (codes "concept", x)) o → e.name ≡ codes "concept"
+by_name None e h = absurd (cc)
+by_name (Some x) e h = ap (λ (q : Option (List ℕ × Written)). option_map_or (λ y. y.0) q (codes "concept")) h
+
 by_none : (o : Option Written) → ◌≡◌ {A = Option (List ℕ × Written)} None (option_map (λ x. (codes "concept", x)) o) → o ≡ None
 by_none None h = refl
 by_none (Some x) h = absurd (cc)
@@ -49,6 +54,10 @@ module _ (r : ReportValue) (t : ℕ) (h : Header) (n : ℕ) (w : Record) (c : �
 
   concept : option_map written_of v.concept ≡ option_map (λ x. (codes "concept", x)) (written (levels cell) (codes "concept"))
   concept = p.concept ∙ ap (λ (ls : List Level). option_map (λ (x : Written). (codes "concept", x)) (written ls (codes "concept"))) under
+
+  -- what is kept of the concept is in its role
+  pub concept_role : (e : EntryView) → v.concept ≡ Some e → role_of e.report e.name ≡ Concept
+  concept_role e at = ap (role_of e.report) (by_name (written (levels cell) (codes "concept")) e (sym (ap (option_map written_of) at) ∙ concept))
 
   pub no_concept_given : v.concept ≡ None → given cell (codes "concept") ≡ m.Absent
   no_concept_given e = ap (λ q. option_map_or (value cell) q m.Absent) (by_none (written (levels cell) (codes "concept")) (sym (ap (option_map written_of) e) ∙ concept))

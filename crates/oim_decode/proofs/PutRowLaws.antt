@@ -50,16 +50,11 @@ module _ (r : ReportValue) (t : ℕ) (h : Header) (n : ℕ) (row : Record) (c : 
   pub text_is : (i : ℕ) → i < length (columns_of r t) → text_at cell i ≡ field_or_empty row (source_of_column h i)
   text_is i b = get_or-map-range_with_len (cell_at h row) 0 (length (columns_of r t)) i i [] b (zero-add i)
 
-  by_place : (o : Option ℕ) → not_empty (field_or_empty row o) ≡ option_and_then (λ p. not_empty (field_or_empty row (Some p))) o
-  by_place None = refl
-  by_place (Some p) = refl
-
   named_text : (name : List ℕ) (o : Option ℕ) → position (λ (k : Column). bytes_eq k.id name) (columns_of r t) ≡ o
-      → option_and_then (λ p. not_empty (field_or_empty row (Some p))) (option_and_then (source_of_column h) o) ≡ option_and_then (λ i. not_empty (text_at cell i)) o
+      → not_empty (field_or_empty row (option_and_then (source_of_column h) o)) ≡ option_and_then (λ i. not_empty (text_at cell i)) o
   named_text name None e = refl
   named_text name (Some i) e =
-      sym (by_place (source_of_column h i))
-      ∙ ap not_empty (sym (text_is i (position-Some (λ (k : Column). bytes_eq k.id name) (columns_of r t) i Rattle.oim_meta.specs.Readers.no_column e).0))
+      ap not_empty (sym (text_is i (position-Some (λ (k : Column). bytes_eq k.id name) (columns_of r t) i Rattle.oim_meta.specs.Readers.no_column e).0))
 
   -- what a reference names gives what the cell's row gives
   pub named_is : (name : List ℕ) → source_meaning (source_named r t h name) n row ≡ referred cell name

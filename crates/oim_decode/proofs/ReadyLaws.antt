@@ -1,5 +1,5 @@
 -- What an entry gives by its slot.
-use Rattle.std.proofs.Common.{◌≡◌, ◌<◌, ℕ, ◌+◌, false, cond, List, [], ◌∷◌, ◌++◌, length, take, get_or, codes, Option, Some, None, Result, Ok, Err, MatchResult, refl, sym, ap, ◌∙◌, append-nil}
+use Rattle.std.proofs.Common.{◌≡◌, ◌<◌, ℕ, ◌+◌, false, cond, List, [], ◌∷◌, ◌++◌, length, take, get_or, codes, Option, Some, None, Result, Ok, Err, refl, sym, ap, ◌∙◌, append-nil}
 use Rattle.std.specs.List.{slice_get}
 use Rattle.std.specs.Option.{option_map, option_map_or}
 use Rattle.std.proofs.lemmas.Option.{slice_get_within, get_or_from_slice_get}
@@ -19,7 +19,7 @@ use Rattle.oim_resolve.specs.declared.fact.CellFault.{CellFault}
 use Rattle.oim_resolve.specs.declared.role.Role.{Role}
 use Rattle.oim_decode.specs.Pieces.{piece, given_fault, given_piece}
 use Rattle.oim_decode.specs.Ready.{EntryView, IsPlaced, IsSlotOf, shown, shown_fault, shown_pieces, behind_name, kind_or, kind_given, literal_meaning}
-use Rattle.oim_decode.specs.Slots.{SlotView}
+use Rattle.oim_decode.specs.Slots.{SlotView, concept_given}
 
 -- a slot that is there
 opened : (e : EntryView) (ss : List SlotView) (i : ℕ) (o : Option SlotView) → slice_get ss i ≡ o → IsSlotOf e o
@@ -55,6 +55,10 @@ module _ (ss : List SlotView) (e : EntryView) (i : ℕ) (p : IsPlaced ss e) (at 
         ∙ ap (λ d. F e.report (role_of e.report e.name) d x.meaning) (ap (λ (s : SlotView). s.side) same ∙ there.4)
         ∙ ap (F e.report (role_of e.report e.name) (side_of e.written)) meaning_is
 
+-- what depends on three values that are the same
+pub by_three : {A B C D : Type 0} (F : A → B → C → D) (a a' : A) (b b' : B) (c c' : C) → a ≡ a' → b ≡ b' → c ≡ c' → F a b c ≡ F a' b' c'
+by_three F a a' b b' c c' p q r = λ i. F (p i) (q i) (r i)
+
 -- a name and its value
 pub behind_name_is : (n : List ℕ) (o : Option (Option (List ℕ))) → behind_name (quoted n ++ codes ":") (option_map value_text o) ≡ piece n o
 unfolding dimension_text
@@ -68,14 +72,13 @@ pub piece_if_kept : (k : Kind) (o : Role) (t : List ℕ) → is_dropped k o ≡ 
 piece_if_kept k o t e = ap (λ b. cond b [] t) e
 
 -- a kind or a fault
-by_result : (x : Option CellFault) (k : Kind) (r : Result Kind CellFault) → MatchResult r (λ j. (x ≡ None) × (j ≡ k)) (λ f. x ≡ Some f) → r ≡ kind_or x k
-by_result x k (Ok j) h = ap Ok h.1 ∙ ap (λ y. kind_or y k) (sym h.0)
-by_result x k (Err f) h = ap (λ y. kind_or y k) (sym h)
+given_or : (x : Option CellFault) (k : Kind) → option_map_or Err x (Ok k) ≡ kind_or x k
+given_or None k = refl
+given_or (Some f) k = refl
 
-pub kind_is : (r : ReportValue) (v : Meaning) (o : Result Kind CellFault)
-    → MatchResult o (λ k. (least (concept_faults_of r v) ≡ None) × (k ≡ text_kind r v)) (λ f. least (concept_faults_of r v) ≡ Some f) → o ≡ kind_given r v
+pub kind_is : (r : ReportValue) (v : Meaning) → concept_given r v ≡ kind_given r v
 unfolding kind_given
-kind_is r v o h = by_result (least (concept_faults_of r v)) (text_kind r v) o h
+kind_is r v = given_or (least (concept_faults_of r v)) (text_kind r v)
 
 -- of two faults that may be there, neither is
 pub neither : (f g : Option CellFault) → least_of f g ≡ None → (f ≡ None) × (g ≡ None)

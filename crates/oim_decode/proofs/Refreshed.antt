@@ -1,8 +1,6 @@
 -- One slot refreshed after another.
 use Rattle.std.proofs.Common.{◌≡◌, ◌<◌, ℕ, zero, suc, List, [], ◌∷◌, length, map, get_or, set, refl, ap, ◌∙◌, arith}
 use Rattle.std.specs.List.{All}
-use Rattle.oim_decode.specs.Ready.{wanted_of}
-use Rattle.oim_decode.specs.Slots.{SlotView}
 
 pub set_map : {A B : Type 0} (f : A → B) (xs : List A) (i : ℕ) (x y : A) → i < length xs → x ≡ get_or xs i x → f y ≡ f x → map f (set xs i y) ≡ map f xs
 set_map f [] i x y b is e = refl
@@ -22,6 +20,3 @@ set_all P (z ∷ xs) zero y p q zero d h = q
 set_all P (z ∷ xs) zero y p q (suc k) d h = p (suc k) d h
 set_all P (z ∷ xs) (suc i) y p q zero d h = p zero d (omega arith)
 set_all P (z ∷ xs) (suc i) y p q (suc k) d h = set_all P xs i y (λ j e g. p (suc j) e (omega arith)) q k d (omega arith)
-
-pub wanted_same : (x y : SlotView) → y.report ≡ x.report → y.role ≡ x.role → y.side ≡ x.side → y.source ≡ x.source → wanted_of y ≡ wanted_of x
-wanted_same x y a b c d = λ i. record { report = a i; role = b i; side = c i; source = d i }

@@ -5,7 +5,6 @@ pub mod Answers
 pub mod Kept
 pub mod KeptDecimals
 pub mod Digits
-pub mod Sources
 pub mod Pieces
 pub mod Ready
 pub mod Rest

@@ -7,7 +7,7 @@ use Rattle.oim_meta.specs.ReportValue.{ReportValue}
 use Rattle.oim_resolve.specs.Written.{written, written_decimals}
 use Rattle.oim_rows.specs.Header.{Header}
 use Rattle.oim_decode.specs.declared.variant.Variant.{Variant}
-use Rattle.oim_decode.specs.declared.ready_table.Kept.{Kept}
+use Rattle.oim_decode.specs.declared.ready_table.ReadyTable.{ReadyTable}
 use Rattle.oim_decode.specs.ReadyTable.{IsFresh, IsFreshDecimals}
 use Rattle.oim_decode.specs.Pieces.{written_entries}
 use Rattle.oim_decode.specs.Ready.{HasSlot, IsDecimals, ConceptHasSlot, wanted_of, written_of}
@@ -27,7 +27,7 @@ abbrev pub IsOfRow : ReportValue → ℕ → Header → Record → ℕ → Varia
 IsOfRow r t h row c v = (v.column ≡ c) × (v.texts.items ≡ group_texts row (group_places r t h c))
 
 -- what is kept: slots with what row n gives, and variants
-pub record IsKept (r : ReportValue) (t : ℕ) (h : Header) (n : ℕ) (row : Record) (k : Kept) : Type 0 where
+pub record IsKept (r : ReportValue) (t : ℕ) (h : Header) (n : ℕ) (row : Record) (k : ReadyTable) : Type 0 where
   pub fresh : All (IsFresh r n row) k.slots.items
   pub decimals : All (IsFreshDecimals n row) k.decimals.items
   pub variants : All (IsVariant r t h k.slots.items k.decimals.items) k.variants.items

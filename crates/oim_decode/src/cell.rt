@@ -20,7 +20,7 @@ use crate::append::put;
 use crate::choose::choose;
 use crate::column::FactColumn;
 use crate::decimals_slot::DecimalsSlot;
-use crate::ready_table::Kept;
+use crate::ready_table::ReadyTable;
 use crate::row_at::RowAt;
 use crate::slot::Slot;
 use crate::variant::Variant;
@@ -157,7 +157,7 @@ fn choose_in<'a>(
     at: &RowAt<'_>,
     column: &FactColumn,
     guess: usize,
-    kept: &mut Kept<'a>,
+    kept: &mut ReadyTable<'a>,
 ) -> Result<usize, AllocError>
     requires report { report.now ≡ (at.now).report.now }
     requires column { IsFactColumn (at.now).report.now (at.now).table (at.now).header.now column.now }
@@ -188,7 +188,7 @@ pub(crate) fn put_cell<'a>(
     column: &FactColumn,
     start: &[u8],
     guess: usize,
-    kept: &mut Kept<'a>,
+    kept: &mut ReadyTable<'a>,
     out: &mut Vec<u8>,
 ) -> Result<Option<usize>, CellFault>
     requires report { report.now ≡ (at.now).report.now }

@@ -10,7 +10,7 @@ ghost use Rattle.oim_decode.specs.Variants.{IsKept};
 
 use crate::cell::put_cell;
 use crate::column::FactColumn;
-use crate::ready_table::Kept;
+use crate::ready_table::ReadyTable;
 use crate::row_at::RowAt;
 use crate::row_fault::RowFault;
 use oim_meta::Report;
@@ -82,7 +82,7 @@ fn put_step<'a>(
     column: &FactColumn,
     start: &[u8],
     last: &mut [usize],
-    kept: &mut Kept<'a>,
+    kept: &mut ReadyTable<'a>,
     out: &mut Vec<u8>,
 ) -> Result<(), RowFault>
     requires report { report.now ≡ (at.now).report.now }
@@ -118,7 +118,7 @@ fn put_at<'a>(
     place: usize,
     start: &[u8],
     last: &mut [usize],
-    kept: &mut Kept<'a>,
+    kept: &mut ReadyTable<'a>,
     out: &mut Vec<u8>,
 ) -> Result<(), RowFault>
     requires report { report.now ≡ (at.now).report.now }
@@ -147,7 +147,7 @@ pub(crate) fn put_cells<'a>(
     columns: &[Option<FactColumn>],
     start: &[u8],
     last: &mut [usize],
-    kept: &mut Kept<'a>,
+    kept: &mut ReadyTable<'a>,
     out: &mut Vec<u8>,
 ) -> Result<(), RowFault>
     requires report { report.now ≡ (at.now).report.now }

@@ -12,7 +12,7 @@ ghost use Rattle.oim_decode.specs.Variants.{IsVariant, IsOfRow, IsKept};
 
 use crate::compile::{concept_of, decimals_of, entries_of, levels_of, texts_of};
 use crate::decimals_slot::DecimalsSlot;
-use crate::ready_table::Kept;
+use crate::ready_table::ReadyTable;
 use crate::row_at::RowAt;
 use crate::slot::Slot;
 use crate::variant::Variant;
@@ -157,7 +157,7 @@ pub(crate) fn choose<'a>(
     groups: &[(usize, Option<usize>)],
     at: &RowAt<'_>,
     guess: usize,
-    kept: &mut Kept<'a>,
+    kept: &mut ReadyTable<'a>,
 ) -> Result<usize, AllocError>
     requires report { report.now ≡ (at.now).report.now }
     requires column { column < length (columns_of report.now (at.now).table) }

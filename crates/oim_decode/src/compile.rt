@@ -13,9 +13,9 @@ ghost use Rattle.oim_decode.specs.Pieces.{named, written_entries};
 ghost use Rattle.oim_decode.specs.Ready.{HasSlot, IsDecimals, ConceptHasSlot, fixed_accuracy, wanted_of, written_of};
 ghost use Rattle.oim_decode.specs.Rows.{group_texts, levels_by, group_in};
 
-use crate::ready_decimals::ReadyDecimals;
 use crate::decimals_slot::DecimalsSlot;
 use crate::ready::ReadyEntry;
+use crate::ready_decimals::ReadyDecimals;
 use crate::row_at::RowAt;
 use crate::slot::Slot;
 use crate::slots::decimals_slot_for;

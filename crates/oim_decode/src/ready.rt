@@ -3,31 +3,29 @@
 ghost use Rattle.std.specs.Prelude.{◌≡◌, ◌++◌, ◌<◌, ◌⊎◌, ℕ, List, Some, map, length, IfOk, None};
 ghost use Rattle.std.specs.Option.{option_map};
 ghost use Rattle.std.specs.List.{All};
-ghost use Rattle.oim_json.specs.JsonText.{value_text};
-ghost use Rattle.oim_resolve.specs.Facts.{value_faults_of, entry_given};
+ghost use Rattle.oim_json.specs.JsonText.{quoted, value_text};
+ghost use Rattle.oim_resolve.specs.Facts.{role_of, value_faults_of, entry_given};
+ghost use Rattle.oim_resolve.specs.declared.role.Role.TheVariants.{Concept};
 ghost use Rattle.oim_resolve.specs.Faults.{least};
 ghost use Rattle.oim_resolve.specs.Values.{side_of};
 ghost use Rattle.oim_decode.specs.Pieces.{given_fault, given_piece};
 ghost use Rattle.oim_decode.specs.Ready.{shown, shown_fault, shown_pieces, IsPlaced, behind_name, kind_given};
-ghost use Rattle.std.specs.Prelude.{OnOk};
+ghost use Rattle.std.specs.Prelude.{OnOk, codes, if◌then◌else◌};
 ghost use Rattle.csv.specs.Records.{fields_of};
 ghost use Rattle.oim_cells.specs.Cells.{seen_meaning};
 ghost use Rattle.oim_decode.specs.ReadyTable.{IsFresh, Grows};
-ghost use Rattle.oim_decode.specs.Pieces.{piece};
 ghost use Rattle.oim_decode.specs.Ready.{HasSlot, wanted_of, written_of, literal_meaning as meaning_written};
 
+use crate::answer::{answer_of, concept_of};
 use crate::append::{put, put_quoted};
+use crate::least::least_of;
 use crate::row_at::RowAt;
 use crate::slot::Slot;
 use crate::slots::slot_for;
 use crate::sources::source_written;
 use oim_cells::CellMeaning;
 use oim_meta::{Kind, Report, Written};
-use oim_names::Text;
-use oim_resolve::{
-    CellFault, Role, concept_kind_of, concept_value_fault, entry_given, is_dropped, least_of,
-    role_of, side_of, value_fault,
-};
+use oim_resolve::{CellFault, Role, side_of};
 use std::alloc::{AllocError, Global};
 use std::marker::Model;
 
@@ -85,14 +83,11 @@ fn put_slot(
 }
 
 /// The kind of the concept that a literal names, or its fault.
-#[tactic(auto, unfolding(crate::specs::Ready::kind_given))]
+#[tactic(auto, using(crate::proofs::ReadyLaws::kind_is))]
 fn kind_of(report: &Report, value: CellMeaning<'_>) -> Result<Kind, CellFault>
     ensures { result ≡ kind_given report.now (seen_meaning value.entry) }
 {
-    match concept_value_fault(report, value) {
-        Some(fault) => Err(fault),
-        None => Ok(concept_kind_of(report, value)),
-    }
+    concept_of(report, value)
 }
 
 /// The meaning of a literal.
@@ -107,29 +102,32 @@ fn literal_meaning(written: &Written) -> CellMeaning<'_>
     }
 }
 
-/// Appends a value, or null.
-#[tactic(auto, unfolding(oim_json::specs::JsonText::value_text))]
-fn put_text(value: &Option<Text>, out: &mut Vec<u8>) -> Result<(), AllocError>
-    ensures { OnOk result (out.new.items ≡ out.old.items ++ value_text value.now) }
-{
-    match value {
-        Some(text) => put_quoted(out, text.as_str()),
-        None => put(out, b"null"),
-    }
-}
-
-/// The text of a dimension with a comma behind it, or no text where it gives nothing.
-#[tactic(auto, using(std::proofs::Common::append_assoc), unfolding(oim_json::specs::JsonText::dimension_text))]
-fn piece_of(alloc: Global, name: &str, entry: &Option<Option<Text>>) -> Result<Vec<u8>, AllocError>
-    ensures { IfOk result (λ t. t.items ≡ piece name.now entry.now) }
+/// The name of a dimension and the colon behind it.
+fn name_text(alloc: Global, name: &str) -> Result<Vec<u8>, AllocError>
+    ensures { IfOk result (λ t. t.items ≡ quoted name.now ++ codes ":") }
 {
     let mut text = Vec::new(alloc);
-    if let Some(value) = entry {
-        put_quoted(&mut text, name)?;
-        text.push(b':')?;
-        put_text(value, &mut text)?;
-        text.push(b',')?;
+    put_quoted(&mut text, name)?;
+    text.push(b':')?;
+    Ok(text)
+}
+
+/// The text of a dimension with a comma behind it, or no text where its value is not written.
+#[tactic(auto, using(std::proofs::Common::append_assoc))]
+fn piece_of(
+    alloc: Global,
+    name: &str,
+    is_written: bool,
+    value: &[u8],
+) -> Result<Vec<u8>, AllocError>
+    ensures { IfOk result (λ t. t.items ≡ behind_name (quoted name.now ++ codes ":") (if is_written then Some value.now else None)) }
+{
+    if !is_written {
+        return Ok(Vec::new(alloc));
     }
+    let mut text = name_text(alloc, name)?;
+    put(&mut text, value)?;
+    text.push(b',')?;
     Ok(text)
 }
 
@@ -143,19 +141,19 @@ impl<'a> ReadyEntry<'a> {
     ) -> Result<ReadyEntry<'a>, AllocError>
         ensures { IfOk result (λ e. e ≡ record { report = report.now; name = name.now; written = written.now; slot = None }) }
     {
-        let role = role_of(report, name);
+        let role = Role::of(report, name);
         let side = side_of(written);
         let value = literal_meaning(written);
-        let fault = value_fault(alloc, report, role, side, value)?;
-        let entry = entry_given(alloc, report, role, side, value)?;
-        let text = piece_of(alloc, name, &entry)?;
+        let mut written_value = Vec::new(alloc);
+        let answer = answer_of(alloc, report, role, side, value, &mut written_value)?;
+        let text = piece_of(alloc, name, answer.is_written, written_value.as_slice())?;
         Ok(ReadyEntry {
             report,
             name,
             written,
             slot: None,
             role,
-            fault,
+            fault: answer.fault,
             kind: kind_of(report, value),
             text,
         })
@@ -171,15 +169,13 @@ impl<'a> ReadyEntry<'a> {
     ) -> Result<ReadyEntry<'a>, AllocError>
         ensures { IfOk result (λ e. e ≡ record { report = report.now; name = name.now; written = written.now; slot = Some slot }) }
     {
-        let mut text = Vec::new(alloc);
-        put_quoted(&mut text, name)?;
-        text.push(b':')?;
+        let text = name_text(alloc, name)?;
         Ok(ReadyEntry {
             report,
             name,
             written,
             slot: Some(slot),
-            role: role_of(report, name),
+            role: Role::of(report, name),
             fault: None,
             kind: Err(CellFault::NoConcept),
             text,
@@ -204,7 +200,7 @@ impl<'a> ReadyEntry<'a> {
     {
         match source_written(report, at.table, at.header, written) {
             Some(source) => {
-                let role = role_of(report, name);
+                let role = Role::of(report, name);
                 let slot = slot_for(alloc, report, role, side_of(written), source, at, slots)?;
                 let entry = ReadyEntry::reference(alloc, report, name, written, slot)?;
                 Ok(entry)
@@ -232,7 +228,7 @@ impl<'a> ReadyEntry<'a> {
         ensures text { IfOk result (λ f. f ≡ None → out.new.items ≡ out.old.items
             ++ given_piece (self.now).report kind (self.now).name (side_of (self.now).written) (shown slots.now self.now)) }
     {
-        if is_dropped(kind, self.role) {
+        if self.role.is_dropped(kind) {
             return Ok(None);
         }
         let Some(i) = self.slot else {
@@ -246,7 +242,8 @@ impl<'a> ReadyEntry<'a> {
     /// The kind of the concept that the entry gives, or its fault.
     #[inline]
     pub(crate) fn concept(&self, slots: &[Slot<'a>]) -> Result<Kind, CellFault>
-        requires { IsPlaced slots.now self.now }
+        requires placed { IsPlaced slots.now self.now }
+        requires concept { role_of (self.now).report (self.now).name ≡ Concept }
         ensures { result ≡ kind_given (self.now).report (shown slots.now self.now) }
     {
         let Some(i) = self.slot else {

@@ -9,9 +9,9 @@ ghost use Rattle.oim_resolve.specs.Faults.{least};
 ghost use Rattle.oim_decode.specs.Ready.{shown_stated};
 ghost use Rattle.oim_decode.specs.Rest.{decimals_wrong, number_wrong};
 
-use crate::append::{put, put_quoted};
+use crate::append::put;
+use crate::decimals::put_places;
 use crate::decimals_slot::DecimalsSlot;
-use itoa::Buffer;
 use oim_cells::{Accuracy, CellMeaning};
 use oim_meta::Kind;
 use oim_resolve::CellFault;
@@ -41,24 +41,13 @@ impl Model for ReadyDecimals {
     ghost invariant = { λ a. a.text.items ≡ decimals_text (option_and_then places a.accuracy) };
 }
 
-/// Appends a number of decimal places.
-fn put_number(places: i32, out: &mut Vec<u8>) -> Result<(), AllocError>
-    ensures { OnOk result (out.new.items ≡ out.old.items ++ decimals_text (Some places)) }
-{
-    let mut buffer = Buffer::new();
-    put(out, b"\"decimals\":")?;
-    put(out, buffer.format(places).as_bytes())?;
-    out.push(b',')?;
-    Ok(())
-}
-
 /// Appends the decimals of an accuracy: none where it is infinite.
 #[tactic(auto, unfolding(oim_json::specs::JsonText::decimals_text))]
-pub(crate) fn put_places(accuracy: Option<Accuracy>, out: &mut Vec<u8>) -> Result<(), AllocError>
+fn put_accuracy(accuracy: Option<Accuracy>, out: &mut Vec<u8>) -> Result<(), AllocError>
     ensures { OnOk result (out.new.items ≡ out.old.items ++ decimals_text (option_and_then places accuracy)) }
 {
     match accuracy {
-        Some(Accuracy::Places(n)) => put_number(n, out),
+        Some(Accuracy::Places(n)) => put_places(out, n),
         Some(Accuracy::Infinite) | None => Ok(()),
     }
 }
@@ -73,7 +62,7 @@ impl ReadyDecimals {
         ensures { IfOk result (λ d. d ≡ record { accuracy = accuracy; slot = None }) }
     {
         let mut text = Vec::new(alloc);
-        put_places(accuracy, &mut text)?;
+        put_accuracy(accuracy, &mut text)?;
         Ok(ReadyDecimals {
             accuracy,
             slot: None,
@@ -138,7 +127,7 @@ impl ReadyDecimals {
             return Ok(None);
         }
         if let Some((_, Some(accuracy))) = numeral {
-            put_places(Some(accuracy), out)?;
+            put_accuracy(Some(accuracy), out)?;
             return Ok(None);
         }
         self.put_stated(slots, out)

@@ -6,7 +6,7 @@ use crate::variant::Variant;
 
 /// The slots of a table's references, and its columns of facts under each choice of groups that came.
 #[derive(Drop)]
-pub(crate) struct Kept<'a> {
+pub(crate) struct ReadyTable<'a> {
     pub(crate) slots: Vec<Slot<'a>>,
     pub(crate) decimals: Vec<DecimalsSlot<'a>>,
     pub(crate) variants: Vec<Variant<'a>>,

@@ -29,7 +29,6 @@ pub(crate) fn refresh_slots<'a>(
 
 /// The same for decimals.
 pub(crate) fn refresh_decimals<'a>(
-    alloc: Global,
     at: &RowAt<'_>,
     slots: &mut Vec<DecimalsSlot<'a>>,
 ) -> Result<(), AllocError>
@@ -37,7 +36,7 @@ pub(crate) fn refresh_decimals<'a>(
     ensures same { OnOk result (map (λ d. d.source) slots.new.items ≡ map (λ d. d.source) slots.old.items) }
 {
     for i in 0..slots.len() {
-        slots[i].refresh(alloc, at.number, at.digits, at.record)?;
+        slots[i].refresh(at.number, at.digits, at.record)?;
     }
     Ok(())
 }

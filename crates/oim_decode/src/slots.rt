@@ -5,7 +5,7 @@ ghost use Rattle.std.specs.List.{All, slice_get};
 ghost use Rattle.csv.specs.Records.{fields_of};
 ghost use Rattle.oim_decode.specs.ReadyTable.{IsFresh, IsFreshDecimals, Grows};
 ghost use Rattle.oim_decode.specs.Ready.{wanted_of};
-ghost use Rattle.oim_decode.specs.Sources.{seen_source};
+ghost use Rattle.oim_decode.specs.Answers.{seen_source};
 
 use crate::decimals_slot::DecimalsSlot;
 use crate::row_at::RowAt;
@@ -60,7 +60,7 @@ pub(crate) fn decimals_slot_for<'a>(
         }
     }
     let mut slot = DecimalsSlot::new(alloc, source)?;
-    slot.refresh(alloc, at.number, at.digits, at.record)?;
+    slot.refresh(at.number, at.digits, at.record)?;
     let place = slots.len();
     slots.push(slot)?;
     Ok(place)

@@ -4,7 +4,7 @@ ghost use Rattle.std.specs.Prelude.{◌≡◌, ◌<◌, length};
 ghost use Rattle.std.specs.List.{position_from};
 ghost use Rattle.std.specs.Option.{option_map};
 ghost use Rattle.oim_rows.specs.Header.{is_column};
-ghost use Rattle.oim_decode.specs.Sources.{seen_source};
+ghost use Rattle.oim_decode.specs.Answers.{seen_source};
 ghost use Rattle.oim_decode.specs.Ready.{source_named as named_by, source_written as written_by, source_decimals as decimals_by};
 
 use crate::source::SourceOf;

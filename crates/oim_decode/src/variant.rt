@@ -11,16 +11,17 @@ ghost use Rattle.oim_decode.specs.Ready.{IsPlaced, shown_fault, shown_pieces, sh
 ghost use Rattle.oim_decode.specs.Rest.{decimals_wrong, number_wrong, cut, cut_behind, rest_text};
 
 use crate::append::put;
-use crate::ready_decimals::ReadyDecimals;
 use crate::decimals_slot::DecimalsSlot;
+use crate::least::least_of;
 use crate::numeral::split;
 use crate::ready::{ReadyEntry, put_entries};
+use crate::ready_decimals::ReadyDecimals;
 use crate::slot::Slot;
 use crate::value::put_value;
 use oim_cells::{Accuracy, CellMeaning};
 use oim_meta::Kind;
 use oim_names::Text;
-use oim_resolve::{CellFault, least_of};
+use oim_resolve::CellFault;
 use std::alloc::AllocError;
 
 /// A column of facts under the groups that some texts name.

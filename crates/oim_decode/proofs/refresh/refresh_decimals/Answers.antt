@@ -16,9 +16,10 @@ loop-i-preserved c =
     let len : length xs ≡ length c.args.slots.now.items = sym (length-map xs (λ (d : DecimalsView). d.source)) ∙ ap length c.loop-i.invariant.same ∙ length-map c.args.slots.now.items (λ (d : DecimalsView). d.source) in
     let b : i < length xs = omega (arith, c.args.slots.now.ok.0) in
     let is : x ≡ get_or xs i x = c.index_mut.ensures.value in
-    let done = c.in_ok-refresh.ensures in
-    let fresh : IsFreshDecimals a.number (fields_of a.record.now) y = done.meaning ∙ ap (λ s. source_meaning s a.number (fields_of a.record.now)) (sym done.source) in
+    let done = c.in_ok-refresh.ensures.row in
+    let source : y.source ≡ x.source = ap (λ (d : DecimalsView). d.source) done in
+    let fresh : IsFreshDecimals a.number (fields_of a.record.now) y = ap (λ (d : DecimalsView). d.meaning) done ∙ ap (λ s. source_meaning s a.number (fields_of a.record.now)) (sym source) in
     record {
-      same = set_map (λ (d : DecimalsView). d.source) xs i x y b is done.source ∙ c.loop-i.invariant.same;
+      same = set_map (λ (d : DecimalsView). d.source) xs i x y b is source ∙ c.loop-i.invariant.same;
       fresh = λ k d h. set_below (IsFreshDecimals a.number (fields_of a.record.now)) xs i y b c.loop-i.invariant.fresh fresh k d (omega arith);
     }
