@@ -2,7 +2,7 @@
 use Rattle.std.specs.Prelude.{ℕ, List, [], ◌∷◌, ◌++◌, Option, Some, None, codes, if◌then◌else◌}
 use Rattle.std.specs.List.{flat_map, fold}
 use Rattle.oim_cells.specs.Cells.{Meaning}
-use Rattle.oim_json.specs.JsonText.{dimension_text, member_text}
+use Rattle.oim_json.specs.JsonText.{dimension_text}
 use Rattle.oim_meta.specs.ReportValue.{ReportValue}
 use Rattle.oim_meta.specs.declared.data.Level.{Level}
 use Rattle.oim_meta.specs.declared.data.Side.{Side}
@@ -14,7 +14,6 @@ use Rattle.oim_resolve.specs.Faults.{least, least_of}
 use Rattle.oim_resolve.specs.Values.{value, side_of}
 use Rattle.oim_resolve.specs.Written.{names, written}
 use Rattle.oim_resolve.specs.declared.fact.CellFault.{CellFault}
-use Rattle.oim_resolve.specs.declared.fact.Fact.{Fact}
 
 -- a dimension and the comma behind it
 abbrev pub piece : List ℕ → Option (Option (List ℕ)) → List ℕ
@@ -48,7 +47,3 @@ written_fault c k es = fold (λ f e. least_of f (given_fault c.report k e.0 (sid
 -- and all its pieces
 abbrev pub written_pieces : Cell → Kind → List (List ℕ × Written) → List ℕ
 written_pieces c k es = flat_map (λ e. given_piece c.report k e.0 (side_of e.1) (value c e.1)) es
-
--- the texts of facts, each behind a comma
-abbrev pub behind_commas : List Fact → List ℕ
-behind_commas fs = flat_map (λ f. codes "," ++ member_text f) fs

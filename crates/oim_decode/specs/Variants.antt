@@ -8,7 +8,7 @@ use Rattle.oim_resolve.specs.Written.{written, written_decimals}
 use Rattle.oim_rows.specs.Header.{Header}
 use Rattle.oim_decode.specs.declared.variant.Variant.{Variant}
 use Rattle.oim_decode.specs.declared.ready_table.ReadyTable.{ReadyTable}
-use Rattle.oim_decode.specs.ReadyTable.{IsFresh, IsFreshDecimals}
+use Rattle.oim_decode.specs.ReadyTable.{IsFresh, IsFreshDecimals, IsOfReport}
 use Rattle.oim_decode.specs.Pieces.{written_entries}
 use Rattle.oim_decode.specs.Ready.{HasSlot, IsDecimals, ConceptHasSlot, wanted_of, written_of}
 use Rattle.oim_decode.specs.Rows.{levels_under, group_texts, group_places}
@@ -30,4 +30,9 @@ IsOfRow r t h row c v = (v.column ≡ c) × (v.texts.items ≡ group_texts row (
 pub record IsKept (r : ReportValue) (t : ℕ) (h : Header) (n : ℕ) (row : Record) (k : ReadyTable) : Type 0 where
   pub fresh : All (IsFresh r n row) k.slots.items
   pub decimals : All (IsFreshDecimals n row) k.decimals.items
+  pub variants : All (IsVariant r t h k.slots.items k.decimals.items) k.variants.items
+
+-- what is kept between rows: slots of the report, and variants
+pub record IsReady (r : ReportValue) (t : ℕ) (h : Header) (k : ReadyTable) : Type 0 where
+  pub slots : All (IsOfReport r) k.slots.items
   pub variants : All (IsVariant r t h k.slots.items k.decimals.items) k.variants.items

@@ -1,6 +1,7 @@
 //! The texts of the facts of a row.
 
-ghost use Rattle.std.specs.Prelude.{◌≡◌, ◌<◌, ◌⊎◌, ℕ, List, Some, None, length, map, IfErr, OnOk, Err, ◌+◌};
+ghost use Rattle.std.specs.Prelude.{◌≡◌, ◌<◌, ◌⊎◌, ℕ, List, Some, None, length, map, IfErr, OnOk, Err, ◌+◌, ◌++◌, ◌∷◌, ◌≤◌, []};
+ghost use mathlib.Core.List.{IsPrefix};
 ghost use Rattle.csv.specs.Records.{fields_of};
 ghost use Rattle.oim_rows.specs.Header.{fault_at};
 ghost use Rattle.oim_rows.specs.RowFacts.{kind_of_cell};
@@ -16,7 +17,7 @@ use crate::row_fault::RowFault;
 use oim_meta::Report;
 use oim_resolve::CellFault;
 use oim_rows::{TableFault, TableKind};
-use std::alloc::Global;
+use std::alloc::{AllocError, Global};
 
 /// What a cell's fault is as a table's.
 fn table_kind(fault: CellFault) -> TableKind
@@ -138,8 +139,24 @@ fn put_at<'a>(
     }
 }
 
-/// Appends the facts of a row in header order, each behind a comma, or answers the fault of its first
-/// cell that has one. After a fault a beginning of the text is left.
+/// Notes where a text ends that came behind the first `before` bytes, `base` bytes further on; nothing
+/// where none came.
+#[inline(always)]
+fn note_end(before: usize, base: usize, out: &[u8], ends: &mut Vec<usize>) -> Result<(), AllocError>
+    requires { base ≤ 9223372036854775807 }
+    ensures more { OnOk result (before < length out.now → ends.new.items ≡ ends.old.items ++ (base + length out.now) ∷ []) }
+    ensures none { OnOk result (length out.now ≤ before → ends.new.items ≡ ends.old.items) }
+    ensures stays { IsPrefix ends.old.items ends.new.items }
+{
+    if before < out.len() {
+        ends.push(base + out.len())?;
+    }
+    Ok(())
+}
+
+/// Appends the facts of a row in header order, each behind a comma, and notes where each of them ends,
+/// `base` bytes further on; or answers the fault of its first cell that has one. After a fault a
+/// beginning of the text is left.
 pub(crate) fn put_cells<'a>(
     alloc: Global,
     report: &'a Report,
@@ -149,19 +166,25 @@ pub(crate) fn put_cells<'a>(
     last: &mut [usize],
     kept: &mut ReadyTable<'a>,
     out: &mut Vec<u8>,
+    base: usize,
+    ends: &mut Vec<usize>,
 ) -> Result<(), RowFault>
     requires report { report.now ≡ (at.now).report.now }
     requires columns { AreFactColumns (at.now).report.now (at.now).table (at.now).header.now columns.now }
+    requires base { base ≤ 9223372036854775807 }
     requires start { start.now ≡ start_text (cell_under (at.now).report.now (at.now).table (at.now).header.now (at.now).number (fields_of (at.now).record.now) 0) }
     requires kept { IsKept (at.now).report.now (at.now).table (at.now).header.now (at.now).number (fields_of (at.now).record.now) kept.old }
-    ensures facts { IfOk result (λ _. GivesFacts (at.now).report.now (at.now).table (at.now).header.now (at.now).number (fields_of (at.now).record.now) out.old.items out.new.items) }
+    ensures facts { IfOk result (λ _. GivesFacts (at.now).report.now (at.now).table (at.now).header.now (at.now).number (fields_of (at.now).record.now) base out.old.items out.new.items ends.old.items ends.new.items) }
+    ensures front { IsPrefix ends.old.items ends.new.items }
     ensures fault { IfErr result (IsRowFault (at.now).report.now (at.now).table (at.now).header.now (at.now).number (fields_of (at.now).record.now)) }
     ensures kept { OnOk result (IsKept (at.now).report.now (at.now).table (at.now).header.now (at.now).number (fields_of (at.now).record.now) kept.new) }
 {
     for i in 0..columns.len() {
+        let before = out.len();
         if let Err(fault) = put_at(alloc, report, at, columns, i, start, last, kept, out) {
             return Err(fault);
         }
+        note_end(before, base, out.as_slice(), ends)?;
     }
     Ok(())
 }

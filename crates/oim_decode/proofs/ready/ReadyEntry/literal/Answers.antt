@@ -1,4 +1,4 @@
-use Rattle.std.proofs.Common.{◌≡◌, ◌++◌, ℕ, List, codes, ap, ◌∙◌}
+use Rattle.std.proofs.Common.{◌++◌, ℕ, List, codes, ap, ◌∙◌}
 use Rattle.std.specs.Option.{option_map}
 use Rattle.oim_cells.specs.Cells.{seen_meaning}
 use Rattle.oim_json.specs.JsonText.{quoted, value_text}
