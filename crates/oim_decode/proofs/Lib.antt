@@ -8,3 +8,16 @@ pub mod Places
 pub mod Numerals
 mod Examples
 mod SlotExamples
+pub mod PieceLaws
+pub mod ReadyLaws
+pub mod TextCuts
+pub mod Growth
+pub mod GroupLaws
+pub mod VariantLaws
+pub mod PutRowLaws
+pub mod CellLaws
+pub mod FactLaws
+pub mod Refreshed
+pub mod StepLaws
+pub mod LoopLaws
+mod RowExamples

@@ -5,3 +5,10 @@ pub mod Answers
 pub mod Kept
 pub mod KeptDecimals
 pub mod Digits
+pub mod Pieces
+pub mod Ready
+pub mod Rest
+pub mod Rows
+pub mod ReadyTable
+pub mod Variants
+pub mod Facts

@@ -7,8 +7,8 @@ use Rattle.oim_rows.specs.Header.{Header, file_fault}
 use Rattle.oim_rows.specs.RowFacts.{Reading, facts_from, row_of}
 use Rattle.oim_rows.specs.declared.fault.TableFault.{TableFault}
 use Rattle.oim_rows.specs.declared.fault.TableKind.TheVariants as kind
-use Rattle.oim_decode.specs.declared.row_writer.RowFault.{RowFault}
-use Rattle.oim_decode.specs.declared.row_writer.RowFault.TheVariants as refusal
+use Rattle.oim_decode.specs.declared.row_fault.RowFault.{RowFault}
+use Rattle.oim_decode.specs.declared.row_fault.RowFault.TheVariants as refusal
 
 -- what the rows of a table are written by: its report and its place there, and the header of its file
 pub record Writing : Type 0 where

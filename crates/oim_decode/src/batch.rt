@@ -6,7 +6,8 @@ ghost use Rattle.oim_rows.specs.RowFacts.{IsTextRecord, id_place_of, row_id_text
 ghost use Rattle.oim_decode.specs.RowTexts.{IsAnswer, facts_in, reading_up_to, row_facts};
 
 use crate::remember::{first, none, rest, then};
-use crate::row_writer::{RowFault, RowWriter};
+use crate::row_fault::RowFault;
+use crate::row_writer::RowWriter;
 use csv::StringRecord;
 use oim_json::Block;
 use oim_names::Items;

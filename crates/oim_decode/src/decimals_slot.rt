@@ -1,6 +1,6 @@
 //! A reference for decimals: what it states in the row at hand, with what the texts stated that it had.
 
-ghost use Rattle.std.specs.Prelude.{◌≡◌, ◌<◌, IfOk, OnOk, OnErr, decimal, length};
+ghost use Rattle.std.specs.Prelude.{◌≡◌, ◌<◌, true, IfOk, OnOk, OnErr, decimal, length};
 ghost use Rattle.std.specs.List.{All};
 ghost use Rattle.csv.specs.Records.{fields_of};
 ghost use Rattle.oim_cells.specs.Cells.{meaning_of, Absent as nothing_said};
@@ -66,6 +66,13 @@ impl<'a> DecimalsSlot<'a> {
             kept: empty_places(alloc)?,
             current: 0,
         })
+    }
+
+    /// Whether it is a reference to this source.
+    pub(crate) fn reads(&self, source: SourceOf<'_>) -> bool
+        ensures { result ≡ true → self.now.source ≡ seen_source source.entry }
+    {
+        self.source.is_same(source)
     }
 
     /// Goes on to a row, whose number has these digits. Fails where memory is short, and then the

@@ -10,6 +10,7 @@ ghost use Rattle.oim_rows.specs.Streams.{OrNoMemory};
 ghost use Rattle.oim_rows.specs.declared.fault.TableFault.{TableFault as FaultValue};
 ghost use Rattle.oim_decode.specs.RowTexts.{IsAnswer, facts_in, reading_up_to, row_facts};
 
+use crate::row_fault::RowFault;
 use csv::StringRecord;
 use oim_json::member_of;
 use oim_meta::Report;
@@ -17,14 +18,6 @@ use oim_resolve::Fact;
 use oim_rows::{Decoder, TableFault, TableKind};
 use std::alloc::{AllocError, Global};
 use std::marker::Model;
-
-/// Why the facts of a row are not written.
-pub(crate) enum RowFault {
-    /// The first cell with a fault has this one.
-    Cell(TableFault),
-    /// Memory was refused.
-    Memory,
-}
 
 /// Writes the facts of a table's rows as text. A contract sees the report, the place of the table
 /// and the header.

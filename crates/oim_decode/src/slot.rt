@@ -1,6 +1,6 @@
 //! A reference in a role: what it gives in the row at hand, with the answers of the texts that it had.
 
-ghost use Rattle.std.specs.Prelude.{◌≡◌, ◌<◌, [], None, IfOk, OnOk, OnErr, decimal, length};
+ghost use Rattle.std.specs.Prelude.{◌≡◌, ◌<◌, [], None, true, IfOk, OnOk, OnErr, decimal, length};
 ghost use Rattle.std.specs.List.{All};
 ghost use Rattle.std.specs.Option.{option_map};
 ghost use Rattle.csv.specs.Records.{fields_of};
@@ -64,6 +64,32 @@ fn places_in(role: Role) -> usize
     }
 }
 
+/// Whether two roles are the same.
+fn is_same_role(first: Role, second: Role) -> bool
+    ensures { result ≡ true → first ≡ second }
+{
+    match first {
+        Role::Concept => matches!(second, Role::Concept),
+        Role::Entity => matches!(second, Role::Entity),
+        Role::Period => matches!(second, Role::Period),
+        Role::Unit => matches!(second, Role::Unit),
+        Role::Language => matches!(second, Role::Language),
+        Role::Explicit => matches!(second, Role::Explicit),
+        Role::Typed => matches!(second, Role::Typed),
+    }
+}
+
+/// Whether two sides are the same.
+fn is_same_side(first: Side, second: Side) -> bool
+    ensures { result ≡ true → first ≡ second }
+{
+    match first {
+        Side::Whole => matches!(second, Side::Whole),
+        Side::Start => matches!(second, Side::Start),
+        Side::End => matches!(second, Side::End),
+    }
+}
+
 /// Places that all keep the empty text.
 fn empty_places(
     alloc: Global,
@@ -101,6 +127,15 @@ impl<'a> Slot<'a> {
             kept: empty_places(alloc, report, role, side)?,
             current: 0,
         })
+    }
+
+    /// Whether it is a reference to this source, in this role and side.
+    pub(crate) fn reads(&self, role: Role, side: Side, source: SourceOf<'_>) -> bool
+        ensures { result ≡ true → (self.now.role ≡ role) × (self.now.side ≡ side) × (self.now.source ≡ seen_source source.entry) }
+    {
+        is_same_role(self.role, role)
+            && is_same_side(self.side, side)
+            && self.source.is_same(source)
     }
 
     /// Goes on to a row, whose number has these digits. Fails where memory is short, and then the

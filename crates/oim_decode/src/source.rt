@@ -1,6 +1,7 @@
 //! What a reference of a table's properties names, for the rows of one header.
 
-ghost use Rattle.std.specs.Prelude.{◌≡◌, decimal};
+ghost use Rattle.std.specs.Prelude.{◌≡◌, decimal, true};
+ghost use Rattle.std.specs.Option.{option_map};
 ghost use Rattle.csv.specs.Records.{fields_of};
 ghost use Rattle.oim_cells.specs.Cells.{meaning_of};
 ghost use Rattle.oim_rows.specs.RowFacts.{field_or_empty};
@@ -18,7 +19,42 @@ pub(crate) enum SourceOf<'a> {
     Named(Option<usize>, Option<&'a str>),
 }
 
+/// Whether two texts that may be there are the same.
+fn is_same_text(first: Option<&str>, second: Option<&str>) -> bool
+    ensures { result ≡ true → option_map (λ t. t.now) first.entry ≡ option_map (λ t. t.now) second.entry }
+{
+    match (first, second) {
+        (Some(first), Some(second)) => first == second,
+        (None, None) => true,
+        (Some(_), None) | (None, Some(_)) => false,
+    }
+}
+
+/// Whether two places that may be there are the same.
+fn is_same_place(first: Option<usize>, second: Option<usize>) -> bool
+    ensures { result ≡ true → first ≡ second }
+{
+    match (first, second) {
+        (Some(first), Some(second)) => first == second,
+        (None, None) => true,
+        (Some(_), None) | (None, Some(_)) => false,
+    }
+}
+
 impl<'a> SourceOf<'a> {
+    /// Whether both references name the same.
+    pub(crate) fn is_same(self, other: SourceOf<'_>) -> bool
+        ensures { result ≡ true → seen_source self.entry ≡ seen_source other.entry }
+    {
+        match (self, other) {
+            (SourceOf::RowNumber, SourceOf::RowNumber) => true,
+            (SourceOf::Named(place, parameter), SourceOf::Named(other_place, other_parameter)) =>
+                is_same_place(place, other_place) && is_same_text(parameter, other_parameter),
+            (SourceOf::RowNumber, SourceOf::Named(_, _))
+            | (SourceOf::Named(_, _), SourceOf::RowNumber) => false,
+        }
+    }
+
     /// The text of the reference in a row, whose number has these digits: empty where nothing is
     /// given.
     #[inline(always)]

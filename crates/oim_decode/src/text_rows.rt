@@ -10,7 +10,8 @@ ghost use Rattle.oim_decode.specs.Blocks.{AddsRow};
 ghost use Rattle.oim_decode.specs.RowTexts.{AddsFacts, writing_of};
 
 use crate::batch::Batch;
-use crate::row_writer::{RowFault, RowWriter};
+use crate::row_fault::RowFault;
+use crate::row_writer::RowWriter;
 use csv::{ByteRecord, StringRecord};
 use oim_meta::{Records, Report};
 use oim_rows::{RowForm, RowIds, TableFault, TableKind, fault_of_read, whole_fault};

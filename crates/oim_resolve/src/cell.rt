@@ -11,4 +11,4 @@ mod value;
 
 pub(crate) use crate::cell::place::Place;
 pub(crate) use crate::cell::planned_cell::PlannedCell;
-pub(crate) use crate::cell::texts::{place_of, side_of};
+pub use crate::cell::texts::{place_of, side_of};

@@ -23,7 +23,8 @@ mod least;
 mod plan;
 mod role;
 
+pub use cell::{place_of, side_of};
 pub use dimension::{Entry, read_concept, read_value};
 pub use fact::{CellFault, Fact, Row};
-pub use plan::{Plan, compile, resolve};
+pub use plan::{Plan, compile, levels, resolve};
 pub use role::Role;

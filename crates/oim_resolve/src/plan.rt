@@ -3,7 +3,7 @@
 mod column;
 mod dimension;
 mod group;
-mod levels;
+pub mod levels;
 mod literal;
 mod overlay;
 mod reference;

@@ -101,8 +101,8 @@ impl<'a> Place<'a> {
     }
 }
 
-/// The place of the column of a name.
-pub(crate) fn place_of(columns: &[Column], name: &str) -> Option<usize>
+/// The place of the column of a name, where there is one.
+pub fn place_of(columns: &[Column], name: &str) -> Option<usize>
     ensures { result ≡ position (λ k. bytes_eq k.id name.now) columns.now }
 {
     for (i, column) in columns.iter().enumerate() {
@@ -119,8 +119,9 @@ fn not_empty(text: &str) -> Option<&str>
     if text.is_empty() { None } else { Some(text) }
 }
 
-/// The side of a duration that a reference asks for.
-pub(crate) fn side_of(written: &Written) -> Side
+/// The side of a duration that a reference asks for, the whole where it asks for none.
+/// (xBRL-CSV 1.0, period suffixes)
+pub fn side_of(written: &Written) -> Side
     ensures { result ≡ side_of written.now }
 {
     match written {

@@ -11,9 +11,10 @@ use oim_names::find;
 use std::alloc::{AllocError, Global};
 use std::cmp::Ordering;
 
-/// What is written for a dimension, by the most specific level that writes it.
+/// What is written for a dimension, by the first level that writes it: the levels stand from the most
+/// specific to the most general. (xBRL-CSV 1.0, dimensions and property groups)
 #[tactic(auto, using(crate::proofs::Overrides::written_reversed))]
-pub(crate) fn written<'a>(levels: &[&'a Level], name: &str) -> Option<&'a Written>
+pub fn written<'a>(levels: &[&'a Level], name: &str) -> Option<&'a Written>
     ensures { option_map (λ w. w.now) result ≡ written (reverse (held levels.now)) name.now }
 {
     for level in levels {
@@ -24,9 +25,9 @@ pub(crate) fn written<'a>(levels: &[&'a Level], name: &str) -> Option<&'a Writte
     None
 }
 
-/// What is written for decimals.
+/// What is written for decimals, by the first level that writes them, as in `written`.
 #[tactic(auto, using(crate::proofs::Overrides::decimals_reversed))]
-fn written_decimals<'a>(levels: &[&'a Level]) -> Option<&'a WrittenDecimals>
+pub fn written_decimals<'a>(levels: &[&'a Level]) -> Option<&'a WrittenDecimals>
     ensures { option_map (λ w. w.now) result ≡ written_decimals (reverse (held levels.now)) }
 {
     for level in levels {
@@ -85,8 +86,8 @@ fn put_names<'a>(names: &mut Vec<&'a str>, level: &'a Level) -> Result<(), Alloc
     Ok(())
 }
 
-/// The names that the levels write, in byte order, each once.
-pub(crate) fn names<'a>(alloc: Global, levels: &[&'a Level]) -> Result<Vec<&'a str>, AllocError>
+/// The names that the levels write, in byte order, each once. Fails where memory is short.
+pub fn names<'a>(alloc: Global, levels: &[&'a Level]) -> Result<Vec<&'a str>, AllocError>
     ensures { IfOk result (λ v. held v.items ≡ names (reverse (held levels.now))) }
 {
     let mut names = Vec::new(alloc);

@@ -1,4 +1,4 @@
-use Rattle.std.proofs.Common.{◌≡◌, ◌<◌, ◌++◌, length, take, arith}
+use Rattle.std.proofs.Common.{length, take}
 use Rattle.oim_json.specs.Blocks.{behind_commas, ends_from}
 use Rattle.oim_decode.proofs.Cuts.{nothing_more, prefix_more, prefix_through, put_one}
 use Rattle.oim_decode.proofs.row_writer.put_facts.Goals as goal

@@ -1,4 +1,4 @@
-use Rattle.std.proofs.Common.{◌≡◌, ◌≤◌, ◌∙◌, ap, length, arith, sym}
+use Rattle.std.proofs.Common.{◌≤◌, ◌∙◌, ap, length, arith, sym}
 use Rattle.oim_json.specs.Blocks.{behind_commas, ends_from}
 use Rattle.oim_json.proofs.Blocks.{ends_length}
 use Rattle.oim_decode.proofs.Cuts.{end_of_first, first_ends, first_texts}

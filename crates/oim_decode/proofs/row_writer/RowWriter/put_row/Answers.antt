@@ -1,11 +1,11 @@
-use Rattle.std.proofs.Common.{◌∙◌, ap, length, sym}
+use Rattle.std.proofs.Common.{◌∙◌, ap, length}
 use Rattle.std.proofs.lemmas.List.FromFn.{length-map-range_with_len}
 use Rattle.csv.specs.Records.{fields_of}
 use Rattle.oim_meta.specs.Readers.{columns_of}
 use Rattle.oim_resolve.specs.declared.fact.Row.{Row}
 use Rattle.oim_rows.specs.RowFacts.{cell_at, facts_from}
 use Rattle.oim_decode.specs.RowTexts.{row_facts}
-use Rattle.oim_decode.proofs.RowLaws.{answer_moved, facts_are, same_answer}
+use Rattle.oim_decode.proofs.RowLaws.{answer_moved, same_answer}
 use Rattle.oim_decode.proofs.row_writer.RowWriter.put_row.Goals as goal
 
 pub facts_of_row-requires : goal.facts_of_row-requires

@@ -1,6 +1,6 @@
-use Rattle.std.proofs.Common.{◌≡◌, ◌≤◌, ◌∙◌, None, ap, sym, arith, IfSome}
+use Rattle.std.proofs.Common.{◌∙◌, ap, sym, arith}
 use Rattle.oim_rows.specs.RowFacts.{Reading}
-use Rattle.oim_decode.specs.Blocks.{AddsRow, BlocksLeft, answered_of, left_of}
+use Rattle.oim_decode.specs.Blocks.{BlocksLeft, answered_of}
 use Rattle.oim_decode.proofs.Advances.{no_answer, row_added}
 use Rattle.oim_decode.proofs.table.TableBlocks.fill.Goals as goal
 

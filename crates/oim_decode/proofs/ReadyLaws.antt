@@ -1,0 +1,100 @@
+-- What an entry gives by its slot.
+use Rattle.std.proofs.Common.{◌≡◌, ◌<◌, ℕ, ◌+◌, false, cond, List, [], ◌∷◌, ◌++◌, length, take, get_or, codes, Option, Some, None, Result, Ok, Err, refl, sym, ap, ◌∙◌, append-nil}
+use Rattle.std.specs.List.{slice_get}
+use Rattle.std.specs.Option.{option_map, option_map_or}
+use Rattle.std.proofs.lemmas.Option.{slice_get_within, get_or_from_slice_get}
+use Rattle.std.proofs.lemmas.List.{take_more}
+use Rattle.std.proofs.lemmas.List.Sums.{fold-append}
+use Rattle.std.proofs.lemmas.Grind.{flat_map-append}
+use Rattle.oim_cells.specs.Cells.{Meaning}
+use Rattle.oim_cells.specs.Cells as m
+use Rattle.oim_json.specs.JsonText.{value_text, dimension_text, quoted}
+use Rattle.oim_meta.specs.ReportValue.{ReportValue}
+use Rattle.oim_meta.specs.declared.data.Side.{Side}
+use Rattle.oim_meta.specs.declared.kind.Kind.{Kind}
+use Rattle.oim_resolve.specs.Facts.{role_of, is_dropped, concept_faults_of, text_kind}
+use Rattle.oim_resolve.specs.Faults.{least, least_of}
+use Rattle.oim_resolve.specs.Values.{side_of}
+use Rattle.oim_resolve.specs.declared.fact.CellFault.{CellFault}
+use Rattle.oim_resolve.specs.declared.role.Role.{Role}
+use Rattle.oim_decode.specs.Pieces.{piece, given_fault, given_piece}
+use Rattle.oim_decode.specs.Ready.{EntryView, IsPlaced, IsSlotOf, shown, shown_fault, shown_pieces, behind_name, kind_or, kind_given, literal_meaning}
+use Rattle.oim_decode.specs.Slots.{SlotView, concept_given}
+
+-- a slot that is there
+opened : (e : EntryView) (ss : List SlotView) (i : ℕ) (o : Option SlotView) → slice_get ss i ≡ o → IsSlotOf e o
+    → (s : SlotView) × (slice_get ss i ≡ Some s) × (s.report ≡ e.report) × (s.role ≡ role_of e.report e.name) × (s.side ≡ side_of e.written)
+opened e ss i None g p = absurd p
+opened e ss i (Some s) g p = (s, g, p.0, p.1, p.2)
+
+module _ (ss : List SlotView) (e : EntryView) (i : ℕ) (p : IsPlaced ss e) (at : e.slot ≡ Some i) where
+  abbrev there : (s : SlotView) × (slice_get ss i ≡ Some s) × (s.report ≡ e.report) × (s.role ≡ role_of e.report e.name) × (s.side ≡ side_of e.written)
+  there = opened e ss i (slice_get ss i) refl (p.at i at)
+
+  pub in_range : i < length ss
+  in_range = slice_get_within ss i there.0 there.1
+
+  module _ (x : SlotView) (is : x ≡ get_or ss i x) where
+    same : x ≡ there.0
+    same = is ∙ get_or_from_slice_get ss i there.0 x there.1
+
+    pub meaning_is : x.meaning ≡ shown ss e
+    meaning_is =
+        ap (λ (s : SlotView). s.meaning) same
+        ∙ sym (ap (λ o. option_map_or (λ j. option_map_or (λ (s : SlotView). s.meaning) (slice_get ss j) m.Absent) o (literal_meaning e.written)) at
+        ∙ ap (λ o. option_map_or (λ (s : SlotView). s.meaning) o m.Absent) there.1)
+
+    -- what depends on report, role, side and meaning
+    abbrev by_parts : {A : Type 0} → (ReportValue → Role → Side → Meaning → A) → SlotView → A
+    by_parts F s = F s.report s.role s.side s.meaning
+
+    pub parts_are : {A : Type 0} (F : ReportValue → Role → Side → Meaning → A) → by_parts F x ≡ F e.report (role_of e.report e.name) (side_of e.written) (shown ss e)
+    parts_are F =
+        ap (λ r. F r x.role x.side x.meaning) (ap (λ (s : SlotView). s.report) same ∙ there.2)
+        ∙ ap (λ o. F e.report o x.side x.meaning) (ap (λ (s : SlotView). s.role) same ∙ there.3)
+        ∙ ap (λ d. F e.report (role_of e.report e.name) d x.meaning) (ap (λ (s : SlotView). s.side) same ∙ there.4)
+        ∙ ap (F e.report (role_of e.report e.name) (side_of e.written)) meaning_is
+
+-- what depends on three values that are the same
+pub by_three : {A B C D : Type 0} (F : A → B → C → D) (a a' : A) (b b' : B) (c c' : C) → a ≡ a' → b ≡ b' → c ≡ c' → F a b c ≡ F a' b' c'
+by_three F a a' b b' c c' p q r = λ i. F (p i) (q i) (r i)
+
+-- a name and its value
+pub behind_name_is : (n : List ℕ) (o : Option (Option (List ℕ))) → behind_name (quoted n ++ codes ":") (option_map value_text o) ≡ piece n o
+unfolding dimension_text
+behind_name_is n None = refl
+behind_name_is n (Some v) = refl
+
+pub fault_if_kept : (k : Kind) (o : Role) (f : Option CellFault) → is_dropped k o ≡ false → cond (is_dropped k o) None f ≡ f
+fault_if_kept k o f e = ap (λ b. cond b None f) e
+
+pub piece_if_kept : (k : Kind) (o : Role) (t : List ℕ) → is_dropped k o ≡ false → cond (is_dropped k o) [] t ≡ t
+piece_if_kept k o t e = ap (λ b. cond b [] t) e
+
+-- a kind or a fault
+given_or : (x : Option CellFault) (k : Kind) → option_map_or Err x (Ok k) ≡ kind_or x k
+given_or None k = refl
+given_or (Some f) k = refl
+
+pub kind_is : (r : ReportValue) (v : Meaning) → concept_given r v ≡ kind_given r v
+unfolding kind_given
+kind_is r v = given_or (least (concept_faults_of r v)) (text_kind r v)
+
+-- of two faults that may be there, neither is
+pub neither : (f g : Option CellFault) → least_of f g ≡ None → (f ≡ None) × (g ≡ None)
+neither None g e = (refl, e)
+neither (Some f) g e = absurd (cc)
+
+-- one entry more
+pub fault_more : (ss : List SlotView) (k : Kind) (es : List EntryView) (i : ℕ) (e : EntryView) → i < length es → e ≡ get_or es i e
+    → shown_fault ss k (take (i + 1) es) ≡ least_of (shown_fault ss k (take i es)) (given_fault e.report k e.name (side_of e.written) (shown ss e))
+fault_more ss k es i e h is =
+    ap (shown_fault ss k) (take_more es i e h ∙ ap (λ x. take i es ++ x ∷ []) (sym is))
+    ∙ fold-append (λ f (x : EntryView). least_of f (given_fault x.report k x.name (side_of x.written) (shown ss x))) None (take i es) (e ∷ [])
+
+pub pieces_more : (ss : List SlotView) (k : Kind) (es : List EntryView) (i : ℕ) (e : EntryView) → i < length es → e ≡ get_or es i e
+    → shown_pieces ss k (take (i + 1) es) ≡ shown_pieces ss k (take i es) ++ given_piece e.report k e.name (side_of e.written) (shown ss e)
+pieces_more ss k es i e h is =
+    ap (shown_pieces ss k) (take_more es i e h ∙ ap (λ x. take i es ++ x ∷ []) (sym is))
+    ∙ flat_map-append (λ (x : EntryView). given_piece x.report k x.name (side_of x.written) (shown ss x)) (take i es) (e ∷ [])
+    ∙ ap (λ t. shown_pieces ss k (take i es) ++ t) (append-nil (given_piece e.report k e.name (side_of e.written) (shown ss e)))

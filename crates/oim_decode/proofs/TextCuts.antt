@@ -1,0 +1,47 @@
+-- Cutting the last comma.
+use Rattle.std.proofs.Common.{◌≡◌, ◌<◌, ◌≤◌, ℕ, ◌+◌, ◌-◌, Bool, true, false, List, [], ◌∷◌, ◌++◌, length, take, map, codes, Option, refl, sym, ap, ◌∙◌, append_assoc, append-nil, length-append, arith, cond, nat_lt}
+use Rattle.std.proofs.lemmas.Bool.Decides.{nat_tests}
+use Rattle.oim_json.specs.JsonText.{dimension_text, joined}
+use Rattle.oim_decode.specs.Pieces.{pieces}
+use Rattle.oim_decode.specs.Rest.{cut, cut_behind}
+use Rattle.oim_decode.proofs.PieceLaws.{pieces_joined}
+
+take-behind : (a p : List ℕ) (n : ℕ) → take (length a + n) (a ++ p) ≡ a ++ take n p
+take-behind [] p n = let e : 0 + n ≡ n = omega arith in ap (λ m. take m p) e
+take-behind (x ∷ a) p n =
+    let e : length (x ∷ a) + n ≡ (length a + n) + 1 = omega arith in
+    ap (λ m. take m (x ∷ (a ++ p))) e ∙ more (length a + n) ∙ ap (λ t. x ∷ t) (take-behind a p n)
+  where
+    more : (m : ℕ) → take (m + 1) (x ∷ (a ++ p)) ≡ x ∷ take m (a ++ p)
+    more m = let e : m + 1 ≡ Rattle.std.proofs.Common.suc m = omega arith in ap (λ j. take j (x ∷ (a ++ p))) e
+
+-- what came behind the first n items loses its last
+pub cut_comma : (a p : List ℕ) → cut_behind (length a) (a ++ p) ≡ a ++ cut p
+cut_comma a [] =
+    let same : nat_lt (length a) (length (a ++ [])) ≡ false = grind (arith, nat_tests, length-append {A = ℕ}) in
+    ap (λ b. cond b (cut (a ++ [])) (a ++ [])) same
+cut_comma a (x ∷ p) =
+    let more : nat_lt (length a) (length (a ++ x ∷ p)) ≡ true = grind (arith, nat_tests, length-append {A = ℕ}) in
+    let len : length (a ++ x ∷ p) - 1 ≡ length a + (length (x ∷ p) - 1) = omega (arith, length-append a (x ∷ p)) in
+    ap (λ b. cond b (cut (a ++ x ∷ p)) (a ++ x ∷ p)) more ∙ ap (λ m. take m (a ++ x ∷ p)) len ∙ take-behind a (x ∷ p) (length (x ∷ p) - 1)
+
+cut-last : (j : List ℕ) (x : ℕ) → cut (j ++ x ∷ []) ≡ j
+cut-last j x =
+    let len : length (j ++ x ∷ []) - 1 ≡ length j + 0 = omega (arith, length-append j (x ∷ [])) in
+    ap (λ m. take m (j ++ x ∷ [])) len ∙ take-behind j (x ∷ []) 0 ∙ append-nil j
+
+-- the pieces without the last comma are the dimensions joined by commas
+pub cut_pieces : (ds : List (List ℕ × Option (List ℕ))) → cut (pieces ds) ≡ joined (map dimension_text ds)
+cut_pieces [] = refl
+cut_pieces (d ∷ ds) = ap cut (pieces_joined d ds) ∙ cut-last (joined (map dimension_text (d ∷ ds))) 44
+
+-- the object of dimensions, put in place
+pub dimensions_put : (old a b p x y z w : List ℕ) (n : ℕ) → x ≡ old ++ a → n ≡ length x → y ≡ x ++ p → z ≡ cut_behind n y → w ≡ z ++ b → w ≡ old ++ ((a ++ cut p) ++ b)
+dimensions_put old a b p x y z w n ex en ey ez ew =
+    ew
+    ∙ ap (λ t. t ++ b) (ez ∙ ap (λ m. cut_behind m y) en ∙ ap (cut_behind (length x)) ey ∙ cut_comma x p ∙ ap (λ t. t ++ cut p) ex ∙ append_assoc old a (cut p))
+    ∙ append_assoc old (a ++ cut p) b
+
+-- what follows the identifier, put together
+pub rest_put : (old a A j B v z x y u w : List ℕ) → x ≡ old ++ a → y ≡ x ++ ((A ++ j) ++ B) → u ≡ y ++ v → w ≡ u ++ z → w ≡ old ++ (((((a ++ A) ++ j) ++ B) ++ v) ++ z)
+rest_put old a A j B v z x y u w ex ey eu ew = ew ∙ ap (λ t. t ++ z) (eu ∙ ap (λ t. t ++ v) (ey ∙ ap (λ t. t ++ ((A ++ j) ++ B)) ex)) ∙ simp append_assoc

@@ -1,0 +1,73 @@
+use Rattle.std.proofs.Common.{◌≡◌, ◌<◌, ℕ, length, get_or, refl, sym, ap, subst, ◌∙◌, inr, Option, List}
+use Rattle.std.specs.List.{All}
+use Rattle.csv.specs.Records.{fields_of}
+use Rattle.oim_meta.specs.Readers.{columns_of}
+use Rattle.oim_resolve.specs.Facts.{is_absent, is_unknown}
+use Rattle.oim_resolve.specs.declared.fact.CellFault.TheVariants.{UnknownSpecial}
+use Rattle.oim_rows.specs.RowFacts.{source_of_column}
+use Rattle.oim_decode.specs.Facts.{groups_wrong}
+use Rattle.oim_decode.specs.Rows.{cell_under}
+use Rattle.oim_decode.specs.Slots.{SlotView, DecimalsView}
+use Rattle.oim_decode.specs.Variants.{IsVariant}
+use Rattle.oim_decode.proofs.CellLaws.{absent_is, first_err, first_is, first_unknown, good, all_places, fault_of_fact}
+use Rattle.oim_decode.proofs.cell.put_cell.Goals as goal
+
+pub returns-then-is_absent-clause-cell : goal.returns-then-is_absent-clause-cell
+returns-then-is_absent-clause-cell c =
+    let a = c.args.at.now in
+    (absent_is (cell_under a.report.now a.table a.header.now a.number (fields_of a.record.now) c.args.column.now.column) (ap is_absent (sym c.value_in-value.ensures) ∙ sym c.is_absent.ensures ∙ c.if-is_absent.true), refl)
+
+pub returns-then-is_unknown-clause-cell : goal.returns-then-is_unknown-clause-cell
+returns-then-is_unknown-clause-cell c =
+    let a = c.args.at.now in
+    let cell = cell_under a.report.now a.table a.header.now a.number (fields_of a.record.now) c.args.column.now.column in
+    inr
+    (first_err cell UnknownSpecial (ap is_absent (sym c.value_in-value.ensures) ∙ sym c.is_absent.ensures ∙ c.if-is_absent.false)
+    (first_unknown cell (ap is_unknown (sym c.value_in-value.ensures) ∙ sym c.is_unknown.ensures ∙ c.if-is_unknown.true)))
+
+pub group_fault-requires : goal.group_fault-requires
+group_fault-requires c =
+    let a = c.args.at.now in
+    let P : ℕ → Type 0 = λ i. i < length (columns_of a.report.now a.table) in
+    subst (All (λ (g : ℕ × Option ℕ). P g.0)) (sym (c.as_slice.ensures.value ∙ c.requires.column.groups)) (all_places P (source_of_column a.header.now) _ c.requires.column.from)
+
+pub returns-in-Some-clause-cell : goal.returns-in-Some-clause-cell
+returns-in-Some-clause-cell c =
+    let a = c.args.at.now in
+    let w = fields_of a.record.now in
+    let cell = cell_under a.report.now a.table a.header.now a.number w c.args.column.now.column in
+    let first = first_is a.report.now a.table a.header.now a.number w c.args.column.now.column c.requires.column.from (ap is_unknown (sym c.value_in-value.ensures) ∙ sym c.is_unknown.ensures ∙ c.if-is_unknown.false)
+    ∙ ap (groups_wrong a.report.now a.table w) (sym (c.as_slice.ensures.value ∙ c.requires.column.groups)) in
+    inr (first_err cell c.in-Some.fault (ap is_absent (sym c.value_in-value.ensures) ∙ sym c.is_absent.ensures ∙ c.if-is_absent.false) (first ∙ sym c.in-Some.ensures))
+
+pub put_fact-requires-clause-variant : goal.put_fact-requires-clause-variant
+put_fact-requires-clause-variant c =
+    let a = c.args.at.now in
+    let kept = c.choose_in.new.kept in
+    let v = c.index-variant.result.now in
+    let is : v ≡ get_or kept.variants.items c.in_ok-place.place v = c.index-variant.ensures in
+    let here = subst (IsVariant a.report.now a.table a.header.now kept.slots.items kept.decimals.items) (sym is) (c.in_ok-place.ensures.kept.variants c.in_ok-place.place v c.in_ok-place.ensures.range) in
+    subst (λ (xs : List SlotView). IsVariant a.report.now a.table a.header.now xs c.as_slice-decimals.result.now v) (sym c.as_slice-slots.ensures.value)
+    (subst (λ (ys : List DecimalsView). IsVariant a.report.now a.table a.header.now kept.slots.items ys v) (sym c.as_slice-decimals.ensures.value) here)
+
+pub put_fact-requires-clause-row : goal.put_fact-requires-clause-row
+put_fact-requires-clause-row c = c.in_ok-place.ensures.variant c.index-variant.result.now c.index-variant.ensures
+
+pub returns-in-Ok-clause-cell : goal.returns-in-Ok-clause-cell
+returns-in-Ok-clause-cell c =
+    let a = c.args.at.now in
+    let w = fields_of a.record.now in
+    let cell = cell_under a.report.now a.table a.header.now a.number w c.args.column.now.column in
+    let first = first_is a.report.now a.table a.header.now a.number w c.args.column.now.column c.requires.column.from (ap is_unknown (sym c.value_in-value.ensures) ∙ sym c.is_unknown.ensures ∙ c.if-is_unknown.false)
+    ∙ ap (groups_wrong a.report.now a.table w) (sym (c.as_slice.ensures.value ∙ c.requires.column.groups)) in
+    let given = c.in-Ok.ensures in
+    (good cell (ap is_absent (sym c.value_in-value.ensures) ∙ sym c.is_absent.ensures ∙ c.if-is_absent.false) (first ∙ sym c.in_default.ensures) given.0 given.1, given.2)
+
+pub returns-in-Err-clause-cell : goal.returns-in-Err-clause-cell
+returns-in-Err-clause-cell c =
+    let a = c.args.at.now in
+    let w = fields_of a.record.now in
+    let cell = cell_under a.report.now a.table a.header.now a.number w c.args.column.now.column in
+    let first = first_is a.report.now a.table a.header.now a.number w c.args.column.now.column c.requires.column.from (ap is_unknown (sym c.value_in-value.ensures) ∙ sym c.is_unknown.ensures ∙ c.if-is_unknown.false)
+    ∙ ap (groups_wrong a.report.now a.table w) (sym (c.as_slice.ensures.value ∙ c.requires.column.groups)) in
+    fault_of_fact cell c.in-Err.fault (ap is_absent (sym c.value_in-value.ensures) ∙ sym c.is_absent.ensures ∙ c.if-is_absent.false) (first ∙ sym c.in_default.ensures) c.in-Err.ensures

@@ -1,0 +1,186 @@
+//! The variant of a column for the groups that a row names.
+
+ghost use Rattle.std.specs.Prelude.{◌≡◌, ◌<◌, ◌++◌, List, ℕ, Some, true, length, map, reverse, IfOk, OnOk};
+ghost use Rattle.std.specs.List.{All, slice_get};
+ghost use Rattle.csv.specs.Records.{fields_of};
+ghost use Rattle.oim_meta.specs.Readers.{columns_of};
+ghost use Rattle.oim_rows.specs.RowFacts.{field_or_empty};
+ghost use Rattle.oim_decode.specs.ReadyTable.{IsFresh, IsFreshDecimals, Grows, held};
+ghost use Rattle.oim_decode.specs.Rows.{group_texts, group_places, levels_under};
+ghost use Rattle.oim_decode.specs.declared.variant.Variant.{Variant};
+ghost use Rattle.oim_decode.specs.Variants.{IsVariant, IsOfRow, IsKept};
+
+use crate::compile::{concept_of, decimals_of, entries_of, levels_of, texts_of};
+use crate::decimals_slot::DecimalsSlot;
+use crate::ready_table::ReadyTable;
+use crate::row_at::RowAt;
+use crate::slot::Slot;
+use crate::variant::Variant;
+use oim_meta::{Level, Report};
+use oim_names::Text;
+use std::alloc::{AllocError, Global};
+
+/// The levels of a column under the groups that a row names, the most specific first.
+fn levels_in<'a>(
+    alloc: Global,
+    report: &'a Report,
+    column: usize,
+    groups: &[(usize, Option<usize>)],
+    at: &RowAt<'_>,
+) -> Result<Vec<&'a Level>, AllocError>
+    requires report { report.now ≡ (at.now).report.now }
+    requires column { column < length (columns_of report.now (at.now).table) }
+    requires groups { groups.now ≡ group_places report.now (at.now).table (at.now).header.now column }
+    requires places { All (λ g. g.0 < length (columns_of report.now (at.now).table)) groups.now }
+    ensures { IfOk result (λ v. reverse (held v.items) ≡ levels_under report.now (at.now).table (at.now).header.now column (group_texts (fields_of (at.now).record.now) groups.now)) }
+{
+    let levels = levels_of(alloc, report, column, groups, at)?;
+    Ok(levels)
+}
+
+/// The column under the groups that the row names.
+fn variant<'a>(
+    alloc: Global,
+    report: &'a Report,
+    column: usize,
+    groups: &[(usize, Option<usize>)],
+    at: &RowAt<'_>,
+    slots: &mut Vec<Slot<'a>>,
+    decimals: &mut Vec<DecimalsSlot<'a>>,
+) -> Result<Variant<'a>, AllocError>
+    requires report { report.now ≡ (at.now).report.now }
+    requires column { column < length (columns_of report.now (at.now).table) }
+    requires groups { groups.now ≡ group_places report.now (at.now).table (at.now).header.now column }
+    requires places { All (λ g. g.0 < length (columns_of report.now (at.now).table)) groups.now }
+    requires fresh { All (IsFresh report.now (at.now).number (fields_of (at.now).record.now)) slots.old.items }
+    requires decimals { All (IsFreshDecimals (at.now).number (fields_of (at.now).record.now)) decimals.old.items }
+    ensures variant { IfOk result (λ v. IsVariant report.now (at.now).table (at.now).header.now slots.new.items decimals.new.items v) }
+    ensures row { IfOk result (λ v. IsOfRow report.now (at.now).table (at.now).header.now (fields_of (at.now).record.now) column v) }
+    ensures fresh { OnOk result (All (IsFresh report.now (at.now).number (fields_of (at.now).record.now)) slots.new.items) }
+    ensures fresh_decimals { OnOk result (All (IsFreshDecimals (at.now).number (fields_of (at.now).record.now)) decimals.new.items) }
+    ensures grown { OnOk result (Grows slots.old.items slots.new.items) }
+    ensures grown_decimals { OnOk result (Grows decimals.old.items decimals.new.items) }
+{
+    let levels = levels_in(alloc, report, column, groups, at)?;
+    let entries = entries_of(alloc, report, levels.as_slice(), at, slots)?;
+    let concept = concept_of(alloc, report, levels.as_slice(), at, slots)?;
+    let stated = decimals_of(alloc, report, levels.as_slice(), at, decimals)?;
+    let texts = texts_of(alloc, groups, at)?;
+    Ok(Variant {
+        column,
+        texts,
+        entries,
+        concept,
+        decimals: stated,
+    })
+}
+
+/// Whether this is the text of the row's cell of a column of groups.
+#[inline(always)]
+fn is_text(text: &Text, group: (usize, Option<usize>), at: &RowAt<'_>) -> bool
+    ensures { result ≡ true → text.now ≡ field_or_empty (fields_of (at.now).record.now) group.1 }
+{
+    text.as_str() == at.text_at(group.1)
+}
+
+/// Whether these are the texts of the row's cells of groups.
+#[inline]
+fn are_texts(texts: &[Text], groups: &[(usize, Option<usize>)], at: &RowAt<'_>) -> bool
+    ensures { result ≡ true → texts.now ≡ group_texts (fields_of (at.now).record.now) groups.now }
+{
+    if texts.len() != groups.len() {
+        return false;
+    }
+    for i in 0..texts.len() {
+        if !is_text(&texts[i], groups[i], at) {
+            return false;
+        }
+    }
+    true
+}
+
+/// Whether a variant is that of a column in the row.
+#[inline]
+fn is_of_row(
+    variant: &Variant<'_>,
+    column: usize,
+    groups: &[(usize, Option<usize>)],
+    at: &RowAt<'_>,
+) -> bool
+    requires { groups.now ≡ group_places (at.now).report.now (at.now).table (at.now).header.now column }
+    ensures { result ≡ true → IsOfRow (at.now).report.now (at.now).table (at.now).header.now (fields_of (at.now).record.now) column variant.now }
+{
+    variant.column == column && are_texts(variant.texts.as_slice(), groups, at)
+}
+
+/// The place of the variant of a column in the row, if it is kept.
+fn scan(
+    variants: &[Variant<'_>],
+    column: usize,
+    groups: &[(usize, Option<usize>)],
+    at: &RowAt<'_>,
+) -> Option<usize>
+    requires { groups.now ≡ group_places (at.now).report.now (at.now).table (at.now).header.now column }
+    ensures { (i : ℕ) → result ≡ Some i → (v : Variant) × (slice_get variants.now i ≡ Some v) × IsOfRow (at.now).report.now (at.now).table (at.now).header.now (fields_of (at.now).record.now) column v }
+{
+    for i in 0..variants.len() {
+        if is_of_row(&variants[i], column, groups, at) {
+            return Some(i);
+        }
+    }
+    None
+}
+
+/// The same, which is mostly at `guess`.
+#[inline]
+fn find_variant(
+    variants: &[Variant<'_>],
+    column: usize,
+    groups: &[(usize, Option<usize>)],
+    at: &RowAt<'_>,
+    guess: usize,
+) -> Option<usize>
+    requires { groups.now ≡ group_places (at.now).report.now (at.now).table (at.now).header.now column }
+    ensures { (i : ℕ) → result ≡ Some i → (v : Variant) × (slice_get variants.now i ≡ Some v) × IsOfRow (at.now).report.now (at.now).table (at.now).header.now (fields_of (at.now).record.now) column v }
+{
+    if guess < variants.len() && is_of_row(&variants[guess], column, groups, at) {
+        return Some(guess);
+    }
+    scan(variants, column, groups, at)
+}
+
+/// The place of the variant of a column in the row, which is made where it is not kept yet.
+pub(crate) fn choose<'a>(
+    alloc: Global,
+    report: &'a Report,
+    column: usize,
+    groups: &[(usize, Option<usize>)],
+    at: &RowAt<'_>,
+    guess: usize,
+    kept: &mut ReadyTable<'a>,
+) -> Result<usize, AllocError>
+    requires report { report.now ≡ (at.now).report.now }
+    requires column { column < length (columns_of report.now (at.now).table) }
+    requires groups { groups.now ≡ group_places report.now (at.now).table (at.now).header.now column }
+    requires places { All (λ g. g.0 < length (columns_of report.now (at.now).table)) groups.now }
+    requires kept { IsKept report.now (at.now).table (at.now).header.now (at.now).number (fields_of (at.now).record.now) kept.old }
+    ensures variant { IfOk result (λ i. (v : Variant) × (slice_get kept.new.variants.items i ≡ Some v)
+        × IsOfRow report.now (at.now).table (at.now).header.now (fields_of (at.now).record.now) column v) }
+    ensures kept { OnOk result (IsKept report.now (at.now).table (at.now).header.now (at.now).number (fields_of (at.now).record.now) kept.new) }
+{
+    if let Some(place) = find_variant(kept.variants.as_slice(), column, groups, at, guess) {
+        return Ok(place);
+    }
+    let made = variant(
+        alloc,
+        report,
+        column,
+        groups,
+        at,
+        &mut kept.slots,
+        &mut kept.decimals,
+    )?;
+    let place = kept.variants.len();
+    kept.variants.push(made)?;
+    Ok(place)
+}

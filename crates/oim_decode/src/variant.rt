@@ -1,0 +1,112 @@
+//! A column of facts under the groups that some texts name.
+
+ghost use Rattle.std.specs.Prelude.{◌≡◌, ◌++◌, ◌<◌, ℕ, length, IfOk, None, Some, codes};
+ghost use Rattle.std.specs.List.{All};
+ghost use Rattle.std.specs.Option.{option_map};
+ghost use Rattle.oim_cells.specs.Cells.{seen_meaning, seen_numeral};
+ghost use Rattle.oim_json.specs.JsonText.{decimals_text, value_text};
+ghost use Rattle.oim_resolve.specs.Facts.{numeral as numeral_in, decimals_given, value_text as value_of};
+ghost use Rattle.oim_resolve.specs.Faults.{least_of};
+ghost use Rattle.oim_decode.specs.Ready.{IsPlaced, shown_fault, shown_pieces, shown_stated};
+ghost use Rattle.oim_decode.specs.Rest.{decimals_wrong, number_wrong, cut, cut_behind, rest_text};
+
+use crate::append::put;
+use crate::decimals_slot::DecimalsSlot;
+use crate::least::least_of;
+use crate::numeral::split;
+use crate::ready::{ReadyEntry, put_entries};
+use crate::ready_decimals::ReadyDecimals;
+use crate::slot::Slot;
+use crate::value::put_value;
+use oim_cells::{Accuracy, CellMeaning};
+use oim_meta::Kind;
+use oim_names::Text;
+use oim_resolve::CellFault;
+use std::alloc::AllocError;
+
+/// A column of facts under the groups that some texts name.
+#[derive(Drop)]
+pub(crate) struct Variant<'a> {
+    /// The place of the column in the template.
+    pub(crate) column: usize,
+    /// The texts of the cells of groups, in the column's order of them.
+    pub(crate) texts: Vec<Text>,
+    /// The dimensions, in byte order of name.
+    pub(crate) entries: Vec<ReadyEntry<'a>>,
+    pub(crate) concept: Option<ReadyEntry<'a>>,
+    pub(crate) decimals: ReadyDecimals,
+}
+
+/// The numeral of a cell, where the concept is of numbers.
+#[inline(always)]
+fn numeral_of(kind: Kind, value: CellMeaning<'_>) -> Option<(&str, Option<Accuracy>)>
+    ensures { option_map seen_numeral result ≡ numeral_in kind (seen_meaning value.entry) }
+{
+    match (kind, value) {
+        (Kind::Number(number), CellMeaning::Text(text)) => split(number, text),
+        _ => None,
+    }
+}
+
+/// Takes off the last byte, if any came behind the first `before`.
+#[inline(always)]
+fn cut_comma(out: &mut Vec<u8>, before: usize)
+    ensures { out.new.items ≡ cut_behind before out.old.items }
+{
+    let len = out.len();
+    if before < len {
+        out.truncate(len - 1);
+    }
+}
+
+/// Appends the object of dimensions and what stands before the value, or answers the dimensions' least
+/// fault.
+#[inline]
+fn put_dimensions<'a>(
+    entries: &[ReadyEntry<'a>],
+    kind: Kind,
+    slots: &[Slot<'a>],
+    out: &mut Vec<u8>,
+) -> Result<Option<CellFault>, AllocError>
+    requires { All (IsPlaced slots.now) entries.now }
+    ensures fault { IfOk result (λ f. f ≡ shown_fault slots.now kind entries.now) }
+    ensures text { IfOk result (λ f. f ≡ None → out.new.items ≡ out.old.items
+        ++ (codes "\"dimensions\":{" ++ cut (shown_pieces slots.now kind entries.now) ++ codes "},\"value\":")) }
+{
+    put(out, b"\"dimensions\":{")?;
+    let before = out.len();
+    let fault = put_entries(entries, kind, slots, out)?;
+    cut_comma(out, before);
+    put(out, b"},\"value\":")?;
+    Ok(fault)
+}
+
+impl<'a> Variant<'a> {
+    /// Appends what follows the identifier of a fact, or answers the least fault of dimensions, decimals
+    /// and value. The slots have the meanings of the row.
+    pub(crate) fn put(
+        &self,
+        kind: Kind,
+        value: CellMeaning<'_>,
+        slots: &[Slot<'a>],
+        decimals: &[DecimalsSlot<'a>],
+        out: &mut Vec<u8>,
+    ) -> Result<Option<CellFault>, AllocError>
+        requires placed { All (IsPlaced slots.now) (self.now).entries.items }
+        requires decimals { (i : ℕ) → (self.now).decimals.slot ≡ Some i → i < length decimals.now }
+        ensures fault { IfOk result (λ f. f ≡ least_of
+            (least_of (shown_fault slots.now kind (self.now).entries.items) (decimals_wrong kind (seen_meaning value.entry) (shown_stated decimals.now (self.now).decimals)))
+            (number_wrong kind (seen_meaning value.entry))) }
+        ensures text { IfOk result (λ f. f ≡ None → out.new.items ≡ out.old.items
+            ++ rest_text (decimals_given kind (seen_meaning value.entry) (shown_stated decimals.now (self.now).decimals))
+            (cut (shown_pieces slots.now kind (self.now).entries.items))
+            (value_of kind (seen_meaning value.entry))) }
+    {
+        let numeral = numeral_of(kind, value);
+        let stated = self.decimals.put(kind, value, numeral, decimals, out)?;
+        let dimensions = put_dimensions(self.entries.as_slice(), kind, slots, out)?;
+        let number = put_value(kind, value, numeral, out)?;
+        out.push(b'}')?;
+        Ok(least_of(least_of(dimensions, stated), number))
+    }
+}
