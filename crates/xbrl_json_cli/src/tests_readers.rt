@@ -44,6 +44,13 @@ fn thousand_rows() -> Limits
     }
 }
 
+/// The reader of a report's one table.
+fn alone<R: Drop>(alloc: Global, reader: R) -> Result<Vec<Option<R>>, AllocError> {
+    let mut readers = Vec::new(alloc);
+    readers.push(Some(reader))?;
+    Ok(readers)
+}
+
 /// Whether two workers end so with a report of one table, behind what they write.
 fn threaded<R: Read + Drop + Send>(
     rt: &(impl AllocGlobal + Threads + Wait + Sync),
@@ -52,7 +59,7 @@ fn threaded<R: Read + Drop + Send>(
     document: &mut Vec<u8>,
     ends: Ends<'_>,
 ) -> Result<bool, AllocError> {
-    let readers = vec![in rt.alloc(); Some(reader)]?;
+    let readers = alone(rt.alloc(), reader)?;
     let sink = &mut Marked::new(document);
     let limits = thousand_rows();
     let answer = convert(rt, rt.alloc(), report, readers, 2, 1, limits, sink);
@@ -67,7 +74,7 @@ fn serial<R: Read + Drop>(
     document: &mut Vec<u8>,
     ends: Ends<'_>,
 ) -> Result<bool, AllocError> {
-    let readers = vec![in alloc; Some(reader)]?;
+    let readers = alone(alloc, reader)?;
     let sink = &mut Marked::new(document);
     let answer = convert_serial(alloc, report, readers, thousand_rows(), sink);
     Ok(is_serial_so(&answer, ends))
