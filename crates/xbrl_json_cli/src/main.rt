@@ -75,13 +75,17 @@ use std::process::ExitCode;
 use std::sync::Wait;
 use std::thread::Threads;
 
+/// What is printed where memory for the lines of an outcome is refused.
+const UNSAID: &str = "xbrl-json: out of memory, and so the faults cannot be said\n";
+
 /// The status of an outcome, whose lines are printed. What cannot be printed is left out.
 fn told<H: Eprint>(rt: &H, alloc: Global, outcome: &Outcome) -> u8
     ensures { result ≡ status_of outcome.now }
 {
-    if let Ok(line) = outcome::line(alloc, outcome) {
-        let _ = rt.eprint(line.as_str());
-    }
+    let _ = match outcome::line(alloc, outcome) {
+        Ok(line) => rt.eprint(line.as_str()),
+        Err(_) => rt.eprint(UNSAID),
+    };
     outcome::status(outcome)
 }
 

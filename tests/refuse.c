@@ -1,0 +1,94 @@
+/* Refuses calls of the system to a program that is started with LD_PRELOAD naming this library, so that a test sees what the
+ * program makes of it. REFUSE says which: KIND:N refuses the Nth call of a kind alone, KIND:N+ that and all after it, KIND:=MASK the
+ * first 64 calls whose bits are set, KIND:short cuts each read or write to one byte, KIND:again has every other one say
+ * that a signal came. Kinds: memory, read, write, zero (a write that
+ * takes nothing), open, stat, thread. At the end the number of calls of each kind is written to the file that REFUSE_COUNT names.
+ *
+ *     cc -shared -fPIC -O1 -o refuse.so tests/refuse.c -ldl
+ */
+#define _GNU_SOURCE
+#include <dlfcn.h>
+#include <errno.h>
+#include <fcntl.h>
+#include <pthread.h>
+#include <stdarg.h>
+#include <stdio.h>
+#include <stdlib.h>
+#include <string.h>
+#include <sys/stat.h>
+#include <sys/syscall.h>
+#include <unistd.h>
+
+enum kind { MEMORY, READ, WRITE, OPEN, STAT, THREAD, KINDS };
+
+extern void *__libc_malloc(size_t);
+extern void *__libc_realloc(void *, size_t);
+
+static const char *const names[KINDS] = {"memory", "read", "write", "open", "stat", "thread"};
+static unsigned long calls[KINDS];
+static unsigned long from[KINDS], mask[KINDS];
+static int onward[KINDS], cut[KINDS], again[KINDS], zero;
+
+__attribute__((constructor)) static void read_words(void) {
+    const char *words = getenv("REFUSE");
+    for (int k = 0; words && k < KINDS; k++) {
+        size_t length = strlen(names[k]);
+        const char *word = words;
+        if (k == WRITE && !strncmp(word, "zero:", 5)) { zero = 1; length = 4; }
+        else if (strncmp(word, names[k], length) || word[length] != ':') continue;
+        word += length + 1;
+        if (!strcmp(word, "short")) cut[k] = 1;
+        else if (!strcmp(word, "again")) again[k] = 1;
+        else if (*word == '=') mask[k] = strtoul(word + 1, 0, 0);
+        else { from[k] = strtoul(word, 0, 0); onward[k] = strchr(word, '+') != 0; }
+    }
+}
+
+static int refuses(enum kind k) {
+    unsigned long n = __atomic_add_fetch(&calls[k], 1, __ATOMIC_SEQ_CST);
+    if (mask[k]) return n <= 64 && (mask[k] >> (n - 1) & 1);
+    return from[k] && (onward[k] ? n >= from[k] : n == from[k]);
+}
+
+static int is_interrupted(enum kind k) { return again[k] && (__atomic_load_n(&calls[k], __ATOMIC_SEQ_CST) & 1); }
+
+static int fails(int why) { errno = why; return -1; }
+
+void *malloc(size_t size) { return refuses(MEMORY) ? (errno = ENOMEM, (void *)0) : __libc_malloc(size); }
+
+void *realloc(void *old, size_t size) { return refuses(MEMORY) ? (errno = ENOMEM, (void *)0) : __libc_realloc(old, size); }
+
+ssize_t read(int file, void *to, size_t size) {
+    if (refuses(READ)) return fails(EIO);
+    return is_interrupted(READ) ? fails(EINTR) : syscall(SYS_read, file, to, cut[READ] && size > 1 ? 1 : size);
+}
+
+ssize_t write(int file, const void *from_, size_t size) {
+    if (file != 2 && refuses(WRITE)) return zero ? 0 : fails(ENOSPC);
+    return is_interrupted(WRITE) ? fails(EINTR) : syscall(SYS_write, file, from_, cut[WRITE] && size > 1 ? 1 : size);
+}
+
+int open(const char *path, int flags, ...) {
+    va_list more;
+    va_start(more, flags);
+    int mode = va_arg(more, int);
+    va_end(more);
+    return refuses(OPEN) ? fails(EMFILE) : (int)syscall(SYS_openat, AT_FDCWD, path, flags, mode);
+}
+
+int statx(int folder, const char *path, int flags, unsigned int wanted, struct statx *to) {
+    return refuses(STAT) ? fails(EACCES) : (int)syscall(SYS_statx, folder, path, flags, wanted, to);
+}
+
+int pthread_create(pthread_t *to, const pthread_attr_t *how, void *(*body)(void *), void *with) {
+    int (*real)(pthread_t *, const pthread_attr_t *, void *(*)(void *), void *) = dlsym(RTLD_NEXT, "pthread_create");
+    return refuses(THREAD) ? EAGAIN : real(to, how, body, with);
+}
+
+void _exit(int status) {
+    const char *path = getenv("REFUSE_COUNT");
+    int file = path ? syscall(SYS_openat, AT_FDCWD, path, O_WRONLY | O_CREAT | O_TRUNC, 0600) : -1;
+    for (int k = 0; file >= 0 && k < KINDS; k++) dprintf(file, "%s %lu\n", names[k], calls[k]);
+    syscall(SYS_exit_group, status);
+    __builtin_unreachable();
+}

@@ -1,0 +1,222 @@
+#!/usr/bin/env python3
+"""The built program on a system that refuses: each growth of memory, read, write, open and thread in turn.
+
+    tests/refused.py PROGRAM
+
+A report of three tables and a parameters file is converted once with nothing refused. Then each call that the system can refuse is
+refused, the first alone, then the second, and so on, and again with all that come after it. Whatever is refused, the program must
+end by itself, and what it has written must be a beginning of the whole document, cut only where the lines on standard error say:
+a refused table's line, or the run's own. Each case that is not so has a line; the last line counts. Needs cc, Python 3.9 and Linux.
+"""
+import concurrent.futures
+import json
+import os
+import re
+import subprocess
+import sys
+import tempfile
+from pathlib import Path
+
+TOP = Path(__file__).resolve().parent.parent
+WORDS = ["meta.json", "--types", "types.csv"]
+TABLES = ["t1", "t2", "t3"]
+LINE = re.compile(r"xbrl-json: table (\w+), row 0, column 0: (\w+) \((\d+)\)")
+
+failed = []
+count = 0
+
+
+def case(name, why):
+    """Counts a case; it failed where there is a reason."""
+    global count
+    count += 1
+    if why:
+        failed.append(name)
+        print(f"FAILED {name}: {why}"[:400], flush=True)
+
+
+def report(folder):
+    """Three tables of numbers, texts, references and property groups, over one parameters file."""
+    columns = {
+        "name": {},
+        "cash": {"dimensions": {"concept": "eg:Cash"}, "decimals": "$places", "propertiesFrom": ["kind"]},
+        "note": {"dimensions": {"concept": "eg:Note", "language": "$tongue", "eg:site": "$name"}},
+        "kind": {"propertyGroups": {"net": {"dimensions": {"unit": "iso4217:EUR"}}, "gross": {"dimensions": {"unit": "iso4217:USD"}}}},
+        "places": {},
+    }
+    meta = {
+        "documentInfo": {
+            "documentType": "https://xbrl.org/2021/xbrl-csv",
+            "namespaces": {"eg": "http://example.com/eg", "iso4217": "http://www.xbrl.org/2003/iso4217"},
+            "taxonomy": ["http://example.com/eg.xsd"],
+        },
+        "parameterURL": "parameters.csv",
+        "dimensions": {"entity": "eg:A1", "period": "2021"},
+        "tableTemplates": {"p": {"rowIdColumn": "name", "columns": columns}},
+        "tables": {name: {"url": f"{name}.csv", "template": "p"} for name in TABLES},
+    }
+    (folder / "meta.json").write_text(json.dumps(meta))
+    (folder / "types.csv").write_text(
+        "namespace,name,type\nhttp://example.com/eg,Cash,decimal\nhttp://example.com/eg,Note,text\nhttp://example.com/eg,site,typed\n"
+    )
+    (folder / "parameters.csv").write_text("name,value\ntongue,en\n")
+    for table in TABLES:
+        rows = "".join(f'{table}{i},{i}.5,"a ""quoted"" note",{"net" if i % 2 else "gross"},{i}\n' for i in range(3))
+        (folder / f"{table}.csv").write_text("name,cash,note,kind,places\n" + rows)
+
+
+def run(folder, refuse="", words=(), counts=None):
+    """Status, standard output and lines of a run in which a call is refused."""
+    told = {**os.environ, "LD_PRELOAD": SHIM, "REFUSE": refuse, "REFUSE_COUNT": counts or "/dev/null"}
+    try:
+        done = subprocess.run([PROGRAM, *WORDS, *words], cwd=folder, env=told, stdin=subprocess.DEVNULL, capture_output=True, timeout=60)
+    except subprocess.TimeoutExpired:
+        return None, b"", ""
+    return done.returncode, done.stdout, done.stderr.decode(errors="replace")
+
+
+class Document:
+    """The whole document, and where the text of each fact of each table ends in it."""
+
+    def __init__(self, whole):
+        self.whole = whole
+        ends = [m.start() for m in re.finditer(rb'[,{]"t\d\.', whole)]
+        self.starts = {table: [it for it in ends if whole[it + 2 :].startswith(f"{table}.".encode())] for table in TABLES}
+        self.head = self.starts[TABLES[0]][0] + 1
+        self.tail = whole.rindex(b"}}")
+
+    def cuts(self, table):
+        """The texts that end at a fact of a table, or before its first one."""
+        first = TABLES.index(table)
+        begin = self.starts[table]
+        after = self.starts[TABLES[first + 1]][0] if first + 1 < len(TABLES) else self.tail
+        return {self.whole[: begin[0] if first else self.head]} | {self.whole[:it] for it in begin[1:] + [after]}
+
+
+def fault_of(seen, document, kind):
+    """What is wrong with a run in which calls of a kind were refused, or None."""
+    status, out, err = seen
+    lines = err.splitlines()
+    if status is None:
+        return "it does not end"
+    if status == 0:
+        return None if (out, err) == (document.whole, "") else f"status 0 without the document: {err}"
+    if status == 1 and lines and all(LINE.fullmatch(it) for it in lines):
+        tables, names = [LINE.fullmatch(it)[1] for it in lines], {LINE.fullmatch(it)[2] for it in lines}
+        if tables != sorted(set(tables)) or not names <= FAULTS[kind]:
+            return f"lines {lines}"
+        return None if out in document.cuts(tables[0]) else f"another text before {lines[0]}: {out!r}"
+    if kind == "memory" and err == UNSAID and status in (1, 3):
+        return None if out == b"" or any(out in document.cuts(it) for it in TABLES) else f"another text: {out!r}"
+    if err in ENDS[kind] and status == (1 if err.endswith((" (16)\n", " (17)\n")) else 3):
+        if "output" in err:
+            return None if document.whole.startswith(out) else f"no beginning of the document: {out!r}"
+        return f"{err} with text written" if out else None
+    return f"status {status}, {err!r}, {out!r}"
+
+
+FAULTS = {"memory": {"Memory"}, "read": {"Read"}, "write": set(), "zero": set(), "open": {"Read"}, "stat": {"Read"}, "thread": {"NoThread"}}
+UNSAID = "xbrl-json: out of memory, and so the faults cannot be said\n"
+FILES = ["meta.json", "types.csv", "parameters.csv"]
+CANNOT_READ = {f"xbrl-json: cannot read {it}\n" for it in FILES}
+FAILED_READ = {f"xbrl-json: {it}: Read (17)\n" for it in ["report", "types", "parameters"]}
+ENDS = {
+    "memory": {f"xbrl-json: {it}: Memory (16)\n" for it in ["report", "types", "parameters"]}
+    | {"xbrl-json: run: Memory (53)\n", "error: out of memory\n"},
+    "read": FAILED_READ,
+    "write": {"xbrl-json: output: Write (56)\n"},
+    "zero": {"xbrl-json: output: Write (56)\n"},
+    "open": CANNOT_READ | {"xbrl-json: output: Write (56)\n"},
+    "stat": CANNOT_READ,
+    "thread": set(),
+}
+SIZES = [("1", "1"), ("2", "1"), ("3", "4")]
+
+
+def each_call_refused(folder, document, pool):
+    """Refuses each call of each kind, alone and with all after it, at one of three numbers of workers."""
+    path = str(folder / "counts")
+    todo = []
+    for workers, ring in SIZES:
+        words = ["--workers", workers, "--ring", ring]
+        run(folder, "", words, path)
+        calls = {name: int(number) for name, number in map(str.split, Path(path).read_text().splitlines())}
+        calls["zero"] = calls["write"]
+        few = ["read", "write", "zero", "open", "stat", "thread"]
+        kinds = ["memory", *few] if workers == "2" else few
+        todo += [(f"{kind}:{n}{more}", kind, words) for kind in kinds for n in range(1, calls[kind] + 2) for more in ("", "+")]
+    for (refuse, kind, words), seen in zip(todo, pool.map(lambda it: run(folder, it[0], it[2]), todo)):
+        case(f"{refuse}, {words}", fault_of(seen, document, kind))
+
+
+def some_threads_refused(folder, document, pool):
+    """Every choice of four workers whose threads are refused: the whole document, unless none could be started."""
+    todo = [(mask, ring) for mask in range(1, 16) for ring in ("1", "3")]
+    seen = pool.map(lambda it: run(folder, f"thread:={it[0]}", ["--workers", "4", "--ring", it[1]]), todo)
+    for (mask, ring), (status, out, err) in zip(todo, seen):
+        lines = "".join(f"xbrl-json: table {it}, row 0, column 0: NoThread (43)\n" for it in TABLES)
+        wanted = (0, document.whole, "") if mask != 15 else (1, document.whole[: document.head], lines)
+        case(f"threads refused: {mask:04b}, ring {ring}", None if (status, out, err) == wanted else f"{status} {err} {out!r}")
+
+
+def cut_short(folder, document, pool):
+    """Reads and writes of one byte each, and writes that a signal stops, change nothing."""
+    for refuse in ("read:short", "write:short", "write:again"):
+        seen = run(folder, refuse)
+        case(refuse, None if seen == (0, document.whole, "") else seen)
+
+
+def each_open_refused_beside_an_output(folder, document, pool):
+    """With --out the file holds what standard output would, and a refused open of it is said before anything is read."""
+    out = folder / "out.json"
+    for n in range(1, 10):
+        out.write_bytes(b"what was there")
+        status, printed, err = run(folder, f"open:{n}", ["--out", "out.json"])
+        held = out.read_bytes()
+        if err == "xbrl-json: cannot write out.json\n":
+            case(f"open:{n}, --out", None if (status, printed, held) == (3, b"", b"what was there") else (status, printed, held))
+        else:
+            case(f"open:{n}, --out", "printed" if printed else fault_of((status, held, err), document, "open"))
+
+
+def a_first_write_that_fails(folder, document, pool):
+    """Eight tables of 100 facts through rings of one block: a beginning of the document, none where no write succeeds, and an end."""
+    many = folder / "many"
+    many.mkdir()
+    meta = json.loads((folder / "meta.json").read_text())
+    meta["tables"] = {f"t{i}": {"url": "t.csv", "template": "p"} for i in range(8)}
+    (many / "meta.json").write_text(json.dumps(meta))
+    for name in ("types.csv", "parameters.csv"):
+        (many / name).write_text((folder / name).read_text())
+    (many / "t.csv").write_text("name,note\n" + "".join(f"r{i},text\n" for i in range(100)))
+    whole = run(many)[1]
+    for workers in ("1", "2", "8"):
+        for refuse in ("write:1", "zero:1", "write:1+"):
+            status, out, err = run(many, refuse, ["--workers", workers, "--ring", "1"])
+            is_beginning = whole.startswith(out) and out != whole and (out == b"" or refuse != "write:1+")
+            said = (status, err) == (3, "xbrl-json: output: Write (56)\n")
+            case(f"{refuse}, eight tables, {workers} workers", None if is_beginning and said else (status, err, out))
+
+
+def main():
+    global SHIM
+    with tempfile.TemporaryDirectory() as there, concurrent.futures.ThreadPoolExecutor(os.cpu_count()) as pool:
+        SHIM = f"{there}/refuse.so"
+        subprocess.run(["cc", "-shared", "-fPIC", "-O1", "-o", SHIM, TOP / "tests/refuse.c", "-ldl"], check=True)
+        folder = Path(there) / "report"
+        folder.mkdir()
+        report(folder)
+        status, whole, err = run(folder)
+        case("nothing refused", None if (status, err) == (0, "") and len(json.loads(whole)["facts"]) == 18 else (status, err))
+        document = Document(whole)
+        for part in (each_call_refused, some_threads_refused, cut_short, each_open_refused_beside_an_output, a_first_write_that_fails):
+            part(folder, document, pool)
+    print(f"on a system that refuses: {count - len(failed)} as they must be, {len(failed)} not")
+    sys.exit(1 if failed else 0)
+
+
+if __name__ == "__main__":
+    if len(sys.argv) != 2:
+        sys.exit(__doc__)
+    PROGRAM = os.path.abspath(sys.argv[1])
+    main()
