@@ -2,6 +2,7 @@ pub mod Cell
 pub mod Written
 pub mod Values
 pub mod Faults
+pub mod FactValues
 pub mod Facts
 pub mod Order
 pub mod Rows
