@@ -6,6 +6,7 @@ use Rattle.oim_cells.specs.declared.cells.Accuracy.TheVariants.{Infinite, Places
 use Rattle.oim_cells.specs.declared.cells.NumberKind.{NumberKind}
 use Rattle.oim_cells.specs.declared.cells.NumberKind.TheVariants.{Integer, Decimal, Double}
 use Rattle.oim_cells.specs.Blanks.{is_blank, trimmed}
+use Rattle.oim_cells.specs.Boolean.{is_boolean_text}
 use Rattle.oim_cells.specs.Cells.{Absent, Nil, Empty, Text, Unknown, meaning_of, accuracy_of, numeral_of}
 
 -- SPECIAL VALUES
@@ -31,6 +32,13 @@ blanks = (refl, refl)
 
 trims : map trimmed ((9 ∷ 10 ∷ 49 ∷ 13 ∷ 32 ∷ []) ∷ (32 ∷ 49 ∷ 32 ∷ 50 ∷ []) ∷ (32 ∷ 9 ∷ []) ∷ []) ≡ codes "1" ∷ codes "1 2" ∷ [] ∷ []
 trims = refl
+
+-- BOOLEAN VALUES, each as it is written
+booleans : list_all is_boolean_text (codes "true" ∷ codes "false" ∷ codes "1" ∷ codes "0" ∷ []) ≡ true
+booleans = refl
+
+no_booleans : list_any is_boolean_text ([] ∷ codes "TRUE" ∷ codes "True" ∷ codes "t" ∷ codes "yes" ∷ codes "2" ∷ codes "10" ∷ codes "01" ∷ codes "+1" ∷ codes " true " ∷ codes "truefalse" ∷ []) ≡ false
+no_booleans = refl
 
 -- NUMERALS of each kind without a suffix
 bare : NumberKind → List ℕ → Bool

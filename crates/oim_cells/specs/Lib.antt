@@ -1,3 +1,4 @@
 pub mod Cells
 pub mod Numeral
 pub mod Blanks
+pub mod Boolean

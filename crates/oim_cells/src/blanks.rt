@@ -1,7 +1,7 @@
 //! Blanks at the ends of a text.
 
 ghost use Rattle.std.specs.Prelude.{◌≡◌, ◌<◌, length, MatchOption};
-ghost use Rattle.oim_cells.specs.Blanks.{is_blank as is_blank_byte, without_front, without_back, trimmed};
+ghost use Rattle.oim_cells.specs.Blanks.{is_blank as is_blank_byte, without_front, without_back, trimmed as without_blanks};
 
 /// Whether the byte is a space, a tab, a carriage return or a line feed.
 fn is_blank(byte: u8) -> bool
@@ -54,9 +54,11 @@ fn trim_back(text: &str) -> &str
     trimmed
 }
 
-/// The text without blanks at its ends.
-pub fn trim(text: &str) -> &str
-    ensures { result.now ≡ trimmed text.now }
+/// The text without the spaces, tabs, carriage returns and line feeds at its ends (XML 1.0 fifth edition, white space).
+///
+/// It takes any text and no memory, and the answer is a part of `text`.
+pub fn trimmed(text: &str) -> &str
+    ensures { result.now ≡ without_blanks text.now }
 {
     trim_back(trim_front(text))
 }

@@ -140,5 +140,5 @@ pub fn split_numeral(kind: NumberKind, text: &str) -> Option<(&str, Option<Accur
     ensures only { IsSplitOnce kind (trimmed text.now) }
     ensures value { option_map seen_numeral result ≡ numeral_of kind text.now }
 {
-    split(kind, blanks::trim(text))
+    split(kind, blanks::trimmed(text))
 }

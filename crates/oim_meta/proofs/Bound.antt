@@ -1,6 +1,6 @@
 -- Where no text stands under two names and each name is one without a colon, the members' texts are namespaces.
-use Rattle.std.proofs.Common.{◌≡◌, ℕ, List, Bool, true, false, not, refl}
-use Rattle.serde_json.specs.Data.{Data, Members, no_members, member}
+use Rattle.std.proofs.Common.{◌≡◌, Bool, true, false, not, refl}
+use Rattle.serde_json.specs.Data.{Members, no_members, member}
 use Rattle.oim_names.specs.Bindings.{HaveNames, IsNamespaces}
 use Rattle.oim_names.specs.Names.{is_ncname}
 use Rattle.oim_meta.specs.Members.{is_text, any_member}

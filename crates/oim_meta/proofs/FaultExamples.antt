@@ -1,10 +1,10 @@
 -- Each fault of a metadata on worked cases, at its limits. The answers come from xBRL-CSV 1.0 and from this project's limits.
-use Rattle.std.proofs.Common.{◌≡◌, ℕ, ◌∷◌, List, [], Bool, true, false, Option, Some, None, refl, map, pos, negsuc}
+use Rattle.std.proofs.Common.{◌≡◌, ℕ, ◌∷◌, List, [], Bool, true, false, Option, Some, None, refl, map, negsuc}
 use Rattle.std.specs.Prelude.{codes, nat_le, if◌then◌else◌}
 use Rattle.std.specs.List.{list_all, list_any}
 use Rattle.std.specs.Str.{chars, is_utf8}
 use lib.Utf8.{encode}
-use Rattle.serde_json.specs.Data.{Data, null, boolean, number, unsigned, negative, string, array, object, no_items, item, Members, no_members, member}
+use Rattle.serde_json.specs.Data.{Data, null, boolean, number, unsigned, negative, string, array, object, no_items, item, no_members, member}
 use Rattle.oim_cells.specs.Cells.{meaning_of, accuracy_of}
 use Rattle.oim_cells.specs.declared.cells.NumberKind.TheVariants.{Integer}
 use Rattle.oim_names.specs.Bindings.{Bindings}

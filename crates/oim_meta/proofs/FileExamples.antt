@@ -1,24 +1,26 @@
 -- Parameters files, types tables and the bytes of a metadata on worked cases, at their limits. The answers come from xBRL-CSV 1.0 and from this
 -- project's own formats.
-use Rattle.std.proofs.Common.{◌≡◌, ℕ, List, [], ◌∷◌, Bool, true, false, Some, None, Ok, Err, refl, codes, map}
-use Rattle.std.specs.List.{list_all, list_any}
+use Rattle.std.proofs.Common.{◌≡◌, ℕ, List, [], ◌∷◌, Option, Some, None, Ok, Err, refl, codes, map}
 use Rattle.std.specs.Str.{chars, is_utf8}
 use lib.Utf8.{encode}
-use Rattle.serde_json.specs.Data.{Data, null, array, string, object, no_items, Members, no_members, member}
+use Rattle.serde_json.specs.Data.{Data, null, string, object, Members, no_members, member}
 use Rattle.oim_cells.specs.declared.cells.NumberKind.TheVariants.{Integer, Decimal, Double}
 use Rattle.oim_names.specs.Names.{is_name_start, is_name_char, is_plain_char, is_ncname, is_identifier}
-use Rattle.oim_meta.specs.CsvFiles.{all_of, text_field}
+use Rattle.oim_meta.specs.CsvFiles.{all_of}
 use Rattle.oim_meta.specs.FaultNames.{fault_number, fault_name}
-use Rattle.oim_meta.specs.Grid.{Record, records_left, grid}
+use Rattle.oim_meta.specs.Grid.{Record}
 use Rattle.oim_meta.specs.ParametersFile.{parameters_file, parameters_result}
-use Rattle.oim_meta.specs.TypesFile.{kind_of_word, types_file, types_result}
+use Rattle.oim_names.specs.Lookup.{value_at}
+use Rattle.oim_meta.specs.TypeWords.{Words, plain_words, wider_words, words_chosen}
+use Rattle.oim_meta.specs.TypesFile.{types_file, types_result}
 use Rattle.oim_meta.specs.Types.{kind_in}
 use Rattle.oim_meta.specs.Reading.{after_mark, first_url_fault}
 use Rattle.oim_meta.specs.Faults.{has_no_report}
 use Rattle.oim_meta.specs.BadParameters.{has_bad_parameter_url}
 use Rattle.oim_meta.specs.PlainPath.{is_plain_path}
 use Rattle.oim_meta.specs.declared.fault.MetaFault.TheVariants.{Syntax, NotReport, BadNamespaces, BadTaxonomy, Unsupported, BadIdentifier, BadTemplate, ColumnKinds, UnknownTemplate, UnknownColumn, BadDimension, BadDecimals, BadParameter, BadTypes, TooLarge, Memory, Read}
-use Rattle.oim_meta.specs.declared.kind.Kind.TheVariants.{Number, Text, Other, Explicit, Typed}
+use Rattle.oim_meta.specs.declared.kind.Kind.{Kind}
+use Rattle.oim_meta.specs.declared.kind.Kind.TheVariants.{Number, Text, Boolean, Date, Name, Other, Explicit, Typed}
 
 -- PARAMETERS
 abbrev name_value : Record
@@ -62,10 +64,40 @@ namespace_name_type = codes "namespace" ∷ codes "name" ∷ codes "type" ∷ []
 abbrev typed : List ℕ → List ℕ → List ℕ → Record
 typed uri name word = uri ∷ name ∷ word ∷ []
 
+-- the words under `type`, and those under `type2`
+abbrev kinds_by : Words → List (List ℕ) → List (Option Kind)
+kinds_by words ws = map (λ w. value_at w words) ws
+
+abbrev old_words : List (List ℕ)
+old_words = codes "integer" ∷ codes "decimal" ∷ codes "double" ∷ codes "text" ∷ codes "other" ∷ codes "explicit" ∷ codes "typed" ∷ codes "Text" ∷ [] ∷ []
+
+abbrev old_kinds : List (Option Kind)
+old_kinds = Some (Number Integer) ∷ Some (Number Decimal) ∷ Some (Number Double) ∷ Some Text ∷ Some Other ∷ Some Explicit ∷ Some Typed ∷ None ∷ None ∷ []
+
+abbrev new_words : List (List ℕ)
+new_words = codes "boolean" ∷ codes "date" ∷ codes "qname" ∷ codes "QName" ∷ []
+
 words :
-    map kind_of_word (codes "integer" ∷ codes "decimal" ∷ codes "double" ∷ codes "text" ∷ codes "other" ∷ codes "explicit" ∷ codes "typed" ∷ codes "Text" ∷ [] ∷ [])
-    ≡ Some (Number Integer) ∷ Some (Number Decimal) ∷ Some (Number Double) ∷ Some Text ∷ Some Other ∷ Some Explicit ∷ Some Typed ∷ None ∷ None ∷ []
-words = refl
+    (kinds_by plain_words old_words ≡ old_kinds) × (kinds_by plain_words new_words ≡ None ∷ None ∷ None ∷ None ∷ [])
+    × (kinds_by wider_words old_words ≡ old_kinds) × (kinds_by wider_words new_words ≡ Some Boolean ∷ Some Date ∷ Some Name ∷ None ∷ [])
+words = (refl, refl, refl, refl)
+
+-- the header chooses the words
+words_by_header : map (λ w. words_chosen (typed (codes "namespace") (codes "name") w)) (codes "type" ∷ codes "type2" ∷ codes "type1" ∷ codes "Type2" ∷ []) ≡ Some plain_words ∷ Some wider_words ∷ None ∷ None ∷ []
+unfolding is_utf8 chars encode
+words_by_header = refl
+
+abbrev namespace_name_type2 : Record
+namespace_name_type2 = codes "namespace" ∷ codes "name" ∷ codes "type2" ∷ []
+
+abbrev open_boolean : List Record
+open_boolean = typed (codes "u") (codes "Open") (codes "boolean") ∷ typed (codes "u") (codes "Cash") (codes "integer") ∷ []
+
+new_word_under_each_header :
+    (types_result (namespace_name_type2 ∷ open_boolean) ≡ Ok ((codes "u", (codes "Open", Boolean) ∷ (codes "Cash", Number Integer) ∷ []) ∷ []))
+    × (types_result (namespace_name_type ∷ open_boolean) ≡ Err BadTypes)
+unfolding all_of is_ncname is_name_char is_name_start chars is_utf8 encode
+new_word_under_each_header = (refl, refl)
 
 -- one name in two namespaces; a namespace may be any text, and a name may hold a point
 types :
@@ -97,8 +129,8 @@ bad_types = refl
 
 -- 1,048,576 records are accepted; one more is too many, whatever it holds
 types_limit :
-    (all_of types_file 1_048_575 [] (typed (codes "u") (codes "a") (codes "text") ∷ []) ≡ Ok ((codes "u", (codes "a", Text) ∷ []) ∷ []))
-    × (all_of types_file 1_048_576 [] ([] ∷ []) ≡ Err TooLarge)
+    (all_of (types_file plain_words) 1_048_575 [] (typed (codes "u") (codes "a") (codes "text") ∷ []) ≡ Ok ((codes "u", (codes "a", Text) ∷ []) ∷ []))
+    × (all_of (types_file plain_words) 1_048_576 [] ([] ∷ []) ≡ Err TooLarge)
 unfolding all_of is_ncname is_name_char is_name_start chars is_utf8 encode
 types_limit = (refl, refl)
 

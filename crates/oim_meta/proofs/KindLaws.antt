@@ -10,7 +10,8 @@ use Rattle.oim_meta.specs.CsvFiles.{all_of, three_texts, unless_bad}
 use Rattle.oim_meta.specs.Grid.{Field, Record}
 use Rattle.oim_meta.specs.Named.{pushed_under}
 use Rattle.oim_meta.specs.Types.{TypesValue, kind_in}
-use Rattle.oim_meta.specs.TypesFile.{kind_of_word, type_after, types_file, with_kind, with_type}
+use Rattle.oim_meta.specs.TypeWords.{Words}
+use Rattle.oim_meta.specs.TypesFile.{type_after, types_file, with_kind, with_type}
 use Rattle.oim_meta.specs.WholeFile.{kind_by, kind_said}
 use Rattle.oim_meta.specs.declared.fault.MetaFault.TheVariants as fault
 use Rattle.oim_meta.specs.declared.kind.Kind.{Kind}
@@ -71,36 +72,36 @@ said-more (e ∷ es) u l uri local k = by (bytes_eq e.0 u) (bytes_eq e.0 uri) re
     by false false h i more = rw (h, i) more
 
 -- what one record more says
-said-after : (types after : TypesValue) (r : Record) (uri local : List ℕ) → type_after types r ≡ Some after → kind_in after uri local ≡ option_or (kind_in types uri local) (option_and_then (kind_by uri local) (three_texts r))
-said-after types after r uri local e = of (three_texts r) refl
+said-after : (words : Words) (types after : TypesValue) (r : Record) (uri local : List ℕ) → type_after words types r ≡ Some after → kind_in after uri local ≡ option_or (kind_in types uri local) (option_and_then (kind_by words uri local) (three_texts r))
+said-after words types after r uri local e = of (three_texts r) refl
   where
-    word : (p : Field × Field × Field) (o : Option Kind) → kind_of_word p.2 ≡ o → option_and_then (λ k. Some (with_kind types p.0 p.1 k)) o ≡ Some after → kind_in after uri local ≡ option_or (kind_in types uri local) (kind_by uri local p)
+    word : (p : Field × Field × Field) (o : Option Kind) → value_at p.2 words ≡ o → option_and_then (λ k. Some (with_kind types p.0 p.1 k)) o ≡ Some after → kind_in after uri local ≡ option_or (kind_in types uri local) (kind_by words uri local p)
     word p None h e2 = cc e2
     word p (Some k) h e2 = let same : pushed_under types p.0 p.1 k ≡ after = cc e2 in rw (← same, h) (said-more types p.0 p.1 uri local k)
 
-    good : (p : Field × Field × Field) (b : Bool) → (is_ncname p.1 && is_none (kind_in types p.0 p.1)) ≡ b → with_type types p ≡ Some after → kind_in after uri local ≡ option_or (kind_in types uri local) (kind_by uri local p)
-    good p true h e2 = word p (kind_of_word p.2) refl (rw h at e2)
+    good : (p : Field × Field × Field) (b : Bool) → (is_ncname p.1 && is_none (kind_in types p.0 p.1)) ≡ b → with_type words types p ≡ Some after → kind_in after uri local ≡ option_or (kind_in types uri local) (kind_by words uri local p)
+    good p true h e2 = word p (value_at p.2 words) refl (rw h at e2)
     good p false h e2 = let none : None ≡ Some after = rw h at e2 in cc none
 
-    of : (o : Option (Field × Field × Field)) → three_texts r ≡ o → kind_in after uri local ≡ option_or (kind_in types uri local) (option_and_then (kind_by uri local) (three_texts r))
+    of : (o : Option (Field × Field × Field)) → three_texts r ≡ o → kind_in after uri local ≡ option_or (kind_in types uri local) (option_and_then (kind_by words uri local) (three_texts r))
     of None h = let none : None ≡ Some after = rw h at e in cc none
     of (Some p) h = rw h (good p (is_ncname p.1 && is_none (kind_in types p.0 p.1)) refl (rw h at e))
 
-pub said-all : (n : ℕ) (before types : TypesValue) (rs : List Record) (uri local : List ℕ) → all_of types_file n before rs ≡ Ok types → kind_in types uri local ≡ option_or (kind_in before uri local) (kind_said rs uri local)
+pub said-all : (words : Words) (n : ℕ) (before types : TypesValue) (rs : List Record) (uri local : List ℕ) → all_of (types_file words) n before rs ≡ Ok types → kind_in types uri local ≡ option_or (kind_in before uri local) (kind_said words rs uri local)
 unfolding all_of
-said-all n before types [] uri local e = let same : before ≡ types = cc e in rw same (sym (or-none (kind_in types uri local)))
-said-all n before types (r ∷ rs) uri local e = past (nat_le 1048576 n) refl (λ t. said-all (n + 1) t types rs uri local)
+said-all words n before types [] uri local e = let same : before ≡ types = cc e in rw same (sym (or-none (kind_in types uri local)))
+said-all words n before types (r ∷ rs) uri local e = past (nat_le 1048576 n) refl (λ t. said-all words (n + 1) t types rs uri local)
   where
-    taken : (o : Option TypesValue) → type_after before r ≡ o → unless_bad (λ t. all_of types_file (n + 1) t rs) (ok_or o fault.BadTypes) ≡ Ok types
-        → ((t : TypesValue) → all_of types_file (n + 1) t rs ≡ Ok types → kind_in types uri local ≡ option_or (kind_in t uri local) (kind_said rs uri local))
-        → kind_in types uri local ≡ option_or (kind_in before uri local) (kind_said (r ∷ rs) uri local)
+    taken : (o : Option TypesValue) → type_after words before r ≡ o → unless_bad (λ t. all_of (types_file words) (n + 1) t rs) (ok_or o fault.BadTypes) ≡ Ok types
+        → ((t : TypesValue) → all_of (types_file words) (n + 1) t rs ≡ Ok types → kind_in types uri local ≡ option_or (kind_in t uri local) (kind_said words rs uri local))
+        → kind_in types uri local ≡ option_or (kind_in before uri local) (kind_said words (r ∷ rs) uri local)
     taken None h e2 more = cc e2
     taken (Some t) h e2 more =
-        more t e2 ∙ ap (λ (o : Option Kind). option_or o (kind_said rs uri local)) (said-after before t r uri local h)
-        ∙ or-assoc (kind_in before uri local) (option_and_then (kind_by uri local) (three_texts r)) (kind_said rs uri local)
+        more t e2 ∙ ap (λ (o : Option Kind). option_or o (kind_said words rs uri local)) (said-after words before t r uri local h)
+        ∙ or-assoc (kind_in before uri local) (option_and_then (kind_by words uri local) (three_texts r)) (kind_said words rs uri local)
 
     past : (b : Bool) → nat_le 1048576 n ≡ b
-        → ((t : TypesValue) → all_of types_file (n + 1) t rs ≡ Ok types → kind_in types uri local ≡ option_or (kind_in t uri local) (kind_said rs uri local))
-        → kind_in types uri local ≡ option_or (kind_in before uri local) (kind_said (r ∷ rs) uri local)
+        → ((t : TypesValue) → all_of (types_file words) (n + 1) t rs ≡ Ok types → kind_in types uri local ≡ option_or (kind_in t uri local) (kind_said words rs uri local))
+        → kind_in types uri local ≡ option_or (kind_in before uri local) (kind_said words (r ∷ rs) uri local)
     past true h more = let bad : Err fault.TooLarge ≡ Ok types = rw h at e in cc bad
-    past false h more = taken (type_after before r) refl (rw h at e) more
+    past false h more = taken (type_after words before r) refl (rw h at e) more

@@ -8,7 +8,7 @@ use Rattle.oim_cells.specs.Cells.{Meaning, meaning_of}
 use Rattle.oim_cells.specs.Cells as meaning
 use Rattle.oim_meta.specs.Types.{TypesValue, kind_in}
 use Rattle.oim_meta.specs.declared.kind.Kind.{Kind}
-use Rattle.oim_meta.specs.declared.kind.Kind.TheVariants.{Number, Text, Other, Explicit, Typed}
+use Rattle.oim_meta.specs.declared.kind.Kind.TheVariants.{Number, Text, Boolean, Date, Name, Other, Explicit, Typed}
 use Rattle.oim_meta.specs.Members.{is_text, text_of, section, any_member}
 use Rattle.oim_meta.specs.Levels.{any_level}
 use Rattle.oim_meta.specs.Prefixes.{prefixes_of}
@@ -27,6 +27,9 @@ abbrev pub is_typed : Option Kind → Bool
 is_typed None = false
 is_typed (Some (Number n)) = false
 is_typed (Some Text) = false
+is_typed (Some Boolean) = false
+is_typed (Some Date) = false
+is_typed (Some Name) = false
 is_typed (Some Other) = false
 is_typed (Some Explicit) = false
 is_typed (Some Typed) = true
@@ -35,6 +38,9 @@ abbrev pub is_dimension : Option Kind → Bool
 is_dimension None = false
 is_dimension (Some (Number n)) = false
 is_dimension (Some Text) = false
+is_dimension (Some Boolean) = false
+is_dimension (Some Date) = false
+is_dimension (Some Name) = false
 is_dimension (Some Other) = false
 is_dimension (Some Explicit) = true
 is_dimension (Some Typed) = true

@@ -1,7 +1,7 @@
 -- A CSV file (RFC 4180) of entries: a header record, and then a record for each entry.
-use Rattle.std.specs.Prelude.{ℕ, ◌+◌, ◌≡◌, ◌⊎◌, List, [], ◌∷◌, Bool, ◌&&◌, Option, Some, None, Result, Ok, Err, if◌then◌else◌, nat_le}
+use Rattle.std.specs.Prelude.{ℕ, ◌+◌, ◌≡◌, ◌⊎◌, List, [], ◌∷◌, ◌&&◌, Option, Some, None, Result, Ok, Err, if◌then◌else◌, nat_le}
 use Rattle.std.specs.Borrow.{Bor}
-use Rattle.std.specs.Option.{ok_or, option_and_then}
+use Rattle.std.specs.Option.{ok_or, option_and_then, option_map_or}
 use Rattle.std.specs.Str.{is_utf8}
 use Rattle.csv.specs.Records.{field_at}
 use Rattle.oim_meta.specs.Grid.{Field, Record}
@@ -34,10 +34,9 @@ seen_two p = (p.0.now, p.1.now)
 abbrev pub seen_three : Bor (List ℕ) × Bor (List ℕ) × Bor (List ℕ) → Field × Field × Field
 seen_three p = (p.0.now, p.1.now, p.2.now)
 
--- what is read from a file of entries: its header, how many entries it may have, the fault of a bad record, what there is
+-- what is read from a file of entries: how many entries it may have, the fault of a bad record, what there is
 -- before the first entry, and what there is after one record more, where that one is good
 pub record EntryFile (S : Type 0) : Type 0 where
-  pub is_header : Record → Bool
   pub limit : ℕ
   pub bad : MetaFault
   pub start : S
@@ -57,10 +56,10 @@ unfoldable pub all_of : {S : Type 0} → EntryFile S → ℕ → S → List Reco
 all_of f n s [] = Ok s
 all_of f n s (r ∷ rs) = unless_bad (λ t. all_of f (n + 1) t rs) (one_more f n s r)
 
--- a whole file; one with no record, or with another header, is bad
-abbrev pub file_result : {S : Type 0} → EntryFile S → List Record → Result S MetaFault
-file_result f [] = Err f.bad
-file_result f (r ∷ rs) = if f.is_header r then all_of f 0 f.start rs else Err f.bad
+-- a whole file, whose header chooses what is read; one with no record, or with a header that chooses nothing, is bad
+abbrev pub file_result : {S : Type 0} → MetaFault → (Record → Option (EntryFile S)) → List Record → Result S MetaFault
+file_result bad chosen [] = Err bad
+file_result bad chosen (r ∷ rs) = option_map_or (λ f. all_of f 0 f.start rs) (chosen r) (Err bad)
 
 -- the answer, unless the reader failed or memory ran out
 abbrev pub OrOutside : {A : Type 0} → Result A MetaFault → Result A MetaFault → Type 0

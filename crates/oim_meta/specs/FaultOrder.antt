@@ -1,5 +1,5 @@
 -- The first fault of a metadata is the one of the least number. The number of the counts is above all others that a metadata can have.
-use Rattle.std.specs.Prelude.{◌≡◌, ◌≤◌, Option, Some, None, Bool, true, false}
+use Rattle.std.specs.Prelude.{◌≡◌, ◌≤◌, Option, Some, None, true, false}
 use Rattle.serde_json.specs.Data.{Data}
 use Rattle.oim_meta.specs.declared.fault.MetaFault.{MetaFault}
 use Rattle.oim_meta.specs.declared.limits.Limits.{Limits}

@@ -7,6 +7,7 @@ pub mod Grid
 pub mod Taking
 pub mod ReadFaults
 pub mod Named
+pub mod TypeWords
 pub mod TypesFile
 pub mod CsvFiles
 pub mod ParametersFile

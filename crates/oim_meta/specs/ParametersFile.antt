@@ -22,8 +22,8 @@ abbrev pub parameter_after : ParametersValue → Record → Option ParametersVal
 parameter_after earlier r = option_and_then (with_parameter earlier) (two_texts r)
 
 abbrev pub parameters_file : EntryFile ParametersValue
-parameters_file = record { is_header = is_parameters_header; limit = 65536; bad = fault.BadParameter; start = []; after = parameter_after }
+parameters_file = record { limit = 65536; bad = fault.BadParameter; start = []; after = parameter_after }
 
 -- the parameters of a file, or the fault of its earliest bad record
 abbrev pub parameters_result : List Record → Result ParametersValue MetaFault
-parameters_result = file_result parameters_file
+parameters_result = file_result fault.BadParameter (λ header. if is_parameters_header header then Some parameters_file else None)

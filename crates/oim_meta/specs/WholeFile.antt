@@ -4,7 +4,8 @@ use Rattle.std.specs.Option.{option_and_then, option_or}
 use Rattle.std.specs.Str.{bytes_eq}
 use Rattle.oim_meta.specs.CsvFiles.{EntryFile, all_of, one_more, three_texts}
 use Rattle.oim_meta.specs.Grid.{Field, Record}
-use Rattle.oim_meta.specs.TypesFile.{kind_of_word}
+use Rattle.oim_names.specs.Lookup.{value_at}
+use Rattle.oim_meta.specs.TypeWords.{Words}
 use Rattle.oim_meta.specs.declared.fault.MetaFault.{MetaFault}
 use Rattle.oim_meta.specs.declared.kind.Kind.{Kind}
 
@@ -19,10 +20,10 @@ abbrev pub IsEarliestBad : {S : Type 0} → EntryFile S → ℕ → S → List R
 IsEarliestBad {S} f n s rs e = (m : ℕ) × (r : Record) × (t : S) × (record_at rs m ≡ Some r) × (all_of f n s (take m rs) ≡ Ok t) × (one_more f (n + m) t r ≡ Err e)
 
 -- the kind that a record gives to a name of a namespace
-abbrev pub kind_by : List ℕ → List ℕ → Field × Field × Field → Option Kind
-kind_by uri local p = if bytes_eq p.0 uri && bytes_eq p.1 local then kind_of_word p.2 else None
+abbrev pub kind_by : Words → List ℕ → List ℕ → Field × Field × Field → Option Kind
+kind_by words uri local p = if bytes_eq p.0 uri && bytes_eq p.1 local then value_at p.2 words else None
 
 -- the kind that the records give to a name of a namespace, the first that does
-abbrev pub kind_said : List Record → List ℕ → List ℕ → Option Kind
-kind_said [] uri local = None
-kind_said (r ∷ rs) uri local = option_or (option_and_then (kind_by uri local) (three_texts r)) (kind_said rs uri local)
+abbrev pub kind_said : Words → List Record → List ℕ → List ℕ → Option Kind
+kind_said words [] uri local = None
+kind_said words (r ∷ rs) uri local = option_or (option_and_then (kind_by words uri local) (three_texts r)) (kind_said words rs uri local)

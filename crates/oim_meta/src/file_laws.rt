@@ -5,6 +5,7 @@ ghost use Rattle.oim_meta.specs.CsvFiles.{all_of};
 ghost use Rattle.oim_meta.specs.Grid.{Record};
 ghost use Rattle.oim_meta.specs.ParametersFile.{parameters_file};
 ghost use Rattle.oim_meta.specs.Types.{TypesValue, kind_in};
+ghost use Rattle.oim_meta.specs.TypeWords.{Words};
 ghost use Rattle.oim_meta.specs.TypesFile.{types_file};
 ghost use Rattle.oim_meta.specs.WholeFile.{IsEarliestBad, kind_said};
 
@@ -13,10 +14,10 @@ use crate::fault::MetaFault;
 /// The fault of a file of entries is that of its earliest bad record.
 pub fn fault_is_of_earliest_record()
     ensures parameters { (rs : List Record) (e : MetaFault) → all_of parameters_file 0 [] rs ≡ Err e → IsEarliestBad parameters_file 0 [] rs e }
-    ensures types { (rs : List Record) (e : MetaFault) → all_of types_file 0 [] rs ≡ Err e → IsEarliestBad types_file 0 [] rs e }
+    ensures types { (words : Words) (rs : List Record) (e : MetaFault) → all_of (types_file words) 0 [] rs ≡ Err e → IsEarliestBad (types_file words) 0 [] rs e }
 {}
 
-/// The types of a table say of a name just what its records say.
+/// The types of a table say of a name just what its records say, by the words that the header chose.
 pub fn types_are_of_all_records()
-    ensures { (rs : List Record) (types : TypesValue) → all_of types_file 0 [] rs ≡ Ok types → (uri local : List ℕ) → kind_in types uri local ≡ kind_said rs uri local }
+    ensures { (words : Words) (rs : List Record) (types : TypesValue) → all_of (types_file words) 0 [] rs ≡ Ok types → (uri local : List ℕ) → kind_in types uri local ≡ kind_said words rs uri local }
 {}

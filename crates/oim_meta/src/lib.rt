@@ -37,6 +37,7 @@ mod read;
 mod readers;
 mod records;
 mod report;
+mod type_words;
 mod types;
 mod written;
 

@@ -1,12 +1,13 @@
 //! The types of concepts and dimensions, and the types table.
 
-ghost use Rattle.std.specs.Prelude.{◌≡◌, ◌⊎◌, [], Err, IfOk, IfSome, None, OnOk, is_some};
+ghost use Rattle.std.specs.Prelude.{◌≡◌, ◌⊎◌, [], Err, IfSome, None, OnOk};
 ghost use Rattle.std.specs.Option.{ok_or};
 ghost use Rattle.csv.specs.Records.{fields_of};
 ghost use Rattle.oim_meta.specs.CsvFiles.{OrOutside, all_of};
 ghost use Rattle.oim_meta.specs.Grid.{grid};
 ghost use Rattle.oim_meta.specs.Types.{kind_in};
-ghost use Rattle.oim_meta.specs.TypesFile.{is_types_header, kind_of_word as kind_at, type_after, types_file, types_result, with_kind};
+ghost use Rattle.oim_meta.specs.TypeWords.{words_in};
+ghost use Rattle.oim_meta.specs.TypesFile.{type_after, types_file, types_result, with_kind};
 
 use crate::entries::fault_of_read;
 use crate::fault::MetaFault;
@@ -14,8 +15,8 @@ use crate::fields::texts_of_three;
 use crate::kind::Kind;
 use crate::named::Named;
 use crate::records::Records;
+use crate::type_words::TypeWords;
 use csv::ByteRecord;
-use oim_cells::NumberKind;
 use oim_names::is_ncname;
 use std::alloc::{AllocError, Global};
 use std::io::Read;
@@ -79,34 +80,14 @@ impl Types {
 /// How many names a types table may have.
 const LIMIT: usize = 1_048_576;
 
-/// The kind that a type word stands for.
-fn kind_of_word(word: &str) -> Option<Kind>
-    ensures { result ≡ kind_at word.now }
-{
-    match word {
-        "integer" => Some(Kind::Number(NumberKind::Integer)),
-        "decimal" => Some(Kind::Number(NumberKind::Decimal)),
-        "double" => Some(Kind::Number(NumberKind::Double)),
-        "text" => Some(Kind::Text),
-        "other" => Some(Kind::Other),
-        "explicit" => Some(Kind::Explicit),
-        "typed" => Some(Kind::Typed),
-        _ => None,
-    }
-}
-
-fn is_header(row: &ByteRecord) -> bool
-    ensures { result ≡ is_types_header (fields_of row.now) }
-{
-    match texts_of_three(row) {
-        Some((uri, local, word)) => uri == "namespace" && local == "name" && word == "type",
-        None => false,
-    }
-}
-
 /// The types with that of one record more.
-fn with_record(mut so_far: Types, alloc: Global, row: &ByteRecord) -> Result<Types, MetaFault>
-    ensures { (result ≡ Err MetaFault.Memory) ⊎ (result ≡ ok_or (type_after so_far (fields_of row.now)) MetaFault.BadTypes) }
+fn with_record(
+    mut so_far: Types,
+    alloc: Global,
+    words: TypeWords,
+    row: &ByteRecord,
+) -> Result<Types, MetaFault>
+    ensures { (result ≡ Err MetaFault.Memory) ⊎ (result ≡ ok_or (type_after (words_in words) so_far (fields_of row.now)) MetaFault.BadTypes) }
 {
     let Some((uri, local, word)) = texts_of_three(row) else {
         return Err(MetaFault::BadTypes);
@@ -114,7 +95,7 @@ fn with_record(mut so_far: Types, alloc: Global, row: &ByteRecord) -> Result<Typ
     if !is_ncname(local) || so_far.kind_of(uri, local).is_some() {
         return Err(MetaFault::BadTypes);
     }
-    let Some(kind) = kind_of_word(word) else {
+    let Some(kind) = words.kind_of(word) else {
         return Err(MetaFault::BadTypes);
     };
     match so_far.add(alloc, uri, local, kind) {
@@ -126,10 +107,11 @@ fn with_record(mut so_far: Types, alloc: Global, row: &ByteRecord) -> Result<Typ
 /// The types of the records after the header.
 fn read_entries<R: Read>(
     alloc: Global,
+    words: TypeWords,
     records: &mut Records<R>,
     row: &mut ByteRecord,
 ) -> Result<Types, MetaFault>
-    ensures { IfSome records.old (λ rs. OrOutside result (all_of types_file 0 [] rs)) }
+    ensures { IfSome records.old (λ rs. OrOutside result (all_of (types_file (words_in words)) 0 [] rs)) }
 {
     let mut so_far = Types::new(alloc);
     for _ in 0..LIMIT {
@@ -138,7 +120,7 @@ fn read_entries<R: Read>(
             Ok(false) => return Ok(so_far),
             Err(fault) => return Err(fault_of_read(fault)),
         }
-        so_far = match with_record(so_far, alloc, row) {
+        so_far = match with_record(so_far, alloc, words, row) {
             Ok(more) => more,
             Err(fault) => return Err(fault),
         };
@@ -163,23 +145,25 @@ fn read_file<R: Read>(
         Ok(false) => return Err(MetaFault::BadTypes),
         Err(fault) => return Err(fault_of_read(fault)),
     }
-    if !is_header(row) {
+    let Some(words) = TypeWords::chosen(row) else {
         return Err(MetaFault::BadTypes);
-    }
-    read_entries(alloc, records, row)
+    };
+    read_entries(alloc, words, records, row)
 }
 
-/// Reads a types table, a CSV file (RFC 4180) whose header is `namespace,name,type` and whose records
-/// each give the kind of a concept or of a dimension. One byte-order mark at its start is passed over.
-/// A namespace is any text; a name is an NCName (Namespaces in XML 1.0) and stands once in its
-/// namespace; the type words are `integer`, `decimal` and `double` for concepts of numbers, `text` and
-/// `other` for other concepts, `explicit` and `typed` for dimensions.
+/// Reads a types table, a CSV file (RFC 4180) whose header is `namespace,name,type` or
+/// `namespace,name,type2` and whose records each give the kind of a concept or of a dimension. One
+/// byte-order mark at its start is passed over. A namespace is any text; a name is an NCName (Namespaces
+/// in XML 1.0) and stands once in its namespace. The header chooses the words: under `type` these are
+/// `integer`, `decimal` and `double` for concepts of numbers, `text` and `other` for other concepts,
+/// `explicit` and `typed` for dimensions; under `type2` also `boolean`, `date` and `qname` for concepts
+/// of such values.
 ///
 /// It answers the fault of the earliest bad record:
 ///
 /// - `BadTypes`: a record of another length than the header's, a field that is not UTF-8, a name that is
-///   not an NCName or that an earlier record of the namespace has, another type word, another header, or no
-///   record at all;
+///   not an NCName or that an earlier record of the namespace has, a word that the header's table of words
+///   does not have, another header, or no record at all;
 /// - `TooLarge`: a record after the 1,048,576th data record, whatever it holds;
 /// - `Memory`: memory ran out;
 /// - `Read`: the reader failed.

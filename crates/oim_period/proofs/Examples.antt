@@ -3,6 +3,7 @@
 use Rattle.std.proofs.Common.{◌≡◌, ℕ, Bool, true, false, refl, List, [], ◌∷◌, Option, Some, None, is_some, option_map, codes, map}
 use Rattle.std.specs.List.{list_all, list_any}
 use Rattle.oim_period.specs.Calendar.{days_of_years, days_of_months, day_number, is_date, is_week, is_clock, day_limit, days_in_year, days_in_month}
+use Rattle.oim_period.specs.Dates.{is_date_text}
 use Rattle.oim_period.specs.Digits.{one_at, two_at, four_at}
 use Rattle.oim_period.specs.Periods.{instant, duration, found, first_some, moment_by, moment_of, days_by, days_of, whole_days, in_order, pair_of, duration_of, without, period_of, start_of, end_of, first_number, year_of, month_of, date_in_year, day_text, moment_text, period_text}
 
@@ -42,6 +43,16 @@ no_clocks = (refl, refl, refl, refl, refl)
 limit : days_of_years 9999 ≡ day_limit
 unfolding days_of_years
 limit = refl
+
+-- WRITTEN DATES, up to the last day that there is
+written_dates : list_all is_date_text (codes "2024-02-29" ∷ codes "0001-01-01" ∷ codes "9999-12-31" ∷ codes "2000-02-29" ∷ []) ≡ true
+unfolding is_date is_date_text two_at four_at
+written_dates = refl
+
+-- another day than the calendar's, a time zone, too few or too many digits, blanks, other marks, a form of a period
+no_written_dates : list_any is_date_text ([] ∷ codes "2023-02-29" ∷ codes "1900-02-29" ∷ codes "2024-13-01" ∷ codes "2024-00-01" ∷ codes "2024-04-31" ∷ codes "0000-01-01" ∷ codes "2024-02-29Z" ∷ codes "24-2-29" ∷ codes "-2024-02-29" ∷ codes "12024-02-29" ∷ codes " 2024-02-29" ∷ codes "2024/02/29" ∷ codes "2024-02" ∷ codes "2024-02-29T00:00:00" ∷ codes "202:-02-29" ∷ []) ≡ false
+unfolding is_date is_date_text two_at four_at
+no_written_dates = refl
 
 -- THE SIDES of a duration; an instant has none
 starts : (start_of (duration 1 2) ≡ Some (instant 1)) × (start_of (instant 1) ≡ None)

@@ -13,3 +13,4 @@ pub mod FoundDays
 pub mod FoundMoments
 pub mod FoundPeriods
 pub mod WrittenText
+pub mod DateTexts

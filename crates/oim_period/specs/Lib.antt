@@ -3,3 +3,4 @@ pub mod Digits
 pub mod Periods
 pub mod Table
 pub mod Reads
+pub mod Dates

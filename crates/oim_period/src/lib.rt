@@ -8,9 +8,10 @@
 //! - [`read`] gives the period that the text means by the table of forms in `specs/Table.antt`, or `None` where it means none.
 //!   No text means two periods.
 //! - [`Period::start_instant`] and [`Period::end_instant`] give the sides of a duration, and `None` for an instant alone.
+//! - [`is_date`] tells the texts that write one day of the calendar from all others.
 //! - [`Period::text`] gives the one written form, and reading it gives the period again. It fails only where memory runs out.
 //!
-//! `read` and the sides take no memory. `specs/Periods.antt` has the same as functions, which other crates' contracts name.
+//! `read`, `is_date` and the sides take no memory. `specs/Periods.antt` has the same as functions, which other crates' contracts name.
 #![tactic(auto)]
 
 mod calendar;
@@ -21,6 +22,8 @@ mod period;
 mod reader;
 mod short_form;
 mod writer;
+mod written_date;
 
 pub use period::{Moment, Period, Span};
 pub use reader::read;
+pub use written_date::is_date;

@@ -11,6 +11,7 @@ use Rattle.oim_cells.specs.Cells.{meaning_of, numeral_of, accuracy_of}
 use Rattle.oim_cells.specs.declared.cells.NumberKind.TheVariants as number
 use Rattle.oim_cells.specs.declared.cells.Accuracy.TheVariants as accuracy
 use Rattle.oim_period.specs.Calendar.{days_of_years, days_of_months, day_number, is_date, is_week, is_clock}
+use Rattle.oim_period.specs.Dates.{is_date_text}
 use Rattle.oim_period.specs.Digits.{one_at, two_at, four_at}
 use Rattle.oim_period.specs.Periods.{start_of, end_of, found, first_some, moment_by, moment_of, days_by, days_of, whole_days, in_order, pair_of, duration_of, without, period_of, first_number, year_of, month_of, date_in_year, day_text, moment_text, period_text}
 use Rattle.oim_meta.specs.ReportValue.{ReportValue}
@@ -31,6 +32,7 @@ use Rattle.oim_resolve.specs.declared.fact.Fact.{Fact}
 use Rattle.oim_resolve.specs.declared.fact.CellFault.{CellFault}
 use Rattle.oim_resolve.specs.declared.fact.CellFault.TheVariants as fault
 use Rattle.oim_resolve.specs.Facts.{cell_result, rest_faults, fact_of}
+use Rattle.oim_resolve.specs.Faults.{name_of, number_of}
 
 abbrev names : Bindings
 names =
@@ -42,8 +44,8 @@ names =
 abbrev types : List (List ℕ × List (List ℕ × Kind))
 types = (
   codes "http://example.com/eg",
-  (codes "Blob", kind.Other) ∷ (codes "Branch", kind.Typed) ∷ (codes "Cash", kind.Number number.Integer) ∷ (codes "Mass", kind.Number number.Double)
-      ∷ (codes "Note", kind.Text) ∷ (codes "Rate", kind.Number number.Decimal) ∷ (codes "Region", kind.Explicit) ∷ [],
+  (codes "Blob", kind.Other) ∷ (codes "Branch", kind.Typed) ∷ (codes "Cash", kind.Number number.Integer) ∷ (codes "Due", kind.Date) ∷ (codes "Mass", kind.Number number.Double)
+      ∷ (codes "Note", kind.Text) ∷ (codes "Open", kind.Boolean) ∷ (codes "Rate", kind.Number number.Decimal) ∷ (codes "Region", kind.Explicit) ∷ (codes "Rule", kind.Name) ∷ [],
 ) ∷ []
 
 -- a text, and a reference
@@ -416,6 +418,35 @@ kinds_drop : spoken (text (codes "iso4217:EUR")) (codes "eg:Note") (codes "1") �
 unfolding cell_result rest_faults fact_of meaning_of numeral_of accuracy_of chars is_utf8 encode is_ncname is_name_char is_name_start qname_of sqname_of unit_of language_of days_of_years days_of_months day_number is_date is_week is_clock one_at two_at four_at start_of end_of found first_some moment_by moment_of days_by days_of whole_days in_order pair_of duration_of without period_of first_number year_of month_of date_in_year day_text moment_text period_text
 kinds_drop = refl
 
+-- BOOLEANS, DATES AND NAMES: without the blanks at their ends, and with neither unit nor language
+
+abbrev of_concept : List ℕ → Option (List ℕ) → Result (Option Fact) CellFault
+of_concept c value = fact (codes "x") value None (with_period c)
+
+booleans : map (in_base (codes "eg:Open")) (codes " true " ∷ codes "1" ∷ codes "#nil" ∷ codes "#none" ∷ codes "TRUE" ∷ codes "#empty" ∷ codes " " ∷ [])
+    ≡ of_concept (codes "eg:Open") (Some (codes "true")) ∷ of_concept (codes "eg:Open") (Some (codes "1")) ∷ of_concept (codes "eg:Open") None ∷ Ok None ∷ Err fault.BadFactValue ∷ Err fault.BadFactValue ∷ Err fault.BadFactValue ∷ []
+unfolding cell_result rest_faults fact_of meaning_of numeral_of accuracy_of chars is_utf8 encode is_ncname is_name_char is_name_start qname_of sqname_of unit_of language_of days_of_years days_of_months day_number is_date is_week is_clock one_at two_at four_at start_of end_of found first_some moment_by moment_of days_by days_of whole_days in_order pair_of duration_of without period_of first_number year_of month_of date_in_year day_text moment_text period_text
+booleans = refl
+
+dates : map (in_base (codes "eg:Due")) (codes "2024-02-29" ∷ codes "2023-02-29" ∷ codes "2024-02-29Z" ∷ codes "24-2-29" ∷ codes "#empty" ∷ codes "#nil" ∷ [])
+    ≡ of_concept (codes "eg:Due") (Some (codes "2024-02-29")) ∷ Err fault.BadFactValue ∷ Err fault.BadFactValue ∷ Err fault.BadFactValue ∷ Err fault.BadFactValue ∷ of_concept (codes "eg:Due") None ∷ []
+unfolding cell_result rest_faults fact_of meaning_of numeral_of accuracy_of chars is_utf8 encode is_ncname is_name_char is_name_start qname_of sqname_of unit_of language_of days_of_years days_of_months day_number is_date is_week is_clock one_at two_at four_at start_of end_of found first_some moment_by moment_of days_by days_of whole_days in_order pair_of duration_of without period_of first_number year_of month_of date_in_year day_text moment_text period_text is_date_text
+dates = refl
+
+qnames : map (in_base (codes "eg:Rule")) (codes "eg:Cash" ∷ codes " eg:Cash\t" ∷ codes "Cash" ∷ codes "zz:a" ∷ codes "#empty" ∷ codes "#nil" ∷ [])
+    ≡ of_concept (codes "eg:Rule") (Some (codes "eg:Cash")) ∷ of_concept (codes "eg:Rule") (Some (codes "eg:Cash")) ∷ Err fault.BadFactValue ∷ Err fault.BadFactValue ∷ Err fault.BadFactValue ∷ of_concept (codes "eg:Rule") None ∷ []
+unfolding cell_result rest_faults fact_of meaning_of numeral_of accuracy_of chars is_utf8 encode is_ncname is_name_char is_name_start qname_of sqname_of unit_of language_of days_of_years days_of_months day_number is_date is_week is_clock one_at two_at four_at start_of end_of found first_some moment_by moment_of days_by days_of whole_days in_order pair_of duration_of without period_of first_number year_of month_of date_in_year day_text moment_text period_text
+qnames = refl
+
+no_language : spoken (text (codes "iso4217:EUR")) (codes "eg:Open") (codes "1") ≡ of_concept (codes "eg:Open") (Some (codes "1"))
+unfolding cell_result rest_faults fact_of meaning_of numeral_of accuracy_of chars is_utf8 encode is_ncname is_name_char is_name_start qname_of sqname_of unit_of language_of days_of_years days_of_months day_number is_date is_week is_clock one_at two_at four_at start_of end_of found first_some moment_by moment_of days_by days_of whole_days in_order pair_of duration_of without period_of first_number year_of month_of date_in_year day_text moment_text period_text
+no_language = refl
+
+-- another concept's text keeps its blanks
+blanks_of_others : in_base (codes "eg:Blob") (codes " TRUE ") ≡ of_concept (codes "eg:Blob") (Some (codes " TRUE "))
+unfolding cell_result rest_faults fact_of meaning_of numeral_of accuracy_of chars is_utf8 encode is_ncname is_name_char is_name_start qname_of sqname_of unit_of language_of days_of_years days_of_months day_number is_date is_week is_clock one_at two_at four_at start_of end_of found first_some moment_by moment_of days_by days_of whole_days in_order pair_of duration_of without period_of first_number year_of month_of date_in_year day_text moment_text period_text
+blanks_of_others = refl
+
 -- THE ROW NUMBER, AND THE START of a duration
 
 row_number : with_b ((codes "eg:Branch", w.RowNumber side.Whole) ∷ base_level) [] ≡ with_branch (Some (decimal 1))
@@ -436,3 +467,20 @@ bad_value_first = refl
 bad_decimals_first : gives base_level (Some (d.Named (codes "d"))) (fact_column (codes "x") (concept (codes "eg:Cash") ∷ []) [] ∷ plain_column (codes "d") ∷ []) [] [] (codes "x" ∷ codes "y" ∷ []) 0 ≡ Err fault.BadDecimals
 unfolding cell_result rest_faults fact_of meaning_of numeral_of accuracy_of chars is_utf8 encode is_ncname is_name_char is_name_start qname_of sqname_of unit_of language_of days_of_years days_of_months day_number is_date is_week is_clock one_at two_at four_at start_of end_of found first_some moment_by moment_of days_by days_of whole_days in_order pair_of duration_of without period_of first_number year_of month_of date_in_year day_text moment_text period_text
 bad_decimals_first = refl
+
+bad_period_before_a_bad_boolean : gives ((codes "entity", text (codes "eg:A1")) ∷ (codes "period", text (codes "nope")) ∷ []) None (fact_column (codes "x") (concept (codes "eg:Open") ∷ []) [] ∷ []) [] [] (codes "TRUE" ∷ []) 0 ≡ Err fault.BadPeriod
+unfolding cell_result rest_faults fact_of meaning_of numeral_of accuracy_of chars is_utf8 encode is_ncname is_name_char is_name_start qname_of sqname_of unit_of language_of days_of_years days_of_months day_number is_date is_week is_clock one_at two_at four_at start_of end_of found first_some moment_by moment_of days_by days_of whole_days in_order pair_of duration_of without period_of first_number year_of month_of date_in_year day_text moment_text period_text
+bad_period_before_a_bad_boolean = refl
+
+-- THE FAULTS by number and name
+all_faults : List CellFault
+all_faults = fault.UnknownSpecial ∷ fault.UnknownGroup ∷ fault.NoConcept ∷ fault.UnknownName ∷ fault.BadReference ∷ fault.BadValue ∷ fault.BadPeriod ∷ fault.NotDuration ∷ fault.BadDecimals ∷ fault.BadNumber ∷ fault.Memory ∷ fault.BadFactValue ∷ []
+
+numbers : map number_of all_faults ≡ 31 ∷ 32 ∷ 33 ∷ 34 ∷ 35 ∷ 36 ∷ 37 ∷ 38 ∷ 39 ∷ 40 ∷ 42 ∷ 44 ∷ []
+unfolding all_faults
+numbers = refl
+
+fault_names :
+    map name_of all_faults ≡ codes "UnknownSpecial" ∷ codes "UnknownGroup" ∷ codes "NoConcept" ∷ codes "UnknownName" ∷ codes "BadReference" ∷ codes "BadValue" ∷ codes "BadPeriod" ∷ codes "NotDuration" ∷ codes "BadDecimals" ∷ codes "BadNumber" ∷ codes "Memory" ∷ codes "BadFactValue" ∷ []
+unfolding all_faults
+fault_names = refl

@@ -5,11 +5,13 @@ use Rattle.oim_resolve.specs.declared.fact.Fact.{Fact}
 use Rattle.oim_resolve.specs.declared.fact.CellFault.{CellFault}
 use Rattle.oim_resolve.specs.Cell.{Cell}
 use Rattle.oim_resolve.specs.Faults.{least, unless, both}
+use Rattle.oim_resolve.specs.FactValues.{ValueParts, faults_in, text_in}
+use Rattle.oim_resolve.specs.ProgramValues.{text_read}
 use Rattle.std.specs.List.{flat_map}
 use Rattle.oim_meta.specs.declared.kind.Kind.{Kind}
 use Rattle.oim_resolve.specs.Written.{levels, names}
 use Rattle.oim_resolve.proofs.LeastFaults.{both_unless, pair}
-use Rattle.oim_resolve.specs.Facts.{id_of, value_text, fact_decimals, named_entry, dimension_entry, dimension_faults, decimals_faults, number_faults, is_absent, fact_meaning, cell_and_group_faults, concept_faults, concept_kind, rest_faults, fact_of, cell_result, early_result}
+use Rattle.oim_resolve.specs.Facts.{id_of, fact_value, fact_decimals, named_entry, dimension_entry, dimension_faults, decimals_faults, is_absent, fact_meaning, cell_and_group_faults, concept_faults, concept_kind, rest_faults, fact_of, cell_result, early_result}
 
 unfoldable pub outcome : Bool → Option CellFault → Option CellFault → Option CellFault → Fact → Result (Option Fact) CellFault
 outcome absent x y z f = if absent then Ok None else unless x (unless y (unless z (Ok (Some f))))
@@ -108,14 +110,19 @@ module _ (c : Cell) where
   early_second f h n e = rw (h, ← n, ← e) refl
 
 pub fact_parts : (c : Cell) (k : Kind) (id : List ℕ) (value : Option (List ℕ)) (decimals : Option ℤ) (dimensions : List (List ℕ × Option (List ℕ)))
-    → k ≡ concept_kind c → id ≡ id_of c → value ≡ value_text k (fact_meaning c) → decimals ≡ fact_decimals c k
+    → k ≡ concept_kind c → id ≡ id_of c → value ≡ text_in (fact_value c k) → decimals ≡ fact_decimals c k
     → dimensions ≡ flat_map (λ n. named_entry n (dimension_entry c k n)) (names (levels c))
     → ◌≡◌ {A = Fact} (record { id = id; value = value; decimals = decimals; dimensions = dimensions }) (fact_of c)
 unfolding fact_of
 fact_parts c k id value decimals dimensions h a v d e =
-    let of_kind : (j : Kind) → Fact = λ j. record { id = id_of c; value = value_text j (fact_meaning c); decimals = fact_decimals c j; dimensions = flat_map (λ n. named_entry n (dimension_entry c j n)) (names (levels c)) } in
+    let of_kind : (j : Kind) → Fact = λ j. record { id = id_of c; value = text_in (fact_value c j); decimals = fact_decimals c j; dimensions = flat_map (λ n. named_entry n (dimension_entry c j n)) (names (levels c)) } in
     let parts : ◌≡◌ {A = Fact} (record { id = id; value = value; decimals = decimals; dimensions = dimensions }) (of_kind k) = λ i. record { id = a i; value = v i; decimals = d i; dimensions = e i } in
     parts ∙ ap of_kind h
+
+-- a reading's text, or its fault
+text_read-unless : (r : Result ValueParts CellFault) → text_read r ≡ unless (least (faults_in r)) (Ok (text_in r))
+text_read-unless (Ok v) = refl
+text_read-unless (Err f) = refl
 
 -- the last step: dimensions, decimals and value read together
 module _ (c : Cell) (k : Kind) (same : k ≡ concept_kind c) where
@@ -132,24 +139,24 @@ module _ (c : Cell) (k : Kind) (same : k ≡ concept_kind c) where
   pub all_three : (d : Result (List (List ℕ × Option (List ℕ))) CellFault) (n : Result (Option ℤ) CellFault) (t : Result (Option (List ℕ)) CellFault)
       → d ≡ unless (least (flat_map (dimension_faults c k) (names (levels c)))) (Ok given_dimensions)
       → n ≡ unless (least (decimals_faults c k)) (Ok (fact_decimals c k))
-      → t ≡ unless (least (number_faults c k)) (Ok (value_text k (fact_meaning c)))
-      → both pair (both pair d n) t ≡ unless rest (Ok ((given_dimensions, fact_decimals c k), value_text k (fact_meaning c)))
+      → t ≡ text_read (fact_value c k)
+      → both pair (both pair d n) t ≡ unless rest (Ok ((given_dimensions, fact_decimals c k), text_in (fact_value c k)))
   unfolding rest_faults
   all_three d n t hd hn ht =
       ap (λ x. both pair (both pair x n) t) hd
       ∙ ap (λ x. both pair (both pair (unless (least (flat_map (dimension_faults c k) (names (levels c)))) (Ok given_dimensions)) x) t) hn
       ∙ ap (λ x. both pair x t) (both_unless pair (flat_map (dimension_faults c k) (names (levels c))) (decimals_faults c k) given_dimensions (fact_decimals c k))
-      ∙ ap (λ x. both pair (unless (least (flat_map (dimension_faults c k) (names (levels c)) ++ decimals_faults c k)) (Ok (given_dimensions, fact_decimals c k))) x) ht
-      ∙ both_unless pair (flat_map (dimension_faults c k) (names (levels c)) ++ decimals_faults c k) (number_faults c k) (given_dimensions, fact_decimals c k) (value_text k (fact_meaning c))
+      ∙ ap (λ x. both pair (unless (least (flat_map (dimension_faults c k) (names (levels c)) ++ decimals_faults c k)) (Ok (given_dimensions, fact_decimals c k))) x) (ht ∙ text_read-unless (fact_value c k))
+      ∙ both_unless pair (flat_map (dimension_faults c k) (names (levels c)) ++ decimals_faults c k) (faults_in (fact_value c k)) (given_dimensions, fact_decimals c k) (text_in (fact_value c k))
 
-  pub fact_fault : (f : CellFault) (r : Result Together CellFault) → r ≡ Err f → r ≡ unless rest (Ok ((given_dimensions, fact_decimals c k), value_text k (fact_meaning c))) → Err f ≡ unless rest (Ok (fact_of c))
-  fact_fault f r is e = ap (λ o. unless o (Ok (fact_of c))) (read_fault rest ((given_dimensions, fact_decimals c k), value_text k (fact_meaning c)) f (sym is ∙ e))
+  pub fact_fault : (f : CellFault) (r : Result Together CellFault) → r ≡ Err f → r ≡ unless rest (Ok ((given_dimensions, fact_decimals c k), text_in (fact_value c k))) → Err f ≡ unless rest (Ok (fact_of c))
+  fact_fault f r is e = ap (λ o. unless o (Ok (fact_of c))) (read_fault rest ((given_dimensions, fact_decimals c k), text_in (fact_value c k)) f (sym is ∙ e))
 
   pub fact_whole : (id : List ℕ) (w : Together) (r : Result Together CellFault) → id ≡ id_of c
-      → r ≡ Ok w → r ≡ unless rest (Ok ((given_dimensions, fact_decimals c k), value_text k (fact_meaning c)))
+      → r ≡ Ok w → r ≡ unless rest (Ok ((given_dimensions, fact_decimals c k), text_in (fact_value c k)))
       → Ok (record { id = id; value = w.1; decimals = w.0.1; dimensions = w.0.0 }) ≡ unless rest (Ok (fact_of c))
   fact_whole id w r a is e =
-      let all : Together = ((given_dimensions, fact_decimals c k), value_text k (fact_meaning c)) in
+      let all : Together = ((given_dimensions, fact_decimals c k), text_in (fact_value c k)) in
       let none : None ≡ rest = read_none rest all w (sym is ∙ e) in
       let parts : w ≡ all = read_value rest all w (sym is ∙ e) in
       ap Ok (fact_parts c k id w.1 w.0.1 w.0.0 same a (ap (λ (x : Together). x.1) parts) (ap (λ (x : Together). x.0.1) parts) (ap (λ (x : Together). x.0.0) parts))

@@ -5,7 +5,7 @@ use Rattle.std.specs.List.{list_any, flat_map}
 use Rattle.std.specs.Option.{option_map, option_and_then, option_map_or, option_or, unwrap_or}
 use Rattle.std.specs.Str.{bytes_eq}
 use Rattle.oim_names.specs.Lookup.{value_at}
-use Rattle.oim_cells.specs.Cells.{Meaning, numeral_of, accuracy_of}
+use Rattle.oim_cells.specs.Cells.{Meaning, accuracy_of}
 use Rattle.oim_cells.specs.Cells as m
 use Rattle.oim_names.specs.QName.{qname_of, sqname_of}
 use Rattle.oim_names.specs.Unit.{unit_of}
@@ -25,13 +25,14 @@ use Rattle.oim_meta.specs.declared.data.Side.{Side}
 use Rattle.oim_meta.specs.declared.data.Side.TheVariants as side
 use Rattle.oim_resolve.specs.declared.fact.Fact.{Fact}
 use Rattle.oim_resolve.specs.declared.fact.CellFault.{CellFault}
-use Rattle.oim_resolve.specs.declared.fact.CellFault.TheVariants.{UnknownSpecial, UnknownGroup, NoConcept, UnknownName, BadReference, BadValue, BadPeriod, NotDuration, BadDecimals, BadNumber}
+use Rattle.oim_resolve.specs.declared.fact.CellFault.TheVariants.{UnknownSpecial, UnknownGroup, NoConcept, UnknownName, BadReference, BadValue, BadPeriod, NotDuration, BadDecimals}
 use Rattle.oim_resolve.specs.declared.role.Role.{Role}
 use Rattle.oim_resolve.specs.declared.role.Role.TheVariants as role
 use Rattle.oim_resolve.specs.Cell.{Cell, column, meaning_at}
 use Rattle.oim_resolve.specs.Written.{levels, written, written_decimals, names}
 use Rattle.oim_resolve.specs.Values.{value, side_of, decimals_value, Stated, Fixed, Read}
 use Rattle.oim_resolve.specs.Faults.{fault_if, least, unless}
+use Rattle.oim_resolve.specs.FactValues.{ValueParts, value_given, faults_in, text_in, accuracy_in}
 
 abbrev pub is_absent : Meaning → Bool
 is_absent m.Absent = true
@@ -81,10 +82,13 @@ given c n = option_map_or (value c) (written (levels c) n) m.Absent
 abbrev pub side_given : Cell → List ℕ → Side
 side_given c n = option_map_or side_of (written (levels c) n) side.Whole
 
--- numbers, texts and others are concepts
+-- numbers, texts, booleans, dates, names and others are concepts
 abbrev pub concept_type : Kind → Option Kind
 concept_type (kind.Number n) = Some (kind.Number n)
 concept_type kind.Text = Some kind.Text
+concept_type kind.Boolean = Some kind.Boolean
+concept_type kind.Date = Some kind.Date
+concept_type kind.Name = Some kind.Name
 concept_type kind.Other = Some kind.Other
 concept_type kind.Explicit = None
 concept_type kind.Typed = None
@@ -121,6 +125,9 @@ concept_kind c = text_kind c.report (given c (codes "concept"))
 abbrev pub is_numeric : Kind → Bool
 is_numeric (kind.Number n) = true
 is_numeric kind.Text = false
+is_numeric kind.Boolean = false
+is_numeric kind.Date = false
+is_numeric kind.Name = false
 is_numeric kind.Other = false
 is_numeric kind.Explicit = false
 is_numeric kind.Typed = false
@@ -128,6 +135,9 @@ is_numeric kind.Typed = false
 abbrev pub is_of_text : Kind → Bool
 is_of_text kind.Text = true
 is_of_text (kind.Number n) = false
+is_of_text kind.Boolean = false
+is_of_text kind.Date = false
+is_of_text kind.Name = false
 is_of_text kind.Other = false
 is_of_text kind.Explicit = false
 is_of_text kind.Typed = false
@@ -135,7 +145,14 @@ is_of_text kind.Typed = false
 -- a dimension of the taxonomy is typed or explicit
 abbrev pub taxonomy_role : Option Kind → Role
 taxonomy_role (Some kind.Typed) = role.Typed
-taxonomy_role _ = role.Explicit
+taxonomy_role (Some kind.Explicit) = role.Explicit
+taxonomy_role (Some (kind.Number n)) = role.Explicit
+taxonomy_role (Some kind.Text) = role.Explicit
+taxonomy_role (Some kind.Boolean) = role.Explicit
+taxonomy_role (Some kind.Date) = role.Explicit
+taxonomy_role (Some kind.Name) = role.Explicit
+taxonomy_role (Some kind.Other) = role.Explicit
+taxonomy_role None = role.Explicit
 
 -- what a dimension's name stands for
 abbrev pub role_of : ReportValue → List ℕ → Role
@@ -225,16 +242,9 @@ abbrev pub dimension_entry : Cell → Kind → List ℕ → Option (Option (List
 dimension_entry c k n =
     if is_dropped k (role_of c.report n) then None else entry_given c.report (role_of c.report n) (side_given c n) (given c n)
 
--- the numeral of a numeric concept's cell, and the decimals that it states
-abbrev pub numeral : Kind → Meaning → Option (List ℕ × Option Accuracy)
-numeral (kind.Number n) (m.Text t) = numeral_of n t
-numeral k v = None
-
-abbrev pub suffix : Kind → Meaning → Option Accuracy
-suffix k v = option_and_then (λ p. p.1) (numeral k v)
-
-abbrev pub looks_at_decimals : Kind → Meaning → Bool
-looks_at_decimals k v = is_numeric k && not (is_nil v) && is_none (suffix k v)
+-- the decimals that are stated for a fact are looked at where its concept is numeric, it is not nil, and its cell has no suffix
+abbrev pub looks_at_decimals : Kind → Meaning → Option Accuracy → Bool
+looks_at_decimals k v suffix = is_numeric k && not (is_nil v) && is_none suffix
 
 abbrev pub stated_by : Cell → Option WrittenDecimals → Stated
 stated_by c o = option_map_or (decimals_value c) o (Read m.Absent)
@@ -257,37 +267,20 @@ stated_accuracy (Read v) = None
 abbrev pub stated_read : Stated → Result (Option Accuracy) CellFault
 stated_read s = unless (least (stated_faults s)) (Ok (stated_accuracy s))
 
-abbrev pub decimals_faults_of : Kind → Meaning → Stated → List CellFault
-decimals_faults_of k v s = if looks_at_decimals k v then stated_faults s else []
+abbrev pub decimals_faults_of : Kind → Meaning → Option Accuracy → Stated → List CellFault
+decimals_faults_of k v suffix s = if looks_at_decimals k v suffix then stated_faults s else []
+
+-- the fact cell, read by the kind of its concept
+abbrev pub fact_value : Cell → Kind → Result ValueParts CellFault
+fact_value c k = value_given c.report k (fact_meaning c)
 
 abbrev pub decimals_faults : Cell → Kind → List CellFault
-decimals_faults c k = decimals_faults_of k (fact_meaning c) (stated c)
-
-abbrev pub is_empty : Meaning → Bool
-is_empty m.Empty = true
-is_empty _ = false
-
-abbrev pub number_faults_of : Kind → Meaning → List CellFault
-number_faults_of k v = fault_if BadNumber (is_numeric k && (is_empty v || is_text (λ t. is_none (numeral k (m.Text t))) v))
-
-abbrev pub number_faults : Cell → Kind → List CellFault
-number_faults c k = number_faults_of k (fact_meaning c)
+decimals_faults c k = decimals_faults_of k (fact_meaning c) (accuracy_in (fact_value c k)) (stated c)
 
 unfoldable pub rest_faults : Cell → Kind → List CellFault
-rest_faults c k = flat_map (dimension_faults c k) (names (levels c)) ++ decimals_faults c k ++ number_faults c k
+rest_faults c k = flat_map (dimension_faults c k) (names (levels c)) ++ decimals_faults c k ++ faults_in (fact_value c k)
 
 -- THE FACT
-
--- nil for Nil, the numeral of a numeric concept, else the text
-abbrev pub value_text : Kind → Meaning → Option (List ℕ)
-value_text k m.Empty = Some []
-value_text (kind.Number n) (m.Text t) = option_map (λ p. p.0) (numeral_of n t)
-value_text k (m.Text t) = Some t
-value_text k _ = None
-
--- the fact cell read: its least fault, or the value
-abbrev pub value_text_read : Kind → Meaning → Result (Option (List ℕ)) CellFault
-value_text_read k v = unless (least (number_faults_of k v)) (Ok (value_text k v))
 
 -- an accuracy of some places
 abbrev pub places : Accuracy → Option ℤ
@@ -295,18 +288,18 @@ places (Places n) = Some n
 places Infinite = None
 
 -- the suffix, else the property
-abbrev pub decimals_given : Kind → Meaning → Stated → Option ℤ
-decimals_given k v s =
+abbrev pub decimals_given : Kind → Meaning → Option Accuracy → Stated → Option ℤ
+decimals_given k v suffix s =
     if is_numeric k && not (is_nil v)
-    then option_and_then places (if is_none (suffix k v) then stated_accuracy s else suffix k v)
+    then option_and_then places (if is_none suffix then stated_accuracy s else suffix)
     else None
 
 -- the decimals read: their least fault, or those of the fact
-abbrev pub decimals_read : Kind → Meaning → Stated → Result (Option ℤ) CellFault
-decimals_read k v s = unless (least (decimals_faults_of k v s)) (Ok (decimals_given k v s))
+abbrev pub decimals_read : Kind → Meaning → Option Accuracy → Stated → Result (Option ℤ) CellFault
+decimals_read k v suffix s = unless (least (decimals_faults_of k v suffix s)) (Ok (decimals_given k v suffix s))
 
 abbrev pub fact_decimals : Cell → Kind → Option ℤ
-fact_decimals c k = decimals_given k (fact_meaning c) (stated c)
+fact_decimals c k = decimals_given k (fact_meaning c) (accuracy_in (fact_value c k)) (stated c)
 
 -- a name and its entry
 abbrev pub named_entry : List ℕ → Option (Option (List ℕ)) → List (List ℕ × Option (List ℕ))
@@ -320,7 +313,7 @@ id_of c = (table_of c.report c.table).id ++ codes "." ++ c.row.id ++ codes "." +
 unfoldable pub fact_of : Cell → Fact
 fact_of c = record {
   id = id_of c;
-  value = value_text (concept_kind c) (fact_meaning c);
+  value = text_in (fact_value c (concept_kind c));
   decimals = fact_decimals c (concept_kind c);
   dimensions = flat_map (λ n. named_entry n (dimension_entry c (concept_kind c) n)) (names (levels c));
 }

@@ -2,7 +2,7 @@
 use Rattle.std.specs.Prelude.{ℕ, codes, List, [], ◌∷◌, Bool, true, false, Option, Some, None, Result, Ok, Err, nat_le, if◌then◌else◌}
 use Rattle.std.specs.Option.{option_map_or}
 use Rattle.oim_resolve.specs.declared.fact.CellFault.{CellFault}
-use Rattle.oim_resolve.specs.declared.fact.CellFault.TheVariants.{UnknownSpecial, UnknownGroup, NoConcept, UnknownName, BadReference, BadValue, BadPeriod, NotDuration, BadDecimals, BadNumber, Memory}
+use Rattle.oim_resolve.specs.declared.fact.CellFault.TheVariants.{UnknownSpecial, UnknownGroup, NoConcept, UnknownName, BadReference, BadValue, BadPeriod, NotDuration, BadDecimals, BadNumber, Memory, BadFactValue}
 
 abbrev pub number_of : CellFault → ℕ
 number_of UnknownSpecial = 31
@@ -16,6 +16,7 @@ number_of NotDuration = 38
 number_of BadDecimals = 39
 number_of BadNumber = 40
 number_of Memory = 42
+number_of BadFactValue = 44
 
 abbrev pub name_of : CellFault → List ℕ
 name_of UnknownSpecial = codes "UnknownSpecial"
@@ -29,6 +30,7 @@ name_of NotDuration = codes "NotDuration"
 name_of BadDecimals = codes "BadDecimals"
 name_of BadNumber = codes "BadNumber"
 name_of Memory = codes "Memory"
+name_of BadFactValue = codes "BadFactValue"
 
 -- the set with a fault exactly where the test holds
 abbrev pub fault_if : CellFault → Bool → List CellFault

@@ -2,12 +2,13 @@ pub mod Cell
 pub mod Written
 pub mod Values
 pub mod Faults
+pub mod FactValues
 pub mod Facts
 pub mod Order
 pub mod Rows
 pub mod ProgramPlace
 pub mod ProgramCell
-pub mod ProgramDecimals
+pub mod ProgramValues
 pub mod ProgramLevels
 pub mod ProgramPlan
 pub mod ProgramDimensions

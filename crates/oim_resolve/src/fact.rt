@@ -59,10 +59,12 @@ pub enum CellFault {
     BadNumber,
     /// Memory ran out.
     Memory,
+    /// The cell of a boolean, a date or a name is none.
+    BadFactValue,
 }
 
 impl CellFault {
-    /// The number of the fault, from 31 to 42.
+    /// The number of the fault: 31 to 40, 42 or 44.
     pub fn number(&self) -> u32
         ensures { result ≡ number_of self.now }
     {
@@ -78,6 +80,7 @@ impl CellFault {
             CellFault::BadDecimals => 39,
             CellFault::BadNumber => 40,
             CellFault::Memory => 42,
+            CellFault::BadFactValue => 44,
         }
     }
 
@@ -97,6 +100,7 @@ impl CellFault {
             CellFault::BadDecimals => "BadDecimals",
             CellFault::BadNumber => "BadNumber",
             CellFault::Memory => "Memory",
+            CellFault::BadFactValue => "BadFactValue",
         }
     }
 }

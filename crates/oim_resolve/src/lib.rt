@@ -10,7 +10,8 @@
 //! byte order of name, and its identifier is that of the table, the row and the column, with points
 //! between them.
 //!
-//! `read_value` reads one dimension and `read_concept` a concept, each from what a row gives.
+//! `read_value` reads one dimension and `read_concept` a concept, each from what a row gives, and
+//! `fact_value` the fact cell by the kind of its concept.
 //!
 //! In `specs/`, the files without `Program` in their names hold the standard's rules; those with it
 //! describe what the program keeps, and are read beside the code.
@@ -21,10 +22,12 @@ mod dimension;
 mod fact;
 mod least;
 mod plan;
+mod reading;
 mod role;
 
 pub use cell::{place_of, side_of};
 pub use dimension::{Entry, read_concept, read_value};
 pub use fact::{CellFault, Fact, Row};
 pub use plan::{Plan, compile, levels, resolve};
+pub use reading::{FactValue, fact_value};
 pub use role::Role;

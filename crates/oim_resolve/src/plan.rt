@@ -119,8 +119,8 @@ impl Plan<'_> {
 /// fault of the least number of the first of three steps that has one: the cell and its group cells
 /// (`UnknownSpecial`, `UnknownGroup`); the concept (`UnknownSpecial`, `NoConcept`, `UnknownName`,
 /// `BadReference`); and the other dimensions, the decimals and the value (`UnknownSpecial`,
-/// `BadReference`, `BadValue`, `BadPeriod`, `NotDuration`, `BadDecimals`, `BadNumber`). `Memory`
-/// comes where memory is short.
+/// `BadReference`, `BadValue`, `BadPeriod`, `NotDuration`, `BadDecimals`, `BadNumber`, `BadFactValue`).
+/// `Memory` comes where memory is short.
 pub fn resolve(
     alloc: Global,
     report: &Report,

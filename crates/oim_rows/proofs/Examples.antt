@@ -1,5 +1,5 @@
 -- The definitions, executed on worked cases.
-use Rattle.std.proofs.Common.{◌≡◌, ◌++◌, ◌∷◌, [], ap, arith, ℕ, List, Some, None, Ok, Err, Bool, true, false, codes, refl}
+use Rattle.std.proofs.Common.{◌≡◌, ◌++◌, ◌∷◌, [], ap, arith, ℕ, List, Some, None, Ok, Err, Bool, true, false, codes, map, refl}
 use Rattle.std.proofs.lemmas.Fmt.{decimal_digit}
 use Rattle.oim_meta.specs.Readers.{no_level}
 use Rattle.oim_meta.specs.ReportValue.{ReportValue}
@@ -15,6 +15,8 @@ use Rattle.oim_meta.specs.declared.data.Written.TheVariants as written
 use Rattle.oim_meta.specs.declared.kind.Kind.TheVariants as type
 use Rattle.oim_resolve.specs.Facts.{cell_result, fact_of, rest_faults}
 use Rattle.oim_resolve.specs.declared.fact.Fact.{Fact}
+use Rattle.oim_resolve.specs.declared.fact.CellFault.TheVariants as cell
+use Rattle.oim_rows.specs.FaultNames.{name_of, number_of}
 use Rattle.oim_rows.specs.Header.{fault_at, file_fault, header_fault, header_of}
 use Rattle.oim_rows.specs.RowFacts.{Reading, cell_at, id_kind, row_fault, row_id_text, row_result}
 use Rattle.oim_rows.specs.Streams.{ending, stream_from, stream_of, table_stream}
@@ -98,7 +100,7 @@ abbrev note : List ℕ → List ℕ → Fact
 note id text = record { id = codes "t1." ++ id ++ codes ".cash"; value = Some text; decimals = None; dimensions = (codes "concept", Some (codes "eg:Note")) ∷ [] }
 
 row_results : row_result reading 1 [] (line (codes "x") (codes "a")) ∷ row_result reading 1 [] (line [] (codes "a")) ∷ row_result reading 1 [] (line (codes "#foo") (codes "a")) ∷ row_result reading 1 [] (line (codes "#foo") []) ∷ []
-    ≡ Ok (note (codes "a") (codes "x") ∷ []) ∷ Ok [] ∷ Err (fault_at 0 1 1 kind.UnknownSpecial) ∷ Err (fault_at 0 1 2 kind.MissingRowId) ∷ []
+    ≡ Ok (note (codes "a") (codes "x") ∷ []) ∷ Ok [] ∷ Err (fault_at 0 1 1 (kind.Cell cell.UnknownSpecial)) ∷ Err (fault_at 0 1 2 kind.MissingRowId) ∷ []
 unfolding stream_from cell_result rest_faults fact_of meaning_of chars is_row_identifier is_plain_char is_ncname is_name_char is_name_start qname_of field_at is_utf8 lib.Utf8.encode
 row_results = refl
 
@@ -120,3 +122,10 @@ stream_to_the_limit : stream_of (report false) 0 1 (file (line (codes "x") (code
     ≡ record { rows = (note (codes "a") (codes "x") ∷ []) ∷ []; fault = Some (fault_at 0 2 0 kind.TooManyRows) }
 unfolding stream_from cell_result rest_faults fact_of meaning_of chars is_row_identifier is_plain_char is_ncname is_name_char is_name_start qname_of field_at is_utf8 lib.Utf8.encode
 stream_to_the_limit = refl
+
+-- THE FAULTS by number and name: a cell's fault has its own
+fault_numbers : map number_of (kind.RepeatedRowId ∷ kind.Cell cell.UnknownSpecial ∷ kind.Cell cell.BadNumber ∷ kind.TooManyRows ∷ kind.Memory ∷ kind.NoThread ∷ kind.Cell cell.BadFactValue ∷ []) ≡ 30 ∷ 31 ∷ 40 ∷ 41 ∷ 42 ∷ 43 ∷ 44 ∷ []
+fault_numbers = refl
+
+fault_names : map name_of (kind.TooManyRows ∷ kind.Cell cell.BadFactValue ∷ []) ≡ codes "TooManyRows" ∷ codes "BadFactValue" ∷ []
+fault_names = refl

@@ -15,7 +15,6 @@ use Rattle.oim_meta.specs.declared.data.ColumnKind.TheVariants as content
 use Rattle.oim_resolve.specs.Cell.{cell_of}
 use Rattle.oim_resolve.specs.Facts.{cell_result}
 use Rattle.oim_resolve.specs.declared.fact.CellFault.{CellFault}
-use Rattle.oim_resolve.specs.declared.fact.CellFault.TheVariants as cell
 use Rattle.oim_resolve.specs.declared.fact.Fact.{Fact}
 use Rattle.oim_resolve.specs.declared.fact.Row.{Row}
 use Rattle.oim_rows.specs.Header.{Header, fault_at, is_column, is_empty, or_else}
@@ -90,20 +89,6 @@ row_fault g n ids r =
     (if nat_lt g.limit n then Some (fault_at g.table n 0 kind.TooManyRows)
     else id_fault g (id_place_of g) n ids r)
 
--- a fault of a cell as a fault of the table
-abbrev pub kind_of_cell : CellFault → TableKind
-kind_of_cell cell.UnknownSpecial = kind.UnknownSpecial
-kind_of_cell cell.UnknownGroup = kind.UnknownGroup
-kind_of_cell cell.NoConcept = kind.NoConcept
-kind_of_cell cell.UnknownName = kind.UnknownName
-kind_of_cell cell.BadReference = kind.BadReference
-kind_of_cell cell.BadValue = kind.BadValue
-kind_of_cell cell.BadPeriod = kind.BadPeriod
-kind_of_cell cell.NotDuration = kind.NotDuration
-kind_of_cell cell.BadDecimals = kind.BadDecimals
-kind_of_cell cell.BadNumber = kind.BadNumber
-kind_of_cell cell.Memory = kind.Memory
-
 abbrev pub holds_facts : ColumnKind → Bool
 holds_facts content.Fact = true
 holds_facts content.Groups = false
@@ -117,7 +102,7 @@ is_fact_column columns c = option_map_or (λ (x : Column). holds_facts x.kind) (
 -- a result of a cell of row n under place p of the header, from 1
 abbrev pub at_place : ℕ → ℕ → ℕ → Result (Option Fact) CellFault → Result (Option Fact) TableFault
 at_place table n p (Ok o) = Ok o
-at_place table n p (Err k) = Err (fault_at table n p (kind_of_cell k))
+at_place table n p (Err k) = Err (fault_at table n p (kind.Cell k))
 
 -- what the header cell at place p gives in a row: nothing where its column holds no facts
 abbrev pub fact_at : ReportValue → ℕ → Row → ℕ → Option ℕ → Result (Option Fact) TableFault

@@ -213,7 +213,7 @@ impl Decoder<'_> {
 
 ghost use Rattle.std.specs.Prelude.{IfSome};
 ghost use Rattle.oim_meta.specs.Readers.{columns_of};
-ghost use Rattle.oim_rows.specs.RowFacts.{fact_at, holds_facts, is_fact_column, kind_of_cell};
+ghost use Rattle.oim_rows.specs.RowFacts.{fact_at, holds_facts, is_fact_column};
 ghost use Rattle.oim_rows.specs.Streams.{OrNoMemory};
 
 fn is_of_facts(kind: ColumnKind) -> bool
@@ -232,25 +232,6 @@ fn is_fact(columns: &[Column], column: usize) -> bool
     match columns.get(column) {
         Some(column) => is_of_facts(column.kind),
         None => false,
-    }
-}
-
-/// What a cell's fault is as a table's.
-fn table_kind(fault: CellFault) -> TableKind
-    ensures { result ≡ kind_of_cell fault }
-{
-    match fault {
-        CellFault::UnknownSpecial => TableKind::UnknownSpecial,
-        CellFault::UnknownGroup => TableKind::UnknownGroup,
-        CellFault::NoConcept => TableKind::NoConcept,
-        CellFault::UnknownName => TableKind::UnknownName,
-        CellFault::BadReference => TableKind::BadReference,
-        CellFault::BadValue => TableKind::BadValue,
-        CellFault::BadPeriod => TableKind::BadPeriod,
-        CellFault::NotDuration => TableKind::NotDuration,
-        CellFault::BadDecimals => TableKind::BadDecimals,
-        CellFault::BadNumber => TableKind::BadNumber,
-        CellFault::Memory => TableKind::Memory,
     }
 }
 
@@ -275,7 +256,12 @@ impl Decoder<'_> {
         match self.plan.resolve(alloc, row, column) {
             Ok(fact) => Ok(fact),
             Err(CellFault::Memory) => Err(whole_fault(self.table, TableKind::Memory)),
-            Err(fault) => Err(fault_at_place(self.table, row.number, place, table_kind(fault))),
+            Err(fault) => Err(fault_at_place(
+                self.table,
+                row.number,
+                place,
+                TableKind::Cell(fault),
+            )),
         }
     }
 

@@ -3,6 +3,8 @@
 ghost use Rattle.std.specs.Prelude.{◌≡◌};
 ghost use Rattle.oim_rows.specs.FaultNames.{number_of, name_of};
 
+use oim_resolve::CellFault;
+
 /// What a fault of a table is.
 #[derive(Clone, Copy, PartialEq, Eq, Debug)]
 pub enum TableKind {
@@ -30,26 +32,8 @@ pub enum TableKind {
     BadRowId,
     /// 30: an earlier row of the table has it.
     RepeatedRowId,
-    /// 31: a text that begins with `#` and has no meaning.
-    UnknownSpecial,
-    /// 32: a cell of groups names no group.
-    UnknownGroup,
-    /// 33: there is no concept.
-    NoConcept,
-    /// 34: the concept is not a declared name, or has no concept type.
-    UnknownName,
-    /// 35: a reference gives nil or the empty text to a dimension that isn't typed.
-    BadReference,
-    /// 36: an entity, a unit, a language or an explicit member is not well-formed.
-    BadValue,
-    /// 37: a period is not well-formed.
-    BadPeriod,
-    /// 38: a side is asked of an instant.
-    NotDuration,
-    /// 39: decimals are neither an integer nor `INF`.
-    BadDecimals,
-    /// 40: the cell of a number is not a numeral of its kind.
-    BadNumber,
+    /// 31 to 40, and 44: a cell has this fault. Want of memory is `Memory`, for a cell as for all else.
+    Cell(CellFault),
     /// 42: a growth was refused.
     Memory,
     /// 43: no worker could be started.
@@ -57,7 +41,7 @@ pub enum TableKind {
 }
 
 impl TableKind {
-    /// The fault's number, 20 to 43.
+    /// The fault's number, 20 to 44; a cell's fault has its own.
     pub fn number(&self) -> u32
         ensures { result ≡ number_of self.now }
     {
@@ -73,23 +57,14 @@ impl TableKind {
             TableKind::MissingRowId => 28,
             TableKind::BadRowId => 29,
             TableKind::RepeatedRowId => 30,
-            TableKind::UnknownSpecial => 31,
-            TableKind::UnknownGroup => 32,
-            TableKind::NoConcept => 33,
-            TableKind::UnknownName => 34,
-            TableKind::BadReference => 35,
-            TableKind::BadValue => 36,
-            TableKind::BadPeriod => 37,
-            TableKind::NotDuration => 38,
-            TableKind::BadDecimals => 39,
-            TableKind::BadNumber => 40,
+            TableKind::Cell(fault) => fault.number(),
             TableKind::TooManyRows => 41,
             TableKind::Memory => 42,
             TableKind::NoThread => 43,
         }
     }
 
-    /// The fault's name, as it is printed.
+    /// The fault's name, as it is printed; a cell's fault has its own.
     pub fn name(&self) -> &'static str
         ensures { result.now ≡ name_of self.now }
     {
@@ -105,16 +80,7 @@ impl TableKind {
             TableKind::MissingRowId => "MissingRowId",
             TableKind::BadRowId => "BadRowId",
             TableKind::RepeatedRowId => "RepeatedRowId",
-            TableKind::UnknownSpecial => "UnknownSpecial",
-            TableKind::UnknownGroup => "UnknownGroup",
-            TableKind::NoConcept => "NoConcept",
-            TableKind::UnknownName => "UnknownName",
-            TableKind::BadReference => "BadReference",
-            TableKind::BadValue => "BadValue",
-            TableKind::BadPeriod => "BadPeriod",
-            TableKind::NotDuration => "NotDuration",
-            TableKind::BadDecimals => "BadDecimals",
-            TableKind::BadNumber => "BadNumber",
+            TableKind::Cell(fault) => fault.name(),
             TableKind::TooManyRows => "TooManyRows",
             TableKind::Memory => "Memory",
             TableKind::NoThread => "NoThread",
@@ -137,7 +103,7 @@ pub struct TableFault {
 }
 
 impl TableFault {
-    /// The number of its kind, 20 to 43.
+    /// The number of its kind, 20 to 44.
     pub fn number(&self) -> u32
         ensures { result ≡ number_of (self.now).kind }
     {

@@ -6,7 +6,7 @@ ghost use Rattle.oim_cells.specs.Cells.{seen_meaning};
 ghost use Rattle.oim_resolve.specs.Facts.{concept_kind, fact_meaning, fact_of, rest_faults, stated};
 ghost use Rattle.oim_resolve.specs.Faults.{least, unless};
 ghost use Rattle.oim_resolve.specs.ProgramCell.{cell_at, held};
-ghost use Rattle.oim_resolve.specs.ProgramDecimals.{seen_stated};
+ghost use Rattle.oim_resolve.specs.ProgramValues.{seen_stated};
 ghost use Rattle.oim_resolve.specs.ProgramDimensions.{AreMet, dimension_read, dimensions_of, entries_in};
 ghost use Rattle.oim_resolve.specs.ProgramPlan.{seen_keyed, seen_planned};
 ghost use Rattle.oim_resolve.specs.Rows.{row_map};
@@ -16,11 +16,12 @@ use crate::cell::decimals::Stated;
 use crate::cell::entries::Entries;
 use crate::cell::place::Place;
 use crate::cell::planned_cell::PlannedCell;
-use crate::cell::value::CellValue;
+use crate::cell::value::{CellValue, suffix_of, text_of};
 use crate::dimension::{Entry, read_value};
 use crate::fact::{CellFault, Fact};
 use crate::least::{both, lesser};
 use crate::plan::{PlannedDimension, decimals_in, put_entries};
+use crate::reading::fact_value;
 use oim_meta::{Kind, Level, WrittenDecimals};
 use oim_names::{Items, Text};
 use std::alloc::{AllocError, Global};
@@ -185,9 +186,10 @@ impl<'a> CellDimensions<'a> {
         ensures { (result ≡ Err CellFault.Memory)
             ⊎ (result ≡ unless (least (rest_faults (cell_at self.now.place) value.entry.kind)) (Ok (fact_of (cell_at self.now.place)))) }
     {
+        let reading = fact_value(self.place.report, value.kind, value.meaning);
         let dimensions = self.read(alloc, value.kind)?;
-        let decimals = value.decimals(self.stated());
-        let text = value.text(alloc)?;
+        let decimals = value.decimals(suffix_of(reading), self.stated());
+        let text = text_of(alloc, reading)?;
         let given = match both(both(dimensions, decimals), text) {
             Ok(given) => given,
             Err(fault) => return Err(fault),

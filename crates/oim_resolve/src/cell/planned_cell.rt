@@ -202,7 +202,7 @@ impl<'a> PlannedCell<'a> {
             Ok(kind) => kind,
             Err(fault) => return Err(fault),
         };
-        match CellDimensions::fact_of(alloc, *self, CellValue::new(kind, meaning)) {
+        match CellDimensions::fact_of(alloc, *self, CellValue { kind, meaning }) {
             Ok(fact) => Ok(Some(fact)),
             Err(fault) => Err(fault),
         }

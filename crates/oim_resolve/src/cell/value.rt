@@ -1,40 +1,26 @@
-//! The cell of a fact, read as the kind of its concept says.
+//! What the cell of a fact gives it, once it is read.
 
 ghost use Rattle.std.specs.Prelude.{◌≡◌, IfOk};
-ghost use Rattle.std.specs.Option.{option_map, option_and_then};
-ghost use Rattle.oim_cells.specs.Cells.{seen_meaning, seen_numeral};
-ghost use Rattle.oim_resolve.specs.Facts.{decimals_read, numeral as numeral_of, places, value_text_read};
-ghost use Rattle.oim_resolve.specs.ProgramDecimals.{seen_stated};
+ghost use Rattle.std.specs.Option.{option_and_then};
+ghost use Rattle.oim_cells.specs.Cells.{seen_meaning};
+ghost use Rattle.oim_resolve.specs.Facts.{decimals_read, places};
+ghost use Rattle.oim_resolve.specs.FactValues.{accuracy_in};
+ghost use Rattle.oim_resolve.specs.ProgramValues.{seen_reading, seen_stated, text_read};
 
 use crate::cell::decimals::Stated;
 use crate::dimension::is_numeric;
 use crate::fact::CellFault;
-use oim_cells::{Accuracy, CellMeaning, split_numeral};
+use crate::reading::FactValue;
+use oim_cells::{Accuracy, CellMeaning};
 use oim_meta::Kind;
 use oim_names::Text;
 use std::alloc::{AllocError, Global};
-
-/// A numeral, and the decimals that it states itself.
-type Numeral<'a> = (&'a str, Option<Accuracy>);
 
 /// The cell of a fact, with the kind of its concept.
 #[derive(Clone, Copy)]
 pub(crate) struct CellValue<'a> {
     pub(crate) kind: Kind,
     pub(crate) meaning: CellMeaning<'a>,
-    /// The numeral, where the concept is of numbers and the cell has one.
-    numeral: Option<Numeral<'a>>,
-    ghost split: { option_map seen_numeral numeral ≡ numeral_of kind (seen_meaning meaning) },
-}
-
-/// The numeral of a cell, where the concept is of numbers.
-fn numeral_of<'a>(kind: Kind, meaning: CellMeaning<'a>) -> Option<Numeral<'a>>
-    ensures { option_map seen_numeral result ≡ numeral_of kind (seen_meaning meaning.entry) }
-{
-    match (kind, meaning) {
-        (Kind::Number(number), CellMeaning::Text(text)) => split_numeral(number, text),
-        _ => None,
-    }
 }
 
 fn places(accuracy: Option<Accuracy>) -> Option<i32>
@@ -46,45 +32,51 @@ fn places(accuracy: Option<Accuracy>) -> Option<i32>
     }
 }
 
-impl<'a> CellValue<'a> {
-    pub(crate) fn new(kind: Kind, meaning: CellMeaning<'a>) -> CellValue<'a>
-        ensures kind { result.kind ≡ kind }
-        ensures meaning { seen_meaning result.meaning ≡ seen_meaning meaning.entry }
-    {
-        CellValue {
-            kind,
-            meaning,
-            numeral: numeral_of(kind, meaning),
-        }
+/// How exact a cell itself says that its number is.
+pub(crate) fn suffix_of(reading: Result<FactValue<'_>, CellFault>) -> Option<Accuracy>
+    ensures { result ≡ accuracy_in (seen_reading reading.entry) }
+{
+    match reading {
+        Ok(value) => value.accuracy,
+        Err(_) => None,
     }
+}
 
-    /// The value of the fact, where None is nil, or what is wrong with the cell of a number.
-    pub(crate) fn text(&self, alloc: Global) -> Result<Result<Option<Text>, CellFault>, AllocError>
-        ensures { IfOk result (λ r. r ≡ value_text_read (self.now).kind (seen_meaning (self.now).meaning)) }
-    {
-        match (self.kind, self.meaning) {
-            (Kind::Number(_), CellMeaning::Empty) => Ok(Err(CellFault::BadNumber)),
-            (_, CellMeaning::Empty) => Ok(Ok(Some(Text::from_str(alloc, "")?))),
-            (Kind::Number(_), CellMeaning::Text(_)) => match self.numeral {
-                Some((numeral, _)) => Ok(Ok(Some(Text::from_str(alloc, numeral)?))),
-                None => Ok(Err(CellFault::BadNumber)),
+/// The text of a fact's value, where None is nil, or what is wrong with its cell.
+pub(crate) fn text_of(
+    alloc: Global,
+    reading: Result<FactValue<'_>, CellFault>,
+) -> Result<Result<Option<Text>, CellFault>, AllocError>
+    ensures { IfOk result (λ r. r ≡ text_read (seen_reading reading.entry)) }
+{
+    match reading {
+        Ok(
+            FactValue {
+                text: Some(text),
+                ..
             },
-            (_, CellMeaning::Text(text)) => Ok(Ok(Some(Text::from_str(alloc, text)?))),
-            (_, CellMeaning::Nil | CellMeaning::Absent | CellMeaning::Unknown) => Ok(Ok(None)),
-        }
+        ) => Ok(Ok(Some(Text::from_str(alloc, text)?))),
+        Ok(FactValue { text: None, .. }) => Ok(Ok(None)),
+        Err(fault) => Ok(Err(fault)),
     }
+}
 
+impl CellValue<'_> {
     /// The decimals of the fact: those that its cell states, else those of its properties, or what is
     /// wrong with these where they are looked at.
-    pub(crate) fn decimals(&self, stated: Stated<'_>) -> Result<Option<i32>, CellFault>
-        ensures { result ≡ decimals_read (self.now).kind (seen_meaning (self.now).meaning) (seen_stated stated.entry) }
+    pub(crate) fn decimals(
+        &self,
+        suffix: Option<Accuracy>,
+        stated: Stated<'_>,
+    ) -> Result<Option<i32>, CellFault>
+        ensures { result ≡ decimals_read (self.now).kind (seen_meaning (self.now).meaning) suffix (seen_stated stated.entry) }
     {
         if !is_numeric(self.kind) || matches!(&self.meaning, CellMeaning::Nil) {
             return Ok(None);
         }
-        match self.numeral {
-            Some((_, Some(accuracy))) => Ok(places(Some(accuracy))),
-            Some((_, None)) | None => match stated.read() {
+        match suffix {
+            Some(accuracy) => Ok(places(Some(accuracy))),
+            None => match stated.read() {
                 Ok(accuracy) => Ok(places(accuracy)),
                 Err(fault) => Err(fault),
             },

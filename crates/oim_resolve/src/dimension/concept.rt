@@ -29,6 +29,9 @@ fn concept_type_of(report: &Report, text: &str) -> Option<Kind>
     match kind_of_name(report, text) {
         Some(Kind::Number(number)) => Some(Kind::Number(number)),
         Some(Kind::Text) => Some(Kind::Text),
+        Some(Kind::Boolean) => Some(Kind::Boolean),
+        Some(Kind::Date) => Some(Kind::Date),
+        Some(Kind::Name) => Some(Kind::Name),
         Some(Kind::Other) => Some(Kind::Other),
         Some(Kind::Explicit | Kind::Typed) | None => None,
     }

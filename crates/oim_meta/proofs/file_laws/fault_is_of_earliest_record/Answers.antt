@@ -8,4 +8,4 @@ pub returns-clause-parameters : goal.returns-clause-parameters
 returns-clause-parameters c = λ rs e bad. earliest_bad parameters_file 0 [] rs e bad
 
 pub returns-clause-types : goal.returns-clause-types
-returns-clause-types c = λ rs e bad. earliest_bad types_file 0 [] rs e bad
+returns-clause-types c = λ words rs e bad. earliest_bad (types_file words) 0 [] rs e bad

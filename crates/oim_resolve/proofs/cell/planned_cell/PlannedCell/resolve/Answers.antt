@@ -29,7 +29,7 @@ returns-in-Ok-fact_of c =
     let cell = cell_at c.args.self.now.place in
     let here = sym (c.is_absent.ensures ∙ ap is_absent c.fact_meaning-meaning.ensures) ∙ c.if-is_absent.false in
     let second = read_none (least (concept_faults cell)) (concept_kind cell) c.in-Ok.kind c.in-Ok.ensures in
-    let same = c.new.ensures.kind ∙ read_value (least (concept_faults cell)) (concept_kind cell) c.in-Ok.kind c.in-Ok.ensures in
+    let same = read_value (least (concept_faults cell)) (concept_kind cell) c.in-Ok.kind c.in-Ok.ensures in
     record {
       early = no_early cell here c.in_default.ensures second _;
       result = elim c.in-Ok-fact_of.ensures [
@@ -43,7 +43,7 @@ returns-in-Err-fact_of c =
     let cell = cell_at c.args.self.now.place in
     let here = sym (c.is_absent.ensures ∙ ap is_absent c.fact_meaning-meaning.ensures) ∙ c.if-is_absent.false in
     let second = read_none (least (concept_faults cell)) (concept_kind cell) c.in-Ok.kind c.in-Ok.ensures in
-    let same = c.new.ensures.kind ∙ read_value (least (concept_faults cell)) (concept_kind cell) c.in-Ok.kind c.in-Ok.ensures in
+    let same = read_value (least (concept_faults cell)) (concept_kind cell) c.in-Ok.kind c.in-Ok.ensures in
     record {
       early = no_early cell here c.in_default.ensures second _;
       result = elim c.in-Err-fact_of.ensures [

@@ -1,6 +1,6 @@
 use Rattle.std.proofs.Common.{refl}
 use Rattle.oim_meta.proofs.TypeFacts.{differs}
-use Rattle.oim_meta.proofs.types.kind_of_word.Goals as goal
+use Rattle.oim_meta.proofs.type_words.plain_kind.Goals as goal
 
 pub returns-in_default : goal.returns-in_default
 returns-in_default c =

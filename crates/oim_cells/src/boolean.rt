@@ -1,0 +1,14 @@
+//! Boolean values.
+
+ghost use Rattle.std.specs.Prelude.{◌≡◌, ◌↔◌, IsTrue};
+ghost use Rattle.oim_cells.specs.Boolean.{IsBoolean, is_boolean_text};
+
+/// Whether a text is a boolean value: `true`, `false`, `1` or `0` (XML Schema Part 2, second edition: the lexical forms of boolean).
+///
+/// All other texts are none, also those with blanks round them or in capital letters. It takes any text and no memory.
+pub fn is_boolean(text: &str) -> bool
+    ensures means { IsTrue result ↔ IsBoolean text.now }
+    ensures value { result ≡ is_boolean_text text.now }
+{
+    matches!(text, "true" | "false" | "1" | "0")
+}
