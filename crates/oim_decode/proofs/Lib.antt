@@ -21,3 +21,4 @@ pub mod Refreshed
 pub mod StepLaws
 pub mod LoopLaws
 mod RowExamples
+pub mod WriterLaws
