@@ -6,6 +6,7 @@ pub mod Texts
 pub mod Empty
 pub mod Places
 pub mod Numerals
+pub mod PlainNumerals
 mod Examples
 mod SlotExamples
 pub mod PieceLaws
