@@ -17,16 +17,6 @@ use Rattle.oim_json.proofs.Blocks.{texts_append, texts_cut, texts_push, ends_app
 pub prefix_same : (xs ys : List ℕ) → ys ≡ xs → IsPrefix xs ys
 prefix_same xs ys e = ([], append-nil xs ∙ sym e)
 
-pub prefix_more : (xs ys zs : List ℕ) → ys ≡ xs ++ zs → IsPrefix xs ys
-prefix_more xs ys zs e = (zs, sym e)
-
-pub prefix_through : (xs ys zs : List ℕ) → IsPrefix xs ys → IsPrefix ys zs → IsPrefix xs zs
-prefix_through xs ys zs (a, p) (b, q) = (a ++ b, sym (append_assoc xs a b) ∙ ap (λ t. t ++ b) p ∙ q)
-
--- what was there before is what stays of a longer list
-pub cut_back : (xs ys : List ℕ) (n : ℕ) → IsPrefix xs ys → n ≡ length xs → take n ys ≡ xs
-cut_back xs ys n (t, p) e = ap (take n) (sym p) ∙ take_at xs t n (sym e)
-
 -- RECORDS OF TEXT
 
 pub all_text : (n : ℕ) (r : List (List ℕ)) → position_from is_not_text n r ≡ None → AllText r
@@ -81,27 +71,6 @@ end_of_first n fs ends at is some h got =
 
 pub drop_before : (n : ℕ) (fs : List Fact) → length (behind_commas (take n fs)) ≤ length (behind_commas fs)
 drop_before n fs = omega (arith, ap length (texts_cut n fs), length-append (behind_commas (take n fs)) (behind_commas (drop n fs)))
-
--- WRITING
-
-pub nothing_more : (out ends : List ℕ) (n : ℕ) → (out ≡ out ++ behind_commas []) × (ends ≡ ends ++ ends_from n [])
-unfolding behind_commas ends_from
-nothing_more out ends n = (sym (append-nil out), sym (append-nil ends))
-
--- one fact more
-pub put_one : (fs : List Fact) (i : ℕ) (f : Fact) (out now then ends noted noted' : List ℕ) → i < length fs → f ≡ get_or fs i f → now ≡ out ++ behind_commas (take i fs) → noted ≡ ends ++ ends_from (length out) (take i fs)
-    → then ≡ now ++ behind_comma f → noted' ≡ noted ++ length then ∷ [] → (then ≡ out ++ behind_commas (take (i + 1) fs)) × (noted' ≡ ends ++ ends_from (length out) (take (i + 1) fs))
-put_one fs i f out now then ends noted noted' h is so marks grown marked =
-    let front = take i fs in
-    let more : front ++ f ∷ [] ≡ take (i + 1) fs = ap (λ g. front ++ g ∷ []) is ∙ sym (take_more fs i f h) in
-    let text : then ≡ out ++ behind_commas (take (i + 1) fs) =
-    grown ∙ ap (λ t. t ++ behind_comma f) so ∙ append_assoc out (behind_commas front) (behind_comma f) ∙ ap (λ t. out ++ t) (sym (texts_push front f) ∙ ap behind_commas more) in
-    let long : length then ≡ length out + length (behind_commas (front ++ f ∷ [])) =
-    ap length text ∙ length-append out (behind_commas (take (i + 1) fs)) ∙ ap (λ t. length out + length (behind_commas t)) (sym more) in (
-      text,
-      marked ∙ ap (λ t. t ++ length then ∷ []) marks ∙ append_assoc ends (ends_from (length out) front) (length then ∷ [])
-          ∙ ap (λ k. ends ++ (ends_from (length out) front ++ k ∷ [])) long ∙ ap (λ t. ends ++ t) (sym (ends_push (length out) front f) ∙ ap (ends_from (length out)) more),
-    )
 
 -- what is held of more facts
 pub held_more : (out out' ends ends' : List ℕ) (fs gs hs : List Fact) → out ≡ behind_commas fs → ends ≡ ends_from 0 fs → out' ≡ out ++ behind_commas gs → ends' ≡ ends ++ ends_from (length out) gs → hs ≡ fs ++ gs

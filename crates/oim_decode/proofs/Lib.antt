@@ -6,6 +6,7 @@ pub mod Texts
 pub mod Empty
 pub mod Places
 pub mod Numerals
+pub mod PlainNumerals
 mod Examples
 mod SlotExamples
 pub mod PieceLaws
@@ -21,3 +22,4 @@ pub mod Refreshed
 pub mod StepLaws
 pub mod LoopLaws
 mod RowExamples
+pub mod WriterLaws

@@ -12,19 +12,6 @@ use Rattle.oim_rows.specs.declared.fault.TableFault.{TableFault}
 use Rattle.oim_decode.specs.Blocks.{AddsRow}
 use Rattle.oim_decode.specs.RowTexts.{AddsFacts, IsAnswer, Writing, facts_in, row_facts, writing_of}
 
-pub same_answer : (g : Reading) (w : Writing) (n : ℕ) (fields fields' : Record) (row : Row) (h : Header) → writing_of g ≡ w → row ≡ row_of g n fields' → fields' ≡ fields → h ≡ g.header
-    → facts_from g.report g.table row 0 h ≡ row_facts w n fields
-same_answer g w n fields fields' row h same is text head =
-    ap (λ x. facts_from g.report g.table x 0 h) is ∙ ap (λ x. facts_from g.report g.table (row_of g n x) 0 h) text ∙ ap (λ x. facts_from g.report g.table (row_of g n fields) 0 x) head ∙ ap (λ x. row_facts x n fields) same
-
-pub answer_moved : (t : ℕ) (result a b : Result (List Fact) TableFault) → a ≡ b → OrNoMemory t result a → OrNoMemory t result b
-answer_moved t result a b e (inl h) = inl h
-answer_moved t result a b e (inr h) = inr (h ∙ e)
-
-pub facts_are : (t : ℕ) (facts : List Fact) (answer : Result (List Fact) TableFault) → OrNoMemory t (Ok facts) answer → (answer ≡ Ok (facts_in answer)) × (facts_in answer ≡ facts)
-facts_are t facts answer (inl h) = absurd (cc h)
-facts_are t facts answer (inr h) = (sym h ∙ ap (λ x. Ok (facts_in x)) h, ap facts_in (sym h))
-
 pub known : {A : Type 0} (o : Option A) → IfSome o (λ _. Unit {0})
 known None = tt
 known (Some x) = tt

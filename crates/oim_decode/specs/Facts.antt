@@ -25,6 +25,10 @@ use Rattle.oim_decode.specs.Rows.{row_under, group_places, is_unknown_in, names_
 abbrev pub start_text : Cell → List ℕ
 start_text c = codes ",\"" ++ flat_map escaped_byte ((table_of c.report c.table).id ++ codes "." ++ c.row.id)
 
+-- of the start, what is the same in each row: up to the dot before the row's identifier
+abbrev pub lead_text : ReportValue → ℕ → List ℕ
+lead_text r t = codes ",\"" ++ flat_map escaped_byte ((table_of r t).id ++ codes ".")
+
 abbrev pub tail_text : ReportValue → ℕ → ℕ → List ℕ
 tail_text r t c = flat_map escaped_byte (codes "." ++ (column_of r t c).id) ++ codes "\":{"
 

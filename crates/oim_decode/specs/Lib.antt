@@ -12,3 +12,4 @@ pub mod Rows
 pub mod ReadyTable
 pub mod Variants
 pub mod Facts
+pub mod Writers

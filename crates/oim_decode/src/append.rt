@@ -1,6 +1,6 @@
 //! Appending bytes, and texts as JSON writes them.
 
-ghost use Rattle.std.specs.Prelude.{◌≡◌, ◌++◌, ◌∷◌, ◌<◌, ◌/◌, ◌%◌, [], OnOk, false, if◌then◌else◌, is_ok};
+ghost use Rattle.std.specs.Prelude.{◌≡◌, ◌++◌, ◌∷◌, ◌<◌, ◌/◌, ◌%◌, [], OnOk, false, true, if◌then◌else◌, is_ok};
 ghost use Rattle.std.specs.Char.{digit_char};
 ghost use Rattle.std.specs.List.{flat_map, list_all};
 ghost use mathlib.Core.List.{IsPrefix};
@@ -43,6 +43,20 @@ pub(crate) fn put_escaped(out: &mut Vec<u8>, text: &str) -> Result<(), AllocErro
     } else {
         put_runs(out, text.as_bytes())
     }
+}
+
+/// Appends a text in quotes of which each byte stands for itself. Fails where memory is short; what
+/// was there stays at the front.
+#[inline]
+pub(crate) fn put_plain(out: &mut Vec<u8>, text: &str) -> Result<(), AllocError>
+    requires { list_all is_unescaped text.now ≡ true }
+    ensures quoted { OnOk result (out.new.items ≡ out.old.items ++ quoted text.now) }
+    ensures stays { IsPrefix out.old.items out.new.items }
+{
+    out.push(b'"')?;
+    put(out, text.as_bytes())?;
+    out.push(b'"')?;
+    Ok(())
 }
 
 /// Appends a text in quotes, escaped. Fails where memory is short; what was there stays at the

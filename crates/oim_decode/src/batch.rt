@@ -141,6 +141,7 @@ impl Batch {
         let start = self.ends[count - 1];
         let mut bytes = room;
         bytes.clear();
+        bytes.reserve(self.bytes.len())?;
         bytes.extend_from_slice(after(self.bytes.as_slice(), start))?;
         Ok(Batch {
             bytes,

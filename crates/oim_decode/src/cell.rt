@@ -1,11 +1,12 @@
 //! The text of the fact of one cell.
 
-ghost use Rattle.std.specs.Prelude.{◌≡◌, ◌<◌, ◌⊎◌, ℕ, List, Some, None, true, false, codes, length, IfOk, OnOk};
+ghost use Rattle.std.specs.Prelude.{◌≡◌, ◌<◌, ◌⊎◌, ℕ, List, Some, None, true, false, codes, length, IfErr, IfOk, OnOk};
 ghost use Rattle.std.specs.List.{All, list_any};
 ghost use Rattle.csv.specs.Records.{fields_of};
 ghost use Rattle.oim_cells.specs.Cells.{seen_meaning};
 ghost use Rattle.oim_meta.specs.Readers.{column_of, columns_of};
 ghost use Rattle.oim_resolve.specs.Facts.{fact_meaning, given};
+ghost use Rattle.oim_resolve.specs.declared.fact.CellFault.TheVariants.{Memory};
 ghost use Rattle.oim_resolve.specs.Facts.{is_absent as says_nothing};
 ghost use Rattle.oim_resolve.specs.Facts.{is_unknown as has_no_meaning};
 ghost use Rattle.std.specs.Prelude.{slice_index_or};
@@ -17,7 +18,7 @@ ghost use Rattle.oim_decode.specs.Rows.{cell_under, is_unknown_in, names_none_in
 ghost use Rattle.oim_decode.specs.Variants.{IsKept, IsOfRow, IsVariant};
 
 use crate::append::put;
-use crate::choose::choose;
+use crate::choose::{find_variant, make_variant};
 use crate::column::FactColumn;
 use crate::decimals_slot::DecimalsSlot;
 use crate::ready_table::ReadyTable;
@@ -150,7 +151,8 @@ fn value_in<'r>(at: &RowAt<'r>, column: &FactColumn) -> CellMeaning<'r>
     meaning(at.text_at(column.place))
 }
 
-/// The place of the variant of a column in a row, made where it is not kept yet.
+/// The place of the variant of a column in a row, made where it is not kept yet; or the fault of its
+/// cells of groups.
 fn choose_in<'a>(
     alloc: Global,
     report: &'a Report,
@@ -158,24 +160,26 @@ fn choose_in<'a>(
     column: &FactColumn,
     guess: usize,
     kept: &mut ReadyTable<'a>,
-) -> Result<usize, AllocError>
+) -> Result<usize, CellFault>
     requires report { report.now ≡ (at.now).report.now }
     requires column { IsFactColumn (at.now).report.now (at.now).table (at.now).header.now column.now }
     requires kept { IsKept (at.now).report.now (at.now).table (at.now).header.now (at.now).number (fields_of (at.now).record.now) kept.old }
+    ensures good { IfOk result (λ _. groups_wrong (at.now).report.now (at.now).table (fields_of (at.now).record.now) (column.now).groups.items ≡ None) }
+    ensures fault { IfErr result (λ f. (f ≡ Memory) ⊎ (groups_wrong (at.now).report.now (at.now).table (fields_of (at.now).record.now) (column.now).groups.items ≡ Some f)) }
     ensures range { IfOk result (λ i. i < length kept.new.variants.items) }
     ensures variant { IfOk result (λ i. (v : Variant) → v ≡ slice_index_or kept.new.variants.items i v
         → IsOfRow (at.now).report.now (at.now).table (at.now).header.now (fields_of (at.now).record.now) (column.now).column v) }
     ensures kept { OnOk result (IsKept (at.now).report.now (at.now).table (at.now).header.now (at.now).number (fields_of (at.now).record.now) kept.new) }
 {
-    let place = choose(
-        alloc,
-        report,
-        column.column,
-        column.groups.as_slice(),
-        at,
-        guess,
-        kept,
-    )?;
+    let groups = column.groups.as_slice();
+    let variants = kept.variants.as_slice();
+    if let Some(place) = find_variant(variants, column.column, groups, at, guess) {
+        return Ok(place);
+    }
+    if let Some(fault) = group_fault(groups, at) {
+        return Err(fault);
+    }
+    let place = make_variant(alloc, report, column.column, groups, at, kept)?;
     Ok(place)
 }
 
@@ -205,10 +209,10 @@ pub(crate) fn put_cell<'a>(
     if is_unknown(value) {
         return Err(CellFault::UnknownSpecial);
     }
-    if let Some(fault) = group_fault(column.groups.as_slice(), at) {
-        return Err(fault);
-    }
-    let place = choose_in(alloc, report, at, column, guess, kept)?;
+    let place = match choose_in(alloc, report, at, column, guess, kept) {
+        Ok(place) => place,
+        Err(fault) => return Err(fault),
+    };
     let variant = &kept.variants[place];
     let slots = kept.slots.as_slice();
     let decimals = kept.decimals.as_slice();

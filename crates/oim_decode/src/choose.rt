@@ -1,10 +1,11 @@
 //! The variant of a column for the groups that a row names.
 
-ghost use Rattle.std.specs.Prelude.{◌≡◌, ◌<◌, ◌++◌, List, ℕ, Some, true, length, map, reverse, IfOk, OnOk};
+ghost use Rattle.std.specs.Prelude.{◌≡◌, ◌<◌, ◌++◌, List, ℕ, None, Some, true, length, map, reverse, IfOk, OnOk};
 ghost use Rattle.std.specs.List.{All, slice_get};
 ghost use Rattle.csv.specs.Records.{fields_of};
 ghost use Rattle.oim_meta.specs.Readers.{columns_of};
 ghost use Rattle.oim_rows.specs.RowFacts.{field_or_empty};
+ghost use Rattle.oim_decode.specs.Facts.{groups_wrong};
 ghost use Rattle.oim_decode.specs.ReadyTable.{IsFresh, IsFreshDecimals, Grows, held};
 ghost use Rattle.oim_decode.specs.Rows.{group_texts, group_places, levels_under};
 ghost use Rattle.oim_decode.specs.declared.variant.Variant.{Variant};
@@ -53,6 +54,7 @@ fn variant<'a>(
     requires groups { groups.now ≡ group_places report.now (at.now).table (at.now).header.now column }
     requires places { All (λ g. g.0 < length (columns_of report.now (at.now).table)) groups.now }
     requires fresh { All (IsFresh report.now (at.now).number (fields_of (at.now).record.now)) slots.old.items }
+    requires good { groups_wrong report.now (at.now).table (fields_of (at.now).record.now) groups.now ≡ None }
     requires decimals { All (IsFreshDecimals (at.now).number (fields_of (at.now).record.now)) decimals.old.items }
     ensures variant { IfOk result (λ v. IsVariant report.now (at.now).table (at.now).header.now slots.new.items decimals.new.items v) }
     ensures row { IfOk result (λ v. IsOfRow report.now (at.now).table (at.now).header.now (fields_of (at.now).record.now) column v) }
@@ -133,7 +135,7 @@ fn scan(
 
 /// The same, which is mostly at `guess`.
 #[inline]
-fn find_variant(
+pub(crate) fn find_variant(
     variants: &[Variant<'_>],
     column: usize,
     groups: &[(usize, Option<usize>)],
@@ -149,28 +151,25 @@ fn find_variant(
     scan(variants, column, groups, at)
 }
 
-/// The place of the variant of a column in the row, which is made where it is not kept yet.
-pub(crate) fn choose<'a>(
+/// Makes the variant of a column in a row with whose groups nothing is wrong, and answers its place.
+pub(crate) fn make_variant<'a>(
     alloc: Global,
     report: &'a Report,
     column: usize,
     groups: &[(usize, Option<usize>)],
     at: &RowAt<'_>,
-    guess: usize,
     kept: &mut ReadyTable<'a>,
 ) -> Result<usize, AllocError>
     requires report { report.now ≡ (at.now).report.now }
     requires column { column < length (columns_of report.now (at.now).table) }
     requires groups { groups.now ≡ group_places report.now (at.now).table (at.now).header.now column }
     requires places { All (λ g. g.0 < length (columns_of report.now (at.now).table)) groups.now }
+    requires good { groups_wrong report.now (at.now).table (fields_of (at.now).record.now) groups.now ≡ None }
     requires kept { IsKept report.now (at.now).table (at.now).header.now (at.now).number (fields_of (at.now).record.now) kept.old }
     ensures variant { IfOk result (λ i. (v : Variant) × (slice_get kept.new.variants.items i ≡ Some v)
         × IsOfRow report.now (at.now).table (at.now).header.now (fields_of (at.now).record.now) column v) }
     ensures kept { OnOk result (IsKept report.now (at.now).table (at.now).header.now (at.now).number (fields_of (at.now).record.now) kept.new) }
 {
-    if let Some(place) = find_variant(kept.variants.as_slice(), column, groups, at, guess) {
-        return Ok(place);
-    }
     let made = variant(
         alloc,
         report,

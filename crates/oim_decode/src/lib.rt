@@ -37,6 +37,7 @@ mod slot;
 mod slots;
 mod source;
 mod sources;
+mod start;
 mod table;
 mod text_rows;
 mod value;

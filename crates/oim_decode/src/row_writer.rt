@@ -1,21 +1,27 @@
 //! Writing the facts of a row as text.
 
-ghost use Rattle.std.specs.Prelude.{◌≡◌, ◌∷◌, ◌++◌, ◌<◌, [], ℕ, Err, IfOk, List, OnOk, Result, length};
+ghost use Rattle.std.specs.Prelude.{◌≡◌, ◌++◌, ◌<◌, ◌≤◌, [], IfErr, IfOk, OnOk, length};
 ghost use mathlib.Core.List.{IsPrefix};
 ghost use Rattle.csv.specs.Records.{fields_of};
-ghost use Rattle.oim_json.specs.Blocks.{behind_comma, behind_commas, ends_from};
+ghost use Rattle.oim_json.specs.Blocks.{behind_commas, ends_from};
 ghost use Rattle.oim_rows.specs.RowFacts.{IsTextRecord, id_place_of, row_id_text};
-ghost use Rattle.oim_resolve.specs.declared.fact.Fact.{Fact as FactValue};
-ghost use Rattle.oim_rows.specs.Streams.{OrNoMemory};
-ghost use Rattle.oim_rows.specs.declared.fault.TableFault.{TableFault as FaultValue};
+ghost use Rattle.oim_decode.specs.Facts.{AreFactColumns, GivesFacts, IsRowFault, start_text};
+ghost use Rattle.oim_decode.specs.Rows.{cell_under};
 ghost use Rattle.oim_decode.specs.RowTexts.{IsAnswer, facts_in, reading_up_to, row_facts};
+ghost use Rattle.oim_decode.specs.Variants.{IsReady};
 
+use crate::append::put;
+use crate::cells::put_cells;
+use crate::column::FactColumn;
+use crate::columns::ready_columns;
+use crate::ready_table::{ReadyTable, nothing_ready};
+use crate::refresh::refresh_table;
+use crate::row_at::RowAt;
 use crate::row_fault::RowFault;
+use crate::start::{lead_of, read_start};
 use csv::StringRecord;
-use oim_json::member_of;
+use itoa::Buffer;
 use oim_meta::Report;
-use oim_resolve::Fact;
-use oim_rows::{Decoder, TableFault, TableKind};
 use std::alloc::{AllocError, Global};
 use std::marker::Model;
 
@@ -23,21 +29,45 @@ use std::marker::Model;
 /// and the header.
 #[derive(Drop)]
 pub(crate) struct RowWriter<'a> {
-    decoder: Decoder<'a>,
+    report: &'a Report,
+    table: usize,
+    header: Vec<Option<usize>>,
+    // the column of facts under each header cell, where there is one, and the place of the variant
+    // that it had last
+    columns: Vec<Option<FactColumn>>,
+    last: Vec<usize>,
+    ready: ReadyTable<'a>,
+    // the text of a fact up to the row's identifier, and the same with the identifier
+    lead: Vec<u8>,
+    start: Vec<u8>,
+    // the text of the row at hand
+    text: Vec<u8>,
 }
 
 impl<'a> Model for RowWriter<'a> {
-    ghost use Rattle.oim_decode.specs.RowTexts.{Writing, writing_of};
+    ghost use Rattle.oim_decode.specs.RowTexts.{Writing};
+    ghost use Rattle.oim_decode.specs.Writers.{IsWriter};
 
     ghost Value = { Writing };
 
-    ghost view = { λ a. writing_of a.decoder };
+    ghost view = { λ a. record { report = a.report.now; table = a.table; header = a.header.items } };
+
+    ghost invariant = { λ a. IsWriter a.report.now a.table a.header.items a.columns.items a.ready a.lead.items };
 }
 
 fn copy_of(alloc: Global, header: &[Option<usize>]) -> Result<Vec<Option<usize>>, AllocError>
     ensures { IfOk result (λ h. h.items ≡ header.now) }
 {
     Vec::from_slice(alloc, header)
+}
+
+/// As many zeros.
+fn zeros(alloc: Global, count: usize) -> Result<Vec<usize>, AllocError> {
+    let mut zeros = Vec::with_capacity(alloc, count)?;
+    for _ in 0..count {
+        zeros.push(0)?;
+    }
+    Ok(zeros)
 }
 
 impl<'a> RowWriter<'a> {
@@ -51,9 +81,18 @@ impl<'a> RowWriter<'a> {
         requires { table < length report.now.tables }
         ensures { IfOk result (λ w. w ≡ record { report = report.now; table = table; header = header.now }) }
     {
-        let header = copy_of(alloc, header)?;
+        let columns = ready_columns(alloc, report, table, header)?;
+        let lead = lead_of(alloc, report, table)?;
         Ok(RowWriter {
-            decoder: Decoder::new(alloc, report, table, u32::MAX, header)?,
+            report,
+            table,
+            header: copy_of(alloc, header)?,
+            columns,
+            last: zeros(alloc, header.len())?,
+            ready: nothing_ready(alloc),
+            lead,
+            start: Vec::new(alloc),
+            text: Vec::new(alloc),
         })
     }
 
@@ -80,64 +119,67 @@ impl<'a> RowWriter<'a> {
         ensures front { IsPrefix out.old.items out.new.items × IsPrefix ends.old.items ends.new.items }
         ensures same { self.new ≡ self.old }
     {
-        let _ = id;
-        let Ok(cells) = self.decoder.row(alloc, number, row.as_byte_record()) else {
-            return Err(RowFault::Memory);
+        let mut buffer = Buffer::new();
+        let at = RowAt {
+            report: self.report,
+            table: self.table,
+            header: self.header.as_slice(),
+            number,
+            digits: buffer.format(number),
+            record: row,
         };
-        match self
-            .decoder
-            .facts_of_row(alloc, &cells, self.decoder.header())
-        {
-            Ok(facts) => match put_facts(alloc, facts.as_slice(), out, ends) {
-                Ok(()) => Ok(()),
-                Err(_) => Err(RowFault::Memory),
-            },
-            Err(fault) => Err(row_fault_of(fault)),
+        read_start(&mut self.start, self.lead.as_slice(), id)?;
+        match write_row(
+            alloc,
+            self.report,
+            &at,
+            self.columns.as_slice(),
+            self.start.as_slice(),
+            self.last.as_mut_slice(),
+            &mut self.ready,
+            &mut self.text,
+            out.len(),
+            ends,
+        ) {
+            Ok(()) => {
+                put(out, self.text.as_slice())?;
+                Ok(())
+            }
+            Err(fault) => {
+                self.ready = nothing_ready(alloc);
+                Err(fault)
+            }
         }
     }
 }
 
-/// A table's fault that a row ended with, as the row's.
-fn row_fault_of(fault: TableFault) -> RowFault
-    ensures { (t : ℕ) (answer : Result (List FactValue) FaultValue) → OrNoMemory t (Err fault) answer → IsAnswer answer (Err result) }
-{
-    match fault.kind {
-        TableKind::Memory => RowFault::Memory,
-        _ => RowFault::Cell(fault),
-    }
-}
-
-/// Appends the text of each fact behind a comma, and where each of them ends.
-fn put_facts(
+/// Puts the texts of a row's facts, each behind a comma, in place of what `text` holds, and notes where
+/// each of them ends, `base` bytes further on; or answers the fault of its first cell that has one.
+fn write_row<'a>(
     alloc: Global,
-    facts: &[Fact],
-    out: &mut Vec<u8>,
+    report: &'a Report,
+    at: &RowAt<'_>,
+    columns: &[Option<FactColumn>],
+    start: &[u8],
+    last: &mut [usize],
+    ready: &mut ReadyTable<'a>,
+    text: &mut Vec<u8>,
+    base: usize,
     ends: &mut Vec<usize>,
-) -> Result<(), AllocError>
-    ensures texts { OnOk result (out.new.items ≡ out.old.items ++ behind_commas facts.now) }
-    ensures ends { OnOk result (ends.new.items ≡ ends.old.items ++ ends_from (length out.old.items) facts.now) }
-    ensures front { IsPrefix out.old.items out.new.items × IsPrefix ends.old.items ends.new.items }
+) -> Result<(), RowFault>
+    requires report { report.now ≡ (at.now).report.now }
+    requires columns { AreFactColumns (at.now).report.now (at.now).table (at.now).header.now columns.now }
+    requires base { base ≤ 9223372036854775807 }
+    requires start { start.now ≡ start_text (cell_under (at.now).report.now (at.now).table (at.now).header.now (at.now).number (fields_of (at.now).record.now) 0) }
+    requires ready { IsReady (at.now).report.now (at.now).table (at.now).header.now ready.old }
+    ensures facts { IfOk result (λ _. GivesFacts (at.now).report.now (at.now).table (at.now).header.now (at.now).number (fields_of (at.now).record.now) base [] text.new.items ends.old.items ends.new.items) }
+    ensures front { IsPrefix ends.old.items ends.new.items }
+    ensures fault { IfErr result (IsRowFault (at.now).report.now (at.now).table (at.now).header.now (at.now).number (fields_of (at.now).record.now)) }
+    ensures ready { OnOk result (IsReady (at.now).report.now (at.now).table (at.now).header.now ready.new) }
 {
-    for fact in facts {
-        put_fact(alloc, fact, out, ends)?;
-    }
-    Ok(())
-}
-
-/// Appends the text of a fact behind a comma, and where it ends.
-fn put_fact(
-    alloc: Global,
-    fact: &Fact,
-    out: &mut Vec<u8>,
-    ends: &mut Vec<usize>,
-) -> Result<(), AllocError>
-    ensures text { OnOk result (out.new.items ≡ out.old.items ++ behind_comma fact.now) }
-    ensures end { OnOk result (ends.new.items ≡ ends.old.items ++ length out.new.items ∷ []) }
-    ensures front { IsPrefix out.old.items out.new.items × IsPrefix ends.old.items ends.new.items }
-{
-    let member = member_of(alloc, fact)?;
-    out.push(b',')?;
-    out.extend_from_slice(member.bytes())?;
-    ends.push(out.len())?;
-    Ok(())
+    text.clear();
+    refresh_table(alloc, at, ready)?;
+    put_cells(
+        alloc, report, at, columns, start, last, ready, text, base, ends,
+    )
 }

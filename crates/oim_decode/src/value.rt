@@ -7,7 +7,7 @@ ghost use Rattle.oim_json.specs.JsonText.{value_text};
 ghost use Rattle.oim_resolve.specs.Facts.{numeral as numeral_in, value_text as value_of};
 ghost use Rattle.oim_decode.specs.Rest.{number_wrong};
 
-use crate::append::{put, put_quoted};
+use crate::append::{put, put_plain, put_quoted};
 use oim_cells::{Accuracy, CellMeaning};
 use oim_meta::Kind;
 use oim_resolve::CellFault;
@@ -48,7 +48,7 @@ fn put_good(
     match (kind, value) {
         (_, CellMeaning::Empty) => put_quoted(out, ""),
         (Kind::Number(_), CellMeaning::Text(_)) => match numeral {
-            Some((numeral, _)) => put_quoted(out, numeral),
+            Some((numeral, _)) => put_plain(out, numeral),
             None => put(out, b"null"),
         },
         (_, CellMeaning::Text(text)) => put_quoted(out, text),

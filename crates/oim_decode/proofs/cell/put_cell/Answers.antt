@@ -1,4 +1,4 @@
-use Rattle.std.proofs.Common.{◌≡◌, ◌<◌, ℕ, length, get_or, refl, sym, ap, subst, ◌∙◌, inr, Option, List}
+use Rattle.std.proofs.Common.{◌≡◌, ◌<◌, ℕ, length, get_or, refl, sym, ap, subst, ◌∙◌, inl, inr, Option, List}
 use Rattle.std.specs.List.{All}
 use Rattle.csv.specs.Records.{fields_of}
 use Rattle.oim_meta.specs.Readers.{columns_of}
@@ -25,49 +25,43 @@ returns-then-is_unknown-clause-cell c =
     (first_err cell UnknownSpecial (ap is_absent (sym c.value_in-value.ensures) ∙ sym c.is_absent.ensures ∙ c.if-is_absent.false)
     (first_unknown cell (ap is_unknown (sym c.value_in-value.ensures) ∙ sym c.is_unknown.ensures ∙ c.if-is_unknown.true)))
 
-pub group_fault-requires : goal.group_fault-requires
-group_fault-requires c =
-    let a = c.args.at.now in
-    let P : ℕ → Type 0 = λ i. i < length (columns_of a.report.now a.table) in
-    subst (All (λ (g : ℕ × Option ℕ). P g.0)) (sym (c.as_slice.ensures.value ∙ c.requires.column.groups)) (all_places P (source_of_column a.header.now) _ c.requires.column.from)
-
-pub returns-in-Some-clause-cell : goal.returns-in-Some-clause-cell
-returns-in-Some-clause-cell c =
-    let a = c.args.at.now in
-    let w = fields_of a.record.now in
-    let cell = cell_under a.report.now a.table a.header.now a.number w c.args.column.now.column in
-    let first = first_is a.report.now a.table a.header.now a.number w c.args.column.now.column c.requires.column.from (ap is_unknown (sym c.value_in-value.ensures) ∙ sym c.is_unknown.ensures ∙ c.if-is_unknown.false)
-    ∙ ap (groups_wrong a.report.now a.table w) (sym (c.as_slice.ensures.value ∙ c.requires.column.groups)) in
-    inr (first_err cell c.in-Some.fault (ap is_absent (sym c.value_in-value.ensures) ∙ sym c.is_absent.ensures ∙ c.if-is_absent.false) (first ∙ sym c.in-Some.ensures))
-
-pub put_fact-requires-clause-variant : goal.put_fact-requires-clause-variant
-put_fact-requires-clause-variant c =
-    let a = c.args.at.now in
-    let kept = c.choose_in.new.kept in
-    let v = c.index-variant.result.now in
-    let is : v ≡ get_or kept.variants.items c.in_ok-place.place v = c.index-variant.ensures in
-    let here = subst (IsVariant a.report.now a.table a.header.now kept.slots.items kept.decimals.items) (sym is) (c.in_ok-place.ensures.kept.variants c.in_ok-place.place v c.in_ok-place.ensures.range) in
-    subst (λ (xs : List SlotView). IsVariant a.report.now a.table a.header.now xs c.as_slice-decimals.result.now v) (sym c.as_slice-slots.ensures.value)
-    (subst (λ (ys : List DecimalsView). IsVariant a.report.now a.table a.header.now kept.slots.items ys v) (sym c.as_slice-decimals.ensures.value) here)
-
-pub put_fact-requires-clause-row : goal.put_fact-requires-clause-row
-put_fact-requires-clause-row c = c.in_ok-place.ensures.variant c.index-variant.result.now c.index-variant.ensures
-
-pub returns-in-Ok-clause-cell : goal.returns-in-Ok-clause-cell
-returns-in-Ok-clause-cell c =
-    let a = c.args.at.now in
-    let w = fields_of a.record.now in
-    let cell = cell_under a.report.now a.table a.header.now a.number w c.args.column.now.column in
-    let first = first_is a.report.now a.table a.header.now a.number w c.args.column.now.column c.requires.column.from (ap is_unknown (sym c.value_in-value.ensures) ∙ sym c.is_unknown.ensures ∙ c.if-is_unknown.false)
-    ∙ ap (groups_wrong a.report.now a.table w) (sym (c.as_slice.ensures.value ∙ c.requires.column.groups)) in
-    let given = c.in-Ok.ensures in
-    (good cell (ap is_absent (sym c.value_in-value.ensures) ∙ sym c.is_absent.ensures ∙ c.if-is_absent.false) (first ∙ sym c.in_default.ensures) given.0 given.1, given.2)
-
 pub returns-in-Err-clause-cell : goal.returns-in-Err-clause-cell
 returns-in-Err-clause-cell c =
     let a = c.args.at.now in
     let w = fields_of a.record.now in
     let cell = cell_under a.report.now a.table a.header.now a.number w c.args.column.now.column in
     let first = first_is a.report.now a.table a.header.now a.number w c.args.column.now.column c.requires.column.from (ap is_unknown (sym c.value_in-value.ensures) ∙ sym c.is_unknown.ensures ∙ c.if-is_unknown.false)
-    ∙ ap (groups_wrong a.report.now a.table w) (sym (c.as_slice.ensures.value ∙ c.requires.column.groups)) in
-    fault_of_fact cell c.in-Err.fault (ap is_absent (sym c.value_in-value.ensures) ∙ sym c.is_absent.ensures ∙ c.if-is_absent.false) (first ∙ sym c.in_default.ensures) c.in-Err.ensures
+    ∙ ap (groups_wrong a.report.now a.table w) (sym c.requires.column.groups) in
+    elim c.in-Err.ensures.fault [ inl m ↦ inl m | inr g ↦ inr (first_err cell c.in-Err.fault (ap is_absent (sym c.value_in-value.ensures) ∙ sym c.is_absent.ensures ∙ c.if-is_absent.false) (first ∙ g)) ]
+
+pub put_fact-requires-clause-variant : goal.put_fact-requires-clause-variant
+put_fact-requires-clause-variant c =
+    let a = c.args.at.now in
+    let kept = c.choose_in.new.kept in
+    let v = c.index-variant.result.now in
+    let is : v ≡ get_or kept.variants.items c.in-Ok.place v = c.index-variant.ensures in
+    let here = subst (IsVariant a.report.now a.table a.header.now kept.slots.items kept.decimals.items) (sym is) (c.in-Ok.ensures.kept.variants c.in-Ok.place v c.in-Ok.ensures.range) in
+    subst (λ (xs : List SlotView). IsVariant a.report.now a.table a.header.now xs c.as_slice-decimals.result.now v) (sym c.as_slice-slots.ensures.value)
+    (subst (λ (ys : List DecimalsView). IsVariant a.report.now a.table a.header.now kept.slots.items ys v) (sym c.as_slice-decimals.ensures.value) here)
+
+pub put_fact-requires-clause-row : goal.put_fact-requires-clause-row
+put_fact-requires-clause-row c = c.in-Ok.ensures.variant c.index-variant.result.now c.index-variant.ensures
+
+pub returns-in-Ok-put_fact-clause-cell : goal.returns-in-Ok-put_fact-clause-cell
+returns-in-Ok-put_fact-clause-cell c =
+    let a = c.args.at.now in
+    let w = fields_of a.record.now in
+    let cell = cell_under a.report.now a.table a.header.now a.number w c.args.column.now.column in
+    let first = first_is a.report.now a.table a.header.now a.number w c.args.column.now.column c.requires.column.from (ap is_unknown (sym c.value_in-value.ensures) ∙ sym c.is_unknown.ensures ∙ c.if-is_unknown.false)
+    ∙ ap (groups_wrong a.report.now a.table w) (sym c.requires.column.groups) in
+    let given = c.in-Ok-put_fact.ensures in
+    (good cell (ap is_absent (sym c.value_in-value.ensures) ∙ sym c.is_absent.ensures ∙ c.if-is_absent.false) (first ∙ c.in-Ok.ensures.good) given.0 given.1, given.2)
+
+pub returns-in-Err-put_fact-clause-cell : goal.returns-in-Err-put_fact-clause-cell
+returns-in-Err-put_fact-clause-cell c =
+    let a = c.args.at.now in
+    let w = fields_of a.record.now in
+    let cell = cell_under a.report.now a.table a.header.now a.number w c.args.column.now.column in
+    let first = first_is a.report.now a.table a.header.now a.number w c.args.column.now.column c.requires.column.from (ap is_unknown (sym c.value_in-value.ensures) ∙ sym c.is_unknown.ensures ∙ c.if-is_unknown.false)
+    ∙ ap (groups_wrong a.report.now a.table w) (sym c.requires.column.groups) in
+    fault_of_fact cell c.in-Err-put_fact.fault (ap is_absent (sym c.value_in-value.ensures) ∙ sym c.is_absent.ensures ∙ c.if-is_absent.false) (first ∙ c.in-Ok.ensures.good) c.in-Err-put_fact.ensures

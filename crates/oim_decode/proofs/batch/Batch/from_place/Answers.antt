@@ -26,7 +26,7 @@ invariant_of-result c =
     let at = end_of_first c.args.count fs c.self.inside.ends.items c.index-start.result.now c.self.invariant.1 c.requires.some there c.index-start.ensures in
     let texts = rest_texts c.args.count c.index-start.result.now fs c.as_slice.result.now (c.as_slice.ensures.value ∙ c.self.invariant.0) at in
     let ends = rest_ends c.args.count c.index-start.result.now fs c.as_slice-2.result.now there (c.as_slice-2.ensures.value ∙ c.self.invariant.1) at in
-    let moved : c.extend_from_slice.new.self.items ≡ c.after.result.now = c.in_ok-extend_from_slice.ensures.items ∙ ap (λ t. t ++ c.after.result.now) c.clear.ensures.items in (
+    let moved : c.extend_from_slice.new.self.items ≡ c.after.result.now = c.in_ok-extend_from_slice.ensures.items ∙ ap (λ t. t ++ c.after.result.now) (c.in_ok-reserve.ensures.items ∙ c.clear.ensures.items) in (
       moved ∙ c.after.ensures ∙ texts ∙ ap behind_commas (sym c.rest.ensures),
       c.in_ok-counted_from.ensures ∙ ap (map (λ end. end - c.index-start.result.now)) c.behind.ensures ∙ ends ∙ ap (ends_from 0) (sym c.rest.ensures),
     )

@@ -6,16 +6,7 @@ use Rattle.oim_decode.specs.Variants.{IsVariant, IsOfRow}
 use Rattle.oim_decode.specs.declared.variant.Variant.{Variant}
 use Rattle.oim_decode.proofs.Growth.{all_push, slice_get-last}
 use Rattle.oim_decode.proofs.VariantLaws.{variants_grow}
-use Rattle.oim_decode.proofs.choose.choose.Goals as goal
-
-pub returns-in-Some-clause-variant : goal.returns-in-Some-clause-variant
-returns-in-Some-clause-variant c =
-    let t = c.args.at.now.table in
-    let h = c.args.at.now.header.now in
-    let row = fields_of c.args.at.now.record.now in
-    let place = c.in-Some.place in
-    let found = c.in-Some.ensures place refl in
-    (found.0, ap (λ (vs : List Variant). slice_get vs place) (sym c.as_slice.ensures.value) ∙ found.1, subst (λ (r : ReportValue). IsOfRow r t h row c.args.column found.0) (sym c.requires.report) found.2)
+use Rattle.oim_decode.proofs.choose.make_variant.Goals as goal
 
 pub returns-clause-kept : goal.returns-clause-kept
 returns-clause-kept c =
