@@ -1,9 +1,10 @@
 -- The command line, and what its words ask for.
-use Rattle.std.specs.Prelude.{◌≡◌, ◌⊎◌, ℕ, true, List, [], ◌∷◌, Option, Some, None, codes}
+use Rattle.std.specs.Prelude.{◌≡◌, ◌⊎◌, ℕ, Bool, true, false, List, [], ◌∷◌, Option, Some, None, codes}
+use Rattle.std.specs.Str.{bytes_eq}
 use Rattle.std.specs.Str.Parse.{digits_value, without_leading_plus}
 use Rattle.clap.specs.Words.{App, Row, Rule, Text, first_of, new_app, new_rule, one_of, with_rule}
 use Rattle.clap.specs.Simple.{on_top}
-use Rattle.clap.specs.declared.builder.action.ArgAction.TheVariants.{Set}
+use Rattle.clap.specs.declared.builder.action.ArgAction.TheVariants.{Set, SetTrue}
 use Rattle.clap.specs.declared.builder.value_parser.ValueParser.TheVariants.{Unsigned}
 use Rattle.xbrl_json_cli.specs.declared.settings.Settings.{Settings}
 
@@ -19,9 +20,14 @@ abbrev pub number_option : Text → ℕ → Text → Rule
 number_option id most default =
     record (option id) { parser = Some (Unsigned 1 most); defaults = default ∷ [] }
 
--- META --types FILE [--workers N] [--ring K] [--out FILE], without the program's name; or --help, or --version
+-- an option of this name, without a value
+abbrev pub flag : Text → Rule
+flag id = record (new_rule id) { long = Some id; action = Some SetTrue }
+
+-- META --types FILE [--workers N] [--ring K] [--out FILE] [--progress], without the program's name; or --help, or --version
 unfoldable pub command_line : App
 command_line = with_rule
+    (with_rule
     (with_rule
     (with_rule
     (with_rule
@@ -30,12 +36,18 @@ command_line = with_rule
     (record (option (codes "types")) { required = true }))
     (number_option (codes "workers") 64 (codes "4")))
     (number_option (codes "ring") 65536 (codes "1024")))
-    (option (codes "out"))
+    (option (codes "out")))
+    (flag (codes "progress"))
 
 -- the text is there and writes n in decimal digits
 abbrev pub IsNumberOf : Option Text → ℕ → Type 0
 IsNumberOf None n = ⊥
 IsNumberOf (Some text) n = n ≡ digits_value 10 (without_leading_plus text)
+
+-- the flag is given, which its text says
+abbrev pub is_given : Option Text → Bool
+is_given None = false
+is_given (Some text) = bytes_eq text (codes "true")
 
 -- the settings are the values that the words give, and the defaults for those that they leave out
 abbrev pub HasSettings : List Row → Settings → Type 0
@@ -44,6 +56,7 @@ HasSettings rows s = (first_of (codes "meta") rows ≡ Some s.meta)
     × IsNumberOf (one_of (codes "workers") rows) s.workers
     × IsNumberOf (one_of (codes "ring") rows) s.ring
     × (first_of (codes "out") rows ≡ s.out)
+    × (s.progress ≡ is_given (first_of (codes "progress") rows))
 
 -- the path is one of those that the run reads by the settings alone
 abbrev pub IsInput : Settings → List ℕ → Type 0

@@ -4,9 +4,7 @@ ghost use Rattle.std.specs.Prelude.{◌≡◌, ℕ, List, Option, Some, None, If
 ghost use Rattle.oim_convert.specs.Files.{IsFileOf};
 ghost use Rattle.xbrl_json_cli.specs.Folders.{IsFolderOf, first_at};
 
-use std::io::{ErrorKind, Read};
-use std::rt::Files;
-use std::{fs, io};
+use std::io::Read;
 
 /// Files by their paths, which stay as they are while they are opened.
 pub trait Folder<R: Read> {
@@ -57,64 +55,6 @@ impl<'a> Folder<&'a [u8]> for Texts<'a> {
 
     fn find(&mut self, path: String) -> Option<&'a [u8]> {
         bytes_at(self.files, path.as_str())
-    }
-}
-
-/// A file of the system, which is opened at its first read unless it is open already.
-#[derive(Drop)]
-pub enum DiskFile<'a, H: Files> {
-    /// The open file.
-    Open(H::File),
-    /// The file at this path, which is not open yet.
-    Named(&'a H, String),
-}
-
-impl<'a, H: Files> Read for DiskFile<'a, H>
-where
-    H::File: Read,
-{
-    fn read(&mut self, buf: &mut [u8]) -> io::Result<usize> {
-        if let DiskFile::Named(rt, path) = self {
-            *self = DiskFile::Open(fs::open(*rt, path.as_str())?);
-        }
-        match self {
-            DiskFile::Open(file) => file.read(buf),
-            DiskFile::Named(_, _) => Err(io::Error::from(ErrorKind::NotFound)),
-        }
-    }
-}
-
-/// The files of the system, of which nothing is claimed. A file that cannot be opened is none where
-/// it is opened at once. A file that is looked for is none only where the system says so; any other
-/// that cannot be opened fails at its first read.
-#[derive(Drop)]
-pub struct Disk<'a, H> {
-    /// The system.
-    pub rt: &'a H,
-}
-
-/// Whether the system says that there is no such file: it was not found, or a part of its path is
-/// not a folder.
-fn is_missing(error: &io::Error) -> bool {
-    matches!(error.kind(), ErrorKind::NotFound | ErrorKind::NotADirectory)
-}
-
-impl<'a, H: Files> Folder<DiskFile<'a, H>> for Disk<'a, H>
-where
-    H::File: Read,
-{
-    fn open(&mut self, path: &str) -> Option<DiskFile<'a, H>> {
-        match fs::open(self.rt, path) {
-            Ok(file) => Some(DiskFile::Open(file)),
-            Err(_) => None,
-        }
-    }
-
-    fn find(&mut self, path: String) -> Option<DiskFile<'a, H>> {
-        match fs::metadata(self.rt, path.as_str()) {
-            Err(error) if is_missing(&error) => None,
-            _ => Some(DiskFile::Named(self.rt, path)),
-        }
     }
 }
 

@@ -1,6 +1,6 @@
 //! `xbrl-json`: converts a report in xBRL-CSV 1.0 to xBRL-JSON 1.0.
 //!
-//! `xbrl-json META --types FILE [--workers N] [--ring K] [--out FILE]` converts the report whose
+//! `xbrl-json META --types FILE [--workers N] [--ring K] [--out FILE] [--progress]` converts the report whose
 //! metadata file is META to standard output, or to the file of `--out`. With no words at all the
 //! program converts the report that it holds to standard output.
 //!
@@ -28,10 +28,12 @@ ghost use Rattle.clap.specs.Values.{kind_of};
 ghost use Rattle.xbrl_json_cli.specs.Lines.{status_of, words_status};
 
 mod conversion;
+mod disk;
 mod folder;
 mod held;
 mod outcome;
 mod output;
+mod progress;
 mod running;
 mod settings;
 mod steps;

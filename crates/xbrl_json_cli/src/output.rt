@@ -8,15 +8,17 @@ ghost use Rattle.xbrl_json_cli.specs.Steps as spec;
 ghost use Rattle.xbrl_json_cli.specs.declared.outcome.Outcome.TheVariants as outcome;
 
 use crate::conversion::after_flush;
-use crate::folder::{Disk, Folder};
+use crate::disk::Disk;
+use crate::folder::Folder;
 use crate::outcome::Outcome;
+use crate::progress::{Counted, Progress};
 use crate::running::run;
 use crate::settings::Settings;
 use crate::steps::no_memory;
 use oim_json::Marked;
 use oim_names::Text;
 use std::alloc::Global;
-use std::io::{BufWriter, Read, Write};
+use std::io::{BufWriter, IsTerminal, Read, Write};
 use std::sync::Wait;
 use std::thread::Threads;
 use std::{fs, io};
@@ -49,6 +51,35 @@ fn cannot_write(alloc: Global, path: &str) -> Outcome
     }
 }
 
+/// Runs over the system's files to a writer, and flushes it. Where the settings ask for it, standard
+/// error shows how far the run is.
+fn run_watched<T: Threads + Wait + Sync, W: Write + Drop>(
+    rt: &HostRuntime,
+    threads: &T,
+    alloc: Global,
+    settings: &Settings,
+    to: W,
+) -> Outcome {
+    let progress = if settings.progress {
+        Progress::start(rt, rt.stderr().is_terminal())
+    } else {
+        None
+    };
+    let progress = progress.as_ref();
+    let mut disk = Disk { rt, progress };
+    let outcome = run_to(
+        threads,
+        alloc,
+        settings,
+        &mut disk,
+        Counted::new(to, progress),
+    );
+    if let Some(progress) = progress {
+        progress.end();
+    }
+    outcome
+}
+
 /// Runs over the system's files, to the file of `settings.out`, which is made or cut to nothing
 /// before anything is read, or to standard output. Where `settings.out` is the path of the metadata
 /// or of the types table it cannot be written, and nothing is touched. The threads are taken apart
@@ -61,15 +92,14 @@ pub fn convert_as<T: Threads + Wait + Sync>(
 ) -> Outcome
     ensures { IfSome settings.now.out (λ path. IsInput settings.now path → (result ≡ outcome.CannotWrite path) ⊎ (result ≡ spec.no_memory)) }
 {
-    let mut disk = Disk { rt };
     let Some(path) = &settings.out else {
-        return run_to(threads, alloc, settings, &mut disk, io::writer(rt));
+        return run_watched(rt, threads, alloc, settings, io::writer(rt));
     };
     if settings.reads(path.as_str()) {
         return cannot_write(alloc, path.as_str());
     }
     match fs::create(rt, path.as_str()) {
-        Ok(file) => run_to(threads, alloc, settings, &mut disk, file),
+        Ok(file) => run_watched(rt, threads, alloc, settings, file),
         Err(_) => cannot_write(alloc, path.as_str()),
     }
 }

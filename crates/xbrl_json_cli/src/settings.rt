@@ -47,6 +47,8 @@ pub struct Settings {
     pub ring: usize,
     /// The path of the document, `None` for standard output.
     pub out: Option<Text>,
+    /// Whether standard error shows how far the run is.
+    pub progress: bool,
 }
 
 impl Settings {
@@ -93,6 +95,17 @@ fn number_option<'a>(
         .default_value(default)
 }
 
+/// An option without a value.
+fn flag<'a>(alloc: Global, name: &'a str, help: &'a str) -> Arg<'a>
+    ensures rule { rule_of result ≡ spec.flag name.entry.now }
+    ensures local { result.global ≡ false }
+{
+    Arg::new(alloc, name)
+        .long(name)
+        .help(help)
+        .action(ArgAction::SetTrue)
+}
+
 /// The program's arguments, as `clap` reads them.
 fn command<'a>(alloc: Global) -> Result<Command<'a>, AllocError>
     ensures { IfOk result (λ c. app_of c ≡ command_line) }
@@ -125,6 +138,11 @@ fn command<'a>(alloc: Global) -> Result<Command<'a>, AllocError>
         "FILE",
         "The file of the document, cut to nothing at once [default: standard output]",
     );
+    let progress = flag(
+        alloc,
+        "progress",
+        "Show on standard error how much is read and written",
+    );
     Command::new(alloc, "xbrl-json")
         .about("Converts a report in xBRL-CSV to xBRL-JSON")
         .version("0.1.0")
@@ -134,7 +152,8 @@ fn command<'a>(alloc: Global) -> Result<Command<'a>, AllocError>
         .arg(types)?
         .arg(workers)?
         .arg(ring)?
-        .arg(out)
+        .arg(out)?
+        .arg(progress)
 }
 
 /// The value that the argument `id` has.
@@ -142,6 +161,16 @@ fn value_of<'a>(matches: &ArgMatches<'a>, id: &str) -> Option<&'a str>
     ensures { option_map (λ s. s.now) result ≡ first_of id.now (rows_of (found_of matches.now)) }
 {
     matches.get_str(id)
+}
+
+/// Whether the flag `id` is given.
+fn is_given(matches: &ArgMatches<'_>, id: &str) -> bool
+    ensures { result ≡ spec.is_given (first_of id.now (rows_of (found_of matches.now))) }
+{
+    match value_of(matches, id) {
+        Some(text) => text == "true",
+        None => false,
+    }
 }
 
 /// The number that the option `id` has, where it lies between `least` and `most`.
@@ -181,11 +210,12 @@ fn settings_in(alloc: Global, matches: &ArgMatches<'_>) -> Result<Option<Setting
         workers,
         ring,
         out,
+        progress: is_given(matches, "progress"),
     }))
 }
 
 /// Reads the command line, the words without the program's name: `META --types FILE [--workers N]
-/// [--ring K] [--out FILE]`, with 4 workers and rings of 1,024 unless the words say otherwise.
+/// [--ring K] [--out FILE] [--progress]`, with 4 workers and rings of 1,024 unless the words say otherwise.
 /// Workers are 1 to 64, a ring's size 1 to 65,536.
 ///
 /// Fails exactly where the definition of the command line refuses the words, by one of the kinds that

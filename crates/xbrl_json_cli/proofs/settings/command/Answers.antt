@@ -27,4 +27,5 @@ returns c =
     let two = c.in_ok-arg-2.ensures.shape (ap is_global c.required-types.ensures ∙ c.option.ensures.local) ∙ ap₂ with_rule one types in
     let three = c.in_ok-arg-3.ensures.shape c.number_option-workers.ensures.local ∙ ap₂ with_rule two c.number_option-workers.ensures.rule in
     let four = c.in_ok-arg-4.ensures.shape c.number_option-ring.ensures.local ∙ ap₂ with_rule three c.number_option-ring.ensures.rule in
-    IfOk-weaker c.arg-5.result _ _ (λ r h. h.shape c.option-out.ensures.local ∙ ap₂ with_rule four c.option-out.ensures.rule) c.arg-5.ensures
+    let five = c.in_ok-arg-5.ensures.shape c.option-out.ensures.local ∙ ap₂ with_rule four c.option-out.ensures.rule in
+    IfOk-weaker c.arg-6.result _ _ (λ r h. h.shape c.flag-progress.ensures.local ∙ ap₂ with_rule five c.flag-progress.ensures.rule) c.arg-6.ensures

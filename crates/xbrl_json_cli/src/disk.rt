@@ -1,0 +1,77 @@
+//! The files of the system, of which nothing is claimed.
+
+use crate::folder::Folder;
+use crate::progress::{Progress, Watched};
+use std::io::{ErrorKind, Read};
+use std::rt::{Clock, Files};
+use std::{fs, io};
+
+/// A file of the system, which is opened at its first read unless it is open already.
+#[derive(Drop)]
+pub enum DiskFile<'a, H: Files> {
+    /// The open file.
+    Open(H::File),
+    /// The file at this path, which is not open yet.
+    Named(&'a H, String),
+}
+
+impl<'a, H: Files> Read for DiskFile<'a, H>
+where
+    H::File: Read,
+{
+    fn read(&mut self, buf: &mut [u8]) -> io::Result<usize> {
+        if let DiskFile::Named(rt, path) = self {
+            *self = DiskFile::Open(fs::open(*rt, path.as_str())?);
+        }
+        match self {
+            DiskFile::Open(file) => file.read(buf),
+            DiskFile::Named(_, _) => Err(io::Error::from(ErrorKind::NotFound)),
+        }
+    }
+}
+
+/// The files of the system. A file that cannot be opened is none where it is opened at once. A file
+/// that is looked for is none only where the system says so; any other that cannot be opened fails
+/// at its first read.
+#[derive(Drop)]
+pub struct Disk<'a, H> {
+    /// The system.
+    pub rt: &'a H,
+    /// Where the files that are looked for are counted as tables, if anywhere.
+    pub progress: Option<&'a Progress<'a, H>>,
+}
+
+/// Whether the system says that there is no such file: it was not found, or a part of its path is
+/// not a folder.
+fn is_missing(error: &io::Error) -> bool {
+    matches!(error.kind(), ErrorKind::NotFound | ErrorKind::NotADirectory)
+}
+
+impl<'a, H: Files + Eprint + Clock> Folder<Watched<'a, H, DiskFile<'a, H>>> for Disk<'a, H>
+where
+    H::File: Read,
+{
+    fn open(&mut self, path: &str) -> Option<Watched<'a, H, DiskFile<'a, H>>> {
+        match fs::open(self.rt, path) {
+            Ok(file) => Some(Watched::new(DiskFile::Open(file), None)),
+            Err(_) => None,
+        }
+    }
+
+    fn find(&mut self, path: String) -> Option<Watched<'a, H, DiskFile<'a, H>>> {
+        let size = match fs::metadata(self.rt, path.as_str()) {
+            Ok(metadata) => metadata.len(),
+            Err(error) if is_missing(&error) => {
+                if let Some(progress) = self.progress {
+                    progress.table_missing();
+                }
+                return None;
+            }
+            Err(_) => 0,
+        };
+        if let Some(progress) = self.progress {
+            progress.table_found(size);
+        }
+        Some(Watched::new(DiskFile::Named(self.rt, path), self.progress))
+    }
+}

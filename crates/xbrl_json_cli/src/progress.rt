@@ -1,0 +1,208 @@
+//! How far a run is, shown on standard error while it works.
+
+use std::fmt::{Display, Formatter};
+use std::io::{Read, Write};
+use std::sync::atomic::{AtomicU64, Ordering};
+use std::time::{Clock, Instant};
+use std::{fmt, io};
+
+/// How often the line on a terminal is written anew, in milliseconds.
+const ON_A_TERMINAL: u64 = 200;
+
+/// How often a new line is written elsewhere, in milliseconds.
+const ELSEWHERE: u64 = 10_000;
+
+/// A number of bytes, shown in megabytes (of 1,000,000 bytes) with one decimal.
+#[derive(Drop)]
+struct Megabytes(u64);
+
+impl Display for Megabytes {
+    fn fmt<W: fmt::Write>(&self, f: &mut Formatter<W>) -> fmt::Result {
+        let whole = self.0 / 1_000_000;
+        let tenth = self.0 / 100_000 % 10;
+        write!(f, "{whole}.{tenth}")
+    }
+}
+
+/// How far a run is: its tables, and the bytes of their files and of the document. The threads of
+/// the run share it, and whichever of them counts something when a line is due writes the line.
+/// Nothing is claimed of the counts.
+#[derive(Drop)]
+pub struct Progress<'a, H> {
+    /// The system.
+    rt: &'a H,
+    /// When the run began.
+    start: Instant,
+    /// Whether standard error is a terminal, where one line is rewritten in place.
+    terminal: bool,
+    /// When the next line is due, in milliseconds after the start.
+    due: AtomicU64,
+    /// The tables of the report.
+    tables: AtomicU64,
+    /// The tables that are done.
+    done: AtomicU64,
+    /// The bytes of the tables' files, as the system tells their sizes.
+    size: AtomicU64,
+    /// The bytes that were read of them.
+    read: AtomicU64,
+    /// The bytes of the document that were written.
+    written: AtomicU64,
+}
+
+impl<'a, H: Eprint + Clock> Progress<'a, H> {
+    /// Nothing is done yet. `None` where the system has no clock.
+    pub fn start(rt: &'a H, terminal: bool) -> Option<Progress<'a, H>> {
+        let Ok(start) = Instant::now(rt) else {
+            return None;
+        };
+        Some(Progress {
+            rt,
+            start,
+            terminal,
+            due: AtomicU64::new(if terminal { 0 } else { ELSEWHERE }),
+            tables: AtomicU64::new(0),
+            done: AtomicU64::new(0),
+            size: AtomicU64::new(0),
+            read: AtomicU64::new(0),
+            written: AtomicU64::new(0),
+        })
+    }
+
+    /// Counts a table whose file has this size in bytes.
+    pub fn table_found(&self, size: u64) {
+        self.tables.fetch_add(1, Ordering::SeqCst);
+        self.size.fetch_add(size, Ordering::SeqCst);
+    }
+
+    /// Counts a table without a file, which is done.
+    pub fn table_missing(&self) {
+        self.table_found(0);
+        self.table_done();
+    }
+
+    /// Counts a table that is done.
+    fn table_done(&self) {
+        self.done.fetch_add(1, Ordering::SeqCst);
+    }
+
+    /// Counts bytes that were read of a table's file.
+    fn count_read(&self, bytes: usize) {
+        self.read.fetch_add(bytes as u64, Ordering::SeqCst);
+        self.show_if_due();
+    }
+
+    /// Counts bytes of the document that were written.
+    fn count_written(&self, bytes: usize) {
+        self.written.fetch_add(bytes as u64, Ordering::SeqCst);
+        self.show_if_due();
+    }
+
+    /// Writes the line if it is due and no other thread does.
+    fn show_if_due(&self) {
+        let Ok(elapsed) = self.start.elapsed(self.rt) else {
+            return;
+        };
+        let now = u64::try_from(elapsed.as_millis()).unwrap_or(u64::MAX);
+        let due = self.due.load(Ordering::SeqCst);
+        if now < due {
+            return;
+        }
+        let next = now.saturating_add(if self.terminal {
+            ON_A_TERMINAL
+        } else {
+            ELSEWHERE
+        });
+        let order = Ordering::SeqCst;
+        if self.due.compare_exchange(due, next, order, order).is_ok() {
+            self.show(if self.terminal { "" } else { "\n" });
+        }
+    }
+
+    /// Writes the last line, unless the run ended before its tables.
+    pub fn end(&self) {
+        if self.tables.load(Ordering::SeqCst) > 0 {
+            self.show("\n");
+        }
+    }
+
+    /// Writes the line. A line that cannot be written is left out.
+    fn show(&self, end: &str) {
+        let begin = if self.terminal { "\r" } else { "" };
+        let done = self.done.load(Ordering::SeqCst);
+        let tables = self.tables.load(Ordering::SeqCst);
+        let read = Megabytes(self.read.load(Ordering::SeqCst));
+        let size = Megabytes(self.size.load(Ordering::SeqCst));
+        let written = Megabytes(self.written.load(Ordering::SeqCst));
+        let _ = eprint!(self.rt;
+            "{begin}xbrl-json: {done} of {tables} tables, {read} of {size} MB read, {written} MB written{end}"
+        );
+    }
+}
+
+/// A reader of a table's file whose bytes are counted, and which is a table that is done once it is
+/// let go; or any other reader.
+pub struct Watched<'a, H: Eprint + Clock, R> {
+    /// The reader.
+    reader: R,
+    /// Where it is counted.
+    progress: Option<&'a Progress<'a, H>>,
+}
+
+impl<'a, H: Eprint + Clock, R> Watched<'a, H, R> {
+    /// A reader that is counted here, if anywhere.
+    pub fn new(reader: R, progress: Option<&'a Progress<'a, H>>) -> Watched<'a, H, R> {
+        Watched { reader, progress }
+    }
+}
+
+impl<'a, H: Eprint + Clock, R: Drop> Drop for Watched<'a, H, R> {
+    fn drop(self) {
+        let Self {
+            reader: _,
+            progress,
+        } = self;
+        if let Some(progress) = progress {
+            progress.table_done();
+        }
+    }
+}
+
+impl<'a, H: Eprint + Clock, R: Read> Read for Watched<'a, H, R> {
+    fn read(&mut self, buf: &mut [u8]) -> io::Result<usize> {
+        let count = self.reader.read(buf)?;
+        if let Some(progress) = self.progress {
+            progress.count_read(count);
+        }
+        Ok(count)
+    }
+}
+
+/// A writer whose bytes are counted.
+#[derive(Drop)]
+pub struct Counted<'a, H, W> {
+    /// The writer.
+    writer: W,
+    /// Where its bytes are counted, if anywhere.
+    progress: Option<&'a Progress<'a, H>>,
+}
+
+impl<'a, H, W> Counted<'a, H, W> {
+    /// A writer that is counted here, if anywhere.
+    pub fn new(writer: W, progress: Option<&'a Progress<'a, H>>) -> Counted<'a, H, W> {
+        Counted { writer, progress }
+    }
+}
+
+impl<'a, H: Eprint + Clock, W: Write> Write for Counted<'a, H, W> {
+    fn write(&mut self, buf: &[u8]) -> io::Result<usize> {
+        let count = self.writer.write(buf)?;
+        if let Some(progress) = self.progress {
+            progress.count_written(count);
+        }
+        Ok(count)
+    }
+
+    fn flush(&mut self) -> io::Result<()> {
+        self.writer.flush()
+    }
+}
