@@ -9,4 +9,10 @@ mod scarcity;
 pub use scarcity::{Answer, Call, refusals};
 
 #[cfg(test)]
+mod tests_metadata;
+#[cfg(test)]
 mod tests_names;
+#[cfg(test)]
+mod tests_rings;
+#[cfg(test)]
+mod tests_rows;

@@ -2,7 +2,7 @@
 
 use std::alloc::Global;
 
-/// The bytes that a call has at last.
+/// The bytes that most calls have at last.
 const ROOM: usize = 65_536;
 
 /// The bytes that a call has more each time.
