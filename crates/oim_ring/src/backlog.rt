@@ -70,14 +70,19 @@ impl Place {
         }
     }
 
+    /// Whether the backlog holds back the feed of this table.
+    pub(crate) fn is_held(&self) -> bool {
+        self.backlog.holds(self.table)
+    }
+
     /// Waits while the backlog holds back the feed of this table.
     pub(crate) fn wait<R: Wait>(&self, rt: &R) {
         for _ in rt.forever() {
-            if !self.backlog.holds(self.table) {
+            if !self.is_held() {
                 return;
             }
             let change = self.backlog.changed.prepare_wait();
-            if !self.backlog.holds(self.table) {
+            if !self.is_held() {
                 return;
             }
             change.wait(rt);

@@ -164,4 +164,10 @@ impl Feed {
     pub fn wait_for_turn<R: Wait>(&self, rt: &R) {
         self.place.wait(rt);
     }
+
+    /// Whether a wait for the turn would sleep now.
+    #[cfg(test)]
+    pub(crate) fn is_held(&self) -> bool {
+        self.place.is_held()
+    }
 }

@@ -27,3 +27,6 @@ pub use drain::{Drain, Drained};
 pub use feed::{CloseFault, Closed, Feed};
 pub use item::{Ending, Item};
 pub use opening::{Lanes, lane};
+
+#[cfg(test)]
+mod tests;

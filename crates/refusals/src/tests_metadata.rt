@@ -1,0 +1,115 @@
+//! The files of a report's metadata under want of memory.
+
+use crate::{Answer, Call, refusals};
+use oim_meta::{
+    Limits, MetaFault, Parameters, Report, parameter_url, read_parameters, read_report, read_types,
+};
+use std::alloc::Global;
+use std::test::Fail;
+
+/// A metadata of one table, in the JSON of xBRL-CSV 1.0.
+pub(crate) const METADATA: &str =
+    r##"{"documentInfo":{"documentType":"https://xbrl.org/2021/xbrl-csv",
+"namespaces":{"eg":"http://example.com/eg"},"taxonomy":["http://example.com/eg.xsd"]},
+"parameterURL":"parameters.csv","parameters":{"c":"eg:Cash"},
+"dimensions":{"entity":"eg:A1","period":"2021"},
+"tableTemplates":{"p":{"columns":{
+"cash":{"dimensions":{"concept":"$c","eg:Region":"#nil"},"decimals":0,"propertiesFrom":["g"]},
+"g":{"propertyGroups":{"x":{"dimensions":{"language":"en"}}}},
+"note":{"dimensions":{"concept":"eg:Note"}}}}},
+"tables":{"t1":{"url":"t1.csv","template":"p","parameters":{"d":"1"}}}}
+"##;
+
+/// The types of its concepts and dimensions.
+pub(crate) const TYPES: &str =
+    "namespace,name,type\nhttp://example.com/eg,Cash,integer\nhttp://example.com/eg,Note,text\nhttp://example.com/eg,Region,explicit\n";
+
+/// What a call did that answers a fault of the metadata, if it was not refused.
+fn of_fault(fault: MetaFault) -> Answer {
+    if fault == MetaFault::Memory {
+        Answer::Refused
+    } else {
+        Answer::Wrong
+    }
+}
+
+/// What a call did that gives this.
+fn answer<T: Drop>(result: Result<T, MetaFault>) -> Answer {
+    match result {
+        Ok(_) => Answer::Enough,
+        Err(fault) => of_fault(fault),
+    }
+}
+
+/// The report of the metadata and the types.
+pub(crate) fn report(alloc: Global) -> Result<Report, MetaFault> {
+    let types = read_types(alloc, TYPES.as_bytes())?;
+    let parameters = read_parameters(alloc, b"name,value\ne,2\n".as_slice())?;
+    read_report(
+        alloc,
+        METADATA.as_bytes(),
+        parameters,
+        types,
+        &Limits::profile(),
+    )
+}
+
+/// Reads the name of the parameters file.
+#[derive(Drop)]
+struct ReadsUrl;
+
+impl Call for ReadsUrl {
+    fn make(&mut self, alloc: Global) -> Answer {
+        match parameter_url(alloc, METADATA.as_bytes(), &Limits::profile()) {
+            Ok(Some(url)) if url.as_str() == "parameters.csv" => Answer::Enough,
+            Ok(_) => Answer::Wrong,
+            Err(fault) => of_fault(fault),
+        }
+    }
+}
+
+/// Reads the types, the parameters and the metadata.
+#[derive(Drop)]
+struct ReadsReport;
+
+impl Call for ReadsReport {
+    fn make(&mut self, alloc: Global) -> Answer {
+        answer(report(alloc))
+    }
+}
+
+/// Copies a report.
+#[derive(Drop)]
+struct CopiesReport<'a> {
+    report: &'a Report,
+}
+
+impl Call for CopiesReport<'_> {
+    fn make(&mut self, _alloc: Global) -> Answer {
+        match self.report.clone_report() {
+            Ok(copy) if copy.tables() == self.report.tables() => Answer::Enough,
+            Ok(_) => Answer::Wrong,
+            Err(_) => Answer::Refused,
+        }
+    }
+}
+
+#[test]
+fn a_url_without_memory(rt: HostRuntime) {
+    let refused = refusals(rt.alloc(), &mut ReadsUrl);
+    assert!(rt; refused.is_some_and(|count| count >= 20));
+}
+
+#[test]
+fn a_report_without_memory(rt: HostRuntime) {
+    let refused = refusals(rt.alloc(), &mut ReadsReport);
+    assert!(rt; refused.is_some_and(|count| count >= 100));
+}
+
+#[test]
+fn a_copy_without_memory(rt: HostRuntime) -> Result<(), Fail> {
+    let report = Box::new(rt.alloc(), report(rt.alloc())?)?;
+    let refused = refusals(rt.alloc(), &mut CopiesReport { report: &report });
+    assert!(rt; refused.is_some_and(|count| count >= 20));
+    Ok(())
+}

@@ -1,0 +1,71 @@
+//! Namespaces and texts under want of memory, and `add` with ample memory.
+
+use crate::{Answer, Call, refusals};
+use oim_names::{Items, NameFault, Namespaces, Text, language};
+use std::alloc::{AllocError, Global};
+use std::test::Fail;
+
+/// The prefixes of the tests, bound out of order.
+fn example(alloc: Global) -> Result<Namespaces, NameFault> {
+    let mut names = Namespaces::new(alloc);
+    names.add("xbrli", "http://www.xbrl.org/2003/instance")?;
+    names.add("eg", "http://example.com/eg")?;
+    names.add("iso4217", "http://www.xbrl.org/2003/iso4217")?;
+    Ok(names)
+}
+
+/// Whether the namespaces are these prefixes, in this order.
+fn are(names: &Namespaces, prefixes: &[&str]) -> bool {
+    if names.len() != prefixes.len() {
+        return false;
+    }
+    for (i, prefix) in prefixes.iter().enumerate() {
+        if i >= names.len() || names.at(i).0 != *prefix {
+            return false;
+        }
+    }
+    true
+}
+
+/// Whether `add` refuses what is no prefix, or is there already, and then binds one more.
+fn are_bound(alloc: Global) -> Result<bool, NameFault> {
+    let mut names = example(alloc)?;
+    let is_bad = names.add("1a", "u") == Err(NameFault::BadPrefix);
+    let is_there = names.add("eg", "u") == Err(NameFault::Repeated);
+    let has_uri = names.add("b", "http://example.com/eg") == Err(NameFault::Repeated);
+    names.add("e", "u")?;
+    let are_there = are(&names, &["e", "eg", "iso4217", "xbrli"]) && names.uri("e") == Some("u");
+    Ok(is_bad && is_there && has_uri && are_there && names.uri("f").is_none())
+}
+
+#[test]
+fn prefixes_are_bound(rt: HostRuntime) {
+    assert!(rt; are_bound(rt.alloc()) == Ok(true));
+}
+
+/// Binds one prefix more.
+#[derive(Drop)]
+struct Binds {
+    names: Namespaces,
+}
+
+impl Call for Binds {
+    fn make(&mut self, _alloc: Global) -> Answer {
+        match self.names.add("e", "http://example.com/e") {
+            Ok(()) if are(&self.names, &["e", "eg", "iso4217", "xbrli"]) => Answer::Enough,
+            Err(NameFault::Memory) if are(&self.names, &["eg", "iso4217", "xbrli"]) =>
+                Answer::Refused,
+            _ => Answer::Wrong,
+        }
+    }
+}
+
+#[test]
+fn add_without_memory(rt: HostRuntime) -> Result<(), Fail> {
+    let Ok(names) = example(rt.alloc()) else {
+        return Err(Fail::new("no names"));
+    };
+    let refused = refusals(rt.alloc(), &mut Binds { names });
+    assert!(rt; refused.is_some_and(|count| count >= 3));
+    Ok(())
+}

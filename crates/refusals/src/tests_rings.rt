@@ -1,0 +1,50 @@
+//! Rings under want of memory.
+
+use crate::{Answer, Call, refusals};
+use oim_ring::{Lanes, lane};
+use std::alloc::{AllocError, Global};
+use std::test::Fail;
+
+/// What a call did that takes memory alone, if it was not refused.
+fn answer<T: Drop>(result: Result<T, AllocError>) -> Answer {
+    match result {
+        Ok(_) => Answer::Enough,
+        Err(_) => Answer::Refused,
+    }
+}
+
+/// Opens a ring that stands alone.
+#[derive(Drop)]
+struct OpensOne;
+
+impl Call for OpensOne {
+    fn make(&mut self, alloc: Global) -> Answer {
+        answer(lane(alloc, 8))
+    }
+}
+
+/// Opens the next ring of a report.
+#[derive(Drop)]
+struct OpensNext {
+    lanes: Lanes,
+}
+
+impl Call for OpensNext {
+    fn make(&mut self, alloc: Global) -> Answer {
+        answer(self.lanes.open(alloc, 8))
+    }
+}
+
+#[test]
+fn a_ring_without_memory(rt: HostRuntime) {
+    let refused = refusals(rt.alloc(), &mut OpensOne);
+    assert!(rt; refused.is_some_and(|count| count >= 3));
+}
+
+#[test]
+fn a_further_ring_without_memory(rt: HostRuntime) -> Result<(), Fail> {
+    let lanes = Lanes::new(rt.alloc(), 4)?;
+    let refused = refusals(rt.alloc(), &mut OpensNext { lanes });
+    assert!(rt; refused.is_some_and(|count| count >= 3));
+    Ok(())
+}

@@ -1,0 +1,356 @@
+#!/usr/bin/env python3
+"""Changes the rules of a crate's definitions one at a time, and lists the changes that no worked case notices.
+
+    tests/change_rules.py CRATE [--only FILE] [--every N] [--batch N] [--minutes N] [--list]
+
+A contract can say no more than the definitions that it cites, and a definition that is changed together with its code
+can still be proved. So each rule wants a worked case: a theorem by computation in `proofs/Examples*.antt` of the crate,
+whose answer comes from the standard. This script looks for rules that have none. It changes one thing at a time in the
+body of one definition of `specs/`: a number by one, a text by its last character, an operator, a comparison, a truth
+value, a condition, a constructor, a line of a list or a sum that is left out or changes places with the next, the answer
+of a case. For each change it copies the definitions that rest on it and the worked cases under other names into a copy of
+the repository, and asks the checker about the cases. Many changes are checked in one run, so one takes seconds or less.
+
+Each change is one of these:
+- not well-formed: the changed definition is no definition (it says nothing);
+- showed: a worked case is refused;
+- not noticed: every case still holds. It is listed, and wants a case, or means the same as before.
+A change with which the checker does not end in time is listed too.
+
+Definitions of relations and records (`Type 0`, `data`, `record`) are left out: what ties a relation to the function of
+the same meaning is a clause. A file whose cases fail in an unchanged copy can't be tried so, and is named.
+
+The crates below have to be proved with their work kept (`rt check` and `rt lib` in each), since it is copied. --only takes one file
+of specs/ by its name, --every N each Nth change, --batch so many changes in a run (40), --minutes for a run (10), --list
+lists the changes and checks nothing. RT names another command for `rt`. The copy stands in TMPDIR and goes at the end.
+The status is 0 where every change that is a definition showed, else 1. Python 3.9 or later.
+"""
+import argparse
+import os
+import re
+import shutil
+import subprocess
+import sys
+import tempfile
+from pathlib import Path
+
+TOP = Path(__file__).resolve().parent.parent
+PRELUDE = "Rattle.std.specs.Prelude"
+TOKEN = re.compile(r'"(?:\\.|[^"\\])*"|--[^\n]*|\.\d+\b|0x[0-9A-Fa-f_]+|\d[\d_]*|[A-Za-z_][\w₀-₉\']*(?:\.[A-Za-z_][\w₀-₉\']*)*|&&|\|\||==|\+\+|[-+*/%]')
+OTHER = {
+    "&&": "||", "||": "&&", "+": "-", "-": "+", "*": "+", "/": "*", "%": "/", "nat_le": "nat_lt", "nat_lt": "nat_le",
+    "true": "false", "false": "true", "is_some": "is_none", "is_none": "is_some", "take": "drop", "drop": "take",
+    "list_any": "list_all", "list_all": "list_any",
+}
+IMPORTS = {"||": "◌||◌", "&&": "◌&&◌", "+": "◌+◌", "-": "◌-◌", "*": "◌*◌", "/": "◌/◌"}
+FROM_LIST = {"list_any", "list_all"}
+
+
+class Definition:
+    """A definition of a file: its name, whether it computes, and where the bodies of its cases begin and end."""
+
+    def __init__(self, name, type_text):
+        self.name = name
+        self.type = type_text
+        self.bodies = []
+
+    def computes(self):
+        return not re.search(r"Type \d+\s*$", self.type)
+
+    def is_test(self):
+        return bool(re.search(r"\bBool\s*$", self.type))
+
+
+def definitions(text):
+    """The definitions of a text that compute, with the places of their bodies."""
+    found, current, place, heads = [], None, 0, []
+    for line in text.splitlines(True):
+        if line[0] not in " \t\n":
+            heads.append((place, line))
+        place += len(line)
+    for (begin, line), (end, _) in zip(heads, heads[1:] + [(len(text), "")]):
+        part = text[begin:end]
+        sign = re.match(r"(?:(?:abbrev|unfoldable|pub)\s+)*([a-z_][\w₀-₉]*)\s*:(.*)", part, re.S)
+        if sign and not part.startswith(("use", "--", "module")):
+            current = Definition(sign[1], re.sub(r"--[^\n]*", "", sign[2]).rstrip())
+            found.append(current)
+        elif current and re.match(re.escape(current.name) + r"[\s=]", part):
+            equals = re.search(r"(?<![≡=<>:])=(?!=)\s", part)
+            if equals:
+                current.bodies.append((begin + equals.end(), begin + len(part.rstrip())))
+    return [it for it in found if it.computes() and it.bodies]
+
+
+def constructors(text):
+    """For each constructor that a text imports by name, the next one of its type."""
+    following = {}
+    for names in re.findall(r"\.TheVariants\.\{([^}]*)\}", text):
+        names = [it.strip() for it in names.split(",") if " as " not in it]
+        for one, after in zip(names, names[1:] + names[:1]):
+            if one != after:
+                following[one] = after
+    for alias in re.findall(r"^use [\w.]+ as (\w+)", text, re.M):
+        names = sorted(set(re.findall(rf"\b{alias}\.([A-Z]\w*)", text)))
+        for one, after in zip(names, names[1:] + names[:1]):
+            if one != after:
+                following[f"{alias}.{one}"] = f"{alias}.{after}"
+    return following
+
+
+def other_tokens(token, following):
+    """The texts that take the place of a token, one at a time."""
+    if token.startswith('"'):
+        if len(token) > 2:
+            end = -2 if token[-3:-2] != "\\" else -3
+            return [token[:end] + ("x" if token[end:-1] != "x" else "y") + '"']
+    elif re.match(r"\.\d+$", token):
+        return [".1" if token == ".0" else ".0"]
+    elif token[0].isdigit():
+        value = int(token.replace("_", ""), 0)
+        return [str(value + 1)] + ([str(value - 1)] if value else [])
+    elif token == "not":
+        return [""]
+    elif token in OTHER:
+        return [OTHER[token]]
+    elif token in following:
+        return [following[token]]
+    return []
+
+
+def conditions(body):
+    """The places of the conditions of `if`."""
+    places, begun = [], []
+    for it in TOKEN.finditer(body):
+        if it[0] == "if":
+            begun.append(it.end())
+        elif it[0] == "then" and begun:
+            places.append((begun.pop(), it.start()))
+    return places
+
+
+def is_balanced(line):
+    return all(line.count(a) == line.count(b) for a, b in ("()", "{}", "[]"))
+
+
+def in_lines(body):
+    """The bodies with one line of a list, a sum or a test left out, or in the place of the next."""
+    lines, made = body.split("\n"), []
+    starts = [re.match(r"\s*(\+\+|∷|&&|\|\||∙)\s", it) for it in lines]
+    for i, start in enumerate(starts):
+        if not start or not is_balanced(lines[i]):
+            continue
+        what = lines[i].strip()
+        if what != "∷ []":
+            made.append((f"left out: {what}", "\n".join(lines[:i] + lines[i + 1:])))
+        if i + 1 < len(lines) and starts[i + 1] and is_balanced(lines[i + 1]) and lines[i + 1].strip() != "∷ []" and start[1] in ("∷", "++"):
+            made.append((f"behind the next: {what}", "\n".join(lines[:i] + [lines[i + 1], lines[i]] + lines[i + 2:])))
+    return made
+
+
+def changed_bodies(body, definition, following):
+    """Each change of a body: what it is, and the changed body."""
+    made = []
+    for it in TOKEN.finditer(body):
+        if it[0].startswith("--"):
+            continue
+        for other in other_tokens(it[0], following):
+            line = body.count("\n", 0, it.start())
+            made.append((f"{it[0]} -> {other}, line {line + 1} of the body", body[:it.start()] + other + body[it.end():]))
+    for begin, end in conditions(body):
+        made.append((f"not: {body[begin:end].strip()}", f"{body[:begin]} (if {body[begin:end].strip()} then false else true) {body[end:]}"))
+    made += in_lines(body)
+    if definition.is_test():
+        made.append(("the other truth value", f"(if {body} then false else true)"))
+    return made
+
+
+def with_imports(text):
+    """The text with what changed bodies may name."""
+    wanted = {"true", "false", "◌||◌", "◌&&◌", "nat_le", "nat_lt", "is_some", "is_none", "if◌then◌else◌", "take", "drop"} | set(IMPORTS.values())
+    named = set(re.findall(r"[^\s{},]+", " ".join(re.findall(r"^use [\w.]+\.\{([^}]*)\}", text, re.M))))
+    missing = sorted(it for it in wanted if it not in named and not re.search(rf"^(?:\w+ )*{re.escape(it)} :", text, re.M))
+    listed = "list_any" in named or "list_all" in named
+    more = f"use {PRELUDE}.{{{', '.join(missing)}}}\n" if missing else ""
+    for name in FROM_LIST - named if listed else ():
+        more += f"use Rattle.std.specs.List.{{{name}}}\n"
+    first = re.search(r"^use ", text, re.M)
+    return text[:first.start()] + more + text[first.start():] if first and more else text
+
+
+class Change:
+    """A change of one definition: the file, the definition, what it is, and the file's changed text."""
+
+    def __init__(self, file, name, what, text):
+        self.file, self.name, self.what, self.text = file, name, what, text
+
+    def __str__(self):
+        return f"{self.file}: {self.name}: {self.what}"
+
+
+def changes_of(file, text):
+    """All changes of a file's text."""
+    following, made, seen = constructors(text), [], {text}
+    for it in definitions(text):
+        cases = [text[a:b] for a, b in it.bodies]
+        for at, (begin, end) in enumerate(it.bodies):
+            bodies = changed_bodies(text[begin:end], it, following)
+            if at + 1 < len(cases):
+                bodies.append((f"answer of the next case: {' '.join(cases[at + 1].split())[:60]}", cases[at + 1]))
+            for what, body in bodies:
+                changed = text[:begin] + body + text[end:]
+                if changed not in seen:
+                    seen.add(changed)
+                    made.append(Change(file, it.name, " ".join(what.split()), changed))
+    return made
+
+
+class Copies:
+    """A copy of the repository, in which changed definitions stand beside the crate's own."""
+
+    def __init__(self, crate, folder, minutes):
+        self.crate, self.folder, self.minutes = crate, Path(folder), minutes
+        self.at = self.folder / "crates" / crate
+        self.specs = {it.stem: it.read_text() for it in sorted((TOP / "crates" / crate / "specs").glob("*.antt")) if it.stem != "Lib"}
+        self.cases = {it.stem: it.read_text() for it in sorted((TOP / "crates" / crate / "proofs").glob("Examples*.antt"))}
+        self.root = "main" if (TOP / "crates" / crate / "src/main.rt").exists() else "lib"
+        self.copy()
+
+    def copy(self):
+        lines = [it for it in (TOP / "crates.txt").read_text().splitlines() if it.split("#")[0].strip()]
+        below = next(it.split(":")[1].split() for it in lines if it.split(":")[0].split()[0] == self.crate)
+        kept = [it for it in lines if it.split(":")[0].split()[0] in below + [self.crate]]
+        (self.folder / "crates.txt").write_text("\n".join(kept) + "\n")
+        if (TOP / "HANDLES").exists():
+            shutil.copy(TOP / "HANDLES", self.folder / "HANDLES")
+        subprocess.run(["git", "init", "-q"], cwd=self.folder, check=True)
+        for line in kept:
+            name = line.split(":")[0].split()[0]
+            shutil.copytree(TOP / "crates" / name, self.folder / "crates" / name, symlinks=True)
+
+    def users(self, file):
+        """The files of specs/ that rest on a file, with it."""
+        found, grows = {file}, True
+        while grows:
+            more = {name for name, text in self.specs.items() if any(re.search(rf"\bRattle\.{self.crate}\.specs\.{it}\b", text) for it in found)}
+            grows = not more <= found
+            found |= more
+        return found
+
+    def renamed(self, text, mark, files):
+        for it in files:
+            text = re.sub(rf"\bRattle\.{self.crate}\.specs\.{it}\b", f"Rattle.{self.crate}.proofs.{mark}{it}", text)
+        return text
+
+    def write(self, changes):
+        """Writes the copies for some changes. A function cites all of them, so that one check reads them."""
+        proofs = self.at / "proofs"
+        for it in proofs.glob("Change*.antt"):
+            it.unlink()
+        for it in self.specs:
+            (self.at / "specs" / f"{it}.antt").write_text(self.specs[it])
+        names, cited = [], []
+        for number, change in enumerate(changes):
+            mark = f"Change{number:03}"
+            files = self.users(change.file)
+            for it in files:
+                text = with_imports(change.text) if it == change.file else self.specs[it]
+                (proofs / f"{mark}{it}.antt").write_text(self.renamed(text, mark, files))
+                names.append(f"{mark}{it}")
+            for it, text in self.cases.items():
+                (proofs / f"{mark}{it}.antt").write_text(self.renamed(text, mark, files) + "\npub shows : ℕ\nshows = 0\n")
+                names.append(f"{mark}{it}")
+                cited.append(f"{mark}{it}")
+        own = (TOP / "crates" / self.crate / "proofs/Lib.antt").read_text().rstrip("\n")
+        (proofs / "Lib.antt").write_text(own + "".join(f"\npub mod {it}" for it in names) + "\npub mod ChangesAll\n")
+        uses = "".join(f"use Rattle.{self.crate}.proofs.{it}.{{shows as shows{i}}}\n" for i, it in enumerate(cited))
+        total = " + ".join(["0"] + [f"shows{i}" for i in range(len(cited))])
+        (proofs / "ChangesAll.antt").write_text(f"use Rattle.std.proofs.Common.{{ℕ, ◌+◌}}\n{uses}\npub all_cases : ℕ\nall_cases = {total}\n")
+        source = (TOP / "crates" / self.crate / f"src/{self.root}.rt").read_text()
+        (self.at / f"src/{self.root}.rt").write_text(source.rstrip("\n") + "\n" + CITES)
+
+    def check(self, changes):
+        """What the checker says of each change: the list of its errors, or None where it did not end."""
+        self.write(changes)
+        words = os.environ.get("RT", "rt").split() + ["check", "--jobs", "1", "--only", "changes_of_rules"]
+        try:
+            done = subprocess.run(words, cwd=self.at, capture_output=True, text=True, timeout=60 * self.minutes)
+        except subprocess.TimeoutExpired:
+            if len(changes) == 1:
+                return [None]
+            half = len(changes) // 2
+            return self.check(changes[:half]) + self.check(changes[half:])
+        said = done.stdout + done.stderr
+        if not re.search(r"^only=", said, re.M):
+            sys.exit(f"the checker stopped:\n{said[-3000:]}")
+        errors = [[] for _ in changes]
+        for number, file, what in re.findall(r"^(?:\./)?proofs/Change(\d{3})(\w+)\.antt:\d+:\d+: error: (.*)", said, re.M):
+            errors[int(number)].append((file, what))
+        return errors
+
+
+CITES = """
+#[tactic(auto, using(crate::proofs::ChangesAll::all_cases))]
+fn changes_of_rules(number: u8) -> u8 {
+    number
+}
+"""
+
+
+def judged(errors, cases):
+    """What a change's errors say of it."""
+    if errors is None:
+        return "no end"
+    if any(file not in cases for file, _ in errors):
+        return "not well-formed"
+    if any("not checked" not in what for _, what in errors):
+        return "showed"
+    return "not well-formed" if errors else "not noticed"
+
+
+def run(options):
+    crate = options.crate
+    folder = tempfile.mkdtemp()
+    counts, listed = {"showed": 0, "not well-formed": 0, "not noticed": 0, "no end": 0}, []
+    try:
+        copies = Copies(crate, folder, options.minutes)
+        files = [it for it in copies.specs if not options.only or it == options.only]
+        changes = [it for file in files for it in changes_of(file, copies.specs[file])][::options.every]
+        if options.list:
+            print("\n".join(map(str, changes)) + f"\n{len(changes)} changes")
+            return 0
+        tried = sorted({it.file for it in changes})
+        unchanged = copies.check([Change(it, "", "no change", copies.specs[it]) for it in tried])
+        for file, errors in zip(tried, unchanged):
+            if errors:
+                print(f"{file}: cases fail without a change, so it was not tried: {errors[0][1][:150]}", flush=True)
+        changes = [it for it in changes if not unchanged[tried.index(it.file)]]
+        for at in range(0, len(changes), options.batch):
+            some = changes[at:at + options.batch]
+            for change, errors in zip(some, copies.check(some)):
+                verdict = judged(errors, copies.cases)
+                counts[verdict] += 1
+                if verdict in ("not noticed", "no end"):
+                    print(f"{verdict}: {change}", flush=True)
+                elif options.all:
+                    print(f"{verdict}: {change}" + (f" [{errors[0][1][:80]}]" if errors else ""), flush=True)
+            print(f"{crate}: {at + len(some)} of {len(changes)} tried", file=sys.stderr, flush=True)
+    finally:
+        shutil.rmtree(folder, ignore_errors=True)
+    print(f"{crate}: {sum(counts.values())} changes tried: " + ", ".join(f"{n} {what}" for what, n in counts.items()))
+    return 1 if counts["not noticed"] + counts["no end"] else 0
+
+
+def main():
+    parser = argparse.ArgumentParser(description=__doc__, formatter_class=argparse.RawDescriptionHelpFormatter)
+    parser.add_argument("crate")
+    parser.add_argument("--only", help="one file of specs/")
+    parser.add_argument("--every", type=int, default=1, help="each Nth change")
+    parser.add_argument("--batch", type=int, default=40, help="changes in a run of the checker")
+    parser.add_argument("--minutes", type=float, default=10, help="for a run of the checker")
+    parser.add_argument("--list", action="store_true", help="lists the changes alone")
+    parser.add_argument("--all", action="store_true", help="prints each change with what came of it")
+    sys.exit(run(parser.parse_args()))
+
+
+if __name__ == "__main__":
+    main()
