@@ -11,11 +11,10 @@ use Rattle.oim_names.specs.Names.{is_row_identifier}
 use Rattle.oim_resolve.specs.Cell.{cell_of}
 use Rattle.oim_resolve.specs.Facts.{cell_result}
 use Rattle.oim_resolve.specs.declared.fact.CellFault.{CellFault}
-use Rattle.oim_resolve.specs.declared.fact.CellFault.TheVariants as cell
 use Rattle.oim_resolve.specs.declared.fact.Fact.{Fact}
 use Rattle.oim_resolve.specs.declared.fact.Row.{Row}
 use Rattle.oim_rows.specs.Header.{Header, fault_at, file_fault, header_fault, header_of, is_empty, is_unknown, names_row_id, or_else, repeat_from}
-use Rattle.oim_rows.specs.RowFacts.{Reading, at_place, checked, fact_at, facts_from, id_fault, id_kind, id_place_of, ids_after, in_front, is_fact_column, is_not_text, kind_of_cell, row_fault, row_of, row_result}
+use Rattle.oim_rows.specs.RowFacts.{Reading, at_place, checked, fact_at, facts_from, id_fault, id_kind, id_place_of, ids_after, in_front, is_fact_column, is_not_text, row_fault, row_of, row_result}
 use Rattle.oim_rows.specs.Streams.{Stream, reading_of, row_in_front, stream_from, stream_of, table_stream}
 use Rattle.oim_rows.specs.declared.fault.TableFault.{TableFault}
 use Rattle.oim_rows.specs.declared.fault.TableKind.{TableKind}
@@ -36,16 +35,7 @@ has_thread kind.TooManyRows = true
 has_thread kind.MissingRowId = true
 has_thread kind.BadRowId = true
 has_thread kind.RepeatedRowId = true
-has_thread kind.UnknownSpecial = true
-has_thread kind.UnknownGroup = true
-has_thread kind.NoConcept = true
-has_thread kind.UnknownName = true
-has_thread kind.BadReference = true
-has_thread kind.BadValue = true
-has_thread kind.BadPeriod = true
-has_thread kind.NotDuration = true
-has_thread kind.BadDecimals = true
-has_thread kind.BadNumber = true
+has_thread (kind.Cell f) = true
 has_thread kind.Memory = true
 
 abbrev pub IsOwn : ℕ → Option TableFault → Type 0
@@ -104,22 +94,9 @@ own_row g n ids r =
     (own_or g.table (option_map (λ p. fault_at g.table n (p + 1) kind.NotUtf8) (position_from is_not_text 0 r)) _ (own_place g.table n kind.NotUtf8 (position_from is_not_text 0 r) refl)
     (own_if (nat_lt g.limit n) g.table n kind.TooManyRows _ refl (own_id g (id_place_of g) n ids r)))
 
-own_cell : (k : CellFault) → has_thread (kind_of_cell k) ≡ true
-own_cell cell.UnknownSpecial = refl
-own_cell cell.UnknownGroup = refl
-own_cell cell.NoConcept = refl
-own_cell cell.UnknownName = refl
-own_cell cell.BadReference = refl
-own_cell cell.BadValue = refl
-own_cell cell.BadPeriod = refl
-own_cell cell.NotDuration = refl
-own_cell cell.BadDecimals = refl
-own_cell cell.BadNumber = refl
-own_cell cell.Memory = refl
-
 own_at : (table n p : ℕ) (x : Result (Option Fact) CellFault) → IsOwnErr table (at_place table n p x)
 own_at table n p (Ok o) = tt
-own_at table n p (Err k) = (own_cell k, refl)
+own_at table n p (Err k) = (refl, refl)
 
 own_if_fact : (b : Bool) (table : ℕ) (x : Result (Option Fact) TableFault) → IsOwnErr table x → IsOwnErr table (if b then x else Ok None)
 own_if_fact true table x h = h

@@ -4,7 +4,7 @@ ghost use Rattle.std.specs.Prelude.{◌≡◌, ◌<◌, ◌⊎◌, ℕ, List, So
 ghost use mathlib.Core.List.{IsPrefix};
 ghost use Rattle.csv.specs.Records.{fields_of};
 ghost use Rattle.oim_rows.specs.Header.{fault_at};
-ghost use Rattle.oim_rows.specs.RowFacts.{kind_of_cell};
+ghost use Rattle.oim_rows.specs.declared.fault.TableKind.TheVariants as kind;
 ghost use Rattle.oim_decode.specs.Facts.{AreFactColumns, GivesCell, GivesFacts, IsFactColumn, IsRowFault, HasFacts, start_text};
 ghost use Rattle.oim_decode.specs.Rows.{cell_under};
 ghost use Rattle.oim_decode.specs.Variants.{IsKept};
@@ -19,28 +19,9 @@ use oim_resolve::CellFault;
 use oim_rows::{TableFault, TableKind};
 use std::alloc::{AllocError, Global};
 
-/// What a cell's fault is as a table's.
-fn table_kind(fault: CellFault) -> TableKind
-    ensures { result ≡ kind_of_cell fault }
-{
-    match fault {
-        CellFault::UnknownSpecial => TableKind::UnknownSpecial,
-        CellFault::UnknownGroup => TableKind::UnknownGroup,
-        CellFault::NoConcept => TableKind::NoConcept,
-        CellFault::UnknownName => TableKind::UnknownName,
-        CellFault::BadReference => TableKind::BadReference,
-        CellFault::BadValue => TableKind::BadValue,
-        CellFault::BadPeriod => TableKind::BadPeriod,
-        CellFault::NotDuration => TableKind::NotDuration,
-        CellFault::BadDecimals => TableKind::BadDecimals,
-        CellFault::BadNumber => TableKind::BadNumber,
-        CellFault::Memory => TableKind::Memory,
-    }
-}
-
 /// The fault of a cell at a place of the header, from 0.
 fn fault_in_row(table: usize, row: u32, place: usize, fault: CellFault) -> TableFault
-    ensures { result ≡ fault_at table row (place + 1) (kind_of_cell fault) }
+    ensures { result ≡ fault_at table row (place + 1) (kind.Cell fault) }
 {
     let column = if place < u32::MAX as usize {
         place as u32 + 1
@@ -51,7 +32,7 @@ fn fault_in_row(table: usize, row: u32, place: usize, fault: CellFault) -> Table
         table,
         row,
         column,
-        kind: table_kind(fault),
+        kind: TableKind::Cell(fault),
     }
 }
 

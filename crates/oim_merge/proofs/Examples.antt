@@ -12,6 +12,7 @@ use Rattle.oim_resolve.specs.declared.fact.Fact.{Fact}
 use Rattle.oim_ring.specs.declared.item.Ending.TheVariants.{Closed, Refused}
 use Rattle.oim_ring.specs.declared.item.Item.{Item}
 use Rattle.oim_ring.specs.declared.item.Item.TheVariants.{Block, Ending}
+use Rattle.oim_resolve.specs.declared.fact.CellFault.TheVariants.{BadNumber}
 use Rattle.oim_rows.specs.declared.fault.TableFault.{TableFault}
 use Rattle.oim_rows.specs.declared.fault.TableKind.TheVariants as kind
 
@@ -22,7 +23,7 @@ abbrev b : Fact
 b = record { id = codes "b"; value = None; decimals = None; dimensions = [] }
 
 abbrev first_fault : TableFault
-first_fault = record { table = 0; row = 2; column = 1; kind = kind.BadNumber }
+first_fault = record { table = 0; row = 2; column = 1; kind = kind.Cell BadNumber }
 
 abbrev second_fault : TableFault
 second_fault = record { table = 1; row = 0; column = 1; kind = kind.UnknownHeader }

@@ -11,6 +11,7 @@ use Rattle.oim_ring.specs.declared.item.Ending.TheVariants.{Closed, Refused}
 use Rattle.oim_ring.specs.declared.item.Item.{Item}
 use Rattle.oim_ring.specs.declared.item.Item.TheVariants.{Block, Ending}
 use Rattle.oim_ring.proofs.Whole.{once_ended}
+use Rattle.oim_resolve.specs.declared.fact.CellFault.TheVariants.{BadNumber}
 use Rattle.oim_rows.specs.declared.fault.TableFault.{TableFault}
 use Rattle.oim_rows.specs.declared.fault.TableKind.TheVariants as kind
 
@@ -22,7 +23,7 @@ abbrev block : Item
 block = Block (cash ∷ [])
 
 abbrev bad_number : TableFault
-bad_number = record { table = 0; row = 2; column = 1; kind = kind.BadNumber }
+bad_number = record { table = 0; row = 2; column = 1; kind = kind.Cell BadNumber }
 
 nothing_sent : blocks_only [] ≡ true
 nothing_sent = refl

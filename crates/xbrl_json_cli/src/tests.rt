@@ -12,6 +12,7 @@ use oim_convert::{ConvertFault, convert_serial};
 use oim_json::{Marked, WriteFault};
 use oim_meta::{Limits, Parameters, Report, read_report, read_types};
 use oim_names::{Items, Text};
+use oim_resolve::CellFault;
 use oim_rows::{Rows, TableFault, TableKind};
 use std::alloc::{AllocError, Global};
 use std::process::Abort;
@@ -773,7 +774,7 @@ fn the_same_fault_again(rt: HostRuntime) -> Result<(), Fail> {
         table: 0,
         row: 2,
         column: 1,
-        kind: TableKind::BadNumber,
+        kind: TableKind::Cell(CellFault::BadNumber),
     };
     let again = answers_again(rt.alloc(), &report, b"cash\n1\nx\n2\n".as_slice(), fault);
     assert!(rt; again);

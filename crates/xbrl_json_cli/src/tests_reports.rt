@@ -11,6 +11,7 @@ use crate::tests_ends::{Ends, is_serial_so, refused};
 use oim_convert::convert_serial;
 use oim_json::Marked;
 use oim_meta::{Limits, Report};
+use oim_resolve::CellFault;
 use oim_rows::{TableFault, TableKind};
 use std::alloc::{AllocError, Global};
 use std::io;
@@ -183,7 +184,7 @@ fn is_refused_before(alloc: Global) -> Result<bool, Fail> {
         table: 0,
         row: 2,
         column: 1,
-        kind: TableKind::BadNumber,
+        kind: TableKind::Cell(CellFault::BadNumber),
     };
     let facts = "t1.r_1.cash - Cash EUR 1";
     is_refused(alloc, &report, tables.as_slice(), facts, &[fault])

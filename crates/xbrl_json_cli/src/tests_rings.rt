@@ -10,7 +10,7 @@ use oim_json::{Block, Marked, Sink, WriteFault, block_of, head};
 use oim_merge::merge;
 use oim_meta::{Limits, Report};
 use oim_names::{Items, Text};
-use oim_resolve::Fact;
+use oim_resolve::{CellFault, Fact};
 use oim_ring::{CloseFault, Closed, Drain, Ending, Feed, Item, lane};
 use oim_rows::{Rows, TableFault, TableKind};
 use std::alloc::{AllocError, Global};
@@ -29,7 +29,7 @@ const BAD_NUMBER: TableFault = TableFault {
     table: 1,
     row: 2,
     column: 1,
-    kind: TableKind::BadNumber,
+    kind: TableKind::Cell(CellFault::BadNumber),
 };
 
 /// The faults of three tables, the second of which is refused, and the third too.

@@ -7,6 +7,7 @@ use crate::tests_ends::{Ends, WHOLE, is_run_so, is_serial_so, refused};
 use oim_convert::{convert, convert_serial};
 use oim_json::Marked;
 use oim_meta::{Limits, Report};
+use oim_resolve::CellFault;
 use oim_rows::{TableFault, TableKind};
 use std::alloc::{AllocError, Global};
 use std::sync::Wait;
@@ -220,7 +221,7 @@ fn bad_number(table: usize, row: u32) -> TableFault {
         table,
         row,
         column: 1,
-        kind: TableKind::BadNumber,
+        kind: TableKind::Cell(CellFault::BadNumber),
     }
 }
 

@@ -9,6 +9,7 @@ use crate::tests_writers::Narrow;
 use oim_convert::{Claims, convert_with_starts};
 use oim_json::{Marked, WriteFault};
 use oim_meta::{Limits, Report};
+use oim_resolve::CellFault;
 use oim_rows::{TableFault, TableKind};
 use std::alloc::{AllocError, Global};
 use std::io;
@@ -26,7 +27,7 @@ const REFUSED: [TableFault; 2] = [
         table: 1,
         row: 2,
         column: 1,
-        kind: TableKind::BadNumber,
+        kind: TableKind::Cell(CellFault::BadNumber),
     },
     TableFault {
         table: 2,

@@ -7,6 +7,7 @@ use crate::tests_ends::Ends;
 use crate::tests_threads::{ends_so, readers_of};
 use oim_json::WriteFault;
 use oim_meta::Report;
+use oim_resolve::CellFault;
 use oim_rows::{TableFault, TableKind};
 use std::alloc::{AllocError, Global};
 use std::io;
@@ -64,7 +65,7 @@ const REFUSED: [TableFault; 2] = [
         table: 1,
         row: 2,
         column: 1,
-        kind: TableKind::BadNumber,
+        kind: TableKind::Cell(CellFault::BadNumber),
     },
     TableFault {
         table: 2,
