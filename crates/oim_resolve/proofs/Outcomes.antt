@@ -6,7 +6,7 @@ use Rattle.oim_resolve.specs.declared.fact.CellFault.{CellFault}
 use Rattle.oim_resolve.specs.Cell.{Cell}
 use Rattle.oim_resolve.specs.Faults.{least, unless, both}
 use Rattle.oim_resolve.specs.FactValues.{ValueParts, faults_in, text_in}
-use Rattle.oim_resolve.specs.ProgramDecimals.{text_read}
+use Rattle.oim_resolve.specs.ProgramValues.{text_read}
 use Rattle.std.specs.List.{flat_map}
 use Rattle.oim_meta.specs.declared.kind.Kind.{Kind}
 use Rattle.oim_resolve.specs.Written.{levels, names}

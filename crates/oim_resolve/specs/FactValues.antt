@@ -1,7 +1,6 @@
 -- The value of a fact cell, read by the kind of its concept. (xBRL-CSV 1.0, special values and the decimals suffix of a numeral; XML Schema
 -- Part 2, second edition: the lexical forms of the kinds)
 use Rattle.std.specs.Prelude.{ℕ, List, [], ◌∷◌, Bool, true, false, Option, Some, None, is_some, Result, Ok, Err}
-use Rattle.std.specs.Option.{option_map}
 use Rattle.oim_names.specs.QName.{qname_of}
 use Rattle.oim_cells.specs.Blanks.{trimmed}
 use Rattle.oim_cells.specs.Boolean.{is_boolean_text}
@@ -14,7 +13,6 @@ use Rattle.oim_meta.specs.declared.kind.Kind.TheVariants as kind
 use Rattle.oim_meta.specs.ReportValue.{ReportValue}
 use Rattle.oim_resolve.specs.declared.fact.CellFault.{CellFault}
 use Rattle.oim_resolve.specs.declared.fact.CellFault.TheVariants.{BadNumber, BadFactValue}
-use Rattle.oim_resolve.specs.declared.reading.FactValue.{FactValue}
 
 -- what a cell gives its fact: the value's text, none for nil, and how exact the cell itself says that the value is
 pub record ValueParts : Type 0 where
@@ -69,11 +67,3 @@ text_in (Err f) = None
 abbrev pub accuracy_in : Result ValueParts CellFault → Option Accuracy
 accuracy_in (Ok v) = v.accuracy
 accuracy_in (Err f) = None
-
--- the same, as a program holds them
-abbrev pub seen_value : FactValue → ValueParts
-seen_value v = record { text = option_map (λ t. t.now) v.text; accuracy = v.accuracy }
-
-abbrev pub seen_reading : Result FactValue CellFault → Result ValueParts CellFault
-seen_reading (Ok v) = Ok (seen_value v)
-seen_reading (Err f) = Err f

@@ -8,7 +8,7 @@ pub mod Order
 pub mod Rows
 pub mod ProgramPlace
 pub mod ProgramCell
-pub mod ProgramDecimals
+pub mod ProgramValues
 pub mod ProgramLevels
 pub mod ProgramPlan
 pub mod ProgramDimensions

@@ -2,7 +2,8 @@
 
 ghost use Rattle.std.specs.Prelude.{◌≡◌};
 ghost use Rattle.oim_cells.specs.Cells.{numeral_of, seen_meaning};
-ghost use Rattle.oim_resolve.specs.FactValues.{in_form, numeral_given, plain, seen_reading, seen_value, text_given, value_given};
+ghost use Rattle.oim_resolve.specs.FactValues.{in_form, numeral_given, plain, text_given, value_given};
+ghost use Rattle.oim_resolve.specs.ProgramValues.{seen_reading, seen_value};
 
 use crate::fact::CellFault;
 use oim_cells::{Accuracy, CellMeaning, NumberKind, is_boolean, split_numeral, trimmed};

@@ -4,7 +4,7 @@ ghost use Rattle.std.specs.Prelude.{◌≡◌};
 ghost use Rattle.std.specs.Option.{option_map};
 ghost use Rattle.oim_resolve.specs.Facts.{stated_by, stated_read};
 ghost use Rattle.oim_resolve.specs.ProgramCell.{cell_at};
-ghost use Rattle.oim_resolve.specs.ProgramDecimals.{seen_stated};
+ghost use Rattle.oim_resolve.specs.ProgramValues.{seen_stated};
 
 use crate::cell::place::Place;
 use crate::fact::CellFault;

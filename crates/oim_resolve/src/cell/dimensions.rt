@@ -6,7 +6,7 @@ ghost use Rattle.oim_cells.specs.Cells.{seen_meaning};
 ghost use Rattle.oim_resolve.specs.Facts.{concept_kind, fact_meaning, fact_of, rest_faults, stated};
 ghost use Rattle.oim_resolve.specs.Faults.{least, unless};
 ghost use Rattle.oim_resolve.specs.ProgramCell.{cell_at, held};
-ghost use Rattle.oim_resolve.specs.ProgramDecimals.{seen_stated};
+ghost use Rattle.oim_resolve.specs.ProgramValues.{seen_stated};
 ghost use Rattle.oim_resolve.specs.ProgramDimensions.{AreMet, dimension_read, dimensions_of, entries_in};
 ghost use Rattle.oim_resolve.specs.ProgramPlan.{seen_keyed, seen_planned};
 ghost use Rattle.oim_resolve.specs.Rows.{row_map};

@@ -4,8 +4,8 @@ ghost use Rattle.std.specs.Prelude.{◌≡◌, IfOk};
 ghost use Rattle.std.specs.Option.{option_and_then};
 ghost use Rattle.oim_cells.specs.Cells.{seen_meaning};
 ghost use Rattle.oim_resolve.specs.Facts.{decimals_read, places};
-ghost use Rattle.oim_resolve.specs.FactValues.{accuracy_in, seen_reading};
-ghost use Rattle.oim_resolve.specs.ProgramDecimals.{seen_stated, text_read};
+ghost use Rattle.oim_resolve.specs.FactValues.{accuracy_in};
+ghost use Rattle.oim_resolve.specs.ProgramValues.{seen_reading, seen_stated, text_read};
 
 use crate::cell::decimals::Stated;
 use crate::dimension::is_numeric;

@@ -3,7 +3,7 @@ use Rattle.oim_resolve.specs.Facts.{decimals_read, fact_meaning, stated}
 use Rattle.oim_resolve.specs.FactValues.{accuracy_in, value_given}
 use Rattle.oim_resolve.specs.Faults.{both}
 use Rattle.oim_resolve.specs.ProgramCell.{cell_at}
-use Rattle.oim_resolve.specs.ProgramDecimals.{seen_stated, text_read}
+use Rattle.oim_resolve.specs.ProgramValues.{seen_stated, text_read}
 use Rattle.oim_resolve.specs.ProgramDimensions.{dimensions_of}
 use Rattle.oim_resolve.proofs.LeastFaults.{pair}
 use Rattle.oim_resolve.proofs.Outcomes.{all_three, fact_fault, fact_whole}
