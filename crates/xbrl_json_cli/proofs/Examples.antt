@@ -12,6 +12,7 @@ use Rattle.oim_meta.specs.Readers.{no_level}
 use Rattle.oim_meta.specs.ReportValue.{ReportValue}
 use Rattle.oim_meta.specs.declared.data.Table.{Table}
 use Rattle.oim_meta.specs.declared.fault.MetaFault.TheVariants as refused
+use Rattle.oim_resolve.specs.declared.fact.CellFault.TheVariants as cell
 use Rattle.oim_rows.specs.Header.{fault_at}
 use Rattle.oim_rows.specs.declared.fault.TableFault.{TableFault}
 use Rattle.oim_rows.specs.declared.fault.TableKind.TheVariants as table
@@ -164,7 +165,7 @@ ring_past_the_largest = refl
 -- ---- outcomes
 
 abbrev bad_number : TableFault
-bad_number = fault_at 1 2 1 table.BadNumber
+bad_number = fault_at 1 2 1 (table.Cell cell.BadNumber)
 
 abbrev unknown_header : TableFault
 unknown_header = fault_at 2 0 1 table.UnknownHeader
