@@ -11,8 +11,8 @@ use Rattle.oim_meta.specs.Readers.{column_of, columns_of, table_of}
 use Rattle.oim_meta.specs.ReportValue.{ReportValue}
 use Rattle.oim_meta.specs.declared.kind.Kind.{Kind}
 use Rattle.oim_resolve.specs.Cell.{Cell, column, meaning_at}
-use Rattle.oim_resolve.specs.Facts.{cell_result, cell_and_group_faults, concept_faults, concept_faults_of, concept_kind, text_kind, rest_faults, fact_of, id_of, fact_meaning, fact_decimals, given, is_absent, is_unknown, names_no_group}
-use Rattle.oim_resolve.specs.Facts as f
+use Rattle.oim_resolve.specs.Facts.{cell_result, cell_and_group_faults, concept_faults, concept_faults_of, concept_kind, text_kind, rest_faults, fact_of, id_of, fact_meaning, fact_value, fact_decimals, given, is_absent, is_unknown, names_no_group}
+use Rattle.oim_resolve.specs.FactValues.{text_in}
 use Rattle.oim_resolve.specs.Faults.{least, fault_if}
 use Rattle.oim_resolve.specs.Written.{levels, group_named}
 use Rattle.oim_resolve.specs.declared.fact.CellFault.{CellFault}
@@ -120,12 +120,12 @@ in_pieces : (comma quote colon x y q a o b v z : List ℕ)
 in_pieces comma quote colon x y q a o b v z = simp append_assoc
 
 pub fact_text : (c : Cell) (p : List ℕ) → p ≡ pieces (dimensions_of c)
-    → (start_text c ++ tail_text c.report c.table c.column) ++ rest_text (fact_decimals c (concept_kind c)) (cut p) (f.value_text (concept_kind c) (fact_meaning c)) ≡ codes "," ++ member_text (fact_of c)
+    → (start_text c ++ tail_text c.report c.table c.column) ++ rest_text (fact_decimals c (concept_kind c)) (cut p) (text_in (fact_value c (concept_kind c))) ≡ codes "," ++ member_text (fact_of c)
 unfolding rest_text
 fact_text c p e =
     in_pieces (codes ",") (codes "\"") (codes ":{") (flat_map escaped_byte ((table_of c.report c.table).id ++ codes "." ++ c.row.id)) (flat_map escaped_byte (codes "." ++ (column c).id))
-    (decimals_text (fact_decimals c (concept_kind c))) (codes "\"dimensions\":{") (cut p) (codes "},\"value\":") (value_text (f.value_text (concept_kind c) (fact_meaning c))) (codes "}")
-    ∙ ap (λ q. codes "," ++ (q ++ codes ":{" ++ decimals_text (fact_decimals c (concept_kind c)) ++ codes "\"dimensions\":{" ++ cut p ++ codes "},\"value\":" ++ value_text (f.value_text (concept_kind c) (fact_meaning c)) ++ codes "}"))
+    (decimals_text (fact_decimals c (concept_kind c))) (codes "\"dimensions\":{") (cut p) (codes "},\"value\":") (value_text (text_in (fact_value c (concept_kind c)))) (codes "}")
+    ∙ ap (λ q. codes "," ++ (q ++ codes ":{" ++ decimals_text (fact_decimals c (concept_kind c)) ++ codes "\"dimensions\":{" ++ cut p ++ codes "},\"value\":" ++ value_text (text_in (fact_value c (concept_kind c))) ++ codes "}"))
     (sym (id_text ((table_of c.report c.table).id ++ codes "." ++ c.row.id) (column c).id))
     ∙ ap (λ q. codes "," ++ q) (text_is c (cut p) (ap cut e ∙ cut_pieces (dimensions_of c)))
 

@@ -13,8 +13,8 @@ use Rattle.oim_resolve.specs.declared.fact.CellFault.{CellFault}
 use Rattle.oim_resolve.specs.declared.role.Role.{Role}
 use Rattle.oim_resolve.specs.declared.role.Role.TheVariants as role
 use Rattle.oim_resolve.specs.Cell.{Cell}
-use Rattle.oim_resolve.specs.Facts.{role_of, is_dropped, value_faults_of, entry_given, dimension_faults, dimension_entry, named_entry, rest_faults, decimals_faults, number_faults, fact_of, id_of, concept_kind, fact_meaning, fact_decimals}
-use Rattle.oim_resolve.specs.Facts as f
+use Rattle.oim_resolve.specs.Facts.{role_of, is_dropped, value_faults_of, entry_given, dimension_faults, dimension_entry, named_entry, rest_faults, decimals_faults, fact_value, fact_of, id_of, concept_kind, fact_decimals}
+use Rattle.oim_resolve.specs.FactValues.{faults_in, text_in}
 use Rattle.oim_resolve.specs.Faults.{least, least_of}
 use Rattle.oim_resolve.specs.Values.{value, side_of}
 use Rattle.oim_resolve.specs.Written.{names, written, levels}
@@ -135,7 +135,7 @@ module _ (c : Cell) (k : Kind) where
 -- THE REST
 
 -- the least fault of the third step, from its parts
-pub rest_is : (c : Cell) (k : Kind) (dimensions decimals number : Option CellFault) → dimensions ≡ written_fault c k (written_entries (levels c)) → decimals ≡ least (decimals_faults c k) → number ≡ least (number_faults c k)
+pub rest_is : (c : Cell) (k : Kind) (dimensions decimals number : Option CellFault) → dimensions ≡ written_fault c k (written_entries (levels c)) → decimals ≡ least (decimals_faults c k) → number ≡ least (faults_in (fact_value c k))
     → least_of (least_of dimensions decimals) number ≡ least (rest_faults c k)
 unfolding rest_faults
 rest_is c k dimensions decimals number d e n =
@@ -144,7 +144,7 @@ rest_is c k dimensions decimals number d e n =
     ∙ ap (λ f. least_of (least_of (least xs) f) number) e
     ∙ ap (λ f. least_of f number) (sym (least-append xs (decimals_faults c k)))
     ∙ ap (least_of (least (xs ++ decimals_faults c k))) n
-    ∙ sym (least-append (xs ++ decimals_faults c k) (number_faults c k))
+    ∙ sym (least-append (xs ++ decimals_faults c k) (faults_in (fact_value c k)))
 
 -- THE TEXT OF THE FACT
 
@@ -154,7 +154,7 @@ dimensions_of c = flat_map (λ n. named_entry n (dimension_entry c (concept_kind
 
 -- a text is that of the fact, put together from its pieces
 pub text_is : (c : Cell) (j : List ℕ) → j ≡ joined (map dimension_text (dimensions_of c))
-    → quoted (id_of c) ++ codes ":{" ++ decimals_text (fact_decimals c (concept_kind c)) ++ codes "\"dimensions\":{" ++ j ++ codes "},\"value\":" ++ value_text (f.value_text (concept_kind c) (fact_meaning c)) ++ codes "}"
+    → quoted (id_of c) ++ codes ":{" ++ decimals_text (fact_decimals c (concept_kind c)) ++ codes "\"dimensions\":{" ++ j ++ codes "},\"value\":" ++ value_text (text_in (fact_value c (concept_kind c))) ++ codes "}"
     ≡ member_text (fact_of c)
 unfolding member_text fact_of
-text_is c j e = ap (λ t. quoted (id_of c) ++ codes ":{" ++ decimals_text (fact_decimals c (concept_kind c)) ++ codes "\"dimensions\":{" ++ t ++ codes "},\"value\":" ++ value_text (f.value_text (concept_kind c) (fact_meaning c)) ++ codes "}") e
+text_is c j e = ap (λ t. quoted (id_of c) ++ codes ":{" ++ decimals_text (fact_decimals c (concept_kind c)) ++ codes "\"dimensions\":{" ++ t ++ codes "},\"value\":" ++ value_text (text_in (fact_value c (concept_kind c))) ++ codes "}") e

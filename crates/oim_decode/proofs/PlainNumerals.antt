@@ -1,5 +1,6 @@
 -- A numeral needs no escape.
 use Rattle.std.proofs.Common.{◌≡◌, ◌<◌, ℕ, Bool, true, false, cond, ◌==◌, ◌&&◌, List, [], ◌∷◌, ◌++◌, drop, Option, Some, None, refl, sym, ap, subst, ◌∙◌, inl, inr, arith, codes}
+use Rattle.std.specs.Option.{IfSome}
 use Rattle.std.specs.List.{list_all}
 use Rattle.std.specs.Char.{digit_value}
 use Rattle.std.specs.Str.Parse.{AllDigits, without_leading_sign}
@@ -10,10 +11,16 @@ use Rattle.oim_cells.specs.declared.cells.Accuracy.{Accuracy}
 use Rattle.oim_cells.specs.declared.cells.NumberKind.{NumberKind}
 use Rattle.oim_cells.specs.declared.cells.NumberKind.TheVariants.{Integer, Decimal, Double}
 use Rattle.oim_cells.specs.Blanks.{trimmed}
-use Rattle.oim_cells.specs.Cells.{numeral_of}
+use Rattle.oim_cells.specs.Cells.{Meaning, numeral_of}
+use Rattle.oim_cells.specs.Cells as m
 use Rattle.oim_cells.specs.Numeral.{IsDecimal, IsDouble, IsInteger, IsNumeralOf, IsPointed, IsSplit, bare, no_power, pointed, power, suffixed}
 use Rattle.oim_cells.proofs.Values.{numeral_law}
 use Rattle.oim_json.specs.JsonText.{is_unescaped}
+use Rattle.oim_meta.specs.ReportValue.{ReportValue}
+use Rattle.oim_meta.specs.declared.kind.Kind.{Kind}
+use Rattle.oim_meta.specs.declared.kind.Kind.TheVariants as kind
+use Rattle.oim_resolve.specs.FactValues.{numeral_given, text_in, value_given}
+use Rattle.oim_resolve.specs.Facts.{is_numeric}
 
 abbrev IsPlain : List ℕ → Type 0
 IsPlain s = list_all is_unescaped s ≡ true
@@ -76,3 +83,25 @@ plain_split k s v a (bare kind numeral n) = plain_numeral kind numeral n
 -- the numeral that a text writes needs no escape
 pub numeral_is_plain : (kind : NumberKind) (text v : List ℕ) (a : Option Accuracy) → Some (v, a) ≡ numeral_of kind text → list_all is_unescaped v ≡ true
 numeral_is_plain kind text v a e = plain_split kind (trimmed text) v a ((numeral_law kind text v a).0 (sym e))
+
+part_is_plain : (o : Option (List ℕ × Option Accuracy)) → ((v : List ℕ) (a : Option Accuracy) → Some (v, a) ≡ o → IsPlain v) → IfSome (text_in (numeral_given o)) IsPlain
+part_is_plain None h = tt
+part_is_plain (Some p) h = h p.0 p.1 refl
+
+number_is_plain : (r : ReportValue) (n : NumberKind) (v : Meaning) → IfSome (text_in (value_given r (kind.Number n) v)) IsPlain
+number_is_plain r n m.Absent = tt
+number_is_plain r n m.Nil = tt
+number_is_plain r n m.Empty = part_is_plain (numeral_of n []) (numeral_is_plain n [])
+number_is_plain r n (m.Text t) = part_is_plain (numeral_of n t) (numeral_is_plain n t)
+number_is_plain r n m.Unknown = tt
+
+-- what the cell of a number gives needs no escape
+pub given_is_plain : (r : ReportValue) (k : Kind) (v : Meaning) → is_numeric k ≡ true → IfSome (text_in (value_given r k v)) (λ t. list_all is_unescaped t ≡ true)
+given_is_plain r (kind.Number n) v h = number_is_plain r n v
+given_is_plain r kind.Text v h = absurd (cc)
+given_is_plain r kind.Boolean v h = absurd (cc)
+given_is_plain r kind.Date v h = absurd (cc)
+given_is_plain r kind.Name v h = absurd (cc)
+given_is_plain r kind.Other v h = absurd (cc)
+given_is_plain r kind.Explicit v h = absurd (cc)
+given_is_plain r kind.Typed v h = absurd (cc)

@@ -2,6 +2,7 @@
 use Rattle.std.proofs.Common.{◌≡◌, ◌∷◌, [], List, ℕ, false, codes, Some, None, refl}
 use Rattle.csv.specs.Records.{field_at}
 use Rattle.oim_cells.specs.Cells as m
+use Rattle.oim_cells.specs.Cells.{numeral_of}
 use Rattle.oim_cells.specs.declared.cells.NumberKind.TheVariants.{Decimal}
 use Rattle.oim_json.specs.JsonText.{dimension_text, value_text, quoted, escaped_byte, decimals_text}
 use Rattle.oim_meta.specs.Readers.{no_level}
@@ -11,10 +12,10 @@ use Rattle.oim_meta.specs.declared.data.ColumnKind.TheVariants as content
 use Rattle.oim_meta.specs.declared.data.Side.TheVariants as side
 use Rattle.oim_meta.specs.declared.data.Written.TheVariants as w
 use Rattle.oim_meta.specs.declared.kind.Kind.TheVariants as kind
-use Rattle.oim_resolve.specs.declared.fact.CellFault.TheVariants.{BadReference, BadNumber}
+use Rattle.oim_resolve.specs.declared.fact.CellFault.TheVariants.{BadReference, BadNumber, BadFactValue}
 use Rattle.oim_decode.specs.Pieces.{piece, pieces, given_fault, given_piece}
 use Rattle.oim_decode.specs.Ready.{source_named, source_written}
-use Rattle.oim_decode.specs.Rest.{cut, rest_text, number_wrong}
+use Rattle.oim_decode.specs.Rest.{cut, rest_text, value_wrong}
 use Rattle.oim_decode.specs.Slots.{Named, RowNumber, source_meaning}
 
 abbrev column : List ℕ → Column
@@ -82,8 +83,12 @@ a_nil_fact : rest_text None [] None ≡ codes "\"dimensions\":{},\"value\":null}
 unfolding rest_text value_text decimals_text
 a_nil_fact = refl
 
-an_empty_number : number_wrong (kind.Number Decimal) m.Empty ≡ Some BadNumber
+an_empty_number : value_wrong report (kind.Number Decimal) m.Empty ≡ Some BadNumber
+unfolding numeral_of
 an_empty_number = refl
 
-an_empty_text : number_wrong kind.Text m.Empty ≡ None
+an_empty_text : value_wrong report kind.Text m.Empty ≡ None
 an_empty_text = refl
+
+an_empty_boolean : value_wrong report kind.Boolean m.Empty ≡ Some BadFactValue
+an_empty_boolean = refl

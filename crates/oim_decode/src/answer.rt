@@ -219,6 +219,9 @@ pub(crate) fn concept_of(report: &Report, value: CellMeaning<'_>) -> Result<Kind
         CellMeaning::Text(text) => match kind_of_name(report, text) {
             Some(Kind::Number(number)) => Ok(Kind::Number(number)),
             Some(Kind::Text) => Ok(Kind::Text),
+            Some(Kind::Boolean) => Ok(Kind::Boolean),
+            Some(Kind::Date) => Ok(Kind::Date),
+            Some(Kind::Name) => Ok(Kind::Name),
             Some(Kind::Other) => Ok(Kind::Other),
             Some(Kind::Explicit | Kind::Typed) | None => Err(CellFault::UnknownName),
         },

@@ -121,7 +121,7 @@ fn put_fact<'a>(
     };
     put(out, start)?;
     put(out, tail)?;
-    let found = variant.put(kind, value, slots, decimals, out)?;
+    let found = variant.put(at.report, kind, value, slots, decimals, out)?;
     match found {
         Some(fault) => Err(fault),
         None => Ok(()),

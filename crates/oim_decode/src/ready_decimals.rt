@@ -2,12 +2,12 @@
 
 ghost use Rattle.std.specs.Prelude.{◌≡◌, ◌++◌, ◌<◌, [], length, IfOk, OnOk, None, Some, is_none, if◌then◌else◌, ℕ};
 ghost use Rattle.std.specs.Option.{option_map, option_and_then};
-ghost use Rattle.oim_cells.specs.Cells.{seen_meaning, seen_numeral};
-ghost use Rattle.oim_json.specs.JsonText.{decimals_text, value_text};
-ghost use Rattle.oim_resolve.specs.Facts.{numeral as numeral_in, looks_at_decimals, stated_faults, stated_accuracy, decimals_given, places, is_numeric, is_empty, is_text, value_text as value_of};
+ghost use Rattle.oim_cells.specs.Cells.{seen_meaning};
+ghost use Rattle.oim_json.specs.JsonText.{decimals_text};
+ghost use Rattle.oim_resolve.specs.Facts.{decimals_given, places, stated_accuracy, stated_faults};
 ghost use Rattle.oim_resolve.specs.Faults.{least};
 ghost use Rattle.oim_decode.specs.Ready.{shown_stated};
-ghost use Rattle.oim_decode.specs.Rest.{decimals_wrong, number_wrong};
+ghost use Rattle.oim_decode.specs.Rest.{decimals_wrong};
 
 use crate::append::put;
 use crate::decimals::put_places;
@@ -106,27 +106,26 @@ impl ReadyDecimals {
         Ok(fault)
     }
 
-    /// Appends the decimals of a fact: those that the numeral of its cell states, else those that are
+    /// Appends the decimals of a fact: those that the suffix of its cell states, else those that are
     /// written. Answers their fault, where they are looked at.
     #[inline]
     pub(crate) fn put(
         &self,
         kind: Kind,
         value: CellMeaning<'_>,
-        numeral: Option<(&str, Option<Accuracy>)>,
+        suffix: Option<Accuracy>,
         slots: &[DecimalsSlot<'_>],
         out: &mut Vec<u8>,
     ) -> Result<Option<CellFault>, AllocError>
         requires slot { (i : ℕ) → (self.now).slot ≡ Some i → i < length slots.now }
-        requires numeral { option_map seen_numeral numeral ≡ numeral_in kind (seen_meaning value) }
-        ensures fault { IfOk result (λ f. f ≡ decimals_wrong kind (seen_meaning value.entry) (shown_stated slots.now self.now)) }
+        ensures fault { IfOk result (λ f. f ≡ decimals_wrong kind (seen_meaning value.entry) suffix (shown_stated slots.now self.now)) }
         ensures text { IfOk result (λ f. f ≡ None → out.new.items ≡ out.old.items
-            ++ decimals_text (decimals_given kind (seen_meaning value.entry) (shown_stated slots.now self.now))) }
+            ++ decimals_text (decimals_given kind (seen_meaning value.entry) suffix (shown_stated slots.now self.now))) }
     {
         if !matches!(&kind, Kind::Number(_)) || matches!(&value, CellMeaning::Nil) {
             return Ok(None);
         }
-        if let Some((_, Some(accuracy))) = numeral {
+        if let Some(accuracy) = suffix {
             put_accuracy(Some(accuracy), out)?;
             return Ok(None);
         }

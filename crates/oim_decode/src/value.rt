@@ -1,76 +1,77 @@
 //! The value of a fact.
 
-ghost use Rattle.std.specs.Prelude.{◌≡◌, ◌++◌, IfOk, None, Some};
-ghost use Rattle.std.specs.Option.{option_map};
-ghost use Rattle.oim_cells.specs.Cells.{seen_meaning, seen_numeral};
-ghost use Rattle.oim_json.specs.JsonText.{value_text};
-ghost use Rattle.oim_resolve.specs.Facts.{numeral as numeral_in, value_text as value_of};
-ghost use Rattle.oim_decode.specs.Rest.{number_wrong};
+ghost use Rattle.std.specs.Prelude.{◌≡◌, ◌++◌, true, IfOk, IfSome, None};
+ghost use Rattle.std.specs.List.{list_all};
+ghost use Rattle.oim_cells.specs.Cells.{seen_meaning};
+ghost use Rattle.oim_json.specs.JsonText.{is_unescaped, value_text};
+ghost use Rattle.oim_resolve.specs.FactValues.{accuracy_in, faults_in, text_in, value_given};
+ghost use Rattle.oim_resolve.specs.Facts.{is_numeric};
+ghost use Rattle.oim_resolve.specs.Faults.{least};
+ghost use Rattle.oim_resolve.specs.ProgramValues.{seen_reading};
 
 use crate::append::{put, put_plain, put_quoted};
+use crate::numeral::split;
 use oim_cells::{Accuracy, CellMeaning};
-use oim_meta::Kind;
-use oim_resolve::CellFault;
+use oim_meta::{Kind, Report};
+use oim_resolve::{CellFault, FactValue, fact_value};
 use std::alloc::AllocError;
 
-/// The fault of the cell of a number that is no numeral.
+/// What a cell gives its fact, as `fact_value` answers it; a numeral is found in one pass.
 #[inline(always)]
-fn number_fault(
+pub(crate) fn read_value<'v>(
+    report: &Report,
     kind: Kind,
-    value: CellMeaning<'_>,
-    numeral: Option<(&str, Option<Accuracy>)>,
-) -> Option<CellFault>
-    requires { option_map seen_numeral numeral ≡ numeral_in kind (seen_meaning value) }
-    ensures { result ≡ number_wrong kind (seen_meaning value.entry) }
+    value: CellMeaning<'v>,
+) -> Result<FactValue<'v>, CellFault>
+    ensures { seen_reading result ≡ value_given report.now kind (seen_meaning value.entry) }
 {
     match (kind, value) {
-        (Kind::Number(_), CellMeaning::Empty) => Some(CellFault::BadNumber),
-        (Kind::Number(_), CellMeaning::Text(_)) => match numeral {
-            Some(_) => None,
-            None => Some(CellFault::BadNumber),
+        (Kind::Number(number), CellMeaning::Text(text)) => match split(number, text) {
+            Some((numeral, accuracy)) => Ok(FactValue {
+                text: Some(numeral),
+                accuracy,
+            }),
+            None => Err(CellFault::BadNumber),
         },
-        _ => None,
+        _ => fact_value(report, kind, value),
     }
 }
 
-/// Appends the value, which is good.
+/// How exact a cell itself says that its number is.
+#[inline(always)]
+pub(crate) fn suffix_of(reading: Result<FactValue<'_>, CellFault>) -> Option<Accuracy>
+    ensures { result ≡ accuracy_in (seen_reading reading.entry) }
+{
+    match reading {
+        Ok(value) => value.accuracy,
+        Err(_) => None,
+    }
+}
+
+/// Appends the value of a fact whose concept has this kind, or answers its fault.
 #[tactic(auto, unfolding(oim_json::specs::JsonText::value_text))]
-#[inline(always)]
-fn put_good(
-    kind: Kind,
-    value: CellMeaning<'_>,
-    numeral: Option<(&str, Option<Accuracy>)>,
-    out: &mut Vec<u8>,
-) -> Result<(), AllocError>
-    requires { option_map seen_numeral numeral ≡ numeral_in kind (seen_meaning value) }
-    ensures { IfOk result (λ _. out.new.items ≡ out.old.items ++ value_text (value_of kind (seen_meaning value.entry))) }
-{
-    match (kind, value) {
-        (_, CellMeaning::Empty) => put_quoted(out, ""),
-        (Kind::Number(_), CellMeaning::Text(_)) => match numeral {
-            Some((numeral, _)) => put_plain(out, numeral),
-            None => put(out, b"null"),
-        },
-        (_, CellMeaning::Text(text)) => put_quoted(out, text),
-        _ => put(out, b"null"),
-    }
-}
-
-/// Appends the value of a fact, or answers its fault.
 #[inline]
 pub(crate) fn put_value(
     kind: Kind,
-    value: CellMeaning<'_>,
-    numeral: Option<(&str, Option<Accuracy>)>,
+    reading: Result<FactValue<'_>, CellFault>,
     out: &mut Vec<u8>,
 ) -> Result<Option<CellFault>, AllocError>
-    requires { option_map seen_numeral numeral ≡ numeral_in kind (seen_meaning value) }
-    ensures fault { IfOk result (λ f. f ≡ number_wrong kind (seen_meaning value.entry)) }
-    ensures text { IfOk result (λ f. f ≡ None → out.new.items ≡ out.old.items ++ value_text (value_of kind (seen_meaning value.entry))) }
+    requires { is_numeric kind ≡ true → IfSome (text_in (seen_reading reading)) (λ t. list_all is_unescaped t ≡ true) }
+    ensures fault { IfOk result (λ f. f ≡ least (faults_in (seen_reading reading.entry))) }
+    ensures text { IfOk result (λ f. f ≡ None → out.new.items ≡ out.old.items ++ value_text (text_in (seen_reading reading.entry))) }
 {
-    let fault = number_fault(kind, value, numeral);
-    if fault.is_none() {
-        put_good(kind, value, numeral, out)?;
+    match reading {
+        Ok(FactValue {
+            text: Some(text), ..
+        }) => {
+            if matches!(&kind, Kind::Number(_)) {
+                put_plain(out, text)?;
+            } else {
+                put_quoted(out, text)?;
+            }
+        }
+        Ok(FactValue { text: None, .. }) => put(out, b"null")?,
+        Err(fault) => return Ok(Some(fault)),
     }
-    Ok(fault)
+    Ok(None)
 }

@@ -2,24 +2,23 @@
 
 ghost use Rattle.std.specs.Prelude.{◌≡◌, ◌++◌, ◌<◌, ℕ, length, IfOk, None, Some, codes};
 ghost use Rattle.std.specs.List.{All};
-ghost use Rattle.std.specs.Option.{option_map};
-ghost use Rattle.oim_cells.specs.Cells.{seen_meaning, seen_numeral};
+ghost use Rattle.oim_cells.specs.Cells.{seen_meaning};
 ghost use Rattle.oim_json.specs.JsonText.{decimals_text, value_text};
-ghost use Rattle.oim_resolve.specs.Facts.{numeral as numeral_in, decimals_given, value_text as value_of};
+ghost use Rattle.oim_resolve.specs.Facts.{decimals_given};
+ghost use Rattle.oim_resolve.specs.FactValues.{accuracy_in, text_in, value_given};
 ghost use Rattle.oim_resolve.specs.Faults.{least_of};
 ghost use Rattle.oim_decode.specs.Ready.{IsPlaced, shown_fault, shown_pieces, shown_stated};
-ghost use Rattle.oim_decode.specs.Rest.{decimals_wrong, number_wrong, cut, cut_behind, rest_text};
+ghost use Rattle.oim_decode.specs.Rest.{decimals_wrong, value_wrong, cut, cut_behind, rest_text};
 
 use crate::append::put;
 use crate::decimals_slot::DecimalsSlot;
 use crate::least::least_of;
-use crate::numeral::split;
 use crate::ready::{ReadyEntry, put_entries};
 use crate::ready_decimals::ReadyDecimals;
 use crate::slot::Slot;
-use crate::value::put_value;
-use oim_cells::{Accuracy, CellMeaning};
-use oim_meta::Kind;
+use crate::value::{put_value, read_value, suffix_of};
+use oim_cells::CellMeaning;
+use oim_meta::{Kind, Report};
 use oim_names::Text;
 use oim_resolve::CellFault;
 use std::alloc::AllocError;
@@ -35,17 +34,6 @@ pub(crate) struct Variant<'a> {
     pub(crate) entries: Vec<ReadyEntry<'a>>,
     pub(crate) concept: Option<ReadyEntry<'a>>,
     pub(crate) decimals: ReadyDecimals,
-}
-
-/// The numeral of a cell, where the concept is of numbers.
-#[inline(always)]
-fn numeral_of(kind: Kind, value: CellMeaning<'_>) -> Option<(&str, Option<Accuracy>)>
-    ensures { option_map seen_numeral result ≡ numeral_in kind (seen_meaning value.entry) }
-{
-    match (kind, value) {
-        (Kind::Number(number), CellMeaning::Text(text)) => split(number, text),
-        _ => None,
-    }
 }
 
 /// Takes off the last byte, if any came behind the first `before`.
@@ -86,6 +74,7 @@ impl<'a> Variant<'a> {
     /// and value. The slots have the meanings of the row.
     pub(crate) fn put(
         &self,
+        report: &Report,
         kind: Kind,
         value: CellMeaning<'_>,
         slots: &[Slot<'a>],
@@ -95,18 +84,20 @@ impl<'a> Variant<'a> {
         requires placed { All (IsPlaced slots.now) (self.now).entries.items }
         requires decimals { (i : ℕ) → (self.now).decimals.slot ≡ Some i → i < length decimals.now }
         ensures fault { IfOk result (λ f. f ≡ least_of
-            (least_of (shown_fault slots.now kind (self.now).entries.items) (decimals_wrong kind (seen_meaning value.entry) (shown_stated decimals.now (self.now).decimals)))
-            (number_wrong kind (seen_meaning value.entry))) }
+            (least_of (shown_fault slots.now kind (self.now).entries.items) (decimals_wrong kind (seen_meaning value.entry) (accuracy_in (value_given report.now kind (seen_meaning value.entry))) (shown_stated decimals.now (self.now).decimals)))
+            (value_wrong report.now kind (seen_meaning value.entry))) }
         ensures text { IfOk result (λ f. f ≡ None → out.new.items ≡ out.old.items
-            ++ rest_text (decimals_given kind (seen_meaning value.entry) (shown_stated decimals.now (self.now).decimals))
+            ++ rest_text (decimals_given kind (seen_meaning value.entry) (accuracy_in (value_given report.now kind (seen_meaning value.entry))) (shown_stated decimals.now (self.now).decimals))
             (cut (shown_pieces slots.now kind (self.now).entries.items))
-            (value_of kind (seen_meaning value.entry))) }
+            (text_in (value_given report.now kind (seen_meaning value.entry)))) }
     {
-        let numeral = numeral_of(kind, value);
-        let stated = self.decimals.put(kind, value, numeral, decimals, out)?;
+        let reading = read_value(report, kind, value);
+        let stated = self
+            .decimals
+            .put(kind, value, suffix_of(reading), decimals, out)?;
         let dimensions = put_dimensions(self.entries.as_slice(), kind, slots, out)?;
-        let number = put_value(kind, value, numeral, out)?;
+        let wrong = put_value(kind, reading, out)?;
         out.push(b'}')?;
-        Ok(least_of(least_of(dimensions, stated), number))
+        Ok(least_of(least_of(dimensions, stated), wrong))
     }
 }
