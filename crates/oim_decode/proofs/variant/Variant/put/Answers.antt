@@ -27,12 +27,12 @@ returns-clause-text c = λ none.
     rest_put c.args.out.now.items (decimals_text (decimals_given k v (accuracy_in reading) (shown_stated c.args.decimals.now c.args.self.now.decimals))) (codes "\"dimensions\":{")
     (cut (shown_pieces c.args.slots.now k c.args.self.now.entries.items)) (codes "},\"value\":") (value_text (text_in reading)) (codes "}") _ _ _ _
     (subst (λ (a : Option Accuracy). c.put.new.out.items ≡ c.args.out.now.items ++ decimals_text (decimals_given k v a (shown_stated c.args.decimals.now c.args.self.now.decimals)))
-    (c.suffix_of.ensures ∙ ap accuracy_in c.read_value.ensures) (c.in_ok-stated.ensures.text two.1))
+    (c.suffix_of.ensures ∙ ap accuracy_in c.read_value-reading.ensures) (c.in_ok-stated.ensures.text two.1))
     written
-    (subst (λ (x : Result ValueParts CellFault). c.put_value.new.out.items ≡ c.put_dimensions.new.out.items ++ value_text (text_in x)) c.read_value.ensures (c.in_ok-wrong.ensures.text both.1))
+    (subst (λ (x : Result ValueParts CellFault). c.put_value.new.out.items ≡ c.put_dimensions.new.out.items ++ value_text (text_in x)) c.read_value-reading.ensures (c.in_ok-wrong.ensures.text both.1))
     c.in_ok-push.ensures.items
 
 pub put_value-requires : goal.put_value-requires
 put_value-requires c = λ number.
-    subst (λ (x : Result ValueParts CellFault). IfSome (text_in x) (λ (t : List ℕ). list_all is_unescaped t ≡ true)) (sym c.read_value.ensures)
+    subst (λ (x : Result ValueParts CellFault). IfSome (text_in x) (λ (t : List ℕ). list_all is_unescaped t ≡ true)) (sym c.read_value-reading.ensures)
     (given_is_plain c.args.report.now c.args.kind (seen_meaning c.args.value) number)
