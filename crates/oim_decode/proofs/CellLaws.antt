@@ -11,7 +11,7 @@ use Rattle.oim_meta.specs.Readers.{column_of, columns_of, table_of}
 use Rattle.oim_meta.specs.ReportValue.{ReportValue}
 use Rattle.oim_meta.specs.declared.kind.Kind.{Kind}
 use Rattle.oim_resolve.specs.Cell.{Cell, column, meaning_at}
-use Rattle.oim_resolve.specs.Facts.{cell_result, cell_and_group_faults, concept_faults, concept_faults_of, concept_kind, text_kind, rest_faults, fact_of, id_of, fact_meaning, fact_value, fact_decimals, given, is_absent, is_unknown, names_no_group}
+use Rattle.oim_resolve.specs.Facts.{cell_result, cell_and_group_faults, concept_faults, concept_kind, rest_faults, fact_of, fact_meaning, fact_value, fact_decimals, given, is_absent, is_unknown, names_no_group}
 use Rattle.oim_resolve.specs.FactValues.{text_in}
 use Rattle.oim_resolve.specs.Faults.{least, fault_if}
 use Rattle.oim_resolve.specs.Written.{levels, group_named}

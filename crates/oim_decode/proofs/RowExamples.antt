@@ -12,6 +12,10 @@ use Rattle.oim_meta.specs.declared.data.ColumnKind.TheVariants as content
 use Rattle.oim_meta.specs.declared.data.Side.TheVariants as side
 use Rattle.oim_meta.specs.declared.data.Written.TheVariants as w
 use Rattle.oim_meta.specs.declared.kind.Kind.TheVariants as kind
+use Rattle.oim_period.specs.Calendar.{is_date}
+use Rattle.oim_period.specs.Dates.{is_date_text}
+use Rattle.oim_period.specs.Digits.{two_at, four_at}
+use Rattle.oim_resolve.specs.FactValues.{text_in, value_given}
 use Rattle.oim_resolve.specs.declared.fact.CellFault.TheVariants.{BadReference, BadNumber, BadFactValue}
 use Rattle.oim_decode.specs.Pieces.{piece, pieces, given_fault, given_piece}
 use Rattle.oim_decode.specs.Ready.{source_named, source_written}
@@ -92,3 +96,15 @@ an_empty_text = refl
 
 an_empty_boolean : value_wrong report kind.Boolean m.Empty ≡ Some BadFactValue
 an_empty_boolean = refl
+
+-- the value of a boolean and of a date is written without the blanks at its ends
+a_boolean_fact : rest_text None [] (text_in (value_given report kind.Boolean (m.Text (codes " true ")))) ≡ codes "\"dimensions\":{},\"value\":\"true\"}"
+unfolding rest_text value_text quoted escaped_byte decimals_text
+a_boolean_fact = refl
+
+a_date_fact : rest_text None [] (text_in (value_given report kind.Date (m.Text (codes "2024-02-29")))) ≡ codes "\"dimensions\":{},\"value\":\"2024-02-29\"}"
+unfolding rest_text value_text quoted escaped_byte decimals_text is_date_text is_date two_at four_at
+a_date_fact = refl
+
+a_wrong_boolean : value_wrong report kind.Boolean (m.Text (codes "TRUE")) ≡ Some BadFactValue
+a_wrong_boolean = refl

@@ -56,7 +56,7 @@ abbrev names : Bindings
 names = (codes "eg", codes "http://example.com/eg") ∷ (codes "xbrli", codes "http://www.xbrl.org/2003/instance") ∷ []
 
 abbrev types : List (List ℕ × List (List ℕ × Kind))
-types = (codes "http://example.com/eg", (codes "Branch", kind.Typed) ∷ (codes "Cash", kind.Number number.Integer) ∷ []) ∷ []
+types = (codes "http://example.com/eg", (codes "Branch", kind.Typed) ∷ (codes "Cash", kind.Number number.Integer) ∷ (codes "Due", kind.Date) ∷ (codes "Open", kind.Boolean) ∷ (codes "Rule", kind.Name) ∷ []) ∷ []
 
 abbrev report : ReportValue
 report = record {
@@ -92,6 +92,18 @@ text_escaped = refl
 concept_of_a_number : concept_given report (Text (codes "eg:Cash")) ≡ Ok (kind.Number number.Integer)
 unfolding qname_of is_ncname is_utf8 encode is_name_char is_name_start chars
 concept_of_a_number = refl
+
+concept_of_a_boolean : concept_given report (Text (codes "eg:Open")) ≡ Ok kind.Boolean
+unfolding qname_of is_ncname is_utf8 encode is_name_char is_name_start chars
+concept_of_a_boolean = refl
+
+concept_of_a_date : concept_given report (Text (codes "eg:Due")) ≡ Ok kind.Date
+unfolding qname_of is_ncname is_utf8 encode is_name_char is_name_start chars
+concept_of_a_date = refl
+
+concept_of_a_name : concept_given report (Text (codes "eg:Rule")) ≡ Ok kind.Name
+unfolding qname_of is_ncname is_utf8 encode is_name_char is_name_start chars
+concept_of_a_name = refl
 
 dimension_for_a_concept : concept_given report (Text (codes "eg:Branch")) ≡ Err fault.UnknownName
 unfolding qname_of is_ncname is_utf8 encode is_name_char is_name_start chars
