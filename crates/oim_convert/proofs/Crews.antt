@@ -1,12 +1,17 @@
 -- Workers of which none has drawn anything.
-use Rattle.std.proofs.Common.{◌≡◌, ℕ, Bool, true, false, ◌&&◌, List, [], ◌∷◌, ◌++◌, All, length, Some, sym, refl, ap, subst, arith}
+use Rattle.std.proofs.Common.{◌∙◌, ◌≡◌, ℕ, Bool, true, false, ◌&&◌, List, [], ◌∷◌, ◌++◌, All, length, Some, sym, refl, ap, subst, arith}
 use Rattle.std.specs.List.{AllZip, list_all}
 use Rattle.std.specs.Bool.{MatchBool}
-use Rattle.std.specs.Prelude.{vec_capacity}
+use Rattle.std.specs.Prelude.{nat_lt, vec_capacity}
+use Rattle.std.proofs.lemmas.Bool.{le-ltb}
 use Rattle.std.proofs.lemmas.List.Elements.{All-head, All-tail, All-cons, All-pop}
 use Rattle.oim_convert.specs.Claims.{Claiming}
 use Rattle.oim_convert.specs.declared.worker.Shift.{Shift}
 use Rattle.oim_convert.specs.Shifts.{IsIdle, IsServed, IsShift}
+
+-- no place is one of none
+pub none_may : (place starts : ℕ) → starts ≡ 0 → nat_lt place starts ≡ false
+none_may place starts none = le-ltb place starts (omega (arith, none))
 
 pub none_of : {X : Type 0} (P : X → Type 0) (xs : List X) → length xs ≡ 0 → All P xs
 none_of P xs none k d h = absurd (omega arith)
@@ -14,6 +19,14 @@ none_of P xs none k d h = absurd (omega arith)
 both_true : (a b : Bool) → (a && b) ≡ true → (a ≡ true) × (b ≡ true)
 both_true true b e = (refl, e)
 both_true false b e = absurd (cc)
+
+pub all_stopped_more : {V O : Type 0} (before after : List (Shift V O)) (shift : Shift V O) → after ≡ before ++ shift ∷ [] → list_all (λ (s : Shift V O). s.stopped) before ≡ true → shift.stopped ≡ true
+    → list_all (λ (s : Shift V O). s.stopped) after ≡ true
+all_stopped_more {V} {O} before after shift is all one = ap (list_all (λ (s : Shift V O). s.stopped)) is ∙ more before all
+  where
+    more : (before : List (Shift V O)) → list_all (λ (s : Shift V O). s.stopped) before ≡ true → list_all (λ (s : Shift V O). s.stopped) (before ++ shift ∷ []) ≡ true
+    more [] all = rw one refl
+    more (s ∷ ss) all = let each = both_true s.stopped (list_all (λ (t : Shift V O). t.stopped) ss) all in rw (each.0, more ss each.1) refl
 
 module _ {V O : Type 0} (claims : Claiming V) where
   abbrev pub IsStopped : Shift V O → Type 0

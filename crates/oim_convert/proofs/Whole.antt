@@ -104,10 +104,16 @@ module _ {R : Type 0} (told : R → Option (List ℕ)) (report : ReportValue) (l
   from_all : AreFrom 0 readers
   from_all k = let e : k ≡ 0 + k = omega arith in ap (λ m. slice_get readers m) e
 
-  pub tables_are : (hs : List (List Item)) (files : List (Option (List ℕ))) → length hs ≡ length readers → AreFilesOf told readers files → HasTables told report limit plan hs
+  pub tables_are : (starts : ℕ) (hs : List (List Item)) (files : List (Option (List ℕ))) → length hs ≡ length readers → AreFilesOf told readers files → HasTables told report limit starts plan hs
       → AreHistories (streams report limit files) hs
-  tables_are hs files len fs (true, each) = inl (decoded_from 0 hs readers files from_all len fs each)
-  tables_are hs files len fs (false, each) = inr (unserved_from 0 hs readers files len fs each)
+  tables_are starts hs files len fs (true, none, each) = inl (decoded_from 0 hs readers files from_all len fs each)
+  tables_are starts hs files len fs (false, none, each) = inr (unserved_from 0 hs readers files len fs each)
+
+  -- no worker was to be started
+  pub tables_unserved : (starts : ℕ) (hs : List (List Item)) (files : List (Option (List ℕ))) → length hs ≡ length readers → AreFilesOf told readers files → HasTables told report limit starts plan hs → starts ≡ 0
+      → AreUnserved 0 (streams report limit files) hs
+  tables_unserved starts hs files len fs (true, none, each) nil = absurd (let no = none nil in cc)
+  tables_unserved starts hs files len fs (false, none, each) nil = unserved_from 0 hs readers files len fs each
 
 -- HISTORIES THAT NOTHING CUT SHORT
 
@@ -185,24 +191,29 @@ threads_of report limit files hs (inr unserved) = inl unserved
 
 -- A RUN
 
-module _ (l : Layout) {R : Type 0} (told : R → Option (List ℕ)) (report : ReportValue) (limit : ℕ) (plan : List (Job R)) (readers : List (Option R)) (same : map (λ (job : Job R). job.reader) plan ≡ readers)
+module _ (l : Layout) {R : Type 0} (told : R → Option (List ℕ)) (report : ReportValue) (limit starts : ℕ) (plan : List (Job R)) (readers : List (Option R)) (same : map (λ (job : Job R). job.reader) plan ≡ readers)
     (count : length readers ≡ length report.tables) (files : List (Option (List ℕ))) (are : AreFilesOf told readers files) (old new : SinkView) where
-  histories : (run : Run) → HasTables told report limit plan run.drains.items → IsRun l report (length report.tables) old new run → AreHistories (streams report limit files) run.drains.items
-  histories run has writes = tables_are told report limit plan readers same run.drains.items files (writes.count ∙ sym count) are has
+  histories : (run : Run) → HasTables told report limit starts plan run.drains.items → IsRun l report (length report.tables) old new run → AreHistories (streams report limit files) run.drains.items
+  histories run has writes = tables_are told report limit plan readers same starts run.drains.items files (writes.count ∙ sym count) are has
 
-  pub run_histories : (r : Result Run ConvertFault) → IfOk r (λ run. HasTables told report limit plan run.drains.items) → Writes l report (length report.tables) old new r
+  pub run_histories : (r : Result Run ConvertFault) → IfOk r (λ run. HasTables told report limit starts plan run.drains.items) → Writes l report (length report.tables) old new r
       → IfOk r (λ run. AreHistories (streams report limit files) run.drains.items)
   run_histories (Ok run) has writes = histories run has writes
   run_histories (Err e) has writes = tt
 
-  pub run_headline : (r : Result Run ConvertFault) → IfOk r (λ run. HasTables told report limit plan run.drains.items) → Writes l report (length report.tables) old new r
+  pub run_headline : (r : Result Run ConvertFault) → IfOk r (λ run. HasTables told report limit starts plan run.drains.items) → Writes l report (length report.tables) old new r
       → IfOk r (λ run. AreUncut run.drains.items → AreStreams (streams report limit files) run.drains.items × IsAnswer l report (streams report limit files) old new run.faults.items run.end)
   run_headline (Ok run) has writes = λ uncut.
       let all = uncut_streams (streams report limit files) run.drains.items (histories run has writes) uncut in
       (all, streams_answer l report (streams report limit files) run.drains.items old new run.faults.items run.end all writes.merged)
   run_headline (Err e) has writes = tt
 
-  pub run_threads : (r : Result Run ConvertFault) → IfOk r (λ run. HasTables told report limit plan run.drains.items) → Writes l report (length report.tables) old new r
+  pub run_threads : (r : Result Run ConvertFault) → IfOk r (λ run. HasTables told report limit starts plan run.drains.items) → Writes l report (length report.tables) old new r
       → IfOk r (λ run. AreUnserved 0 (streams report limit files) run.drains.items ⊎ AreThreaded run.drains.items)
   run_threads (Ok run) has writes = threads_of report limit files run.drains.items (histories run has writes)
   run_threads (Err e) has writes = tt
+
+  pub run_unserved : (r : Result Run ConvertFault) → IfOk r (λ run. HasTables told report limit starts plan run.drains.items) → Writes l report (length report.tables) old new r → starts ≡ 0
+      → IfOk r (λ run. AreUnserved 0 (streams report limit files) run.drains.items)
+  run_unserved (Ok run) has writes none = tables_unserved told report limit plan readers same starts run.drains.items files (writes.count ∙ sym count) are has none
+  run_unserved (Err e) has writes none = tt

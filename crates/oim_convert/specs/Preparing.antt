@@ -1,5 +1,5 @@
 -- What a conversion on threads needs before it begins, and what it has once it ran.
-use Rattle.std.specs.Prelude.{◌≡◌, ◌≤◌, ⊤, ℕ, Bool, List, [], Option, None, Result, Ok, Err, length, replicate, vec_capacity}
+use Rattle.std.specs.Prelude.{◌≡◌, ◌≤◌, ⊤, ℕ, Bool, false, List, [], Option, None, Result, Ok, Err, length, replicate, vec_capacity}
 use Rattle.oim_meta.specs.ReportValue.{ReportValue}
 use Rattle.oim_ring.specs.declared.item.Item.{Item}
 use Rattle.oim_convert.specs.Jobs.{Each, IsLane, IsOpened, IsTable}
@@ -26,9 +26,9 @@ pub record IsReady {R T : Type 0} (ready : Ready R T) : Type 0 where
   pub faults : (ready.unmerged.faults.items ≡ []) × (length ready.unmerged.drains.items ≤ vec_capacity ready.unmerged.faults)
   pub places : ArePlaces (length ready.crew.claims.items) ready.crew.claims.workers ready.places
 
--- the histories of all tables of the plan, which were served by workers or not
-abbrev pub HasTables : {R : Type 0} → (R → Option (List ℕ)) → ReportValue → ℕ → List (Job R) → List (List Item) → Type 0
-HasTables told report limit plan hs = (served : Bool) × Each (IsTable told report limit served plan) 0 hs
+-- the histories of all tables of the plan, which were served by workers or not, and not where none was to be started
+abbrev pub HasTables : {R : Type 0} → (R → Option (List ℕ)) → ReportValue → ℕ → ℕ → List (Job R) → List (List Item) → Type 0
+HasTables told report limit starts plan hs = (served : Bool) × (starts ≡ 0 → served ≡ false) × Each (IsTable told report limit served plan) 0 hs
 
 -- a conversion that ran answers its run, unless a token was lost
 abbrev pub HasRun : Result Run ConvertFault → Type 0

@@ -1,5 +1,5 @@
 -- What the parts of a conversion on one thread write, each from the sink as it is.
-use Rattle.std.specs.Prelude.{◌≡◌, ◌++◌, ℕ, List, [], ◌∷◌, Bool, true, false, Result, Ok, Err}
+use Rattle.std.specs.Prelude.{◌≡◌, ℕ, List, [], Bool, true, false, Result, Ok, Err}
 use Rattle.oim_json.specs.Document.{has_any, more_members}
 use Rattle.oim_json.specs.Sinks.{SinkView, Broke, Wrote, mark_of}
 use Rattle.oim_json.specs.declared.layout.Layout.{Layout}

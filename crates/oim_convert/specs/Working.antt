@@ -1,9 +1,18 @@
 -- What the workers of a conversion and its merge come to.
-use Rattle.std.specs.Prelude.{◌≡◌, ◌≤◌, [], length, vec_capacity}
+use Rattle.std.specs.Prelude.{◌≡◌, ◌≤◌, ℕ, All, Option, List, [], cond, false, length, vec_capacity, vec_len}
 use Rattle.oim_json.specs.Sinks.{SinkView}
 use Rattle.oim_merge.specs.Merging.{EndEach, IsFresh, Merges, rings_of, taken_of}
+use Rattle.oim_meta.specs.ReportValue.{ReportValue}
+use Rattle.oim_convert.specs.Claims.{Claiming}
+use Rattle.oim_convert.specs.Jobs.{CanServe, gives_of}
+use Rattle.oim_convert.specs.Shifts.{ArePosts, CanServeAll, IsShift}
+use Rattle.oim_convert.specs.declared.crew.Posts.{Posts}
+use Rattle.oim_convert.specs.declared.job.Job.{Job}
+use Rattle.oim_convert.specs.declared.job.Token.{Token}
+use Rattle.oim_convert.specs.declared.serving.Serving.{Serving}
 use Rattle.oim_convert.specs.declared.working.Merged.{Merged}
 use Rattle.oim_convert.specs.declared.working.Unmerged.{Unmerged}
+use Rattle.oim_convert.specs.declared.working.Worked.{Worked}
 
 -- nothing was taken from the drains, no fault is there, and there is room for one of each drain
 abbrev pub CanMerge : Unmerged → Type 0
@@ -14,3 +23,17 @@ pub record IsMerged (unmerged : Unmerged) (old new : SinkView) (merged : Merged)
   pub rings : rings_of merged.drains.items ≡ rings_of unmerged.drains.items
   pub ended : EndEach (taken_of merged.drains.items)
   pub written : Merges unmerged.layout old new unmerged.head.items (taken_of merged.drains.items) merged.faults.items merged.end
+
+-- what workers and a merge need: tables that both servers can serve, a station for each worker with its flag, and drains
+pub record CanWork {R S T C X : Type 0} (report : ReportValue) (server spare : Serving) (claims : Claiming (Job R)) (posts : Posts (Job R) Token S T C) (stops : List X) (unmerged : Unmerged) : Type 0 where
+  pub items : CanServeAll (CanServe report server.limits.rows) claims.items × CanServeAll (CanServe report spare.limits.rows) claims.items
+  pub ready : ArePosts claims posts
+  pub flags : length stops ≡ claims.workers
+  pub fresh : CanMerge unmerged
+
+-- the shift of each worker, by the server that was used, not by the workers' own where none was to be started; and what was merged
+pub record HasWorked {R : Type 0} (told : R → Option (List ℕ)) (report : ReportValue) (server spare : Serving) (claims : Claiming (Job R)) (starts : ℕ) (unmerged : Unmerged) (old new : SinkView) (worked : Worked R) : Type 0 where
+  pub shifts : All (IsShift (gives_of told (cond worked.served server spare) report) claims) worked.shifts.items
+  pub count : vec_len worked.shifts ≡ claims.workers
+  pub alone : starts ≡ 0 → worked.served ≡ false
+  pub merged : IsMerged unmerged old new worked.merged

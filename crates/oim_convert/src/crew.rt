@@ -1,9 +1,9 @@
 //! Many workers at once.
 
-ghost use Rattle.std.specs.Prelude.{◌≡◌, ◌≤◌, ◌<◌, ◌+◌, ◌^◌, [], All, IfOk, cond, length, replicate, vec_len, vec_capacity};
+ghost use Rattle.std.specs.Prelude.{◌≡◌, ◌≤◌, ◌<◌, ◌+◌, ◌^◌, [], false, All, IfOk, cond, length, replicate, vec_len, vec_capacity};
 ghost use Rattle.std.specs.List.{list_all};
 ghost use Rattle.oim_convert.specs.Claims.{fresh};
-ghost use Rattle.oim_convert.specs.Shifts.{CanServeAll, IsCrew, IsShift, IsStation, IsUnderWay};
+ghost use Rattle.oim_convert.specs.Shifts.{CanServeAll, IsAlone, IsCrew, IsShift, IsStation, IsUnderWay};
 
 use crate::claims::Claims;
 use crate::seat::Seat;
@@ -48,6 +48,7 @@ fn start_each<
     ensures under_way { IsUnderWay S.gives server.now shared.now claims.now room.new.started.items room.new.shifts.items }
     ensures count { vec_len room.new.started + vec_len room.new.shifts ≡ vec_len stations }
     ensures room { vec_len stations ≤ vec_capacity room.new.shifts }
+    ensures alone { starts ≡ 0 → IsAlone room.new.started.items room.new.shifts.items }
 {
     let mut place = 0;
     for station in stations {
@@ -90,6 +91,7 @@ fn spare_unless_started<V: Drop, O: Drop, S: Serve<V, O, T, C> + Drop, T, C>(
     ensures under_way { IsUnderWay S.gives (cond result server.now spare.now) shared.now claims.now room.new.started.items room.new.shifts.items }
     ensures count { (vec_len room.new.started ≡ vec_len room.old.started) × (vec_len room.new.shifts ≡ vec_len room.old.shifts) }
     ensures room { vec_capacity room.new.shifts ≡ vec_capacity room.old.shifts }
+    ensures alone { IsAlone room.old.started.items room.old.shifts.items → result ≡ false }
 {
     let _ = server;
     if room.started.len() > 0 || !all_idle(room.shifts.as_slice()) {
@@ -138,6 +140,7 @@ pub(crate) fn start_crew<
     ensures under_way { IsUnderWay S.gives (cond result server.now spare.now) shared.now claims.now room.new.started.items room.new.shifts.items }
     ensures count { vec_len room.new.started + vec_len room.new.shifts ≡ vec_len stations }
     ensures room { vec_len stations ≤ vec_capacity room.new.shifts }
+    ensures alone { starts ≡ 0 → result ≡ false }
 {
     start_each(
         scope, rt, shared, server, claims, stations, stops, starts, room,

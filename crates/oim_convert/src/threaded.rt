@@ -97,7 +97,7 @@ fn run_ready<R: Read + Drop + Send, T: Threads + Wait + Sync, W: Sink>(
     requires rows { limits.rows ≤ 4294967294 }
     requires head { ready.unmerged.head.items ≡ head_text report.now }
     ensures run { HasRun result }
-    ensures tables { IfOk result (λ run. HasTables R.remaining report.now limits.rows ready.crew.claims.items run.drains.items) }
+    ensures tables { IfOk result (λ run. HasTables R.remaining report.now limits.rows starts ready.crew.claims.items run.drains.items) }
     ensures writes { Writes ready.unmerged.layout report.now (length report.now.tables) (sink_at (W.mark sink.old) (W.told sink.old)) (sink_at (W.mark sink.new) (W.told sink.new)) result }
 {
     let Ready {
@@ -179,7 +179,8 @@ pub fn convert<R: Read + Drop + Send, T: Threads + Wait + Sync, W: Sink>(
 }
 
 /// Converts a report on threads as `convert` does, but tries to start the first `starts` workers
-/// alone, and counts the others as not started.
+/// alone, and counts the others as not started. So with no `starts` every table is refused with
+/// NoThread.
 pub fn convert_with_starts<R: Read + Drop + Send, T: Threads + Wait + Sync, W: Sink>(
     rt: &T,
     alloc: Global,
@@ -202,6 +203,10 @@ pub fn convert_with_starts<R: Read + Drop + Send, T: Threads + Wait + Sync, W: S
     ensures headline { (files : List (Option (List ℕ))) → AreFilesOf R.remaining readers.items files
         → IfOk result (λ run. AreUncut run.drains.items → AreStreams (streams report.now limits.rows files) run.drains.items
         × IsAnswer layout report.now (streams report.now limits.rows files) (sink_at (W.mark sink.old) (W.told sink.old)) (sink_at (W.mark sink.new) (W.told sink.new)) run.faults.items run.end) }
+
+    // Where no worker is to be started, NoThread ends every table.
+    ensures alone { starts ≡ 0 → (files : List (Option (List ℕ))) → AreFilesOf R.remaining readers.items files
+        → IfOk result (λ run. AreUnserved 0 (streams report.now limits.rows files) run.drains.items) }
 
     // What is so for all readers: each fault exactly where it is due, and what is written.
     ensures faults { AnswersFault (early_fault workers size (length readers.items) (length report.now.tables)) result }

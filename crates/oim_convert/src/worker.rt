@@ -1,6 +1,6 @@
 //! One worker: it draws items until none are left, and serves each.
 
-ghost use Rattle.std.specs.Prelude.{◌≡◌, ◌≤◌, ℕ, [], true, length, IfOk, IfErr, vec_capacity};
+ghost use Rattle.std.specs.Prelude.{◌≡◌, ◌≤◌, ℕ, [], true, false, length, IfOk, IfErr, MatchResult, vec_capacity};
 ghost use Rattle.oim_convert.specs.Claims.{fresh};
 ghost use Rattle.oim_convert.specs.Shifts.{CanServeAll, IsShift, IsStarted, IsStation};
 
@@ -134,6 +134,7 @@ pub(crate) fn start<
     requires station { IsStation claims.now station }
     ensures started { IfOk result (λ h. IsStarted server.now shared.now claims.now h) }
     ensures refused { IfErr result (λ shift. IsShift (S.gives server.now shared.now) claims.now shift) }
+    ensures unasked { may_start ≡ false → MatchResult result (λ _. ⊥) (λ shift. shift.stopped ≡ true) }
 {
     if !may_start {
         return Err(idle(station));

@@ -1,10 +1,10 @@
 //! A scope in which workers decode tables while the caller's thread merges.
 
-ghost use Rattle.std.specs.Prelude.{◌≡◌, All, cond, length, vec_len};
+ghost use Rattle.std.specs.Prelude.{◌≡◌, false, All, cond, length, vec_len};
 ghost use Rattle.oim_json.specs.Sinks.{sink_at};
 ghost use Rattle.oim_convert.specs.Jobs.{CanServe, Gives, gives_of};
 ghost use Rattle.oim_convert.specs.Shifts.{ArePosts, CanServeAll, IsCrew, IsShift};
-ghost use Rattle.oim_convert.specs.Working.{CanMerge, IsMerged};
+ghost use Rattle.oim_convert.specs.Working.{CanMerge, CanWork, HasWorked, IsMerged};
 
 use crate::claims::Claims;
 use crate::crew::{Crew, Posts, join_crew, start_crew};
@@ -21,7 +21,7 @@ use std::io::Read;
 use std::sync::Wait;
 use std::sync::atomic::AtomicBool;
 use std::thread;
-use std::thread::Threads;
+use std::thread::{Scope, Threads};
 
 /// The drains of all tables, from which nothing was taken, room for the fault of each, and the head
 /// and the layout of the document that they are merged into.
@@ -77,7 +77,37 @@ struct Returned<'a, R, W> {
     sink: &'a mut W,
 }
 
-/// Merges while the workers draw and decode, and joins them.
+/// Starts the workers, merges while they draw and decode, and joins them.
+fn serve_and_merge<'s, E, R: Read + Drop + Send + 's, T: Threads + Wait + Sync + 's, W: Sink>(
+    scope: &Scope<'s, E>,
+    rt: &'s T,
+    report: &'s Report,
+    server: &'s Serving,
+    spare: &Serving,
+    claims: &'s Claims<Job<R>>,
+    posts: Posts<Job<R>, Token, Serving, T, Report>,
+    stops: &'s [AtomicBool],
+    starts: usize,
+    unmerged: Unmerged,
+    sink: &mut W,
+) -> Worked<R>
+    requires { CanWork report.now server.now spare.now claims.now posts stops.now unmerged }
+    ensures { HasWorked R.remaining report.now server.now spare.now claims.now starts unmerged (sink_at (W.mark sink.old) (W.told sink.old)) (sink_at (W.mark sink.new) (W.told sink.new)) result }
+{
+    let Posts { stations, mut room } = posts;
+    let served = start_crew(
+        scope, rt, report, server, spare, claims, stations, stops, starts, &mut room,
+    );
+    let merged = merge_all(rt, unmerged, sink);
+    let shifts = join_crew(rt, report, server, spare, served, claims, room);
+    Worked {
+        shifts,
+        merged,
+        served,
+    }
+}
+
+/// Does so in a scope of threads, which ends once all of them are joined.
 fn work_and_merge<R: Read + Drop + Send, T: Threads + Wait + Sync, W: Sink>(
     rt: &T,
     report: &Report,
@@ -90,43 +120,22 @@ fn work_and_merge<R: Read + Drop + Send, T: Threads + Wait + Sync, W: Sink>(
     unmerged: Unmerged,
     sink: &mut W,
 ) -> Worked<R>
-    requires items { CanServeAll (CanServe report.now server.now.limits.rows) claims.now.items × CanServeAll (CanServe report.now spare.now.limits.rows) claims.now.items }
-    requires posts { ArePosts claims.now posts }
-    requires stops { length stops.now ≡ claims.now.workers }
-    requires fresh { CanMerge unmerged }
-    ensures shifts { All (IsShift (gives_of R.remaining (cond result.served server.now spare.now) report.now) claims.now) result.shifts.items }
-    ensures count { vec_len result.shifts ≡ claims.now.workers }
-    ensures merged { IsMerged unmerged (sink_at (W.mark sink.old) (W.told sink.old)) (sink_at (W.mark sink.new) (W.told sink.new)) result.merged }
+    requires { CanWork report.now server.now spare.now claims.now posts stops.now unmerged }
+    ensures { HasWorked R.remaining report.now server.now spare.now claims.now starts unmerged (sink_at (W.mark sink.old) (W.told sink.old)) (sink_at (W.mark sink.new) (W.told sink.new)) result }
 {
     let lent = &mut *sink;
     let returned = thread::scope(
         thread::scope_env(),
         rt,
         move |scope| -> Returned<'_, R, W>
-            requires items { CanServeAll (CanServe report.now server.now.limits.rows) claims.now.items × CanServeAll (CanServe report.now spare.now.limits.rows) claims.now.items }
-            requires posts { ArePosts claims.now posts }
-            requires stops { length stops.now ≡ claims.now.workers }
-            requires fresh { CanMerge unmerged }
+            requires { CanWork report.now server.now spare.now claims.now posts stops.now unmerged }
             ensures same_sink { result.sink.ghost_name ≡ lent.entry.ghost_name }
-            ensures shifts { All (IsShift (gives_of R.remaining (cond result.worked.served server.entry.now spare.entry.now) report.entry.now) claims.entry.now) result.worked.shifts.items }
-            ensures count { vec_len result.worked.shifts ≡ claims.entry.now.workers }
-            ensures merged { IsMerged unmerged (sink_at (W.mark lent.entry.now) (W.told lent.entry.now)) (sink_at (W.mark result.sink.now) (W.told result.sink.now)) result.worked.merged }
+            ensures worked { HasWorked R.remaining report.entry.now server.entry.now spare.entry.now claims.entry.now starts unmerged (sink_at (W.mark lent.entry.now) (W.told lent.entry.now)) (sink_at (W.mark result.sink.now) (W.told result.sink.now)) result.worked }
         {
-            let posts = posts;
-            let Posts { stations, mut room } = posts;
-            let served = start_crew(
-                scope, rt, report, server, spare, claims, stations, stops, starts, &mut room,
+            let worked = serve_and_merge(
+                scope, rt, report, server, spare, claims, posts, stops, starts, unmerged, lent,
             );
-            let merged = merge_all(rt, unmerged, lent);
-            let shifts = join_crew(rt, report, server, spare, served, claims, room);
-            Returned {
-                worked: Worked {
-                    shifts,
-                    merged,
-                    served,
-                },
-                sink: lent,
-            }
+            Returned { worked, sink: lent }
         },
     );
     let Returned { worked, sink } = returned;
@@ -151,6 +160,7 @@ pub(crate) fn work_crew<R: Read + Drop + Send, T: Threads + Wait + Sync, W: Sink
     ensures claims { result.0 ≡ crew.claims }
     ensures shifts { All (IsShift (Gives R.remaining report.now limits.rows result.1.served) result.0) result.1.shifts.items }
     ensures count { vec_len result.1.shifts ≡ result.0.workers }
+    ensures alone { starts ≡ 0 → result.1.served ≡ false }
     ensures merged { IsMerged unmerged (sink_at (W.mark sink.old) (W.told sink.old)) (sink_at (W.mark sink.new) (W.told sink.new)) result.1.merged }
 {
     let Crew {

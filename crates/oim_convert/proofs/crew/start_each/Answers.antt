@@ -1,5 +1,6 @@
 use Rattle.std.proofs.Common.{arith, subst, sym, ap, ◌∙◌, All, vec_len, vec_capacity}
 use Rattle.oim_convert.specs.Shifts.{IsShift, IsStarted, IsStation}
+use Rattle.oim_convert.proofs.Crews.{all_stopped_more, none_may}
 use Rattle.oim_convert.proofs.Zips.{all-first, all-more}
 use Rattle.oim_convert.proofs.crew.start_each.Goals as goal
 use Rattle.oim_convert.proofs.crew.start_each.Goals.{in-Ok, in-Err}
@@ -19,6 +20,7 @@ loop-station-preserved g c =
             refused = subst (λ l. All (IsShift gives now) l) (sym (ap (λ r. r.shifts.items) w.room-is)) old.refused;
             count = omega (arith, old.count, pushed.len);
             all = omega (arith, step.1, old.all);
+            alone = λ none. absurd (w.in-Ok.ensures.unasked (none_may c.loop-station.place c.args.starts none));
             room = (omega (arith, old.room.0, pushed.capacity), omega (arith, old.room.1, pushed.capacity));
           }
       | in-Err w ↦
@@ -30,6 +32,11 @@ loop-station-preserved g c =
             refused = all-more (IsShift gives now) _ _ _ (ap (λ r. r.shifts.items) w.room-is ∙ pushed.items) old.refused (w.in-Err.ensures.refused);
             count = omega (arith, old.count, pushed.len);
             all = omega (arith, step.1, old.all);
+            alone = λ none.
+                let before = old.alone none in (
+                  ap (λ r. r.started.items) w.room-is ∙ before.0,
+                  all_stopped_more _ _ _ (ap (λ r. r.shifts.items) w.room-is ∙ pushed.items) before.1 (w.in-Err.ensures.unasked (none_may c.loop-station.place c.args.starts none)),
+                );
             room = (omega (arith, old.room.0, pushed.capacity), omega (arith, old.room.1, pushed.capacity));
           }
     ]

@@ -1,6 +1,6 @@
 use Rattle.std.proofs.Common.{◌≡◌, ◌≤◌, ◌+◌, All, length, vec_capacity, vec_len}
 use Rattle.std.specs.Vec.Iter.{into_iter_items, into_iter_len}
-use Rattle.oim_convert.specs.Shifts.{IsShift, IsStarted, IsStation}
+use Rattle.oim_convert.specs.Shifts.{IsAlone, IsShift, IsStarted, IsStation}
 use Rattle.oim_convert.proofs.crew.start_each.Given as goal
 
 abbrev pub invariant-loop-station : goal.invariant-loop-station
@@ -10,5 +10,6 @@ invariant-loop-station g l = record {
   refused : All (IsShift (g.S.Serve.gives l.server l.shared) l.claims) l.room.shifts.items;
   count : vec_len l.room.started + vec_len l.room.shifts ≡ l.place;
   all : l.place + into_iter_len l.station-iterator ≡ length l.stops;
+  alone : l.starts ≡ 0 → IsAlone l.room.started.items l.room.shifts.items;
   room : (length l.stops ≤ vec_capacity l.room.started) × (length l.stops ≤ vec_capacity l.room.shifts);
 }

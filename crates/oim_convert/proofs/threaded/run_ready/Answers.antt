@@ -36,7 +36,7 @@ finish-requires-clause-places g c = subst (λ (z : Claiming (Job g.row.R.Denot))
 pub returns-in-Some-clause-tables : goal.returns-in-Some-clause-tables
 returns-in-Some-clause-tables g c =
     let served = c.work_crew-claims.result.1.served in
-    (served, subst (λ (z : Claiming (Job g.row.R.Denot)). Each (IsTable g.R.Read.remaining c.args.report.now c.args.limits.rows served z.items) 0 c.in-Some.drains.items) c.work_crew-claims.ensures.claims c.in-Some.ensures.tables)
+    (served, c.work_crew-claims.ensures.alone, subst (λ (z : Claiming (Job g.row.R.Denot)). Each (IsTable g.R.Read.remaining c.args.report.now c.args.limits.rows served z.items) 0 c.in-Some.drains.items) c.work_crew-claims.ensures.claims c.in-Some.ensures.tables)
 
 pub returns-in-Some-clause-writes : goal.returns-in-Some-clause-writes
 returns-in-Some-clause-writes g c =
