@@ -1,9 +1,11 @@
 -- The definitions, executed on small histories.
 use Rattle.std.specs.Prelude.{◌≡◌, ℕ, false, List, [], ◌∷◌, ◌++◌, Some, None}
 use Rattle.std.proofs.Common.{arith, refl, codes, inl, inr}
-use Rattle.oim_json.specs.Document.{tail_text, text_after}
+use Rattle.oim_json.specs.Document.{members, tail_text, text_after}
+use Rattle.oim_json.specs.JsonText.{decimals_text, dimension_text, escaped_byte, member_text, quoted, value_text}
 use Rattle.oim_json.specs.Sinks.{SinkView}
 use Rattle.oim_json.specs.declared.layout.Layout.{Layout}
+use Rattle.oim_json.specs.declared.layout.Layout.TheVariants.{Compact, Lines}
 use Rattle.oim_merge.specs.Histories.{all_of, document, facts_before, refusals}
 use Rattle.oim_merge.specs.declared.progress.MergeEnd.TheVariants as end
 use Rattle.oim_meta.specs.ReportValue.{ReportValue}
@@ -67,6 +69,9 @@ third = fact (codes "b.1.x")
 -- a table of two rows with no fault, and one whose second row is ragged
 whole : Stream
 whole = record { rows = (first ∷ []) ∷ (second ∷ []) ∷ []; fault = None }
+
+one_row : Stream
+one_row = record { rows = (first ∷ []) ∷ []; fault = None }
 
 ragged : TableFault
 ragged = fault_at 1 2 0 kind.Ragged
@@ -137,6 +142,30 @@ unfinished_document l = refl
 
 finished_document : (l : Layout) → document l (codes "head") ((Block (first ∷ []) ∷ Ending Closed ∷ []) ∷ (Ending Closed ∷ []) ∷ []) ≡ text_after l (codes "head") (first ∷ []) ++ tail_text l
 finished_document l = refl
+
+-- a report of two rows in lines: a line feed directly after the head, after each comma and before the closing braces
+two_rows_in_lines : document Lines (codes "{") (histories_of (whole ∷ [])) ≡ codes "{\n\"a.1.x\":{\"dimensions\":{},\"value\":null},\n\"a.2.x\":{\"dimensions\":{},\"value\":null}\n}}\n"
+unfolding whole first second fact members member_text decimals_text dimension_text value_text quoted escaped_byte
+two_rows_in_lines = refl
+
+two_rows_compact : document Compact (codes "{") (histories_of (whole ∷ [])) ≡ codes "{\"a.1.x\":{\"dimensions\":{},\"value\":null},\"a.2.x\":{\"dimensions\":{},\"value\":null}}}\n"
+unfolding whole first second fact members member_text decimals_text dimension_text value_text quoted escaped_byte
+two_rows_compact = refl
+
+-- a report without tables
+no_tables_in_lines : document Lines (codes "{") (histories_of []) ≡ codes "{\n}}\n"
+unfolding members
+no_tables_in_lines = refl
+
+-- the first table has a bad header: the head alone, in each layout
+first_refused : (l : Layout) → document l (codes "{") (histories_of (unread_header ∷ whole ∷ [])) ≡ codes "{"
+unfolding unread_header members
+first_refused l = refl
+
+-- the second table is refused behind a row of its own: nothing stands behind its last member
+second_refused_in_lines : document Lines (codes "{") (histories_of (one_row ∷ broken ∷ [])) ≡ codes "{\n\"a.1.x\":{\"dimensions\":{},\"value\":null},\n\"b.1.x\":{\"dimensions\":{},\"value\":null}"
+unfolding one_row broken first third fact members member_text decimals_text dimension_text value_text quoted escaped_byte
+second_refused_in_lines = refl
 
 -- two threads that were wanting are two faults
 unserved_faults : refusals (all_of ((Ending (Refused (file_fault 0 kind.NoThread)) ∷ []) ∷ (Ending (Refused (file_fault 1 kind.NoThread)) ∷ []) ∷ [])) ≡ file_fault 0 kind.NoThread ∷ file_fault 1 kind.NoThread ∷ []

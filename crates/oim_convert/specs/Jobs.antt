@@ -9,7 +9,7 @@ use Rattle.oim_convert.specs.Files.{IsFileOf}
 use Rattle.oim_convert.specs.Histories.{IsDecoded, IsUnserved}
 use Rattle.oim_convert.specs.declared.job.Job.{Job}
 use Rattle.oim_convert.specs.declared.job.Token.{Token}
-use Rattle.oim_convert.specs.declared.serving.Serving.{Serving}
+use Rattle.oim_convert.specs.declared.server.Serving.{Serving}
 use Rattle.oim_convert.specs.declared.worker.Shift.{Shift}
 
 -- P of each element and its number, counted from n

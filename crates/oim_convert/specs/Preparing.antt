@@ -4,7 +4,7 @@ use Rattle.oim_meta.specs.ReportValue.{ReportValue}
 use Rattle.oim_ring.specs.declared.item.Item.{Item}
 use Rattle.oim_convert.specs.Jobs.{Each, IsLane, IsOpened, IsTable}
 use Rattle.oim_convert.specs.Shifts.{IsCrew}
-use Rattle.oim_convert.specs.declared.closing.Places.{Places}
+use Rattle.oim_convert.specs.declared.places.Places.{Places}
 use Rattle.oim_convert.specs.declared.fault.ConvertFault.{ConvertFault}
 use Rattle.oim_convert.specs.declared.fault.ConvertFault.TheVariants as fault
 use Rattle.oim_convert.specs.declared.job.Job.{Job}

@@ -9,10 +9,10 @@ use Rattle.oim_convert.specs.Shifts.{ArePosts, CanServeAll, IsShift}
 use Rattle.oim_convert.specs.declared.crew.Posts.{Posts}
 use Rattle.oim_convert.specs.declared.job.Job.{Job}
 use Rattle.oim_convert.specs.declared.job.Token.{Token}
-use Rattle.oim_convert.specs.declared.serving.Serving.{Serving}
-use Rattle.oim_convert.specs.declared.working.Merged.{Merged}
-use Rattle.oim_convert.specs.declared.working.Unmerged.{Unmerged}
-use Rattle.oim_convert.specs.declared.working.Worked.{Worked}
+use Rattle.oim_convert.specs.declared.server.Serving.{Serving}
+use Rattle.oim_convert.specs.declared.scope.Merged.{Merged}
+use Rattle.oim_convert.specs.declared.scope.Unmerged.{Unmerged}
+use Rattle.oim_convert.specs.declared.scope.Worked.{Worked}
 
 -- nothing was taken from the drains, no fault is there, and there is room for one of each drain
 abbrev pub CanMerge : Unmerged → Type 0

@@ -5,8 +5,8 @@ ghost use Rattle.std.specs.Mem.Slots.{IsFull};
 ghost use Rattle.oim_convert.specs.Claims.{Draws, fresh};
 ghost use Rattle.oim_convert.specs.Numbers.{EachOnceBelow};
 
-use crate::deal::{deal, gather};
 use crate::seat::Seat;
+use crate::seats::{deal, gather};
 use crate::view::{Board, Draw, Plan};
 use atomic_table::{Closed, Refused, Table};
 use std::alloc::{AllocError, Global};

@@ -22,7 +22,7 @@
 //!   Memory write nothing, and Lost comes after the document of some histories, one for each table.
 //!
 //! A run is answered only after its claims were closed with all their seats: what the workers gave
-//! back is for each table once (`finish` of `src/closing.rt`).
+//! back is for each table once (`finish` of `src/places.rt`).
 //!
 //! That workers run side by side, that each that started is joined, and that memory, threads and
 //! tokens are given, is shown by tests alone.
@@ -35,23 +35,23 @@
 #![tactic(auto)]
 
 mod claims;
-mod closing;
 mod crew;
-mod deal;
 mod decode;
 mod fault;
 mod job;
 mod lanes;
+mod places;
 mod run;
+mod scope;
 mod seat;
+mod seats;
 mod sending;
 mod serial;
-mod serving;
-mod settling;
+mod server;
+mod slots;
 mod threaded;
 mod view;
 mod worker;
-mod working;
 
 pub use claims::Claims;
 pub use fault::ConvertFault;

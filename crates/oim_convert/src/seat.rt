@@ -3,14 +3,14 @@
 ghost use Rattle.std.specs.Prelude.{◌≡◌, false, cond};
 ghost use Rattle.oim_convert.specs.Views.{drawer};
 
-use crate::view::Token;
+use crate::view::BoardSeat;
 use std::marker::Model;
 
 /// Draws from one `Claims`. Contracts see which claims they are, the numbers that it drew, in
 /// order, and whether it was answered that none are left.
 #[derive(Drop)]
 pub struct Seat<V> {
-    pub(crate) token: Token<V>,
+    pub(crate) token: BoardSeat<V>,
     pub(crate) finished: bool,
 }
 
@@ -31,7 +31,7 @@ impl<V> Model for Seat<V> {
 
 impl<V> Seat<V> {
     /// A seat that has drawn nothing.
-    pub(crate) fn of(token: Token<V>) -> Seat<V>
+    pub(crate) fn of(token: BoardSeat<V>) -> Seat<V>
         requires { (token.me.0.share ≡ 1) × (token.me.0.finished ≡ 0) }
         ensures { result ≡ drawer token.table_id token.me.0 false }
     {
@@ -42,7 +42,7 @@ impl<V> Seat<V> {
     }
 
     /// What the seat knows.
-    pub(crate) fn into_token(self) -> Token<V>
+    pub(crate) fn into_token(self) -> BoardSeat<V>
         ensures view { drawer result.table_id result.me.0 self.finished ≡ self }
         ensures one { (result.me.0.share ≡ 1) × (result.me.0.finished ≡ cond self.finished 1 0) }
     {

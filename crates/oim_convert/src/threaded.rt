@@ -9,14 +9,14 @@ ghost use Rattle.oim_convert.specs.Runs.{AnswersFault, AreHistories, AreStreams,
 ghost use Rattle.oim_json.specs.JsonText.{head_text};
 ghost use Rattle.oim_json.specs.Sinks.{sink_at};
 
-use crate::closing::{Places, finish, places_of};
 use crate::crew::{Crew, crew_of};
 use crate::fault::ConvertFault;
 use crate::job::{Job, Token};
 use crate::lanes::open_lanes;
+use crate::places::{Places, finish, places_of};
 use crate::run::Run;
-use crate::serving::Serving;
-use crate::working::{Merged, Unmerged, Worked, work_crew};
+use crate::scope::{Merged, Unmerged, Worked, work_crew};
+use crate::server::Serving;
 use oim_json::{Layout, Sink, head};
 use oim_meta::{Limits, Report};
 use std::alloc::{AllocError, Global};

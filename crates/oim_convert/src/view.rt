@@ -46,7 +46,7 @@ pub type Board<V> = Table<Option<V>, View<V>, Plan<V>, Drawing, Global>;
 pub type Steps<V> = Shared<Option<V>, View<V>, Plan<V>, Drawing>;
 
 /// A place at the board.
-pub type Token<V> = atomic_table::Seat<Option<V>, View<V>>;
+pub type BoardSeat<V> = atomic_table::Seat<Option<V>, View<V>>;
 
 /// The step of a draw.
 pub struct Draw;

@@ -1,6 +1,6 @@
 use Rattle.std.proofs.Common.{rules, arith, ap}
 use Rattle.oim_convert.proofs.Shares.{cuts}
-use Rattle.oim_convert.proofs.deal.deal.Goals as goal
+use Rattle.oim_convert.proofs.seats.deal.Goals as goal
 
 pub split_seat-one-requires : goal.split_seat-one-requires
 split_seat-one-requires g c =

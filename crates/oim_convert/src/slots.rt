@@ -1,4 +1,4 @@
-//! Putting the tokens of the tables to their drains.
+//! A slot for the token of each table, by which its drain is settled.
 
 ghost use Rattle.std.specs.Prelude.{◌≡◌, ◌≤◌, [], None, length, map, All, Contains, IfNone, IfSome, slice_set, vec_len, vec_capacity};
 ghost use Rattle.oim_convert.specs.Jobs.{Each, EachSlot, Fulfills, Gives, IsEnded, IsTable, placed, tokens_of};

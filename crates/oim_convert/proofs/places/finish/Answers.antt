@@ -6,7 +6,7 @@ use Rattle.oim_convert.specs.Numbers.{EachOnceBelow}
 use Rattle.oim_convert.specs.declared.job.Token.{Token}
 use Rattle.oim_convert.proofs.Cover.{covered, lost_token, seats_mine, some_finished}
 use Rattle.oim_convert.proofs.Whole.{replicate_len, slots_begin}
-use Rattle.oim_convert.proofs.closing.finish.Goals as goal
+use Rattle.oim_convert.proofs.places.finish.Goals as goal
 
 pub place_all-seats-requires-clause-slots : goal.place_all-seats-requires-clause-slots
 place_all-seats-requires-clause-slots g c =

@@ -9,7 +9,7 @@ ghost use Rattle.oim_convert.specs.Working.{CanMerge, CanWork, HasWorked, IsMerg
 use crate::claims::Claims;
 use crate::crew::{Crew, Posts, join_crew, start_crew};
 use crate::job::{Job, Token};
-use crate::serving::Serving;
+use crate::server::Serving;
 use crate::worker::Shift;
 use oim_json::{Layout, Sink};
 use oim_merge::{MergeEnd, merge};

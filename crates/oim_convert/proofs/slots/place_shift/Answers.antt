@@ -5,7 +5,7 @@ use Rattle.oim_convert.specs.Jobs.{Fulfills, placed}
 use Rattle.oim_convert.proofs.Tokens.{tokens_fulfill}
 use Rattle.oim_convert.proofs.Going.{nothing_left}
 use Rattle.oim_convert.proofs.Zips.{all-first}
-use Rattle.oim_convert.proofs.settling.place_shift.Goals as goal
+use Rattle.oim_convert.proofs.slots.place_shift.Goals as goal
 
 pub loop-token-init : goal.loop-token-init
 loop-token-init g c =

@@ -1,4 +1,4 @@
-//! What is done with the tables that workers draw.
+//! The server of the tables that workers draw.
 
 ghost use Rattle.std.specs.Prelude.{◌≡◌, [], IfSome};
 ghost use Rattle.oim_convert.specs.Histories.{IsUnserved};

@@ -1,7 +1,7 @@
 use Rattle.std.specs.Prelude.{◌≡◌, All}
 use Rattle.std.specs.Vec.Iter.{into_iter_items}
 use Rattle.oim_convert.specs.Jobs.{EachSlot, Fulfills, placed}
-use Rattle.oim_convert.proofs.settling.place_shift.Given as goal
+use Rattle.oim_convert.proofs.slots.place_shift.Given as goal
 
 abbrev pub invariant-loop-token : goal.invariant-loop-token
 invariant-loop-token g l = record {

@@ -2,7 +2,7 @@ use Rattle.std.proofs.Common.{◌≡◌, ℕ, ◌+◌, ◌≤◌, ◌++◌, leng
 use Rattle.std.specs.Prelude.{None, map, slice_index_or, vec_capacity}
 use Rattle.std.specs.Vec.Iter.{into_iter_items, into_iter_len}
 use Rattle.oim_convert.specs.Jobs.{Each, EachSlot, IsEnded, IsTable}
-use Rattle.oim_convert.proofs.settling.settle_all.Given as goal
+use Rattle.oim_convert.proofs.slots.settle_all.Given as goal
 
 abbrev pub invariant-loop-drain : goal.invariant-loop-drain
 invariant-loop-drain g l =

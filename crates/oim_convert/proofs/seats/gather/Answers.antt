@@ -1,6 +1,6 @@
 use Rattle.std.proofs.Common.{rules, ap, ◌∙◌}
 use Rattle.oim_convert.proofs.Shares.{sheds, gathers}
-use Rattle.oim_convert.proofs.deal.gather.Goals as goal
+use Rattle.oim_convert.proofs.seats.gather.Goals as goal
 
 pub split_seat-rested-requires : goal.split_seat-rested-requires
 split_seat-rested-requires g c = (ap (λ d. d.claims.id) c.into_token-token.ensures.view ∙ c.requires.place.1, c.requires.place.2, sheds _ _ _ _)

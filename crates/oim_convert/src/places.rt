@@ -1,4 +1,5 @@
-//! The end of a conversion: tokens go to their tables, and seats to their claims.
+//! The places that are kept for what comes back, and the end of a conversion: tokens go to their
+//! tables, and seats to their claims.
 
 ghost use Rattle.std.specs.Prelude.{◌≡◌, ◌⊎◌, None, true, length, map, All, Any, IfNone, IfOk, IfSome, vec_len};
 ghost use Rattle.std.specs.List.{list_all};
@@ -11,7 +12,7 @@ use crate::claims::Claims;
 use crate::crew::all_idle;
 use crate::job::{Job, Token};
 use crate::seat::Seat;
-use crate::settling::{place_all, settle_all};
+use crate::slots::{place_all, settle_all};
 use crate::worker::Shift;
 use oim_meta::{Limits, Report};
 use oim_ring::{Closed, Drain, Drained};

@@ -1,5 +1,5 @@
 use Rattle.std.specs.Prelude.{◌≡◌, ◌≤◌, None, replicate, vec_capacity, vec_len}
-use Rattle.oim_convert.proofs.closing.places_of.Given as goal
+use Rattle.oim_convert.proofs.places.places_of.Given as goal
 
 abbrev pub invariant-loop-made : goal.invariant-loop-made
 invariant-loop-made g l = record {

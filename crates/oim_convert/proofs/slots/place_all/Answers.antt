@@ -7,7 +7,7 @@ use Rattle.oim_convert.proofs.Cover.{placed_append}
 use Rattle.oim_convert.proofs.Settled.{map_one}
 use Rattle.oim_convert.proofs.Going.{nothing_left}
 use Rattle.oim_convert.proofs.Zips.{all-first}
-use Rattle.oim_convert.proofs.settling.place_all.Goals as goal
+use Rattle.oim_convert.proofs.slots.place_all.Goals as goal
 
 pub loop-shift-preserved : goal.loop-shift-preserved
 loop-shift-preserved g c =

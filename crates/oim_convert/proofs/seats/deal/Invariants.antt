@@ -1,7 +1,7 @@
 use Rattle.std.proofs.Common.{◌≡◌, ◌≤◌, ◌-◌, replicate, vec_capacity}
 use Rattle.oim_convert.specs.Claims.{fresh}
 use Rattle.oim_convert.specs.Views.{opening_view, claiming}
-use Rattle.oim_convert.proofs.deal.deal.Given as goal
+use Rattle.oim_convert.proofs.seats.deal.Given as goal
 
 abbrev pub invariant-loop-made : goal.invariant-loop-made
 invariant-loop-made g l = record {

@@ -1,16 +1,16 @@
-//! From one seat to many, and back.
+//! All seats of the claims: from one to many, and back.
 
 ghost use Rattle.std.specs.Prelude.{◌≡◌, ◌+◌, ◌<◌, ◌≤◌, [], length, replicate, vec_capacity, true};
 ghost use Rattle.oim_convert.specs.Claims.{fresh};
 ghost use Rattle.oim_convert.specs.Views.{opening_view, claiming, joined_seat};
 
 use crate::seat::Seat;
-use crate::view::{Cut, Gather, Shed, Steps, Token};
+use crate::view::{BoardSeat, Cut, Gather, Shed, Steps};
 
 /// The seats that the token stands for, each on its own.
 pub(crate) fn deal<V>(
     steps: &Steps<V>,
-    mut token: Token<V>,
+    mut token: BoardSeat<V>,
     workers: usize,
     seats: &mut Vec<Seat<V>>,
 )
@@ -28,7 +28,7 @@ pub(crate) fn deal<V>(
 }
 
 /// Makes the token stand for this seat too.
-pub(crate) fn gather<V>(steps: &Steps<V>, whole: &mut Token<V>, seat: Seat<V>)
+pub(crate) fn gather<V>(steps: &Steps<V>, whole: &mut BoardSeat<V>, seat: Seat<V>)
     requires place { (whole.old.table_id ≡ steps.now.table_id) × (seat.claims.id ≡ steps.now.table_id) × (0 < steps.now.table_id.words) }
     requires share { 0 < whole.old.me.0.share }
     ensures place { whole.new.table_id ≡ whole.old.table_id }

@@ -7,9 +7,9 @@ use Rattle.oim_ring.specs.declared.item.Item.{Item}
 use Rattle.oim_convert.specs.Jobs.{Each, IsEnded, IsKept, IsSentOf, IsTable}
 use Rattle.oim_convert.specs.declared.job.Job.{Job}
 use Rattle.oim_convert.proofs.Settled.{slot_kept, slot_read, each_first, each_more, map_one}
-use Rattle.oim_convert.proofs.settling.settle_all.Given as given
-use Rattle.oim_convert.proofs.settling.settle_all.Goals as goal
-use Rattle.oim_convert.proofs.settling.settle_all.Goals.{After-settled-in-loop-drain-1}
+use Rattle.oim_convert.proofs.slots.settle_all.Given as given
+use Rattle.oim_convert.proofs.slots.settle_all.Goals as goal
+use Rattle.oim_convert.proofs.slots.settle_all.Goals.{After-settled-in-loop-drain-1}
 
 -- the token in the slot is of the table
 token_is : (g : given.Over) (c : After-settled-in-loop-drain-1 g)

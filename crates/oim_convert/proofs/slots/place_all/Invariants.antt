@@ -2,7 +2,7 @@ use Rattle.std.specs.Prelude.{◌≡◌, ◌≤◌, ◌+◌, ◌++◌, All, map,
 use Rattle.std.specs.Vec.Iter.{into_iter_items, into_iter_len}
 use Rattle.oim_convert.specs.Jobs.{EachSlot, Gives, placed, tokens_of}
 use Rattle.oim_convert.specs.Shifts.{IsShift}
-use Rattle.oim_convert.proofs.settling.place_all.Given as goal
+use Rattle.oim_convert.proofs.slots.place_all.Given as goal
 
 abbrev pub invariant-loop-shift : goal.invariant-loop-shift
 invariant-loop-shift g l = record {
