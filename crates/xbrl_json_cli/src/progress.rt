@@ -1,11 +1,10 @@
 //! How far a run is, shown on standard error while it works.
 
-use std::fmt;
 use std::fmt::{Display, Formatter};
-use std::io;
 use std::io::{Read, Write};
 use std::sync::atomic::{AtomicU64, Ordering};
 use std::time::{Clock, Instant};
+use std::{fmt, io};
 
 /// How often the line on a terminal is written anew, in milliseconds.
 const ON_A_TERMINAL: u64 = 200;
@@ -108,7 +107,11 @@ impl<'a, H: Eprint + Clock> Progress<'a, H> {
         if now < due {
             return;
         }
-        let next = now.saturating_add(if self.terminal { ON_A_TERMINAL } else { ELSEWHERE });
+        let next = now.saturating_add(if self.terminal {
+            ON_A_TERMINAL
+        } else {
+            ELSEWHERE
+        });
         let order = Ordering::SeqCst;
         if self.due.compare_exchange(due, next, order, order).is_ok() {
             self.show(if self.terminal { "" } else { "\n" });
