@@ -9,12 +9,15 @@ The last line counts. Python 3.9 or later and Linux are needed.
 """
 import json
 import os
+import pty
+import re
 import resource
 import stat
 import subprocess
 import sys
 import tempfile
 import threading
+import time
 from pathlib import Path
 
 TOP = Path(__file__).resolve().parent.parent
@@ -207,9 +210,71 @@ def outputs(folder):
     case("a refused table", (status, err) == (1, TABLE_FAULT.format("t2", 1, 1, "BadNumber", 40)) and document.startswith(seen) and b"t1.r_1" in seen, status, seen, err)
 
 
+PROGRESS = "xbrl-json: {} of {} tables, {:.1f} of {:.1f} MB read, {:.1f} MB written\n"
+
+
+def written_late(pipe, pauses):
+    """Writes a table to a named pipe: a row, then after each pause one more."""
+
+    def write():
+        with open(pipe, "w") as out:
+            out.write("cash\n1\n")
+            out.flush()
+            for pause in pauses:
+                time.sleep(pause)
+                out.write("1\n")
+                out.flush()
+
+    threading.Thread(target=write, daemon=True).start()
+
+
+def on_a_terminal(words, folder):
+    """What standard error gets of a run where it is a terminal."""
+    ours, theirs = pty.openpty()
+    with subprocess.Popen([PROGRAM, *words], cwd=folder, stdin=subprocess.DEVNULL, stdout=subprocess.DEVNULL, stderr=theirs):
+        os.close(theirs)
+        seen = b""
+        while True:
+            try:
+                more = os.read(ours, 4096)
+            except OSError:
+                more = b""
+            if not more:
+                break
+            seen += more
+    os.close(ours)
+    return seen.decode()
+
+
+def progress(folder):
+    report(folder, {"t1": {}, "t2": {"optional": True}, "t3": {}})
+    (folder / "t1.csv").write_text("cash\n" + "1\n" * 150_000)
+    (folder / "t3.csv").write_text("cash\n2\n")
+    document = run(WORDS, folder)[1]
+    last = PROGRESS.format(3, 3, 0.3, 0.3, len(document) // 100_000 / 10)
+    seen = run([*WORDS, "--progress"], folder)
+    case("--progress", seen == (0, document, last), seen[0], seen[2])
+    seen = run(["nothing.json", "--types", "types.csv", "--progress"], folder)
+    case("--progress of a run without tables", seen == (3, b"", "xbrl-json: cannot read nothing.json\n"), seen)
+    (folder / "t1.csv").write_text("cash\nx\n")
+    status, _, err = run([*WORDS, "--progress"], folder)
+    said = PROGRESS.format(3, 3, 0, 0, 0) + TABLE_FAULT.format("t1", 1, 1, "BadNumber", 40)
+    case("--progress of a refused table", (status, err) == (1, said), status, err)
+    (folder / "t1.csv").unlink()
+    os.mkfifo(folder / "t1.csv")
+    written_late(folder / "t1.csv", [0.3] * 4)
+    seen = on_a_terminal([*WORDS, "--progress"], folder)
+    lines = re.fullmatch(r"(\rxbrl-json: \d of 3 tables, 0\.0 of 0\.0 MB read, 0\.0 MB written)+\r\n", seen)
+    case("--progress on a terminal", lines and seen.count("\r") > 4 and seen.endswith("\r" + PROGRESS.format(3, 3, 0, 0, 0)[:-1] + "\r\n"), repr(seen))
+    written_late(folder / "t1.csv", [10.5])
+    seen = run([*WORDS, "--progress"], folder)
+    lines = PROGRESS.format(2, 3, 0, 0, 0) + PROGRESS.format(3, 3, 0, 0, 0)
+    case("--progress each ten seconds", (seen[0], seen[2]) == (0, lines), seen[0], seen[2])
+
+
 def main():
     examples()
-    for part in (words_of_the_command_line, files_that_are_not_read, a_table_that_may_not_be_read, few_descriptors, a_named_pipe, outputs):
+    for part in (words_of_the_command_line, files_that_are_not_read, a_table_that_may_not_be_read, few_descriptors, a_named_pipe, outputs, progress):
         with tempfile.TemporaryDirectory() as folder:
             part(Path(folder))
     print(f"over the real system: {count - len(failed)} as they must be, {len(failed)} not")
