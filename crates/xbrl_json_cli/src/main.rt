@@ -49,6 +49,8 @@ mod tests_ends;
 #[cfg(test)]
 mod tests_files;
 #[cfg(test)]
+mod tests_flush;
+#[cfg(test)]
 mod tests_metadata;
 #[cfg(test)]
 mod tests_readers;

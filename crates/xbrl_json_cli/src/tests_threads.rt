@@ -71,7 +71,7 @@ fn waiting<'a>(
 }
 
 /// The held report with so many tables t1, t2 and so on of its template.
-fn report_with(alloc: Global, tables: usize) -> Result<Box<Report>, Fail> {
+pub(crate) fn report_with(alloc: Global, tables: usize) -> Result<Box<Report>, Fail> {
     let mut text = String::from_str(alloc, "{")?;
     for table in 1..=tables {
         let comma = if table > 1 { "," } else { "" };
