@@ -1,4 +1,4 @@
-use Rattle.std.proofs.Common.{refl, rules}
+use Rattle.std.proofs.Common.{refl}
 use Rattle.xbrl_json_cli.proofs.settings.job.Goals as goal
 
 pub returns-clause-answers : goal.returns-clause-answers
