@@ -1,11 +1,14 @@
--- The worked texts of facts and of the head.
+-- The worked texts of facts, of the head and of documents.
 use Rattle.std.proofs.Common.{◌≡◌, [], ◌∷◌, ◌++◌, Some, None, true, false, refl, codes, negsuc}
 use Rattle.std.specs.List.{list_all}
 use Rattle.std.specs.Fmt.{digits}
 use Rattle.oim_meta.specs.ReportValue.{ReportValue}
 use Rattle.oim_resolve.specs.declared.fact.Fact.{Fact}
 use Rattle.oim_json.specs.Blocks.{behind_commas, ends_from}
+use Rattle.oim_json.specs.Document.{members, more_members, tail_text, text_after}
 use Rattle.oim_json.specs.JsonText.{escaped_byte, is_unescaped, quoted, value_text, dimension_text, decimals_text, member_text, namespace_text, base_url_text, head_text}
+use Rattle.oim_json.specs.Lines.{cut_at_line_feeds, with_commas}
+use Rattle.oim_json.specs.declared.layout.Layout.TheVariants.{Compact, Lines}
 
 cash : Fact
 cash =
@@ -92,3 +95,40 @@ brief_texts = refl
 brief_ends : ends_from 0 (brief ∷ brief ∷ []) ≡ 35 ∷ 70 ∷ []
 unfolding ends_from brief escaped_byte quoted value_text decimals_text member_text
 brief_ends = refl
+
+-- DOCUMENTS
+
+compact_document : text_after Compact (codes "{") (brief ∷ brief ∷ []) ++ tail_text Compact ≡ codes "{\"a\":{\"dimensions\":{},\"value\":null},\"a\":{\"dimensions\":{},\"value\":null}}}\n"
+unfolding members brief escaped_byte quoted value_text decimals_text member_text
+compact_document = refl
+
+-- a line feed stands directly after the head, after each comma and before the closing braces
+document_in_lines : text_after Lines (codes "{") (brief ∷ brief ∷ []) ++ tail_text Lines ≡ codes "{\n\"a\":{\"dimensions\":{},\"value\":null},\n\"a\":{\"dimensions\":{},\"value\":null}\n}}\n"
+unfolding members brief escaped_byte quoted value_text decimals_text member_text
+document_in_lines = refl
+
+-- the closing braces stand on a line of their own, also where there are no members
+no_members_in_lines : text_after Lines (codes "{") [] ++ tail_text Lines ≡ codes "{\n}}\n"
+unfolding members
+no_members_in_lines = refl
+
+no_members_compact : text_after Compact (codes "{") [] ++ tail_text Compact ≡ codes "{}}\n"
+unfolding members
+no_members_compact = refl
+
+-- a document that isn't finished ends with its last member
+unfinished_in_lines : text_after Lines (codes "{") (brief ∷ []) ≡ codes "{\n\"a\":{\"dimensions\":{},\"value\":null}"
+unfolding members brief escaped_byte quoted value_text decimals_text member_text
+unfinished_in_lines = refl
+
+-- members behind others
+more_in_lines : more_members Lines true (brief ∷ []) ≡ codes ",\n\"a\":{\"dimensions\":{},\"value\":null}"
+unfolding brief escaped_byte quoted value_text decimals_text member_text
+more_in_lines = refl
+
+-- cut at its line feeds, it gives the head, each member with its comma, the closing braces, and nothing behind the last line feed
+lines_cut : cut_at_line_feeds (codes "{\n\"a\":1,\n\"b\":2\n}}\n") ≡ codes "{" ∷ codes "\"a\":1," ∷ codes "\"b\":2" ∷ codes "}}" ∷ [] ∷ []
+lines_cut = refl
+
+members_with_commas : with_commas (codes "\"a\":1" ∷ codes "\"b\":2" ∷ codes "\"c\":3" ∷ []) ≡ codes "\"a\":1," ∷ codes "\"b\":2," ∷ codes "\"c\":3" ∷ []
+members_with_commas = refl

@@ -4,3 +4,6 @@ pub mod Blocks
 pub mod Lines
 mod Examples
 pub mod Writes
+pub mod Members
+pub mod Chunks
+pub mod Putting

@@ -1,14 +1,17 @@
--- No line feed stands in the text of a fact, since each byte of a text is written escaped.
-use Rattle.std.proofs.Common.{◌≡◌, ℕ, zero, suc, ◌+◌, ◌/◌, ◌%◌, ℤ, pos, negsuc, List, [], ◌∷◌, ◌++◌, map, Option, Some, None, Bool, true, false, not, ◌&&◌, ◌==◌, nat_lt, refl, arith, codes}
+-- No line feed stands in the text of a fact or of a head, since each byte of a text is written escaped.
+use Rattle.std.proofs.Common.{◌≡◌, ◌∙◌, sym, ap, append_assoc, append-nil, ℕ, zero, suc, ◌+◌, ◌/◌, ◌%◌, ℤ, pos, negsuc, List, [], ◌∷◌, ◌++◌, map, Option, Some, None, Bool, true, false, not, ◌&&◌, ◌==◌, nat_lt, refl, arith, codes}
 use Rattle.std.specs.Prelude.{if◌then◌else◌}
-use Rattle.std.specs.List.{AllByRecursion, flat_map, list_all}
+use Rattle.std.specs.List.{AllByRecursion, flat_map, list_all, slice_split}
 use Rattle.std.specs.Char.{digit_char}
 use Rattle.std.specs.Fmt.{digits, digits_onto, digit_glyph, decimal, signed_decimal}
 use Rattle.oim_names.specs.QName.{Lacks}
 use Rattle.oim_names.proofs.Cut.{eqb_of}
+use Rattle.oim_meta.specs.ReportValue.{ReportValue}
 use Rattle.oim_resolve.specs.declared.fact.Fact.{Fact}
-use Rattle.oim_json.specs.JsonText.{escaped_byte, quoted, value_text, dimension_text, decimals_text, joined, member_text}
-use Rattle.oim_json.specs.Document.{facts_text}
+use Rattle.oim_json.specs.JsonText.{base_url_text, escaped_byte, head_text, namespace_text, quoted, value_text, dimension_text, decimals_text, joined, member_text}
+use Rattle.oim_json.specs.Document.{facts_text, members, placed_member, tail_text, text_after}
+use Rattle.oim_json.specs.Lines.{LinesAreMembers, cut_at_line_feeds, with_commas}
+use Rattle.oim_json.specs.declared.layout.Layout.TheVariants.{Lines}
 
 both : (s t : List ℕ) → Lacks 10 s → Lacks 10 t → Lacks 10 (s ++ t)
 both [] t h k = k
@@ -114,3 +117,90 @@ member_line f =
 pub facts_line : (fs : List Fact) → Lacks 10 (facts_text fs)
 unfolding facts_text
 facts_line fs = joined_line (map member_text fs) (each member_text member_line fs)
+
+-- THE HEAD
+
+namespace_line : (n : List ℕ × List ℕ) → Lacks 10 (namespace_text n)
+unfolding namespace_text
+namespace_line n =
+    let name : Lacks 10 (quoted n.0 ++ codes ":") = both (quoted n.0) (codes ":") (quoted_line n.0) (fixed (codes ":") refl) in
+    both (quoted n.0 ++ codes ":") (quoted n.1) name (quoted_line n.1)
+
+base_url_line : (url : Option (List ℕ)) → Lacks 10 (base_url_text url)
+unfolding base_url_text
+base_url_line (Some url) = both (codes "\"baseURL\":" ++ quoted url) (codes ",") (both (codes "\"baseURL\":") (quoted url) (fixed (codes "\"baseURL\":") refl) (quoted_line url)) (fixed (codes ",") refl)
+base_url_line None = tt
+
+pub head_line : (r : ReportValue) → Lacks 10 (head_text r)
+unfolding head_text
+head_line r =
+    let first = codes "{\"documentInfo\":{" in
+    let type = codes "\"documentType\":\"https://xbrl.org/2021/xbrl-json\",\"namespaces\":{" in
+    let names = joined (map namespace_text r.namespaces) in
+    let taxonomy = joined (map quoted r.info.taxonomy) in
+    let to_url = first ++ base_url_text r.info.base_url in
+    let to_type = to_url ++ type in
+    let to_names = to_type ++ names in
+    let to_opened = to_names ++ codes "},\"taxonomy\":[" in
+    let to_taxonomy = to_opened ++ taxonomy in
+    let line_url : Lacks 10 to_url = both first (base_url_text r.info.base_url) (fixed first refl) (base_url_line r.info.base_url) in
+    let line_type : Lacks 10 to_type = both to_url type line_url (fixed type refl) in
+    let line_names : Lacks 10 to_names = both to_type names line_type (joined_line (map namespace_text r.namespaces) (each namespace_text namespace_line r.namespaces)) in
+    let line_opened : Lacks 10 to_opened = both to_names (codes "},\"taxonomy\":[") line_names (fixed (codes "},\"taxonomy\":[") refl) in
+    let line_taxonomy : Lacks 10 to_taxonomy = both to_opened taxonomy line_opened (joined_line (map quoted r.info.taxonomy) (each quoted quoted_line r.info.taxonomy)) in
+    both to_taxonomy (codes "]},\"facts\":{") line_taxonomy (fixed (codes "]},\"facts\":{") refl)
+
+-- A DOCUMENT IN LINES
+
+-- lines, each behind a line feed
+abbrev behind_feeds : List (List ℕ) → List ℕ
+behind_feeds [] = []
+behind_feeds (l ∷ ls) = 10 ∷ (l ++ behind_feeds ls)
+
+feeds_append : (ls ks : List (List ℕ)) → behind_feeds (ls ++ ks) ≡ behind_feeds ls ++ behind_feeds ks
+feeds_append [] ks = refl
+feeds_append (l ∷ ls) ks = ap (λ t. 10 ∷ (l ++ t)) (feeds_append ls ks) ∙ ap (λ t. 10 ∷ t) (sym (append_assoc l (behind_feeds ls) (behind_feeds ks)))
+
+cut_last : (s : List ℕ) → Lacks 10 s → slice_split (λ b. b == 10) s ≡ s ∷ []
+cut_last [] h = refl
+cut_last (x ∷ s) h = rw (h.0, cut_last s h.1)
+
+cut_first : (s t : List ℕ) → Lacks 10 s → slice_split (λ b. b == 10) (s ++ 10 ∷ t) ≡ s ∷ slice_split (λ b. b == 10) t
+cut_first [] t h = refl
+cut_first (x ∷ s) t h = rw (h.0, cut_first s t h.1)
+
+-- a line and others are cut into what they are
+cut_all : (l : List ℕ) (ls : List (List ℕ)) → Lacks 10 l → AllByRecursion (Lacks 10) ls → cut_at_line_feeds (l ++ behind_feeds ls) ≡ l ∷ ls
+cut_all l [] h hs = ap cut_at_line_feeds (append-nil l) ∙ cut_last l h
+cut_all l (k ∷ ks) h hs = cut_first l (k ++ behind_feeds ks) h ∙ ap (λ t. l ∷ t) (cut_all k ks hs.0 hs.1)
+
+all_both : (ls ks : List (List ℕ)) → AllByRecursion (Lacks 10) ls → AllByRecursion (Lacks 10) ks → AllByRecursion (Lacks 10) (ls ++ ks)
+all_both [] ks h k = k
+all_both (l ∷ ls) ks h k = (h.0, all_both ls ks h.1 k)
+
+lines_of : (fs : List Fact) → members Lines fs ≡ behind_feeds (with_commas (map member_text fs))
+unfolding members
+lines_of fs = go fs
+  where
+    go : (fs : List Fact) → joined (map (placed_member Lines) fs) ≡ behind_feeds (with_commas (map member_text fs))
+    go [] = refl
+    go (f ∷ []) = ap (λ t. 10 ∷ t) (sym (append-nil (member_text f)))
+    go (f ∷ g ∷ gs) =
+        let rest = behind_feeds (with_commas (map member_text (g ∷ gs))) in
+        ap (λ t. 10 ∷ (member_text f ++ (44 ∷ t))) (go (g ∷ gs)) ∙ ap (λ t. 10 ∷ t) (sym (append_assoc (member_text f) (codes ",") rest))
+
+commas_line : (fs : List Fact) → AllByRecursion (Lacks 10) (with_commas (map member_text fs))
+commas_line [] = tt
+commas_line (f ∷ []) = (member_line f, tt)
+commas_line (f ∷ g ∷ gs) = (both (member_text f) (codes ",") (member_line f) (fixed (codes ",") refl), commas_line (g ∷ gs))
+
+pub lines_cut : LinesAreMembers
+lines_cut r fs =
+    let head = head_text r in
+    let ls = with_commas (map member_text fs) in
+    let ends = codes "}}" ∷ [] ∷ [] in
+    let finished : text_after Lines head fs ++ tail_text Lines ≡ head ++ behind_feeds (ls ++ ends) =
+    append_assoc head (members Lines fs) (tail_text Lines) ∙ ap (λ t. head ++ (t ++ tail_text Lines)) (lines_of fs) ∙ ap (λ t. head ++ t) (sym (feeds_append ls ends)) in (
+      ap (λ t. cut_at_line_feeds (head ++ t)) (lines_of fs) ∙ cut_all head ls (head_line r) (commas_line fs),
+      ap cut_at_line_feeds finished ∙ cut_all head (ls ++ ends) (head_line r) (all_both ls ends (commas_line fs) (fixed (codes "}}") refl, (tt, tt))),
+    )

@@ -1,9 +1,12 @@
--- The text of facts stands on one line: a line feed in a fact is written `\n`. So a reader may cut a text of facts at line feeds that were put between them, and at no other place.
-use Rattle.std.specs.Prelude.{ℕ, List}
+-- The text of facts stands on one line: a line feed in a fact is written `\n`. So a reader may cut a document in lines at its line feeds, and finds whole members.
+use Rattle.std.specs.Prelude.{◌≡◌, ◌==◌, ℕ, List, [], ◌∷◌, ◌++◌, map, codes}
+use Rattle.std.specs.List.{slice_split}
+use Rattle.oim_meta.specs.ReportValue.{ReportValue}
 use Rattle.oim_names.specs.QName.{Lacks}
 use Rattle.oim_resolve.specs.declared.fact.Fact.{Fact}
-use Rattle.oim_json.specs.JsonText.{member_text}
-use Rattle.oim_json.specs.Document.{facts_text}
+use Rattle.oim_json.specs.JsonText.{head_text, member_text}
+use Rattle.oim_json.specs.Document.{facts_text, tail_text, text_after}
+use Rattle.oim_json.specs.declared.layout.Layout.TheVariants.{Lines}
 
 -- no line feed
 abbrev pub IsOneLine : List ℕ → Type 0
@@ -15,3 +18,24 @@ FactsAreOneLine = (f : Fact) → IsOneLine (member_text f)
 -- the texts of facts joined by commas
 abbrev pub FactListsAreOneLine : Type 0
 FactListsAreOneLine = (fs : List Fact) → IsOneLine (facts_text fs)
+
+-- a text, cut at its line feeds: each line, and what stands behind the last line feed
+abbrev pub cut_at_line_feeds : List ℕ → List (List ℕ)
+cut_at_line_feeds text = slice_split (λ b. b == 10) text
+
+-- texts, each with the comma behind it, but the last
+abbrev pub with_commas : List (List ℕ) → List (List ℕ)
+with_commas [] = []
+with_commas (t ∷ []) = t ∷ []
+with_commas (t ∷ u ∷ ts) = (t ++ codes ",") ∷ with_commas (u ∷ ts)
+
+-- the lines of a document that ends after these facts: its head, and each fact's text with its comma
+abbrev pub lines_after : ReportValue → List Fact → List (List ℕ)
+lines_after report facts = head_text report ∷ with_commas (map member_text facts)
+
+-- a document in lines is cut into these, whether it ends after its facts or is finished: then the closing braces are its last line
+abbrev pub LinesAreMembers : Type 0
+LinesAreMembers =
+    (report : ReportValue) (facts : List Fact)
+    → (cut_at_line_feeds (text_after Lines (head_text report) facts) ≡ lines_after report facts)
+    × (cut_at_line_feeds (text_after Lines (head_text report) facts ++ tail_text Lines) ≡ lines_after report facts ++ codes "}}" ∷ [] ∷ [])

@@ -2,9 +2,10 @@
 
 ghost use Rattle.std.specs.Prelude.{◌≡◌, ◌≤◌, ◌<◌, ◌+◌, [], Some, drop, take, length, option_map, slice_get, slice_range, IfOk};
 ghost use Rattle.oim_json.specs.Blocks.{behind_commas, ends_from};
-ghost use Rattle.oim_json.specs.Document.{facts_text};
+ghost use Rattle.oim_json.specs.Document.{facts_text, more_members};
 ghost use Rattle.oim_json.specs.JsonText.{member_text};
 ghost use Rattle.oim_json.specs.Lines.{IsOneLine};
+ghost use Rattle.oim_json.specs.declared.layout.Layout.TheVariants.{Compact};
 
 use crate::member::push_member;
 use oim_names::Items;
@@ -84,6 +85,15 @@ impl Block {
         ensures one_line { IsOneLine result.now }
     {
         without_first(self.bytes.as_slice())
+    }
+
+    /// The members of the facts in a compact document, behind those that it has already, if it has
+    /// `any`.
+    pub(crate) fn bytes_behind(&self, any: bool) -> &[u8]
+        ensures { result.now ≡ more_members Compact any self.now }
+    {
+        let bytes = self.bytes.as_slice();
+        if any { bytes } else { without_first(bytes) }
     }
 
     /// The text of the fact at a place, counted from 0: its identifier and its object.

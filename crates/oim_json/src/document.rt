@@ -1,24 +1,30 @@
+//! What stands before and after the members of a document.
+
 ghost use Rattle.std.specs.Prelude.{◌≡◌, ◌++◌, IfOk, OnOk};
 ghost use Rattle.oim_json.specs.Document.{tail_text};
 ghost use Rattle.oim_json.specs.JsonText.{base_url_text, head_text};
 
+use crate::layout::Layout;
 use crate::write::{push_bindings, push_joined, push_text};
 use oim_meta::Report;
 use oim_names::Text;
 use std::alloc::{AllocError, Global};
 
-/// What stands after the facts: two closing braces and a line feed.
+/// What stands after the members of a compact document: two closing braces and a line feed.
 pub const TAIL: &[u8] = b"}}\n";
 
-/// What stands after the facts, `TAIL`.
-pub fn tail() -> &'static [u8]
-    ensures { result.now ≡ tail_text }
+/// What stands after the members: `TAIL`, in lines behind a line feed.
+pub fn tail(layout: Layout) -> &'static [u8]
+    ensures { result.now ≡ tail_text layout }
 {
-    TAIL
+    match layout {
+        Layout::Compact => TAIL,
+        Layout::Lines => b"\n}}\n",
+    }
 }
 
-/// What stands before the facts: the report's information in xBRL-JSON 1.0. Fails where memory is
-/// short.
+/// What stands before the members: the report's information in xBRL-JSON 1.0, on one line. Fails
+/// where memory is short.
 pub fn head(alloc: Global, report: &Report) -> Result<Vec<u8>, AllocError>
     ensures { IfOk result (λ bytes. bytes.items ≡ head_text report.now) }
 {

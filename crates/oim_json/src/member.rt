@@ -1,3 +1,5 @@
+//! The text of one fact.
+
 ghost use Rattle.std.specs.Prelude.{◌≡◌, ◌++◌, IfOk, OnOk};
 ghost use Rattle.oim_json.specs.JsonText.{decimals_text, member_text};
 ghost use Rattle.oim_json.specs.Lines.{IsOneLine};

@@ -1,7 +1,11 @@
-use crate::{Member, TAIL, block_of, member_of};
+//! Texts and writes on worked facts.
+
+use crate::{Layout, Marked, Member, TAIL, block_of, member_of, tail, write_members};
 use oim_names::{Items, Text};
 use oim_resolve::Fact;
 use std::alloc::{AllocError, Global};
+use std::io;
+use std::io::Write;
 use std::test::Fail;
 
 fn text(alloc: Global, s: &str) -> Result<Text, AllocError> {
@@ -47,6 +51,54 @@ fn joins_a_block(rt: HostRuntime) -> Result<(), Fail> {
     assert!(rt; block.count() == 2);
     assert!(rt; block.bytes() == joined.as_slice());
     assert!(rt; TAIL == b"}}\n".as_slice());
+    assert!(rt; TAIL == tail(Layout::Compact));
     is_sent(block);
+    Ok(())
+}
+
+/// A writer that takes all bytes, and counts its calls.
+#[derive(Drop)]
+struct Counting {
+    taken: Vec<u8>,
+    calls: usize,
+}
+
+impl Write for Counting {
+    fn write(&mut self, bytes: &[u8]) -> io::Result<usize> {
+        self.taken.extend_from_slice(bytes)?;
+        self.calls = self.calls.saturating_add(1);
+        Ok(bytes.len())
+    }
+
+    fn flush(&mut self) -> io::Result<()> {
+        Ok(())
+    }
+}
+
+#[test]
+fn writes_lines_a_chunk_at_a_time(rt: HostRuntime) -> Result<(), Fail> {
+    let member = member_of(rt.alloc(), &sample(rt.alloc())?)?;
+    let mut facts = Vec::new(rt.alloc());
+    let mut expected = Vec::new(rt.alloc());
+    for i in 0..100 {
+        facts.push(sample(rt.alloc())?)?;
+        if i > 0 {
+            expected.push(b',')?;
+        }
+        expected.push(b'\n')?;
+        expected.extend_from_slice(member.bytes())?;
+    }
+    let facts = Items::from_vec(facts);
+    assert!(rt; facts.len() >= 1 && facts.len() <= 256);
+    let block = block_of(rt.alloc(), &facts)?;
+    let mut writer = Counting {
+        taken: Vec::new(rt.alloc()),
+        calls: 0,
+    };
+    let written = write_members(&mut Marked::new(&mut writer), Layout::Lines, false, &block);
+    assert!(rt; written.is_ok());
+    assert!(rt; writer.taken.as_slice() == expected.as_slice());
+    assert!(rt; expected.len() > 8192);
+    assert!(rt; writer.calls == 2);
     Ok(())
 }

@@ -2,6 +2,7 @@
 -- xBRL-CSV 1.0 (a report is the facts of its tables), xBRL-JSON 1.0 (the document).
 use Rattle.std.specs.Prelude.{ℕ, List, [], ◌∷◌, ◌++◌}
 use Rattle.oim_json.specs.Document.{tail_text, text_after}
+use Rattle.oim_json.specs.declared.layout.Layout.{Layout}
 use Rattle.oim_resolve.specs.declared.fact.Fact.{Fact}
 use Rattle.oim_ring.specs.declared.item.Ending.TheVariants.{Closed, Refused}
 use Rattle.oim_ring.specs.declared.item.Item.{Item}
@@ -28,14 +29,14 @@ facts_before (Ending Closed ∷ items) = facts_before items
 facts_before (Ending (Refused fault) ∷ items) = []
 
 -- the tail stands exactly where nothing is refused
-abbrev pub tail_for : List TableFault → List ℕ
-tail_for [] = tail_text
-tail_for (fault ∷ faults) = []
+abbrev pub tail_for : Layout → List TableFault → List ℕ
+tail_for layout [] = tail_text layout
+tail_for layout (fault ∷ faults) = []
 
 -- a document up to the end of these items
-abbrev pub unfinished : List ℕ → List Item → List ℕ
-unfinished head items = text_after head (facts_before items)
+abbrev pub unfinished : Layout → List ℕ → List Item → List ℕ
+unfinished layout head items = text_after layout head (facts_before items)
 
 -- the head, the facts before the first refusal, and the tail exactly where all endings are Closed
-abbrev pub document : List ℕ → List (List Item) → List ℕ
-document head hs = unfinished head (all_of hs) ++ tail_for (refusals (all_of hs))
+abbrev pub document : Layout → List ℕ → List (List Item) → List ℕ
+document layout head hs = unfinished layout head (all_of hs) ++ tail_for layout (refusals (all_of hs))

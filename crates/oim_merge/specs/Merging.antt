@@ -1,6 +1,7 @@
 -- What a merge does.
 use Rattle.std.specs.Prelude.{◌≡◌, ℕ, List, [], All, map}
 use Rattle.oim_json.specs.Sinks.{SinkView, Broke, Wrote}
+use Rattle.oim_json.specs.declared.layout.Layout.{Layout}
 use Rattle.oim_merge.specs.declared.progress.MergeEnd.{MergeEnd}
 use Rattle.oim_merge.specs.declared.progress.MergeEnd.TheVariants.{Complete, Refused, Write}
 use Rattle.oim_merge.specs.Histories.{all_of, document, refusals}
@@ -30,6 +31,7 @@ EndsWith old new text faults Complete = (faults ≡ []) × Wrote old new text
 EndsWith old new text faults Refused = (¬ (faults ≡ [])) × Wrote old new text
 EndsWith old new text faults (Write fault) = Broke old new text fault
 
--- these histories are merged behind this head: the faults are those of all refusals, in order, and what is written is the document
-abbrev pub Merges : SinkView → SinkView → List ℕ → List (List Item) → List TableFault → MergeEnd → Type 0
-Merges old new head hs faults end = (faults ≡ refusals (all_of hs)) × EndsWith old new (document head hs) faults end
+-- these histories are merged behind this head: the faults are those of all refusals, in order, and what is written is the document in
+-- this layout
+abbrev pub Merges : Layout → SinkView → SinkView → List ℕ → List (List Item) → List TableFault → MergeEnd → Type 0
+Merges layout old new head hs faults end = (faults ≡ refusals (all_of hs)) × EndsWith old new (document layout head hs) faults end

@@ -1,7 +1,8 @@
 -- How the writing goes on.
-use Rattle.std.specs.Prelude.{◌≡◌, ℕ, List, [], ◌∷◌, ◌++◌, Bool, true, false}
+use Rattle.std.specs.Prelude.{◌≡◌, ℕ, List, [], ◌++◌, Bool, false}
+use Rattle.oim_json.specs.Document.{has_any}
 use Rattle.oim_json.specs.Sinks.{SinkView, Broke, Wrote}
-use Rattle.oim_resolve.specs.declared.fact.Fact.{Fact}
+use Rattle.oim_json.specs.declared.layout.Layout.{Layout}
 use Rattle.oim_ring.specs.declared.item.Item.{Item}
 use Rattle.oim_merge.specs.declared.progress.MergeEnd.{MergeEnd}
 use Rattle.oim_merge.specs.declared.progress.Progress.{Progress}
@@ -10,30 +11,26 @@ use Rattle.oim_merge.specs.declared.progress.Standing.TheVariants as standings
 use Rattle.oim_merge.specs.Histories.{all_of, refusals, unfinished, document, facts_before}
 use Rattle.oim_merge.specs.Merging.{EndsWith}
 
-abbrev pub has_any : List Fact → Bool
-has_any [] = false
-has_any (f ∷ fs) = true
-
 -- where the writing stands once these items were taken, from the sink as it was at first
-abbrev pub StandsAt : SinkView → SinkView → List ℕ → List Item → Bool → Standing → Type 0
-StandsAt first now head items any standings.Open = (refusals items ≡ []) × (any ≡ has_any (facts_before items)) × Wrote first now (unfinished head items)
-StandsAt first now head items any standings.Refused = (¬ (refusals items ≡ [])) × Wrote first now (unfinished head items)
-StandsAt first now head items any (standings.Broken fault) = Broke first now (unfinished head items) fault
+abbrev pub StandsAt : Layout → SinkView → SinkView → List ℕ → List Item → Bool → Standing → Type 0
+StandsAt layout first now head items any standings.Open = (refusals items ≡ []) × (any ≡ has_any false (facts_before items)) × Wrote first now (unfinished layout head items)
+StandsAt layout first now head items any standings.Refused = (¬ (refusals items ≡ [])) × Wrote first now (unfinished layout head items)
+StandsAt layout first now head items any (standings.Broken fault) = Broke first now (unfinished layout head items) fault
 
 -- wherever the writing stood, it now stands these items further
-abbrev pub Advances : Progress → Progress → SinkView → SinkView → List Item → Type 0
-Advances old new was now items =
+abbrev pub Advances : Layout → Progress → Progress → SinkView → SinkView → List Item → Type 0
+Advances layout old new was now items =
     (first : SinkView) (head : List ℕ) (before : List Item)
-    → StandsAt first was head before old.any old.standing
-    → StandsAt first now head (before ++ items) new.any new.standing
+    → StandsAt layout first was head before old.any old.standing
+    → StandsAt layout first now head (before ++ items) new.any new.standing
 
--- the head is written
+-- the head is written, which is the same in each layout
 abbrev pub Begins : List ℕ → SinkView → SinkView → Progress → Type 0
-Begins head old new progress = StandsAt old new head [] progress.any progress.standing
+Begins head old new progress = (layout : Layout) → StandsAt layout old new head [] progress.any progress.standing
 
 -- the end that fits, wherever the writing stood
-abbrev pub Ends : Progress → SinkView → SinkView → MergeEnd → Type 0
-Ends progress was now end =
+abbrev pub Ends : Layout → Progress → SinkView → SinkView → MergeEnd → Type 0
+Ends layout progress was now end =
     (first : SinkView) (head : List ℕ) (hs : List (List Item))
-    → StandsAt first was head (all_of hs) progress.any progress.standing
-    → EndsWith first now (document head hs) (refusals (all_of hs)) end
+    → StandsAt layout first was head (all_of hs) progress.any progress.standing
+    → EndsWith first now (document layout head hs) (refusals (all_of hs)) end

@@ -1,8 +1,8 @@
 //! Merging the rings.
 
 ghost use Rattle.std.specs.Prelude.{◌≡◌, ◌≤◌, ◌<◌, ◌+◌, ◌++◌, List, [], ◌∷◌, length, vec_len, vec_capacity};
-ghost use Rattle.oim_json.specs.Document.{piece};
-ghost use Rattle.oim_json.specs.Sinks.{SinkView, WritesAll, sink_at};
+ghost use Rattle.oim_json.specs.Sinks.{SinkView, sink_at};
+ghost use Rattle.oim_json.specs.declared.layout.Layout.{Layout};
 ghost use Rattle.oim_merge.specs.Histories.{refusals};
 ghost use Rattle.oim_merge.specs.Merging.{IsFresh, EndEach, Merges, rings_of, taken_of};
 ghost use Rattle.oim_merge.specs.Steps.{Advances, Begins, Ends};
@@ -10,15 +10,16 @@ ghost use Rattle.oim_ring.specs.Items.{EndsOnce};
 ghost use Rattle.oim_ring.specs.declared.item.Item.TheVariants as items;
 
 use crate::progress::{MergeEnd, Progress, Standing};
-use oim_json::{Block, Sink, WriteFault, tail, write_all_of};
+use oim_json::{Block, Layout, Sink, tail, write_all_of, write_members};
 use oim_ring::{Drain, Ending, Item};
 use oim_rows::TableFault;
 use std::sync::Wait;
 
-/// Writes the document that begins with this head and has the facts of all drains, in order. It takes
-/// each drain to its ending and no further, writes until a refusal or a write fault, and after that
-/// only drains. Nothing may have been taken from any drain. It waits for items, and takes no memory
-/// beyond what the sink takes: `faults` is empty and has room for one fault of each drain.
+/// Writes the document that begins with this head and has the facts of all drains, in order, in the
+/// layout asked for. It takes each drain to its ending and no further, writes until a refusal or a
+/// write fault, and after that only drains. Nothing may have been taken from any drain. It waits for
+/// items, and takes no memory beyond what the sink takes: `faults` is empty and has room for one
+/// fault of each drain.
 ///
 /// Whatever the end is, `faults` then holds the fault of each drain that ended refused, in their
 /// order. Complete: every drain ended closed, and the document is whole. Refused: a drain ended
@@ -29,6 +30,7 @@ pub fn merge<R: Wait, W: Sink>(
     drains: &mut [Drain],
     head: &[u8],
     faults: &mut Vec<TableFault>,
+    layout: Layout,
     sink: &mut W,
 ) -> MergeEnd
     requires fresh { IsFresh drains.old }
@@ -36,13 +38,13 @@ pub fn merge<R: Wait, W: Sink>(
     requires room { length drains.old ≤ vec_capacity faults.old }
     ensures rings { rings_of drains.new ≡ rings_of drains.old }
     ensures ended { EndEach (taken_of drains.new) }
-    ensures merged { Merges (sink_at (W.mark sink.old) (W.told sink.old)) (sink_at (W.mark sink.new) (W.told sink.new)) head.now (taken_of drains.new) faults.new.items result }
+    ensures merged { Merges layout (sink_at (W.mark sink.old) (W.told sink.old)) (sink_at (W.mark sink.new) (W.told sink.new)) head.now (taken_of drains.new) faults.new.items result }
 {
     let mut progress = begin(head, sink);
     for drain in drains.iter_mut() {
-        take_all(rt, drain, &mut progress, faults, sink);
+        take_all(rt, drain, &mut progress, faults, layout, sink);
     }
-    finish(progress, sink)
+    finish(progress, layout, sink)
 }
 
 // Writes the head.
@@ -65,6 +67,7 @@ fn take_all<R: Wait, W: Sink>(
     drain: &mut Drain,
     progress: &mut Progress,
     faults: &mut Vec<TableFault>,
+    layout: Layout,
     sink: &mut W,
 )
     requires fresh { drain.old.taken ≡ [] }
@@ -74,12 +77,12 @@ fn take_all<R: Wait, W: Sink>(
     ensures faults { faults.new.items ≡ faults.old.items ++ refusals drain.new.taken }
     ensures count { vec_len faults.new ≤ vec_len faults.old + 1 }
     ensures room { vec_capacity faults.new ≡ vec_capacity faults.old }
-    ensures advances { Advances progress.old progress.new (sink_at (W.mark sink.old) (W.told sink.old)) (sink_at (W.mark sink.new) (W.told sink.new)) drain.new.taken }
+    ensures advances { Advances layout progress.old progress.new (sink_at (W.mark sink.old) (W.told sink.old)) (sink_at (W.mark sink.new) (W.told sink.new)) drain.new.taken }
 {
     for _ in rt.forever() {
         match drain.take() {
             None => drain.wait(rt),
-            Some(Item::Block(block)) => write_block(&block, progress, sink),
+            Some(Item::Block(block)) => write_block(&block, progress, layout, sink),
             Some(Item::Ending(ending)) => {
                 end_table(ending, progress, faults);
                 return;
@@ -90,30 +93,17 @@ fn take_all<R: Wait, W: Sink>(
 }
 
 // Writes a block while the document is written. A block has one fact at least.
-fn write_block<W: Sink>(block: &Block, progress: &mut Progress, sink: &mut W)
-    ensures { Advances progress.old progress.new (sink_at (W.mark sink.old) (W.told sink.old)) (sink_at (W.mark sink.new) (W.told sink.new)) (items.Block block.now ∷ []) }
+fn write_block<W: Sink>(block: &Block, progress: &mut Progress, layout: Layout, sink: &mut W)
+    ensures { Advances layout progress.old progress.new (sink_at (W.mark sink.old) (W.told sink.old)) (sink_at (W.mark sink.new) (W.told sink.new)) (items.Block block.now ∷ []) }
 {
     let any = block.count() > 0;
     match progress.standing {
-        Standing::Open => match write_piece(block.bytes(), progress.any, sink) {
+        Standing::Open => match write_members(sink, layout, progress.any, block) {
             Ok(()) => progress.any = any,
             Err(fault) => progress.standing = Standing::Broken(fault),
         },
         Standing::Refused => {}
         Standing::Broken(_) => {}
-    }
-}
-
-// Writes a text, behind a comma unless it is the first.
-fn write_piece<W: Sink>(bytes: &[u8], any: bool, sink: &mut W) -> Result<(), WriteFault>
-    ensures { WritesAll (W.mark sink.old) (W.mark sink.new) (W.told sink.old) (W.told sink.new) result (piece any bytes.now) }
-{
-    if !any {
-        return write_all_of(sink, bytes);
-    }
-    match write_all_of(sink, b",") {
-        Ok(()) => write_all_of(sink, bytes),
-        Err(fault) => Err(fault),
     }
 }
 
@@ -123,7 +113,7 @@ fn end_table(ending: Ending, progress: &mut Progress, faults: &mut Vec<TableFaul
     ensures faults { faults.new.items ≡ faults.old.items ++ refusals (items.Ending ending ∷ []) }
     ensures count { vec_len faults.new ≤ vec_len faults.old + 1 }
     ensures room { vec_capacity faults.new ≡ vec_capacity faults.old }
-    ensures advances { (sink : SinkView) → Advances progress.old progress.new sink sink (items.Ending ending ∷ []) }
+    ensures advances { (layout : Layout) (sink : SinkView) → Advances layout progress.old progress.new sink sink (items.Ending ending ∷ []) }
 {
     match ending {
         Ending::Closed => {}
@@ -139,11 +129,11 @@ fn end_table(ending: Ending, progress: &mut Progress, faults: &mut Vec<TableFaul
 }
 
 // Writes the tail where the document is whole.
-fn finish<W: Sink>(progress: Progress, sink: &mut W) -> MergeEnd
-    ensures { Ends progress (sink_at (W.mark sink.old) (W.told sink.old)) (sink_at (W.mark sink.new) (W.told sink.new)) result }
+fn finish<W: Sink>(progress: Progress, layout: Layout, sink: &mut W) -> MergeEnd
+    ensures { Ends layout progress (sink_at (W.mark sink.old) (W.told sink.old)) (sink_at (W.mark sink.new) (W.told sink.new)) result }
 {
     match progress.standing {
-        Standing::Open => match write_all_of(sink, tail()) {
+        Standing::Open => match write_all_of(sink, tail(layout)) {
             Ok(()) => MergeEnd::Complete,
             Err(fault) => MergeEnd::Write(fault),
         },

@@ -9,23 +9,23 @@ returns-in-Ok g c = λ first head hs st.
     let now = sink_at (g.W.Sink.mark c.args.sink.now) (g.W.Sink.told c.args.sink.now) in
     let later = sink_at (g.W.Sink.mark c.write_all_of.new.sink) (g.W.Sink.told c.write_all_of.new.sink) in
     let wrote = rw c.tail.ensures at c.in-Ok.ensures in
-    tail_written first now later head hs c.args.progress.any (stands_as first now head (all_of hs) c.args.progress.any c.args.progress.standing standings.Open c.in-Open.is st) wrote
+    tail_written c.args.layout first now later head hs c.args.progress.any (stands_as c.args.layout first now head (all_of hs) c.args.progress.any c.args.progress.standing standings.Open c.in-Open.is st) wrote
 
 pub returns-in-Err : goal.returns-in-Err
 returns-in-Err g c = λ first head hs st.
     let now = sink_at (g.W.Sink.mark c.args.sink.now) (g.W.Sink.told c.args.sink.now) in
     let later = sink_at (g.W.Sink.mark c.write_all_of.new.sink) (g.W.Sink.told c.write_all_of.new.sink) in
     let broke = rw c.tail.ensures at c.in-Err.ensures in
-    tail_broken first now later head hs c.args.progress.any c.in-Err.fault
-    (stands_as first now head (all_of hs) c.args.progress.any c.args.progress.standing standings.Open c.in-Open.is st) broke
+    tail_broken c.args.layout first now later head hs c.args.progress.any c.in-Err.fault
+    (stands_as c.args.layout first now head (all_of hs) c.args.progress.any c.args.progress.standing standings.Open c.in-Open.is st) broke
 
 pub returns-in-Refused : goal.returns-in-Refused
 returns-in-Refused g c = λ first head hs st.
     let now = sink_at (g.W.Sink.mark c.args.sink.now) (g.W.Sink.told c.args.sink.now) in
-    was_refused first now head hs c.args.progress.any (stands_as first now head (all_of hs) c.args.progress.any c.args.progress.standing standings.Refused c.in-Refused.is st)
+    was_refused c.args.layout first now head hs c.args.progress.any (stands_as c.args.layout first now head (all_of hs) c.args.progress.any c.args.progress.standing standings.Refused c.in-Refused.is st)
 
 pub returns-in-Broken : goal.returns-in-Broken
 returns-in-Broken g c = λ first head hs st.
     let now = sink_at (g.W.Sink.mark c.args.sink.now) (g.W.Sink.told c.args.sink.now) in
-    was_broken first now head hs c.args.progress.any c.in-Broken.fault
-    (stands_as first now head (all_of hs) c.args.progress.any c.args.progress.standing (standings.Broken c.in-Broken.fault) c.in-Broken.is st)
+    was_broken c.args.layout first now head hs c.args.progress.any c.in-Broken.fault
+    (stands_as c.args.layout first now head (all_of hs) c.args.progress.any c.args.progress.standing (standings.Broken c.in-Broken.fault) c.in-Broken.is st)

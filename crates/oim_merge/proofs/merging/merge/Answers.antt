@@ -21,7 +21,7 @@ loop-drain-init g c =
       rings = refl;
       fresh = fresh;
       ended = λ k d lt. absurd (omega arith);
-      stands = subst (λ (l : List Item). StandsAt first now c.args.head.now l c.begin-progress.result.any c.begin-progress.result.standing) (sym none) c.begin-progress.ensures;
+      stands = subst (λ (is : List Item). StandsAt c.args.layout first now c.args.head.now is c.begin-progress.result.any c.begin-progress.result.standing) (sym none) (c.begin-progress.ensures c.args.layout);
       faults = c.requires.empty ∙ sym (ap refusals none);
       count = (let e = ap length c.requires.empty in let len = c.args.faults.now.ok.0 in omega (arith, e, len));
       room = c.requires.room;
@@ -38,7 +38,7 @@ loop-drain-preserved g c =
       rings = rings_set ds i d c.drain-item.result lt c.take_all.ensures.ring ∙ r.rings;
       fresh = fresh_set ds i d lt r.fresh;
       ended = ended_set ds i d lt r.ended c.take_all.ensures.ended;
-      stands = subst (λ (l : List Item). StandsAt first later c.args.head.now l c.take_all.new.progress.any c.take_all.new.progress.standing) (sym more)
+      stands = subst (λ (is : List Item). StandsAt c.args.layout first later c.args.head.now is c.take_all.new.progress.any c.take_all.new.progress.standing) (sym more)
           (c.take_all.ensures.advances first c.args.head.now (all_of (taken_of ds)) r.stands);
       faults = c.take_all.ensures.faults ∙ (ap (λ l. l ++ refusals d.taken) r.faults ∙ sym (ap refusals more ∙ all_refusals (all_of (taken_of ds)) d.taken));
       count = (let n = c.take_all.ensures.count in let m = r.count in omega (arith, n, m));
@@ -55,4 +55,4 @@ returns-clause-merged g c =
     let last = sink_at (g.W.Sink.mark c.finish.new.sink) (g.W.Sink.told c.finish.new.sink) in
     let r = c.loop-drain.invariant in
     let hs = taken_of c.loop-drain.drains in
-    (r.faults, subst (λ fs. EndsWith first last (document c.args.head.now hs) fs c.finish.result) (sym r.faults) (c.finish.ensures first c.args.head.now hs r.stands))
+    (r.faults, subst (λ fs. EndsWith first last (document c.args.layout c.args.head.now hs) fs c.finish.result) (sym r.faults) (c.finish.ensures first c.args.head.now hs r.stands))

@@ -16,7 +16,7 @@ loop-preserved-in-None-take g c =
       ring = e.ring ∙ r.ring;
       blocks = ap blocks_only e.none ∙ r.blocks;
       faults = r.faults;
-      advances = advances_as c.args.progress.now c.loop.progress first now c.loop.drain.taken c.take.new.self.taken e.none r.advances;
+      advances = advances_as c.args.layout c.args.progress.now c.loop.progress first now c.loop.drain.taken c.take.new.self.taken e.none r.advances;
     }
 
 pub loop-preserved : goal.loop-preserved
@@ -29,7 +29,7 @@ loop-preserved g c =
       ring = e.ring ∙ r.ring;
       blocks = ap blocks_only more ∙ blocks_more c.loop.drain.taken c.in-Some-Block.block r.blocks;
       faults = r.faults;
-      advances = advances_twice c.args.progress.now c.loop.progress c.write_block.new.progress first now later c.loop.drain.taken (items.Block c.in-Some-Block.block ∷ []) c.take.new.self.taken more r.advances c.write_block.ensures;
+      advances = advances_twice c.args.layout c.args.progress.now c.loop.progress c.write_block.new.progress first now later c.loop.drain.taken (items.Block c.in-Some-Block.block ∷ []) c.take.new.self.taken more r.advances c.write_block.ensures;
     }
 
 pub returns-in-Some-Ending-clause-faults : goal.returns-in-Some-Ending-clause-faults
@@ -45,5 +45,5 @@ returns-in-Some-Ending-clause-advances g c =
     let more : c.take.new.self.taken ≡ c.loop.drain.taken ++ items.Ending c.in-Some-Ending.ending ∷ [] = e.some ∙ ap (λ x. c.loop.drain.taken ++ x ∷ []) c.in-Some-Ending.field-0-is in
     let first = sink_at (g.W.Sink.mark c.args.sink.now) (g.W.Sink.told c.args.sink.now) in
     let now = sink_at (g.W.Sink.mark c.loop.sink) (g.W.Sink.told c.loop.sink) in
-    advances_twice c.args.progress.now c.loop.progress c.end_table.new.progress first now now c.loop.drain.taken (items.Ending c.in-Some-Ending.ending ∷ []) c.take.new.self.taken more r.advances
-    (c.end_table.ensures.advances now)
+    advances_twice c.args.layout c.args.progress.now c.loop.progress c.end_table.new.progress first now now c.loop.drain.taken (items.Ending c.in-Some-Ending.ending ∷ []) c.take.new.self.taken more r.advances
+    (c.end_table.ensures.advances c.args.layout now)

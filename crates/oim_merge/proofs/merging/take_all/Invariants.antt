@@ -9,5 +9,5 @@ invariant-loop g l = record {
   ring : l.drain.ring ≡ l.fn.drain.ring;
   blocks : blocks_only l.drain.taken ≡ true;
   faults : l.faults ≡ l.fn.faults;
-  advances : Advances l.fn.progress l.progress (sink_at (g.W.Sink.mark l.fn.sink) (g.W.Sink.told l.fn.sink)) (sink_at (g.W.Sink.mark l.sink) (g.W.Sink.told l.sink)) l.drain.taken;
+  advances : Advances l.layout l.fn.progress l.progress (sink_at (g.W.Sink.mark l.fn.sink) (g.W.Sink.told l.fn.sink)) (sink_at (g.W.Sink.mark l.sink) (g.W.Sink.told l.sink)) l.drain.taken;
 }

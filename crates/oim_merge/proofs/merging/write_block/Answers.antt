@@ -10,26 +10,23 @@ use Rattle.oim_merge.proofs.merging.write_block.Goals as goal
 
 pub returns-in-Ok : goal.returns-in-Ok
 returns-in-Ok g c = λ first head before st.
-    let p = c.args.progress.now in let fs = c.args.block.now in
+    let p = c.args.progress.now in let fs = c.args.block.now in let layout = c.args.layout in
     let now = sink_at (g.W.Sink.mark c.args.sink.now) (g.W.Sink.told c.args.sink.now) in
-    let later = sink_at (g.W.Sink.mark c.write_piece.new.sink) (g.W.Sink.told c.write_piece.new.sink) in
-    let wrote = rw c.bytes.ensures.text at c.in-Ok.ensures in
+    let later = sink_at (g.W.Sink.mark c.write_members.new.sink) (g.W.Sink.told c.write_members.new.sink) in
     let some : 1 ≤ length fs = omega (arith, c.count-any.ensures.count, c.count-any.ensures.some) in
-    subst (λ (any : Bool). StandsAt first later head (before ++ items.Block fs ∷ []) any p.standing) (sym (lt-ltb 0 c.count-any.result c.count-any.ensures.some))
-    (stands_as first later head (before ++ items.Block fs ∷ []) true standings.Open p.standing (sym c.in-Open.is)
-    (block_written first now head before p.any later fs some (stands_as first now head before p.any p.standing standings.Open c.in-Open.is st) wrote))
+    subst (λ (any : Bool). StandsAt layout first later head (before ++ items.Block fs ∷ []) any p.standing) (sym (lt-ltb 0 c.count-any.result c.count-any.ensures.some))
+    (stands_as layout first later head (before ++ items.Block fs ∷ []) true standings.Open p.standing (sym c.in-Open.is)
+    (block_written layout first now head before p.any later fs some (stands_as layout first now head before p.any p.standing standings.Open c.in-Open.is st) c.in-Ok.ensures))
 
 pub returns-in-Err : goal.returns-in-Err
 returns-in-Err g c = λ first head before st.
-    let p = c.args.progress.now in let fs = c.args.block.now in
+    let p = c.args.progress.now in let fs = c.args.block.now in let layout = c.args.layout in
     let now = sink_at (g.W.Sink.mark c.args.sink.now) (g.W.Sink.told c.args.sink.now) in
-    let later = sink_at (g.W.Sink.mark c.write_piece.new.sink) (g.W.Sink.told c.write_piece.new.sink) in
-    let wrote = rw c.bytes.ensures.text at c.in-Err.ensures in
-    let some : 1 ≤ length fs = omega (arith, c.count-any.ensures.count, c.count-any.ensures.some) in
-    block_broken first now head before p.any later fs c.in-Err.fault some (stands_as first now head before p.any p.standing standings.Open c.in-Open.is st) wrote
+    let later = sink_at (g.W.Sink.mark c.write_members.new.sink) (g.W.Sink.told c.write_members.new.sink) in
+    block_broken layout first now head before p.any later fs c.in-Err.fault (stands_as layout first now head before p.any p.standing standings.Open c.in-Open.is st) c.in-Err.ensures
 
 pub returns-in-Refused : goal.returns-in-Refused
-returns-in-Refused g c = λ first head before st. over_stays first _ head before _ _ _ (rw c.in-Refused.is tt) st
+returns-in-Refused g c = λ first head before st. over_stays c.args.layout first _ head before _ _ _ (rw c.in-Refused.is tt) st
 
 pub returns-in-Broken : goal.returns-in-Broken
-returns-in-Broken g c = λ first head before st. over_stays first _ head before _ _ _ (rw c.in-Broken.is tt) st
+returns-in-Broken g c = λ first head before st. over_stays c.args.layout first _ head before _ _ _ (rw c.in-Broken.is tt) st

@@ -1,4 +1,4 @@
-use Rattle.std.proofs.Common.{ap, length, arith, ◌∙◌, ◌≡◌, ◌+◌, ◌<◌, take, sym}
+use Rattle.std.proofs.Common.{ap, length, arith, ◌∙◌, ◌+◌, ◌<◌, take}
 use Rattle.oim_json.specs.Blocks.{behind_commas}
 use Rattle.oim_json.proofs.Blocks.{ends_length, no_texts, read_start, start_within}
 use Rattle.oim_json.proofs.block.Block.start_of.Goals as goal

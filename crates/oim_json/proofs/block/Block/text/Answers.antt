@@ -1,4 +1,4 @@
-use Rattle.std.proofs.Common.{ap, length, arith, ◌∙◌, ◌≡◌, ◌+◌, ◌<◌, take, sym, option_map, slice_get, Some}
+use Rattle.std.proofs.Common.{ap, length, arith, ◌∙◌, ◌+◌, ◌<◌, take, sym, option_map, slice_get}
 use Rattle.oim_json.specs.Blocks.{behind_commas}
 use Rattle.oim_json.specs.JsonText.{member_text}
 use Rattle.oim_json.proofs.Blocks.{ends_length, read_end, text_between, text_got}

@@ -1,0 +1,10 @@
+//! How a document is laid out.
+
+/// How a document is laid out. A fact's member stands on one line in both.
+#[derive(Debug, Clone, Copy, PartialEq, Eq)]
+pub enum Layout {
+    /// The whole document on one line.
+    Compact,
+    /// The head, each member and the closing braces, each on a line of its own.
+    Lines,
+}
