@@ -3,6 +3,7 @@ use Rattle.std.specs.Prelude.{◌≡◌, ℕ, false, List, [], ◌∷◌, ◌++�
 use Rattle.std.proofs.Common.{arith, refl, codes, inl, inr}
 use Rattle.oim_json.specs.Document.{tail_text, text_after}
 use Rattle.oim_json.specs.Sinks.{SinkView}
+use Rattle.oim_json.specs.declared.layout.Layout.{Layout}
 use Rattle.oim_merge.specs.Histories.{all_of, document, facts_before, refusals}
 use Rattle.oim_merge.specs.declared.progress.MergeEnd.TheVariants as end
 use Rattle.oim_meta.specs.ReportValue.{ReportValue}
@@ -130,24 +131,24 @@ unfolding whole
 no_faults = refl
 
 -- the document of histories is the head and the facts up to the refusal, with no tail
-unfinished_document : document (codes "head") ((Block (first ∷ second ∷ []) ∷ Ending Closed ∷ []) ∷ (Block (third ∷ []) ∷ Ending (Refused ragged) ∷ []) ∷ [])
-    ≡ text_after (codes "head") (first ∷ second ∷ third ∷ []) ++ []
-unfinished_document = refl
+unfinished_document : (l : Layout) → document l (codes "head") ((Block (first ∷ second ∷ []) ∷ Ending Closed ∷ []) ∷ (Block (third ∷ []) ∷ Ending (Refused ragged) ∷ []) ∷ [])
+    ≡ text_after l (codes "head") (first ∷ second ∷ third ∷ []) ++ []
+unfinished_document l = refl
 
-finished_document : document (codes "head") ((Block (first ∷ []) ∷ Ending Closed ∷ []) ∷ (Ending Closed ∷ []) ∷ []) ≡ text_after (codes "head") (first ∷ []) ++ tail_text
-finished_document = refl
+finished_document : (l : Layout) → document l (codes "head") ((Block (first ∷ []) ∷ Ending Closed ∷ []) ∷ (Ending Closed ∷ []) ∷ []) ≡ text_after l (codes "head") (first ∷ []) ++ tail_text l
+finished_document l = refl
 
 -- two threads that were wanting are two faults
 unserved_faults : refusals (all_of ((Ending (Refused (file_fault 0 kind.NoThread)) ∷ []) ∷ (Ending (Refused (file_fault 1 kind.NoThread)) ∷ []) ∷ [])) ≡ file_fault 0 kind.NoThread ∷ file_fault 1 kind.NoThread ∷ []
 unserved_faults = refl
 
 -- what a report is never answered with
-module _ (report : ReportValue) (old new : SinkView) where
-  not_the_first_alone : IsAnswer report (whole ∷ broken ∷ unread_header ∷ []) old new (ragged ∷ []) end.Refused → ⊥
+module _ (l : Layout) (report : ReportValue) (old new : SinkView) where
+  not_the_first_alone : IsAnswer l report (whole ∷ broken ∷ unread_header ∷ []) old new (ragged ∷ []) end.Refused → ⊥
   unfolding whole broken unread_header
   not_the_first_alone answer = let e = answer.0 in cc
 
-  not_complete : IsAnswer report (whole ∷ broken ∷ []) old new (ragged ∷ []) end.Complete → ⊥
+  not_complete : IsAnswer l report (whole ∷ broken ∷ []) old new (ragged ∷ []) end.Complete → ⊥
   not_complete answer = let e = answer.1.0 in cc
 
 -- WRITING

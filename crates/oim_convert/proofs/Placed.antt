@@ -2,6 +2,7 @@
 use Rattle.std.specs.Prelude.{◌≡◌, ◌<◌, ◌≤◌, ℕ, ◌+◌, List, [], ◌∷◌, ◌++◌, Option, Some, None, Result, Ok, Err, length}
 use Rattle.std.proofs.Common.{arith, refl, ap, sym, ◌∙◌, subst, inl, inr}
 use Rattle.oim_json.specs.Sinks.{SinkView}
+use Rattle.oim_json.specs.declared.layout.Layout.{Layout}
 use Rattle.oim_merge.specs.Histories.{all_of, refusals}
 use Rattle.oim_meta.specs.ReportValue.{ReportValue}
 use Rattle.oim_resolve.specs.declared.fact.Fact.{Fact}
@@ -53,14 +54,14 @@ decoded_below report limit i tables (f ∷ fs) (h ∷ hs) at all =
     (λ x is. let own = given_table i (table_stream report i limit f) d.facts d.ending x d.given (own_table report i limit f) is in omega (arith, own, at))
     (decoded_below report limit (i + 1) tables fs hs (omega (arith, at)) all.1))
 
-pub is_of_tables : (report : ReportValue) (limit tables : ℕ) (fs : List (Option (List ℕ))) (old new : SinkView) (result : Result (Unit {0}) ConvertFault) → length fs ≡ tables
-    → Converts report (streams report limit fs) old new result → IsOfTables tables result
-is_of_tables report limit tables fs old new (Ok u) count c = tt
-is_of_tables report limit tables fs old new (Err (fault.Tables faults)) count c =
-    subst (λ (l : List TableFault). AreBelow tables l) (sym c.merged.0) (decoded_below report limit 0 tables fs c.histories (omega (arith, count)) c.decoded)
-is_of_tables report limit tables fs old new (Err (fault.Write w)) count c = tt
-is_of_tables report limit tables fs old new (Err fault.WrongReaders) count c = tt
-is_of_tables report limit tables fs old new (Err fault.Memory) count c = tt
-is_of_tables report limit tables fs old new (Err fault.BadWorkers) count c = tt
-is_of_tables report limit tables fs old new (Err fault.BadSize) count c = tt
-is_of_tables report limit tables fs old new (Err fault.Lost) count c = tt
+pub is_of_tables : (l : Layout) (report : ReportValue) (limit tables : ℕ) (fs : List (Option (List ℕ))) (old new : SinkView) (result : Result (Unit {0}) ConvertFault) → length fs ≡ tables
+    → Converts l report (streams report limit fs) old new result → IsOfTables tables result
+is_of_tables l report limit tables fs old new (Ok u) count c = tt
+is_of_tables l report limit tables fs old new (Err (fault.Tables faults)) count c =
+    subst (λ (faults : List TableFault). AreBelow tables faults) (sym c.merged.0) (decoded_below report limit 0 tables fs c.histories (omega (arith, count)) c.decoded)
+is_of_tables l report limit tables fs old new (Err (fault.Write w)) count c = tt
+is_of_tables l report limit tables fs old new (Err fault.WrongReaders) count c = tt
+is_of_tables l report limit tables fs old new (Err fault.Memory) count c = tt
+is_of_tables l report limit tables fs old new (Err fault.BadWorkers) count c = tt
+is_of_tables l report limit tables fs old new (Err fault.BadSize) count c = tt
+is_of_tables l report limit tables fs old new (Err fault.Lost) count c = tt

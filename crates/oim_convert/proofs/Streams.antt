@@ -4,6 +4,7 @@ use Rattle.std.proofs.Common.{refl, sym, ap, ◌∙◌, subst, append_assoc, inl
 use Rattle.oim_json.specs.Document.{text_after}
 use Rattle.oim_json.specs.JsonText.{head_text}
 use Rattle.oim_json.specs.Sinks.{SinkView}
+use Rattle.oim_json.specs.declared.layout.Layout.{Layout}
 use Rattle.oim_merge.proofs.Going.{all_refusals, blocks_refusals}
 use Rattle.oim_merge.specs.Histories.{all_of, document, facts_before, refusals, tail_for}
 use Rattle.oim_merge.specs.Merging.{EndsWith, Merges}
@@ -61,16 +62,16 @@ streams_facts (s ∷ ss) (h ∷ hs) all =
     facts_with (facts_of s) (ending_of s.fault) h (all_of hs) all.0
     ∙ ap (λ l. facts_of s ++ l) (behind (ending_of s.fault) (all_of hs) (all_of (histories_of ss)) (streams_facts ss hs all.1))
 
-pub streams_text : (report : ReportValue) (ss : List Stream) (hs : List (List Item)) → AreStreams ss hs → document (head_text report) hs ≡ answer_text report ss
-streams_text report ss hs all =
-    ap (λ fs. text_after (head_text report) fs ++ tail_for (refusals (all_of hs))) (streams_facts ss hs all)
-    ∙ ap (λ fs. text_after (head_text report) (facts_before (all_of (histories_of ss))) ++ tail_for fs) (streams_refusals ss hs all)
+pub streams_text : (l : Layout) (report : ReportValue) (ss : List Stream) (hs : List (List Item)) → AreStreams ss hs → document l (head_text report) hs ≡ answer_text l report ss
+streams_text l report ss hs all =
+    ap (λ fs. text_after l (head_text report) fs ++ tail_for l (refusals (all_of hs))) (streams_facts ss hs all)
+    ∙ ap (λ fs. text_after l (head_text report) (facts_before (all_of (histories_of ss))) ++ tail_for l fs) (streams_refusals ss hs all)
 
 -- what is merged of the streams is the answer
-pub streams_answer : (report : ReportValue) (ss : List Stream) (hs : List (List Item)) (old new : SinkView) (faults : List TableFault) (e : MergeEnd) → AreStreams ss hs
-    → Merges old new (head_text report) hs faults e → IsAnswer report ss old new faults e
-streams_answer report ss hs old new faults e all m =
-    (m.0 ∙ streams_refusals ss hs all, subst (λ (t : List ℕ). EndsWith old new t faults e) (streams_text report ss hs all) m.1)
+pub streams_answer : (l : Layout) (report : ReportValue) (ss : List Stream) (hs : List (List Item)) (old new : SinkView) (faults : List TableFault) (e : MergeEnd) → AreStreams ss hs
+    → Merges l old new (head_text report) hs faults e → IsAnswer l report ss old new faults e
+streams_answer l report ss hs old new faults e all m =
+    (m.0 ∙ streams_refusals ss hs all, subst (λ (t : List ℕ). EndsWith old new t faults e) (streams_text l report ss hs all) m.1)
 
 -- HISTORIES WITHOUT A FAULT
 

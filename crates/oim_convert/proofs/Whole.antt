@@ -2,6 +2,7 @@
 use Rattle.std.specs.Prelude.{◌≡◌, ◌⊎◌, ℕ, ◌+◌, zero, suc, Bool, true, false, List, [], ◌∷◌, ◌++◌, Option, Some, None, Result, Ok, Err, IfOk, length, map, replicate, slice_get}
 use Rattle.std.proofs.Common.{arith, refl, sym, ap, ◌∙◌, subst, inl, inr}
 use Rattle.oim_json.specs.Sinks.{SinkView}
+use Rattle.oim_json.specs.declared.layout.Layout.{Layout}
 use Rattle.oim_merge.specs.Merging.{rings_of}
 use Rattle.oim_meta.specs.ReportValue.{ReportValue}
 use Rattle.oim_resolve.specs.declared.fact.Fact.{Fact}
@@ -184,24 +185,24 @@ threads_of report limit files hs (inr unserved) = inl unserved
 
 -- A RUN
 
-module _ {R : Type 0} (told : R → Option (List ℕ)) (report : ReportValue) (limit : ℕ) (plan : List (Job R)) (readers : List (Option R)) (same : map (λ (job : Job R). job.reader) plan ≡ readers)
+module _ (l : Layout) {R : Type 0} (told : R → Option (List ℕ)) (report : ReportValue) (limit : ℕ) (plan : List (Job R)) (readers : List (Option R)) (same : map (λ (job : Job R). job.reader) plan ≡ readers)
     (count : length readers ≡ length report.tables) (files : List (Option (List ℕ))) (are : AreFilesOf told readers files) (old new : SinkView) where
-  histories : (run : Run) → HasTables told report limit plan run.drains.items → IsRun report (length report.tables) old new run → AreHistories (streams report limit files) run.drains.items
+  histories : (run : Run) → HasTables told report limit plan run.drains.items → IsRun l report (length report.tables) old new run → AreHistories (streams report limit files) run.drains.items
   histories run has writes = tables_are told report limit plan readers same run.drains.items files (writes.count ∙ sym count) are has
 
-  pub run_histories : (r : Result Run ConvertFault) → IfOk r (λ run. HasTables told report limit plan run.drains.items) → Writes report (length report.tables) old new r
+  pub run_histories : (r : Result Run ConvertFault) → IfOk r (λ run. HasTables told report limit plan run.drains.items) → Writes l report (length report.tables) old new r
       → IfOk r (λ run. AreHistories (streams report limit files) run.drains.items)
   run_histories (Ok run) has writes = histories run has writes
   run_histories (Err e) has writes = tt
 
-  pub run_headline : (r : Result Run ConvertFault) → IfOk r (λ run. HasTables told report limit plan run.drains.items) → Writes report (length report.tables) old new r
-      → IfOk r (λ run. AreUncut run.drains.items → AreStreams (streams report limit files) run.drains.items × IsAnswer report (streams report limit files) old new run.faults.items run.end)
+  pub run_headline : (r : Result Run ConvertFault) → IfOk r (λ run. HasTables told report limit plan run.drains.items) → Writes l report (length report.tables) old new r
+      → IfOk r (λ run. AreUncut run.drains.items → AreStreams (streams report limit files) run.drains.items × IsAnswer l report (streams report limit files) old new run.faults.items run.end)
   run_headline (Ok run) has writes = λ uncut.
       let all = uncut_streams (streams report limit files) run.drains.items (histories run has writes) uncut in
-      (all, streams_answer report (streams report limit files) run.drains.items old new run.faults.items run.end all writes.merged)
+      (all, streams_answer l report (streams report limit files) run.drains.items old new run.faults.items run.end all writes.merged)
   run_headline (Err e) has writes = tt
 
-  pub run_threads : (r : Result Run ConvertFault) → IfOk r (λ run. HasTables told report limit plan run.drains.items) → Writes report (length report.tables) old new r
+  pub run_threads : (r : Result Run ConvertFault) → IfOk r (λ run. HasTables told report limit plan run.drains.items) → Writes l report (length report.tables) old new r
       → IfOk r (λ run. AreUnserved 0 (streams report limit files) run.drains.items ⊎ AreThreaded run.drains.items)
   run_threads (Ok run) has writes = threads_of report limit files run.drains.items (histories run has writes)
   run_threads (Err e) has writes = tt

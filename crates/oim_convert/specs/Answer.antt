@@ -3,6 +3,7 @@
 use Rattle.std.specs.Prelude.{ℕ, ◌+◌, List, [], ◌∷◌, ◌++◌, Option, Some, None, map}
 use Rattle.oim_json.specs.JsonText.{head_text}
 use Rattle.oim_json.specs.Sinks.{SinkView}
+use Rattle.oim_json.specs.declared.layout.Layout.{Layout}
 use Rattle.oim_merge.specs.Histories.{document}
 use Rattle.oim_merge.specs.Merging.{Merges}
 use Rattle.oim_merge.specs.declared.progress.MergeEnd.{MergeEnd}
@@ -45,12 +46,12 @@ history_of s = Block (facts_of s) ∷ Ending (ending_of s.fault) ∷ []
 abbrev pub histories_of : List Stream → List (List Item)
 histories_of ss = map history_of ss
 
--- the text that a report with these streams is answered with: the whole document, or the unfinished one up to and with the
+-- the text that a report with these streams is answered with, in this layout: the whole document, or the unfinished one up to and with the
 -- first refused table
-abbrev pub answer_text : ReportValue → List Stream → List ℕ
-answer_text report ss = document (head_text report) (histories_of ss)
+abbrev pub answer_text : Layout → ReportValue → List Stream → List ℕ
+answer_text layout report ss = document layout (head_text report) (histories_of ss)
 
 -- the answer of a report with these streams: the fault of each refused table, in table order; Complete where there is none, else
 -- Refused; and the text. By a failed write, a beginning of the text
-abbrev pub IsAnswer : ReportValue → List Stream → SinkView → SinkView → List TableFault → MergeEnd → Type 0
-IsAnswer report ss old new faults end = Merges old new (head_text report) (histories_of ss) faults end
+abbrev pub IsAnswer : Layout → ReportValue → List Stream → SinkView → SinkView → List TableFault → MergeEnd → Type 0
+IsAnswer layout report ss old new faults end = Merges layout old new (head_text report) (histories_of ss) faults end

@@ -4,7 +4,6 @@ use Rattle.oim_meta.specs.ReportValue.{ReportValue}
 use Rattle.oim_ring.specs.declared.item.Item.{Item}
 use Rattle.oim_convert.specs.Jobs.{Each, IsLane, IsOpened, IsTable}
 use Rattle.oim_convert.specs.Shifts.{IsCrew}
-use Rattle.oim_convert.specs.Working.{HasRoom}
 use Rattle.oim_convert.specs.declared.closing.Places.{Places}
 use Rattle.oim_convert.specs.declared.fault.ConvertFault.{ConvertFault}
 use Rattle.oim_convert.specs.declared.fault.ConvertFault.TheVariants as fault
@@ -24,7 +23,7 @@ pub record IsReady {R T : Type 0} (ready : Ready R T) : Type 0 where
   pub jobs : Each IsOpened 0 ready.crew.claims.items
   pub drains : Each (IsLane ready.crew.claims.items) 0 ready.unmerged.drains.items
   pub count : length ready.unmerged.drains.items ≡ length ready.crew.claims.items
-  pub faults : HasRoom ready.unmerged
+  pub faults : (ready.unmerged.faults.items ≡ []) × (length ready.unmerged.drains.items ≤ vec_capacity ready.unmerged.faults)
   pub places : ArePlaces (length ready.crew.claims.items) ready.crew.claims.workers ready.places
 
 -- the histories of all tables of the plan, which were served by workers or not

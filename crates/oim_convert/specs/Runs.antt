@@ -3,6 +3,7 @@
 use Rattle.std.specs.Prelude.{◌≡◌, ◌⊎◌, ⊤, ℕ, ◌||◌, ◌==◌, nat_lt, if◌then◌else◌, List, [], ◌∷◌, ◌++◌, Option, Some, None, Result, Ok, Err, length}
 use Rattle.oim_json.specs.JsonText.{head_text}
 use Rattle.oim_json.specs.Sinks.{SinkView, Unwritten}
+use Rattle.oim_json.specs.declared.layout.Layout.{Layout}
 use Rattle.oim_merge.specs.Merging.{EndEach, Merges}
 use Rattle.oim_merge.specs.declared.progress.MergeEnd.{MergeEnd}
 use Rattle.oim_meta.specs.ReportValue.{ReportValue}
@@ -78,27 +79,27 @@ AreThreaded [] = ⊤
 AreThreaded (h ∷ hs) = (¬ IsThreadless h) × AreThreaded hs
 
 -- a token was lost: what was written is the document of some histories, one for each table, or a beginning of it
-pub record IsLost (report : ReportValue) (tables : ℕ) (old new : SinkView) : Type 0 where
+pub record IsLost (layout : Layout) (report : ReportValue) (tables : ℕ) (old new : SinkView) : Type 0 where
   pub histories : List (List Item)
   pub count : length histories ≡ tables
   pub ended : EndEach histories
   pub faults : List TableFault
   pub end : MergeEnd
-  pub merged : Merges old new (head_text report) histories faults end
+  pub merged : Merges layout old new (head_text report) histories faults end
 
 -- a run of this many tables: the history of each has one ending, and its faults, its end and what is written are those of the histories
-pub record IsRun (report : ReportValue) (tables : ℕ) (old new : SinkView) (run : Run) : Type 0 where
+pub record IsRun (layout : Layout) (report : ReportValue) (tables : ℕ) (old new : SinkView) (run : Run) : Type 0 where
   pub count : length run.drains.items ≡ tables
   pub ended : EndEach run.drains.items
-  pub merged : Merges old new (head_text report) run.drains.items run.faults.items run.end
+  pub merged : Merges layout old new (head_text report) run.drains.items run.faults.items run.end
 
 -- what is written: the document of the run's histories up to its end; nothing by a fault but Lost
-abbrev pub Writes : ReportValue → ℕ → SinkView → SinkView → Result Run ConvertFault → Type 0
-Writes report tables old new (Ok run) = IsRun report tables old new run
-Writes report tables old new (Err fault.Lost) = IsLost report tables old new
-Writes report tables old new (Err fault.Memory) = Unwritten old new
-Writes report tables old new (Err fault.BadWorkers) = Unwritten old new
-Writes report tables old new (Err fault.BadSize) = Unwritten old new
-Writes report tables old new (Err fault.WrongReaders) = Unwritten old new
-Writes report tables old new (Err (fault.Tables faults)) = ⊥
-Writes report tables old new (Err (fault.Write w)) = ⊥
+abbrev pub Writes : Layout → ReportValue → ℕ → SinkView → SinkView → Result Run ConvertFault → Type 0
+Writes layout report tables old new (Ok run) = IsRun layout report tables old new run
+Writes layout report tables old new (Err fault.Lost) = IsLost layout report tables old new
+Writes layout report tables old new (Err fault.Memory) = Unwritten old new
+Writes layout report tables old new (Err fault.BadWorkers) = Unwritten old new
+Writes layout report tables old new (Err fault.BadSize) = Unwritten old new
+Writes layout report tables old new (Err fault.WrongReaders) = Unwritten old new
+Writes layout report tables old new (Err (fault.Tables faults)) = ⊥
+Writes layout report tables old new (Err (fault.Write w)) = ⊥

@@ -2,6 +2,7 @@
 use Rattle.std.specs.Prelude.{⊤, ◌≡◌, ◌<◌, ℕ, List, [], ◌∷◌, Result, Ok, Err}
 use Rattle.oim_json.specs.JsonText.{head_text}
 use Rattle.oim_json.specs.Sinks.{SinkView, Broke, Unwritten, mark_of}
+use Rattle.oim_json.specs.declared.layout.Layout.{Layout}
 use Rattle.oim_merge.specs.Merging.{Merges}
 use Rattle.oim_merge.specs.declared.progress.MergeEnd.TheVariants as end
 use Rattle.oim_meta.specs.ReportValue.{ReportValue}
@@ -15,22 +16,22 @@ use Rattle.oim_convert.specs.declared.fault.ConvertFault.TheVariants as fault
 
 -- there are histories of these streams, each whole or cut short by a failed read or want of memory; the faults are theirs, in
 -- table order, and what is written is their document
-pub record Refuses (report : ReportValue) (ss : List Stream) (old new : SinkView) (faults : List TableFault) : Type 0 where
+pub record Refuses (layout : Layout) (report : ReportValue) (ss : List Stream) (old new : SinkView) (faults : List TableFault) : Type 0 where
   pub histories : List (List Item)
   pub decoded : AreDecoded 0 ss histories
-  pub merged : Merges old new (head_text report) histories faults end.Refused
+  pub merged : Merges layout old new (head_text report) histories faults end.Refused
 
 -- Ok: the whole document is written, and no table is refused. Tables: the fault of each refused table, with the unfinished document
 -- up to and with the first. Write: a beginning of the defined text. WrongReaders and Memory: nothing is written
-abbrev pub Converts : ReportValue → List Stream → SinkView → SinkView → Result (Unit {0}) ConvertFault → Type 0
-Converts report ss old new (Ok u) = IsAnswer report ss old new [] end.Complete
-Converts report ss old new (Err (fault.Tables faults)) = Refuses report ss old new faults.items
-Converts report ss old new (Err (fault.Write w)) = Broke old new (answer_text report ss) w
-Converts report ss old new (Err fault.WrongReaders) = Unwritten old new
-Converts report ss old new (Err fault.Memory) = Unwritten old new
-Converts report ss old new (Err fault.BadWorkers) = ⊥
-Converts report ss old new (Err fault.BadSize) = ⊥
-Converts report ss old new (Err fault.Lost) = ⊥
+abbrev pub Converts : Layout → ReportValue → List Stream → SinkView → SinkView → Result (Unit {0}) ConvertFault → Type 0
+Converts layout report ss old new (Ok u) = IsAnswer layout report ss old new [] end.Complete
+Converts layout report ss old new (Err (fault.Tables faults)) = Refuses layout report ss old new faults.items
+Converts layout report ss old new (Err (fault.Write w)) = Broke old new (answer_text layout report ss) w
+Converts layout report ss old new (Err fault.WrongReaders) = Unwritten old new
+Converts layout report ss old new (Err fault.Memory) = Unwritten old new
+Converts layout report ss old new (Err fault.BadWorkers) = ⊥
+Converts layout report ss old new (Err fault.BadSize) = ⊥
+Converts layout report ss old new (Err fault.Lost) = ⊥
 
 -- whatever the readers tell: a write fault is the mark that the sink has, and without one the mark is kept; nothing is written where
 -- the readers are not as many as the tables or memory is short; and no other fault but those of tables is answered

@@ -1,8 +1,8 @@
 -- What the parts of a conversion on one thread write, each from the sink as it is.
 use Rattle.std.specs.Prelude.{◌≡◌, ◌++◌, ℕ, List, [], ◌∷◌, Bool, true, false, Result, Ok, Err}
-use Rattle.oim_json.specs.Document.{piece}
-use Rattle.oim_json.specs.JsonText.{member_text}
+use Rattle.oim_json.specs.Document.{has_any, more_members}
 use Rattle.oim_json.specs.Sinks.{SinkView, Broke, Wrote, mark_of}
+use Rattle.oim_json.specs.declared.layout.Layout.{Layout}
 use Rattle.oim_json.specs.declared.mark.Mark.{Mark}
 use Rattle.oim_json.specs.declared.mark.WriteFault.{WriteFault}
 use Rattle.oim_merge.specs.Histories.{all_of, facts_before, refusals}
@@ -15,19 +15,10 @@ use Rattle.oim_rows.specs.declared.fault.TableFault.{TableFault}
 use Rattle.oim_convert.specs.Answer.{facts_of, histories_of}
 use Rattle.oim_convert.specs.Histories.{AreDecoded, IsGiven}
 
--- the texts of facts, behind those that are written already, if there are any
-abbrev pub more_text : Bool → List Fact → List ℕ
-more_text any [] = []
-more_text any (f ∷ fs) = piece any (member_text f) ++ more_text true fs
-
-abbrev pub has_any : Bool → List Fact → Bool
-has_any any [] = any
-has_any any (f ∷ fs) = true
-
 -- facts were to be written
-abbrev pub WritesFacts : SinkView → SinkView → Bool → Bool → List Fact → Result (Unit {0}) WriteFault → Type 0
-WritesFacts old new any any' facts (Ok u) = (any' ≡ has_any any facts) × Wrote old new (more_text any facts)
-WritesFacts old new any any' facts (Err fault) = Broke old new (more_text any facts) fault
+abbrev pub WritesFacts : Layout → SinkView → SinkView → Bool → Bool → List Fact → Result (Unit {0}) WriteFault → Type 0
+WritesFacts layout old new any any' facts (Ok u) = (any' ≡ has_any any facts) × Wrote old new (more_members layout any facts)
+WritesFacts layout old new any any' facts (Err fault) = Broke old new (more_members layout any facts) fault
 
 -- a failed write leaves its mark on the sink, and nothing else changes the mark
 abbrev pub Marks : {A : Type 0} → Mark → Mark → Result A WriteFault → Type 0
@@ -40,26 +31,26 @@ wanted_of true facts = facts
 wanted_of false facts = []
 
 -- a table with this stream gave facts and came to this ending, and its facts were written if they were wanted
-pub record ReadTable (table : ℕ) (wanted : Bool) (old new : SinkView) (any any' : Bool) (s : Stream) (ending : Endings.Ending) : Type 0 where
+pub record ReadTable (layout : Layout) (table : ℕ) (wanted : Bool) (old new : SinkView) (any any' : Bool) (s : Stream) (ending : Endings.Ending) : Type 0 where
   pub facts : List Fact
   pub given : IsGiven table s facts ending
   pub has : ending ≡ Closed → any' ≡ has_any any (wanted_of wanted facts)
-  pub text : Wrote old new (more_text any (wanted_of wanted facts))
+  pub text : Wrote old new (more_members layout any (wanted_of wanted facts))
 
 -- a table with this stream was to be read
-abbrev pub ReadsTable : ℕ → Bool → SinkView → SinkView → Bool → Bool → Stream → Result Endings.Ending WriteFault → Type 0
-ReadsTable table wanted old new any any' s (Ok ending) = ReadTable table wanted old new any any' s ending
-ReadsTable table wanted old new any any' s (Err w) = (wanted ≡ true) × Broke old new (more_text any (facts_of s)) w
+abbrev pub ReadsTable : Layout → ℕ → Bool → SinkView → SinkView → Bool → Bool → Stream → Result Endings.Ending WriteFault → Type 0
+ReadsTable layout table wanted old new any any' s (Ok ending) = ReadTable layout table wanted old new any any' s ending
+ReadsTable layout table wanted old new any any' s (Err w) = (wanted ≡ true) × Broke old new (more_members layout any (facts_of s)) w
 
 -- tables with these streams came to histories with these faults, and the facts before the first refusal were written
-pub record ReadTables (old new : SinkView) (any : Bool) (ss : List Stream) (faults : List TableFault) : Type 0 where
+pub record ReadTables (layout : Layout) (old new : SinkView) (any : Bool) (ss : List Stream) (faults : List TableFault) : Type 0 where
   pub histories : List (List Item)
   pub decoded : AreDecoded 0 ss histories
   pub faults_are : faults ≡ refusals (all_of histories)
   pub has : faults ≡ [] → any ≡ has_any false (facts_before (all_of histories))
-  pub text : Wrote old new (more_text false (facts_before (all_of histories)))
+  pub text : Wrote old new (more_members layout false (facts_before (all_of histories)))
 
 -- tables with these streams were to be read
-abbrev pub ReadsTables : SinkView → SinkView → List Stream → List TableFault → Result (Unit {0}) WriteFault → Type 0
-ReadsTables old new ss faults (Ok u) = (any : Bool) × ReadTables old new any ss faults
-ReadsTables old new ss faults (Err w) = Broke old new (more_text false (facts_before (all_of (histories_of ss)))) w
+abbrev pub ReadsTables : Layout → SinkView → SinkView → List Stream → List TableFault → Result (Unit {0}) WriteFault → Type 0
+ReadsTables layout old new ss faults (Ok u) = (any : Bool) × ReadTables layout old new any ss faults
+ReadsTables layout old new ss faults (Err w) = Broke old new (more_members layout false (facts_before (all_of (histories_of ss)))) w

@@ -1,7 +1,8 @@
 //! Whole reports: the tables of a report to its document.
 //!
 //! What the crate promises of `convert_serial`, on one thread:
-//! - Ok has written exactly the document of all facts, in table order (`specs/Answer.antt`);
+//! - Ok has written exactly the document of all facts, in table order and in the layout asked for
+//!   (`specs/Answer.antt`);
 //! - Tables has the first fault of each refused table, in table order, with exactly the unfinished
 //!   document up to and with the first of them; a table whose reader fails or that finds no memory
 //!   is refused so too, and then has given some of its own facts (`specs/Serial.antt`);
@@ -54,6 +55,7 @@ mod working;
 
 pub use claims::Claims;
 pub use fault::ConvertFault;
+pub use oim_json::Layout;
 pub use run::Run;
 pub use seat::Seat;
 pub use serial::convert_serial;

@@ -1,9 +1,8 @@
 //! The conversion on one thread.
 
 ghost use Rattle.std.specs.Prelude.{◌≡◌, ◌≢◌, ◌↔◌, ◌≤◌, ◌<◌, ◌+◌, ◌++◌, ℕ, List, [], ◌∷◌, Option, Some, Err, IfSome, length, vec_len, vec_capacity};
-ghost use Rattle.oim_json.specs.Document.{piece};
 ghost use Rattle.oim_json.specs.JsonText.{head_text};
-ghost use Rattle.oim_json.specs.Sinks.{WritesAll, sink_at};
+ghost use Rattle.oim_json.specs.Sinks.{sink_at};
 ghost use Rattle.oim_merge.specs.Histories.{refusals};
 ghost use Rattle.oim_ring.specs.declared.item.Item.TheVariants as items;
 ghost use Rattle.oim_rows.specs.Streams.{table_stream};
@@ -16,33 +15,25 @@ ghost use Rattle.oim_convert.specs.declared.fault.ConvertFault.TheVariants as fa
 use crate::decode::{refused, without_file};
 use crate::fault::ConvertFault;
 use oim_decode::TableBlocks;
-use oim_json::{Block, Sink, TAIL, WriteFault, head, write_all_of};
+use oim_json::{Block, Layout, Sink, WriteFault, head, tail, write_all_of, write_members};
 use oim_meta::{Limits, Report};
 use oim_ring::Ending;
 use oim_rows::{TableFault, TableKind};
 use std::alloc::Global;
 use std::io::Read;
 
-/// Writes bytes, behind a comma unless they are the first.
-fn write_piece<W: Sink>(sink: &mut W, any: bool, bytes: &[u8]) -> Result<(), WriteFault>
-    ensures { WritesAll (W.mark sink.old) (W.mark sink.new) (W.told sink.old) (W.told sink.new) result (piece any bytes.now) }
-{
-    if !any {
-        return write_all_of(sink, bytes);
-    }
-    match write_all_of(sink, b",") {
-        Ok(()) => write_all_of(sink, bytes),
-        Err(fault) => Err(fault),
-    }
-}
-
 /// Writes the facts of a block. It has one at least.
-fn write_block<W: Sink>(sink: &mut W, any: &mut bool, block: &Block) -> Result<(), WriteFault>
-    ensures writes { WritesFacts (sink_at (W.mark sink.old) (W.told sink.old)) (sink_at (W.mark sink.new) (W.told sink.new)) any.old any.new block.now result }
+fn write_block<W: Sink>(
+    block: &Block,
+    layout: Layout,
+    sink: &mut W,
+    any: &mut bool,
+) -> Result<(), WriteFault>
+    ensures writes { WritesFacts layout (sink_at (W.mark sink.old) (W.told sink.old)) (sink_at (W.mark sink.new) (W.told sink.new)) any.old any.new block.now result }
     ensures marked { Marks (W.mark sink.old) (W.mark sink.new) result }
 {
     let some = block.count() > 0;
-    match write_piece(sink, *any, block.bytes()) {
+    match write_members(sink, layout, *any, block) {
         Ok(()) => {
             *any = some;
             Ok(())
@@ -58,12 +49,13 @@ fn write_blocks<R: Read + Drop, W: Sink>(
     blocks: &mut TableBlocks<'_, R>,
     table: usize,
     wanted: bool,
+    layout: Layout,
     sink: &mut W,
     any: &mut bool,
 ) -> Result<Ending, WriteFault>
     requires table { blocks.old.table ≡ table }
     requires begun { blocks.old.pending ≡ [] }
-    ensures reads { IfSome blocks.old.left (λ s. ReadsTable table wanted (sink_at (W.mark sink.old) (W.told sink.old)) (sink_at (W.mark sink.new) (W.told sink.new)) any.old any.new s result) }
+    ensures reads { IfSome blocks.old.left (λ s. ReadsTable layout table wanted (sink_at (W.mark sink.old) (W.told sink.old)) (sink_at (W.mark sink.new) (W.told sink.new)) any.old any.new s result) }
     ensures marked { Marks (W.mark sink.old) (W.mark sink.new) result }
 {
     // The bound is never reached: a table has fewer blocks.
@@ -71,7 +63,7 @@ fn write_blocks<R: Read + Drop, W: Sink>(
         match blocks.next_block(Vec::new(alloc)) {
             Ok(Some(block)) => {
                 if wanted {
-                    match write_block(sink, any, &block) {
+                    match write_block(&block, layout, sink, any) {
                         Ok(()) => {}
                         Err(fault) => return Err(fault),
                     }
@@ -93,16 +85,17 @@ fn convert_file<R: Read + Drop, W: Sink>(
     reader: R,
     limits: Limits,
     wanted: bool,
+    layout: Layout,
     sink: &mut W,
     any: &mut bool,
 ) -> Result<Ending, WriteFault>
     requires place { table < length report.now.tables }
     requires rows { limits.rows ≤ 4294967294 }
-    ensures reads { IfSome (R.remaining reader) (λ bytes. ReadsTable table wanted (sink_at (W.mark sink.old) (W.told sink.old)) (sink_at (W.mark sink.new) (W.told sink.new)) any.old any.new (table_stream report.now table limits.rows (Some bytes)) result) }
+    ensures reads { IfSome (R.remaining reader) (λ bytes. ReadsTable layout table wanted (sink_at (W.mark sink.old) (W.told sink.old)) (sink_at (W.mark sink.new) (W.told sink.new)) any.old any.new (table_stream report.now table limits.rows (Some bytes)) result) }
     ensures marked { Marks (W.mark sink.old) (W.mark sink.new) result }
 {
     match TableBlocks::open(alloc, report, table, reader, limits) {
-        Ok(mut blocks) => write_blocks(alloc, &mut blocks, table, wanted, sink, any),
+        Ok(mut blocks) => write_blocks(alloc, &mut blocks, table, wanted, layout, sink, any),
         Err(fault) => Ok(Ending::Refused(fault)),
     }
 }
@@ -115,18 +108,21 @@ fn convert_table<R: Read + Drop, W: Sink>(
     reader: Option<R>,
     limits: Limits,
     wanted: bool,
+    layout: Layout,
     sink: &mut W,
     any: &mut bool,
 ) -> Result<Ending, WriteFault>
     requires place { table < length report.now.tables }
     requires rows { limits.rows ≤ 4294967294 }
     ensures reads { (file : Option (List ℕ)) → IsFileOf R.remaining reader file
-        → ReadsTable table wanted (sink_at (W.mark sink.old) (W.told sink.old)) (sink_at (W.mark sink.new) (W.told sink.new)) any.old any.new (table_stream report.now table limits.rows file) result }
+        → ReadsTable layout table wanted (sink_at (W.mark sink.old) (W.told sink.old)) (sink_at (W.mark sink.new) (W.told sink.new)) any.old any.new (table_stream report.now table limits.rows file) result }
     ensures marked { Marks (W.mark sink.old) (W.mark sink.new) result }
 {
     match reader {
         None => Ok(without_file(report, table)),
-        Some(reader) => convert_file(alloc, report, table, reader, limits, wanted, sink, any),
+        Some(reader) => convert_file(
+            alloc, report, table, reader, limits, wanted, layout, sink, any,
+        ),
     }
 }
 
@@ -151,6 +147,7 @@ fn convert_tables<R: Read + Drop, W: Sink>(
     readers: Vec<Option<R>>,
     limits: Limits,
     faults: &mut Vec<TableFault>,
+    layout: Layout,
     sink: &mut W,
 ) -> Result<(), WriteFault>
     requires count { length readers.items ≡ length report.now.tables }
@@ -158,14 +155,16 @@ fn convert_tables<R: Read + Drop, W: Sink>(
     requires empty { faults.old.items ≡ [] }
     requires room { length readers.items ≤ vec_capacity faults.old }
     ensures reads { (files : List (Option (List ℕ))) → AreFilesOf R.remaining readers.items files
-        → ReadsTables (sink_at (W.mark sink.old) (W.told sink.old)) (sink_at (W.mark sink.new) (W.told sink.new)) (streams report.now limits.rows files) faults.new.items result }
+        → ReadsTables layout (sink_at (W.mark sink.old) (W.told sink.old)) (sink_at (W.mark sink.new) (W.told sink.new)) (streams report.now limits.rows files) faults.new.items result }
     ensures marked { Marks (W.mark sink.old) (W.mark sink.new) result }
 {
     let mut any = false;
     let mut table = 0;
     for reader in readers {
         let wanted = faults.is_empty();
-        match convert_table(alloc, report, table, reader, limits, wanted, sink, &mut any) {
+        match convert_table(
+            alloc, report, table, reader, limits, wanted, layout, sink, &mut any,
+        ) {
             Ok(ending) => note(ending, faults),
             Err(fault) => return Err(fault),
         }
@@ -182,6 +181,7 @@ fn write_document<R: Read + Drop, W: Sink>(
     readers: Vec<Option<R>>,
     limits: Limits,
     mut faults: Vec<TableFault>,
+    layout: Layout,
     sink: &mut W,
 ) -> Result<(), ConvertFault>
     requires head { head.now ≡ head_text report.now }
@@ -190,28 +190,28 @@ fn write_document<R: Read + Drop, W: Sink>(
     requires empty { faults.items ≡ [] }
     requires room { length readers.items ≤ vec_capacity faults }
     ensures converts { (files : List (Option (List ℕ))) → AreFilesOf R.remaining readers.items files
-        → Converts report.now (streams report.now limits.rows files) (sink_at (W.mark sink.old) (W.told sink.old)) (sink_at (W.mark sink.new) (W.told sink.new)) result }
+        → Converts layout report.now (streams report.now limits.rows files) (sink_at (W.mark sink.old) (W.told sink.old)) (sink_at (W.mark sink.new) (W.told sink.new)) result }
     ensures leaves { Leaves (sink_at (W.mark sink.old) (W.told sink.old)) (sink_at (W.mark sink.new) (W.told sink.new)) result }
     ensures begun { HasBegun result }
 {
     if let Err(fault) = write_all_of(sink, head) {
         return Err(ConvertFault::Write(fault));
     }
-    if let Err(fault) = convert_tables(alloc, report, readers, limits, &mut faults, sink) {
+    if let Err(fault) = convert_tables(alloc, report, readers, limits, &mut faults, layout, sink) {
         return Err(ConvertFault::Write(fault));
     }
     if !faults.is_empty() {
         return Err(ConvertFault::Tables(faults));
     }
-    match write_all_of(sink, TAIL) {
+    match write_all_of(sink, tail(layout)) {
         Ok(()) => Ok(()),
         Err(fault) => Err(ConvertFault::Write(fault)),
     }
 }
 
 /// Converts a report on one thread: reads each table with its reader, in table order, and writes
-/// the document of all facts to the sink. A table without a reader has no file. `limits.rows` is at
-/// most 4,294,967,294.
+/// the document of all facts to the sink, in the layout asked for. A table without a reader has no
+/// file. `limits.rows` is at most 4,294,967,294.
 ///
 /// Fails with WrongReaders exactly where the readers are not as many as the tables, and with Memory
 /// where memory is short before anything is written; both write nothing. Fails with Tables where a
@@ -224,13 +224,14 @@ pub fn convert_serial<R: Read + Drop, W: Sink>(
     report: &Report,
     readers: Vec<Option<R>>,
     limits: Limits,
+    layout: Layout,
     sink: &mut W,
 ) -> Result<(), ConvertFault>
     requires { limits.rows ≤ 4294967294 }
 
     // What is written and answered, where the readers tell their bytes.
     ensures converts { (files : List (Option (List ℕ))) → AreFilesOf R.remaining readers.items files
-        → Converts report.now (streams report.now limits.rows files) (sink_at (W.mark sink.old) (W.told sink.old)) (sink_at (W.mark sink.new) (W.told sink.new)) result }
+        → Converts layout report.now (streams report.now limits.rows files) (sink_at (W.mark sink.old) (W.told sink.old)) (sink_at (W.mark sink.new) (W.told sink.new)) result }
     ensures tables { (files : List (Option (List ℕ))) → AreFilesOf R.remaining readers.items files → IsOfTables (length report.now.tables) result }
 
     // What is so for all readers.
@@ -253,6 +254,7 @@ pub fn convert_serial<R: Read + Drop, W: Sink>(
         readers,
         limits,
         faults,
+        layout,
         sink,
     )
 }

@@ -17,7 +17,7 @@ use crate::lanes::open_lanes;
 use crate::run::Run;
 use crate::serving::Serving;
 use crate::working::{Merged, Unmerged, Worked, work_crew};
-use oim_json::{Sink, head};
+use oim_json::{Layout, Sink, head};
 use oim_meta::{Limits, Report};
 use std::alloc::{AllocError, Global};
 use std::io::Read;
@@ -52,22 +52,32 @@ struct Ready<R: Read + Drop, T: Wait> {
 /// All that a conversion with this many workers and rings of this size needs.
 fn prepare<R: Read + Drop, T: Wait>(
     alloc: Global,
+    report: &Report,
     readers: Vec<Option<R>>,
     workers: usize,
     size: usize,
+    layout: Layout,
 ) -> Result<Ready<R, T>, AllocError>
     requires workers { (1 ≤ workers) × (workers ≤ 64) }
     requires size { (1 ≤ size) × (size ≤ 65536) }
     ensures readers { IfOk result (λ ready. map (λ job. job.reader) ready.crew.claims.items ≡ readers.items) }
     ensures ready { IfOk result (λ ready. IsReady ready) }
+    ensures head { IfOk result (λ ready. ready.unmerged.head.items ≡ head_text report.now) }
+    ensures layout { IfOk result (λ ready. ready.unmerged.layout ≡ layout) }
 {
     let (jobs, drains) = open_lanes(alloc, readers, size)?;
     let places = places_of(alloc, jobs.len(), workers)?;
     let crew = crew_of(alloc, jobs, workers)?;
     let faults = Vec::with_capacity(alloc, drains.len())?;
+    let unmerged = Unmerged {
+        drains,
+        faults,
+        head: head(alloc, report)?,
+        layout,
+    };
     Ok(Ready {
         crew,
-        unmerged: Unmerged { drains, faults },
+        unmerged,
         places,
     })
 }
@@ -80,25 +90,22 @@ fn run_ready<R: Read + Drop + Send, T: Threads + Wait + Sync, W: Sink>(
     limits: Limits,
     ready: Ready<R, T>,
     starts: usize,
-    head: &[u8],
     sink: &mut W,
 ) -> Result<Run, ConvertFault>
     requires ready { IsReady ready }
     requires count { length ready.crew.claims.items ≡ length report.now.tables }
     requires rows { limits.rows ≤ 4294967294 }
-    requires head { head.now ≡ head_text report.now }
+    requires head { ready.unmerged.head.items ≡ head_text report.now }
     ensures run { HasRun result }
     ensures tables { IfOk result (λ run. HasTables R.remaining report.now limits.rows ready.crew.claims.items run.drains.items) }
-    ensures writes { Writes report.now (length report.now.tables) (sink_at (W.mark sink.old) (W.told sink.old)) (sink_at (W.mark sink.new) (W.told sink.new)) result }
+    ensures writes { Writes ready.unmerged.layout report.now (length report.now.tables) (sink_at (W.mark sink.old) (W.told sink.old)) (sink_at (W.mark sink.new) (W.told sink.new)) result }
 {
     let Ready {
         crew,
         unmerged,
         places,
     } = ready;
-    let (claims, worked) = work_crew(
-        rt, alloc, report, limits, crew, starts, unmerged, head, sink,
-    );
+    let (claims, worked) = work_crew(rt, alloc, report, limits, crew, starts, unmerged, sink);
     let Worked {
         shifts,
         merged,
@@ -121,10 +128,11 @@ fn run_ready<R: Read + Drop + Send, T: Threads + Wait + Sync, W: Sink>(
 
 /// Converts a report on threads: as many workers as this draw the tables and decode them into one
 /// ring for each table, of this size, while the caller's thread writes the document of all facts to
-/// the sink, in table order. A table without a reader has no file. `limits.rows` is at most
-/// 4,294,967,294. For every number of workers, ring size and schedule the answer is the same: where
-/// no reader failed and neither memory nor threads were short, each history is its table's defined
-/// facts, and bytes and end are the defined answer. It waits for its workers.
+/// the sink, in table order and in the layout asked for. A table without a reader has no file.
+/// `limits.rows` is at most 4,294,967,294. For every number of workers, ring size and schedule the
+/// answer is the same: where no reader failed and neither memory nor threads were short, each
+/// history is its table's defined facts, and bytes and end are the defined answer. It waits for its
+/// workers.
 ///
 /// Each history is its table's stream, or a beginning of it that a failed read (Read) or want of
 /// memory (Memory) ended. Where no worker could be started every table is refused with NoThread,
@@ -145,6 +153,7 @@ pub fn convert<R: Read + Drop + Send, T: Threads + Wait + Sync, W: Sink>(
     workers: usize,
     size: usize,
     limits: Limits,
+    layout: Layout,
     sink: &mut W,
 ) -> Result<Run, ConvertFault>
     requires { limits.rows ≤ 4294967294 }
@@ -158,14 +167,14 @@ pub fn convert<R: Read + Drop + Send, T: Threads + Wait + Sync, W: Sink>(
         → IfOk result (λ run. AreUnserved 0 (streams report.now limits.rows files) run.drains.items ⊎ AreThreaded run.drains.items) }
     ensures headline { (files : List (Option (List ℕ))) → AreFilesOf R.remaining readers.items files
         → IfOk result (λ run. AreUncut run.drains.items → AreStreams (streams report.now limits.rows files) run.drains.items
-        × IsAnswer report.now (streams report.now limits.rows files) (sink_at (W.mark sink.old) (W.told sink.old)) (sink_at (W.mark sink.new) (W.told sink.new)) run.faults.items run.end) }
+        × IsAnswer layout report.now (streams report.now limits.rows files) (sink_at (W.mark sink.old) (W.told sink.old)) (sink_at (W.mark sink.new) (W.told sink.new)) run.faults.items run.end) }
 
     // What is so for all readers: each fault exactly where it is due, and what is written.
     ensures faults { AnswersFault (early_fault workers size (length readers.items) (length report.now.tables)) result }
-    ensures writes { Writes report.now (length report.now.tables) (sink_at (W.mark sink.old) (W.told sink.old)) (sink_at (W.mark sink.new) (W.told sink.new)) result }
+    ensures writes { Writes layout report.now (length report.now.tables) (sink_at (W.mark sink.old) (W.told sink.old)) (sink_at (W.mark sink.new) (W.told sink.new)) result }
 {
     convert_with_starts(
-        rt, alloc, report, readers, workers, workers, size, limits, sink,
+        rt, alloc, report, readers, workers, workers, size, limits, layout, sink,
     )
 }
 
@@ -180,6 +189,7 @@ pub fn convert_with_starts<R: Read + Drop + Send, T: Threads + Wait + Sync, W: S
     starts: usize,
     size: usize,
     limits: Limits,
+    layout: Layout,
     sink: &mut W,
 ) -> Result<Run, ConvertFault>
     requires { limits.rows ≤ 4294967294 }
@@ -191,30 +201,18 @@ pub fn convert_with_starts<R: Read + Drop + Send, T: Threads + Wait + Sync, W: S
         → IfOk result (λ run. AreUnserved 0 (streams report.now limits.rows files) run.drains.items ⊎ AreThreaded run.drains.items) }
     ensures headline { (files : List (Option (List ℕ))) → AreFilesOf R.remaining readers.items files
         → IfOk result (λ run. AreUncut run.drains.items → AreStreams (streams report.now limits.rows files) run.drains.items
-        × IsAnswer report.now (streams report.now limits.rows files) (sink_at (W.mark sink.old) (W.told sink.old)) (sink_at (W.mark sink.new) (W.told sink.new)) run.faults.items run.end) }
+        × IsAnswer layout report.now (streams report.now limits.rows files) (sink_at (W.mark sink.old) (W.told sink.old)) (sink_at (W.mark sink.new) (W.told sink.new)) run.faults.items run.end) }
 
     // What is so for all readers: each fault exactly where it is due, and what is written.
     ensures faults { AnswersFault (early_fault workers size (length readers.items) (length report.now.tables)) result }
-    ensures writes { Writes report.now (length report.now.tables) (sink_at (W.mark sink.old) (W.told sink.old)) (sink_at (W.mark sink.new) (W.told sink.new)) result }
+    ensures writes { Writes layout report.now (length report.now.tables) (sink_at (W.mark sink.old) (W.told sink.old)) (sink_at (W.mark sink.new) (W.told sink.new)) result }
 {
     match fault_before(workers, size, readers.len(), report.tables()) {
         Some(fault) => return Err(fault),
         None => {}
     }
-    let Ok(head) = head(alloc, report) else {
+    let Ok(ready) = prepare(alloc, report, readers, workers, size, layout) else {
         return Err(ConvertFault::Memory);
     };
-    let Ok(ready) = prepare(alloc, readers, workers, size) else {
-        return Err(ConvertFault::Memory);
-    };
-    run_ready(
-        rt,
-        alloc,
-        report,
-        limits,
-        ready,
-        starts,
-        head.as_slice(),
-        sink,
-    )
+    run_ready(rt, alloc, report, limits, ready, starts, sink)
 }

@@ -2,17 +2,16 @@
 
 ghost use Rattle.std.specs.Prelude.{◌≡◌, All, cond, length, vec_len};
 ghost use Rattle.oim_json.specs.Sinks.{sink_at};
-ghost use Rattle.oim_merge.specs.Merging.{IsFresh};
 ghost use Rattle.oim_convert.specs.Jobs.{CanServe, Gives, gives_of};
 ghost use Rattle.oim_convert.specs.Shifts.{ArePosts, CanServeAll, IsCrew, IsShift};
-ghost use Rattle.oim_convert.specs.Working.{HasRoom, IsMerged};
+ghost use Rattle.oim_convert.specs.Working.{CanMerge, IsMerged};
 
 use crate::claims::Claims;
 use crate::crew::{Crew, Posts, join_crew, start_crew};
 use crate::job::{Job, Token};
 use crate::serving::Serving;
 use crate::worker::Shift;
-use oim_json::Sink;
+use oim_json::{Layout, Sink};
 use oim_merge::{MergeEnd, merge};
 use oim_meta::{Limits, Report};
 use oim_ring::Drain;
@@ -24,11 +23,14 @@ use std::sync::atomic::AtomicBool;
 use std::thread;
 use std::thread::Threads;
 
-/// The drains of all tables, from which nothing was taken, and room for the fault of each.
+/// The drains of all tables, from which nothing was taken, room for the fault of each, and the head
+/// and the layout of the document that they are merged into.
 #[derive(Drop)]
 pub(crate) struct Unmerged {
     pub(crate) drains: Vec<Drain>,
     pub(crate) faults: Vec<TableFault>,
+    pub(crate) head: Vec<u8>,
+    pub(crate) layout: Layout,
 }
 
 /// Drains that were taken to their endings, the faults of those that were refused, and how the
@@ -41,16 +43,18 @@ pub(crate) struct Merged {
 }
 
 /// Merges all drains into the sink.
-fn merge_all<T: Wait, W: Sink>(rt: &T, unmerged: Unmerged, head: &[u8], sink: &mut W) -> Merged
-    requires fresh { IsFresh unmerged.drains.items }
-    requires room { HasRoom unmerged }
-    ensures { IsMerged head.now (sink_at (W.mark sink.old) (W.told sink.old)) (sink_at (W.mark sink.new) (W.told sink.new)) unmerged.drains.items result }
+fn merge_all<T: Wait, W: Sink>(rt: &T, unmerged: Unmerged, sink: &mut W) -> Merged
+    requires { CanMerge unmerged }
+    ensures { IsMerged unmerged (sink_at (W.mark sink.old) (W.told sink.old)) (sink_at (W.mark sink.new) (W.told sink.new)) result }
 {
     let Unmerged {
         mut drains,
         mut faults,
+        head,
+        layout,
     } = unmerged;
-    let end = merge(rt, drains.as_mut_slice(), head, &mut faults, sink);
+    let all = drains.as_mut_slice();
+    let end = merge(rt, all, head.as_slice(), &mut faults, layout, sink);
     Merged {
         drains,
         faults,
@@ -84,16 +88,15 @@ fn work_and_merge<R: Read + Drop + Send, T: Threads + Wait + Sync, W: Sink>(
     stops: &[AtomicBool],
     starts: usize,
     unmerged: Unmerged,
-    head: &[u8],
     sink: &mut W,
 ) -> Worked<R>
     requires items { CanServeAll (CanServe report.now server.now.limits.rows) claims.now.items × CanServeAll (CanServe report.now spare.now.limits.rows) claims.now.items }
     requires posts { ArePosts claims.now posts }
     requires stops { length stops.now ≡ claims.now.workers }
-    requires fresh { IsFresh unmerged.drains.items × HasRoom unmerged }
+    requires fresh { CanMerge unmerged }
     ensures shifts { All (IsShift (gives_of R.remaining (cond result.served server.now spare.now) report.now) claims.now) result.shifts.items }
     ensures count { vec_len result.shifts ≡ claims.now.workers }
-    ensures merged { IsMerged head.now (sink_at (W.mark sink.old) (W.told sink.old)) (sink_at (W.mark sink.new) (W.told sink.new)) unmerged.drains.items result.merged }
+    ensures merged { IsMerged unmerged (sink_at (W.mark sink.old) (W.told sink.old)) (sink_at (W.mark sink.new) (W.told sink.new)) result.merged }
 {
     let lent = &mut *sink;
     let returned = thread::scope(
@@ -103,18 +106,18 @@ fn work_and_merge<R: Read + Drop + Send, T: Threads + Wait + Sync, W: Sink>(
             requires items { CanServeAll (CanServe report.now server.now.limits.rows) claims.now.items × CanServeAll (CanServe report.now spare.now.limits.rows) claims.now.items }
             requires posts { ArePosts claims.now posts }
             requires stops { length stops.now ≡ claims.now.workers }
-            requires fresh { IsFresh unmerged.drains.items × HasRoom unmerged }
+            requires fresh { CanMerge unmerged }
             ensures same_sink { result.sink.ghost_name ≡ lent.entry.ghost_name }
             ensures shifts { All (IsShift (gives_of R.remaining (cond result.worked.served server.entry.now spare.entry.now) report.entry.now) claims.entry.now) result.worked.shifts.items }
             ensures count { vec_len result.worked.shifts ≡ claims.entry.now.workers }
-            ensures merged { IsMerged head.entry.now (sink_at (W.mark lent.entry.now) (W.told lent.entry.now)) (sink_at (W.mark result.sink.now) (W.told result.sink.now)) unmerged.drains.items result.worked.merged }
+            ensures merged { IsMerged unmerged (sink_at (W.mark lent.entry.now) (W.told lent.entry.now)) (sink_at (W.mark result.sink.now) (W.told result.sink.now)) result.worked.merged }
         {
             let posts = posts;
             let Posts { stations, mut room } = posts;
             let served = start_crew(
                 scope, rt, report, server, spare, claims, stations, stops, starts, &mut room,
             );
-            let merged = merge_all(rt, unmerged, head, lent);
+            let merged = merge_all(rt, unmerged, lent);
             let shifts = join_crew(rt, report, server, spare, served, claims, room);
             Returned {
                 worked: Worked {
@@ -140,16 +143,15 @@ pub(crate) fn work_crew<R: Read + Drop + Send, T: Threads + Wait + Sync, W: Sink
     crew: Crew<Job<R>, Token, Serving, T, Report>,
     starts: usize,
     unmerged: Unmerged,
-    head: &[u8],
     sink: &mut W,
 ) -> (Claims<Job<R>>, Worked<R>)
     requires crew { IsCrew crew }
     requires items { CanServeAll (CanServe report.now limits.rows) crew.claims.items }
-    requires fresh { IsFresh unmerged.drains.items × HasRoom unmerged }
+    requires fresh { CanMerge unmerged }
     ensures claims { result.0 ≡ crew.claims }
     ensures shifts { All (IsShift (Gives R.remaining report.now limits.rows result.1.served) result.0) result.1.shifts.items }
     ensures count { vec_len result.1.shifts ≡ result.0.workers }
-    ensures merged { IsMerged head.now (sink_at (W.mark sink.old) (W.told sink.old)) (sink_at (W.mark sink.new) (W.told sink.new)) unmerged.drains.items result.1.merged }
+    ensures merged { IsMerged unmerged (sink_at (W.mark sink.old) (W.told sink.old)) (sink_at (W.mark sink.new) (W.told sink.new)) result.1.merged }
 {
     let Crew {
         claims,
@@ -168,7 +170,7 @@ pub(crate) fn work_crew<R: Read + Drop + Send, T: Threads + Wait + Sync, W: Sink
     };
     let flags = stops.as_slice();
     let worked = work_and_merge(
-        rt, report, &server, &spare, &claims, posts, flags, starts, unmerged, head, sink,
+        rt, report, &server, &spare, &claims, posts, flags, starts, unmerged, sink,
     );
     (claims, worked)
 }

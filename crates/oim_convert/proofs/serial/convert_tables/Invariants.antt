@@ -13,5 +13,5 @@ invariant-loop-reader g l = record {
   count : vec_len l.faults ≤ l.table;
   room : length l.report.tables ≤ vec_capacity l.faults;
   read : (files : List (Option (List ℕ))) → AreFilesOf g.R.Read.remaining l.fn.readers.items files
-      → HasRead g.R.Read.remaining l.report l.limits.rows l.table (sink_at (g.W.Sink.mark l.fn.sink) (g.W.Sink.told l.fn.sink)) (sink_at (g.W.Sink.mark l.sink) (g.W.Sink.told l.sink)) l.any l.faults.items (into_iter_items l.reader-iterator) files;
+      → HasRead l.layout g.R.Read.remaining l.report l.limits.rows l.table (sink_at (g.W.Sink.mark l.fn.sink) (g.W.Sink.told l.fn.sink)) (sink_at (g.W.Sink.mark l.sink) (g.W.Sink.told l.sink)) l.any l.faults.items (into_iter_items l.reader-iterator) files;
 }

@@ -9,7 +9,7 @@ pub loop-init : goal.loop-init
 loop-init g c = record {
   table = c.requires.table;
   mark = refl;
-  writing = writing_begins c.args.table c.args.wanted (sink_at (g.W.Sink.mark c.args.sink.now) (g.W.Sink.told c.args.sink.now)) c.args.any.now c.args.blocks.now.pending c.args.blocks.now.left c.requires.begun;
+  writing = writing_begins c.args.layout c.args.table c.args.wanted (sink_at (g.W.Sink.mark c.args.sink.now) (g.W.Sink.told c.args.sink.now)) c.args.any.now c.args.blocks.now.pending c.args.blocks.now.left c.requires.begun;
 }
 
 pub returns-in-Err-write_block-clause-reads : goal.returns-in-Err-write_block-clause-reads
@@ -19,7 +19,7 @@ returns-in-Err-write_block-clause-reads g c =
     let new = sink_at (g.W.Sink.mark c.write_block.new.sink) (g.W.Sink.told c.write_block.new.sink) in
     let gives = rw (c.in-Ok-Some.field-0-is, c.loop.invariant.table) at c.in-Ok-Some.ensures.next in
     IfSome_then c.args.blocks.now.left c.loop.invariant.writing (λ whole w.
-    block_broke c.args.table first now new c.args.any.now c.loop.any c.write_block.new.any whole c.loop.blocks.pending c.next_block.new.self.pending c.loop.blocks.left c.next_block.new.self.left c.in-Ok-Some.block
+    block_broke c.args.layout c.args.table first now new c.args.any.now c.loop.any c.write_block.new.any whole c.loop.blocks.pending c.next_block.new.self.pending c.loop.blocks.left c.next_block.new.self.left c.in-Ok-Some.block
     c.in-Err-write_block.fault c.args.wanted c.if-wanted.true w gives c.in-Err-write_block.ensures.writes)
 
 pub loop-preserved : goal.loop-preserved
@@ -37,17 +37,17 @@ loop-preserved g c =
             table = table;
             mark = ap (λ s. g.W.Sink.mark s) w.sink-is ∙ (w.in-Ok.ensures.marked ∙ c.loop.invariant.mark);
             writing = IfSome_then c.args.blocks.now.left c.loop.invariant.writing (λ whole old.
-                subst (λ s. IsWriting c.args.table wanted first (sink_at (g.W.Sink.mark s) (g.W.Sink.told s)) c.args.any.now c.if-wanted.any whole pending after) (sym w.sink-is)
-                (subst (λ b. IsWriting c.args.table wanted first new c.args.any.now b whole pending after) (sym w.any-is)
-                (block_written c.args.table first now new c.args.any.now c.loop.any w.write_block.new.any whole before pending left after c.in-Ok-Some.block wanted w.if-wanted.true old gives w.in-Ok.ensures.writes)));
+                subst (λ s. IsWriting c.args.layout c.args.table wanted first (sink_at (g.W.Sink.mark s) (g.W.Sink.told s)) c.args.any.now c.if-wanted.any whole pending after) (sym w.sink-is)
+                (subst (λ b. IsWriting c.args.layout c.args.table wanted first new c.args.any.now b whole pending after) (sym w.any-is)
+                (block_written c.args.layout c.args.table first now new c.args.any.now c.loop.any w.write_block.new.any whole before pending left after c.in-Ok-Some.block wanted w.if-wanted.true old gives w.in-Ok.ensures.writes)));
           }
       | else-wanted w ↦ record {
         table = table;
         mark = ap (λ s. g.W.Sink.mark s) w.sink-is ∙ c.loop.invariant.mark;
         writing = IfSome_then c.args.blocks.now.left c.loop.invariant.writing (λ whole old.
-            subst (λ s. IsWriting c.args.table wanted first (sink_at (g.W.Sink.mark s) (g.W.Sink.told s)) c.args.any.now c.if-wanted.any whole pending after) (sym w.sink-is)
-            (subst (λ b. IsWriting c.args.table wanted first now c.args.any.now b whole pending after) (sym w.any-is)
-            (block_passed c.args.table first now now c.args.any.now c.loop.any c.loop.any whole before pending left after c.in-Ok-Some.block wanted w.if-wanted.false old gives)));
+            subst (λ s. IsWriting c.args.layout c.args.table wanted first (sink_at (g.W.Sink.mark s) (g.W.Sink.told s)) c.args.any.now c.if-wanted.any whole pending after) (sym w.sink-is)
+            (subst (λ b. IsWriting c.args.layout c.args.table wanted first now c.args.any.now b whole pending after) (sym w.any-is)
+            (block_passed c.args.layout c.args.table first now now c.args.any.now c.loop.any c.loop.any whole before pending left after c.in-Ok-Some.block wanted w.if-wanted.false old gives)));
       }
     ]
 
@@ -57,7 +57,7 @@ returns-in-Ok-None-clause-reads g c =
     let now = sink_at (g.W.Sink.mark c.loop.sink) (g.W.Sink.told c.loop.sink) in
     let gives = rw (c.in-Ok-None.field-0-is, c.loop.invariant.table) at c.in-Ok-None.ensures.next in
     IfSome_then c.args.blocks.now.left c.loop.invariant.writing (λ whole w.
-    blocks_done c.args.table c.args.wanted first now c.args.any.now c.loop.any whole c.loop.blocks.pending c.next_block.new.self.pending c.loop.blocks.left c.next_block.new.self.left w gives)
+    blocks_done c.args.layout c.args.table c.args.wanted first now c.args.any.now c.loop.any whole c.loop.blocks.pending c.next_block.new.self.pending c.loop.blocks.left c.next_block.new.self.left w gives)
 
 pub returns-in-Err-clause-reads : goal.returns-in-Err-clause-reads
 returns-in-Err-clause-reads g c =
@@ -65,11 +65,11 @@ returns-in-Err-clause-reads g c =
     let now = sink_at (g.W.Sink.mark c.loop.sink) (g.W.Sink.told c.loop.sink) in
     let gives = rw (c.loop.invariant.table) at c.in-Err.ensures.next in
     IfSome_then c.args.blocks.now.left c.loop.invariant.writing (λ whole w.
-    blocks_refused c.args.table c.args.wanted first now c.args.any.now c.loop.any whole c.loop.blocks.pending c.next_block.new.self.pending c.loop.blocks.left c.next_block.new.self.left w c.in-Err.fault gives)
+    blocks_refused c.args.layout c.args.table c.args.wanted first now c.args.any.now c.loop.any whole c.loop.blocks.pending c.next_block.new.self.pending c.loop.blocks.left c.next_block.new.self.left w c.in-Err.fault gives)
 
 pub returns-clause-reads : goal.returns-clause-reads
 returns-clause-reads g c =
     let first = sink_at (g.W.Sink.mark c.args.sink.now) (g.W.Sink.told c.args.sink.now) in
     let now = sink_at (g.W.Sink.mark c.loop.sink) (g.W.Sink.told c.loop.sink) in
     IfSome_then c.args.blocks.now.left c.loop.invariant.writing (λ whole w.
-    blocks_cut c.args.table c.args.wanted first now c.args.any.now c.loop.any whole c.loop.blocks.pending c.loop.blocks.left c.refused.result c.refused.ensures w)
+    blocks_cut c.args.layout c.args.table c.args.wanted first now c.args.any.now c.loop.any whole c.loop.blocks.pending c.loop.blocks.left c.refused.result c.refused.ensures w)

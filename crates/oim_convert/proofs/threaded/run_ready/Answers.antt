@@ -17,7 +17,7 @@ pub work_crew-claims-requires-clause-items : goal.work_crew-claims-requires-clau
 work_crew-claims-requires-clause-items g c κs within = opened_serve c.args.report.now c.args.limits.rows c.args.ready.crew.claims.items c.requires.ready.jobs c.requires.count c.requires.rows
 
 pub work_crew-claims-requires-clause-fresh : goal.work_crew-claims-requires-clause-fresh
-work_crew-claims-requires-clause-fresh g c κs within = (lanes_fresh c.args.ready.crew.claims.items 0 c.args.ready.unmerged.drains.items c.requires.ready.drains, c.requires.ready.faults)
+work_crew-claims-requires-clause-fresh g c κs within = (lanes_fresh c.args.ready.crew.claims.items 0 c.args.ready.unmerged.drains.items c.requires.ready.drains, c.requires.ready.faults.0, c.requires.ready.faults.1)
 
 pub finish-requires-clause-drains : goal.finish-requires-clause-drains
 finish-requires-clause-drains g c =
@@ -45,7 +45,7 @@ returns-in-Some-clause-writes g c =
     let merged = c.work_crew-claims.result.1.merged in
     let old = sink_at (g.W.Sink.mark c.args.sink.now) (g.W.Sink.told c.args.sink.now) in
     let new = sink_at (g.W.Sink.mark c.work_crew-claims.new.sink) (g.W.Sink.told c.work_crew-claims.new.sink) in
-    let Wrote : List ℕ → List (List Item) → Type 0 = λ head hs. Merges old new head hs merged.faults.items merged.end in
+    let Wrote : List ℕ → List (List Item) → Type 0 = λ head hs. Merges c.args.ready.unmerged.layout old new head hs merged.faults.items merged.end in
     let written : Wrote (head_text c.args.report.now) (taken_of ended) = subst (λ h. Wrote h (taken_of ended)) c.requires.head c.work_crew-claims.ensures.merged.written in record {
       count = as_many (λ (d : DrainView). d.taken) ended c.in-Some.drains.items (sym taken) ∙ (rings_len ended c.args.ready.unmerged.drains.items c.work_crew-claims.ensures.merged.rings ∙ (c.requires.ready.count ∙ c.requires.count));
       ended = subst (λ hs. EndEach hs) (sym taken) c.work_crew-claims.ensures.merged.ended;
@@ -58,7 +58,7 @@ returns-in-None-clause-writes g c =
     let merged = c.work_crew-claims.result.1.merged in
     let old = sink_at (g.W.Sink.mark c.args.sink.now) (g.W.Sink.told c.args.sink.now) in
     let new = sink_at (g.W.Sink.mark c.work_crew-claims.new.sink) (g.W.Sink.told c.work_crew-claims.new.sink) in
-    let Wrote : List ℕ → Type 0 = λ head. Merges old new head (taken_of ended) merged.faults.items merged.end in
+    let Wrote : List ℕ → Type 0 = λ head. Merges c.args.ready.unmerged.layout old new head (taken_of ended) merged.faults.items merged.end in
     record {
       histories = taken_of ended;
       count = as_many (λ (d : DrainView). d.taken) ended (taken_of ended) refl ∙ (rings_len ended c.args.ready.unmerged.drains.items c.work_crew-claims.ensures.merged.rings ∙ (c.requires.ready.count ∙ c.requires.count));

@@ -1,4 +1,4 @@
-use Rattle.std.specs.Prelude.{List, length}
+use Rattle.std.specs.Prelude.{ℕ, List, length}
 use Rattle.std.proofs.Common.{ap, sym, ◌∙◌, subst}
 use Rattle.oim_json.specs.Sinks.{sink_at}
 use Rattle.oim_ring.specs.Ends.{DrainView}
@@ -11,8 +11,12 @@ returns g c =
     let old = sink_at (g.W.Sink.mark c.args.sink.now) (g.W.Sink.told c.args.sink.now) in
     let new = sink_at (g.W.Sink.mark c.merge-end.new.sink) (g.W.Sink.told c.merge-end.new.sink) in
     let before = c.args.unmerged.drains in
-    let same = sym (written_back before.len c.merge-end.new.drains before.items (c.merge-end.auto.drains ∙ ap (λ l. length l) c.as_mut_slice.ensures.value) before.ok.0) in record {
-      rings = ap rings_of (sym same) ∙ (c.merge-end.ensures.rings ∙ ap rings_of c.as_mut_slice.ensures.value);
+    let after = c.merge-end.new.drains in
+    let layout = c.args.unmerged.layout in
+    let faults = c.merge-end.new.faults.items in
+    let same = sym (written_back before.len after before.items (c.merge-end.auto.drains ∙ ap (λ l. length l) c.as_mut_slice-all.ensures.value) before.ok.0) in
+    let merged = subst (λ (head : List ℕ). Merges layout old new head (taken_of after) faults c.merge-end.result) c.as_slice.ensures.value c.merge-end.ensures.merged in record {
+      rings = ap rings_of (sym same) ∙ (c.merge-end.ensures.rings ∙ ap rings_of c.as_mut_slice-all.ensures.value);
       ended = subst (λ (l : List DrainView). EndEach (taken_of l)) same c.merge-end.ensures.ended;
-      written = subst (λ (l : List DrainView). Merges old new c.args.head.now (taken_of l) c.merge-end.new.faults.items c.merge-end.result) same c.merge-end.ensures.merged;
+      written = subst (λ (l : List DrainView). Merges layout old new c.args.unmerged.head.items (taken_of l) faults c.merge-end.result) same merged;
     }
