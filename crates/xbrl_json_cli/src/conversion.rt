@@ -7,7 +7,9 @@ ghost use Rattle.oim_convert.specs.Files.{AreFilesOf};
 ghost use Rattle.oim_convert.specs.Runs.{early_fault};
 ghost use Rattle.oim_json.specs.Sinks.{sink_at};
 ghost use Rattle.oim_json.specs.declared.layout.Layout.TheVariants as layouts;
+ghost use Rattle.oim_json.specs.declared.mark.WriteFault.TheVariants as writes;
 ghost use Rattle.xbrl_json_cli.specs.Naming.{outcome_by, with_names};
+ghost use Rattle.xbrl_json_cli.specs.declared.outcome.Outcome.TheVariants as outcomes;
 ghost use Rattle.xbrl_json_cli.specs.Conversion.{Buffered, Ends, Reads, flushed, profile, texts};
 ghost use Rattle.xbrl_json_cli.specs.Outcomes.{EndsAs, Leaves, name_in, table_ids};
 
@@ -205,14 +207,22 @@ pub fn convert_held<T: Threads + Wait + Sync, W: Sink>(
     )
 }
 
+/// Whether a document was written, whole or unfinished.
+fn has_document(outcome: &Outcome) -> bool
+    ensures { flushed outcome.now ≡ (if result then outcomes.Output writes.Failed else outcome.now) }
+{
+    matches!(outcome, Outcome::Done | Outcome::Tables(_))
+}
+
 /// The outcome after the flush of what was written. A flush that fails is a failed write, after a
 /// whole document and after the unfinished document of refused tables.
 pub fn after_flush(outcome: Outcome, flush: io::Result<()>) -> Outcome
     ensures { result ≡ (if is_err flush then flushed outcome else outcome) }
 {
-    match (outcome, flush) {
-        (Outcome::Done | Outcome::Tables(_), Err(_)) => Outcome::Output(WriteFault::Failed),
-        (outcome, _) => outcome,
+    if flush.is_err() && has_document(&outcome) {
+        Outcome::Output(WriteFault::Failed)
+    } else {
+        outcome
     }
 }
 
