@@ -46,15 +46,31 @@ def text_of(path, default=""):
     return path.read_text() if path.is_file() else default
 
 
+def in_lines(document):
+    """A document with a line for each fact, from the same document on one line."""
+    head, facts = document.decode().split('"facts":{', 1)
+    lines, at, decoder = [head + '"facts":{'], 0, json.JSONDecoder()
+    while facts[at : at + 1] == '"':
+        start = at
+        at = decoder.raw_decode(facts, at)[1]
+        at = decoder.raw_decode(facts, at + 1)[1]
+        at += facts[at : at + 1] == ","
+        lines.append(facts[start:at])
+    return "\n".join(lines + [facts[at:]] * (facts[at:] != "")).encode()
+
+
 def examples():
-    """Each example's document, lines and status, with several numbers of workers and ring sizes."""
+    """Each example's document, lines and status, with several numbers of workers and ring sizes, in both layouts."""
     for folder in sorted(it for it in EXAMPLES.iterdir() if (it / "words").is_file()):
         words = (folder / "words").read_text().split()
         document = (folder / "expected.json").read_bytes()
         lines = text_of(folder / "expected.err")
         for workers, ring in [(1, 1), (2, 4), (4, 1024), (64, 65536)]:
-            seen = run([*words, "--workers", str(workers), "--ring", str(ring)], folder)
-            case(f"example {folder.name}, {workers} workers, ring {ring}", seen == (1 if lines else 0, document, lines), seen[0], seen[2])
+            for layout, written in [("compact", document), ("lines", in_lines(document))]:
+                seen = run([*words, "--workers", str(workers), "--ring", str(ring), "--layout", layout], folder)
+                case(f"example {folder.name}, {workers} workers, ring {ring}, {layout}", seen == (1 if lines else 0, written, lines), seen[0], seen[2])
+    written = EXAMPLES / "held/expected-lines.json"
+    case("the held report in lines", in_lines((EXAMPLES / "held/expected.json").read_bytes()) == written.read_bytes())
     seen = run([], EXAMPLES / "held")
     case("no words: the held report", seen == (0, (EXAMPLES / "held/expected.json").read_bytes(), ""), seen)
 
@@ -95,6 +111,7 @@ def words_of_the_command_line(folder):
     status, out, err = run(["--version"], folder)
     case("--version", status == 0 and out.startswith(b"xbrl-json ") and err == "", status, out, err)
     wrong = [["meta.json"], ["--types", "types.csv"], [*WORDS, "--workers", "0"], [*WORDS, "--workers", "65"], [*WORDS, "--ring", "0"], [*WORDS, "--ring", "65537"]]
+    wrong += [[*WORDS, "--layout", "pretty"], [*WORDS, "--layout"], [*WORDS, "--progress", "yes"], [*WORDS, "--progress=yes"]]
     wrong += [[*WORDS, "--workers", "two"], [*WORDS, "--colour"], [*WORDS, "more"], [*WORDS, "--types", "types.csv"]]
     for words in wrong:
         status, out, err = run(words, folder)
@@ -103,6 +120,21 @@ def words_of_the_command_line(folder):
     case("an argument that is not UTF-8", status == 2 and out == b"", status, out, err)
     status, out, err = run([*WORDS, "--workers", "1"], folder)
     case("a whole run", status == 0 and len(facts(out)) == 1 and err == "", status, out, err)
+
+
+def layouts(folder):
+    """Documents without facts, in lines."""
+    for name, tables, file, ends in [
+        ("no table", {}, "", b"\n}}\n"),
+        ("a table without rows", {"t1": {}}, "cash\n", b"\n}}\n"),
+        ("a refused first table", {"t1": {}, "t2": {}}, "cash\nx\n", b""),
+    ]:
+        report(folder, tables)
+        for table in tables:
+            (folder / f"{table}.csv").write_text(file)
+        whole, lined = run(WORDS, folder), run([*WORDS, "--layout", "lines"], folder)
+        head = whole[1].removesuffix(b"}}\n")
+        case(f"{name}, in lines", head.endswith(b'"facts":{') and lined == (whole[0], head + ends, whole[2]), whole, lined)
 
 
 def files_that_are_not_read(folder):
@@ -274,7 +306,7 @@ def progress(folder):
 
 def main():
     examples()
-    for part in (words_of_the_command_line, files_that_are_not_read, a_table_that_may_not_be_read, few_descriptors, a_named_pipe, outputs, progress):
+    for part in (words_of_the_command_line, layouts, files_that_are_not_read, a_table_that_may_not_be_read, few_descriptors, a_named_pipe, outputs, progress):
         with tempfile.TemporaryDirectory() as folder:
             part(Path(folder))
     print(f"over the real system: {count - len(failed)} as they must be, {len(failed)} not")

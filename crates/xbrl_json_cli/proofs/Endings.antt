@@ -10,6 +10,7 @@ use Rattle.oim_convert.specs.declared.fault.ConvertFault.{ConvertFault}
 use Rattle.oim_convert.specs.declared.fault.ConvertFault.TheVariants as fault
 use Rattle.oim_convert.specs.declared.run.Run.{Run}
 use Rattle.oim_json.specs.Sinks.{SinkView, Unwritten}
+use Rattle.oim_json.specs.declared.layout.Layout.{Layout}
 use Rattle.oim_meta.specs.Readers.{no_table}
 use Rattle.oim_meta.specs.ReportValue.{ReportValue}
 use Rattle.oim_meta.specs.declared.data.Table.{Table}
@@ -41,31 +42,31 @@ keeps_same None = tt
 keeps_same (Some xs) = refl
 
 -- a conversion that found no memory for the names
-pub no_memory_ends : (early : Option ConvertFault) (report : ReportValue) (ss : List Stream) (sink : SinkView) → EndsAs early report ss sink sink (outcome.Run fault.Memory)
-no_memory_ends None report ss sink = (refl, keeps_same sink.told)
-no_memory_ends (Some f) report ss sink = (inr refl, (refl, keeps_same sink.told))
+pub no_memory_ends : (layout : Layout) (early : Option ConvertFault) (report : ReportValue) (ss : List Stream) (sink : SinkView) → EndsAs layout early report ss sink sink (outcome.Run fault.Memory)
+no_memory_ends layout None report ss sink = (refl, keeps_same sink.told)
+no_memory_ends layout (Some f) report ss sink = (inr refl, (refl, keeps_same sink.told))
 
-pub converted : (workers ring readers limit : ℕ) (report : ReportValue) (files : List (Option (List ℕ))) (old new : SinkView) (r : Result Run ConvertFault) (names : List (List ℕ)) (o : Outcome)
+pub converted : (layout : Layout) (workers ring readers limit : ℕ) (report : ReportValue) (files : List (Option (List ℕ))) (old new : SinkView) (r : Result Run ConvertFault) (names : List (List ℕ)) (o : Outcome)
     → names ≡ table_ids report → o ≡ outcome_by names r → readers ≡ length files
     → IfOk r (λ run. AreHistories (streams report limit files) run.drains.items)
-    → IfOk r (λ run. AreUncut run.drains.items → AreStreams (streams report limit files) run.drains.items × IsAnswer report (streams report limit files) old new run.faults.items run.end)
+    → IfOk r (λ run. AreUncut run.drains.items → AreStreams (streams report limit files) run.drains.items × IsAnswer layout report (streams report limit files) old new run.faults.items run.end)
     → AnswersFault (early_fault workers ring readers (length report.tables)) r
-    → Writes report (length report.tables) old new r
-    → EndsAs (early_fault workers ring (length files) (length report.tables)) report (streams report limit files) old new o
-converted workers ring readers limit report files old new r names o named is many histories headline faults writes =
-    subst (λ n. EndsAs (early_fault workers ring n (length report.tables)) report (streams report limit files) old new o) many
-    (subst (EndsAs (early_fault workers ring readers (length report.tables)) report (streams report limit files) old new) (sym is)
-    (answered report limit files old new names named (early_fault workers ring readers (length report.tables)) r (never_lost workers ring readers (length report.tables)) histories headline faults writes))
+    → Writes layout report (length report.tables) old new r
+    → EndsAs layout (early_fault workers ring (length files) (length report.tables)) report (streams report limit files) old new o
+converted layout workers ring readers limit report files old new r names o named is many histories headline faults writes =
+    subst (λ n. EndsAs layout (early_fault workers ring n (length report.tables)) report (streams report limit files) old new o) many
+    (subst (EndsAs layout (early_fault workers ring readers (length report.tables)) report (streams report limit files) old new) (sym is)
+    (answered layout report limit files old new names named (early_fault workers ring readers (length report.tables)) r (never_lost workers ring readers (length report.tables)) histories headline faults writes))
 
 -- of a report that texts say
-no_report : (early : Option ConvertFault) (report : ReportValue) (ss : List Stream) (old new : SinkView) (s : Source) (f : MetaFault) → EndsAs early report ss old new (outcome.Report s f) → ⊥
-no_report None report ss old new s f ends = ends
-no_report (Some g) report ss old new s f (inl is, none) = cc
-no_report (Some g) report ss old new s f (inr is, none) = cc
+no_report : (layout : Layout) (early : Option ConvertFault) (report : ReportValue) (ss : List Stream) (old new : SinkView) (s : Source) (f : MetaFault) → EndsAs layout early report ss old new (outcome.Report s f) → ⊥
+no_report layout None report ss old new s f ends = ends
+no_report layout (Some g) report ss old new s f (inl is, none) = cc
+no_report layout (Some g) report ss old new s f (inr is, none) = cc
 
-unwritten : (early : Option ConvertFault) (report : ReportValue) (ss : List Stream) (old new : SinkView) → EndsAs early report ss old new (outcome.Run fault.Memory) → Unwritten old new
-unwritten None report ss old new ends = ends
-unwritten (Some g) report ss old new ends = ends.1
+unwritten : (layout : Layout) (early : Option ConvertFault) (report : ReportValue) (ss : List Stream) (old new : SinkView) → EndsAs layout early report ss old new (outcome.Run fault.Memory) → Unwritten old new
+unwritten layout None report ss old new ends = ends
+unwritten layout (Some g) report ss old new ends = ends.1
 
 module _ (given : Texts) (old new : SinkView) (report : ReportValue) (says : SaysWith given.limits given.metadata given.types report) where
   abbrev found : Option ConvertFault
@@ -74,19 +75,19 @@ module _ (given : Texts) (old new : SinkView) (report : ReportValue) (says : Say
   abbrev said : List Stream
   said = streams report given.limits.rows given.files
 
-  all_texts : (o : Outcome) → EndsAs found report said old new o → ConvertedTexts given old new o
+  all_texts : (o : Outcome) → EndsAs given.layout found report said old new o → ConvertedTexts given old new o
   all_texts o e = record { report = report; says = says; ends = e }
 
-  pub ends : (o : Outcome) → EndsAs found report said old new o → Ends given old new o
+  pub ends : (o : Outcome) → EndsAs given.layout found report said old new o → Ends given old new o
   ends outcome.Done e = all_texts outcome.Done e
-  ends (outcome.Report source.Report f) e = absurd (no_report found report said old new source.Report f e)
-  ends (outcome.Report source.Types f) e = absurd (no_report found report said old new source.Types f e)
-  ends (outcome.Report source.Parameters f) e = absurd (no_report found report said old new source.Parameters f e)
+  ends (outcome.Report source.Report f) e = absurd (no_report given.layout found report said old new source.Report f e)
+  ends (outcome.Report source.Types f) e = absurd (no_report given.layout found report said old new source.Types f e)
+  ends (outcome.Report source.Parameters f) e = absurd (no_report given.layout found report said old new source.Parameters f e)
   ends (outcome.Tables named) e = all_texts (outcome.Tables named) e
   ends (outcome.CannotRead p) e = all_texts (outcome.CannotRead p) e
   ends (outcome.CannotWrite p) e = all_texts (outcome.CannotWrite p) e
   ends (outcome.Output w) e = all_texts (outcome.Output w) e
-  ends (outcome.Run fault.Memory) e = unwritten found report said old new e
+  ends (outcome.Run fault.Memory) e = unwritten given.layout found report said old new e
   ends (outcome.Run fault.BadWorkers) e = all_texts (outcome.Run fault.BadWorkers) e
   ends (outcome.Run fault.BadSize) e = all_texts (outcome.Run fault.BadSize) e
   ends (outcome.Run fault.WrongReaders) e = all_texts (outcome.Run fault.WrongReaders) e
@@ -95,11 +96,11 @@ module _ (given : Texts) (old new : SinkView) (report : ReportValue) (says : Say
   ends (outcome.Run (fault.Write w)) e = all_texts (outcome.Run (fault.Write w)) e
 
 -- of a report whose tables each have a file, or none
-run_ends : (workers ring : ℕ) (report : ReportValue) (files : List (Option (List ℕ))) (old new : SinkView) (o : Outcome) → length files ≡ length report.tables
-    → EndsAs (early_fault workers ring (length files) (length report.tables)) report (streams report profile.rows files) old new o
-    → EndsAs (range_fault workers ring) report (streams report profile.rows files) old new o
-run_ends workers ring report files old new o many =
-    subst (λ early. EndsAs early report (streams report profile.rows files) old new o) (in_range workers ring (length files) (length report.tables) many)
+run_ends : (layout : Layout) (workers ring : ℕ) (report : ReportValue) (files : List (Option (List ℕ))) (old new : SinkView) (o : Outcome) → length files ≡ length report.tables
+    → EndsAs layout (early_fault workers ring (length files) (length report.tables)) report (streams report profile.rows files) old new o
+    → EndsAs layout (range_fault workers ring) report (streams report profile.rows files) old new o
+run_ends layout workers ring report files old new o many =
+    subst (λ early. EndsAs layout early report (streams report profile.rows files) old new o) (in_range workers ring (length files) (length report.tables) many)
 
 length_map : {A B : Type 0} (f : A → B) (xs : List A) → length (map f xs) ≡ length xs
 length_map f [] = refl
@@ -130,11 +131,11 @@ pub one_longer : {A : Type 0} (xs ys : List A) (x : A) (n : ℕ) → ys ≡ xs +
 one_longer xs ys x n more is = ap length more ∙ length-append xs (x ∷ []) ∙ ap (λ k. k + 1) is
 
 -- a run that stops before the conversion
-pub stops : (known : Option Files) (base meta types : List ℕ) (workers ring : ℕ) (sink : SinkView) (o : Outcome) → IsFolderOf base meta
+pub stops : (known : Option Files) (base meta types : List ℕ) (workers ring : ℕ) (layout : Layout) (sink : SinkView) (o : Outcome) → IsFolderOf base meta
     → IfSome known (λ files. IsReport files base meta types (Err o))
-    → IfSome known (λ files. EndsOver files meta types workers ring sink sink o)
-stops None base meta types workers ring sink o folder stop = tt
-stops (Some files) base meta types workers ring sink o folder stop =
+    → IfSome known (λ files. EndsOver files meta types workers ring layout sink sink o)
+stops None base meta types workers ring layout sink o folder stop = tt
+stops (Some files) base meta types workers ring layout sink o folder stop =
     record { base = base; folder = folder; ends = inl (stop, (refl, keeps_same sink.told)) }
 
 pub early_leaves : (range : Option ConvertFault) (sink : SinkView) (o : Outcome) → IsEarly o → Leaves range sink sink o
@@ -147,14 +148,14 @@ early_leaves range sink (outcome.Run f) early = inl (early, (refl, keeps_same si
 early_leaves range sink (outcome.Output w) early = absurd early
 
 -- a run whose tables are converted
-pub runs : {R : Type 0} (told : R → Option (List ℕ)) (known : Option Files) (base meta types : List ℕ) (workers ring : ℕ) (old new : SinkView) (o : Outcome) (report : ReportValue) (readers : List (Option R)) → IsFolderOf base meta
+pub runs : {R : Type 0} (told : R → Option (List ℕ)) (known : Option Files) (base meta types : List ℕ) (workers ring : ℕ) (layout : Layout) (old new : SinkView) (o : Outcome) (report : ReportValue) (readers : List (Option R)) → IsFolderOf base meta
     → IfSome known (λ files. IsReport files base meta types (Ok report))
     → IfSome known (λ files. AreFilesOf told readers (table_files files base report))
     → ((files : List (Option (List ℕ))) → AreFilesOf told readers files
-    → EndsAs (early_fault workers ring (length files) (length report.tables)) report (streams report profile.rows files) old new o)
-    → IfSome known (λ files. EndsOver files meta types workers ring old new o)
-runs told None base meta types workers ring old new o report readers folder is are converts = tt
-runs told (Some files) base meta types workers ring old new o report readers folder is are converts =
+    → EndsAs layout (early_fault workers ring (length files) (length report.tables)) report (streams report profile.rows files) old new o)
+    → IfSome known (λ files. EndsOver files meta types workers ring layout old new o)
+runs told None base meta types workers ring layout old new o report readers folder is are converts = tt
+runs told (Some files) base meta types workers ring layout old new o report readers folder is are converts =
     let tables = table_files files base report in
     record {
       base = base;
@@ -163,16 +164,16 @@ runs told (Some files) base meta types workers ring old new o report readers fol
         report = report;
         passed = is.0;
         given = is.1;
-        ends = run_ends workers ring report tables old new o (length_map (table_file files base) report.tables) (converts tables are);
+        ends = run_ends layout workers ring report tables old new o (length_map (table_file files base) report.tables) (converts tables are);
       });
     }
 
 -- a run that found no memory for the readers of its tables
-pub short : (known : Option Files) (base meta types : List ℕ) (workers ring : ℕ) (sink : SinkView) (o : Outcome) (report : ReportValue) → IsFolderOf base meta
+pub short : (known : Option Files) (base meta types : List ℕ) (workers ring : ℕ) (layout : Layout) (sink : SinkView) (o : Outcome) (report : ReportValue) → IsFolderOf base meta
     → IfSome known (λ files. IsReport files base meta types (Ok report)) → o ≡ no_memory
-    → IfSome known (λ files. EndsOver files meta types workers ring sink sink o)
-short None base meta types workers ring sink o report folder is none = tt
-short (Some files) base meta types workers ring sink o report folder is none =
+    → IfSome known (λ files. EndsOver files meta types workers ring layout sink sink o)
+short None base meta types workers ring layout sink o report folder is none = tt
+short (Some files) base meta types workers ring layout sink o report folder is none =
     record {
       base = base;
       folder = folder;
@@ -180,19 +181,19 @@ short (Some files) base meta types workers ring sink o report folder is none =
         report = report;
         passed = is.0;
         given = is.1;
-        ends = subst (EndsAs (range_fault workers ring) report (streams report profile.rows (table_files files base report)) sink sink) (sym none)
-            (no_memory_ends (range_fault workers ring) report (streams report profile.rows (table_files files base report)) sink);
+        ends = subst (EndsAs layout (range_fault workers ring) report (streams report profile.rows (table_files files base report)) sink sink) (sym none)
+            (no_memory_ends layout (range_fault workers ring) report (streams report profile.rows (table_files files base report)) sink);
       });
     }
 
 -- what every outcome leaves
-pub converted_leaves : (workers ring readers : ℕ) (report : ReportValue) (old new : SinkView) (r : Result Run ConvertFault) (names : List (List ℕ)) (o : Outcome)
+pub converted_leaves : (layout : Layout) (workers ring readers : ℕ) (report : ReportValue) (old new : SinkView) (r : Result Run ConvertFault) (names : List (List ℕ)) (o : Outcome)
     → o ≡ outcome_by names r → AnswersFault (early_fault workers ring readers (length report.tables)) r
-    → Writes report (length report.tables) old new r
+    → Writes layout report (length report.tables) old new r
     → Leaves (early_fault workers ring readers (length report.tables)) old new o
-converted_leaves workers ring readers report old new r names o is faults writes =
+converted_leaves layout workers ring readers report old new r names o is faults writes =
     let early = early_fault workers ring readers (length report.tables) in
-    subst (Leaves early old new) (sym is) (left report (length report.tables) old new names early r (never_lost workers ring readers (length report.tables)) faults writes)
+    subst (Leaves early old new) (sym is) (left layout report (length report.tables) old new names early r (never_lost workers ring readers (length report.tables)) faults writes)
 
 pub short_leaves : (range : Option ConvertFault) (sink : SinkView) (o : Outcome) → o ≡ no_memory → Leaves range sink sink o
 short_leaves range sink o none = subst (Leaves range sink sink) (sym none) (inl (refl, (refl, keeps_same sink.told)))
@@ -211,14 +212,14 @@ pub behind : (ends : SinkView → SinkView → Outcome → Type 0) (before after
 behind ends before after ended o failed fine run is =
     inr (record { ended = ended; before = before; after = after; fine = fine; run = run; last = flushed_or failed ended o is })
 
-pub behind_told : (known : Option Files) (meta types : List ℕ) (workers ring : ℕ) (before after : SinkView) (ended o : Outcome) (failed : Bool) → before.mark ≡ «marks».Fine
-    → IfSome known (λ files. EndsOver files meta types workers ring before after ended) → o ≡ (if failed then flushed ended else ended)
-    → IfSome known (λ files. Buffered (EndsOver files meta types workers ring) o)
-behind_told None meta types workers ring before after ended o failed fine run is = tt
-behind_told (Some files) meta types workers ring before after ended o failed fine run is =
-    behind (EndsOver files meta types workers ring) before after ended o failed fine run is
+pub behind_told : (known : Option Files) (meta types : List ℕ) (workers ring : ℕ) (layout : Layout) (before after : SinkView) (ended o : Outcome) (failed : Bool) → before.mark ≡ «marks».Fine
+    → IfSome known (λ files. EndsOver files meta types workers ring layout before after ended) → o ≡ (if failed then flushed ended else ended)
+    → IfSome known (λ files. Buffered (EndsOver files meta types workers ring layout) o)
+behind_told None meta types workers ring layout before after ended o failed fine run is = tt
+behind_told (Some files) meta types workers ring layout before after ended o failed fine run is =
+    behind (EndsOver files meta types workers ring layout) before after ended o failed fine run is
 
-pub no_buffer : (known : Option Files) (meta types : List ℕ) (workers ring : ℕ) (o : Outcome) → o ≡ no_memory
-    → IfSome known (λ files. Buffered (EndsOver files meta types workers ring) o)
-no_buffer None meta types workers ring o is = tt
-no_buffer (Some files) meta types workers ring o is = inl is
+pub no_buffer : (known : Option Files) (meta types : List ℕ) (workers ring : ℕ) (layout : Layout) (o : Outcome) → o ≡ no_memory
+    → IfSome known (λ files. Buffered (EndsOver files meta types workers ring layout) o)
+no_buffer None meta types workers ring layout o is = tt
+no_buffer (Some files) meta types workers ring layout o is = inl is

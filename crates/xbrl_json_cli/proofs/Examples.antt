@@ -1,6 +1,7 @@
 -- The definitions, executed on worked cases.
-use Rattle.std.proofs.Common.{◌≡◌, ◌++◌, ◌∷◌, [], ℕ, List, Some, None, Err, false, codes, map, refl, take, if◌then◌else◌}
+use Rattle.std.proofs.Common.{◌≡◌, ◌++◌, ◌∷◌, [], ℕ, List, Some, None, Err, true, false, codes, map, refl, take, if◌then◌else◌}
 use Rattle.std.specs.Fmt.{digits}
+use Rattle.std.specs.Borrow.{Bor}
 use Rattle.std.specs.Str.{bytes_eq}
 use Rattle.clap.proofs.OnLiterals.{clap_on_literals}
 use Rattle.clap.specs.Words.{Row, Text, fault_of, first_of, matches_of, one_of}
@@ -16,7 +17,7 @@ use Rattle.oim_resolve.specs.declared.fact.CellFault.TheVariants as cell
 use Rattle.oim_rows.specs.Header.{fault_at}
 use Rattle.oim_rows.specs.declared.fault.TableFault.{TableFault}
 use Rattle.oim_rows.specs.declared.fault.TableKind.TheVariants as table
-use Rattle.xbrl_json_cli.specs.CommandLine.{command_line}
+use Rattle.xbrl_json_cli.specs.CommandLine.{AreLayouts, Words, command_line, is_given}
 use Rattle.xbrl_json_cli.specs.Conversion.{flushed}
 use Rattle.xbrl_json_cli.specs.Folders.{Files}
 use Rattle.xbrl_json_cli.specs.Lines.{line_of, status_of}
@@ -29,14 +30,24 @@ use Rattle.xbrl_json_cli.specs.declared.outcome.Outcome.TheVariants as outcome
 
 -- ---- the command line
 
+-- the words of the layouts, wherever they stand
+abbrev word : Text → Bor Text
+word text = record { ref_ptr = (0, 0); now = text }
+
+abbrev layouts : Words
+layouts = record { ref_ptr = (0, 0); now = word (codes "compact") ∷ word (codes "lines") ∷ [] }
+
+words_of_the_layouts : AreLayouts layouts
+words_of_the_layouts = refl
+
 abbrev least : List Text
 least = codes "m.json" ∷ codes "--types" ∷ codes "t.csv" ∷ []
 
 abbrev full : List Text
-full = codes "--out" ∷ codes "o.json" ∷ codes "--workers" ∷ codes "64" ∷ codes "--ring=2" ∷ least
+full = codes "--out" ∷ codes "o.json" ∷ codes "--workers" ∷ codes "64" ∷ codes "--ring=2" ∷ codes "--layout" ∷ codes "lines" ∷ codes "--progress" ∷ least
 
 abbrev given : List Text → List Row
-given words = matches_of command_line words
+given words = matches_of (command_line layouts) words
 
 least_meta : first_of (codes "meta") (given least) ≡ Some (codes "m.json")
 unfolding clap_on_literals command_line
@@ -58,6 +69,14 @@ least_out : first_of (codes "out") (given least) ≡ None
 unfolding clap_on_literals command_line
 least_out = refl
 
+least_layout : first_of (codes "layout") (given least) ≡ Some (codes "compact")
+unfolding clap_on_literals command_line
+least_layout = refl
+
+least_progress : is_given (first_of (codes "progress") (given least)) ≡ false
+unfolding clap_on_literals command_line
+least_progress = refl
+
 full_workers : one_of (codes "workers") (given full) ≡ Some (codes "64")
 unfolding clap_on_literals command_line
 full_workers = refl
@@ -70,31 +89,43 @@ full_out : first_of (codes "out") (given full) ≡ Some (codes "o.json")
 unfolding clap_on_literals command_line
 full_out = refl
 
-least_taken : fault_of command_line least ≡ []
+full_layout : first_of (codes "layout") (given full) ≡ Some (codes "lines")
+unfolding clap_on_literals command_line
+full_layout = refl
+
+full_progress : is_given (first_of (codes "progress") (given full)) ≡ true
+unfolding clap_on_literals command_line
+full_progress = refl
+
+least_taken : fault_of (command_line layouts) least ≡ []
 unfolding clap_on_literals command_line
 least_taken = refl
 
-full_taken : fault_of command_line full ≡ []
+full_taken : fault_of (command_line layouts) full ≡ []
 unfolding clap_on_literals command_line
 full_taken = refl
 
-types_missing : fault_of command_line (codes "m.json" ∷ []) ≡ kind.MissingRequiredArgument ∷ []
+types_missing : fault_of (command_line layouts) (codes "m.json" ∷ []) ≡ kind.MissingRequiredArgument ∷ []
 unfolding clap_on_literals command_line
 types_missing = refl
 
-sixty_five_workers : fault_of command_line (codes "--workers" ∷ codes "65" ∷ least) ≡ kind.ValueValidation ∷ []
+sixty_five_workers : fault_of (command_line layouts) (codes "--workers" ∷ codes "65" ∷ least) ≡ kind.ValueValidation ∷ []
 unfolding clap_on_literals command_line
 sixty_five_workers = refl
 
-help_wanted : fault_of command_line (codes "--help" ∷ []) ≡ kind.DisplayHelp ∷ []
+another_layout : fault_of (command_line layouts) (codes "--layout" ∷ codes "pretty" ∷ least) ≡ kind.InvalidValue ∷ []
+unfolding clap_on_literals command_line
+another_layout = refl
+
+help_wanted : fault_of (command_line layouts) (codes "--help" ∷ []) ≡ kind.DisplayHelp ∷ []
 unfolding clap_on_literals command_line
 help_wanted = refl
 
-version_wanted : fault_of command_line (codes "--version" ∷ []) ≡ kind.DisplayVersion ∷ []
+version_wanted : fault_of (command_line layouts) (codes "--version" ∷ []) ≡ kind.DisplayVersion ∷ []
 unfolding clap_on_literals command_line
 version_wanted = refl
 
-another_word : fault_of command_line (codes "more.json" ∷ least) ≡ kind.UnknownArgument ∷ []
+another_word : fault_of (command_line layouts) (codes "more.json" ∷ least) ≡ kind.UnknownArgument ∷ []
 unfolding clap_on_literals command_line
 another_word = refl
 

@@ -9,6 +9,7 @@ use Rattle.oim_convert.specs.declared.fault.ConvertFault.TheVariants as fault
 use Rattle.oim_convert.specs.declared.run.Run.{Run}
 use Rattle.oim_json.specs.JsonText.{head_text}
 use Rattle.oim_json.specs.Sinks.{SinkView, Unwritten}
+use Rattle.oim_json.specs.declared.layout.Layout.{Layout}
 use Rattle.oim_merge.proofs.Going.{all_refusals}
 use Rattle.oim_merge.specs.Histories.{all_of, refusals}
 use Rattle.oim_merge.specs.Merging.{Merges}
@@ -64,11 +65,11 @@ uncut (h ∷ hs) all =
 
 -- THE END
 
-module _ (report : ReportValue) (ss : List Stream) (old new : SinkView) where
+module _ (layout : Layout) (report : ReportValue) (ss : List Stream) (old new : SinkView) where
   abbrev Headline : Run → Type 0
-  Headline run = AreUncut run.drains.items → AreStreams ss run.drains.items × IsAnswer report ss old new run.faults.items run.end
+  Headline run = AreUncut run.drains.items → AreStreams ss run.drains.items × IsAnswer layout report ss old new run.faults.items run.end
 
-  run_gives : (run : Run) → AreHistories ss run.drains.items → Headline run → IsRun report (length report.tables) old new run → Gives report ss old new run.faults.items run.end
+  run_gives : (run : Run) → AreHistories ss run.drains.items → Headline run → IsRun layout report (length report.tables) old new run → Gives layout report ss old new run.faults.items run.end
   run_gives run are headline is =
       record {
         histories = run.drains.items;
@@ -77,9 +78,9 @@ module _ (report : ReportValue) (ss : List Stream) (old new : SinkView) where
         answer = λ all. (headline (uncut run.drains.items (subst (λ (l : List TableFault). AreDefined l) is.merged.0 all))).1;
       }
 
-  ended : (names : List (List ℕ)) (faults : List TableFault) (e : MergeEnd) → with_names names faults ≡ refused_tables report faults → Gives report ss old new faults e
-      → EndsAs None report ss old new (outcome_at names faults e)
-  ended names faults end.Complete named gives = subst (λ (l : List TableFault). Gives report ss old new l end.Complete) gives.merged.1.0 gives
+  ended : (names : List (List ℕ)) (faults : List TableFault) (e : MergeEnd) → with_names names faults ≡ refused_tables report faults → Gives layout report ss old new faults e
+      → EndsAs layout None report ss old new (outcome_at names faults e)
+  ended names faults end.Complete named gives = subst (λ (l : List TableFault). Gives layout report ss old new l end.Complete) gives.merged.1.0 gives
   ended names faults end.Refused named gives = record { faults = faults; names = named; given = gives }
   ended names faults (end.Write w) named gives = (faults, gives)
 
@@ -94,18 +95,18 @@ Same r q = r ≡ q
 err_same : (f g : ConvertFault) → Same (Err f) (Err g) → f ≡ g
 err_same f g e = cc
 
-module _ (report : ReportValue) (limit : ℕ) (files : List (Option (List ℕ))) (old new : SinkView) (names : List (List ℕ)) (named : names ≡ table_ids report) where
+module _ (layout : Layout) (report : ReportValue) (limit : ℕ) (files : List (Option (List ℕ))) (old new : SinkView) (names : List (List ℕ)) (named : names ≡ table_ids report) where
   abbrev said : List Stream
   said = streams report limit files
 
   abbrev Outcome_of : Option ConvertFault → Result Run ConvertFault → Type 0
-  Outcome_of early r = EndsAs early report said old new (outcome_by names r)
+  Outcome_of early r = EndsAs layout early report said old new (outcome_by names r)
 
-  pub answered : (early : Option ConvertFault) (r : Result Run ConvertFault) → (early ≡ Some fault.Lost → ⊥) → IfOk r (λ run. AreHistories said run.drains.items) → IfOk r (λ run. Headline report said old new run)
-      → AnswersFault early r → Writes report (length report.tables) old new r → Outcome_of early r
+  pub answered : (early : Option ConvertFault) (r : Result Run ConvertFault) → (early ≡ Some fault.Lost → ⊥) → IfOk r (λ run. AreHistories said run.drains.items) → IfOk r (λ run. Headline layout report said old new run)
+      → AnswersFault early r → Writes layout report (length report.tables) old new r → Outcome_of early r
   answered None (Ok run) never histories headline faults writes =
-      ended report said old new names run.faults.items run.end (names_are report limit files run.drains.items names run.faults.items named histories writes.merged.0)
-      (run_gives report said old new run histories headline writes)
+      ended layout report said old new names run.faults.items run.end (names_are report limit files run.drains.items names run.faults.items named histories writes.merged.0)
+      (run_gives layout report said old new run histories headline writes)
   answered None (Err fault.Memory) never histories headline faults writes = writes
   answered None (Err fault.Lost) never histories headline faults writes = writes
   answered None (Err fault.BadWorkers) never histories headline faults writes = absurd faults
@@ -123,23 +124,23 @@ module _ (report : ReportValue) (limit : ℕ) (files : List (Option (List ℕ)))
   answered (Some f) (Err (fault.Write w)) never histories headline faults writes = absurd writes
 
 -- a list that has room for one fault of each table
-pub roomy : (report : ReportValue) (tables room : ℕ) (old new : SinkView) (r : Result Run ConvertFault) → room ≡ tables → Writes report tables old new r
+pub roomy : (layout : Layout) (report : ReportValue) (tables room : ℕ) (old new : SinkView) (r : Result Run ConvertFault) → room ≡ tables → Writes layout report tables old new r
     → IfOk r (λ run. length run.faults.items ≤ room)
-roomy report tables room old new (Ok run) same writes =
+roomy layout report tables room old new (Ok run) same writes =
     let few = faults_few run.drains.items writes.ended in
     let all = ap length writes.merged.0 in
     let count = writes.count in
     omega (arith, few, all, count, same)
-roomy report tables room old new (Err f) same writes = tt
+roomy layout report tables room old new (Err f) same writes = tt
 
 -- WHAT IS LEFT BEHIND
 
-module _ (report : ReportValue) (tables : ℕ) (old new : SinkView) (names : List (List ℕ)) where
+module _ (layout : Layout) (report : ReportValue) (tables : ℕ) (old new : SinkView) (names : List (List ℕ)) where
   no_names : (faults : List TableFault) → with_names names faults ≡ [] → faults ≡ []
   no_names [] none = refl
   no_names (e ∷ faults) none = absurd (cc)
 
-  ended_leaves : (hs : List (List Item)) (faults : List TableFault) (e : MergeEnd) → Merges old new (head_text report) hs faults e → Leaves None old new (outcome_at names faults e)
+  ended_leaves : (hs : List (List Item)) (faults : List TableFault) (e : MergeEnd) → Merges layout old new (head_text report) hs faults e → Leaves None old new (outcome_at names faults e)
   ended_leaves hs faults end.Complete m = (refl, m.1.1.0)
   ended_leaves hs faults end.Refused m = (refl, m.1.1.0, λ none. m.1.0 (no_names faults none))
   ended_leaves hs faults (end.Write w) m = (refl, m.1.0)
@@ -148,7 +149,7 @@ module _ (report : ReportValue) (tables : ℕ) (old new : SinkView) (names : Lis
   out_of_range f g is none = inr (inl (ap Some (sym (err_same g f is)), none))
 
   pub left : (early : Option ConvertFault) (r : Result Run ConvertFault) → (early ≡ Some fault.Lost → ⊥) → AnswersFault early r
-      → Writes report tables old new r → Leaves early old new (outcome_by names r)
+      → Writes layout report tables old new r → Leaves early old new (outcome_by names r)
   left None (Ok run) never faults writes = ended_leaves run.drains.items run.faults.items run.end writes.merged
   left None (Err fault.Memory) never faults writes = inl (refl, writes)
   left None (Err fault.Lost) never faults writes = inr (inr (refl, refl))

@@ -10,6 +10,7 @@ use Rattle.oim_meta.specs.TypesFile.{types_result}
 use Rattle.oim_meta.specs.declared.fault.MetaFault.{MetaFault}
 use Rattle.oim_meta.specs.declared.limits.Limits.{Limits}
 use Rattle.oim_json.specs.Sinks.{SinkView, Unwritten}
+use Rattle.oim_json.specs.declared.layout.Layout.{Layout}
 use Rattle.oim_json.specs.declared.mark.Mark.TheVariants as «marks»
 use Rattle.oim_json.specs.declared.mark.WriteFault.TheVariants as write
 use Rattle.oim_convert.specs.Answer.{streams}
@@ -24,18 +25,19 @@ use Rattle.xbrl_json_cli.specs.declared.outcome.Source.TheVariants as source
 abbrev pub profile : Limits
 profile = record { rows = 100_000_000; tables = 4_096; columns = 4_096; metadata = 67_108_864 }
 
--- how many workers convert a report, and the size of each ring; the report's limits, and the bytes of its metadata, of its
--- types table and of the files of its tables
+-- how many workers convert a report, the size of each ring, and the layout of its document; the report's limits, and the bytes
+-- of its metadata, of its types table and of the files of its tables
 pub record Texts : Type 0 where
   pub workers : ℕ
   pub ring : ℕ
+  pub layout : Layout
   pub limits : Limits
   pub metadata : List ℕ
   pub types : List ℕ
   pub files : List (Option (List ℕ))
 
-abbrev pub texts : (workers ring : ℕ) → Limits → (metadata types : List ℕ) → List (Option (List ℕ)) → Texts
-texts workers ring limits metadata types files = record { workers = workers; ring = ring; limits = limits; metadata = metadata; types = types; files = files }
+abbrev pub texts : (workers ring : ℕ) → Layout → Limits → (metadata types : List ℕ) → List (Option (List ℕ)) → Texts
+texts workers ring layout limits metadata types files = record { workers = workers; ring = ring; layout = layout; limits = limits; metadata = metadata; types = types; files = files }
 
 -- the report that a metadata says with the types of a types table, and with no parameters of a file
 pub record SaysWith (limits : Limits) (metadata types : List ℕ) (report : ReportValue) : Type 0 where
@@ -64,7 +66,7 @@ Reads limits metadata types (Err o) = ⊥
 pub record ConvertedTexts (given : Texts) (old new : SinkView) (o : Outcome) : Type 0 where
   pub report : ReportValue
   pub says : SaysWith given.limits given.metadata given.types report
-  pub ends : EndsAs (early_fault given.workers given.ring (length given.files) (length report.tables)) report (streams report given.limits.rows given.files) old new o
+  pub ends : EndsAs given.layout (early_fault given.workers given.ring (length given.files) (length report.tables)) report (streams report given.limits.rows given.files) old new o
 
 -- the outcome of a run over these texts
 abbrev pub Ends : Texts → SinkView → SinkView → Outcome → Type 0

@@ -7,6 +7,7 @@ use Rattle.oim_convert.specs.declared.fault.ConvertFault.{ConvertFault}
 use Rattle.oim_convert.specs.declared.fault.ConvertFault.TheVariants as fault
 use Rattle.oim_json.specs.JsonText.{head_text}
 use Rattle.oim_json.specs.Sinks.{SinkView, Unwritten, mark_of}
+use Rattle.oim_json.specs.declared.layout.Layout.{Layout}
 use Rattle.oim_merge.specs.Merging.{Merges}
 use Rattle.oim_merge.specs.declared.progress.MergeEnd.{MergeEnd}
 use Rattle.oim_merge.specs.declared.progress.MergeEnd.TheVariants as end
@@ -33,41 +34,42 @@ named_by name faults = map (λ e. (name e.table, e)) faults
 abbrev pub refused_tables : ReportValue → List TableFault → List (List ℕ × TableFault)
 refused_tables report faults = named_by (λ i. (table_of report i).id) faults
 
--- no table ended for want of memory or of threads, or by a failed read
+-- no table ended because memory or threads ran out, or by a failed read
 abbrev pub AreDefined : List TableFault → Type 0
 AreDefined [] = ⊤
 AreDefined (e ∷ faults) = (¬ IsOuter e.kind) × AreDefined faults
 
--- there are histories of these streams; the faults are theirs, in table order, and what is written is their document. Where each
--- fault is a table's own, that is the answer which the streams define
-pub record Gives (report : ReportValue) (ss : List Stream) (old new : SinkView) (faults : List TableFault) (e : MergeEnd) : Type 0 where
+-- there are histories of these streams; the faults are theirs, in table order, and what is written is their document in this
+-- layout. Where each fault is a table's own, that is the answer which the streams define
+pub record Gives (layout : Layout) (report : ReportValue) (ss : List Stream) (old new : SinkView) (faults : List TableFault) (e : MergeEnd) : Type 0 where
   pub histories : List (List Item)
   pub are : AreHistories ss histories
-  pub merged : Merges old new (head_text report) histories faults e
-  pub answer : AreDefined faults → IsAnswer report ss old new faults e
+  pub merged : Merges layout old new (head_text report) histories faults e
+  pub answer : AreDefined faults → IsAnswer layout report ss old new faults e
 
 -- the refused tables, and the unfinished document up to and with the first of them
-pub record Refuses (report : ReportValue) (ss : List Stream) (old new : SinkView) (named : List (List ℕ × TableFault)) : Type 0 where
+pub record Refuses (layout : Layout) (report : ReportValue) (ss : List Stream) (old new : SinkView) (named : List (List ℕ × TableFault)) : Type 0 where
   pub faults : List TableFault
   pub names : named ≡ refused_tables report faults
-  pub given : Gives report ss old new faults end.Refused
+  pub given : Gives layout report ss old new faults end.Refused
 
--- a conversion that could begin and has no end: want of memory, with nothing written, or the end of a ring was lost
-abbrev pub Breaks : ReportValue → SinkView → SinkView → ConvertFault → Type 0
-Breaks report old new fault.Memory = Unwritten old new
-Breaks report old new fault.Lost = IsLost report (length report.tables) old new
-Breaks report old new f = ⊥
+-- a conversion that could begin and has no end: memory ran out, with nothing written, or the end of a ring was lost
+abbrev pub Breaks : Layout → ReportValue → SinkView → SinkView → ConvertFault → Type 0
+Breaks layout report old new fault.Memory = Unwritten old new
+Breaks layout report old new fault.Lost = IsLost layout report (length report.tables) old new
+Breaks layout report old new f = ⊥
 
--- the conversion of a report with these streams ended so. With a fault that is found before anything is made it answers that
--- fault, or want of memory, and nothing is written. Else: Done, no table is refused and the whole document is written; Tables,
--- every refused table with its identifier; Output, a write failed and a beginning of the document is written
-abbrev pub EndsAs : Option ConvertFault → ReportValue → List Stream → SinkView → SinkView → Outcome → Type 0
-EndsAs (Some f) report ss old new o = ((o ≡ outcome.Run f) ⊎ (o ≡ outcome.Run fault.Memory)) × Unwritten old new
-EndsAs None report ss old new outcome.Done = Gives report ss old new [] end.Complete
-EndsAs None report ss old new (outcome.Tables named) = Refuses report ss old new named
-EndsAs None report ss old new (outcome.Output w) = (faults : List TableFault) × Gives report ss old new faults (end.Write w)
-EndsAs None report ss old new (outcome.Run f) = Breaks report old new f
-EndsAs None report ss old new o = ⊥
+-- the conversion of a report with these streams, to a document in this layout, ended so. With a fault that is found before
+-- anything is made it answers that fault, or that memory ran out, and nothing is written. Else: Done, no table is refused and the
+-- whole document is written; Tables, every refused table with its identifier; Output, a write failed and a beginning of the
+-- document is written
+abbrev pub EndsAs : Layout → Option ConvertFault → ReportValue → List Stream → SinkView → SinkView → Outcome → Type 0
+EndsAs layout (Some f) report ss old new o = ((o ≡ outcome.Run f) ⊎ (o ≡ outcome.Run fault.Memory)) × Unwritten old new
+EndsAs layout None report ss old new outcome.Done = Gives layout report ss old new [] end.Complete
+EndsAs layout None report ss old new (outcome.Tables named) = Refuses layout report ss old new named
+EndsAs layout None report ss old new (outcome.Output w) = (faults : List TableFault) × Gives layout report ss old new faults (end.Write w)
+EndsAs layout None report ss old new (outcome.Run f) = Breaks layout report old new f
+EndsAs layout None report ss old new o = ⊥
 
 -- a run that could not begin, or lost the end of a ring, whatever the readers: memory ran out or the settings are out of range,
 -- and nothing is written; or the end was lost, and the settings are in range

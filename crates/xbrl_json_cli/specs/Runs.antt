@@ -4,6 +4,7 @@ use Rattle.oim_convert.specs.Answer.{streams}
 use Rattle.oim_convert.specs.Runs.{early_fault}
 use Rattle.oim_convert.specs.declared.fault.ConvertFault.{ConvertFault}
 use Rattle.oim_json.specs.Sinks.{SinkView, Unwritten}
+use Rattle.oim_json.specs.declared.layout.Layout.{Layout}
 use Rattle.oim_meta.specs.ReportValue.{ReportValue}
 use Rattle.oim_meta.specs.declared.data.Table.{Table}
 use Rattle.xbrl_json_cli.specs.Conversion.{profile}
@@ -25,15 +26,15 @@ abbrev pub range_fault : (workers ring : ℕ) → Option ConvertFault
 range_fault workers ring = early_fault workers ring 0 0
 
 -- no step has a fault, and the run is the conversion of the report that the files give
-pub record Converted (files : Files) (base meta types : List ℕ) (workers ring : ℕ) (old new : SinkView) (o : Outcome) : Type 0 where
+pub record Converted (files : Files) (base meta types : List ℕ) (workers ring : ℕ) (layout : Layout) (old new : SinkView) (o : Outcome) : Type 0 where
   pub report : ReportValue
   pub passed : Passes (steps files base meta types)
   pub given : report_at files base meta types ≡ Ok report
-  pub ends : EndsAs (range_fault workers ring) report (streams report profile.rows (table_files files base report)) old new o
+  pub ends : EndsAs layout (range_fault workers ring) report (streams report profile.rows (table_files files base report)) old new o
 
 -- how a run over these files ends, where the base is the folder of the metadata's path: at a step before the conversion, with
 -- nothing written, or as the conversion does
-pub record EndsOver (files : Files) (meta types : List ℕ) (workers ring : ℕ) (old new : SinkView) (o : Outcome) : Type 0 where
+pub record EndsOver (files : Files) (meta types : List ℕ) (workers ring : ℕ) (layout : Layout) (old new : SinkView) (o : Outcome) : Type 0 where
   pub base : List ℕ
   pub folder : IsFolderOf base meta
-  pub ends : (Stops (steps files base meta types) o × Unwritten old new) ⊎ Converted files base meta types workers ring old new o
+  pub ends : (Stops (steps files base meta types) o × Unwritten old new) ⊎ Converted files base meta types workers ring layout old new o

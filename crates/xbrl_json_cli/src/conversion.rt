@@ -1,4 +1,4 @@
-//! The conversion of a report, whose tables are given by readers, or all of whose files are given by
+//! The conversion of a report whose tables are given by readers, or all of whose files are given by
 //! their bytes.
 
 ghost use Rattle.std.specs.Prelude.{◌≡◌, ◌≤◌, ◌<◌, ℕ, List, [], ◌∷◌, Option, Some, None, IfOk, is_err, if◌then◌else◌, length, slice_set, vec_capacity};
@@ -6,14 +6,17 @@ ghost use Rattle.oim_convert.specs.Answer.{streams};
 ghost use Rattle.oim_convert.specs.Files.{AreFilesOf};
 ghost use Rattle.oim_convert.specs.Runs.{early_fault};
 ghost use Rattle.oim_json.specs.Sinks.{sink_at};
+ghost use Rattle.oim_json.specs.declared.layout.Layout.TheVariants as layouts;
+ghost use Rattle.oim_json.specs.declared.mark.WriteFault.TheVariants as writes;
 ghost use Rattle.xbrl_json_cli.specs.Naming.{outcome_by, with_names};
+ghost use Rattle.xbrl_json_cli.specs.declared.outcome.Outcome.TheVariants as outcomes;
 ghost use Rattle.xbrl_json_cli.specs.Conversion.{Buffered, Ends, Reads, flushed, profile, texts};
 ghost use Rattle.xbrl_json_cli.specs.Outcomes.{EndsAs, Leaves, name_in, table_ids};
 
 use crate::held::{METADATA, TABLE, TYPES};
 use crate::outcome::{Outcome, Source};
 use oim_convert::{ConvertFault, Run, convert};
-use oim_json::{Marked, Sink, WriteFault};
+use oim_json::{Layout, Marked, Sink, WriteFault};
 use oim_merge::MergeEnd;
 use oim_meta::{Limits, Parameters, Report, read_report, read_types};
 use oim_names::{Items, Text};
@@ -110,13 +113,14 @@ fn ending(
     }
 }
 
-/// Converts a report, given a reader of the file of each table, in table order, where `None` is a
-/// table without a file, by so many workers, over rings of this size. Writes its document in
-/// xBRL-JSON 1.0 to the sink, and answers how the conversion ended, which is the same for every
-/// number of workers, ring size and schedule, apart from failed reads and running out of memory or
-/// threads. The names that an outcome needs, and the room for a list of refused tables, are made
-/// first; where memory is short for them it is Memory, with nothing written. `limits.rows` is at most 4,294,967,294.
-/// It waits for its workers.
+/// Converts a report, given a reader of each table's file, in table order, where `None` is a table
+/// without a file. Writes its document in xBRL-JSON 1.0 to the sink, in the layout asked for, with
+/// this number of workers and rings of this size. `limits.rows` is at most 4,294,967,294.
+///
+/// Answers how the conversion ended, which is the same for every number of workers, ring size and
+/// schedule, apart from failed reads and running out of memory or threads. The names that an outcome
+/// needs, and the room for a list of refused tables, are made first; where memory runs out for them
+/// it is Memory, with nothing written. It waits for its workers.
 pub fn convert_report<R: Read + Drop + Send, T: Threads + Wait + Sync, W: Sink>(
     rt: &T,
     alloc: Global,
@@ -125,11 +129,12 @@ pub fn convert_report<R: Read + Drop + Send, T: Threads + Wait + Sync, W: Sink>(
     workers: usize,
     ring: usize,
     limits: Limits,
+    layout: Layout,
     sink: &mut W,
 ) -> Outcome
     requires { limits.rows ≤ 4294967294 }
     ensures ends { (files : List (Option (List ℕ))) → AreFilesOf R.remaining readers.items files
-        → EndsAs (early_fault workers ring (length files) (length report.now.tables)) report.now (streams report.now limits.rows files)
+        → EndsAs layout (early_fault workers ring (length files) (length report.now.tables)) report.now (streams report.now limits.rows files)
         (sink_at (W.mark sink.old) (W.told sink.old)) (sink_at (W.mark sink.new) (W.told sink.new)) result }
     ensures leaves { Leaves (early_fault workers ring (length readers.items) (length report.now.tables)) (sink_at (W.mark sink.old) (W.told sink.old)) (sink_at (W.mark sink.new) (W.told sink.new)) result }
 {
@@ -139,14 +144,16 @@ pub fn convert_report<R: Read + Drop + Send, T: Threads + Wait + Sync, W: Sink>(
     let Ok(room) = Vec::with_capacity(alloc, report.tables()) else {
         return Outcome::Run(ConvertFault::Memory);
     };
-    let answer = convert(rt, alloc, report, readers, workers, ring, limits, sink);
+    let answer = convert(
+        rt, alloc, report, readers, workers, ring, limits, layout, sink,
+    );
     ending(alloc, names, room, answer)
 }
 
 /// Converts a report, given by the bytes of its metadata and of its types table and by a reader of
-/// the file of each table, in table order, where `None` is a table without a file, by so many
-/// workers, over rings of this size. It has no parameters of a file. Writes its document in
-/// xBRL-JSON 1.0 to the sink, and answers how the run ended. `limits.rows` is at most
+/// each table's file, in table order, where `None` is a table without a file. It has no parameters
+/// file. Writes its document in xBRL-JSON 1.0 to the sink, in the layout asked for, with this number
+/// of workers and rings of this size, and answers how the run ended. `limits.rows` is at most
 /// 4,294,967,294. It waits for its workers.
 pub fn convert_texts<R: Read + Drop + Send, T: Threads + Wait + Sync, W: Sink>(
     rt: &T,
@@ -157,27 +164,30 @@ pub fn convert_texts<R: Read + Drop + Send, T: Threads + Wait + Sync, W: Sink>(
     workers: usize,
     ring: usize,
     limits: Limits,
+    layout: Layout,
     sink: &mut W,
 ) -> Outcome
     requires { limits.rows ≤ 4294967294 }
     ensures { (files : List (Option (List ℕ))) → AreFilesOf R.remaining tables.items files
-        → Ends (texts workers ring limits metadata.now types.now files) (sink_at (W.mark sink.old) (W.told sink.old)) (sink_at (W.mark sink.new) (W.told sink.new)) result }
+        → Ends (texts workers ring layout limits metadata.now types.now files) (sink_at (W.mark sink.old) (W.told sink.old)) (sink_at (W.mark sink.new) (W.told sink.new)) result }
 {
     let report = match read_texts(alloc, metadata, types, &limits) {
         Ok(report) => report,
         Err(outcome) => return outcome,
     };
-    convert_report(rt, alloc, &report, tables, workers, ring, limits, sink)
+    convert_report(
+        rt, alloc, &report, tables, workers, ring, limits, layout, sink,
+    )
 }
 
-/// Converts the report that the program holds, within the limits of this profile, by one worker
-/// over a ring of one block.
+/// Converts the report that the program holds, within the limits of this profile, with one worker
+/// and a ring of one block. The document has the layout compact.
 pub fn convert_held<T: Threads + Wait + Sync, W: Sink>(
     rt: &T,
     alloc: Global,
     sink: &mut W,
 ) -> Outcome
-    ensures { Ends (texts 1 1 profile METADATA.now TYPES.now (Some TABLE.now ∷ [])) (sink_at (W.mark sink.old) (W.told sink.old)) (sink_at (W.mark sink.new) (W.told sink.new)) result }
+    ensures { Ends (texts 1 1 layouts.Compact profile METADATA.now TYPES.now (Some TABLE.now ∷ [])) (sink_at (W.mark sink.old) (W.told sink.old)) (sink_at (W.mark sink.new) (W.told sink.new)) result }
 {
     let mut tables = Vec::new(alloc);
     if tables.push(Some(TABLE.as_bytes())).is_err() {
@@ -192,8 +202,16 @@ pub fn convert_held<T: Threads + Wait + Sync, W: Sink>(
         1,
         1,
         Limits::profile(),
+        Layout::Compact,
         sink,
     )
+}
+
+/// Whether a document was written, whole or unfinished.
+fn has_document(outcome: &Outcome) -> bool
+    ensures { flushed outcome.now ≡ (if result then outcomes.Output writes.Failed else outcome.now) }
+{
+    matches!(outcome, Outcome::Done | Outcome::Tables(_))
 }
 
 /// The outcome after the flush of what was written. A flush that fails is a failed write, after a
@@ -201,9 +219,10 @@ pub fn convert_held<T: Threads + Wait + Sync, W: Sink>(
 pub fn after_flush(outcome: Outcome, flush: io::Result<()>) -> Outcome
     ensures { result ≡ (if is_err flush then flushed outcome else outcome) }
 {
-    match (outcome, flush) {
-        (Outcome::Done | Outcome::Tables(_), Err(_)) => Outcome::Output(WriteFault::Failed),
-        (outcome, _) => outcome,
+    if flush.is_err() && has_document(&outcome) {
+        Outcome::Output(WriteFault::Failed)
+    } else {
+        outcome
     }
 }
 
@@ -213,7 +232,7 @@ pub fn convert_to<T: Threads + Wait + Sync, W: Write + Drop>(
     alloc: Global,
     to: W,
 ) -> Outcome
-    ensures { Buffered (Ends (texts 1 1 profile METADATA.now TYPES.now (Some TABLE.now ∷ []))) result }
+    ensures { Buffered (Ends (texts 1 1 layouts.Compact profile METADATA.now TYPES.now (Some TABLE.now ∷ []))) result }
 {
     let Ok(mut buffered) = BufWriter::with_capacity(alloc, 65536, to) else {
         return Outcome::Run(ConvertFault::Memory);

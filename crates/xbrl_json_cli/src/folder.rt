@@ -11,13 +11,14 @@ pub trait Folder<R: Read> {
     /// The bytes of the file at each path, where the folder tells them.
     ghost files: { Self → Option (List ℕ → Option (List ℕ)) } = { λ _. None };
 
-    /// Opens the file at the path: a reader of just its bytes, or `None` exactly where there is none.
+    /// Opens the file at the path: a reader of exactly its bytes, or `None` exactly where there is
+    /// no file.
     fn open(&mut self, path: &str) -> Option<R>
         ensures same { files self.new ≡ files self.old }
         ensures opens { IfSome (files self.old) (λ at. IsFileOf R.remaining result (at path.now)) };
 
-    /// Looks for the file at the path without opening it: a reader of just its bytes that may open it
-    /// at the first read, or `None` exactly where there is none.
+    /// Looks for the file at the path without opening it: a reader of exactly its bytes that may
+    /// open it at the first read, or `None` exactly where there is no file.
     fn find(&mut self, path: String) -> Option<R>
         ensures same { files self.new ≡ files self.old }
         ensures finds { IfSome (files self.old) (λ at. IsFileOf R.remaining result (at (string_bytes path))) };

@@ -1,8 +1,8 @@
 //! `xbrl-json`: converts a report in xBRL-CSV 1.0 to xBRL-JSON 1.0.
 //!
-//! `xbrl-json META --types FILE [--workers N] [--ring K] [--out FILE] [--progress]` converts the report whose
-//! metadata file is META to standard output, or to the file of `--out`. With no words at all the
-//! program converts the report that it holds to standard output.
+//! `xbrl-json META --types FILE [--workers N] [--ring K] [--out FILE] [--layout compact|lines]
+//! [--progress]` converts the report whose metadata file is META to standard output, or to the file
+//! of `--out`. With no words at all the program converts the report that it holds to standard output.
 //!
 //! What the crate promises:
 //! - `job` that is Ok has the values that the words give, and the defaults for those that they
@@ -11,16 +11,17 @@
 //! - `run`, over any folder that tells its bytes honestly, ends as the folder's files say: by the
 //!   first fault of the metadata, the types table and the parameters file, in the order in which
 //!   they are read, and then nothing is written; else as the conversion of the report that they
-//!   give: the whole document, or every refused table in table order, each by its identifier with its
-//!   first fault, and the unfinished document up to and with the first of them, for every number of
-//!   workers, every size of the rings and every schedule of the threads;
+//!   give: the whole document in the layout asked for, or every refused table in table order, each
+//!   by its identifier with its first fault, and the unfinished document up to and with the first of
+//!   them, for every number of workers, every size of the rings and every schedule of the threads;
 //! - `convert_texts` says the same of a report whose files are given by their bytes, and
 //!   `convert_held` of the held texts;
 //! - `status` and `line` are the exit status and the lines on standard error of each outcome, one
-//!   line for each refused table, and a flush that fails after a document, whole or unfinished, is a failed write.
+//!   line for each refused table, and a flush that fails after a document, whole or unfinished, is a
+//!   failed write.
 //!
-//! What the system's files hold, what its output takes, and what it says of the arguments, is not
-//! claimed.
+//! Nothing is claimed of what the system's files hold, what its output takes and what it says of the
+//! arguments, nor of the line that `--progress` shows.
 #![tactic(auto)]
 
 ghost use Rattle.std.specs.Prelude.{◌≡◌};
@@ -47,6 +48,8 @@ mod tests_copies;
 mod tests_ends;
 #[cfg(test)]
 mod tests_files;
+#[cfg(test)]
+mod tests_flush;
 #[cfg(test)]
 mod tests_metadata;
 #[cfg(test)]

@@ -41,7 +41,7 @@ pub enum Outcome {
     Done,
     /// The metadata, the parameters file or the types table has a fault; nothing is written.
     Report(Source, MetaFault),
-    /// Tables are refused; the document is unfinished. They stand in table order, each by its
+    /// Tables are refused; the document is unfinished. They stand in table order, each under its
     /// identifier with its first fault.
     Tables(Items<(Text, TableFault)>),
     /// The metadata, the types table or the parameters file, at this path, cannot be opened; nothing

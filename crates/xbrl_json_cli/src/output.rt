@@ -32,7 +32,7 @@ pub fn run_to<R: Read + Drop + Send, F: Folder<R>, T: Threads + Wait + Sync, W: 
     to: W,
 ) -> Outcome
     ensures { IfSome (F.files folder.old) (λ files.
-        Buffered (EndsOver files settings.now.meta settings.now.types settings.now.workers settings.now.ring) result) }
+        Buffered (EndsOver files settings.now.meta settings.now.types settings.now.workers settings.now.ring settings.now.layout) result) }
 {
     let Ok(mut buffered) = BufWriter::with_capacity(alloc, 65536, to) else {
         return no_memory();
@@ -82,8 +82,8 @@ fn run_watched<T: Threads + Wait + Sync, W: Write + Drop>(
 
 /// Runs over the system's files, to the file of `settings.out`, which is made or cut to nothing
 /// before anything is read, or to standard output. Where `settings.out` is the path of the metadata
-/// or of the types table it cannot be written, and nothing is touched. The threads are taken apart
-/// from the system's other parts.
+/// or of the types table it cannot be written, and nothing is touched. `threads` starts the
+/// workers' threads.
 pub fn convert_as<T: Threads + Wait + Sync>(
     rt: &HostRuntime,
     threads: &T,

@@ -45,21 +45,24 @@ fn find_tables<R: Read + Drop, F: Folder<R>>(
 }
 
 /// Converts the report whose metadata file is at `settings.meta`, with the types table at
-/// `settings.types`, and writes its document in xBRL-JSON 1.0 to the sink. The paths of the tables
-/// and of the parameters file are the folder of the metadata's path and their URL. Answers how the
-/// run ended: the first fault of the metadata, the types table and the parameters file, in the
-/// order in which they are read, with nothing written; else as the conversion of the tables ends,
-/// by `settings.workers` workers over rings of the size `settings.ring`. A table's file that is not
-/// there is a missing file and no other fault. It is opened once a worker has drawn the table; where
-/// that is refused, the table's read fails.
+/// `settings.types`, and writes its document in xBRL-JSON 1.0 to the sink, in the layout
+/// `settings.layout`. The paths of the tables and of the parameters file are the folder of the
+/// metadata's path and their URL. Answers how the run ended: the first fault of the metadata, the
+/// types table and the parameters file, in the order in which they are read, with nothing written;
+/// else as the conversion of the tables ends, with `settings.workers` workers and rings of the size
+/// `settings.ring`. A table whose file does not exist has the fault NoFile, unless it is optional.
+/// A file is opened once a worker has drawn its table; where that is refused, the table's read
+/// fails.
 ///
-/// Done says that exactly the document of the files' bytes is written, Tables that these tables are
-/// refused, each by its first fault, in table order, and the unfinished document up to and with the
-/// first of them is written, at every number of workers, ring size and schedule. Running out of memory or threads and failed reads show as Memory, NoThread and
-/// Read, a failed read of the metadata, the types table or the parameters file as Report with its
-/// source. Run has BadWorkers exactly where no early fault came before, memory did not run out, and
-/// the workers are not 1 to 64, BadSize where they are and the ring's size is not 1 to 65,536; Lost
-/// where the token of a ring was lost, after all was written. It waits for its workers.
+/// Done says that exactly the document of the files' bytes is written, in this layout. Tables says
+/// that these tables are refused, each by its first fault, in table order, and that the unfinished
+/// document up to and with the first of them is written. Both are the same for every number of
+/// workers, ring size and schedule. Running out of memory or threads and failed reads show as
+/// Memory, NoThread and Read, a failed read of the metadata, the types table or the parameters file
+/// as Report with its source. Run has BadWorkers exactly where there is no early fault, memory does
+/// not run out and the workers are not 1 to 64, BadSize where the workers are but the ring's size is
+/// not 1 to 65,536, and Lost where the token of a ring was lost, after everything was written. It
+/// waits for its workers.
 pub fn run<R: Read + Drop + Send, F: Folder<R>, T: Threads + Wait + Sync, W: Sink>(
     rt: &T,
     alloc: Global,
@@ -69,7 +72,7 @@ pub fn run<R: Read + Drop + Send, F: Folder<R>, T: Threads + Wait + Sync, W: Sin
 ) -> Outcome
     // Of a folder that tells its files: how the run ends.
     ensures ends { IfSome (F.files folder.old) (λ files.
-        EndsOver files settings.now.meta settings.now.types settings.now.workers settings.now.ring (sink_at (W.mark sink.old) (W.told sink.old)) (sink_at (W.mark sink.new) (W.told sink.new)) result) }
+        EndsOver files settings.now.meta settings.now.types settings.now.workers settings.now.ring settings.now.layout (sink_at (W.mark sink.old) (W.told sink.old)) (sink_at (W.mark sink.new) (W.told sink.new)) result) }
 
     // Of every folder: what each outcome leaves behind.
     ensures leaves { Leaves (range_fault settings.now.workers settings.now.ring) (sink_at (W.mark sink.old) (W.told sink.old)) (sink_at (W.mark sink.new) (W.told sink.new)) result }
@@ -93,6 +96,7 @@ pub fn run<R: Read + Drop + Send, F: Folder<R>, T: Threads + Wait + Sync, W: Sin
         settings.workers,
         settings.ring,
         Limits::profile(),
+        settings.layout,
         sink,
     )
 }

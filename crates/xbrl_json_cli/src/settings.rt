@@ -1,13 +1,14 @@
 //! What the command line asks for.
 
-ghost use Rattle.std.specs.Prelude.{◌≡◌, ◌≤◌, ◌↔◌, IfOk, IfSome, IsTrue, false, map, option_map};
+ghost use Rattle.std.specs.Prelude.{◌≡◌, ◌≤◌, ◌↔◌, IfOk, IfSome, IsTrue, codes, false, map, option_map};
 ghost use Rattle.clap.specs.Kinds.{FailsBy};
 ghost use Rattle.clap.specs.Words.{app_of, fault_of, first_of, found_of, matches_of, one_of, rows_of, rule_of};
 ghost use Rattle.xbrl_json_cli.specs.CommandLine as spec;
-ghost use Rattle.xbrl_json_cli.specs.CommandLine.{HasSettings, IsInput, IsNumberOf, command_line};
+ghost use Rattle.xbrl_json_cli.specs.CommandLine.{Answers, AreLayouts, HasSettings, IsInput, IsLayoutOf, IsNumberOf, Words, command_line};
 
 use clap::builder::ValueParser;
 use clap::{Arg, ArgAction, ArgMatches, Command, Error};
+use oim_json::Layout;
 use oim_names::Text;
 use std::alloc::{AllocError, Global};
 
@@ -17,15 +18,34 @@ const MOST_WORKERS: usize = 64;
 /// The largest size of a table's ring.
 const LARGEST_RING: usize = 65_536;
 
+/// The words of the layouts.
+const LAYOUTS: &[&str] = &["compact", "lines"];
+
+/// The help of each argument.
+const META_HELP: &str = "The metadata file of the report";
+
+const TYPES_HELP: &str = "The types table: the type of each concept and dimension";
+
+const WORKERS_HELP: &str = "How many tables are read at once";
+
+const RING_HELP: &str = "How many blocks of facts of one table may wait to be written";
+
+const OUT_HELP: &str =
+    "The file of the document, cut to nothing at once [default: standard output]";
+
+const LAYOUT_HELP: &str = "The document on one line, or with a line for each fact";
+
+const PROGRESS_HELP: &str = "Show on standard error how much is read and written";
+
 /// The end of the help.
 const MORE_HELP: &str = r#"Example:
   xbrl-json report/meta.json --types report/types.csv --out report.json
 
 The files of the tables and of the parameters lie beside META, at the paths that it names.
 
-The table of types is a CSV file with the header "namespace,name,type" and one line for each
-concept and dimension of the taxonomy. A concept's type is integer, decimal, double, text or other,
-a dimension's is explicit or typed:
+The types table is a CSV file with the header "namespace,name,type" and one line for each concept
+and dimension of the taxonomy. A concept's type is integer, decimal, double, text or other, a
+dimension's is explicit or typed:
   http://example.com/eg,Cash,integer
 
 Exit status:
@@ -47,6 +67,8 @@ pub struct Settings {
     pub ring: usize,
     /// The path of the document, `None` for standard output.
     pub out: Option<Text>,
+    /// Whether the document is on one line, or has a line for each fact.
+    pub layout: Layout,
     /// Whether standard error shows how far the run is.
     pub progress: bool,
 }
@@ -95,6 +117,22 @@ fn number_option<'a>(
         .default_value(default)
 }
 
+/// An option whose value is one of the words.
+fn word_option<'a>(
+    alloc: Global,
+    name: &'a str,
+    words: &'a [&'a str],
+    default: &'a str,
+    help: &'a str,
+) -> Arg<'a>
+    ensures rule { rule_of result ≡ spec.word_option name.entry.now words.entry default.entry.now }
+    ensures local { result.global ≡ false }
+{
+    option(alloc, name, "WORD", help)
+        .value_parser(ValueParser::Names(words))
+        .default_value(default)
+}
+
 /// An option without a value.
 fn flag<'a>(alloc: Global, name: &'a str, help: &'a str) -> Arg<'a>
     ensures rule { rule_of result ≡ spec.flag name.entry.now }
@@ -106,53 +144,35 @@ fn flag<'a>(alloc: Global, name: &'a str, help: &'a str) -> Arg<'a>
         .action(ArgAction::SetTrue)
 }
 
-/// The program's arguments, as `clap` reads them.
-fn command<'a>(alloc: Global) -> Result<Command<'a>, AllocError>
-    ensures { IfOk result (λ c. app_of c ≡ command_line) }
+/// The program with its two files.
+fn inputs<'a>(alloc: Global) -> Result<Command<'a>, AllocError>
+    ensures { IfOk result (λ c. app_of c ≡ spec.inputs) }
 {
-    let meta = one_value(alloc, "meta", "META", "The metadata file of the report").required(true);
-    let types = option(
-        alloc,
-        "types",
-        "FILE",
-        "The table of types of concepts and dimensions",
-    )
-    .required(true);
-    let workers = number_option(
-        alloc,
-        "workers",
-        64,
-        "4",
-        "How many tables are read at once",
-    );
-    let ring = number_option(
-        alloc,
-        "ring",
-        65536,
-        "1024",
-        "How many blocks of facts of one table may wait to be written",
-    );
-    let out = option(
-        alloc,
-        "out",
-        "FILE",
-        "The file of the document, cut to nothing at once [default: standard output]",
-    );
-    let progress = flag(
-        alloc,
-        "progress",
-        "Show on standard error how much is read and written",
-    );
+    let meta = one_value(alloc, "meta", "META", META_HELP).required(true);
+    let types = option(alloc, "types", "FILE", TYPES_HELP).required(true);
     Command::new(alloc, "xbrl-json")
         .about("Converts a report in xBRL-CSV to xBRL-JSON")
         .version("0.1.0")
         .after_help(MORE_HELP)
         .no_binary_name(true)
         .arg(meta)?
-        .arg(types)?
+        .arg(types)
+}
+
+/// The program's arguments, as `clap` reads them, where `layouts` are the words of the layouts.
+fn command<'a>(alloc: Global, layouts: &'a [&'a str]) -> Result<Command<'a>, AllocError>
+    ensures { IfOk result (λ c. app_of c ≡ command_line layouts.entry) }
+{
+    let workers = number_option(alloc, "workers", 64, "4", WORKERS_HELP);
+    let ring = number_option(alloc, "ring", 65536, "1024", RING_HELP);
+    let out = option(alloc, "out", "FILE", OUT_HELP);
+    let layout = word_option(alloc, "layout", layouts, "compact", LAYOUT_HELP);
+    let progress = flag(alloc, "progress", PROGRESS_HELP);
+    inputs(alloc)?
         .arg(workers)?
         .arg(ring)?
         .arg(out)?
+        .arg(layout)?
         .arg(progress)
 }
 
@@ -186,17 +206,32 @@ fn number_between(matches: &ArgMatches<'_>, id: &str, least: usize, most: usize)
     }
 }
 
+/// The layout of the option.
+fn layout_in(matches: &ArgMatches<'_>) -> Option<Layout>
+    ensures { IfSome result (IsLayoutOf (first_of (codes "layout") (rows_of (found_of matches.now)))) }
+{
+    let word = value_of(matches, "layout")?;
+    if word == "compact" {
+        Some(Layout::Compact)
+    } else if word == "lines" {
+        Some(Layout::Lines)
+    } else {
+        None
+    }
+}
+
 /// The settings in the matches. A parse of `command` always has them.
 fn settings_in(alloc: Global, matches: &ArgMatches<'_>) -> Result<Option<Settings>, AllocError>
     ensures values { IfOk result (λ o. IfSome o (HasSettings (rows_of (found_of matches.now)))) }
     ensures workers { IfOk result (λ o. IfSome o (λ s. (1 ≤ s.workers) × (s.workers ≤ 64))) }
     ensures ring { IfOk result (λ o. IfSome o (λ s. (1 ≤ s.ring) × (s.ring ≤ 65536))) }
 {
-    let (Some(meta), Some(types), Some(workers), Some(ring)) = (
+    let (Some(meta), Some(types), Some(workers), Some(ring), Some(layout)) = (
         value_of(matches, "meta"),
         value_of(matches, "types"),
         number_between(matches, "workers", 1, MOST_WORKERS),
         number_between(matches, "ring", 1, LARGEST_RING),
+        layout_in(matches),
     ) else {
         return Ok(None);
     };
@@ -210,24 +245,24 @@ fn settings_in(alloc: Global, matches: &ArgMatches<'_>) -> Result<Option<Setting
         workers,
         ring,
         out,
+        layout,
         progress: is_given(matches, "progress"),
     }))
 }
 
-/// Reads the command line, the words without the program's name: `META --types FILE [--workers N]
-/// [--ring K] [--out FILE] [--progress]`, with 4 workers and rings of 1,024 unless the words say otherwise.
-/// Workers are 1 to 64, a ring's size 1 to 65,536.
-///
-/// Fails exactly where the definition of the command line refuses the words, by one of the kinds that
-/// it gives, or where they ask for help or the version; or where memory runs out. The error has the
-/// text to show.
-pub fn job(alloc: Global, words: &[&str]) -> Result<Settings, Error>
-    ensures values { IfOk result (HasSettings (matches_of command_line (map (λ w. w.now) words.now))) }
+/// The settings that the words give by the command line whose option `layout` has the words
+/// `layouts`.
+fn settings_by<'a>(
+    alloc: Global,
+    layouts: &'a [&'a str],
+    words: &'a [&'a str],
+) -> Result<Settings, Error>
+    ensures values { IfOk result (HasSettings (matches_of (command_line layouts.entry) (map (λ w. w.now) words.now))) }
     ensures workers { IfOk result (λ s. (1 ≤ s.workers) × (s.workers ≤ 64)) }
     ensures ring { IfOk result (λ s. (1 ≤ s.ring) × (s.ring ≤ 65536)) }
-    ensures fails { FailsBy (fault_of command_line (map (λ w. w.now) words.now)) result }
+    ensures fails { FailsBy (fault_of (command_line layouts.entry) (map (λ w. w.now) words.now)) result }
 {
-    let matches = match command(alloc)?.try_get_matches_from(words) {
+    let matches = match command(alloc, layouts)?.try_get_matches_from(words) {
         Ok(matches) => matches,
         Err(error) => return Err(error),
     };
@@ -236,4 +271,20 @@ pub fn job(alloc: Global, words: &[&str]) -> Result<Settings, Error>
         // A parse that succeeds has every value, so this is never reached.
         None => Err(Error::from(AllocError)),
     }
+}
+
+/// Reads the command line, the words without the program's name: `META --types FILE [--workers N]
+/// [--ring K] [--out FILE] [--layout compact|lines] [--progress]`, with 4 workers, rings of 1,024
+/// and the layout compact unless the words say otherwise. Workers are 1 to 64, a ring's size 1 to
+/// 65,536.
+///
+/// Fails exactly where the definition of the command line refuses the words, by one of the kinds that
+/// it gives, or where they ask for help or the version; or where memory runs out. The error has the
+/// text to show.
+pub fn job(alloc: Global, words: &[&str]) -> Result<Settings, Error>
+    ensures answers { (layouts : Words) × AreLayouts layouts × Answers (command_line layouts) (map (λ w. w.now) words.now) result }
+    ensures workers { IfOk result (λ s. (1 ≤ s.workers) × (s.workers ≤ 64)) }
+    ensures ring { IfOk result (λ s. (1 ≤ s.ring) × (s.ring ≤ 65536)) }
+{
+    settings_by(alloc, LAYOUTS, words)
 }

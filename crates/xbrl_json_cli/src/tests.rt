@@ -9,7 +9,7 @@ use crate::outcome::{Outcome, line, status};
 use crate::tests_ends::{Ends, is_serial_so};
 use crate::tests_writers::Narrow;
 use oim_convert::{ConvertFault, convert_serial};
-use oim_json::{Marked, WriteFault};
+use oim_json::{Layout, Marked, WriteFault};
 use oim_meta::{Limits, Parameters, Report, read_report, read_types};
 use oim_names::{Items, Text};
 use oim_resolve::CellFault;
@@ -71,6 +71,7 @@ fn converted(
         2,
         1,
         two_rows(),
+        Layout::Compact,
         &mut Marked::new(&mut document),
     );
     Ok((document, line(alloc, &outcome)?))
@@ -118,7 +119,7 @@ fn serial_line(
 ) -> Result<String, Fail> {
     let readers = readers(alloc, tables)?;
     let sink = &mut Marked::new(document);
-    let answer = convert_serial(alloc, report, readers, two_rows(), sink);
+    let answer = convert_serial(alloc, report, readers, two_rows(), Layout::Compact, sink);
     let outcome = outcome_of(alloc, report, answer)?;
     Ok(line(alloc, &outcome)?)
 }
@@ -697,7 +698,14 @@ fn serial_held(
 ) -> Result<bool, Fail> {
     let tables = readers(alloc, [Some(TABLE.as_bytes())].as_slice())?;
     let sink = &mut Marked::new(narrow);
-    let answer = convert_serial(alloc, report, tables, Limits::profile(), sink);
+    let answer = convert_serial(
+        alloc,
+        report,
+        tables,
+        Limits::profile(),
+        Layout::Compact,
+        sink,
+    );
     Ok(is_serial_so(&answer, ends))
 }
 
@@ -793,6 +801,7 @@ fn other_numbers_of_readers(rt: HostRuntime) -> Result<(), Fail> {
             &report,
             readers(alloc, tables)?,
             Limits::profile(),
+            Layout::Compact,
             sink,
         );
         assert!(rt; matches!(&answer, Err(ConvertFault::WrongReaders)));

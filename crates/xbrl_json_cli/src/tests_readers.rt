@@ -7,7 +7,7 @@ use crate::tests_cells::report_of;
 use crate::tests_ends::{Ends, is_run_so, is_serial_so, refused};
 use crate::tests_sizes::{numbers, of_each};
 use oim_convert::{ConvertFault, convert, convert_serial};
-use oim_json::Marked;
+use oim_json::{Layout, Marked};
 use oim_meta::{Limits, Report};
 use oim_rows::{Rows, TableFault, TableKind};
 use std::alloc::{AllocError, Global};
@@ -62,7 +62,17 @@ fn threaded<R: Read + Drop + Send>(
     let readers = alone(rt.alloc(), reader)?;
     let sink = &mut Marked::new(document);
     let limits = thousand_rows();
-    let answer = convert(rt, rt.alloc(), report, readers, 2, 1, limits, sink);
+    let answer = convert(
+        rt,
+        rt.alloc(),
+        report,
+        readers,
+        2,
+        1,
+        limits,
+        Layout::Compact,
+        sink,
+    );
     Ok(is_run_so(&answer, ends))
 }
 
@@ -76,7 +86,14 @@ fn serial<R: Read + Drop>(
 ) -> Result<bool, AllocError> {
     let readers = alone(alloc, reader)?;
     let sink = &mut Marked::new(document);
-    let answer = convert_serial(alloc, report, readers, thousand_rows(), sink);
+    let answer = convert_serial(
+        alloc,
+        report,
+        readers,
+        thousand_rows(),
+        Layout::Compact,
+        sink,
+    );
     Ok(is_serial_so(&answer, ends))
 }
 
@@ -141,7 +158,14 @@ fn serial_faults(
 ) -> Result<Vec<TableFault>, AllocError> {
     let readers = vec![in alloc; Some(file)]?;
     let sink = &mut Marked::new(document);
-    match convert_serial(alloc, report, readers, thousand_rows(), sink) {
+    match convert_serial(
+        alloc,
+        report,
+        readers,
+        thousand_rows(),
+        Layout::Compact,
+        sink,
+    ) {
         Err(ConvertFault::Tables(faults)) => Ok(faults),
         Ok(()) | Err(_) => Ok(Vec::new(alloc)),
     }

@@ -9,7 +9,7 @@ use crate::tests::{Edits, THREE, document_of, edited};
 use crate::tests_cells::report_of;
 use crate::tests_ends::{Ends, is_serial_so, refused};
 use oim_convert::convert_serial;
-use oim_json::Marked;
+use oim_json::{Layout, Marked};
 use oim_meta::{Limits, Report};
 use oim_resolve::CellFault;
 use oim_rows::{TableFault, TableKind};
@@ -47,7 +47,14 @@ fn convert(
     ends: Ends<'_>,
 ) -> bool {
     let sink = &mut Marked::new(document);
-    let answer = convert_serial(alloc, report, readers, Limits::profile(), sink);
+    let answer = convert_serial(
+        alloc,
+        report,
+        readers,
+        Limits::profile(),
+        Layout::Compact,
+        sink,
+    );
     is_serial_so(&answer, ends)
 }
 

@@ -6,7 +6,7 @@ ghost use Rattle.std.specs.Prelude.{◌≡◌, ◌<◌, ◌≤◌, [], length, v
 use crate::tests::{THREE, document_of};
 use crate::tests_cells::report_of;
 use crate::tests_ends::{Ends, is_merged_so, refused};
-use oim_json::{Block, Marked, Sink, WriteFault, block_of, head};
+use oim_json::{Block, Layout, Marked, Sink, WriteFault, block_of, head};
 use oim_merge::merge;
 use oim_meta::{Limits, Report};
 use oim_names::{Items, Text};
@@ -358,7 +358,7 @@ fn merge_three<W: Sink>(
 {
     let mut faults = room;
     let mut drains = [first, second, third];
-    let end = merge(rt, &mut drains, head, &mut faults, sink);
+    let end = merge(rt, &mut drains, head, &mut faults, Layout::Compact, sink);
     are_empty(&mut drains) && is_merged_so(faults.as_slice(), end, ends)
 }
 

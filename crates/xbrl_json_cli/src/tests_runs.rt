@@ -21,13 +21,13 @@ use std::thread::Threads;
 const WORDS: &str = "m.json --types t.csv";
 
 /// A path with the bytes of its file.
-type File<'a> = (&'a str, &'a [u8]);
+pub(crate) type File<'a> = (&'a str, &'a [u8]);
 
 /// A run's line and its status.
-type Said<'a> = (&'a str, u8);
+pub(crate) type Said<'a> = (&'a str, u8);
 
 /// The settings of these words, with a blank between two.
-fn settings_of(alloc: Global, words: &str) -> Result<Settings, Fail> {
+pub(crate) fn settings_of(alloc: Global, words: &str) -> Result<Settings, Fail> {
     let words = words.split(' ').collect::<Vec<&str>>(alloc)?;
     match job(alloc, words.as_slice()) {
         Ok(settings) => Ok(settings),
@@ -36,7 +36,7 @@ fn settings_of(alloc: Global, words: &str) -> Result<Settings, Fail> {
 }
 
 /// Whether an outcome has this line and this status.
-fn says(alloc: Global, outcome: &Outcome, said: Said<'_>) -> Result<bool, Fail> {
+pub(crate) fn says(alloc: Global, outcome: &Outcome, said: Said<'_>) -> Result<bool, Fail> {
     let line = line(alloc, outcome)?;
     Ok(line.as_str() == said.0 && status(outcome) == said.1)
 }

@@ -5,7 +5,7 @@ use crate::tests::document_of;
 use crate::tests_cells::report_of;
 use crate::tests_ends::{Ends, WHOLE, is_run_so, is_serial_so, refused};
 use oim_convert::{convert, convert_serial};
-use oim_json::Marked;
+use oim_json::{Layout, Marked};
 use oim_meta::{Limits, Report};
 use oim_resolve::CellFault;
 use oim_rows::{TableFault, TableKind};
@@ -63,7 +63,14 @@ fn serial(
 ) -> Result<bool, Fail> {
     let readers = readers(alloc, files)?;
     let sink = &mut Marked::new(document);
-    let answer = convert_serial(alloc, report, readers, Limits::profile(), sink);
+    let answer = convert_serial(
+        alloc,
+        report,
+        readers,
+        Limits::profile(),
+        Layout::Compact,
+        sink,
+    );
     Ok(is_serial_so(&answer, ends))
 }
 
@@ -80,7 +87,17 @@ fn threaded(
     let readers = readers(alloc, files)?;
     let sink = &mut Marked::new(document);
     let limits = Limits::profile();
-    let answer = convert(rt, alloc, report, readers, way.0, way.1, limits, sink);
+    let answer = convert(
+        rt,
+        alloc,
+        report,
+        readers,
+        way.0,
+        way.1,
+        limits,
+        Layout::Compact,
+        sink,
+    );
     Ok(is_run_so(&answer, ends))
 }
 

@@ -7,7 +7,7 @@ use crate::tests_ends::{Ends, WHOLE, is_run_so, refused};
 use crate::tests_threads::{converts_alone, ends_so, file_of, readers_of};
 use crate::tests_writers::Narrow;
 use oim_convert::{Claims, convert_with_starts};
-use oim_json::{Marked, WriteFault};
+use oim_json::{Layout, Marked, WriteFault};
 use oim_meta::{Limits, Report};
 use oim_resolve::CellFault;
 use oim_rows::{TableFault, TableKind};
@@ -85,6 +85,7 @@ fn started_end(
         crew.1,
         1024,
         limits,
+        Layout::Compact,
         sink,
     );
     is_run_so(&answer, ends)

@@ -5,7 +5,7 @@ use crate::tests::{HEAD, document_of};
 use crate::tests_cells::report_of;
 use crate::tests_ends::{Ends, WHOLE, is_run_so};
 use oim_convert::{convert, convert_serial};
-use oim_json::Marked;
+use oim_json::{Layout, Marked};
 use oim_meta::{Limits, Report};
 use std::alloc::{AllocError, Global};
 use std::io::{Read, Write};
@@ -71,7 +71,7 @@ fn waiting<'a>(
 }
 
 /// The held report with so many tables t1, t2 and so on of its template.
-fn report_with(alloc: Global, tables: usize) -> Result<Box<Report>, Fail> {
+pub(crate) fn report_with(alloc: Global, tables: usize) -> Result<Box<Report>, Fail> {
     let mut text = String::from_str(alloc, "{")?;
     for table in 1..=tables {
         let comma = if table > 1 { "," } else { "" };
@@ -107,7 +107,17 @@ pub(crate) fn ends_so<R: Read + Drop + Send, W: Write>(
 ) -> bool {
     let sink = &mut Marked::new(writer);
     let limits = Limits::profile();
-    let answer = convert(rt, rt.alloc(), report, readers, workers, ring, limits, sink);
+    let answer = convert(
+        rt,
+        rt.alloc(),
+        report,
+        readers,
+        workers,
+        ring,
+        limits,
+        Layout::Compact,
+        sink,
+    );
     is_run_so(&answer, so)
 }
 
@@ -227,7 +237,15 @@ pub(crate) fn converts_alone(
 ) -> Result<bool, AllocError> {
     let readers = readers_of(alloc, files)?;
     let sink = &mut Marked::new(document);
-    Ok(convert_serial(alloc, report, readers, Limits::profile(), sink).is_ok())
+    Ok(convert_serial(
+        alloc,
+        report,
+        readers,
+        Limits::profile(),
+        Layout::Compact,
+        sink,
+    )
+    .is_ok())
 }
 
 /// Whether one worker converts a table of these two pieces, whose end comes once a member is

@@ -4,7 +4,7 @@
 use crate::tests::{THREE, document_of};
 use crate::tests_cells::report_of;
 use crate::tests_ends::Ends;
-use crate::tests_threads::{ends_so, readers_of};
+use crate::tests_threads::{ends_so, file_of, readers_of, report_with};
 use oim_json::WriteFault;
 use oim_meta::Report;
 use oim_resolve::CellFault;
@@ -131,6 +131,28 @@ fn other_room_of_three(
     let facts = "t1.r_1.cash - Cash EUR 5; t2.r_1.cash - Cash EUR 1";
     let whole = document_of(rt.alloc(), facts, "BadNumber")?;
     Ok(other_room(rt, &report, way, whole.as_bytes())?)
+}
+
+/// Whether nothing is written of eight tables of a hundred facts, by eight workers over rings of one
+/// block, to a writer that fails at its first write.
+fn writes_nothing(rt: &(impl AllocGlobal + Threads + Wait + Sync)) -> Result<bool, Fail> {
+    let report = report_with(rt.alloc(), 8)?;
+    let file = file_of(rt.alloc(), 0, 100)?;
+    let readers = readers_of(rt.alloc(), &[file.as_bytes(); 8])?;
+    let mut narrow = Narrow::new(rt.alloc(), 0, true);
+    let so = Ends {
+        faults: &[],
+        write: Some(WriteFault::Failed),
+    };
+    let is_ended = ends_so(rt, &report, readers, 8, 1, &mut narrow, so);
+    Ok(is_ended && narrow.taken.is_empty())
+}
+
+#[test]
+fn a_writer_that_fails_at_its_first_write(rt: HostRuntime) -> Result<(), Fail> {
+    let nothing = writes_nothing(&rt)?;
+    assert!(rt; nothing);
+    Ok(())
 }
 
 #[test]

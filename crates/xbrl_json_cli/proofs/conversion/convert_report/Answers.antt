@@ -6,7 +6,7 @@ use Rattle.xbrl_json_cli.proofs.conversion.convert_report.Goals as goal
 
 pub returns-clause-ends : goal.returns-clause-ends
 returns-clause-ends g c = λ files are.
-    converted c.args.workers c.args.ring (length c.args.readers.items) c.args.limits.rows c.args.report.now files
+    converted c.args.layout c.args.workers c.args.ring (length c.args.readers.items) c.args.limits.rows c.args.report.now files
     (sink_at (g.W.Sink.mark c.args.sink.now) (g.W.Sink.told c.args.sink.now))
     (sink_at (g.W.Sink.mark c.convert-answer.new.sink) (g.W.Sink.told c.convert-answer.new.sink))
     c.convert-answer.result c.in-Ok.names.items c.ending.result
@@ -15,14 +15,14 @@ returns-clause-ends g c = λ files are.
 
 pub returns-clause-leaves : goal.returns-clause-leaves
 returns-clause-leaves g c =
-    converted_leaves c.args.workers c.args.ring (length c.args.readers.items) c.args.report.now
+    converted_leaves c.args.layout c.args.workers c.args.ring (length c.args.readers.items) c.args.report.now
     (sink_at (g.W.Sink.mark c.args.sink.now) (g.W.Sink.told c.args.sink.now))
     (sink_at (g.W.Sink.mark c.convert-answer.new.sink) (g.W.Sink.told c.convert-answer.new.sink))
     c.convert-answer.result c.in-Ok.names.items c.ending.result c.ending.ensures c.convert-answer.ensures.faults c.convert-answer.ensures.writes
 
 pub ending-requires-clause-room : goal.ending-requires-clause-room
 ending-requires-clause-room g c =
-    roomy c.args.report.now (length c.args.report.now.tables) (vec_capacity c.in-Ok-with_capacity.room)
+    roomy c.args.layout c.args.report.now (length c.args.report.now.tables) (vec_capacity c.in-Ok-with_capacity.room)
     (sink_at (g.W.Sink.mark c.args.sink.now) (g.W.Sink.told c.args.sink.now))
     (sink_at (g.W.Sink.mark c.convert-answer.new.sink) (g.W.Sink.told c.convert-answer.new.sink))
     c.convert-answer.result (search rules) c.convert-answer.ensures.writes

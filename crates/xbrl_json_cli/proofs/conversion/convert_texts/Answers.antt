@@ -6,7 +6,7 @@ use Rattle.xbrl_json_cli.proofs.conversion.convert_texts.Goals as goal
 pub returns : goal.returns
 returns g c = λ files are.
     ends
-    (texts c.args.workers c.args.ring c.args.limits c.args.metadata.now c.args.types.now files)
+    (texts c.args.workers c.args.ring c.args.layout c.args.limits c.args.metadata.now c.args.types.now files)
     (sink_at (g.W.Sink.mark c.args.sink.now) (g.W.Sink.told c.args.sink.now))
     (sink_at (g.W.Sink.mark c.convert_report.new.sink) (g.W.Sink.told c.convert_report.new.sink))
     c.in-Ok.report
