@@ -234,7 +234,7 @@ pub fn convert_to<T: Threads + Wait + Sync, W: Write + Drop>(
 ) -> Outcome
     ensures { Buffered (Ends (texts 1 1 layouts.Compact profile METADATA.now TYPES.now (Some TABLE.now ∷ []))) result }
 {
-    let Ok(mut buffered) = BufWriter::with_capacity(alloc, 65536, to) else {
+    let Ok(mut buffered) = BufWriter::with_capacity(alloc, 8192, to) else {
         return Outcome::Run(ConvertFault::Memory);
     };
     let outcome = convert_held(rt, alloc, &mut Marked::new(&mut buffered));

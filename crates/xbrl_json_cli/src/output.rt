@@ -34,7 +34,7 @@ pub fn run_to<R: Read + Drop + Send, F: Folder<R>, T: Threads + Wait + Sync, W: 
     ensures { IfSome (F.files folder.old) (λ files.
         Buffered (EndsOver files settings.now.meta settings.now.types settings.now.workers settings.now.ring settings.now.layout) result) }
 {
-    let Ok(mut buffered) = BufWriter::with_capacity(alloc, 65536, to) else {
+    let Ok(mut buffered) = BufWriter::with_capacity(alloc, 8192, to) else {
         return no_memory();
     };
     let outcome = run(rt, alloc, settings, folder, &mut Marked::new(&mut buffered));
