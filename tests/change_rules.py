@@ -154,8 +154,8 @@ def changed_bodies(body, definition, following):
         if it[0].startswith("--"):
             continue
         for other in other_tokens(it[0], following):
-            line = body.count("\n", 0, it.start())
-            made.append((f"{it[0]} -> {other}, line {line + 1} of the body", body[:it.start()] + other + body[it.end():]))
+            before, after = body[:it.start()], body[it.end():]
+            made.append((f"{it[0]} -> {other} in: {before[-30:]}<{it[0]}>{after[:30]}", before + other + after))
     for begin, end in conditions(body):
         made.append((f"not: {body[begin:end].strip()}", f"{body[:begin]} (if {body[begin:end].strip()} then false else true) {body[end:]}"))
     made += in_lines(body)

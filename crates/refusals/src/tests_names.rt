@@ -1,6 +1,6 @@
 //! Namespaces and texts under want of memory, and `add` with ample memory.
 
-use crate::{Answer, Call, refusals};
+use crate::{Answer, Call, ROOM, refusals};
 use oim_names::{Items, NameFault, Namespaces, Text, language};
 use std::alloc::{AllocError, Global};
 use std::test::Fail;
@@ -65,7 +65,7 @@ fn add_without_memory(rt: HostRuntime) -> Result<(), Fail> {
     let Ok(names) = example(rt.alloc()) else {
         return Err(Fail::new("no names"));
     };
-    let refused = refusals(rt.alloc(), &mut Binds { names });
+    let refused = refusals(rt.alloc(), ROOM, &mut Binds { names });
     assert!(rt; refused.is_some_and(|count| count >= 3));
     Ok(())
 }
