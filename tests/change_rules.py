@@ -1,7 +1,7 @@
 #!/usr/bin/env python3
 """Changes the rules of a crate's definitions one at a time, and lists the changes that no worked case notices.
 
-    tests/change_rules.py CRATE [--only FILE] [--every N] [--batch N] [--minutes N] [--list]
+    tests/change_rules.py CRATE [--only FILE] [--name NAME] [--every N] [--begin N] [--batch N] [--minutes N] [--list] [--all]
 
 A contract can say no more than the definitions that it cites, and a definition that is changed together with its code
 can still be proved. So each rule wants a worked case: a theorem by computation in `proofs/Examples*.antt` of the crate,
@@ -21,8 +21,8 @@ Definitions of relations and records (`Type 0`, `data`, `record`) are left out: 
 the same meaning is a clause. A file whose cases fail in an unchanged copy can't be tried so, and is named.
 
 The crates below have to be proved with their work kept (`rt check` and `rt lib` in each), since it is copied. --only takes one file
-of specs/ by its name, --every N each Nth change, --batch so many changes in a run (40), --minutes for a run (10), --list
-lists the changes and checks nothing. RT names another command for `rt`. The copy stands in TMPDIR and goes at the end.
+of specs/ by its name, --name one definition, --every N each Nth change (from the one at --begin, else the first), --batch so many
+changes in a run (40), --minutes for a run (10); --list lists the changes and checks nothing, --all prints what came of each. RT names another command for `rt`. The copy stands in TMPDIR and goes at the end.
 The status is 0 where every change that is a definition showed, else 1. Python 3.9 or later.
 """
 import argparse
@@ -154,8 +154,8 @@ def changed_bodies(body, definition, following):
         if it[0].startswith("--"):
             continue
         for other in other_tokens(it[0], following):
-            line = body.count("\n", 0, it.start())
-            made.append((f"{it[0]} -> {other}, line {line + 1} of the body", body[:it.start()] + other + body[it.end():]))
+            before, after = body[:it.start()], body[it.end():]
+            made.append((f"{it[0]} -> {other} in: {before[-30:]}<{it[0]}>{after[:30]}", before + other + after))
     for begin, end in conditions(body):
         made.append((f"not: {body[begin:end].strip()}", f"{body[:begin]} (if {body[begin:end].strip()} then false else true) {body[end:]}"))
     made += in_lines(body)
@@ -257,7 +257,7 @@ class Copies:
                 (proofs / f"{mark}{it}.antt").write_text(self.renamed(text, mark, files))
                 names.append(f"{mark}{it}")
             for it, text in self.cases.items():
-                (proofs / f"{mark}{it}.antt").write_text(self.renamed(text, mark, files) + "\npub shows : ℕ\nshows = 0\n")
+                (proofs / f"{mark}{it}.antt").write_text(MARK + self.renamed(text, mark, files) + "\npub shows : Shown\nshows = 0\n")
                 names.append(f"{mark}{it}")
                 cited.append(f"{mark}{it}")
         own = (TOP / "crates" / self.crate / "proofs/Lib.antt").read_text().rstrip("\n")
@@ -288,6 +288,9 @@ class Copies:
         return errors
 
 
+# What a copy of the worked cases has beside them, so that a function can cite it.
+MARK = "use Rattle.std.specs.Prelude.{ℕ as Shown}\n"
+
 CITES = """
 #[tactic(auto, using(crate::proofs::ChangesAll::all_cases))]
 fn changes_of_rules(number: u8) -> u8 {
@@ -314,19 +317,25 @@ def run(options):
     try:
         copies = Copies(crate, folder, options.minutes)
         files = [it for it in copies.specs if not options.only or it == options.only]
-        changes = [it for file in files for it in changes_of(file, copies.specs[file])][::options.every]
+        changes = [it for file in files for it in changes_of(file, copies.specs[file])]
+        changes = [it for it in changes if not options.name or it.name == options.name][options.begin::options.every]
         if options.list:
             print("\n".join(map(str, changes)) + f"\n{len(changes)} changes")
             return 0
         tried = sorted({it.file for it in changes})
-        unchanged = copies.check([Change(it, "", "no change", copies.specs[it]) for it in tried])
-        for file, errors in zip(tried, unchanged):
-            if errors:
-                print(f"{file}: cases fail without a change, so it was not tried: {errors[0][1][:150]}", flush=True)
-        changes = [it for it in changes if not unchanged[tried.index(it.file)]]
+        unchanged = [Change(it, "", "no change", copies.specs[it]) for it in tried]
+        untried = set()
         for at in range(0, len(changes), options.batch):
             some = changes[at:at + options.batch]
-            for change, errors in zip(some, copies.check(some)):
+            begun = unchanged if at == 0 else []
+            answers = copies.check(begun + some)
+            for change, errors in zip(begun, answers):
+                if errors is None or errors:
+                    untried.add(change.file)
+                    print(f"{change.file}: cases fail without a change, so it was not tried: {errors and errors[0][1][:150]}", flush=True)
+            for change, errors in zip(some, answers[len(begun):]):
+                if change.file in untried:
+                    continue
                 verdict = judged(errors, copies.cases)
                 counts[verdict] += 1
                 if verdict in ("not noticed", "no end"):
@@ -344,6 +353,8 @@ def main():
     parser = argparse.ArgumentParser(description=__doc__, formatter_class=argparse.RawDescriptionHelpFormatter)
     parser.add_argument("crate")
     parser.add_argument("--only", help="one file of specs/")
+    parser.add_argument("--name", help="one definition")
+    parser.add_argument("--begin", type=int, default=0, help="with --every, which change is the first, from 0")
     parser.add_argument("--every", type=int, default=1, help="each Nth change")
     parser.add_argument("--batch", type=int, default=40, help="changes in a run of the checker")
     parser.add_argument("--minutes", type=float, default=10, help="for a run of the checker")

@@ -6,8 +6,10 @@
 
 mod scarcity;
 
-pub use scarcity::{Answer, Call, refusals};
+pub use scarcity::{Answer, Call, ROOM, refusals};
 
+#[cfg(test)]
+mod tests_blocks;
 #[cfg(test)]
 mod tests_metadata;
 #[cfg(test)]

@@ -2,8 +2,11 @@
 
 use std::alloc::Global;
 
-/// The bytes that most calls have at last.
-const ROOM: usize = 65_536;
+/// Bytes that are enough for most calls.
+pub const ROOM: usize = 65_536;
+
+/// The most bytes that a call may have at last.
+const MOST: usize = 1 << 20;
 
 /// The bytes that a call has more each time.
 const STEP: usize = 16;
@@ -47,16 +50,19 @@ fn take_all(alloc: Global) -> Option<Hoard> {
     Some(Hoard { _blocks: blocks })
 }
 
-/// How often a call is refused memory before it has enough, with 16 bytes more each time, up to 65,536
-/// bytes. None where it never has enough, or answers something else before. It takes all memory
-/// meanwhile, so it is for a process that does nothing else.
-pub fn refusals<C: Call>(alloc: Global, call: &mut C) -> Option<u32> {
-    let mut filler = Vec::<u8>::with_capacity(alloc, ROOM).ok()?;
+/// How often a call is refused memory before it has enough, with 16 bytes more each time, up to `room`
+/// bytes, at most 1,048,576. None where it never has enough, or answers something else before. It takes
+/// all memory meanwhile, so it is for a process that does nothing else.
+pub fn refusals<C: Call>(alloc: Global, room: usize, call: &mut C) -> Option<u32> {
+    let room = room.min(MOST);
+    // the system's first large block stands apart from its heap, and a second one in it
+    drop(Vec::<u8>::with_capacity(alloc, room).ok()?);
+    let mut filler = Vec::<u8>::with_capacity(alloc, room).ok()?;
     let _hoard = take_all(alloc)?;
     let mut refused = 0u32;
-    for step in 0..ROOM / STEP {
+    for step in 0..room / STEP {
         drop(filler);
-        filler = Vec::with_capacity(alloc, ROOM - STEP * step).ok()?;
+        filler = Vec::with_capacity(alloc, room - STEP * step).ok()?;
         match call.make(alloc) {
             Answer::Refused => refused = refused.saturating_add(1),
             Answer::Enough => return Some(refused),

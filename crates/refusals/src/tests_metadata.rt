@@ -1,6 +1,6 @@
 //! The files of a report's metadata under want of memory.
 
-use crate::{Answer, Call, refusals};
+use crate::{Answer, Call, ROOM, refusals};
 use oim_meta::{
     Limits, MetaFault, Parameters, Report, parameter_url, read_parameters, read_report, read_types,
 };
@@ -14,7 +14,7 @@ pub(crate) const METADATA: &str =
 "parameterURL":"parameters.csv","parameters":{"c":"eg:Cash"},
 "dimensions":{"entity":"eg:A1","period":"2021"},
 "tableTemplates":{"p":{"columns":{
-"cash":{"dimensions":{"concept":"$c","eg:Region":"#nil"},"decimals":0,"propertiesFrom":["g"]},
+"cash":{"dimensions":{"concept":"$c","eg:Branch":"#nil"},"decimals":0,"propertiesFrom":["g"]},
 "g":{"propertyGroups":{"x":{"dimensions":{"language":"en"}}}},
 "note":{"dimensions":{"concept":"eg:Note"}}}}},
 "tables":{"t1":{"url":"t1.csv","template":"p","parameters":{"d":"1"}}}}
@@ -22,7 +22,7 @@ pub(crate) const METADATA: &str =
 
 /// The types of its concepts and dimensions.
 pub(crate) const TYPES: &str =
-    "namespace,name,type\nhttp://example.com/eg,Cash,integer\nhttp://example.com/eg,Note,text\nhttp://example.com/eg,Region,explicit\n";
+    "namespace,name,type\nhttp://example.com/eg,Cash,integer\nhttp://example.com/eg,Note,text\nhttp://example.com/eg,Branch,typed\n";
 
 /// What a call did that answers a fault of the metadata, if it was not refused.
 fn of_fault(fault: MetaFault) -> Answer {
@@ -33,25 +33,13 @@ fn of_fault(fault: MetaFault) -> Answer {
     }
 }
 
-/// What a call did that gives this.
-fn answer<T: Drop>(result: Result<T, MetaFault>) -> Answer {
-    match result {
-        Ok(_) => Answer::Enough,
-        Err(fault) => of_fault(fault),
-    }
-}
-
 /// The report of the metadata and the types.
-pub(crate) fn report(alloc: Global) -> Result<Report, MetaFault> {
+pub(crate) fn report(alloc: Global) -> Result<Box<Report>, MetaFault> {
     let types = read_types(alloc, TYPES.as_bytes())?;
     let parameters = read_parameters(alloc, b"name,value\ne,2\n".as_slice())?;
-    read_report(
-        alloc,
-        METADATA.as_bytes(),
-        parameters,
-        types,
-        &Limits::profile(),
-    )
+    let bytes = METADATA.as_bytes();
+    let report = read_report(alloc, bytes, parameters, types, &Limits::profile())?;
+    Box::new(alloc, report).map_err(|_| MetaFault::Memory)
 }
 
 /// Reads the name of the parameters file.
@@ -74,7 +62,10 @@ struct ReadsReport;
 
 impl Call for ReadsReport {
     fn make(&mut self, alloc: Global) -> Answer {
-        answer(report(alloc))
+        match report(alloc) {
+            Ok(_) => Answer::Enough,
+            Err(fault) => of_fault(fault),
+        }
     }
 }
 
@@ -96,20 +87,20 @@ impl Call for CopiesReport<'_> {
 
 #[test]
 fn a_url_without_memory(rt: HostRuntime) {
-    let refused = refusals(rt.alloc(), &mut ReadsUrl);
+    let refused = refusals(rt.alloc(), ROOM, &mut ReadsUrl);
     assert!(rt; refused.is_some_and(|count| count >= 20));
 }
 
 #[test]
 fn a_report_without_memory(rt: HostRuntime) {
-    let refused = refusals(rt.alloc(), &mut ReadsReport);
-    assert!(rt; refused.is_some_and(|count| count >= 100));
+    let refused = refusals(rt.alloc(), 4 * ROOM, &mut ReadsReport);
+    assert!(rt; refused.is_some_and(|count| count >= 1_000));
 }
 
 #[test]
 fn a_copy_without_memory(rt: HostRuntime) -> Result<(), Fail> {
-    let report = Box::new(rt.alloc(), report(rt.alloc())?)?;
-    let refused = refusals(rt.alloc(), &mut CopiesReport { report: &report });
+    let report = report(rt.alloc())?;
+    let refused = refusals(rt.alloc(), ROOM, &mut CopiesReport { report: &report });
     assert!(rt; refused.is_some_and(|count| count >= 20));
     Ok(())
 }

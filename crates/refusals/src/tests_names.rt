@@ -1,8 +1,8 @@
 //! Namespaces and texts under want of memory, and `add` with ample memory.
 
-use crate::{Answer, Call, refusals};
-use oim_names::{Items, NameFault, Namespaces, Text, language};
-use std::alloc::{AllocError, Global};
+use crate::{Answer, Call, ROOM, refusals};
+use oim_names::{NameFault, Namespaces, Text};
+use std::alloc::Global;
 use std::test::Fail;
 
 /// The prefixes of the tests, bound out of order.
@@ -65,7 +65,31 @@ fn add_without_memory(rt: HostRuntime) -> Result<(), Fail> {
     let Ok(names) = example(rt.alloc()) else {
         return Err(Fail::new("no names"));
     };
-    let refused = refusals(rt.alloc(), &mut Binds { names });
+    let refused = refusals(rt.alloc(), ROOM, &mut Binds { names });
     assert!(rt; refused.is_some_and(|count| count >= 3));
+    Ok(())
+}
+
+/// Copies a text that is shared.
+#[derive(Drop)]
+struct CopiesShared {
+    text: Text,
+}
+
+impl Call for CopiesShared {
+    fn make(&mut self, _alloc: Global) -> Answer {
+        match self.text.clone() {
+            Ok(copy) if copy.as_str() == self.text.as_str() => Answer::Enough,
+            Ok(_) => Answer::Wrong,
+            Err(_) => Answer::Refused,
+        }
+    }
+}
+
+#[test]
+fn a_shared_text_is_copied_without_memory(rt: HostRuntime) -> Result<(), Fail> {
+    let text = Text::from_str(rt.alloc(), "http://example.com/eg")?.share()?;
+    let refused = refusals(rt.alloc(), ROOM, &mut CopiesShared { text });
+    assert!(rt; refused == Some(0));
     Ok(())
 }

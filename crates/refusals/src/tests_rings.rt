@@ -1,13 +1,13 @@
 //! Rings under want of memory.
 
-use crate::{Answer, Call, refusals};
+use crate::{Answer, Call, ROOM, refusals};
 use oim_ring::{Lanes, lane};
 use std::alloc::{AllocError, Global};
 use std::test::Fail;
 
 /// What a call did that takes memory alone, if it was not refused.
-fn answer<T: Drop>(result: Result<T, AllocError>) -> Answer {
-    match result {
+fn answer<T: Drop>(made: Result<T, AllocError>) -> Answer {
+    match made {
         Ok(_) => Answer::Enough,
         Err(_) => Answer::Refused,
     }
@@ -37,14 +37,14 @@ impl Call for OpensNext {
 
 #[test]
 fn a_ring_without_memory(rt: HostRuntime) {
-    let refused = refusals(rt.alloc(), &mut OpensOne);
+    let refused = refusals(rt.alloc(), ROOM, &mut OpensOne);
     assert!(rt; refused.is_some_and(|count| count >= 3));
 }
 
 #[test]
 fn a_further_ring_without_memory(rt: HostRuntime) -> Result<(), Fail> {
     let lanes = Lanes::new(rt.alloc(), 4)?;
-    let refused = refusals(rt.alloc(), &mut OpensNext { lanes });
+    let refused = refusals(rt.alloc(), ROOM, &mut OpensNext { lanes });
     assert!(rt; refused.is_some_and(|count| count >= 3));
     Ok(())
 }

@@ -3,7 +3,7 @@
 ghost use Rattle.std.specs.Prelude.{◌<◌, length};
 
 use crate::tests_metadata::report;
-use crate::{Answer, Call, refusals};
+use crate::{Answer, Call, ROOM, refusals};
 use oim_json::{block_of, head, member_of};
 use oim_meta::{Limits, Report};
 use oim_names::Items;
@@ -71,8 +71,8 @@ impl Call for ReadsTable<'_> {
 
 #[test]
 fn a_table_without_memory(rt: HostRuntime) -> Result<(), Fail> {
-    let report = Box::new(rt.alloc(), report(rt.alloc())?)?;
-    let refused = refusals(rt.alloc(), &mut ReadsTable { report: &report });
+    let report = report(rt.alloc())?;
+    let refused = refusals(rt.alloc(), ROOM, &mut ReadsTable { report: &report });
     assert!(rt; refused.is_some_and(|count| count >= 50));
     Ok(())
 }
@@ -116,13 +116,13 @@ fn first_row(alloc: Global, report: &Report) -> Result<Items<Fact>, Fail> {
 
 #[test]
 fn texts_without_memory(rt: HostRuntime) -> Result<(), Fail> {
-    let report = Box::new(rt.alloc(), report(rt.alloc())?)?;
+    let report = report(rt.alloc())?;
     let facts = first_row(rt.alloc(), &report)?;
     let mut call = WritesTexts {
         report: &report,
         facts: &facts,
     };
-    let refused = refusals(rt.alloc(), &mut call);
+    let refused = refusals(rt.alloc(), ROOM, &mut call);
     assert!(rt; refused.is_some_and(|count| count >= 20));
     Ok(())
 }

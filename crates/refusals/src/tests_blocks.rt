@@ -1,0 +1,61 @@
+//! The blocks of a table under want of memory.
+
+use crate::tests_metadata::report;
+use crate::{Answer, Call, ROOM, refusals};
+use oim_decode::TableBlocks;
+use oim_meta::{Limits, Report};
+use oim_rows::{TableFault, TableKind};
+use std::alloc::Global;
+use std::test::Fail;
+
+/// A table of two rows.
+const TABLE: &[u8] = b"cash,note,g\n100,first,x\n200,second,x\n";
+
+/// What a call did that answers a fault of a table, if it was not refused.
+fn of_fault(fault: TableFault) -> Answer {
+    if fault.kind == TableKind::Memory {
+        Answer::Refused
+    } else {
+        Answer::Wrong
+    }
+}
+
+/// What the reading of all blocks did. Facts that were read before memory was refused may come first.
+fn read_blocks(alloc: Global, blocks: &mut TableBlocks<'_, &[u8]>) -> Answer {
+    let mut facts = 0usize;
+    for _ in 0..5u32 {
+        match blocks.next_block(Vec::new(alloc)) {
+            Ok(Some(block)) => facts = facts.saturating_add(block.count()),
+            Ok(None) if facts == 4 => return Answer::Enough,
+            Ok(None) => return Answer::Wrong,
+            Err(fault) => return of_fault(fault),
+        }
+    }
+    Answer::Wrong
+}
+
+/// Reads a table of a report in blocks.
+#[derive(Drop)]
+struct ReadsBlocks<'a> {
+    report: &'a Report,
+}
+
+impl Call for ReadsBlocks<'_> {
+    fn make(&mut self, alloc: Global) -> Answer {
+        if self.report.tables() == 0 {
+            return Answer::Wrong;
+        }
+        match TableBlocks::open(alloc, self.report, 0, TABLE, Limits::profile()) {
+            Ok(mut blocks) => read_blocks(alloc, &mut blocks),
+            Err(fault) => of_fault(fault),
+        }
+    }
+}
+
+#[test]
+fn blocks_without_memory(rt: HostRuntime) -> Result<(), Fail> {
+    let report = report(rt.alloc())?;
+    let refused = refusals(rt.alloc(), 4 * ROOM, &mut ReadsBlocks { report: &report });
+    assert!(rt; refused.is_some_and(|count| count >= 50));
+    Ok(())
+}
