@@ -11,6 +11,7 @@ mod Examples
 mod SlotExamples
 pub mod PieceLaws
 pub mod ReadyLaws
+pub mod ReadyRunLaws
 pub mod TextCuts
 pub mod Growth
 pub mod GroupLaws
