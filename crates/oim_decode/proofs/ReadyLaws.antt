@@ -1,11 +1,8 @@
 -- What an entry gives by its slot.
-use Rattle.std.proofs.Common.{◌≡◌, ◌<◌, ℕ, ◌+◌, false, cond, List, [], ◌∷◌, ◌++◌, length, take, get_or, codes, Option, Some, None, Result, Ok, Err, refl, sym, ap, ◌∙◌, append-nil}
+use Rattle.std.proofs.Common.{◌≡◌, ◌<◌, ℕ, false, cond, List, [], ◌++◌, length, get_or, codes, Option, Some, None, Ok, Err, refl, sym, ap, ◌∙◌}
 use Rattle.std.specs.List.{slice_get}
 use Rattle.std.specs.Option.{option_map, option_map_or}
 use Rattle.std.proofs.lemmas.Option.{slice_get_within, get_or_from_slice_get}
-use Rattle.std.proofs.lemmas.List.{take_more}
-use Rattle.std.proofs.lemmas.List.Sums.{fold-append}
-use Rattle.std.proofs.lemmas.Grind.{flat_map-append}
 use Rattle.oim_cells.specs.Cells.{Meaning}
 use Rattle.oim_cells.specs.Cells as m
 use Rattle.oim_json.specs.JsonText.{value_text, dimension_text, quoted}
@@ -17,8 +14,8 @@ use Rattle.oim_resolve.specs.Faults.{least, least_of}
 use Rattle.oim_resolve.specs.Values.{side_of}
 use Rattle.oim_resolve.specs.declared.fact.CellFault.{CellFault}
 use Rattle.oim_resolve.specs.declared.role.Role.{Role}
-use Rattle.oim_decode.specs.Pieces.{piece, given_fault, given_piece}
-use Rattle.oim_decode.specs.Ready.{EntryView, IsPlaced, IsSlotOf, shown, shown_fault, shown_pieces, behind_name, kind_or, kind_given, literal_meaning}
+use Rattle.oim_decode.specs.Pieces.{piece}
+use Rattle.oim_decode.specs.Ready.{EntryView, IsPlaced, IsSlotOf, shown, behind_name, kind_or, kind_given, literal_meaning}
 use Rattle.oim_decode.specs.Slots.{SlotView, concept_given}
 
 -- a slot that is there

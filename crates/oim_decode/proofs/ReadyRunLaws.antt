@@ -1,13 +1,13 @@
 -- Runs give what the entries give that they are made of.
-use Rattle.std.proofs.Common.{◌≡◌, ◌<◌, ℕ, zero, suc, true, false, cond, List, [], ◌∷◌, ◌++◌, length, codes, Option, Some, None, refl, sym, ap, subst, ◌∙◌, append-nil, append_assoc, length-append, arith}
+use Rattle.std.proofs.Common.{◌≡◌, ◌<◌, ℕ, zero, suc, true, false, cond, List, [], ◌∷◌, ◌++◌, length, codes, Option, Some, None, refl, sym, ap, subst, ◌∙◌, append-nil, append_assoc, arith}
 use Rattle.std.specs.List.{All, flat_map, fold, slice_get}
-use Rattle.std.specs.Option.{option_map, option_map_or}
+use Rattle.std.specs.Option.{option_map_or}
 use Rattle.std.proofs.lemmas.List.Sums.{fold-append}
 use Rattle.std.proofs.lemmas.Grind.{flat_map-append}
 use Rattle.oim_cells.specs.Cells as m
 use Rattle.oim_cells.specs.declared.cells.NumberKind.{NumberKind}
 use Rattle.oim_cells.specs.declared.cells.NumberKind.TheVariants.{Integer}
-use Rattle.oim_json.specs.JsonText.{quoted, value_text}
+use Rattle.oim_json.specs.JsonText.{quoted}
 use Rattle.oim_meta.specs.declared.kind.Kind.{Kind}
 use Rattle.oim_meta.specs.declared.kind.Kind.TheVariants as kind
 use Rattle.oim_resolve.specs.Facts.{entry_given, is_dropped, role_of, value_faults_of}
@@ -19,7 +19,7 @@ use Rattle.oim_resolve.specs.declared.role.Role.{Role}
 use Rattle.oim_resolve.specs.declared.role.Role.TheVariants as role
 use Rattle.oim_decode.specs.Pieces.{given_fault, given_piece, piece}
 use Rattle.oim_decode.specs.Ready.{EntryView, IsPlaced, behind_name, kept_fault, kept_text, literal_meaning, shown, shown_fault, shown_pieces}
-use Rattle.oim_decode.specs.ReadyRuns.{AreRuns, behind_text, least_run_fault, run_fault, run_text, runs_fault, runs_text, slot_fault, slot_piece}
+use Rattle.oim_decode.specs.ReadyRuns.{AreRuns, behind_text, least_run_fault, run_fault, run_text, slot_fault, slot_piece}
 use Rattle.oim_decode.specs.Slots.{SlotView, piece_given}
 use Rattle.oim_decode.specs.declared.ready_runs.ReadyRuns.{ReadyRuns}
 use Rattle.oim_decode.specs.declared.ready_runs.Run.{Run}

@@ -1,6 +1,6 @@
 -- What a writer of rows keeps, and what it has written of a row.
-use Rattle.std.proofs.Common.{◌≡◌, ◌<◌, ◌+◌, ℕ, List, [], ◌++◌, length, codes, Option, Result, Ok, Err, refl, sym, ap, ◌∙◌, append_assoc, arith, add-zero}
-use Rattle.std.specs.List.{All, flat_map}
+use Rattle.std.proofs.Common.{◌≡◌, ℕ, List, [], ◌++◌, length, codes, Result, Ok, Err, sym, ap, ◌∙◌, append_assoc, arith, add-zero}
+use Rattle.std.specs.List.{flat_map}
 use Rattle.std.proofs.lemmas.Grind.{flat_map-append}
 use Rattle.oim_json.specs.Blocks.{behind_commas, ends_from}
 use Rattle.oim_json.specs.JsonText.{escaped_byte}

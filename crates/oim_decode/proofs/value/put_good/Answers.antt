@@ -1,6 +1,6 @@
-use Rattle.std.proofs.Common.{◌≡◌, List, ℕ, Option, Some, ap, sym, ◌∙◌}
+use Rattle.std.proofs.Common.{ap, sym, ◌∙◌}
 use Rattle.std.specs.Option.{option_map}
-use Rattle.oim_cells.specs.Cells.{numeral_of, seen_meaning, seen_numeral}
+use Rattle.oim_cells.specs.Cells.{seen_meaning, seen_numeral}
 use Rattle.oim_cells.specs.declared.cells.CellMeaning.{CellMeaning}
 use Rattle.oim_meta.specs.declared.kind.Kind.{Kind}
 use Rattle.oim_meta.specs.declared.kind.Kind.TheVariants.{Number}

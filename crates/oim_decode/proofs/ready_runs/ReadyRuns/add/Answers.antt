@@ -1,4 +1,4 @@
-use Rattle.std.proofs.Common.{◌++◌, ℕ, List, None, refl, sym, ap, ◌∙◌}
+use Rattle.std.proofs.Common.{◌++◌, ℕ, None, refl, sym, ap, ◌∙◌}
 use Rattle.std.specs.Global.{Vec}
 use Rattle.oim_resolve.specs.Faults.{least_of}
 use Rattle.oim_decode.proofs.ReadyRunLaws.{dropped, literal_added, reference_added}

@@ -5,7 +5,7 @@ use Rattle.oim_resolve.specs.Facts.{decimals_given}
 use Rattle.oim_resolve.specs.Facts as f
 use Rattle.oim_resolve.specs.Faults.{least_of}
 use Rattle.oim_decode.specs.Ready.{shown_pieces, shown_stated}
-use Rattle.oim_decode.specs.Rest.{cut, rest_text, decimals_wrong, number_wrong}
+use Rattle.oim_decode.specs.Rest.{cut, rest_text, decimals_wrong}
 use Rattle.oim_decode.proofs.TextCuts.{rest_put}
 use Rattle.oim_decode.proofs.ReadyLaws.{neither}
 use Rattle.oim_decode.proofs.variant.Variant.put.Goals as goal
