@@ -23,4 +23,3 @@ pub mod Refreshed
 pub mod StepLaws
 pub mod LoopLaws
 mod RowExamples
-pub mod WriterLaws

@@ -81,90 +81,90 @@ module _ (k : Kind) (es : List EntryView) (e : EntryView) where
     }
 
     module _ (kept : is_dropped k (role_of e.report e.name) ≡ false) where
-        abbrev open_fault : List SlotView → Option CellFault
-        open_fault ss = least (value_faults_of e.report (role_of e.report e.name) (side_of e.written) (shown ss e))
+      abbrev open_fault : List SlotView → Option CellFault
+      open_fault ss = least (value_faults_of e.report (role_of e.report e.name) (side_of e.written) (shown ss e))
 
-        abbrev open_piece : List SlotView → List ℕ
-        open_piece ss = piece e.name (entry_given e.report (role_of e.report e.name) (side_of e.written) (shown ss e))
+      abbrev open_piece : List SlotView → List ℕ
+      open_piece ss = piece e.name (entry_given e.report (role_of e.report e.name) (side_of e.written) (shown ss e))
 
-        fault_open : (ss : List SlotView) → open_fault ss ≡ fault_of ss
-        fault_open ss = sym (fault_if_kept k (role_of e.report e.name) (open_fault ss) kept)
+      fault_open : (ss : List SlotView) → open_fault ss ≡ fault_of ss
+      fault_open ss = sym (fault_if_kept k (role_of e.report e.name) (open_fault ss) kept)
 
-        piece_open : (ss : List SlotView) → open_piece ss ≡ piece_of ss
-        piece_open ss = sym (piece_if_kept k (role_of e.report e.name) (open_piece ss) kept)
+      piece_open : (ss : List SlotView) → open_piece ss ≡ piece_of ss
+      piece_open ss = sym (piece_if_kept k (role_of e.report e.name) (open_piece ss) kept)
 
-        module _ (y : ReadyRuns) where
-            -- a literal
-            pub literal_added : e.slot ≡ None → y.runs.items ≡ x.runs.items → y.rest.items ≡ x.rest.items ++ kept_text e.report e.name e.written e.slot → y.fault ≡ least_of x.fault (kept_fault e.report e.name e.written e.slot)
-                → AreRuns k (es ++ e ∷ []) y
-            literal_added none runs rest fault = record {
-              fault = λ ss q.
-                  let F = least_run_fault ss x.runs.items in
-                  ap (λ (zs : List Run). least_of (least_run_fault ss zs) y.fault) runs ∙ ap (least_of F) fault ∙ least_of-assoc F x.fault (kept_fault e.report e.name e.written e.slot)
-                  ∙ ap (λ g. least_of g (kept_fault e.report e.name e.written e.slot)) (p.fault ss (front (IsPlaced ss) es e q)) ∙ ap (least_of (shown_fault ss k es)) (fault_is ss) ∙ sym (fault_more ss);
-              text = λ ss q.
-                  let T = flat_map (run_text ss) x.runs.items in
-                  ap (λ (zs : List Run). flat_map (run_text ss) zs ++ y.rest.items) runs ∙ ap (λ t. T ++ t) rest ∙ sym (append_assoc T x.rest.items (kept_text e.report e.name e.written e.slot))
-                  ∙ ap (λ t. t ++ kept_text e.report e.name e.written e.slot) (p.text ss (front (IsPlaced ss) es e q)) ∙ ap (λ t. shown_pieces ss k es ++ t) (piece_is ss) ∙ sym (pieces_more ss);
-              slots = λ ss q. subst (All (λ (z : Run). z.slot < length ss)) (sym runs) (p.slots ss (front (IsPlaced ss) es e q));
-            }
-              where
-                shown_is : (ss : List SlotView) → shown ss e ≡ literal_meaning e.written
-                shown_is ss = ap (λ o. option_map_or (λ j. option_map_or (λ (s : SlotView). s.meaning) (slice_get ss j) m.Absent) o (literal_meaning e.written)) none
+      module _ (y : ReadyRuns) where
+        -- a literal
+        pub literal_added : e.slot ≡ None → y.runs.items ≡ x.runs.items → y.rest.items ≡ x.rest.items ++ kept_text e.report e.name e.written e.slot → y.fault ≡ least_of x.fault (kept_fault e.report e.name e.written e.slot)
+            → AreRuns k (es ++ e ∷ []) y
+        literal_added none runs rest fault = record {
+          fault = λ ss q.
+              let F = least_run_fault ss x.runs.items in
+              ap (λ (zs : List Run). least_of (least_run_fault ss zs) y.fault) runs ∙ ap (least_of F) fault ∙ least_of-assoc F x.fault (kept_fault e.report e.name e.written e.slot)
+              ∙ ap (λ g. least_of g (kept_fault e.report e.name e.written e.slot)) (p.fault ss (front (IsPlaced ss) es e q)) ∙ ap (least_of (shown_fault ss k es)) (fault_is ss) ∙ sym (fault_more ss);
+          text = λ ss q.
+              let T = flat_map (run_text ss) x.runs.items in
+              ap (λ (zs : List Run). flat_map (run_text ss) zs ++ y.rest.items) runs ∙ ap (λ t. T ++ t) rest ∙ sym (append_assoc T x.rest.items (kept_text e.report e.name e.written e.slot))
+              ∙ ap (λ t. t ++ kept_text e.report e.name e.written e.slot) (p.text ss (front (IsPlaced ss) es e q)) ∙ ap (λ t. shown_pieces ss k es ++ t) (piece_is ss) ∙ sym (pieces_more ss);
+          slots = λ ss q. subst (All (λ (z : Run). z.slot < length ss)) (sym runs) (p.slots ss (front (IsPlaced ss) es e q));
+        }
+          where
+            shown_is : (ss : List SlotView) → shown ss e ≡ literal_meaning e.written
+            shown_is ss = ap (λ o. option_map_or (λ j. option_map_or (λ (s : SlotView). s.meaning) (slice_get ss j) m.Absent) o (literal_meaning e.written)) none
 
-                fault_is : (ss : List SlotView) → kept_fault e.report e.name e.written e.slot ≡ fault_of ss
-                fault_is ss =
-                    ap (kept_fault e.report e.name e.written) none
-                    ∙ sym (ap (λ v. least (value_faults_of e.report (role_of e.report e.name) (side_of e.written) v)) (shown_is ss)) ∙ fault_open ss
+            fault_is : (ss : List SlotView) → kept_fault e.report e.name e.written e.slot ≡ fault_of ss
+            fault_is ss =
+                ap (kept_fault e.report e.name e.written) none
+                ∙ sym (ap (λ v. least (value_faults_of e.report (role_of e.report e.name) (side_of e.written) v)) (shown_is ss)) ∙ fault_open ss
 
-                piece_is : (ss : List SlotView) → kept_text e.report e.name e.written e.slot ≡ piece_of ss
-                piece_is ss =
-                    ap (kept_text e.report e.name e.written) none
-                    ∙ sym (ap (λ v. piece e.name (entry_given e.report (role_of e.report e.name) (side_of e.written) v)) (shown_is ss)) ∙ piece_open ss
+            piece_is : (ss : List SlotView) → kept_text e.report e.name e.written e.slot ≡ piece_of ss
+            piece_is ss =
+                ap (kept_text e.report e.name e.written) none
+                ∙ sym (ap (λ v. piece e.name (entry_given e.report (role_of e.report e.name) (side_of e.written) v)) (shown_is ss)) ∙ piece_open ss
 
-            -- a reference
-            pub reference_added : (i : ℕ) (w : Run) → e.slot ≡ Some i → y.runs.items ≡ x.runs.items ++ w ∷ [] → w.alone.items ≡ x.rest.items → w.named.items ≡ x.rest.items ++ kept_text e.report e.name e.written e.slot
-                → w.fault ≡ x.fault → w.slot ≡ i → y.rest.items ≡ [] → y.fault ≡ None → AreRuns k (es ++ e ∷ []) y
-            reference_added i w at runs alone named fault slot rest none = record {
-              fault = λ ss q.
-                  let F = least_run_fault ss x.runs.items in
-                  let sf = slot_fault (slice_get ss w.slot) in
-                  ap (λ (zs : List Run). least_of (least_run_fault ss zs) y.fault) runs ∙ ap (least_of (least_run_fault ss (x.runs.items ++ w ∷ []))) none
-                  ∙ or_none (least_run_fault ss (x.runs.items ++ w ∷ []))
-                  ∙ run_more ss x.runs.items w
-                  ∙ ap (λ g. least_of F (least_of g sf)) fault ∙ least_of-assoc F x.fault sf
-                  ∙ ap (λ g. least_of g sf) (p.fault ss (front (IsPlaced ss) es e q)) ∙ ap (least_of (shown_fault ss k es)) (fault_is ss (last (IsPlaced ss) es e q)) ∙ sym (fault_more ss);
-              text = λ ss q.
-                  let T = flat_map (run_text ss) x.runs.items in
-                  ap (λ (zs : List Run). flat_map (run_text ss) zs ++ y.rest.items) runs ∙ ap (λ t. flat_map (run_text ss) (x.runs.items ++ w ∷ []) ++ t) rest
-                  ∙ append-nil (flat_map (run_text ss) (x.runs.items ++ w ∷ []))
-                  ∙ flat_map-append (run_text ss) x.runs.items (w ∷ []) ∙ ap (λ t. T ++ t) (append-nil (run_text ss w) ∙ text_is ss (last (IsPlaced ss) es e q)) ∙ sym (append_assoc T x.rest.items (piece_of ss))
-                  ∙ ap (λ t. t ++ piece_of ss) (p.text ss (front (IsPlaced ss) es e q)) ∙ sym (pieces_more ss);
-              slots = λ ss q.
-                  let here : w.slot < length ss = subst (λ j. j < length ss) (sym slot) (in_range ss e i (last (IsPlaced ss) es e q) at) in
-                  subst (All (λ (z : Run). z.slot < length ss)) (sym runs) (all_push (λ (z : Run). z.slot < length ss) x.runs.items w (p.slots ss (front (IsPlaced ss) es e q)) here);
-            }
-              where
-                fault_is : (ss : List SlotView) → IsPlaced ss e → slot_fault (slice_get ss w.slot) ≡ fault_of ss
-                fault_is ss q =
-                    let s = slot_at ss e i q at in
-                    ap (λ j. slot_fault (slice_get ss j)) slot ∙ ap slot_fault s.1 ∙ parts_are ss e i q at s.0 s.2 (λ r o d v. least (value_faults_of r o d v)) ∙ fault_open ss
+        -- a reference
+        pub reference_added : (i : ℕ) (w : Run) → e.slot ≡ Some i → y.runs.items ≡ x.runs.items ++ w ∷ [] → w.alone.items ≡ x.rest.items → w.named.items ≡ x.rest.items ++ kept_text e.report e.name e.written e.slot
+            → w.fault ≡ x.fault → w.slot ≡ i → y.rest.items ≡ [] → y.fault ≡ None → AreRuns k (es ++ e ∷ []) y
+        reference_added i w at runs alone named fault slot rest none = record {
+          fault = λ ss q.
+              let F = least_run_fault ss x.runs.items in
+              let sf = slot_fault (slice_get ss w.slot) in
+              ap (λ (zs : List Run). least_of (least_run_fault ss zs) y.fault) runs ∙ ap (least_of (least_run_fault ss (x.runs.items ++ w ∷ []))) none
+              ∙ or_none (least_run_fault ss (x.runs.items ++ w ∷ []))
+              ∙ run_more ss x.runs.items w
+              ∙ ap (λ g. least_of F (least_of g sf)) fault ∙ least_of-assoc F x.fault sf
+              ∙ ap (λ g. least_of g sf) (p.fault ss (front (IsPlaced ss) es e q)) ∙ ap (least_of (shown_fault ss k es)) (fault_is ss (last (IsPlaced ss) es e q)) ∙ sym (fault_more ss);
+          text = λ ss q.
+              let T = flat_map (run_text ss) x.runs.items in
+              ap (λ (zs : List Run). flat_map (run_text ss) zs ++ y.rest.items) runs ∙ ap (λ t. flat_map (run_text ss) (x.runs.items ++ w ∷ []) ++ t) rest
+              ∙ append-nil (flat_map (run_text ss) (x.runs.items ++ w ∷ []))
+              ∙ flat_map-append (run_text ss) x.runs.items (w ∷ []) ∙ ap (λ t. T ++ t) (append-nil (run_text ss w) ∙ text_is ss (last (IsPlaced ss) es e q)) ∙ sym (append_assoc T x.rest.items (piece_of ss))
+              ∙ ap (λ t. t ++ piece_of ss) (p.text ss (front (IsPlaced ss) es e q)) ∙ sym (pieces_more ss);
+          slots = λ ss q.
+              let here : w.slot < length ss = subst (λ j. j < length ss) (sym slot) (in_range ss e i (last (IsPlaced ss) es e q) at) in
+              subst (All (λ (z : Run). z.slot < length ss)) (sym runs) (all_push (λ (z : Run). z.slot < length ss) x.runs.items w (p.slots ss (front (IsPlaced ss) es e q)) here);
+        }
+          where
+            fault_is : (ss : List SlotView) → IsPlaced ss e → slot_fault (slice_get ss w.slot) ≡ fault_of ss
+            fault_is ss q =
+                let s = slot_at ss e i q at in
+                ap (λ j. slot_fault (slice_get ss j)) slot ∙ ap slot_fault s.1 ∙ parts_are ss e i q at s.0 s.2 (λ r o d v. least (value_faults_of r o d v)) ∙ fault_open ss
 
-                behind_split : (a b : List ℕ) (o : Option (List ℕ)) → behind_text a (a ++ b) o ≡ a ++ behind_name b o
-                behind_split a b None = sym (append-nil a)
-                behind_split a b (Some v) = simp append_assoc
+            behind_split : (a b : List ℕ) (o : Option (List ℕ)) → behind_text a (a ++ b) o ≡ a ++ behind_name b o
+            behind_split a b None = sym (append-nil a)
+            behind_split a b (Some v) = simp append_assoc
 
-                text_is : (ss : List SlotView) → IsPlaced ss e → run_text ss w ≡ x.rest.items ++ piece_of ss
-                text_is ss q =
-                    let s = slot_at ss e i q at in
-                    let name : List ℕ = quoted e.name ++ codes ":" in
-                    let given : slot_piece (slice_get ss w.slot) ≡ piece_given e.report (role_of e.report e.name) (side_of e.written) (shown ss e) =
-                    ap (λ j. slot_piece (slice_get ss j)) slot ∙ ap slot_piece s.1 ∙ parts_are ss e i q at s.0 s.2 piece_given in
-                    ap (λ t. behind_text t w.named.items (slot_piece (slice_get ss w.slot))) alone
-                    ∙ ap (λ t. behind_text x.rest.items t (slot_piece (slice_get ss w.slot))) (named ∙ ap (λ o. x.rest.items ++ kept_text e.report e.name e.written o) at)
-                    ∙ ap (behind_text x.rest.items (x.rest.items ++ name)) given
-                    ∙ behind_split x.rest.items name (piece_given e.report (role_of e.report e.name) (side_of e.written) (shown ss e))
-                    ∙ ap (λ t. x.rest.items ++ t) (behind_name_is e.name (entry_given e.report (role_of e.report e.name) (side_of e.written) (shown ss e)) ∙ piece_open ss)
+            text_is : (ss : List SlotView) → IsPlaced ss e → run_text ss w ≡ x.rest.items ++ piece_of ss
+            text_is ss q =
+                let s = slot_at ss e i q at in
+                let name : List ℕ = quoted e.name ++ codes ":" in
+                let given : slot_piece (slice_get ss w.slot) ≡ piece_given e.report (role_of e.report e.name) (side_of e.written) (shown ss e) =
+                ap (λ j. slot_piece (slice_get ss j)) slot ∙ ap slot_piece s.1 ∙ parts_are ss e i q at s.0 s.2 piece_given in
+                ap (λ t. behind_text t w.named.items (slot_piece (slice_get ss w.slot))) alone
+                ∙ ap (λ t. behind_text x.rest.items t (slot_piece (slice_get ss w.slot))) (named ∙ ap (λ o. x.rest.items ++ kept_text e.report e.name e.written o) at)
+                ∙ ap (behind_text x.rest.items (x.rest.items ++ name)) given
+                ∙ behind_split x.rest.items name (piece_given e.report (role_of e.report e.name) (side_of e.written) (shown ss e))
+                ∙ ap (λ t. x.rest.items ++ t) (behind_name_is e.name (entry_given e.report (role_of e.report e.name) (side_of e.written) (shown ss e)) ∙ piece_open ss)
 
 -- KINDS
 

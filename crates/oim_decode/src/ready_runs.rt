@@ -133,12 +133,7 @@ impl ReadyRuns {
     }
 
     /// Adds an entry, unless it is dropped.
-    fn add(
-        &mut self,
-        alloc: Global,
-        entry: &ReadyEntry<'_>,
-        kind: Kind,
-    ) -> Result<(), AllocError>
+    fn add(&mut self, alloc: Global, entry: &ReadyEntry<'_>, kind: Kind) -> Result<(), AllocError>
         ensures { OnOk result ((es : List EntryView) → AreRuns kind es self.old → AreRuns kind (es ++ entry.now ∷ []) self.new) }
     {
         if entry.is_dropped(kind) {
@@ -163,11 +158,7 @@ impl ReadyRuns {
     }
 
     /// The dimensions of entries for concepts of a kind.
-    fn of(
-        alloc: Global,
-        entries: &[ReadyEntry<'_>],
-        kind: Kind,
-    ) -> Result<ReadyRuns, AllocError>
+    fn of(alloc: Global, entries: &[ReadyEntry<'_>], kind: Kind) -> Result<ReadyRuns, AllocError>
         ensures { IfOk result (λ x. AreRuns kind entries.now x) }
     {
         let mut runs = ReadyRuns::new(alloc);
@@ -188,10 +179,7 @@ pub(crate) struct KindRuns {
 
 impl KindRuns {
     /// The dimensions of entries.
-    pub(crate) fn of(
-        alloc: Global,
-        entries: &[ReadyEntry<'_>],
-    ) -> Result<KindRuns, AllocError>
+    pub(crate) fn of(alloc: Global, entries: &[ReadyEntry<'_>]) -> Result<KindRuns, AllocError>
         ensures { IfOk result (λ x. AreKindRuns entries.now x) }
     {
         Ok(KindRuns {
