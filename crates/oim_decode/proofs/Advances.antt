@@ -1,14 +1,12 @@
 -- Rows that are read from a table's stream, one after another.
-use Rattle.std.proofs.Common.{◌≡◌, ◌⊎◌, ℕ, List, [], ◌∷◌, ◌++◌, Bool, true, false, Option, Some, None, Result, Ok, Err, IfSome, IsSome, refl, ap, sym, subst, ◌∙◌, inl, inr, append-nil, append_assoc}
-use mathlib.Core.List.{IsPrefix}
-use Rattle.std.specs.List.{flat_map}
+use Rattle.std.proofs.Common.{◌≡◌, ℕ, List, [], ◌∷◌, ◌++◌, true, false, Option, Some, None, Ok, Err, IfSome, IsSome, refl, ap, sym, subst, ◌∙◌, inl, inr, append-nil, append_assoc}
 use Rattle.std.proofs.lemmas.Grind.{flat_map-append}
 use Rattle.oim_resolve.specs.declared.fact.Fact.{Fact}
 use Rattle.oim_rows.specs.Header.{file_fault}
-use Rattle.oim_rows.specs.Streams.{GivesNext, IsOutside, Stream, ending, row_in_front}
+use Rattle.oim_rows.specs.Streams.{GivesNext, IsOutside, Stream, ending}
 use Rattle.oim_rows.specs.declared.fault.TableFault.{TableFault}
 use Rattle.oim_rows.specs.declared.fault.TableKind.TheVariants as kind
-use Rattle.oim_decode.specs.Blocks.{AddsRow, AnswersFacts, GivesBlock, ReadsRows, facts_of_rows}
+use Rattle.oim_decode.specs.Blocks.{AddsRow, GivesBlock, ReadsRows, facts_of_rows}
 
 -- these rows were read, and with their facts these are pending
 abbrev pub HasRead : ℕ → Stream → List Fact → List Fact → Option Stream → Type 0

@@ -1,16 +1,15 @@
 -- Texts of facts that are written, cut and moved.
-use Rattle.std.proofs.Common.{◌≡◌, ℕ, zero, suc, ◌+◌, ◌-◌, ◌≤◌, ◌<◌, List, [], ◌∷◌, ◌++◌, Bool, true, false, Option, Some, None, length, take, drop, get_or, map, refl, ap, sym, ◌∙◌, arith, append-nil, append_assoc, length-append, cond}
+use Rattle.std.proofs.Common.{◌≡◌, ℕ, ◌+◌, ◌-◌, ◌≤◌, List, [], ◌∷◌, ◌++◌, Bool, true, false, Some, None, length, take, drop, get_or, map, refl, ap, sym, ◌∙◌, arith, append-nil, length-append}
 use mathlib.Core.List.{IsPrefix}
 use Rattle.std.specs.List.{position_from}
 use Rattle.std.specs.Str.{is_utf8}
-use Rattle.std.proofs.lemmas.List.{take_at, drop_at, drop-append-le, take-append-le, length-take-le, take-append-drop, take_more}
+use Rattle.std.proofs.lemmas.List.{take_at, drop_at, length-take-le, take-append-drop}
 use Rattle.std.proofs.lemmas.Str.{IsUtf8-from_is_utf8}
 use Rattle.csv.specs.Records.{AllText}
 use Rattle.oim_resolve.specs.declared.fact.Fact.{Fact}
 use Rattle.oim_rows.specs.RowFacts.{is_not_text}
-use Rattle.oim_json.specs.JsonText.{member_text}
 use Rattle.oim_json.specs.Blocks.{behind_comma, behind_commas, ends_from}
-use Rattle.oim_json.proofs.Blocks.{texts_append, texts_cut, texts_push, ends_append, ends_length, ends_push, nothing_written, read_end}
+use Rattle.oim_json.proofs.Blocks.{texts_append, texts_cut, ends_append, ends_length, read_end}
 
 -- FRONTS
 

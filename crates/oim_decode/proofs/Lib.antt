@@ -11,6 +11,7 @@ mod Examples
 mod SlotExamples
 pub mod PieceLaws
 pub mod ReadyLaws
+pub mod ReadyRunLaws
 pub mod TextCuts
 pub mod Growth
 pub mod GroupLaws
@@ -22,4 +23,3 @@ pub mod Refreshed
 pub mod StepLaws
 pub mod LoopLaws
 mod RowExamples
-pub mod WriterLaws

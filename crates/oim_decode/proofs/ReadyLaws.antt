@@ -1,11 +1,8 @@
 -- What an entry gives by its slot.
-use Rattle.std.proofs.Common.{◌≡◌, ◌<◌, ℕ, ◌+◌, false, cond, List, [], ◌∷◌, ◌++◌, length, take, get_or, codes, Option, Some, None, Result, Ok, Err, refl, sym, ap, ◌∙◌, append-nil}
+use Rattle.std.proofs.Common.{◌≡◌, ◌<◌, ℕ, false, cond, List, [], ◌++◌, length, get_or, codes, Option, Some, None, Ok, Err, refl, sym, ap, ◌∙◌}
 use Rattle.std.specs.List.{slice_get}
 use Rattle.std.specs.Option.{option_map, option_map_or}
 use Rattle.std.proofs.lemmas.Option.{slice_get_within, get_or_from_slice_get}
-use Rattle.std.proofs.lemmas.List.{take_more}
-use Rattle.std.proofs.lemmas.List.Sums.{fold-append}
-use Rattle.std.proofs.lemmas.Grind.{flat_map-append}
 use Rattle.oim_cells.specs.Cells.{Meaning}
 use Rattle.oim_cells.specs.Cells as m
 use Rattle.oim_json.specs.JsonText.{value_text, dimension_text, quoted}
@@ -17,8 +14,8 @@ use Rattle.oim_resolve.specs.Faults.{least, least_of}
 use Rattle.oim_resolve.specs.Values.{side_of}
 use Rattle.oim_resolve.specs.declared.fact.CellFault.{CellFault}
 use Rattle.oim_resolve.specs.declared.role.Role.{Role}
-use Rattle.oim_decode.specs.Pieces.{piece, given_fault, given_piece}
-use Rattle.oim_decode.specs.Ready.{EntryView, IsPlaced, IsSlotOf, shown, shown_fault, shown_pieces, behind_name, kind_or, kind_given, literal_meaning}
+use Rattle.oim_decode.specs.Pieces.{piece}
+use Rattle.oim_decode.specs.Ready.{EntryView, IsPlaced, IsSlotOf, shown, behind_name, kind_or, kind_given, literal_meaning}
 use Rattle.oim_decode.specs.Slots.{SlotView, concept_given}
 
 -- a slot that is there
@@ -33,6 +30,9 @@ module _ (ss : List SlotView) (e : EntryView) (i : ℕ) (p : IsPlaced ss e) (at 
 
   pub in_range : i < length ss
   in_range = slice_get_within ss i there.0 there.1
+
+  pub slot_at : (s : SlotView) × (slice_get ss i ≡ Some s) × (s ≡ get_or ss i s)
+  slot_at = (there.0, there.1, sym (get_or_from_slice_get ss i there.0 there.0 there.1))
 
   module _ (x : SlotView) (is : x ≡ get_or ss i x) where
     same : x ≡ there.0
@@ -84,17 +84,3 @@ kind_is r v = given_or (least (concept_faults_of r v)) (text_kind r v)
 pub neither : (f g : Option CellFault) → least_of f g ≡ None → (f ≡ None) × (g ≡ None)
 neither None g e = (refl, e)
 neither (Some f) g e = absurd (cc)
-
--- one entry more
-pub fault_more : (ss : List SlotView) (k : Kind) (es : List EntryView) (i : ℕ) (e : EntryView) → i < length es → e ≡ get_or es i e
-    → shown_fault ss k (take (i + 1) es) ≡ least_of (shown_fault ss k (take i es)) (given_fault e.report k e.name (side_of e.written) (shown ss e))
-fault_more ss k es i e h is =
-    ap (shown_fault ss k) (take_more es i e h ∙ ap (λ x. take i es ++ x ∷ []) (sym is))
-    ∙ fold-append (λ f (x : EntryView). least_of f (given_fault x.report k x.name (side_of x.written) (shown ss x))) None (take i es) (e ∷ [])
-
-pub pieces_more : (ss : List SlotView) (k : Kind) (es : List EntryView) (i : ℕ) (e : EntryView) → i < length es → e ≡ get_or es i e
-    → shown_pieces ss k (take (i + 1) es) ≡ shown_pieces ss k (take i es) ++ given_piece e.report k e.name (side_of e.written) (shown ss e)
-pieces_more ss k es i e h is =
-    ap (shown_pieces ss k) (take_more es i e h ∙ ap (λ x. take i es ++ x ∷ []) (sym is))
-    ∙ flat_map-append (λ (x : EntryView). given_piece x.report k x.name (side_of x.written) (shown ss x)) (take i es) (e ∷ [])
-    ∙ ap (λ t. shown_pieces ss k (take i es) ++ t) (append-nil (given_piece e.report k e.name (side_of e.written) (shown ss e)))

@@ -1,16 +1,14 @@
 -- A row's facts, by what its table is read by and by what its rows are written by.
-use Rattle.std.proofs.Common.{◌≡◌, ◌⊎◌, ℕ, List, Option, Some, None, Bool, true, false, Result, Ok, Err, IfSome, option_map, ◌+◌, ◌++◌, refl, ap, sym, subst, ◌∙◌, inl, inr}
+use Rattle.std.proofs.Common.{◌≡◌, ℕ, List, Option, Some, None, true, false, Result, Ok, Err, IfSome, option_map, ◌+◌, ◌++◌, refl, ap, sym, ◌∙◌, inl, inr}
 use Rattle.oim_meta.specs.Grid.{Field, Record}
 use Rattle.oim_meta.specs.Taking.{TakesRecord}
 use Rattle.oim_resolve.specs.declared.fact.Fact.{Fact}
-use Rattle.oim_resolve.specs.declared.fact.Row.{Row}
-use Rattle.oim_rows.specs.Header.{Header}
 use Rattle.oim_rows.specs.RowFacts.{Reading, checked, facts_from, id_place_of, ids_after, row_fault, row_of, row_result}
-use Rattle.oim_rows.specs.Streams.{GivesNext, OrNoMemory, Stream, IsOutside, stream_from}
+use Rattle.oim_rows.specs.Streams.{OrNoMemory, Stream, IsOutside, stream_from}
 use Rattle.oim_rows.proofs.StreamLaws.{gives_end, gives_fault, gives_row}
 use Rattle.oim_rows.specs.declared.fault.TableFault.{TableFault}
 use Rattle.oim_decode.specs.Blocks.{AddsRow}
-use Rattle.oim_decode.specs.RowTexts.{AddsFacts, IsAnswer, Writing, facts_in, row_facts, writing_of}
+use Rattle.oim_decode.specs.RowTexts.{AddsFacts, Writing, facts_in, row_facts, writing_of}
 
 pub known : {A : Type 0} (o : Option A) → IfSome o (λ _. Unit {0})
 known None = tt

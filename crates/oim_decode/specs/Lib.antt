@@ -7,6 +7,7 @@ pub mod KeptDecimals
 pub mod Digits
 pub mod Pieces
 pub mod Ready
+pub mod ReadyRuns
 pub mod Rest
 pub mod Rows
 pub mod ReadyTable

@@ -12,6 +12,7 @@ use Rattle.oim_decode.specs.Facts.{groups_wrong}
 use Rattle.oim_decode.specs.ReadyTable.{IsFresh, IsFreshDecimals, IsOfReport}
 use Rattle.oim_decode.specs.Pieces.{written_entries}
 use Rattle.oim_decode.specs.Ready.{HasSlot, IsDecimals, ConceptHasSlot, wanted_of, written_of}
+use Rattle.oim_decode.specs.ReadyRuns.{AreKindRuns}
 use Rattle.oim_decode.specs.Rows.{levels_under, group_texts, group_places}
 use Rattle.oim_decode.specs.Slots.{SlotView, DecimalsView}
 
@@ -22,6 +23,7 @@ pub record IsVariant (r : ReportValue) (t : ℕ) (h : Header) (ss : List SlotVie
   pub concept : option_map written_of v.concept ≡ option_map (λ x. (codes "concept", x)) (written (levels_under r t h v.column v.texts.items) (codes "concept"))
   pub concept_slot : ConceptHasSlot r t h (map wanted_of ss) v.concept
   pub decimals : IsDecimals r t h (map (λ (d : DecimalsView). d.source) ds) (written_decimals (levels_under r t h v.column v.texts.items)) v.decimals
+  pub runs : AreKindRuns v.entries.items v.runs
   pub groups : (row : Record) → group_texts row (group_places r t h v.column) ≡ v.texts.items → groups_wrong r t row (group_places r t h v.column) ≡ None
 
 -- a variant is of a column and of the groups that a row names

@@ -13,6 +13,7 @@ ghost use Rattle.oim_decode.specs.Variants.{IsVariant, IsOfRow, IsKept};
 
 use crate::compile::{concept_of, decimals_of, entries_of, levels_of, texts_of};
 use crate::decimals_slot::DecimalsSlot;
+use crate::ready_runs::KindRuns;
 use crate::ready_table::ReadyTable;
 use crate::row_at::RowAt;
 use crate::slot::Slot;
@@ -68,10 +69,12 @@ fn variant<'a>(
     let concept = concept_of(alloc, report, levels.as_slice(), at, slots)?;
     let stated = decimals_of(alloc, report, levels.as_slice(), at, decimals)?;
     let texts = texts_of(alloc, groups, at)?;
+    let runs = KindRuns::of(alloc, entries.as_slice())?;
     Ok(Variant {
         column,
         texts,
         entries,
+        runs,
         concept,
         decimals: stated,
     })

@@ -27,6 +27,7 @@ mod numeral;
 mod place;
 mod ready;
 mod ready_decimals;
+mod ready_runs;
 mod ready_table;
 mod refresh;
 mod remember;

@@ -3,13 +3,10 @@
 ghost use Rattle.std.specs.Prelude.{◌≡◌, ◌++◌, ◌<◌, ◌⊎◌, ℕ, List, Some, map, length, IfOk, None};
 ghost use Rattle.std.specs.Option.{option_map};
 ghost use Rattle.std.specs.List.{All};
-ghost use Rattle.oim_json.specs.JsonText.{quoted, value_text};
-ghost use Rattle.oim_resolve.specs.Facts.{role_of, value_faults_of, entry_given};
+ghost use Rattle.oim_json.specs.JsonText.{quoted};
+ghost use Rattle.oim_resolve.specs.Facts.{is_dropped, role_of};
 ghost use Rattle.oim_resolve.specs.declared.role.Role.TheVariants.{Concept};
-ghost use Rattle.oim_resolve.specs.Faults.{least};
-ghost use Rattle.oim_resolve.specs.Values.{side_of};
-ghost use Rattle.oim_decode.specs.Pieces.{given_fault, given_piece};
-ghost use Rattle.oim_decode.specs.Ready.{shown, shown_fault, shown_pieces, IsPlaced, behind_name, kind_given};
+ghost use Rattle.oim_decode.specs.Ready.{shown, IsPlaced, behind_name, kept_fault, kept_text, kind_given};
 ghost use Rattle.std.specs.Prelude.{OnOk, codes, if◌then◌else◌};
 ghost use Rattle.csv.specs.Records.{fields_of};
 ghost use Rattle.oim_cells.specs.Cells.{seen_meaning};
@@ -18,7 +15,6 @@ ghost use Rattle.oim_decode.specs.Ready.{HasSlot, wanted_of, written_of, literal
 
 use crate::answer::{answer_of, concept_of};
 use crate::append::{put, put_quoted};
-use crate::least::least_of;
 use crate::row_at::RowAt;
 use crate::slot::Slot;
 use crate::slots::slot_for;
@@ -56,30 +52,6 @@ impl<'a> Model for ReadyEntry<'a> {
         × (a.fault ≡ kept_fault a.report.now a.name.now a.written.now a.slot)
         × (a.kind ≡ kept_kind a.report.now a.written.now a.slot)
         × (a.text.items ≡ kept_text a.report.now a.name.now a.written.now a.slot) };
-}
-
-/// Appends what a slot gives behind its name, and a comma, or answers its fault.
-#[inline(always)]
-fn put_slot(
-    slot: &Slot<'_>,
-    lead: &[u8],
-    out: &mut Vec<u8>,
-) -> Result<Option<CellFault>, AllocError>
-    ensures fault { IfOk result (λ f. f ≡ least (value_faults_of (slot.now).report (slot.now).role (slot.now).side (slot.now).meaning)) }
-    ensures text { IfOk result (λ f. f ≡ None → out.new.items ≡ out.old.items
-        ++ behind_name lead.now (option_map value_text (entry_given (slot.now).report (slot.now).role (slot.now).side (slot.now).meaning))) }
-{
-    let fault = slot.fault();
-    if fault.is_some() {
-        return Ok(fault);
-    }
-    let Some(piece) = slot.piece() else {
-        return Ok(fault);
-    };
-    put(out, lead)?;
-    put(out, piece)?;
-    out.push(b',')?;
-    Ok(fault)
 }
 
 /// The kind of the concept that a literal names, or its fault.
@@ -214,29 +186,32 @@ impl<'a> ReadyEntry<'a> {
 }
 
 impl<'a> ReadyEntry<'a> {
-    /// Appends the dimension with a comma behind it, where a concept of the kind has it and nothing is
-    /// wrong with it, or answers its fault. The slots have the meanings of the row.
-    #[inline]
-    pub(crate) fn put(
-        &self,
-        kind: Kind,
-        slots: &[Slot<'a>],
-        out: &mut Vec<u8>,
-    ) -> Result<Option<CellFault>, AllocError>
-        requires { IsPlaced slots.now self.now }
-        ensures fault { IfOk result (λ f. f ≡ given_fault (self.now).report kind (self.now).name (side_of (self.now).written) (shown slots.now self.now)) }
-        ensures text { IfOk result (λ f. f ≡ None → out.new.items ≡ out.old.items
-            ++ given_piece (self.now).report kind (self.now).name (side_of (self.now).written) (shown slots.now self.now)) }
+    /// Whether a fact whose concept is of a kind does not have the dimension.
+    pub(crate) fn is_dropped(&self, kind: Kind) -> bool
+        ensures { result ≡ is_dropped kind (role_of (self.now).report (self.now).name) }
     {
-        if self.role.is_dropped(kind) {
-            return Ok(None);
-        }
-        let Some(i) = self.slot else {
-            put(out, self.text.as_slice())?;
-            return Ok(self.fault);
-        };
-        let fault = put_slot(&slots[i], self.text.as_slice(), out)?;
-        Ok(fault)
+        self.role.is_dropped(kind)
+    }
+
+    /// The place of the slot of a reference.
+    pub(crate) fn slot(&self) -> Option<usize>
+        ensures { result ≡ (self.now).slot }
+    {
+        self.slot
+    }
+
+    /// The text of a literal with the comma behind it, or the name of a reference.
+    pub(crate) fn text(&self) -> &[u8]
+        ensures { result.now ≡ kept_text (self.now).report (self.now).name (self.now).written (self.now).slot }
+    {
+        self.text.as_slice()
+    }
+
+    /// The fault of a literal.
+    pub(crate) fn fault(&self) -> Option<CellFault>
+        ensures { result ≡ kept_fault (self.now).report (self.now).name (self.now).written (self.now).slot }
+    {
+        self.fault
     }
 
     /// The kind of the concept that the entry gives, or its fault.
@@ -251,24 +226,4 @@ impl<'a> ReadyEntry<'a> {
         };
         slots[i].concept()
     }
-}
-
-/// Appends the dimensions of a fact, each with a comma behind it, or answers their least fault.
-#[inline]
-pub(crate) fn put_entries<'a>(
-    entries: &[ReadyEntry<'a>],
-    kind: Kind,
-    slots: &[Slot<'a>],
-    out: &mut Vec<u8>,
-) -> Result<Option<CellFault>, AllocError>
-    requires { All (IsPlaced slots.now) entries.now }
-    ensures fault { IfOk result (λ f. f ≡ shown_fault slots.now kind entries.now) }
-    ensures text { IfOk result (λ f. f ≡ None → out.new.items ≡ out.old.items ++ shown_pieces slots.now kind entries.now) }
-{
-    let mut fault = None;
-    for i in 0..entries.len() {
-        let found = entries[i].put(kind, slots, out)?;
-        fault = least_of(fault, found);
-    }
-    Ok(fault)
 }

@@ -1,6 +1,6 @@
 //! The facts of one table, in blocks of text.
 
-ghost use Rattle.std.specs.Prelude.{◌≡◌, ◌⊎◌, ◌≤◌, ◌<◌, ◌+◌, [], IfErr, IfOk, IfSome, None, Some, length};
+ghost use Rattle.std.specs.Prelude.{◌≡◌, ◌⊎◌, ◌≤◌, ◌<◌, ◌+◌, [], IfErr, IfOk, IfSome, None, Some, false, length, true};
 ghost use Rattle.oim_meta.specs.Grid.{grid};
 ghost use Rattle.oim_rows.specs.Header.{file_header_fault};
 ghost use Rattle.oim_rows.specs.Streams.{IsOutside, answer_of, stream_of};
@@ -122,17 +122,18 @@ impl<R: Read> TableBlocks<'_, R> {
         }
     }
 
-    // Reads rows until there are the facts of a block, and says how many facts were there before the
-    // last row.
+    // Reads rows until one more might have more facts than a block has room for, and says how many
+    // facts were there before the last row.
     fn fill(&mut self) -> usize
         ensures reads { IfSome self.old.left (λ s. (rows : List (List FactValue)) × ReadsRows self.old.table s rows self.new.left × (self.new.pending ≡ self.old.pending ++ facts_of_rows rows)) }
-        ensures settled { self.new.answered ≡ None → 256 ≤ length self.new.pending }
+        ensures settled { self.new.answered ≡ None → 1 ≤ length self.new.pending }
         ensures again { IsSome self.old.answered → self.new ≡ self.old }
         ensures same { (self.new.table ≡ self.old.table) × (self.new.limit ≡ self.old.limit) }
         ensures whole { result ≤ 256 }
     {
         let mut whole = 0;
-        while self.batch.count() < MOST {
+        let width = self.rows.width();
+        while has_room(self.batch.count(), width) {
             match self.progress {
                 Progress::Reading => {}
                 Progress::Ended | Progress::Failed(_) => return whole,
@@ -146,6 +147,14 @@ impl<R: Read> TableBlocks<'_, R> {
         }
         whole
     }
+}
+
+// Whether a row of so many cells is read before the facts that are there are given.
+fn has_room(count: usize, width: usize) -> bool
+    ensures some { result ≡ false → 1 ≤ count }
+    ensures most { result ≡ true → count ≤ 256 }
+{
+    count == 0 || (width <= MOST && count <= MOST - width)
 }
 
 // How many of these facts make the next block, where so many stood before the last row.

@@ -90,6 +90,11 @@ impl<'a, R: Read + Drop> TextRows<'a, R> {
 }
 
 impl<R: Read> TextRows<'_, R> {
+    /// How many cells a row has, and so at most how many facts.
+    pub(crate) fn width(&self) -> usize {
+        self.form.header().len()
+    }
+
     /// The place of the table in its report.
     pub(crate) fn table(&self) -> usize
         ensures { result ≡ (self.now).reading.table }

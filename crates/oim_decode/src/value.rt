@@ -61,9 +61,12 @@ pub(crate) fn put_value(
     ensures text { IfOk result (λ f. f ≡ None → out.new.items ≡ out.old.items ++ value_text (text_in (seen_reading reading.entry))) }
 {
     match reading {
-        Ok(FactValue {
-            text: Some(text), ..
-        }) => {
+        Ok(
+            FactValue {
+                text: Some(text),
+                ..
+            },
+        ) => {
             if matches!(&kind, Kind::Number(_)) {
                 put_plain(out, text)?;
             } else {

@@ -8,13 +8,15 @@ ghost use Rattle.oim_resolve.specs.Facts.{decimals_given};
 ghost use Rattle.oim_resolve.specs.FactValues.{accuracy_in, text_in, value_given};
 ghost use Rattle.oim_resolve.specs.Faults.{least_of};
 ghost use Rattle.oim_decode.specs.Ready.{IsPlaced, shown_fault, shown_pieces, shown_stated};
+ghost use Rattle.oim_decode.specs.ReadyRuns.{AreKindRuns, runs_fault, runs_text};
 ghost use Rattle.oim_decode.specs.Rest.{decimals_wrong, value_wrong, cut, cut_behind, rest_text};
 
 use crate::append::put;
 use crate::decimals_slot::DecimalsSlot;
 use crate::least::least_of;
-use crate::ready::{ReadyEntry, put_entries};
+use crate::ready::ReadyEntry;
 use crate::ready_decimals::ReadyDecimals;
+use crate::ready_runs::{KindRuns, ReadyRuns};
 use crate::slot::Slot;
 use crate::value::{put_value, read_value, suffix_of};
 use oim_cells::CellMeaning;
@@ -32,6 +34,8 @@ pub(crate) struct Variant<'a> {
     pub(crate) texts: Vec<Text>,
     /// The dimensions, in byte order of name.
     pub(crate) entries: Vec<ReadyEntry<'a>>,
+    /// The same for each kind of concept, as they are written.
+    pub(crate) runs: KindRuns,
     pub(crate) concept: Option<ReadyEntry<'a>>,
     pub(crate) decimals: ReadyDecimals,
 }
@@ -50,20 +54,19 @@ fn cut_comma(out: &mut Vec<u8>, before: usize)
 /// Appends the object of dimensions and what stands before the value, or answers the dimensions' least
 /// fault.
 #[inline]
-fn put_dimensions<'a>(
-    entries: &[ReadyEntry<'a>],
-    kind: Kind,
-    slots: &[Slot<'a>],
+fn put_dimensions(
+    runs: &ReadyRuns,
+    slots: &[Slot<'_>],
     out: &mut Vec<u8>,
 ) -> Result<Option<CellFault>, AllocError>
-    requires { All (IsPlaced slots.now) entries.now }
-    ensures fault { IfOk result (λ f. f ≡ shown_fault slots.now kind entries.now) }
+    requires { All (λ x. x.slot < length slots.now) (runs.now).runs.items }
+    ensures fault { IfOk result (λ f. f ≡ runs_fault slots.now runs.now) }
     ensures text { IfOk result (λ f. f ≡ None → out.new.items ≡ out.old.items
-        ++ (codes "\"dimensions\":{" ++ cut (shown_pieces slots.now kind entries.now) ++ codes "},\"value\":")) }
+        ++ (codes "\"dimensions\":{" ++ cut (runs_text slots.now runs.now) ++ codes "},\"value\":")) }
 {
     put(out, b"\"dimensions\":{")?;
     let before = out.len();
-    let fault = put_entries(entries, kind, slots, out)?;
+    let fault = runs.put(slots, out)?;
     cut_comma(out, before);
     put(out, b"},\"value\":")?;
     Ok(fault)
@@ -82,6 +85,7 @@ impl<'a> Variant<'a> {
         out: &mut Vec<u8>,
     ) -> Result<Option<CellFault>, AllocError>
         requires placed { All (IsPlaced slots.now) (self.now).entries.items }
+        requires runs { AreKindRuns (self.now).entries.items (self.now).runs }
         requires decimals { (i : ℕ) → (self.now).decimals.slot ≡ Some i → i < length decimals.now }
         ensures fault { IfOk result (λ f. f ≡ least_of
             (least_of (shown_fault slots.now kind (self.now).entries.items) (decimals_wrong kind (seen_meaning value.entry) (accuracy_in (value_given report.now kind (seen_meaning value.entry))) (shown_stated decimals.now (self.now).decimals)))
@@ -95,7 +99,7 @@ impl<'a> Variant<'a> {
         let stated = self
             .decimals
             .put(kind, value, suffix_of(reading), decimals, out)?;
-        let dimensions = put_dimensions(self.entries.as_slice(), kind, slots, out)?;
+        let dimensions = put_dimensions(self.runs.get(kind), slots, out)?;
         let wrong = put_value(kind, reading, out)?;
         out.push(b'}')?;
         Ok(least_of(least_of(dimensions, stated), wrong))

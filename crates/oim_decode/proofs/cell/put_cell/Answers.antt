@@ -1,15 +1,12 @@
-use Rattle.std.proofs.Common.{◌≡◌, ◌<◌, ℕ, length, get_or, refl, sym, ap, subst, ◌∙◌, inl, inr, Option, List}
-use Rattle.std.specs.List.{All}
+use Rattle.std.proofs.Common.{◌≡◌, get_or, refl, sym, ap, subst, ◌∙◌, inl, inr, List}
 use Rattle.csv.specs.Records.{fields_of}
-use Rattle.oim_meta.specs.Readers.{columns_of}
 use Rattle.oim_resolve.specs.Facts.{is_absent, is_unknown}
 use Rattle.oim_resolve.specs.declared.fact.CellFault.TheVariants.{UnknownSpecial}
-use Rattle.oim_rows.specs.RowFacts.{source_of_column}
 use Rattle.oim_decode.specs.Facts.{groups_wrong}
 use Rattle.oim_decode.specs.Rows.{cell_under}
 use Rattle.oim_decode.specs.Slots.{SlotView, DecimalsView}
 use Rattle.oim_decode.specs.Variants.{IsVariant}
-use Rattle.oim_decode.proofs.CellLaws.{absent_is, first_err, first_is, first_unknown, good, all_places, fault_of_fact}
+use Rattle.oim_decode.proofs.CellLaws.{absent_is, first_err, first_is, first_unknown, good, fault_of_fact}
 use Rattle.oim_decode.proofs.cell.put_cell.Goals as goal
 
 pub returns-then-is_absent-clause-cell : goal.returns-then-is_absent-clause-cell

@@ -1,8 +1,6 @@
-use Rattle.std.proofs.Common.{◌≡◌, List, length, refl, sym, ap, subst, rules, ◌∙◌}
+use Rattle.std.proofs.Common.{◌≡◌, List, length, sym, ap, subst, rules, ◌∙◌}
 use Rattle.std.specs.List.{All, slice_get}
-use Rattle.csv.specs.Records.{fields_of}
-use Rattle.oim_meta.specs.ReportValue.{ReportValue}
-use Rattle.oim_decode.specs.Variants.{IsVariant, IsOfRow}
+use Rattle.oim_decode.specs.Variants.{IsVariant}
 use Rattle.oim_decode.specs.declared.variant.Variant.{Variant}
 use Rattle.oim_decode.proofs.Growth.{all_push, slice_get-last}
 use Rattle.oim_decode.proofs.VariantLaws.{variants_grow}

@@ -8,7 +8,8 @@ use Rattle.csv.specs.Records.{fields_of}
 use Rattle.oim_decode.specs.Facts.{groups_wrong}
 use Rattle.oim_decode.specs.ReadyTable.{held}
 use Rattle.oim_decode.specs.Pieces.{written_entries}
-use Rattle.oim_decode.specs.Ready.{IsDecimals}
+use Rattle.oim_decode.specs.Ready.{EntryView, IsDecimals}
+use Rattle.oim_decode.specs.ReadyRuns.{AreKindRuns}
 use Rattle.oim_decode.specs.Rows.{group_texts, levels_under}
 use Rattle.oim_decode.specs.Slots.{DecimalsView}
 use Rattle.oim_decode.proofs.GroupLaws.{same_groups}
@@ -30,6 +31,7 @@ returns-clause-variant c =
       concept_slot = c.in_ok-concept.ensures.slot;
       decimals = subst (λ (ls : List Level). IsDecimals r t h (map (λ (d : DecimalsView). d.source) c.decimals_of.new.slots.items) (written_decimals ls) c.in_ok-stated.stated)
           (ap (λ (xs : List (Bor Level)). reverse (held xs)) c.as_slice-3.ensures.value ∙ under) c.in_ok-stated.ensures.decimals;
+      runs = subst (λ (es : List EntryView). AreKindRuns es c.in_ok-runs.runs) c.as_slice-4.ensures.value c.in_ok-runs.ensures;
       groups = λ row same. ap (groups_wrong r t row) (sym c.requires.groups) ∙ same_groups r t row (fields_of c.args.at.now.record.now) c.args.groups.now (ap (group_texts row) c.requires.groups ∙ same ∙ c.in_ok-texts.ensures) ∙ c.requires.good;
     }
 

@@ -1,4 +1,4 @@
-use Rattle.std.proofs.Common.{◌≡◌, None, get_or, refl, sym, ap, ◌∙◌}
+use Rattle.std.proofs.Common.{None, get_or, refl, sym, ap, ◌∙◌}
 use Rattle.std.specs.List.{slice_get}
 use Rattle.std.specs.Option.{option_map}
 use Rattle.oim_decode.specs.Facts.{IsFactColumn, fact_column}

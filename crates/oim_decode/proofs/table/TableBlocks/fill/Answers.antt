@@ -16,5 +16,5 @@ loop-self-preserved-in-Ok-true g c =
       again = λ settled. absurd (no_answer before.answered (sym (ap answered_of c.in-Reading.is) ∙ ap (λ (b : BlocksLeft). b.answered) (c.loop-self.invariant.again settled)) settled);
       table = ap (λ (r : Reading). r.table) c.in-Ok-true.ensures.reading ∙ c.loop-self.invariant.table;
       limit = ap (λ (r : Reading). r.limit) c.in-Ok-true.ensures.reading ∙ c.loop-self.invariant.limit;
-      whole = omega (arith, c.loop-self-test.true, c.count.ensures, c.count-whole.ensures);
+      whole = omega (arith, c.has_room.ensures.most c.loop-self-test.true, c.count.ensures, c.count-whole.ensures);
     }
