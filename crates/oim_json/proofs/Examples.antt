@@ -5,10 +5,14 @@ use Rattle.std.specs.Fmt.{digits}
 use Rattle.oim_meta.specs.ReportValue.{ReportValue}
 use Rattle.oim_resolve.specs.declared.fact.Fact.{Fact}
 use Rattle.oim_json.specs.Blocks.{behind_commas, ends_from}
-use Rattle.oim_json.specs.Document.{members, more_members, tail_text, text_after}
-use Rattle.oim_json.specs.JsonText.{escaped_byte, is_unescaped, quoted, value_text, dimension_text, decimals_text, member_text, namespace_text, base_url_text, head_text}
+use Rattle.oim_json.specs.Document.{members, more_members, piece, tail_text, text_after}
+use Rattle.oim_json.specs.FaultNames.{number_of, name_of}
+use Rattle.oim_json.specs.JsonText.{escaped_byte, is_unescaped, quoted, value_text, dimension_text, decimals_text, comma_before, member_text, namespace_text, base_url_text, head_text}
 use Rattle.oim_json.specs.Lines.{cut_at_line_feeds, with_commas}
+use Rattle.oim_json.specs.Sinks.{mark_of}
 use Rattle.oim_json.specs.declared.layout.Layout.TheVariants.{Compact, Lines}
+use Rattle.oim_json.specs.declared.mark.Mark.TheVariants as marks
+use Rattle.oim_json.specs.declared.mark.WriteFault.TheVariants as faults
 
 cash : Fact
 cash =
@@ -53,6 +57,15 @@ escapes : quoted (codes "say \"hi\" \\" ++ 10 ∷ 195 ∷ 169 ∷ 1 ∷ []) ≡ 
 unfolding escaped_byte quoted
 escapes = refl
 
+-- control characters, by their short forms or by four digits; the blank and the byte 127 stand for themselves
+controls : quoted (8 ∷ 9 ∷ 12 ∷ 13 ∷ 16 ∷ 31 ∷ 32 ∷ 127 ∷ []) ≡ codes "\"\\b\\t\\f\\r\\u0010\\u001f " ++ 127 ∷ codes "\""
+unfolding escaped_byte quoted
+controls = refl
+
+base_url : (base_url_text (Some (codes "http://example.com/")) ≡ codes "\"baseURL\":\"http://example.com/\",") × (base_url_text None ≡ [])
+unfolding escaped_byte quoted base_url_text
+base_url = (refl, refl)
+
 sample : ReportValue
 sample =
     record {
@@ -83,6 +96,23 @@ backslash_escaped = refl
 
 line_feed_escaped : list_all is_unescaped (codes "a\nb") ≡ false
 line_feed_escaped = refl
+
+last_control_escaped : list_all is_unescaped (31 ∷ []) ≡ false
+last_control_escaped = refl
+
+-- what stands behind the facts, and before those behind others
+tail : (tail_text Compact ≡ codes "}}" ++ 10 ∷ []) × (tail_text Lines ≡ 10 ∷ codes "}}" ++ 10 ∷ [])
+tail = (refl, refl)
+
+commas : (piece true (codes "a") ≡ codes ",a") × (piece false (codes "a") ≡ codes "a") × (comma_before 0 ≡ []) × (comma_before 2 ≡ codes ",")
+commas = (refl, refl, refl, refl)
+
+-- the faults of a write, and the mark that each leaves
+write_faults : (number_of faults.Failed ≡ 63) × (number_of faults.Zero ≡ 64) × (name_of faults.Failed ≡ codes "Failed") × (name_of faults.Zero ≡ codes "Zero")
+write_faults = (refl, refl, refl, refl)
+
+fault_marks : (mark_of faults.Failed ≡ marks.Failed) × (mark_of faults.Zero ≡ marks.Zero)
+fault_marks = (refl, refl)
 
 -- two facts in a block: each behind a comma, and where each ends
 brief : Fact

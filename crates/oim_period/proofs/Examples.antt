@@ -78,10 +78,11 @@ years_to_half_years :
 unfolding written days_of_years days_of_months day_number is_date is_week is_clock one_at two_at four_at found first_some moment_by moment_of days_by days_of whole_days in_order pair_of duration_of without period_of first_number year_of month_of date_in_year day_text moment_text period_text
 years_to_half_years = (refl, refl, refl, refl, refl, refl, refl, refl, refl)
 
--- weeks: 4 January lies in the first, and a long year has 53
+-- weeks: 4 January lies in the first, and a long year has 53; the year 4 begins with a Thursday
 weeks :
     (written (codes "0001W1") ≡ Some (codes "0001-01-01T00:00:00/0001-01-08T00:00:00"))
     × (written (codes "0002W1") ≡ Some (codes "0001-12-31T00:00:00/0002-01-07T00:00:00"))
+    × (written (codes "0004W1") ≡ Some (codes "0003-12-29T00:00:00/0004-01-05T00:00:00"))
     × (written (codes "0005W1") ≡ Some (codes "0005-01-03T00:00:00/0005-01-10T00:00:00"))
     × (written (codes "0005W9") ≡ Some (codes "0005-02-28T00:00:00/0005-03-07T00:00:00"))
     × (written (codes "0005W09") ≡ Some (codes "0005-02-28T00:00:00/0005-03-07T00:00:00"))
@@ -90,7 +91,7 @@ weeks :
     × (written (codes "0004W53") ≡ Some (codes "0004-12-27T00:00:00/0005-01-03T00:00:00"))
     × (written (codes "2020W53") ≡ Some (codes "2020-12-28T00:00:00/2021-01-04T00:00:00"))
 unfolding written days_of_years days_of_months day_number is_date is_week is_clock one_at two_at four_at found first_some moment_by moment_of days_by days_of whole_days in_order pair_of duration_of without period_of first_number year_of month_of date_in_year day_text moment_text period_text
-weeks = (refl, refl, refl, refl, refl, refl, refl, refl, refl)
+weeks = (refl, refl, refl, refl, refl, refl, refl, refl, refl, refl)
 
 -- days and ranges of days, of which one day is the shortest
 days :
@@ -135,7 +136,7 @@ unfolding written days_of_years days_of_months day_number is_date is_week is_clo
 last_times = (refl, refl, refl)
 
 -- a number past its limit, or too small
-no_whole_days : list_any means_something (codes "0000" ∷ codes "0005-00" ∷ codes "0005-13" ∷ codes "0005Q0" ∷ codes "0005Q5" ∷ codes "0005H0" ∷ codes "0005H3" ∷ codes "0005W0" ∷ codes "0005W00" ∷ codes "0005W53" ∷ codes "2021W53" ∷ codes "0003-02-29" ∷ codes "0005-06-00" ∷ codes "0005-04-31" ∷ []) ≡ false
+no_whole_days : list_any means_something (codes "0000" ∷ codes "0005-00" ∷ codes "0005-13" ∷ codes "0005Q0" ∷ codes "0005Q5" ∷ codes "0005H0" ∷ codes "0005H3" ∷ codes "0005W0" ∷ codes "0005W00" ∷ codes "0003W53" ∷ codes "0005W53" ∷ codes "2021W53" ∷ codes "0003-02-29" ∷ codes "0005-06-00" ∷ codes "0005-04-31" ∷ []) ≡ false
 unfolding means_something days_of_years days_of_months day_number is_date is_week is_clock one_at two_at four_at found first_some moment_by moment_of days_by days_of whole_days in_order pair_of duration_of without period_of
 no_whole_days = refl
 

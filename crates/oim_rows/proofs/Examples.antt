@@ -123,9 +123,24 @@ stream_to_the_limit : stream_of (report false) 0 1 (file (line (codes "x") (code
 unfolding stream_from cell_result rest_faults fact_of meaning_of chars is_row_identifier is_plain_char is_ncname is_name_char is_name_start qname_of field_at is_utf8 lib.Utf8.encode
 stream_to_the_limit = refl
 
--- THE FAULTS by number and name: a cell's fault has its own
-fault_numbers : map number_of (kind.RepeatedRowId ∷ kind.Cell cell.UnknownSpecial ∷ kind.Cell cell.BadNumber ∷ kind.TooManyRows ∷ kind.Memory ∷ kind.NoThread ∷ kind.Cell cell.BadFactValue ∷ []) ≡ 30 ∷ 31 ∷ 40 ∷ 41 ∷ 42 ∷ 43 ∷ 44 ∷ []
+-- THE FAULTS by number and name: a cell's fault has its own. And the places of a fault
+fault_numbers :
+    map number_of
+    (kind.NoFile ∷ kind.Read ∷ kind.NoHeader ∷ kind.UnknownHeader ∷ kind.RepeatedHeader ∷ kind.NoRowIdColumn ∷ kind.Ragged ∷ kind.NotUtf8 ∷ kind.MissingRowId ∷ kind.BadRowId ∷ kind.RepeatedRowId ∷ kind.TooManyRows ∷ kind.Memory ∷ kind.NoThread ∷ [])
+    ≡ 20 ∷ 21 ∷ 22 ∷ 23 ∷ 24 ∷ 25 ∷ 26 ∷ 27 ∷ 28 ∷ 29 ∷ 30 ∷ 41 ∷ 42 ∷ 43 ∷ []
 fault_numbers = refl
 
-fault_names : map name_of (kind.TooManyRows ∷ kind.Cell cell.BadFactValue ∷ []) ≡ codes "TooManyRows" ∷ codes "BadFactValue" ∷ []
+fault_names :
+    map name_of
+    (kind.NoFile ∷ kind.Read ∷ kind.NoHeader ∷ kind.UnknownHeader ∷ kind.RepeatedHeader ∷ kind.NoRowIdColumn ∷ kind.Ragged ∷ kind.NotUtf8 ∷ kind.MissingRowId ∷ kind.BadRowId ∷ kind.RepeatedRowId ∷ kind.TooManyRows ∷ kind.Memory ∷ kind.NoThread ∷ [])
+    ≡ codes "NoFile" ∷ codes "Read" ∷ codes "NoHeader" ∷ codes "UnknownHeader" ∷ codes "RepeatedHeader" ∷ codes "NoRowIdColumn" ∷ codes "Ragged" ∷ codes "NotUtf8" ∷ codes "MissingRowId" ∷ codes "BadRowId" ∷ codes "RepeatedRowId" ∷ codes "TooManyRows" ∷ codes "Memory" ∷ codes "NoThread" ∷ []
 fault_names = refl
+
+cell_faults : (map number_of (kind.Cell cell.UnknownSpecial ∷ kind.Cell cell.BadFactValue ∷ []) ≡ 31 ∷ 44 ∷ []) × (name_of (kind.Cell cell.BadFactValue) ≡ codes "BadFactValue")
+cell_faults = (refl, refl)
+
+fault_of_a_file : file_fault 3 kind.NoFile ≡ record { table = 3; row = 0; column = 0; kind = kind.NoFile }
+fault_of_a_file = refl
+
+last_place : fault_at 3 2 4_294_967_296 kind.BadRowId ≡ record { table = 3; row = 2; column = 4_294_967_295; kind = kind.BadRowId }
+last_place = refl
