@@ -163,6 +163,13 @@ unopened_given report table limit bytes sent e (inl outside) none =
 unopened_given report table limit bytes sent e (inr bad) none =
     let is = refused_header report table limit (grid bytes) e bad in inl (none ∙ sym (ap facts_of is), ap (λ (s : Stream). ending_of s.fault) (sym is))
 
+-- the blocks of a file that was opened
+pub opened_given : (report : ReportValue) (table opened limit : ℕ) (o : Option (List ℕ)) (left : Option Stream) (sent : List Fact) (e : Endings.Ending) → opened ≡ table
+    → IfSome o (λ bytes. left ≡ Some (stream_of report table limit (grid bytes))) → IfSome left (λ s. IsGiven opened s sent e)
+    → IfSome o (λ bytes. IsGiven table (table_stream report table limit (Some bytes)) sent e)
+opened_given report table opened limit None left sent e same is given = tt
+opened_given report table opened limit (Some bytes) left sent e same is given = rw (is, same) at given
+
 -- what was given and closed is the table's history
 pub decoded : (table : ℕ) (s : Stream) (before history : List Item) (e : Endings.Ending) → IsGiven table s (facts_in before) e → blocks_only before ≡ true → history ≡ before ++ Ending e ∷ [] → IsDecoded table s history
 decoded table s before history e given only is = record { facts = facts_in before; ending = e; given = given; is = record { before = before; blocks = only; holds = refl; is = is } }
