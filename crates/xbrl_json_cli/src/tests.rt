@@ -125,10 +125,16 @@ fn serial_line(
 }
 
 /// The report of a metadata, with the held types.
-fn report_from(alloc: Global, metadata: &str) -> Result<Box<Report>, Fail> {
+pub(crate) fn report_from(alloc: Global, metadata: &str) -> Result<Box<Report>, Fail> {
     let types = read_types(alloc, TYPES.as_bytes())?;
     let parameters = Parameters::none(alloc);
-    let report = read_report(alloc, metadata.as_bytes(), parameters, types, &two_rows())?;
+    let report = read_report(
+        alloc,
+        metadata.as_bytes(),
+        parameters,
+        types,
+        &Limits::profile(),
+    )?;
     Ok(Box::new(alloc, report)?)
 }
 

@@ -1,9 +1,8 @@
 //! One cell to its fact, from the report and by a compiled plan, with the same answer.
 
-use crate::held::TYPES;
-use crate::tests::{Edits, GROUPS, edited};
+use crate::tests::{Edits, GROUPS, edited, report_from};
 use oim_json::member_of;
-use oim_meta::{ColumnKind, Limits, Parameters, Report, read_report, read_types};
+use oim_meta::{ColumnKind, Report};
 use oim_names::{Items, Text};
 use oim_resolve::{CellFault, Fact, Row, compile, resolve};
 use std::alloc::Global;
@@ -71,15 +70,7 @@ fn both(
 /// The held report with each text replaced.
 pub(crate) fn report_of(alloc: Global, edits: Edits<'_>) -> Result<Box<Report>, Fail> {
     let metadata = edited(alloc, edits)?;
-    let types = read_types(alloc, TYPES.as_bytes())?;
-    let report = read_report(
-        alloc,
-        metadata.as_bytes(),
-        Parameters::none(alloc),
-        types,
-        &Limits::profile(),
-    )?;
-    Ok(Box::new(alloc, report)?)
+    report_from(alloc, metadata.as_str())
 }
 
 /// Whether both say what is expected of a cell.
