@@ -28,7 +28,8 @@ const TYPES_HELP: &str = "The types table: the type of each concept and dimensio
 
 const WORKERS_HELP: &str = "How many tables are read at once";
 
-const RING_HELP: &str = "How many blocks of facts of one table may wait to be written";
+const RING_HELP: &str =
+    "How many blocks of up to 256 facts of one table may wait, of all tables about four times as many";
 
 const OUT_HELP: &str =
     "The file of the document, cut to nothing at once [default: standard output]";
@@ -43,9 +44,10 @@ const MORE_HELP: &str = r#"Example:
 
 The files of the tables and of the parameters lie beside META, at the paths that it names.
 
-The types table is a CSV file with the header "namespace,name,type" and one line for each concept
-and dimension of the taxonomy. A concept's type is integer, decimal, double, text or other, a
-dimension's is explicit or typed:
+The types table is a CSV file with the header "namespace,name,type2" and one line for each concept
+and dimension of the taxonomy. A concept's type is integer, decimal, double, text, boolean, date,
+qname or other, a dimension's is explicit or typed (with the header "namespace,name,type" without
+boolean, date and qname):
   http://example.com/eg,Cash,integer
 
 Exit status:
