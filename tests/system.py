@@ -69,8 +69,8 @@ def examples():
             for layout, written in [("compact", document), ("lines", in_lines(document))]:
                 seen = run([*words, "--workers", str(workers), "--ring", str(ring), "--layout", layout], folder)
                 case(f"example {folder.name}, {workers} workers, ring {ring}, {layout}", seen == (1 if lines else 0, written, lines), seen[0], seen[2])
-    written = EXAMPLES / "held/expected-lines.json"
-    case("the held report in lines", in_lines((EXAMPLES / "held/expected.json").read_bytes()) == written.read_bytes())
+    for written in sorted(EXAMPLES.glob("*/expected-lines.json")):
+        case(f"{written.parent.name} in lines", in_lines(written.with_name("expected.json").read_bytes()) == written.read_bytes())
     seen = run([], EXAMPLES / "held")
     case("no words: the held report", seen == (0, (EXAMPLES / "held/expected.json").read_bytes(), ""), seen)
 
