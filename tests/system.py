@@ -304,9 +304,46 @@ def progress(folder):
     case("--progress each ten seconds", (seen[0], seen[2]) == (0, lines), seen[0], seen[2])
 
 
+HEAD = (
+    '{"documentInfo":{"documentType":"https://xbrl.org/2021/xbrl-json","namespaces":{"eg":"http://example.com/eg",'
+    '"iso4217":"http://www.xbrl.org/2003/iso4217"},"taxonomy":["http://example.com/eg.xsd"]},"facts":{'
+)
+
+
+def member(table, row, value):
+    """The text of a fact of the report."""
+    return (
+        f'"{table}.r_{row}.cash":{{"dimensions":{{"concept":"eg:Cash","entity":"eg:A1",'
+        f'"period":"2021-01-01T00:00:00/2022-01-01T00:00:00","unit":"iso4217:EUR"}},"value":"{value}"}}'
+    )
+
+
+def a_fact_a_line(folder):
+    """Reports in lines, whole and unfinished, at several numbers of workers and ring sizes."""
+    cases = {
+        "two rows": ({"t1": "1\n2\n"}, HEAD + "\n" + member("t1", 1, 1) + ",\n" + member("t1", 2, 2) + "\n}}\n", ""),
+        "no tables": ({}, HEAD + "\n}}\n", ""),
+        "the first table refused": ({"t1": "x\n", "t2": "1\n"}, HEAD, TABLE_FAULT.format("t1", 1, 1, "BadNumber", 40)),
+        "the second table refused": (
+            {"t1": "1\n", "t2": "2\nx\n"},
+            HEAD + "\n" + member("t1", 1, 1) + ",\n" + member("t2", 1, 2),
+            TABLE_FAULT.format("t2", 2, 1, "BadNumber", 40),
+        ),
+    }
+    for name, (tables, document, lines) in cases.items():
+        report(folder, {table: {} for table in tables})
+        for table, rows in tables.items():
+            (folder / f"{table}.csv").write_text("cash\n" + rows)
+        for workers in (1, 2, 8):
+            for ring in (1, 4):
+                seen = run([*WORDS, "--workers", str(workers), "--ring", str(ring), "--layout", "lines"], folder)
+                wanted = (1 if lines else 0, document.encode(), lines)
+                case(f"{name}, {workers} workers, ring {ring}", seen == wanted, seen)
+
+
 def main():
     examples()
-    for part in (words_of_the_command_line, layouts, files_that_are_not_read, a_table_that_may_not_be_read, few_descriptors, a_named_pipe, outputs, progress):
+    for part in (words_of_the_command_line, layouts, files_that_are_not_read, a_table_that_may_not_be_read, few_descriptors, a_named_pipe, a_fact_a_line, outputs, progress):
         with tempfile.TemporaryDirectory() as folder:
             part(Path(folder))
     print(f"over the real system: {count - len(failed)} as they must be, {len(failed)} not")
