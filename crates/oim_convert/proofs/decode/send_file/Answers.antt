@@ -12,7 +12,8 @@ returns-in-Err-clause-given g c =
 
 pub returns-in-Ok-clause-given : goal.returns-in-Ok-clause-given
 returns-in-Ok-clause-given g c =
-    elim c.match-blocks.branch
-    [ in-Some+in-Ok-1 w ↦ opened_given c.args.report.now c.args.table c.in-Ok.blocks.table c.args.limits.rows (g.R.Read.remaining c.args.reader) c.in-Ok.blocks.left (facts_in c.send_blocks.new.feed.sent) c.send_blocks.result c.in-Ok.ensures.start.0 c.in-Ok.ensures.stream c.send_blocks.ensures.given
-    | in-Some+in-Err-1 w ↦ opened_given c.args.report.now c.args.table c.in-Ok.blocks.table c.args.limits.rows (g.R.Read.remaining c.args.reader) c.in-Ok.blocks.left (facts_in c.send_blocks.new.feed.sent) c.send_blocks.result c.in-Ok.ensures.start.0 c.in-Ok.ensures.stream c.send_blocks.ensures.given
-    | in-None-1 w ↦ opened_given c.args.report.now c.args.table c.in-Ok.blocks.table c.args.limits.rows (g.R.Read.remaining c.args.reader) c.in-Ok.blocks.left (facts_in c.send_blocks.new.feed.sent) c.send_blocks.result c.in-Ok.ensures.start.0 c.in-Ok.ensures.stream c.send_blocks.ensures.given ]
+    elim c.match-blocks.branch [
+      | in-Some+in-Ok-1 w ↦ opened_given c.args.report.now c.args.table c.in-Ok.blocks.table c.args.limits.rows (g.R.Read.remaining c.args.reader) c.in-Ok.blocks.left (facts_in c.send_blocks.new.feed.sent) c.send_blocks.result c.in-Ok.ensures.start.0 c.in-Ok.ensures.stream c.send_blocks.ensures.given
+      | in-Some+in-Err-1 w ↦ opened_given c.args.report.now c.args.table c.in-Ok.blocks.table c.args.limits.rows (g.R.Read.remaining c.args.reader) c.in-Ok.blocks.left (facts_in c.send_blocks.new.feed.sent) c.send_blocks.result c.in-Ok.ensures.start.0 c.in-Ok.ensures.stream c.send_blocks.ensures.given
+      | in-None-1 w ↦ opened_given c.args.report.now c.args.table c.in-Ok.blocks.table c.args.limits.rows (g.R.Read.remaining c.args.reader) c.in-Ok.blocks.left (facts_in c.send_blocks.new.feed.sent) c.send_blocks.result c.in-Ok.ensures.start.0 c.in-Ok.ensures.stream c.send_blocks.ensures.given
+    ]
