@@ -1,5 +1,5 @@
--- The definitions, executed on small histories.
-use Rattle.std.specs.Prelude.{◌≡◌, ℕ, false, List, [], ◌∷◌, ◌++◌, Some, None}
+-- The definitions on small worked cases.
+use Rattle.std.specs.Prelude.{◌≡◌, ℕ, Bool, false, List, [], ◌∷◌, ◌++◌, Option, Some, None, Ok, Err}
 use Rattle.std.proofs.Common.{arith, refl, codes, inl, inr}
 use Rattle.oim_json.specs.Document.{members, tail_text, text_after}
 use Rattle.oim_json.specs.JsonText.{decimals_text, dimension_text, escaped_byte, member_text, quoted, value_text}
@@ -9,7 +9,7 @@ use Rattle.oim_json.specs.declared.layout.Layout.TheVariants.{Compact, Lines}
 use Rattle.oim_merge.specs.Histories.{all_of, document, facts_before, refusals}
 use Rattle.oim_merge.specs.declared.progress.MergeEnd.TheVariants as end
 use Rattle.oim_meta.specs.ReportValue.{ReportValue}
-use Rattle.oim_resolve.specs.declared.fact.Fact.{Fact}
+use Rattle.oim_resolve.specs.FactParts.{FactParts as Fact}
 use Rattle.oim_ring.specs.Ends.{ClosedView}
 use Rattle.oim_ring.specs.declared.item.Ending.TheVariants.{Closed, Refused}
 use Rattle.oim_ring.specs.declared.item.Item.TheVariants.{Block, Ending}
@@ -20,11 +20,12 @@ use Rattle.oim_rows.specs.declared.fault.TableKind.TheVariants as kind
 use Rattle.oim_convert.specs.Answer.{IsAnswer, histories_of}
 use Rattle.oim_convert.specs.Histories.{AreUnserved, IsDecoded, IsStream}
 use Rattle.oim_convert.specs.Runs.{AreStreams, IsCut, early_fault}
-use Rattle.oim_convert.specs.Jobs.{placed}
-use Rattle.oim_convert.specs.Serial.{AreBelow}
+use Rattle.oim_convert.specs.Jobs.{Gives, placed}
+use Rattle.oim_convert.specs.Serial.{AreBelow, Leaves}
 use Rattle.oim_convert.specs.Steps.{wanted_of}
 use Rattle.oim_convert.specs.declared.fault.ConvertFault.TheVariants as fault
-use Rattle.oim_convert.specs.declared.job.Token.{Token}
+use Rattle.oim_convert.specs.declared.job.Job.{Job}
+use Rattle.oim_convert.specs.declared.job.Receipt.{Receipt}
 
 -- EARLY FAULTS: workers, the ring's size, readers, tables
 
@@ -66,7 +67,7 @@ second = fact (codes "a.2.x")
 third : Fact
 third = fact (codes "b.1.x")
 
--- a table of two rows with no fault, and one whose second row is ragged
+-- a table of two rows without a fault, and one whose second row is ragged
 whole : Stream
 whole = record { rows = (first ∷ []) ∷ (second ∷ []) ∷ []; fault = None }
 
@@ -107,7 +108,7 @@ unread = record {
 unread_is_cut : IsCut (Block (first ∷ []) ∷ Ending (Refused (file_fault 0 kind.Read)) ∷ [])
 unread_is_cut = record { before = Block (first ∷ []) ∷ []; fault = file_fault 0 kind.Read; outer = inl refl; is = refl }
 
--- no thread was there for two tables
+-- there was no thread for two tables
 unserved : AreUnserved 0 (whole ∷ broken ∷ []) ((Ending (Refused (file_fault 0 kind.NoThread)) ∷ []) ∷ (Ending (Refused (file_fault 1 kind.NoThread)) ∷ []) ∷ [])
 unserved = (refl, (refl, tt))
 
@@ -135,7 +136,7 @@ no_faults : refusals (all_of (histories_of (whole ∷ whole ∷ []))) ≡ []
 unfolding whole
 no_faults = refl
 
--- the document of histories is the head and the facts up to the refusal, with no tail
+-- the document is the head and the facts up to the refusal, without a tail
 unfinished_document : (l : Layout) → document l (codes "head") ((Block (first ∷ second ∷ []) ∷ Ending Closed ∷ []) ∷ (Block (third ∷ []) ∷ Ending (Refused ragged) ∷ []) ∷ [])
     ≡ text_after l (codes "head") (first ∷ second ∷ third ∷ []) ++ []
 unfinished_document l = refl
@@ -157,21 +158,22 @@ no_tables_in_lines : document Lines (codes "{") (histories_of []) ≡ codes "{\n
 unfolding members
 no_tables_in_lines = refl
 
--- the first table has a bad header: the head alone, in each layout
+-- the first table has a bad header: only the head, in each layout
 first_refused : (l : Layout) → document l (codes "{") (histories_of (unread_header ∷ whole ∷ [])) ≡ codes "{"
 unfolding unread_header members
 first_refused l = refl
 
--- the second table is refused behind a row of its own: nothing stands behind its last member
+-- the second table is refused after a row of its own: nothing follows its last member
 second_refused_in_lines : document Lines (codes "{") (histories_of (one_row ∷ broken ∷ [])) ≡ codes "{\n\"a.1.x\":{\"dimensions\":{},\"value\":null},\n\"b.1.x\":{\"dimensions\":{},\"value\":null}"
 unfolding one_row broken first third fact members member_text decimals_text dimension_text value_text quoted escaped_byte
 second_refused_in_lines = refl
 
--- two threads that were wanting are two faults
-unserved_faults : refusals (all_of ((Ending (Refused (file_fault 0 kind.NoThread)) ∷ []) ∷ (Ending (Refused (file_fault 1 kind.NoThread)) ∷ []) ∷ [])) ≡ file_fault 0 kind.NoThread ∷ file_fault 1 kind.NoThread ∷ []
+-- two tables without a thread are two faults
+unserved_faults : refusals (all_of ((Ending (Refused (file_fault 0 kind.NoThread)) ∷ []) ∷ (Ending (Refused (file_fault 1 kind.NoThread)) ∷ [])
+    ∷ [])) ≡ file_fault 0 kind.NoThread ∷ file_fault 1 kind.NoThread ∷ []
 unserved_faults = refl
 
--- what a report is never answered with
+-- answers that are never given
 module _ (l : Layout) (report : ReportValue) (old new : SinkView) where
   not_the_first_alone : IsAnswer l report (whole ∷ broken ∷ unread_header ∷ []) old new (ragged ∷ []) end.Refused → ⊥
   unfolding whole broken unread_header
@@ -186,7 +188,14 @@ module _ (l : Layout) (report : ReportValue) (old new : SinkView) where
 none_wanted : wanted_of false (first ∷ []) ≡ []
 none_wanted = refl
 
--- TABLES AND TOKENS
+module _ (old new : SinkView) where
+  keeps_the_mark : Leaves old old (Ok tt)
+  keeps_the_mark = refl
+
+  never_lost_on_one_thread : Leaves old new (Err fault.Lost) → ⊥
+  never_lost_on_one_thread leaves = leaves
+
+-- TABLES AND RECEIPTS
 
 faults_of_the_second : AreBelow 2 (ragged ∷ [])
 unfolding ragged
@@ -196,10 +205,17 @@ fault_of_no_table : AreBelow 1 (ragged ∷ []) → ⊥
 unfolding ragged
 fault_of_no_table below = omega (arith, below.0)
 
-token : ℕ → ClosedView → Token
-token table closed = record { table = table; closed = Some closed }
+receipt : ℕ → ClosedView → Receipt
+receipt table closed = record { table = table; closed = Some closed }
 
--- tokens that come back in any order stand in table order
-tokens_in_table_order : (a b : ClosedView) → placed (token 1 b ∷ token 0 a ∷ []) (None ∷ None ∷ None ∷ []) ≡ Some a ∷ Some b ∷ None ∷ []
-unfolding token
-tokens_in_table_order a b = refl
+-- receipts in any order fill the slots in table order
+receipts_in_table_order : (a b : ClosedView) → placed (receipt 1 b ∷ receipt 0 a ∷ []) (None ∷ None ∷ None ∷ []) ≡ Some a ∷ Some b ∷ None ∷ []
+unfolding receipt
+receipts_in_table_order a b = refl
+
+module _ {R : Type 0} (told : R → Option (List ℕ)) (report : ReportValue) (limit : ℕ) (served : Bool) (job : Job R) where
+  lost_token : Gives told report limit served 1 job (record { table = 1; closed = None })
+  lost_token = (refl, tt)
+
+  receipt_for_another_table : Gives told report limit served 1 job (record { table = 0; closed = None }) → ⊥
+  receipt_for_another_table gives = let e = gives.0 in cc

@@ -1,13 +1,13 @@
--- What may cross threads.
+-- The types of this crate that may cross threads.
 use denote.RattleType.{RattleType}
 use denote.Param.Send.{IsSend, sendable}
 use Rattle.std.proofs.Crossing.{crosses}
 use Rattle.oim_ring.proofs.Sends.{closed_send, feed_send}
 use Rattle.oim_convert.specs.contracts.job.Job as Job
-use Rattle.oim_convert.specs.contracts.job.Token as Token
+use Rattle.oim_convert.specs.contracts.job.Receipt as Receipt
 
 pub job_send : (R : RattleType) → IsSend R → IsSend (Job.the_row R)
 job_send R s = search (sendable, crosses, feed_send) depth 20
 
-pub token_send : IsSend Token.the_row
-token_send = search (sendable, crosses, closed_send) depth 20
+pub receipt_send : IsSend Receipt.the_row
+receipt_send = search (sendable, crosses, closed_send) depth 20

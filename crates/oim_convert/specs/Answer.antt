@@ -8,7 +8,7 @@ use Rattle.oim_merge.specs.Histories.{document}
 use Rattle.oim_merge.specs.Merging.{Merges}
 use Rattle.oim_merge.specs.declared.progress.MergeEnd.{MergeEnd}
 use Rattle.oim_meta.specs.ReportValue.{ReportValue}
-use Rattle.oim_resolve.specs.declared.fact.Fact.{Fact}
+use Rattle.oim_resolve.specs.FactParts.{FactParts as Fact}
 use Rattle.oim_ring.specs.declared.item.Ending as Endings
 use Rattle.oim_ring.specs.declared.item.Ending.TheVariants.{Closed, Refused}
 use Rattle.oim_ring.specs.declared.item.Item.{Item}
@@ -16,16 +16,16 @@ use Rattle.oim_ring.specs.declared.item.Item.TheVariants.{Block, Ending}
 use Rattle.oim_rows.specs.Streams.{Stream, table_stream}
 use Rattle.oim_rows.specs.declared.fault.TableFault.{TableFault}
 
--- the streams of tables, the first of which stands at place i
+-- the streams of tables, the first of which is table i
 abbrev pub streams_from : ReportValue → ℕ → ℕ → List (Option (List ℕ)) → List Stream
 streams_from report limit i [] = []
 streams_from report limit i (f ∷ fs) = table_stream report i limit f ∷ streams_from report limit (i + 1) fs
 
--- the streams of a report's tables, of these files
+-- the streams of a report's tables with these files
 abbrev pub streams : ReportValue → ℕ → List (Option (List ℕ)) → List Stream
 streams report limit files = streams_from report limit 0 files
 
--- facts, row after row
+-- the facts of all rows, row after row
 abbrev pub row_after_row : List (List Fact) → List Fact
 row_after_row [] = []
 row_after_row (r ∷ rs) = r ++ row_after_row rs
@@ -34,7 +34,7 @@ row_after_row (r ∷ rs) = r ++ row_after_row rs
 abbrev pub facts_of : Stream → List Fact
 facts_of s = row_after_row s.rows
 
--- the ending of a table that has this fault, or none
+-- the ending of a table with this fault, or with none
 abbrev pub ending_of : Option TableFault → Endings.Ending
 ending_of None = Closed
 ending_of (Some e) = Refused e
@@ -46,12 +46,12 @@ history_of s = Block (facts_of s) ∷ Ending (ending_of s.fault) ∷ []
 abbrev pub histories_of : List Stream → List (List Item)
 histories_of ss = map history_of ss
 
--- the text that a report with these streams is answered with, in this layout: the whole document, or the unfinished one up to and with the
--- first refused table
+-- the text of a report with these streams, in this layout: the whole document, or the unfinished one up to and including the first refused
+-- table
 abbrev pub answer_text : Layout → ReportValue → List Stream → List ℕ
 answer_text layout report ss = document layout (head_text report) (histories_of ss)
 
--- the answer of a report with these streams: the fault of each refused table, in table order; Complete where there is none, else
--- Refused; and the text. By a failed write, a beginning of the text
+-- the answer of a report with these streams: the fault of each refused table, in table order; Complete if there is none, else Refused; and
+-- the text. After a failed write, a beginning of the text
 abbrev pub IsAnswer : Layout → ReportValue → List Stream → SinkView → SinkView → List TableFault → MergeEnd → Type 0
 IsAnswer layout report ss old new faults end = Merges layout old new (head_text report) (histories_of ss) faults end

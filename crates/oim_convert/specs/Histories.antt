@@ -2,7 +2,7 @@
 -- xBRL-CSV 1.0: a report is the facts of its tables.
 use Rattle.std.specs.Prelude.{◌≡◌, ◌⊎◌, ⊤, ℕ, ◌+◌, true, List, [], ◌∷◌, ◌++◌}
 use mathlib.Core.List.{IsPrefix}
-use Rattle.oim_resolve.specs.declared.fact.Fact.{Fact}
+use Rattle.oim_resolve.specs.FactParts.{FactParts as Fact}
 use Rattle.oim_ring.specs.Items.{blocks_only}
 use Rattle.oim_ring.specs.declared.item.Ending as Endings
 use Rattle.oim_ring.specs.declared.item.Ending.TheVariants.{Refused}
@@ -26,7 +26,7 @@ pub record IsHistory (facts : List Fact) (ending : Endings.Ending) (history : Li
   pub holds : facts_in before ≡ facts
   pub is : history ≡ before ++ Ending ending ∷ []
 
--- the stream of a table: all its facts, and then its own ending
+-- the history is the stream of a table: all its facts, and then its own ending
 abbrev pub IsStream : Stream → List Item → Type 0
 IsStream s history = IsHistory (facts_of s) (ending_of s.fault) history
 
@@ -41,34 +41,34 @@ pub record IsUnread (table : ℕ) (s : Stream) (facts : List Fact) (ending : End
   pub holds : facts ≡ row_after_row rows
   pub refused : ending ≡ Refused (file_fault table kind.Read)
 
--- memory was short: the facts are the first of the table
+-- memory ran out: the facts are the first of the table
 pub record IsShort (table : ℕ) (s : Stream) (facts : List Fact) (ending : Endings.Ending) : Type 0 where
   pub some : IsPrefix facts (facts_of s)
   pub refused : ending ≡ Refused (file_fault table kind.Memory)
 
--- the facts that the decoding of a table gives, and the ending after them
+-- the facts that decoding a table gives, and the ending after them
 abbrev pub IsGiven : ℕ → Stream → List Fact → Endings.Ending → Type 0
 IsGiven table s facts ending = IsWhole s facts ending ⊎ IsUnread table s facts ending ⊎ IsShort table s facts ending
 
--- the table was decoded: its history is its stream, or a beginning of it where the reader failed or memory was short
+-- the table was decoded: its history is its stream, or a beginning of it if the reader failed or memory ran out
 pub record IsDecoded (table : ℕ) (s : Stream) (history : List Item) : Type 0 where
   pub facts : List Fact
   pub ending : Endings.Ending
   pub given : IsGiven table s facts ending
   pub is : IsHistory facts ending history
 
--- no thread was there to decode the table
+-- there was no thread to decode the table
 abbrev pub IsUnserved : ℕ → List Item → Type 0
 IsUnserved table history = history ≡ Ending (Refused (file_fault table kind.NoThread)) ∷ []
 
--- each table was decoded, the first of which stands at place i
+-- each table was decoded, where the first is table i
 abbrev pub AreDecoded : ℕ → List Stream → List (List Item) → Type 0
 AreDecoded i [] [] = ⊤
 AreDecoded i [] (h ∷ hs) = ⊥
 AreDecoded i (s ∷ ss) [] = ⊥
 AreDecoded i (s ∷ ss) (h ∷ hs) = IsDecoded i s h × AreDecoded (i + 1) ss hs
 
--- no table was decoded, the first of which stands at place i
+-- no table was decoded, where the first is table i
 abbrev pub AreUnserved : ℕ → List Stream → List (List Item) → Type 0
 AreUnserved i [] [] = ⊤
 AreUnserved i [] (h ∷ hs) = ⊥

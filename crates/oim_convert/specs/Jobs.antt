@@ -1,4 +1,4 @@
--- The tables that workers draw, and the tokens that come back for them.
+-- The jobs that workers draw, one for each table, and the receipts that they give for them.
 use Rattle.std.specs.Prelude.{◌≡◌, ◌<◌, ◌≤◌, ℕ, suc, Bool, true, false, List, [], ◌∷◌, Option, Some, flat_map, length, map, slice_get, slice_set, IfSome}
 use Rattle.oim_meta.specs.ReportValue.{ReportValue}
 use Rattle.oim_ring.specs.Ends.{ClosedView, DrainView}
@@ -8,7 +8,7 @@ use Rattle.oim_rows.specs.Streams.{table_stream}
 use Rattle.oim_convert.specs.Files.{IsFileOf}
 use Rattle.oim_convert.specs.Histories.{IsDecoded, IsUnserved}
 use Rattle.oim_convert.specs.declared.job.Job.{Job}
-use Rattle.oim_convert.specs.declared.job.Token.{Token}
+use Rattle.oim_convert.specs.declared.job.Receipt.{Receipt}
 use Rattle.oim_convert.specs.declared.server.Serving.{Serving}
 use Rattle.oim_convert.specs.declared.worker.Shift.{Shift}
 
@@ -17,35 +17,35 @@ abbrev pub Each : {X : Type 0} → (ℕ → X → Type 0) → ℕ → List X →
 Each P n [] = Unit {0}
 Each P n (x ∷ xs) = P n x × Each P (suc n) xs
 
--- these tokens were put to the places of their tables, one after another
-abbrev pub placed : List Token → List (Option ClosedView) → List (Option ClosedView)
+-- the slots after the tokens of these receipts were put into those of their tables, one after another
+abbrev pub placed : List Receipt → List (Option ClosedView) → List (Option ClosedView)
 placed [] slots = slots
-placed (token ∷ tokens) slots = placed tokens (slice_set slots token.table token.closed)
+placed (receipt ∷ receipts) slots = placed receipts (slice_set slots receipt.table receipt.closed)
 
 module _ {R : Type 0} where
-  -- all tokens that workers gave, shift after shift
-  abbrev pub tokens_of : List (Shift (Job R) Token) → List Token
-  tokens_of shifts = flat_map (λ (shift : Shift (Job R) Token). shift.done.items) shifts
+  -- all receipts that workers gave, shift after shift
+  abbrev pub receipts_of : List (Shift (Job R) Receipt) → List Receipt
+  receipts_of shifts = flat_map (λ (shift : Shift (Job R) Receipt). shift.done.items) shifts
 
-  -- the tables of these tokens
-  abbrev pub tables_promised : List (Shift (Job R) Token) → List ℕ
-  tables_promised shifts = map (λ (token : Token). token.table) (tokens_of shifts)
+  -- the tables of these receipts
+  abbrev pub tables_promised : List (Shift (Job R) Receipt) → List ℕ
+  tables_promised shifts = map (λ (receipt : Receipt). receipt.table) (receipts_of shifts)
 
-  -- the history of a table that was served, where its reader tells its bytes, and of one that was not
+  -- the history of a table that was served, if its reader tells its bytes, and of one that was not
   abbrev pub IsKept : (R → Option (List ℕ)) → ReportValue → ℕ → Bool → ℕ → Option R → List Item → Type 0
   IsKept told report limit true table reader history = (file : Option (List ℕ)) → IsFileOf told reader file → IsDecoded table (table_stream report table limit file) history
   IsKept told report limit false table reader history = IsUnserved table history
 
-  -- what holds of a job before it is served: it is of the table of its place, and nothing was sent
+  -- what holds of a job before it is served: it is for the table at its place, and nothing was sent
   abbrev pub CanServe : ReportValue → ℕ → ℕ → Job R → Type 0
   CanServe report limit table job = (job.table ≡ table) × (table < length report.tables) × (limit ≤ 4294967294) × (job.feed.sent ≡ [])
 
-  -- the token that is given for a job: of its table and, unless it was lost, of its ring, with the history of the table
-  abbrev pub Gives : (R → Option (List ℕ)) → ReportValue → ℕ → Bool → ℕ → Job R → Token → Type 0
-  Gives told report limit served table job token =
-      (token.table ≡ table) × IfSome token.closed (λ closed. (closed.ring ≡ job.feed.ring) × IsKept told report limit served table job.reader closed.sent)
+  -- the receipt for a job: it is for the job's table, and its token, unless that was lost, is of the job's ring and has the table's history
+  abbrev pub Gives : (R → Option (List ℕ)) → ReportValue → ℕ → Bool → ℕ → Job R → Receipt → Type 0
+  Gives told report limit served table job receipt =
+      (receipt.table ≡ table) × IfSome receipt.closed (λ closed. (closed.ring ≡ job.feed.ring) × IsKept told report limit served table job.reader closed.sent)
 
-  -- a job as it is made
+  -- a new job for this table
   pub record IsOpened (table : ℕ) (job : Job R) : Type 0 where
     pub numbered : job.table ≡ table
     pub fresh : job.feed.sent ≡ []
@@ -64,20 +64,20 @@ module _ {R : Type 0} where
     pub ring : drain.ring ≡ job.feed.ring
     pub ended : blocks_only drain.taken ≡ false
 
-  -- a token that is of its table of the plan
-  pub record Fulfills (told : R → Option (List ℕ)) (report : ReportValue) (limit : ℕ) (served : Bool) (plan : List (Job R)) (token : Token) : Type 0 where
+  -- a receipt for a table of the plan
+  pub record Fulfills (told : R → Option (List ℕ)) (report : ReportValue) (limit : ℕ) (served : Bool) (plan : List (Job R)) (receipt : Receipt) : Type 0 where
     pub job : Job R
-    pub planned : slice_get plan token.table ≡ Some job
-    pub kept : IfSome token.closed (λ closed. (closed.ring ≡ job.feed.ring) × IsKept told report limit served token.table job.reader closed.sent)
+    pub planned : slice_get plan receipt.table ≡ Some job
+    pub kept : IfSome receipt.closed (λ closed. (closed.ring ≡ job.feed.ring) × IsKept told report limit served receipt.table job.reader closed.sent)
 
-  -- all that was sent into the ring of this table of the plan
+  -- the token has everything that was sent into the ring of this table of the plan
   pub record IsSentOf (told : R → Option (List ℕ)) (report : ReportValue) (limit : ℕ) (served : Bool) (plan : List (Job R)) (table : ℕ) (closed : ClosedView) : Type 0 where
     pub job : Job R
     pub planned : slice_get plan table ≡ Some job
     pub ring : closed.ring ≡ job.feed.ring
     pub kept : IsKept told report limit served table job.reader closed.sent
 
-  -- each token stands at the place of its table
+  -- each token is in the slot of its table
   abbrev pub EachSlot : (R → Option (List ℕ)) → ReportValue → ℕ → Bool → List (Job R) → List (Option ClosedView) → Type 0
   EachSlot told report limit served plan slots = (table : ℕ) (closed : ClosedView) → slice_get slots table ≡ Some (Some closed) → IsSentOf told report limit served plan table closed
 
@@ -88,5 +88,5 @@ module _ {R : Type 0} where
     pub kept : IsKept told report limit served table job.reader history
 
   -- what a server gives for a table of a report
-  abbrev pub gives_of : (R → Option (List ℕ)) → Serving → ReportValue → ℕ → Job R → Token → Type 0
+  abbrev pub gives_of : (R → Option (List ℕ)) → Serving → ReportValue → ℕ → Job R → Receipt → Type 0
   gives_of told server report = Gives told report server.limits.rows server.threaded

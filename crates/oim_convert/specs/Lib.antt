@@ -1,4 +1,5 @@
 pub mod Files
+pub mod Limits
 pub mod Answer
 pub mod FaultNames
 pub mod Steps

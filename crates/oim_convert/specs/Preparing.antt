@@ -1,10 +1,10 @@
--- What a conversion on threads needs before it begins, and what it has once it ran.
+-- What a conversion on threads needs before it begins, and what it gives once it ran.
 use Rattle.std.specs.Prelude.{◌≡◌, ◌≤◌, ⊤, ℕ, Bool, false, List, [], Option, None, Result, Ok, Err, length, replicate, vec_capacity}
 use Rattle.oim_meta.specs.ReportValue.{ReportValue}
 use Rattle.oim_ring.specs.declared.item.Item.{Item}
 use Rattle.oim_convert.specs.Jobs.{Each, IsLane, IsOpened, IsTable}
 use Rattle.oim_convert.specs.Shifts.{IsCrew}
-use Rattle.oim_convert.specs.declared.places.Places.{Places}
+use Rattle.oim_convert.specs.declared.returning.ReturnRoom.{ReturnRoom}
 use Rattle.oim_convert.specs.declared.fault.ConvertFault.{ConvertFault}
 use Rattle.oim_convert.specs.declared.fault.ConvertFault.TheVariants as fault
 use Rattle.oim_convert.specs.declared.job.Job.{Job}
@@ -12,10 +12,10 @@ use Rattle.oim_convert.specs.declared.run.Run.{Run}
 use Rattle.oim_convert.specs.declared.threaded.Ready.{Ready}
 
 -- room for the tokens of the tables, for the workers' seats, and for the drains once they are settled
-pub record ArePlaces {R : Type 0} (tables workers : ℕ) (places : Places R) : Type 0 where
-  pub slots : places.slots.items ≡ replicate tables None
-  pub seats : (places.seats.items ≡ []) × (workers ≤ vec_capacity places.seats)
-  pub settled : (places.settled.items ≡ []) × (tables ≤ vec_capacity places.settled)
+pub record IsReturnRoom {R : Type 0} (tables workers : ℕ) (room : ReturnRoom R) : Type 0 where
+  pub slots : room.slots.items ≡ replicate tables None
+  pub seats : (room.seats.items ≡ []) × (workers ≤ vec_capacity room.seats)
+  pub settled : (room.settled.items ≡ []) × (tables ≤ vec_capacity room.settled)
 
 -- a crew over the jobs of all tables, a drain for each with room for its fault, and room for what comes back
 pub record IsReady {R T : Type 0} (ready : Ready R T) : Type 0 where
@@ -24,13 +24,13 @@ pub record IsReady {R T : Type 0} (ready : Ready R T) : Type 0 where
   pub drains : Each (IsLane ready.crew.claims.items) 0 ready.unmerged.drains.items
   pub count : length ready.unmerged.drains.items ≡ length ready.crew.claims.items
   pub faults : (ready.unmerged.faults.items ≡ []) × (length ready.unmerged.drains.items ≤ vec_capacity ready.unmerged.faults)
-  pub places : ArePlaces (length ready.crew.claims.items) ready.crew.claims.workers ready.places
+  pub room : IsReturnRoom (length ready.crew.claims.items) ready.crew.claims.workers ready.room
 
--- the histories of all tables of the plan, which were served by workers or not, and not where none was to be started
+-- the histories of all tables of the plan, which were all served by workers or all not; they were not if no worker was to be started
 abbrev pub HasTables : {R : Type 0} → (R → Option (List ℕ)) → ReportValue → ℕ → ℕ → List (Job R) → List (List Item) → Type 0
 HasTables told report limit starts plan hs = (served : Bool) × (starts ≡ 0 → served ≡ false) × Each (IsTable told report limit served plan) 0 hs
 
--- a conversion that ran answers its run, unless a token was lost
+-- a conversion that ran gives its run, unless a token was lost
 abbrev pub HasRun : Result Run ConvertFault → Type 0
 HasRun (Ok run) = ⊤
 HasRun (Err fault.Lost) = ⊤

@@ -1,4 +1,4 @@
--- What a conversion on threads answers.
+-- The answer of a conversion on threads.
 -- xBRL-CSV 1.0 (a report is the facts of its tables), xBRL-JSON 1.0 (the document).
 use Rattle.std.specs.Prelude.{◌≡◌, ◌⊎◌, ⊤, ℕ, ◌||◌, ◌==◌, nat_lt, if◌then◌else◌, List, [], ◌∷◌, ◌++◌, Option, Some, None, Result, Ok, Err, length}
 use Rattle.oim_json.specs.JsonText.{head_text}
@@ -15,19 +15,20 @@ use Rattle.oim_rows.specs.declared.fault.TableFault.{TableFault}
 use Rattle.oim_rows.specs.declared.fault.TableKind.{TableKind}
 use Rattle.oim_rows.specs.declared.fault.TableKind.TheVariants as kind
 use Rattle.oim_convert.specs.Histories.{AreDecoded, AreUnserved, IsStream}
+use Rattle.oim_convert.specs.Limits.{largest_ring, most_workers}
 use Rattle.oim_convert.specs.declared.fault.ConvertFault.{ConvertFault}
 use Rattle.oim_convert.specs.declared.fault.ConvertFault.TheVariants as fault
 use Rattle.oim_convert.specs.declared.run.Run.{Run}
 
--- the fault that is found before anything is made: the workers are not 1 to 64, the ring's size is not 1 to 65,536, the
--- readers are not as many as the tables
+-- the fault that is found before anything is prepared: the number of workers or the ring's size is out of range, or the number of readers is
+-- not the number of tables
 abbrev pub early_fault : ℕ → ℕ → ℕ → ℕ → Option ConvertFault
 early_fault workers size readers tables =
-    if nat_lt workers 1 || nat_lt 64 workers then Some fault.BadWorkers
-    else if nat_lt size 1 || nat_lt 65536 size then Some fault.BadSize
+    if nat_lt workers 1 || nat_lt most_workers workers then Some fault.BadWorkers
+    else if nat_lt size 1 || nat_lt largest_ring size then Some fault.BadSize
     else if readers == tables then None else Some fault.WrongReaders
 
--- the answer is the early fault where there is one; else a run, Memory or Lost
+-- the answer is the early fault if there is one, and else a run, Memory or Lost
 abbrev pub AnswersFault : Option ConvertFault → Result Run ConvertFault → Type 0
 AnswersFault (Some f) result = result ≡ Err f
 AnswersFault None (Ok run) = ⊤
@@ -39,7 +40,7 @@ AnswersFault None (Err fault.WrongReaders) = ⊥
 AnswersFault None (Err (fault.Tables faults)) = ⊥
 AnswersFault None (Err (fault.Write w)) = ⊥
 
--- the histories of a report's tables: each table was decoded, or no thread was there and none was
+-- the histories of a report's tables: each table was decoded, or there was no thread and none was
 abbrev pub AreHistories : List Stream → List (List Item) → Type 0
 AreHistories ss hs = AreDecoded 0 ss hs ⊎ AreUnserved 0 ss hs
 
@@ -50,35 +51,35 @@ AreStreams [] (h ∷ hs) = ⊥
 AreStreams (s ∷ ss) [] = ⊥
 AreStreams (s ∷ ss) (h ∷ hs) = IsStream s h × AreStreams ss hs
 
--- the faults that are not a table's own
+-- the faults that come from outside a table
 abbrev pub IsOuter : TableKind → Type 0
 IsOuter k = (k ≡ kind.Read) ⊎ (k ≡ kind.Memory) ⊎ (k ≡ kind.NoThread)
 
--- a failed read, want of memory or want of threads ended the table
+-- a failed read, or running out of memory or threads, ended the table
 pub record IsCut (history : List Item) : Type 0 where
   pub before : List Item
   pub fault : TableFault
   pub outer : IsOuter fault.kind
   pub is : history ≡ before ++ Ending (Refused fault) ∷ []
 
--- none of these did so to any of the tables
+-- none of these ended any of the tables
 abbrev pub AreUncut : List (List Item) → Type 0
 AreUncut [] = ⊤
 AreUncut (h ∷ hs) = (¬ IsCut h) × AreUncut hs
 
--- want of a thread ended the table
+-- the table ended because there was no thread
 pub record IsThreadless (history : List Item) : Type 0 where
   pub before : List Item
   pub fault : TableFault
   pub none : fault.kind ≡ kind.NoThread
   pub is : history ≡ before ++ Ending (Refused fault) ∷ []
 
--- it ended none of the tables
+-- none of the tables ended because there was no thread
 abbrev pub AreThreaded : List (List Item) → Type 0
 AreThreaded [] = ⊤
 AreThreaded (h ∷ hs) = (¬ IsThreadless h) × AreThreaded hs
 
--- a token was lost: what was written is the document of some histories, one for each table, or a beginning of it
+-- a token was lost: the document of some histories, one for each table, or a beginning of it was written
 pub record IsLost (layout : Layout) (report : ReportValue) (tables : ℕ) (old new : SinkView) : Type 0 where
   pub histories : List (List Item)
   pub count : length histories ≡ tables
@@ -87,13 +88,13 @@ pub record IsLost (layout : Layout) (report : ReportValue) (tables : ℕ) (old n
   pub end : MergeEnd
   pub merged : Merges layout old new (head_text report) histories faults end
 
--- a run of this many tables: the history of each has one ending, and its faults, its end and what is written are those of the histories
+-- a run of this many tables: each history has one ending, and the faults, the end and the text written are those of the histories
 pub record IsRun (layout : Layout) (report : ReportValue) (tables : ℕ) (old new : SinkView) (run : Run) : Type 0 where
   pub count : length run.drains.items ≡ tables
   pub ended : EndEach run.drains.items
   pub merged : Merges layout old new (head_text report) run.drains.items run.faults.items run.end
 
--- what is written: the document of the run's histories up to its end; nothing by a fault but Lost
+-- what is written: the document of the run's histories up to its end; with a fault other than Lost nothing
 abbrev pub Writes : Layout → ReportValue → ℕ → SinkView → SinkView → Result Run ConvertFault → Type 0
 Writes layout report tables old new (Ok run) = IsRun layout report tables old new run
 Writes layout report tables old new (Err fault.Lost) = IsLost layout report tables old new

@@ -14,15 +14,15 @@ use Rattle.oim_convert.specs.Histories.{AreDecoded}
 use Rattle.oim_convert.specs.declared.fault.ConvertFault.{ConvertFault}
 use Rattle.oim_convert.specs.declared.fault.ConvertFault.TheVariants as fault
 
--- there are histories of these streams, each whole or cut short by a failed read or want of memory; the faults are theirs, in
--- table order, and what is written is their document
+-- there are histories of these streams, each whole or cut short by a failed read or by running out of memory; the faults are theirs, in
+-- table order, and their document is written
 pub record Refuses (layout : Layout) (report : ReportValue) (ss : List Stream) (old new : SinkView) (faults : List TableFault) : Type 0 where
   pub histories : List (List Item)
   pub decoded : AreDecoded 0 ss histories
   pub merged : Merges layout old new (head_text report) histories faults end.Refused
 
--- Ok: the whole document is written, and no table is refused. Tables: the fault of each refused table, with the unfinished document
--- up to and with the first. Write: a beginning of the defined text. WrongReaders and Memory: nothing is written
+-- Ok: the whole document is written, and no table is refused. Tables: the fault of each refused table, and the unfinished document up to
+-- and including the first. Write: a beginning of the defined text. WrongReaders and Memory: nothing is written
 abbrev pub Converts : Layout → ReportValue → List Stream → SinkView → SinkView → Result (Unit {0}) ConvertFault → Type 0
 Converts layout report ss old new (Ok u) = IsAnswer layout report ss old new [] end.Complete
 Converts layout report ss old new (Err (fault.Tables faults)) = Refuses layout report ss old new faults.items
@@ -33,8 +33,8 @@ Converts layout report ss old new (Err fault.BadWorkers) = ⊥
 Converts layout report ss old new (Err fault.BadSize) = ⊥
 Converts layout report ss old new (Err fault.Lost) = ⊥
 
--- whatever the readers tell: a write fault is the mark that the sink has, and without one the mark is kept; nothing is written where
--- the readers are not as many as the tables or memory is short; and no other fault but those of tables is answered
+-- whatever the readers tell: a write fault is the mark that the sink has, and without one the mark is kept; nothing is written with
+-- WrongReaders and Memory; and the only other fault is Tables
 abbrev pub Leaves : SinkView → SinkView → Result (Unit {0}) ConvertFault → Type 0
 Leaves old new (Ok u) = new.mark ≡ old.mark
 Leaves old new (Err (fault.Tables faults)) = (new.mark ≡ old.mark) × (¬ (faults.items ≡ []))
@@ -45,7 +45,7 @@ Leaves old new (Err fault.BadWorkers) = ⊥
 Leaves old new (Err fault.BadSize) = ⊥
 Leaves old new (Err fault.Lost) = ⊥
 
--- the writing has begun
+-- the answer is one of a conversion that has begun to write
 abbrev pub HasBegun : Result (Unit {0}) ConvertFault → Type 0
 HasBegun (Ok u) = ⊤
 HasBegun (Err (fault.Tables faults)) = ⊤
@@ -56,12 +56,12 @@ HasBegun (Err fault.BadWorkers) = ⊥
 HasBegun (Err fault.BadSize) = ⊥
 HasBegun (Err fault.Lost) = ⊥
 
--- each fault is of a table whose place is below this number
+-- each fault is of a table with a number below this one
 abbrev pub AreBelow : ℕ → List TableFault → Type 0
 AreBelow tables [] = ⊤
 AreBelow tables (e ∷ es) = (e.table < tables) × AreBelow tables es
 
--- the faults of tables are of one of these tables
+-- the faults of tables are of these tables
 abbrev pub IsOfTables : ℕ → Result (Unit {0}) ConvertFault → Type 0
 IsOfTables tables (Ok u) = ⊤
 IsOfTables tables (Err (fault.Tables faults)) = AreBelow tables faults.items

@@ -1,4 +1,4 @@
--- What the workers of a conversion and its merge come to.
+-- The results of the workers of a conversion and of its merge.
 use Rattle.std.specs.Prelude.{◌≡◌, ◌≤◌, ℕ, All, Option, List, [], cond, false, length, vec_capacity, vec_len}
 use Rattle.oim_json.specs.Sinks.{SinkView}
 use Rattle.oim_merge.specs.Merging.{EndEach, IsFresh, Merges, rings_of, taken_of}
@@ -8,31 +8,33 @@ use Rattle.oim_convert.specs.Jobs.{CanServe, gives_of}
 use Rattle.oim_convert.specs.Shifts.{ArePosts, CanServeAll, IsShift}
 use Rattle.oim_convert.specs.declared.crew.Posts.{Posts}
 use Rattle.oim_convert.specs.declared.job.Job.{Job}
-use Rattle.oim_convert.specs.declared.job.Token.{Token}
+use Rattle.oim_convert.specs.declared.job.Receipt.{Receipt}
 use Rattle.oim_convert.specs.declared.server.Serving.{Serving}
 use Rattle.oim_convert.specs.declared.scope.Merged.{Merged}
 use Rattle.oim_convert.specs.declared.scope.Unmerged.{Unmerged}
 use Rattle.oim_convert.specs.declared.scope.Worked.{Worked}
 
--- nothing was taken from the drains, no fault is there, and there is room for one of each drain
+-- nothing was taken from the drains, there is no fault yet, and there is room for one of each drain
 abbrev pub CanMerge : Unmerged → Type 0
 CanMerge unmerged = IsFresh unmerged.drains.items × (unmerged.faults.items ≡ []) × (length unmerged.drains.items ≤ vec_capacity unmerged.faults)
 
--- the drains were taken to their endings, and what was written behind the head is what was taken
+-- the drains were taken to their endings, and the text written after the head is that of the items taken
 pub record IsMerged (unmerged : Unmerged) (old new : SinkView) (merged : Merged) : Type 0 where
   pub rings : rings_of merged.drains.items ≡ rings_of unmerged.drains.items
   pub ended : EndEach (taken_of merged.drains.items)
   pub written : Merges unmerged.layout old new unmerged.head.items (taken_of merged.drains.items) merged.faults.items merged.end
 
--- what workers and a merge need: tables that both servers can serve, a station for each worker with its flag, and drains
-pub record CanWork {R S T C X : Type 0} (report : ReportValue) (server spare : Serving) (claims : Claiming (Job R)) (posts : Posts (Job R) Token S T C) (stops : List X) (unmerged : Unmerged) : Type 0 where
+-- what workers and a merge need: tables that both servers can serve, a station and a flag for each worker, and drains
+pub record CanWork {R S T C X : Type 0} (report : ReportValue) (server spare : Serving) (claims : Claiming (Job R))
+    (posts : Posts (Job R) Receipt S T C) (stops : List X) (unmerged : Unmerged) : Type 0 where
   pub items : CanServeAll (CanServe report server.limits.rows) claims.items × CanServeAll (CanServe report spare.limits.rows) claims.items
   pub ready : ArePosts claims posts
   pub flags : length stops ≡ claims.workers
   pub fresh : CanMerge unmerged
 
--- the shift of each worker, by the server that was used, not by the workers' own where none was to be started; and what was merged
-pub record HasWorked {R : Type 0} (told : R → Option (List ℕ)) (report : ReportValue) (server spare : Serving) (claims : Claiming (Job R)) (starts : ℕ) (unmerged : Unmerged) (old new : SinkView) (worked : Worked R) : Type 0 where
+-- the shift of each worker, by the server that was used, which is the spare one if no worker was to be started; and what was merged
+pub record HasWorked {R : Type 0} (told : R → Option (List ℕ)) (report : ReportValue) (server spare : Serving) (claims : Claiming (Job R))
+    (starts : ℕ) (unmerged : Unmerged) (old new : SinkView) (worked : Worked R) : Type 0 where
   pub shifts : All (IsShift (gives_of told (cond worked.served server spare) report) claims) worked.shifts.items
   pub count : vec_len worked.shifts ≡ claims.workers
   pub alone : starts ≡ 0 → worked.served ≡ false

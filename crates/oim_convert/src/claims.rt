@@ -1,4 +1,4 @@
-//! The claims: numbered items, each of which one draw takes.
+//! Claims: numbered items, each of which is taken by one draw.
 
 ghost use Rattle.std.specs.Prelude.{◌≡◌, ◌+◌, ◌^◌, ◌<◌, All, IfOk, Some, map, length, replicate, flat_map, count_by, vec_len};
 ghost use Rattle.std.specs.Mem.Slots.{IsFull};
@@ -14,8 +14,8 @@ use std::marker::Model;
 use std::snapshot::Snapshot;
 
 /// Items that wait, each under the number of its place, until a seat draws that number. Threads
-/// share it, each with a seat of its own. Contracts see which claims they are, all items in order,
-/// and how many seats there are.
+/// share the claims, and each has a seat of its own. Contracts see the identity of the claims, all
+/// items in order, and the number of seats.
 #[derive(Drop)]
 pub struct Claims<V> {
     table: Board<V>,
@@ -43,7 +43,7 @@ fn filled<V: Drop>(alloc: Global, items: Vec<V>) -> Result<Vec<Option<V>>, Alloc
     items.into_iter().map(Some).collect(alloc)
 }
 
-/// Drops the items that were not drawn, and frees the table.
+/// Drops the items that were not drawn, and frees the board.
 fn release<V: Drop>(mut closed: Closed<Option<V>, Global>)
     requires { IsFull closed.slots }
 {
@@ -56,9 +56,9 @@ fn release<V: Drop>(mut closed: Closed<Option<V>, Global>)
 }
 
 impl<V: Drop> Claims<V> {
-    /// Claims of these items, each under the number of its place from 0, and one fresh seat for
-    /// each worker. There is at least one worker, and items and workers together are fewer than
-    /// 2^64. Fails where memory is short, and the items are dropped.
+    /// Claims of these items, each under the number of its place, counted from 0, and one fresh seat
+    /// for each worker. There must be at least one worker, and fewer than 2^64 items and workers
+    /// together. Fails if memory runs out, and then the items are dropped.
     pub fn new(
         alloc: Global,
         items: Vec<V>,
@@ -83,8 +83,8 @@ impl<V: Drop> Claims<V> {
         }
     }
 
-    /// Ends the claims. They take back all their seats, at least one of which was answered None;
-    /// then the seats together have drawn each number below the number of items, each once.
+    /// Ends the claims. It takes back all their seats, at least one of which must have been answered
+    /// `None`. The seats together have then drawn each number below the number of items exactly once.
     pub fn close(self, mut seats: Vec<Seat<V>>)
         requires count { vec_len seats ≡ self.workers }
         requires mine { All (λ seat. seat.claims ≡ self) seats.items }
@@ -102,8 +102,8 @@ impl<V: Drop> Claims<V> {
 
 impl<V> Claims<V> {
     /// Draws the next number with a seat of these claims: gives the number and the item at that
-    /// place, or None where all numbers were drawn. A seat that was answered None is answered None
-    /// again. No draw waits or takes memory.
+    /// place, or `None` if all numbers were drawn. A seat that was answered `None` is always answered
+    /// `None` again. A draw does not wait and allocates no memory.
     pub fn draw(&self, seat: &mut Seat<V>) -> Option<(usize, V)>
         requires { seat.old.claims ≡ self.now }
         ensures { Draws seat.old result seat.new }

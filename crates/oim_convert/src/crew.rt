@@ -1,4 +1,4 @@
-//! Many workers at once.
+//! A crew of workers: what it needs, how its workers are started, and how they are joined.
 
 ghost use Rattle.std.specs.Prelude.{◌≡◌, ◌≤◌, ◌<◌, ◌+◌, ◌^◌, [], false, All, IfOk, cond, length, replicate, vec_len, vec_capacity};
 ghost use Rattle.std.specs.List.{list_all};
@@ -12,15 +12,15 @@ use std::alloc::{AllocError, Global};
 use std::sync::atomic::AtomicBool;
 use std::thread::{PromisedHandle, Scope, Threads};
 
-/// Room for the workers of a crew, made before any starts: those that were started, and the shifts
-/// of those that were not.
+/// Room for the workers of a crew, made before any of them starts: the handles of those that were
+/// started, and the shifts of those that were not.
 #[derive(Drop)]
 pub(crate) struct Room<V, O, S: Serve<V, O, T, C>, T, C> {
     pub(crate) started: Vec<PromisedHandle<Shift<V, O>, ShiftOf<V, S, T, C>>>,
     pub(crate) shifts: Vec<Shift<V, O>>,
 }
 
-/// Starts a worker at each of the first stations, as far as threads can be made.
+/// Starts a worker at each of the first `starts` stations, as far as threads can be made.
 fn start_each<
     's,
     E,
@@ -52,16 +52,9 @@ fn start_each<
 {
     let mut place = 0;
     for station in stations {
-        match start(
-            scope,
-            rt,
-            shared,
-            server,
-            claims,
-            station,
-            &stops[place],
-            place < starts,
-        ) {
+        let stop = &stops[place];
+        let may = place < starts;
+        match start(scope, rt, shared, server, claims, station, stop, may) {
             Ok(handle) => room.started.push_reserved(handle),
             Err(shift) => room.shifts.push_reserved(shift),
         }
@@ -69,15 +62,15 @@ fn start_each<
     }
 }
 
-/// Whether no worker has drawn anything.
+/// Whether every worker was stopped before it drew.
 pub(crate) fn all_idle<V, O>(shifts: &[Shift<V, O>]) -> bool
     ensures { result ≡ list_all (λ shift. shift.stopped) shifts.now }
 {
     shifts.iter().all(|shift| shift.stopped)
 }
 
-/// Where no worker could be started, draws all items here and serves each with the spare server.
-/// Gives whether the server is in use, not the spare one.
+/// If no worker could be started, draws all items on this thread and serves each with the spare
+/// server. Tells whether the server is in use, and not the spare one. Only the clauses use `server`.
 fn spare_unless_started<V: Drop, O: Drop, S: Serve<V, O, T, C> + Drop, T, C>(
     rt: &T,
     shared: &C,
@@ -110,8 +103,8 @@ fn spare_unless_started<V: Drop, O: Drop, S: Serve<V, O, T, C> + Drop, T, C>(
     false
 }
 
-/// Starts workers at the first stations, and where none could be started serves all items with the
-/// spare server here. Gives whether the server is in use, not the spare one.
+/// Starts workers at the first `starts` stations. If none could be started, serves all items on this
+/// thread with the spare server. Tells whether the server is in use, and not the spare one.
 pub(crate) fn start_crew<
     's,
     E,
@@ -148,7 +141,8 @@ pub(crate) fn start_crew<
     spare_unless_started(rt, shared, server, spare, claims, room)
 }
 
-/// Joins the workers that were started. Gives the shifts of all.
+/// Joins the workers that were started, and gives the shifts of all workers. Only the clauses use the
+/// parameters other than `rt` and `room`.
 pub(crate) fn join_crew<V: Drop, O: Drop, S: Serve<V, O, T, C> + Drop, T: Threads, C>(
     rt: &T,
     shared: &C,
@@ -178,7 +172,7 @@ pub(crate) fn join_crew<V: Drop, O: Drop, S: Serve<V, O, T, C> + Drop, T: Thread
     shifts
 }
 
-/// Where the workers of a crew begin, and the room for them.
+/// The stations at which the workers of a crew begin, and the room for the workers.
 #[derive(Drop)]
 pub(crate) struct Posts<V, O, S: Serve<V, O, T, C>, T, C> {
     pub(crate) stations: Vec<Station<V, O>>,
@@ -224,7 +218,7 @@ fn stations_of<V: Drop, O: Drop>(
     Ok(made)
 }
 
-/// Claims of the items, and all that this many workers need for them.
+/// Claims of the items, and everything that this many workers need to serve them.
 pub(crate) fn crew_of<V: Drop, O: Drop, S: Serve<V, O, T, C> + Drop, T, C>(
     alloc: Global,
     items: Vec<V>,

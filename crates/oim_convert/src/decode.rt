@@ -13,7 +13,7 @@ use crate::job::Job;
 use crate::sending::{close_waiting, put_waiting};
 use oim_decode::TableBlocks;
 use oim_meta::{Limits, Report};
-use oim_ring::{Closed, Ending, Feed};
+use oim_ring::{ClosedFeed, Ending, Feed};
 use oim_rows::{TableFault, TableKind};
 use std::alloc::Global;
 use std::io::Read;
@@ -31,15 +31,15 @@ pub(crate) fn refused(table: usize, kind: TableKind) -> Ending
     })
 }
 
-/// Decodes a table: sends its facts, and closes its feed with its ending. None where the token of
-/// the feed is lost.
+/// Decodes a table: sends its facts, and closes its feed with its ending. `None` if the token of the
+/// feed is lost.
 pub(crate) fn decode<R: Read + Drop, T: Wait>(
     rt: &T,
     alloc: Global,
     report: &Report,
     limits: Limits,
     job: Job<R>,
-) -> Option<Closed>
+) -> Option<ClosedFeed>
     requires place { job.table < length report.now.tables }
     requires rows { limits.rows ≤ 4294967294 }
     requires fresh { job.feed.sent ≡ [] }
@@ -59,7 +59,7 @@ pub(crate) fn decode<R: Read + Drop, T: Wait>(
     close_waiting(rt, feed, ending)
 }
 
-/// How a table without a file ends.
+/// The ending of a table without a file.
 pub(crate) fn without_file(report: &Report, table: usize) -> Ending
     requires { table < length report.now.tables }
     ensures { (limit : ℕ) → result ≡ ending_of (table_stream report.now table limit None).fault }
@@ -70,7 +70,7 @@ pub(crate) fn without_file(report: &Report, table: usize) -> Ending
     refused(table, TableKind::NoFile)
 }
 
-/// Sends the facts of a table's file, and says how the table ends.
+/// Sends the facts of a table's file, and gives the table's ending.
 fn send_file<R: Read + Drop, T: Wait>(
     rt: &T,
     alloc: Global,
@@ -92,7 +92,7 @@ fn send_file<R: Read + Drop, T: Wait>(
     }
 }
 
-/// Sends the blocks that are left, and says how the table ends.
+/// Sends the blocks that are left, and gives the table's ending.
 fn send_blocks<R: Read + Drop, T: Wait>(
     rt: &T,
     alloc: Global,
@@ -105,7 +105,7 @@ fn send_blocks<R: Read + Drop, T: Wait>(
     ensures given { IfSome blocks.old.left (λ s. IsGiven blocks.old.table s (facts_in feed.new.sent) result) }
 {
     for _ in rt.forever() {
-        match blocks.next_block(Vec::new(alloc)) {
+        match blocks.next_block(feed.room(rt, alloc)) {
             Ok(Some(block)) => put_waiting(rt, feed, block),
             Ok(None) => return Ending::Closed,
             Err(fault) => return Ending::Refused(fault),

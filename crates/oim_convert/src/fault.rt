@@ -1,27 +1,35 @@
-//! Why a conversion ends without a whole document.
+//! The faults of a conversion.
 
 ghost use Rattle.std.specs.Prelude.{◌≡◌};
 ghost use Rattle.oim_convert.specs.FaultNames.{number_of, name_of};
 
 use oim_json::WriteFault;
 use oim_rows::TableFault;
+use thiserror::Error;
 
 /// Why a conversion ends without a whole document.
-#[derive(Debug, PartialEq, Eq, Drop)]
+#[derive(Debug, PartialEq, Eq, Drop, Error)]
 pub enum ConvertFault {
-    /// 50: the workers are not 1 to 64.
+    /// 50: the number of workers is not 1 to 64.
+    #[error("the number of workers is not 1 to 64")]
     BadWorkers,
     /// 51: the ring's size is not 1 to 65,536.
+    #[error("the size of the rings is not 1 to 65,536")]
     BadSize,
-    /// 52: the readers are not as many as the tables.
+    /// 52: the number of readers is not the number of tables.
+    #[error("the number of readers is not the number of tables")]
     WrongReaders,
-    /// 53: a growth was refused before anything was written.
+    /// 53: memory ran out before anything was written.
+    #[error("memory ran out before anything was written")]
     Memory,
     /// 54: the end of a ring was lost.
+    #[error("the end of a ring was lost")]
     Lost,
-    /// 55: tables have faults: the first fault of each that has one, in table order.
+    /// 55: tables have faults. It has the first fault of each such table, in table order.
+    #[error("tables have faults")]
     Tables(Vec<TableFault>),
     /// 56: a write failed.
+    #[error("a write failed")]
     Write(WriteFault),
 }
 
@@ -41,7 +49,7 @@ impl ConvertFault {
         }
     }
 
-    /// The fault's name, as it is printed.
+    /// The fault's name, as the program prints it.
     pub fn name(&self) -> &'static str
         ensures { result.now ≡ name_of self.now }
     {

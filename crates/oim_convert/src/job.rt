@@ -1,9 +1,8 @@
-//! What a worker draws, and what it gives back for it.
+//! The job that a worker draws, and the receipt that it gives for it.
 
-use oim_ring::{Closed, Feed};
+use oim_ring::{ClosedFeed, Feed};
 
-/// A table to be decoded: its place in the report, its reader, where it has a file, and the feed of
-/// its ring.
+/// A table to decode: its place in the report, its reader if it has a file, and the feed of its ring.
 #[derive(Drop)]
 pub(crate) struct Job<R> {
     pub(crate) table: usize,
@@ -11,9 +10,10 @@ pub(crate) struct Job<R> {
     pub(crate) feed: Feed,
 }
 
-/// What is given back for a table: its place, and the token of its feed, None where that was lost.
+/// The receipt for a table: its place in the report, and the token of its closed feed, or `None` if
+/// that was lost.
 #[derive(Drop)]
-pub(crate) struct Token {
+pub(crate) struct Receipt {
     pub(crate) table: usize,
-    pub(crate) closed: Option<Closed>,
+    pub(crate) closed: Option<ClosedFeed>,
 }

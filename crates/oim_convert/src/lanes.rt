@@ -2,21 +2,22 @@
 
 ghost use Rattle.std.specs.Prelude.{◌≡◌, ◌≤◌, length, IfOk, map};
 ghost use Rattle.oim_convert.specs.Jobs.{Each, IsLane, IsOpened};
+ghost use Rattle.oim_convert.specs.Limits.{IsRingSize};
 
 use crate::job::Job;
 use oim_ring::{Drain, Lanes};
 use std::alloc::{AllocError, Global};
 
-/// How many full rings' worth of blocks may wait in all rings together.
+/// As many blocks as fill this many rings may wait in all rings together.
 const FULL_RINGS: usize = 4;
 
-/// A job and a drain for each reader, in order, with nothing sent and nothing taken.
+/// A job and a drain for each reader, in order. Nothing was sent or taken yet.
 pub(crate) fn open_lanes<R: Drop>(
     alloc: Global,
     readers: Vec<Option<R>>,
     size: usize,
 ) -> Result<(Vec<Job<R>>, Vec<Drain>), AllocError>
-    requires { (1 ≤ size) × (size ≤ 65536) }
+    requires { IsRingSize size }
     ensures readers { IfOk result (λ r. map (λ job. job.reader) r.0.items ≡ readers.items) }
     ensures jobs { IfOk result (λ r. Each IsOpened 0 r.0.items) }
     ensures drains { IfOk result (λ r. Each (IsLane r.0.items) 0 r.1.items) }

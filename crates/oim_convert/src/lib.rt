@@ -1,37 +1,43 @@
-//! Whole reports: the tables of a report to its document.
+//! The conversion of a whole report: from its tables to its document.
 //!
-//! What the crate promises of `convert_serial`, on one thread:
-//! - Ok has written exactly the document of all facts, in table order and in the layout asked for
-//!   (`specs/Answer.antt`);
-//! - Tables has the first fault of each refused table, in table order, with exactly the unfinished
-//!   document up to and with the first of them; a table whose reader fails or that finds no memory
-//!   is refused so too, and then has given some of its own facts (`specs/Serial.antt`);
+//! What is proved of `convert_serial`, which works on one thread:
+//!
+//! - `Ok` means that exactly the document of all facts was written, in table order and in the given
+//!   layout (`specs/Answer.antt`);
+//! - `Tables` has the first fault of each refused table, in table order, and means that exactly the
+//!   unfinished document was written, up to and including the first refused table. A table whose
+//!   reader fails or for which memory runs out is refused too, and has then given the first of its
+//!   facts (`specs/Serial.antt`);
 //! - a write fault leaves a beginning of the defined bytes, and is the sink's mark;
-//! - WrongReaders comes exactly where the readers are not as many as the tables; it and Memory
-//!   write nothing.
+//! - `WrongReaders` is answered exactly if the number of readers is not the number of tables; with it
+//!   and with `Memory` nothing is written.
 //!
-//! What it promises of `convert`, on threads, for every number of workers, ring size and schedule:
-//! - each history is its table's stream, or a beginning of it that a failed read or want of memory
-//!   ended; NoThread ends all tables or none (`specs/Histories.antt`);
-//! - the faults and the end are those of the histories, each of which has one ending, and what is
-//!   written is their document, the unfinished one up to and with the first refused table, or by a
-//!   write fault a beginning of it;
-//! - where nothing cut a history short, each is its table's stream, and faults, end and bytes are
-//!   the defined answer of the report (`specs/Runs.antt`);
-//! - BadWorkers, BadSize and WrongReaders come exactly where each is the first that is due; they and
-//!   Memory write nothing, and Lost comes after the document of some histories, one for each table.
+//! What is proved of `convert`, which works on threads, for every number of workers, ring size and
+//! schedule:
 //!
-//! A run is answered only after its claims were closed with all their seats: what the workers gave
-//! back is for each table once (`finish` of `src/places.rt`).
+//! - the history of each table is the table's stream, or a beginning of it that a failed read or
+//!   running out of memory ended; `NoThread` ends all tables or none (`specs/Histories.antt`);
+//! - the faults and the end are those of the histories, each of which has one ending. Their document
+//!   is written: whole, unfinished up to and including the first refused table, or after a failed
+//!   write a beginning of it;
+//! - if nothing cut a history short, each is its table's stream, and faults, end and bytes are the
+//!   defined answer of the report (`specs/Runs.antt`);
+//! - `BadWorkers`, `BadSize` and `WrongReaders` are answered exactly if each is the first that applies.
+//!   With them and with `Memory` nothing is written, and `Lost` is answered after the document of some
+//!   histories, one for each table.
 //!
-//! That workers run side by side, that each that started is joined, and that memory, threads and
-//! tokens are given, is shown by tests alone.
+//! A run is answered only after its claims were closed with all their seats, so the workers gave one
+//! receipt for each table (`finish` in `src/returning.rt`).
 //!
-//! What it promises of `Claims`, by which threads share numbered items out among themselves:
-//! - a draw gives a number and the item at its place, and no seat draws that number again; no draw
-//!   waits or takes memory (`specs/Claims.antt`);
-//! - once a seat was answered None, all seats together have drawn each number once
+//! What is proved of `Claims`, with which threads share out numbered items:
+//!
+//! - a draw gives a number and the item at its place, and no seat draws that number again
+//!   (`specs/Claims.antt`);
+//! - once a seat was answered `None`, all seats together have drawn each number once
 //!   (`specs/Numbers.antt`).
+//!
+//! What only tests show: that workers run side by side, that each worker that started is joined, and
+//! that memory, threads and tokens are given.
 #![tactic(auto)]
 
 mod claims;
@@ -40,7 +46,8 @@ mod decode;
 mod fault;
 mod job;
 mod lanes;
-mod places;
+mod limits;
+mod returning;
 mod run;
 mod scope;
 mod seat;
@@ -55,6 +62,7 @@ mod worker;
 
 pub use claims::Claims;
 pub use fault::ConvertFault;
+pub use limits::{LARGEST_RING, MOST_WORKERS};
 pub use oim_json::Layout;
 pub use run::Run;
 pub use seat::Seat;

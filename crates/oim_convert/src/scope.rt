@@ -1,4 +1,4 @@
-//! A scope in which workers decode tables while the caller's thread merges.
+//! The scope of threads in which workers decode tables while the caller's thread merges.
 
 ghost use Rattle.std.specs.Prelude.{◌≡◌, false, All, cond, length, vec_len};
 ghost use Rattle.oim_json.specs.Sinks.{sink_at};
@@ -8,7 +8,7 @@ ghost use Rattle.oim_convert.specs.Working.{CanMerge, CanWork, HasWorked, IsMerg
 
 use crate::claims::Claims;
 use crate::crew::{Crew, Posts, join_crew, start_crew};
-use crate::job::{Job, Token};
+use crate::job::{Job, Receipt};
 use crate::server::Serving;
 use crate::worker::Shift;
 use oim_json::{Layout, Sink};
@@ -23,8 +23,8 @@ use std::sync::atomic::AtomicBool;
 use std::thread;
 use std::thread::{Scope, Threads};
 
-/// The drains of all tables, from which nothing was taken, room for the fault of each, and the head
-/// and the layout of the document that they are merged into.
+/// The drains of all tables, from which nothing was taken yet, room for a fault of each, and the head
+/// and the layout of the document.
 #[derive(Drop)]
 pub(crate) struct Unmerged {
     pub(crate) drains: Vec<Drain>,
@@ -33,8 +33,7 @@ pub(crate) struct Unmerged {
     pub(crate) layout: Layout,
 }
 
-/// Drains that were taken to their endings, the faults of those that were refused, and how the
-/// merge ended.
+/// The drains, taken to their endings, the faults of those that ended refused, and how the merge ended.
 #[derive(Drop)]
 pub(crate) struct Merged {
     pub(crate) drains: Vec<Drain>,
@@ -62,22 +61,22 @@ fn merge_all<T: Wait, W: Sink>(rt: &T, unmerged: Unmerged, sink: &mut W) -> Merg
     }
 }
 
-/// What the workers and the merge have come to.
+/// The results of the workers and of the merge.
 #[derive(Drop)]
 pub(crate) struct Worked<R> {
-    pub(crate) shifts: Vec<Shift<Job<R>, Token>>,
+    pub(crate) shifts: Vec<Shift<Job<R>, Receipt>>,
     pub(crate) merged: Merged,
-    /// Whether the tables were served by workers, and not refused for want of threads.
+    /// Whether workers served the tables, which otherwise are refused because no thread could be made.
     pub(crate) served: bool,
 }
 
-/// What the scope gives back, the sink that was lent to it among it.
+/// What the scope gives back, including the sink that was lent to it.
 struct Returned<'a, R, W> {
     worked: Worked<R>,
     sink: &'a mut W,
 }
 
-/// Starts the workers, merges while they draw and decode, and joins them.
+/// Starts the workers, merges while they draw and decode, and then joins them.
 fn serve_and_merge<'s, E, R: Read + Drop + Send + 's, T: Threads + Wait + Sync + 's, W: Sink>(
     scope: &Scope<'s, E>,
     rt: &'s T,
@@ -85,7 +84,7 @@ fn serve_and_merge<'s, E, R: Read + Drop + Send + 's, T: Threads + Wait + Sync +
     server: &'s Serving,
     spare: &Serving,
     claims: &'s Claims<Job<R>>,
-    posts: Posts<Job<R>, Token, Serving, T, Report>,
+    posts: Posts<Job<R>, Receipt, Serving, T, Report>,
     stops: &'s [AtomicBool],
     starts: usize,
     unmerged: Unmerged,
@@ -107,14 +106,14 @@ fn serve_and_merge<'s, E, R: Read + Drop + Send + 's, T: Threads + Wait + Sync +
     }
 }
 
-/// Does so in a scope of threads, which ends once all of them are joined.
+/// The same in a scope of threads, which ends once all of them are joined.
 fn work_and_merge<R: Read + Drop + Send, T: Threads + Wait + Sync, W: Sink>(
     rt: &T,
     report: &Report,
     server: &Serving,
     spare: &Serving,
     claims: &Claims<Job<R>>,
-    posts: Posts<Job<R>, Token, Serving, T, Report>,
+    posts: Posts<Job<R>, Receipt, Serving, T, Report>,
     stops: &[AtomicBool],
     starts: usize,
     unmerged: Unmerged,
@@ -130,7 +129,8 @@ fn work_and_merge<R: Read + Drop + Send, T: Threads + Wait + Sync, W: Sink>(
         move |scope| -> Returned<'_, R, W>
             requires { CanWork report.now server.now spare.now claims.now posts stops.now unmerged }
             ensures same_sink { result.sink.ghost_name ≡ lent.entry.ghost_name }
-            ensures worked { HasWorked R.remaining report.entry.now server.entry.now spare.entry.now claims.entry.now starts unmerged (sink_at (W.mark lent.entry.now) (W.told lent.entry.now)) (sink_at (W.mark result.sink.now) (W.told result.sink.now)) result.worked }
+            ensures worked { HasWorked R.remaining report.entry.now server.entry.now spare.entry.now claims.entry.now starts unmerged
+                (sink_at (W.mark lent.entry.now) (W.told lent.entry.now)) (sink_at (W.mark result.sink.now) (W.told result.sink.now)) result.worked }
         {
             let worked = serve_and_merge(
                 scope, rt, report, server, spare, claims, posts, stops, starts, unmerged, lent,
@@ -143,13 +143,13 @@ fn work_and_merge<R: Read + Drop + Send, T: Threads + Wait + Sync, W: Sink>(
     worked
 }
 
-/// Merges while the workers of a crew draw and decode. Gives the claims back, and what it came to.
+/// Merges while the workers of a crew draw and decode. Gives back the claims, and the results.
 pub(crate) fn work_crew<R: Read + Drop + Send, T: Threads + Wait + Sync, W: Sink>(
     rt: &T,
     alloc: Global,
     report: &Report,
     limits: Limits,
-    crew: Crew<Job<R>, Token, Serving, T, Report>,
+    crew: Crew<Job<R>, Receipt, Serving, T, Report>,
     starts: usize,
     unmerged: Unmerged,
     sink: &mut W,
@@ -185,8 +185,7 @@ pub(crate) fn work_crew<R: Read + Drop + Send, T: Threads + Wait + Sync, W: Sink
     (claims, worked)
 }
 
-/// Does nothing, but this use of a returned reference ties it, for the proof, to the parameter that
-/// lent it.
+/// Does nothing. Using a returned reference here ties it, for the proof, to the parameter that lent it.
 fn take_back<T>(x: &mut T)
     ensures { x.new ≡ x.old }
 {}

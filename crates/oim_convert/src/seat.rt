@@ -1,4 +1,4 @@
-//! A seat of the claims, by which one thread draws.
+//! A seat of the claims, with which one thread draws.
 
 ghost use Rattle.std.specs.Prelude.{◌≡◌, false, cond};
 ghost use Rattle.oim_convert.specs.Views.{drawer};
@@ -6,8 +6,8 @@ ghost use Rattle.oim_convert.specs.Views.{drawer};
 use crate::view::BoardSeat;
 use std::marker::Model;
 
-/// Draws from one `Claims`. Contracts see which claims they are, the numbers that it drew, in
-/// order, and whether it was answered that none are left.
+/// A seat, which draws from one `Claims`. Contracts see which claims they are, the numbers that it
+/// drew, in order, and whether it was answered that none are left.
 #[derive(Drop)]
 pub struct Seat<V> {
     pub(crate) token: BoardSeat<V>,
@@ -41,7 +41,7 @@ impl<V> Seat<V> {
         }
     }
 
-    /// What the seat knows.
+    /// The seat at the board.
     pub(crate) fn into_token(self) -> BoardSeat<V>
         ensures view { drawer result.table_id result.me.0 self.finished ≡ self }
         ensures one { (result.me.0.share ≡ 1) × (result.me.0.finished ≡ cond self.finished 1 0) }

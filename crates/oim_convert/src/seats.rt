@@ -1,4 +1,4 @@
-//! All seats of the claims: from one to many, and back.
+//! All seats of the claims: dealt out from one, and gathered into one again.
 
 ghost use Rattle.std.specs.Prelude.{◌≡◌, ◌+◌, ◌<◌, ◌≤◌, [], length, replicate, vec_capacity, true};
 ghost use Rattle.oim_convert.specs.Claims.{fresh};
@@ -7,7 +7,7 @@ ghost use Rattle.oim_convert.specs.Views.{opening_view, claiming, joined_seat};
 use crate::seat::Seat;
 use crate::view::{BoardSeat, Cut, Gather, Shed, Steps};
 
-/// The seats that the token stands for, each on its own.
+/// Deals out the seats that the token stands for, one by one.
 pub(crate) fn deal<V>(
     steps: &Steps<V>,
     mut token: BoardSeat<V>,

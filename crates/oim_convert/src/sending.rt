@@ -1,14 +1,14 @@
-//! Sending blocks and endings into a ring, with waiting.
+//! Sending blocks and endings into a ring, waiting while it is full.
 
 ghost use Rattle.std.specs.Prelude.{◌≡◌, [], ◌∷◌, ◌++◌, true, IfSome};
 ghost use Rattle.oim_ring.specs.Items.{blocks_only};
 ghost use Rattle.oim_ring.specs.declared.item.Item.TheVariants as items;
 
 use oim_json::Block;
-use oim_ring::{CloseFault, Closed, Ending, Feed};
+use oim_ring::{CloseFault, ClosedFeed, Ending, Feed};
 use std::sync::Wait;
 
-/// Sends a block once it is the feed's turn, and tries again while the ring is full.
+/// Sends a block once it is the feed's turn, trying again while the ring is full.
 pub(crate) fn put_waiting<T: Wait>(rt: &T, feed: &mut Feed, block: Block)
     ensures ring { feed.new.ring ≡ feed.old.ring }
     ensures sent { feed.new.sent ≡ feed.old.sent ++ items.Block block ∷ [] }
@@ -25,8 +25,8 @@ pub(crate) fn put_waiting<T: Wait>(rt: &T, feed: &mut Feed, block: Block)
     unreachable!()
 }
 
-/// Closes a feed, and tries again while the ring is full. None where the token is lost.
-pub(crate) fn close_waiting<T: Wait>(rt: &T, feed: Feed, ending: Ending) -> Option<Closed>
+/// Closes a feed, trying again while the ring is full. `None` if the token is lost.
+pub(crate) fn close_waiting<T: Wait>(rt: &T, feed: Feed, ending: Ending) -> Option<ClosedFeed>
     ensures ring { IfSome result (λ closed. closed.ring ≡ feed.ring) }
     ensures sent { IfSome result (λ closed. closed.sent ≡ feed.sent ++ items.Ending ending ∷ []) }
     ensures blocks { IfSome result (λ closed. blocks_only feed.sent ≡ true) }

@@ -22,7 +22,7 @@ use oim_rows::{TableFault, TableKind};
 use std::alloc::Global;
 use std::io::Read;
 
-/// Writes the facts of a block. It has one at least.
+/// Writes the facts of a block. A block has at least one.
 fn write_block<W: Sink>(
     block: &Block,
     layout: Layout,
@@ -42,8 +42,7 @@ fn write_block<W: Sink>(
     }
 }
 
-/// Reads the blocks that are left to their end, writes their facts if they are wanted, and says how
-/// the table ends.
+/// Reads the blocks that are left, writes their facts if they are wanted, and gives the table's ending.
 fn write_blocks<R: Read + Drop, W: Sink>(
     alloc: Global,
     blocks: &mut TableBlocks<'_, R>,
@@ -76,8 +75,7 @@ fn write_blocks<R: Read + Drop, W: Sink>(
     Ok(refused(table, TableKind::Memory))
 }
 
-/// Reads a table's file to its end, writes its facts if they are wanted, and says how the table
-/// ends.
+/// Reads a table's file to its end, writes its facts if they are wanted, and gives the table's ending.
 fn convert_file<R: Read + Drop, W: Sink>(
     alloc: Global,
     report: &Report,
@@ -91,7 +89,8 @@ fn convert_file<R: Read + Drop, W: Sink>(
 ) -> Result<Ending, WriteFault>
     requires place { table < length report.now.tables }
     requires rows { limits.rows ≤ 4294967294 }
-    ensures reads { IfSome (R.remaining reader) (λ bytes. ReadsTable layout table wanted (sink_at (W.mark sink.old) (W.told sink.old)) (sink_at (W.mark sink.new) (W.told sink.new)) any.old any.new (table_stream report.now table limits.rows (Some bytes)) result) }
+    ensures reads { IfSome (R.remaining reader) (λ bytes. ReadsTable layout table wanted (sink_at (W.mark sink.old) (W.told sink.old))
+        (sink_at (W.mark sink.new) (W.told sink.new)) any.old any.new (table_stream report.now table limits.rows (Some bytes)) result) }
     ensures marked { Marks (W.mark sink.old) (W.mark sink.new) result }
 {
     match TableBlocks::open(alloc, report, table, reader, limits) {
@@ -100,7 +99,7 @@ fn convert_file<R: Read + Drop, W: Sink>(
     }
 }
 
-/// Reads a table to its end, writes its facts if they are wanted, and says how it ends.
+/// Reads a table to its end, writes its facts if they are wanted, and gives its ending.
 fn convert_table<R: Read + Drop, W: Sink>(
     alloc: Global,
     report: &Report,
@@ -115,7 +114,8 @@ fn convert_table<R: Read + Drop, W: Sink>(
     requires place { table < length report.now.tables }
     requires rows { limits.rows ≤ 4294967294 }
     ensures reads { (file : Option (List ℕ)) → IsFileOf R.remaining reader file
-        → ReadsTable layout table wanted (sink_at (W.mark sink.old) (W.told sink.old)) (sink_at (W.mark sink.new) (W.told sink.new)) any.old any.new (table_stream report.now table limits.rows file) result }
+        → ReadsTable layout table wanted (sink_at (W.mark sink.old) (W.told sink.old)) (sink_at (W.mark sink.new) (W.told sink.new)) any.old any.new
+        (table_stream report.now table limits.rows file) result }
     ensures marked { Marks (W.mark sink.old) (W.mark sink.new) result }
 {
     match reader {
@@ -139,8 +139,8 @@ fn note(ending: Ending, faults: &mut Vec<TableFault>)
     }
 }
 
-/// Reads all tables to their ends, writes the facts up to and with the first that is refused, and
-/// notes the fault of each that is. A failed write ends it.
+/// Reads all tables to their ends, writes the facts up to and including the first refused table, and
+/// notes the fault of each refused one. Stops at a failed write.
 fn convert_tables<R: Read + Drop, W: Sink>(
     alloc: Global,
     report: &Report,
@@ -173,7 +173,8 @@ fn convert_tables<R: Read + Drop, W: Sink>(
     Ok(())
 }
 
-/// Writes a report's document behind its head. The faults are empty, with room for one of each table.
+/// Writes a report's document: the head, the facts of its tables and, if no table is refused, the tail.
+/// `faults` is empty and has room for one fault of each table.
 fn write_document<R: Read + Drop, W: Sink>(
     alloc: Global,
     report: &Report,
@@ -209,16 +210,16 @@ fn write_document<R: Read + Drop, W: Sink>(
     }
 }
 
-/// Converts a report on one thread: reads each table with its reader, in table order, and writes
-/// the document of all facts to the sink, in the layout asked for. A table without a reader has no
-/// file. `limits.rows` is at most 4,294,967,294.
+/// Converts a report on one thread: reads each table with its reader, in table order, and writes the
+/// document of all facts to the sink in the given layout (xBRL-CSV 1.0, xBRL-JSON 1.0). A table without
+/// a reader has no file. `limits.rows` is at most 4,294,967,294.
 ///
-/// Fails with WrongReaders exactly where the readers are not as many as the tables, and with Memory
-/// where memory is short before anything is written; both write nothing. Fails with Tables where a
-/// table has a fault: each such table's first fault, in table order, once all tables are read and
-/// the facts up to the first of these faults are written, the document unfinished. A table whose
-/// reader fails or that finds no memory is refused so too. Fails with Write where a write failed, a
-/// beginning of the document written, and then reads no further.
+/// Fails with `WrongReaders` exactly if the number of readers is not the number of tables, and with
+/// `Memory` if memory runs out before anything is written; in both cases nothing is written. Fails with
+/// `Tables` if tables have faults, with the first fault of each such table in table order: all tables
+/// are then read, and the unfinished document has the facts up to the first of these faults. A table
+/// whose reader fails or for which memory runs out is refused too. Fails with `Write` if a write failed:
+/// a beginning of the document is then written, and nothing more is read.
 pub fn convert_serial<R: Read + Drop, W: Sink>(
     alloc: Global,
     report: &Report,
@@ -229,12 +230,12 @@ pub fn convert_serial<R: Read + Drop, W: Sink>(
 ) -> Result<(), ConvertFault>
     requires { limits.rows ≤ 4294967294 }
 
-    // What is written and answered, where the readers tell their bytes.
+    // What is written and answered, if the readers tell their bytes.
     ensures converts { (files : List (Option (List ℕ))) → AreFilesOf R.remaining readers.items files
         → Converts layout report.now (streams report.now limits.rows files) (sink_at (W.mark sink.old) (W.told sink.old)) (sink_at (W.mark sink.new) (W.told sink.new)) result }
     ensures tables { (files : List (Option (List ℕ))) → AreFilesOf R.remaining readers.items files → IsOfTables (length report.now.tables) result }
 
-    // What is so for all readers.
+    // What holds for all readers.
     ensures readers { (result ≡ Err fault.WrongReaders) ↔ (length readers.items ≢ length report.now.tables) }
     ensures leaves { Leaves (sink_at (W.mark sink.old) (W.told sink.old)) (sink_at (W.mark sink.new) (W.told sink.new)) result }
 {

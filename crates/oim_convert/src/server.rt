@@ -1,50 +1,50 @@
-//! The server of the tables that workers draw.
+//! The server, which decodes the tables that workers draw.
 
 ghost use Rattle.std.specs.Prelude.{◌≡◌, [], IfSome};
 ghost use Rattle.oim_convert.specs.Histories.{IsUnserved};
 
 use crate::decode::{decode, refused};
-use crate::job::{Job, Token};
+use crate::job::{Job, Receipt};
 use crate::sending::close_waiting;
 use crate::worker::Serve;
 use oim_meta::{Limits, Report};
-use oim_ring::Closed;
+use oim_ring::ClosedFeed;
 use oim_rows::TableKind;
 use std::alloc::Global;
 use std::io::Read;
 use std::sync::Wait;
 
-/// Decodes the tables of a report, or refuses them where no thread is there.
+/// Decodes the tables of a report, or refuses them if no thread could be made.
 #[derive(Clone, Copy)]
 pub(crate) struct Serving {
     pub(crate) alloc: Global,
     pub(crate) limits: Limits,
-    /// Whether a thread is there.
+    /// Whether a thread could be made.
     pub(crate) threaded: bool,
 }
 
-impl<R: Read + Drop, T: Wait> Serve<Job<R>, Token, T, Report> for Serving {
+impl<R: Read + Drop, T: Wait> Serve<Job<R>, Receipt, T, Report> for Serving {
     ghost use Rattle.oim_convert.specs.Jobs.{CanServe, gives_of};
 
     ghost can_serve = { λ s report. CanServe report s.limits.rows };
 
     ghost gives = { gives_of R.remaining };
 
-    fn serve(&self, rt: &T, report: &Report, number: usize, job: Job<R>) -> Token {
+    fn serve(&self, rt: &T, report: &Report, number: usize, job: Job<R>) -> Receipt {
         let closed = if self.threaded {
             decode(rt, self.alloc, report, self.limits, job)
         } else {
             refuse(rt, job)
         };
-        Token {
+        Receipt {
             table: number,
             closed,
         }
     }
 }
 
-/// Closes the feed of a table for which no thread is there.
-fn refuse<R: Drop, T: Wait>(rt: &T, job: Job<R>) -> Option<Closed>
+/// Closes the feed of a table for which no thread could be made.
+fn refuse<R: Drop, T: Wait>(rt: &T, job: Job<R>) -> Option<ClosedFeed>
     requires { job.feed.sent ≡ [] }
     ensures ring { IfSome result (λ closed. closed.ring ≡ job.feed.ring) }
     ensures sent { IfSome result (λ closed. IsUnserved job.table closed.sent) }

@@ -1,48 +1,49 @@
-//! A slot for the token of each table, by which its drain is settled.
+//! A slot for the token of each table, with which its drain is settled. Only the clauses use the
+//! parameters `report`, `limits`, `served` and `claims`.
 
 ghost use Rattle.std.specs.Prelude.{◌≡◌, ◌≤◌, [], None, length, map, All, Contains, IfNone, IfSome, slice_set, vec_len, vec_capacity};
-ghost use Rattle.oim_convert.specs.Jobs.{Each, EachSlot, Fulfills, Gives, IsEnded, IsTable, placed, tokens_of};
+ghost use Rattle.oim_convert.specs.Jobs.{Each, EachSlot, Fulfills, Gives, IsEnded, IsTable, placed, receipts_of};
 ghost use Rattle.oim_convert.specs.Shifts.{IsShift};
 
 use crate::claims::Claims;
-use crate::job::{Job, Token};
+use crate::job::{Job, Receipt};
 use crate::seat::Seat;
 use crate::worker::Shift;
 use oim_meta::{Limits, Report};
-use oim_ring::{Closed, Drain, Drained};
+use oim_ring::{ClosedFeed, Drain, Drained};
 use std::io::Read;
 
-/// Puts a token to the place of its table.
+/// Puts the token of a receipt into the slot of its table.
 fn place<R: Read>(
     report: &Report,
     limits: Limits,
     served: bool,
     claims: &Claims<Job<R>>,
-    token: Token,
-    slots: &mut [Option<Closed>],
+    receipt: Receipt,
+    slots: &mut [Option<ClosedFeed>],
 )
-    requires token { Fulfills R.remaining report.now limits.rows served claims.now.items token }
+    requires receipt { Fulfills R.remaining report.now limits.rows served claims.now.items receipt }
     requires slots { EachSlot R.remaining report.now limits.rows served claims.now.items slots.old }
     requires room { length slots.old ≡ length claims.now.items }
     ensures slots { EachSlot R.remaining report.now limits.rows served claims.now.items slots.new }
-    ensures placed { slots.new ≡ slice_set slots.old token.table token.closed }
+    ensures placed { slots.new ≡ slice_set slots.old receipt.table receipt.closed }
 {
     let _ = report;
     let _ = limits;
     let _ = served;
     let _ = claims;
-    let Token { table, closed } = token;
+    let Receipt { table, closed } = receipt;
     slots[table] = closed;
 }
 
-/// Puts the tokens of a shift to the places of their tables, and gives its seat back.
+/// Puts the tokens of a shift into the slots of their tables, and gives its seat back.
 fn place_shift<R: Read + Drop>(
     report: &Report,
     limits: Limits,
     served: bool,
     claims: &Claims<Job<R>>,
-    shift: Shift<Job<R>, Token>,
-    slots: &mut [Option<Closed>],
+    shift: Shift<Job<R>, Receipt>,
+    slots: &mut [Option<ClosedFeed>],
 ) -> Seat<Job<R>>
     requires shift { IsShift (Gives R.remaining report.now limits.rows served) claims.now shift }
     requires slots { EachSlot R.remaining report.now limits.rows served claims.now.items slots.old }
@@ -56,20 +57,20 @@ fn place_shift<R: Read + Drop>(
         done,
         stopped: _,
     } = shift;
-    for token in done {
-        place(report, limits, served, claims, token, slots);
+    for receipt in done {
+        place(report, limits, served, claims, receipt, slots);
     }
     seat
 }
 
-/// Puts the tokens of all shifts to the places of their tables, and gives their seats back.
+/// Puts the tokens of all shifts into the slots of their tables, and gives their seats back.
 pub(crate) fn place_all<R: Read + Drop>(
     report: &Report,
     limits: Limits,
     served: bool,
     claims: &Claims<Job<R>>,
-    shifts: Vec<Shift<Job<R>, Token>>,
-    slots: &mut [Option<Closed>],
+    shifts: Vec<Shift<Job<R>, Receipt>>,
+    slots: &mut [Option<ClosedFeed>],
     seats: Vec<Seat<Job<R>>>,
 ) -> Vec<Seat<Job<R>>>
     requires shifts { All (IsShift (Gives R.remaining report.now limits.rows served) claims.now) shifts.items }
@@ -77,7 +78,7 @@ pub(crate) fn place_all<R: Read + Drop>(
     requires room { length slots.old ≡ length claims.now.items }
     requires seats { (seats.items ≡ []) × (vec_len shifts ≤ vec_capacity seats) }
     ensures slots { EachSlot R.remaining report.now limits.rows served claims.now.items slots.new }
-    ensures placed { slots.new ≡ placed (tokens_of shifts.items) slots.old }
+    ensures placed { slots.new ≡ placed (receipts_of shifts.items) slots.old }
     ensures seats { result.items ≡ map (λ shift. shift.seat) shifts.items }
     ensures count { vec_len result ≡ vec_len shifts }
 {
@@ -88,14 +89,14 @@ pub(crate) fn place_all<R: Read + Drop>(
     seats
 }
 
-/// Settles each drain with the token of its table. None where a table has no token in its place.
+/// Settles each drain with the token of its table. `None` if a table has no token in its slot.
 pub(crate) fn settle_all<R: Read>(
     report: &Report,
     limits: Limits,
     served: bool,
     claims: &Claims<Job<R>>,
     drains: Vec<Drain>,
-    slots: &mut [Option<Closed>],
+    slots: &mut [Option<ClosedFeed>],
     settled: Vec<Drained>,
 ) -> Option<Vec<Drained>>
     requires drains { Each (IsEnded claims.now.items) 0 drains.items }

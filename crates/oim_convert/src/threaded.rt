@@ -4,6 +4,7 @@ ghost use Rattle.std.specs.Prelude.{◌≡◌, ◌⊎◌, ◌≤◌, ◌<◌, �
 ghost use Rattle.oim_convert.specs.Answer.{IsAnswer, streams};
 ghost use Rattle.oim_convert.specs.Files.{AreFilesOf};
 ghost use Rattle.oim_convert.specs.Histories.{AreUnserved};
+ghost use Rattle.oim_convert.specs.Limits.{IsRingSize, IsWorkerCount};
 ghost use Rattle.oim_convert.specs.Preparing.{HasRun, HasTables, IsReady};
 ghost use Rattle.oim_convert.specs.Runs.{AnswersFault, AreHistories, AreStreams, AreThreaded, AreUncut, Writes, early_fault};
 ghost use Rattle.oim_json.specs.JsonText.{head_text};
@@ -11,11 +12,12 @@ ghost use Rattle.oim_json.specs.Sinks.{sink_at};
 
 use crate::crew::{Crew, crew_of};
 use crate::fault::ConvertFault;
-use crate::job::{Job, Token};
+use crate::job::{Job, Receipt};
 use crate::lanes::open_lanes;
-use crate::places::{Places, finish, places_of};
+use crate::limits::{LARGEST_RING, MOST_WORKERS};
+use crate::returning::{ReturnRoom, finish, return_room};
 use crate::run::Run;
-use crate::scope::{Merged, Unmerged, Worked, work_crew};
+use crate::scope::{Unmerged, Worked, work_crew};
 use crate::server::Serving;
 use oim_json::{Layout, Sink, head};
 use oim_meta::{Limits, Report};
@@ -24,15 +26,15 @@ use std::io::Read;
 use std::sync::Wait;
 use std::thread::Threads;
 
-/// The fault that is found before anything is made.
+/// The fault that is found before anything is prepared.
 fn fault_before(workers: usize, size: usize, readers: usize, tables: usize) -> Option<ConvertFault>
     ensures fault { result ≡ early_fault workers size readers tables }
-    ensures fine { IfNone result ((1 ≤ workers) × (workers ≤ 64) × (1 ≤ size) × (size ≤ 65536) × (readers ≡ tables)) }
+    ensures fine { IfNone result (IsWorkerCount workers × IsRingSize size × (readers ≡ tables)) }
 {
-    if workers < 1 || workers > 64 {
+    if workers < 1 || workers > MOST_WORKERS {
         return Some(ConvertFault::BadWorkers);
     }
-    if size < 1 || size > 65_536 {
+    if size < 1 || size > LARGEST_RING {
         return Some(ConvertFault::BadSize);
     }
     if readers != tables {
@@ -41,15 +43,16 @@ fn fault_before(workers: usize, size: usize, readers: usize, tables: usize) -> O
     None
 }
 
-/// What a conversion needs, made before anything is written.
+/// What a conversion needs, prepared before anything is written.
 #[derive(Drop)]
 struct Ready<R: Read + Drop, T: Wait> {
-    crew: Crew<Job<R>, Token, Serving, T, Report>,
+    crew: Crew<Job<R>, Receipt, Serving, T, Report>,
     unmerged: Unmerged,
-    places: Places<R>,
+    room: ReturnRoom<R>,
 }
 
-/// All that a conversion with this many workers and rings of this size needs.
+/// Everything that a conversion with this many workers and rings of this size needs. Fails if memory
+/// runs out.
 fn prepare<R: Read + Drop, T: Wait>(
     alloc: Global,
     report: &Report,
@@ -58,15 +61,15 @@ fn prepare<R: Read + Drop, T: Wait>(
     size: usize,
     layout: Layout,
 ) -> Result<Ready<R, T>, AllocError>
-    requires workers { (1 ≤ workers) × (workers ≤ 64) }
-    requires size { (1 ≤ size) × (size ≤ 65536) }
+    requires workers { IsWorkerCount workers }
+    requires size { IsRingSize size }
     ensures readers { IfOk result (λ ready. map (λ job. job.reader) ready.crew.claims.items ≡ readers.items) }
     ensures ready { IfOk result (λ ready. IsReady ready) }
     ensures head { IfOk result (λ ready. ready.unmerged.head.items ≡ head_text report.now) }
     ensures layout { IfOk result (λ ready. ready.unmerged.layout ≡ layout) }
 {
     let (jobs, drains) = open_lanes(alloc, readers, size)?;
-    let places = places_of(alloc, jobs.len(), workers)?;
+    let room = return_room(alloc, jobs.len(), workers)?;
     let crew = crew_of(alloc, jobs, workers)?;
     let faults = Vec::with_capacity(alloc, drains.len())?;
     let unmerged = Unmerged {
@@ -78,11 +81,11 @@ fn prepare<R: Read + Drop, T: Wait>(
     Ok(Ready {
         crew,
         unmerged,
-        places,
+        room,
     })
 }
 
-/// Runs a conversion for which all is ready.
+/// Runs a conversion for which everything is ready.
 fn run_ready<R: Read + Drop + Send, T: Threads + Wait + Sync, W: Sink>(
     rt: &T,
     alloc: Global,
@@ -103,7 +106,7 @@ fn run_ready<R: Read + Drop + Send, T: Threads + Wait + Sync, W: Sink>(
     let Ready {
         crew,
         unmerged,
-        places,
+        room,
     } = ready;
     let (claims, worked) = work_crew(rt, alloc, report, limits, crew, starts, unmerged, sink);
     let Worked {
@@ -111,40 +114,36 @@ fn run_ready<R: Read + Drop + Send, T: Threads + Wait + Sync, W: Sink>(
         merged,
         served,
     } = worked;
-    let Merged {
-        drains,
-        faults,
-        end,
-    } = merged;
-    match finish(report, limits, served, claims, shifts, drains, places) {
+    match finish(report, limits, served, claims, shifts, merged.drains, room) {
         Some(drains) => Ok(Run {
             drains,
-            faults,
-            end,
+            faults: merged.faults,
+            end: merged.end,
         }),
         None => Err(ConvertFault::Lost),
     }
 }
 
-/// Converts a report on threads: as many workers as this draw the tables and decode them into one
-/// ring for each table, of this size, while the caller's thread writes the document of all facts to
-/// the sink, in table order and in the layout asked for. A table without a reader has no file.
-/// `limits.rows` is at most 4,294,967,294. For every number of workers, ring size and schedule the
-/// answer is the same: where no reader failed and neither memory nor threads were short, each
-/// history is its table's defined facts, and bytes and end are the defined answer. It waits for its
-/// workers.
+/// Converts a report on threads (xBRL-CSV 1.0, xBRL-JSON 1.0). `workers` workers draw the tables and
+/// decode each into a ring of its own, of size `size`, while the caller's thread writes the document of
+/// all facts to the sink, in table order and in the given layout. A table without a reader has no file.
+/// `limits.rows` is at most 4,294,967,294. It waits for its workers.
 ///
-/// Each history is its table's stream, or a beginning of it that a failed read (Read) or want of
-/// memory (Memory) ended. Where no worker could be started every table is refused with NoThread,
-/// else none is. The run has the fault of each refused table, in table order, whatever its end is.
-/// The end is Complete where there is none of them; else Refused, the document unfinished after the
-/// facts of the first such table; or Write where a write failed before that, a beginning of the
-/// document written.
+/// The answer is the same for every number of workers, ring size and schedule: if no reader failed and
+/// neither memory nor threads ran out, each history is its table's defined facts, and bytes and end are
+/// the defined answer.
 ///
-/// Fails with BadWorkers where the workers are not 1 to 64, else with BadSize where the ring's size
-/// is not 1 to 65,536, else with WrongReaders where the readers are not as many as the tables, and
-/// with Memory where memory is short before anything is written; these write nothing. Fails with
-/// Lost where the end of a ring is lost, after all is written.
+/// Each history is its table's stream, or a beginning of it that a failed read (`Read`) or running out
+/// of memory (`Memory`) ended. If no worker could be started, every table is refused with `NoThread`;
+/// otherwise none is. The run has the fault of each refused table, in table order, however it ends. The
+/// end is `Complete` if no table is refused; `Refused` if one is, and then the document is unfinished
+/// after the facts of the first refused table; or `Write` if a write failed before that, and then a
+/// beginning of the document is written.
+///
+/// Fails with `BadWorkers` if the number of workers is not 1 to 64, else with `BadSize` if the ring's
+/// size is not 1 to 65,536, else with `WrongReaders` if the number of readers is not the number of
+/// tables, and with `Memory` if memory runs out before anything is written; in these cases nothing is
+/// written. Fails with `Lost` if the end of a ring is lost, after everything is written.
 pub fn convert<R: Read + Drop + Send, T: Threads + Wait + Sync, W: Sink>(
     rt: &T,
     alloc: Global,
@@ -158,9 +157,9 @@ pub fn convert<R: Read + Drop + Send, T: Threads + Wait + Sync, W: Sink>(
 ) -> Result<Run, ConvertFault>
     requires { limits.rows ≤ 4294967294 }
 
-    // The headline, where the readers tell their bytes: the histories of the tables; NoThread ends all
-    // of them or none; and where none was cut short, each is its table's stream, and end and bytes are
-    // the defined answer.
+    // The headline, if the readers tell their bytes: the histories of the tables; NoThread ends all of
+    // them or none; and if none was cut short, each is its table's stream, and end and bytes are the
+    // defined answer.
     ensures histories { (files : List (Option (List ℕ))) → AreFilesOf R.remaining readers.items files
         → IfOk result (λ run. AreHistories (streams report.now limits.rows files) run.drains.items) }
     ensures threads { (files : List (Option (List ℕ))) → AreFilesOf R.remaining readers.items files
@@ -169,7 +168,7 @@ pub fn convert<R: Read + Drop + Send, T: Threads + Wait + Sync, W: Sink>(
         → IfOk result (λ run. AreUncut run.drains.items → AreStreams (streams report.now limits.rows files) run.drains.items
         × IsAnswer layout report.now (streams report.now limits.rows files) (sink_at (W.mark sink.old) (W.told sink.old)) (sink_at (W.mark sink.new) (W.told sink.new)) run.faults.items run.end) }
 
-    // What is so for all readers: each fault exactly where it is due, and what is written.
+    // What holds for all readers: each fault exactly when it applies, and what is written.
     ensures faults { AnswersFault (early_fault workers size (length readers.items) (length report.now.tables)) result }
     ensures writes { Writes layout report.now (length report.now.tables) (sink_at (W.mark sink.old) (W.told sink.old)) (sink_at (W.mark sink.new) (W.told sink.new)) result }
 {
@@ -178,9 +177,9 @@ pub fn convert<R: Read + Drop + Send, T: Threads + Wait + Sync, W: Sink>(
     )
 }
 
-/// Converts a report on threads as `convert` does, but tries to start the first `starts` workers
-/// alone, and counts the others as not started. So with no `starts` every table is refused with
-/// NoThread.
+/// Converts a report on threads as [`convert`] does, but tries to start only the first `starts` workers,
+/// and treats the others as workers that could not be started. With `starts` 0 every table is refused
+/// with `NoThread`.
 pub fn convert_with_starts<R: Read + Drop + Send, T: Threads + Wait + Sync, W: Sink>(
     rt: &T,
     alloc: Global,
@@ -195,7 +194,7 @@ pub fn convert_with_starts<R: Read + Drop + Send, T: Threads + Wait + Sync, W: S
 ) -> Result<Run, ConvertFault>
     requires { limits.rows ≤ 4294967294 }
 
-    // The headline, where the readers tell their bytes.
+    // The headline, if the readers tell their bytes.
     ensures histories { (files : List (Option (List ℕ))) → AreFilesOf R.remaining readers.items files
         → IfOk result (λ run. AreHistories (streams report.now limits.rows files) run.drains.items) }
     ensures threads { (files : List (Option (List ℕ))) → AreFilesOf R.remaining readers.items files
@@ -204,11 +203,11 @@ pub fn convert_with_starts<R: Read + Drop + Send, T: Threads + Wait + Sync, W: S
         → IfOk result (λ run. AreUncut run.drains.items → AreStreams (streams report.now limits.rows files) run.drains.items
         × IsAnswer layout report.now (streams report.now limits.rows files) (sink_at (W.mark sink.old) (W.told sink.old)) (sink_at (W.mark sink.new) (W.told sink.new)) run.faults.items run.end) }
 
-    // Where no worker is to be started, NoThread ends every table.
+    // If no worker is to be started, NoThread ends every table.
     ensures alone { starts ≡ 0 → (files : List (Option (List ℕ))) → AreFilesOf R.remaining readers.items files
         → IfOk result (λ run. AreUnserved 0 (streams report.now limits.rows files) run.drains.items) }
 
-    // What is so for all readers: each fault exactly where it is due, and what is written.
+    // What holds for all readers: each fault exactly when it applies, and what is written.
     ensures faults { AnswersFault (early_fault workers size (length readers.items) (length report.now.tables)) result }
     ensures writes { Writes layout report.now (length report.now.tables) (sink_at (W.mark sink.old) (W.told sink.old)) (sink_at (W.mark sink.new) (W.told sink.new)) result }
 {

@@ -1,34 +1,34 @@
-//! What a seat at the table knows, and the steps that it takes.
+//! The board on which the claims stand: what a seat at it knows, and the steps that it takes.
 
 use atomic_table::{Join, Play, Shared, Split, Table, TableRule};
 use std::alloc::Global;
 use std::collections::LinkedList;
 use std::snapshot::Snapshot;
 
-/// What a seat knows. It stands in proofs alone: no value of it is made.
+/// What a seat knows. It exists only in proofs: no code makes a value of it.
 pub struct View<V> {
-    /// The items that there were at first.
+    /// The items at the start.
     pub items: LinkedList<V>,
-    /// How many seats there were at first.
+    /// The number of seats at the start.
     pub workers: usize,
     /// The numbers that were drawn.
     pub drawn: LinkedList<usize>,
-    /// How many of the seats this view stands for.
+    /// The number of seats that this view stands for.
     pub share: usize,
-    /// How many of these found that none are left.
+    /// The number of these that found that no item is left.
     pub finished: usize,
 }
 
-/// What the table is told when it is made.
+/// What the board is given when it is made.
 #[derive(Drop)]
 pub struct Plan<V> {
-    /// The items, remembered in proofs alone.
+    /// The items, which only proofs remember.
     pub items: Snapshot<Vec<V>>,
-    /// How many seats there are.
+    /// The number of seats.
     pub workers: usize,
 }
 
-/// The rule of the claims: each number below the word was drawn once, and each other item waits.
+/// The rule of the claims: each number below the word was drawn once, and every other item still waits.
 pub struct Drawing;
 
 impl<V> TableRule<Option<V>, View<V>, Plan<V>> for Drawing {
@@ -45,7 +45,7 @@ pub type Board<V> = Table<Option<V>, View<V>, Plan<V>, Drawing, Global>;
 /// The part of the board that threads share.
 pub type Steps<V> = Shared<Option<V>, View<V>, Plan<V>, Drawing>;
 
-/// A place at the board.
+/// A seat at the board.
 pub type BoardSeat<V> = atomic_table::Seat<Option<V>, View<V>>;
 
 /// The step of a draw.
@@ -57,7 +57,7 @@ impl<V> Play<Option<V>, View<V>> for Draw {
     ghost then = { λ _. Told };
 }
 
-/// Of the seats that one view stands for, one gets a view of its own.
+/// One of the seats that a view stands for gets a view of its own.
 pub struct Cut;
 
 impl<V> Split<View<V>> for Cut {
@@ -68,7 +68,7 @@ impl<V> Split<View<V>> for Cut {
     ghost right = { one_seat };
 }
 
-/// The whole view goes over to a place that holds no slot.
+/// The whole view moves to a seat that holds no slot.
 pub struct Shed;
 
 impl<V> Split<View<V>> for Shed {

@@ -1,4 +1,4 @@
-//! One worker: it draws items until none are left, and serves each.
+//! One worker, which draws items until none are left and serves each of them.
 
 ghost use Rattle.std.specs.Prelude.{◌≡◌, ◌≤◌, ℕ, [], true, false, length, IfOk, IfErr, MatchResult, vec_capacity};
 ghost use Rattle.oim_convert.specs.Claims.{fresh};
@@ -10,29 +10,29 @@ use std::snapshot::Snapshot;
 use std::sync::atomic::{AtomicBool, Ordering};
 use std::thread::{Promise, PromisedHandle, Scope};
 
-/// What is done with the items that workers draw. A server works with the runtime's handle `T` and
-/// with what all workers share, `C`.
+/// Serves the items that workers draw. A server works with the runtime's handle `T` and with what all
+/// workers share, `C`.
 pub(crate) trait Serve<V, O, T, C> {
-    /// What holds of the item under a number before it is served.
+    /// What must hold of the item under a number before it is served.
     ghost can_serve: { Self → C → ℕ → V → Type 0 };
 
     /// What is given for the item under a number.
     ghost gives: { Self → C → ℕ → V → O → Type 0 };
 
-    /// Serves the item under this number.
+    /// Serves the item under a number.
     fn serve(&self, rt: &T, shared: &C, number: usize, item: V) -> O
         requires { can_serve self.now shared.now number item }
         ensures { gives self.now shared.now number item result };
 }
 
-/// What a worker begins with: a seat that has drawn nothing, and room for what it gives.
+/// What a worker begins with: a seat that has drawn nothing, and room for its results.
 #[derive(Drop)]
 pub(crate) struct Station<V, O> {
     pub(crate) seat: Seat<V>,
     pub(crate) done: Vec<O>,
 }
 
-/// What a worker hands back.
+/// What a worker hands back: its seat, and its results.
 #[derive(Drop)]
 pub(crate) struct Shift<V, O> {
     pub(crate) seat: Seat<V>,
@@ -41,7 +41,7 @@ pub(crate) struct Shift<V, O> {
     pub(crate) stopped: bool,
 }
 
-/// The promise of a worker: a shift of these claims by this server. All of it stands in proofs alone.
+/// The promise of a worker: a shift of these claims by this server. It exists only in proofs.
 #[derive(Drop)]
 pub(crate) struct ShiftOf<V, S, T, C> {
     pub(crate) claims: Snapshot<Claims<V>>,
@@ -56,7 +56,7 @@ impl<V, O, S: Serve<V, O, T, C>, T, C> Promise<Shift<V, O>> for ShiftOf<V, S, T,
     ghost kept_by = { λ p shift. IsShift (S.gives p.server.value p.shared.value) p.claims.value shift };
 }
 
-/// Draws until no item is left, and serves each that it has drawn.
+/// Draws until no item is left, and serves each item that it draws.
 pub(crate) fn work<V, O, S: Serve<V, O, T, C>, T, C>(
     rt: &T,
     shared: &C,
@@ -79,7 +79,7 @@ pub(crate) fn work<V, O, S: Serve<V, O, T, C>, T, C>(
     }
 }
 
-/// The same, or nothing where the worker was stopped before.
+/// The same, or nothing if the worker was stopped before.
 fn work_unless<V, O, S: Serve<V, O, T, C>, T, C>(
     rt: &T,
     shared: &C,
@@ -110,8 +110,8 @@ fn idle<V, O>(station: Station<V, O>) -> Shift<V, O>
     }
 }
 
-/// Starts a worker, where it may be started. Where no thread can be made for it, its flag is set and
-/// its seat comes back.
+/// Starts a worker if it may be started. If no thread can be made for it, its flag is set, and the error
+/// has its shift.
 pub(crate) fn start<
     's,
     E,
@@ -145,10 +145,8 @@ pub(crate) fn start<
         rt: Snapshot::of(rt),
         shared: Snapshot::of(shared),
     };
-    match scope.spawn_with(
-        promise,
-        move || work_unless(rt, shared, server, claims, station, stop),
-    ) {
+    let shift = move || work_unless(rt, shared, server, claims, station, stop);
+    match scope.spawn_with(promise, shift) {
         Ok(handle) => Ok(handle),
         Err(refused) => {
             stop.store(true, Ordering::SeqCst);

@@ -1,7 +1,7 @@
 -- Rows that are read from a table's stream, one after another.
 use Rattle.std.proofs.Common.{◌≡◌, ℕ, List, [], ◌∷◌, ◌++◌, true, false, Option, Some, None, Ok, Err, IfSome, IsSome, refl, ap, sym, subst, ◌∙◌, inl, inr, append-nil, append_assoc}
 use Rattle.std.proofs.lemmas.Grind.{flat_map-append}
-use Rattle.oim_resolve.specs.declared.fact.Fact.{Fact}
+use Rattle.oim_resolve.specs.FactParts.{FactParts as Fact}
 use Rattle.oim_rows.specs.Header.{file_fault}
 use Rattle.oim_rows.specs.Streams.{GivesNext, IsOutside, Stream, ending}
 use Rattle.oim_rows.specs.declared.fault.TableFault.{TableFault}
@@ -16,13 +16,15 @@ pub none_read : (table : ℕ) (left : Option Stream) (before : List Fact) → If
 none_read table None before = tt
 none_read table (Some s) before = ([], inl (refl, refl), sym (append-nil before))
 
-facts_more : (before pending after facts : List Fact) (rows : List (List Fact)) → pending ≡ before ++ facts_of_rows rows → after ≡ pending ++ facts → after ≡ before ++ facts_of_rows (rows ++ facts ∷ [])
+facts_more : (before pending after facts : List Fact) (rows : List (List Fact)) → pending ≡ before ++ facts_of_rows rows
+    → after ≡ pending ++ facts → after ≡ before ++ facts_of_rows (rows ++ facts ∷ [])
 facts_more before pending after facts rows so more =
     more ∙ ap (λ t. t ++ facts) so ∙ append_assoc before (facts_of_rows rows) facts ∙ ap (λ t. before ++ (facts_of_rows rows ++ t)) (sym (append-nil facts))
     ∙ ap (λ t. before ++ t) (sym (flat_map-append (λ (row : List Fact). row) rows (facts ∷ [])))
 
 -- one row more
-one_more : (table : ℕ) (s : Stream) (before pending after facts : List Fact) (rows : List (List Fact)) (left left' : Option Stream) → ReadsRows table s rows left → pending ≡ before ++ facts_of_rows rows
+one_more : (table : ℕ) (s : Stream) (before pending after facts : List Fact) (rows : List (List Fact)) (left left' : Option Stream)
+    → ReadsRows table s rows left → pending ≡ before ++ facts_of_rows rows
     → IfSome left (λ t. GivesNext table t (Ok (Some facts)) left') → after ≡ pending ++ facts → HasRead table s before after left'
 one_more table s before pending after facts rows None left' reads so gives more = absurd reads
 one_more table s before pending after facts rows (Some rest) None reads so gives more = absurd gives
@@ -43,16 +45,19 @@ at_end table s before pending rows (Some rest) left' (inr (some, e, outside, onl
     let no : Some e ≡ None = ap (λ (t : Stream). t.fault) (sym only ∙ gives) in absurd (cc no)
 
 -- a fault
-pub broken_off : (table : ℕ) (s : Stream) (rows : List (List Fact)) (left : Option Stream) (e : TableFault) → ReadsRows table s rows left → IsOutside table e → ReadsRows table s rows (Some (ending (Some e)))
+pub broken_off : (table : ℕ) (s : Stream) (rows : List (List Fact)) (left : Option Stream) (e : TableFault) → ReadsRows table s rows left
+    → IsOutside table e → ReadsRows table s rows (Some (ending (Some e)))
 broken_off table s rows None e reads outside = absurd reads
 broken_off table s rows (Some rest) e (inl (split, same)) outside = inr ((rest.rows, sym split), e, outside, refl)
 broken_off table s rows (Some rest) e (inr (some, f, old, only)) outside = inr (some, e, outside, refl)
 
-at_fault : (table : ℕ) (s : Stream) (before pending : List Fact) (rows : List (List Fact)) (left left' : Option Stream) (e : TableFault) → ReadsRows table s rows left → pending ≡ before ++ facts_of_rows rows
+at_fault : (table : ℕ) (s : Stream) (before pending : List Fact) (rows : List (List Fact)) (left left' : Option Stream) (e : TableFault)
+    → ReadsRows table s rows left → pending ≡ before ++ facts_of_rows rows
     → IfSome left (λ t. GivesNext table t (Err e) left') → HasRead table s before pending (Some (ending (Some e)))
 at_fault table s before pending rows None left' e reads so gives = absurd reads
 at_fault table s before pending rows (Some rest) left' e reads so (inl outside) = (rows, broken_off table s rows (Some rest) e reads outside, so)
-at_fault table s before pending rows (Some rest) left' e (inl (split, same)) so (inr over) = (rows, inl (split ∙ ap (λ (t : Stream). rows ++ t.rows) over, same ∙ ap (λ (t : Stream). t.fault) over), so)
+at_fault table s before pending rows (Some rest) left' e (inl (split, same)) so (inr over) =
+    (rows, inl (split ∙ ap (λ (t : Stream). rows ++ t.rows) over, same ∙ ap (λ (t : Stream). t.fault) over), so)
 at_fault table s before pending rows (Some rest) left' e (inr (some, f, outside, only)) so (inr over) = (rows, inr (some, f, outside, sym over ∙ only), so)
 
 weaker : (left : Option Stream) (P Q : Stream → Type 0) → ((s : Stream) → P s → Q s) → IfSome left P → IfSome left Q
@@ -64,39 +69,48 @@ pub row_added : (table : ℕ) (first : Option Stream) (before pending after : Li
     → IfSome left (λ t. AddsRow table t pending after (Ok true) left') → IfSome first (λ s. HasRead table s before after left')
 row_added table first before pending after None left' reads adds = weaker first (λ s. HasRead table s before pending None) (λ s. HasRead table s before after left') (λ s h. absurd h.1) reads
 row_added table first before pending after (Some t) left' reads (facts, more, gives) =
-    weaker first (λ s. HasRead table s before pending (Some t)) (λ s. HasRead table s before after left') (λ s h. one_more table s before pending after facts h.0 (Some t) left' h.1 h.2 gives more) reads
+    weaker first (λ s. HasRead table s before pending (Some t)) (λ s. HasRead table s before after left')
+    (λ s h. one_more table s before pending after facts h.0 (Some t) left' h.1 h.2 gives more) reads
 
 pub end_reached : (table : ℕ) (first : Option Stream) (before pending after : List Fact) (left left' : Option Stream) → IfSome first (λ s. HasRead table s before pending left)
     → IfSome left (λ t. AddsRow table t pending after (Ok false) left') → IfSome first (λ s. HasRead table s before after (Some (ending None)))
-end_reached table first before pending after None left' reads adds = weaker first (λ s. HasRead table s before pending None) (λ s. HasRead table s before after (Some (ending None))) (λ s h. absurd h.1) reads
+end_reached table first before pending after None left' reads adds =
+    weaker first (λ s. HasRead table s before pending None) (λ s. HasRead table s before after (Some (ending None))) (λ s h. absurd h.1) reads
 end_reached table first before pending after (Some t) left' reads (same, gives) =
-    weaker first (λ s. HasRead table s before pending (Some t)) (λ s. HasRead table s before after (Some (ending None))) (λ s h. at_end table s before after h.0 (Some t) left' h.1 (same ∙ h.2) gives) reads
+    weaker first (λ s. HasRead table s before pending (Some t)) (λ s. HasRead table s before after (Some (ending None)))
+    (λ s h. at_end table s before after h.0 (Some t) left' h.1 (same ∙ h.2) gives) reads
 
 pub fault_reached : (table : ℕ) (first : Option Stream) (before pending after : List Fact) (left left' : Option Stream) (e : TableFault) → IfSome first (λ s. HasRead table s before pending left)
     → IfSome left (λ t. AddsRow table t pending after (Err e) left') → IfSome first (λ s. HasRead table s before after (Some (ending (Some e))))
 fault_reached table first before pending after None left' e reads adds =
     weaker first (λ s. HasRead table s before pending None) (λ s. HasRead table s before after (Some (ending (Some e)))) (λ s h. absurd h.1) reads
 fault_reached table first before pending after (Some t) left' e reads (same, gives) =
-    weaker first (λ s. HasRead table s before pending (Some t)) (λ s. HasRead table s before after (Some (ending (Some e)))) (λ s h. at_fault table s before after h.0 (Some t) left' e h.1 (same ∙ h.2) gives) reads
+    weaker first (λ s. HasRead table s before pending (Some t)) (λ s. HasRead table s before after (Some (ending (Some e))))
+    (λ s h. at_fault table s before after h.0 (Some t) left' e h.1 (same ∙ h.2) gives) reads
 
 -- BLOCKS
 
-pub block_given : (table : ℕ) (first : Option Stream) (before pending block after : List Fact) (left : Option Stream) → IfSome first (λ s. HasRead table s before pending left) → pending ≡ block ++ after
+pub block_given : (table : ℕ) (first : Option Stream) (before pending block after : List Fact) (left : Option Stream)
+    → IfSome first (λ s. HasRead table s before pending left) → pending ≡ block ++ after
     → IfSome first (λ s. GivesBlock table before s (Ok (Some block)) after left)
 block_given table first before pending block after left reads cut =
     weaker first (λ s. HasRead table s before pending left) (λ s. GivesBlock table before s (Ok (Some block)) after left) (λ s h. record { rows = h.0; reads = h.1; answers = sym h.2 ∙ cut }) reads
 
-pub end_given : (table : ℕ) (first : Option Stream) (before pending : List Fact) (left : Option Stream) → IfSome first (λ s. HasRead table s before pending left) → pending ≡ [] → left ≡ Some (ending None)
+pub end_given : (table : ℕ) (first : Option Stream) (before pending : List Fact) (left : Option Stream)
+    → IfSome first (λ s. HasRead table s before pending left) → pending ≡ [] → left ≡ Some (ending None)
     → IfSome first (λ s. GivesBlock table before s (Ok None) pending left)
 end_given table first before pending left reads none over =
-    weaker first (λ s. HasRead table s before pending left) (λ s. GivesBlock table before s (Ok None) pending left) (λ s h. record { rows = h.0; reads = h.1; answers = (sym h.2 ∙ none, none, over) }) reads
+    weaker first (λ s. HasRead table s before pending left) (λ s. GivesBlock table before s (Ok None) pending left)
+    (λ s h. record { rows = h.0; reads = h.1; answers = (sym h.2 ∙ none, none, over) }) reads
 
 pub fault_given : (table : ℕ) (first : Option Stream) (before pending : List Fact) (left : Option Stream) (e : TableFault) → IfSome first (λ s. HasRead table s before pending left) → pending ≡ []
     → left ≡ Some (ending (Some e)) → IfSome first (λ s. GivesBlock table before s (Err e) pending left)
 fault_given table first before pending left e reads none over =
-    weaker first (λ s. HasRead table s before pending left) (λ s. GivesBlock table before s (Err e) pending left) (λ s h. record { rows = h.0; reads = h.1; answers = (none, over, inl (sym h.2 ∙ none)) }) reads
+    weaker first (λ s. HasRead table s before pending left) (λ s. GivesBlock table before s (Err e) pending left)
+    (λ s h. record { rows = h.0; reads = h.1; answers = (none, over, inl (sym h.2 ∙ none)) }) reads
 
-pub memory_given : (table : ℕ) (first : Option Stream) (before pending after : List Fact) (left left' : Option Stream) (e : TableFault) → IfSome first (λ s. HasRead table s before pending left) → after ≡ []
+pub memory_given : (table : ℕ) (first : Option Stream) (before pending after : List Fact) (left left' : Option Stream) (e : TableFault)
+    → IfSome first (λ s. HasRead table s before pending left) → after ≡ []
     → e ≡ file_fault table kind.Memory → left' ≡ Some (ending (Some e)) → IfSome first (λ s. GivesBlock table before s (Err e) after left')
 memory_given table first before pending after left left' e reads none short over =
     weaker first (λ s. HasRead table s before pending left) (λ s. GivesBlock table before s (Err e) after left')

@@ -39,7 +39,8 @@ module _ (r : ReportValue) (t : ℕ) (h : Header) (n : ℕ) (w : Record) (c : �
   meaning_is i b = ap meaning_of (row.text_is r t h n w c i b)
 
   groups_from : (is : List ℕ) → All (λ i. i < length (columns_of r t)) is
-      → flat_map (λ i. option_to_list (group_named (column_of r t i) (meaning_at cell i))) is ≡ flat_map (λ (g : ℕ × Option ℕ). option_to_list (group_in r t w g)) (map (λ i. (i, source_of_column h i)) is)
+      → flat_map (λ i. option_to_list (group_named (column_of r t i) (meaning_at cell i))) is
+      ≡ flat_map (λ (g : ℕ × Option ℕ). option_to_list (group_in r t w g)) (map (λ i. (i, source_of_column h i)) is)
   groups_from [] b = refl
   groups_from (i ∷ is) b =
       ap (λ v. option_to_list (group_named (column_of r t i) v) ++ flat_map (λ j. option_to_list (group_named (column_of r t j) (meaning_at cell j))) is) (meaning_is i (b 0 i (omega arith)))
@@ -66,7 +67,8 @@ module _ (r : ReportValue) (t : ℕ) (h : Header) (n : ℕ) (w : Record) (c : �
   -- the first step of a cell that has a meaning
   pub first_is : All (λ i. i < length (columns_of r t)) (column_of r t c).from → is_unknown (fact_meaning cell) ≡ false → least (cell_and_group_faults cell) ≡ groups_wrong r t w (group_places r t h c)
   first_is b known =
-      ap (λ u. least (fault_if UnknownSpecial (u || list_any (λ i. is_unknown (meaning_at cell i)) (column_of r t c).from) ++ fault_if UnknownGroup (list_any (names_no_group cell) (column_of r t c).from))) known
+      let unknown : Bool = list_any (λ i. is_unknown (meaning_at cell i)) (column_of r t c).from in
+      ap (λ u. least (fault_if UnknownSpecial (u || unknown) ++ fault_if UnknownGroup (list_any (names_no_group cell) (column_of r t c).from))) known
       ∙ ap (λ u. least (fault_if UnknownSpecial u ++ fault_if UnknownGroup (list_any (names_no_group cell) (column_of r t c).from))) (any_unknown (column_of r t c).from b)
       ∙ ap (λ u. least (fault_if UnknownSpecial (list_any (is_unknown_in w) (group_places r t h c)) ++ fault_if UnknownGroup u)) (any_bad (column_of r t c).from b)
 
@@ -125,7 +127,8 @@ unfolding rest_text
 fact_text c p e =
     in_pieces (codes ",") (codes "\"") (codes ":{") (flat_map escaped_byte ((table_of c.report c.table).id ++ codes "." ++ c.row.id)) (flat_map escaped_byte (codes "." ++ (column c).id))
     (decimals_text (fact_decimals c (concept_kind c))) (codes "\"dimensions\":{") (cut p) (codes "},\"value\":") (value_text (text_in (fact_value c (concept_kind c)))) (codes "}")
-    ∙ ap (λ q. codes "," ++ (q ++ codes ":{" ++ decimals_text (fact_decimals c (concept_kind c)) ++ codes "\"dimensions\":{" ++ cut p ++ codes "},\"value\":" ++ value_text (text_in (fact_value c (concept_kind c))) ++ codes "}"))
+    ∙ ap (λ q. codes "," ++ (q ++ codes ":{" ++ decimals_text (fact_decimals c (concept_kind c)) ++ codes "\"dimensions\":{" ++ cut p
+    ++ codes "},\"value\":" ++ value_text (text_in (fact_value c (concept_kind c))) ++ codes "}"))
     (sym (id_text ((table_of c.report c.table).id ++ codes "." ++ c.row.id) (column c).id))
     ∙ ap (λ q. codes "," ++ q) (text_is c (cut p) (ap cut e ∙ cut_pieces (dimensions_of c)))
 
@@ -143,11 +146,13 @@ pub second_err : (c : Cell) (g : CellFault) → is_absent (fact_meaning c) ≡ f
 unfolding cell_result
 second_err c g e a b = rw (e, a, b) refl
 
-pub third_err : (c : Cell) (g : CellFault) → is_absent (fact_meaning c) ≡ false → least (cell_and_group_faults c) ≡ None → least (concept_faults c) ≡ None → least (rest_faults c (concept_kind c)) ≡ Some g → cell_result c ≡ Err g
+pub third_err : (c : Cell) (g : CellFault) → is_absent (fact_meaning c) ≡ false → least (cell_and_group_faults c) ≡ None → least (concept_faults c) ≡ None
+    → least (rest_faults c (concept_kind c)) ≡ Some g → cell_result c ≡ Err g
 unfolding cell_result
 third_err c g e a b d = rw (e, a, b, d) refl
 
-pub good : (c : Cell) → is_absent (fact_meaning c) ≡ false → least (cell_and_group_faults c) ≡ None → least (concept_faults c) ≡ None → least (rest_faults c (concept_kind c)) ≡ None → cell_result c ≡ Ok (Some (fact_of c))
+pub good : (c : Cell) → is_absent (fact_meaning c) ≡ false → least (cell_and_group_faults c) ≡ None → least (concept_faults c) ≡ None
+    → least (rest_faults c (concept_kind c)) ≡ None → cell_result c ≡ Ok (Some (fact_of c))
 unfolding cell_result
 good c e a b d = rw (e, a, b, d) refl
 

@@ -6,7 +6,7 @@ use Rattle.std.specs.Str.{is_utf8}
 use Rattle.std.proofs.lemmas.List.{take_at, drop_at, length-take-le, take-append-drop}
 use Rattle.std.proofs.lemmas.Str.{IsUtf8-from_is_utf8}
 use Rattle.csv.specs.Records.{AllText}
-use Rattle.oim_resolve.specs.declared.fact.Fact.{Fact}
+use Rattle.oim_resolve.specs.FactParts.{FactParts as Fact}
 use Rattle.oim_rows.specs.RowFacts.{is_not_text}
 use Rattle.oim_json.specs.Blocks.{behind_comma, behind_commas, ends_from}
 use Rattle.oim_json.proofs.Blocks.{texts_append, texts_cut, ends_append, ends_length, read_end}
@@ -55,11 +55,13 @@ moved n k (f ∷ fs) =
     let there : (k + n) + long ≡ k + (n + long) = omega arith in
     ap (λ e. e ∷ map (λ x. x - k) (ends_from ((k + n) + long) fs)) less ∙ ap (λ t. (n + long) ∷ t) (ap (λ m. map (λ x. x - k) (ends_from m fs)) there ∙ moved (n + long) k fs)
 
-pub rest_ends : (n at : ℕ) (fs : List Fact) (ends : List ℕ) → n ≤ length fs → ends ≡ ends_from 0 fs → at ≡ length (behind_commas (take n fs)) → map (λ e. e - at) (drop n ends) ≡ ends_from 0 (drop n fs)
+pub rest_ends : (n at : ℕ) (fs : List Fact) (ends : List ℕ) → n ≤ length fs → ends ≡ ends_from 0 fs → at ≡ length (behind_commas (take n fs))
+    → map (λ e. e - at) (drop n ends) ≡ ends_from 0 (drop n fs)
 rest_ends n at fs ends h is here =
     let none : at + 0 ≡ length (behind_commas (take n fs)) = omega arith in
     let back : drop n ends ≡ ends_from (at + 0) (drop n fs) =
-    ap (drop n) (is ∙ ends_split n fs) ∙ drop_at (ends_from 0 (take n fs)) (ends_from (length (behind_commas (take n fs))) (drop n fs)) n (ends_length 0 (take n fs) ∙ length-take-le n fs h) ∙ ap (λ k. ends_from k (drop n fs)) (sym none) in
+    ap (drop n) (is ∙ ends_split n fs) ∙ drop_at (ends_from 0 (take n fs)) (ends_from (length (behind_commas (take n fs))) (drop n fs)) n
+    (ends_length 0 (take n fs) ∙ length-take-le n fs h) ∙ ap (λ k. ends_from k (drop n fs)) (sym none) in
     ap (map (λ e. e - at)) back ∙ moved 0 at (drop n fs)
 
 -- where the first n facts end
@@ -72,7 +74,8 @@ pub drop_before : (n : ℕ) (fs : List Fact) → length (behind_commas (take n f
 drop_before n fs = omega (arith, ap length (texts_cut n fs), length-append (behind_commas (take n fs)) (behind_commas (drop n fs)))
 
 -- what is held of more facts
-pub held_more : (out out' ends ends' : List ℕ) (fs gs hs : List Fact) → out ≡ behind_commas fs → ends ≡ ends_from 0 fs → out' ≡ out ++ behind_commas gs → ends' ≡ ends ++ ends_from (length out) gs → hs ≡ fs ++ gs
+pub held_more : (out out' ends ends' : List ℕ) (fs gs hs : List Fact) → out ≡ behind_commas fs → ends ≡ ends_from 0 fs
+    → out' ≡ out ++ behind_commas gs → ends' ≡ ends ++ ends_from (length out) gs → hs ≡ fs ++ gs
     → (out' ≡ behind_commas hs) × (ends' ≡ ends_from 0 hs)
 held_more out out' ends ends' fs gs hs is marks more noted all =
     let here : length out ≡ 0 + length (behind_commas fs) = omega (arith, ap length is) in (

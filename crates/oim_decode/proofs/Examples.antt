@@ -1,6 +1,6 @@
 -- The definitions, executed on worked cases.
 use Rattle.std.proofs.Common.{◌≡◌, [], ◌∷◌, Some, None, refl, codes, inl, inr}
-use Rattle.oim_resolve.specs.declared.fact.Fact.{Fact}
+use Rattle.oim_resolve.specs.FactParts.{FactParts as Fact}
 use Rattle.oim_rows.specs.Header.{file_fault}
 use Rattle.oim_rows.specs.Streams.{ending}
 use Rattle.oim_rows.specs.declared.fault.TableKind.TheVariants as kind

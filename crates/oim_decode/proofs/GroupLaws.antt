@@ -23,13 +23,15 @@ groups_are r t row [] = refl
 groups_are r t row (g ∷ gs) = ap (λ x. option_to_list (group_in r t row g) ++ x) (groups_are r t row gs)
 
 -- one text more
-pub texts_more : (row : Record) (texts : List (List ℕ)) (groups : List (ℕ × Option ℕ)) (i : ℕ) (x : List ℕ) (d : ℕ × Option ℕ) → i < length texts → i < length groups → x ≡ get_or texts i x → x ≡ field_or_empty row (get_or groups i d).1
+pub texts_more : (row : Record) (texts : List (List ℕ)) (groups : List (ℕ × Option ℕ)) (i : ℕ) (x : List ℕ) (d : ℕ × Option ℕ) → i < length texts
+    → i < length groups → x ≡ get_or texts i x → x ≡ field_or_empty row (get_or groups i d).1
     → take i texts ≡ group_texts row (take i groups) → take (i + 1) texts ≡ group_texts row (take (i + 1) groups)
 texts_more row texts groups i x d h k is same before =
     take_more texts i x h ∙ ap (λ y. take i texts ++ y ∷ []) (sym is ∙ same) ∙ ap (λ t. t ++ field_or_empty row (get_or groups i d).1 ∷ []) before
     ∙ sym (map-append (λ (g : ℕ × Option ℕ). field_or_empty row g.1) (take i groups) (get_or groups i d ∷ [])) ∙ sym (ap (group_texts row) (take_more groups i d k))
 
-any_by : (P : ℕ × Option ℕ → List ℕ → Bool) (row row' : Record) (gs : List (ℕ × Option ℕ)) → group_texts row gs ≡ group_texts row' gs → list_any (λ g. P g (field_or_empty row g.1)) gs ≡ list_any (λ g. P g (field_or_empty row' g.1)) gs
+any_by : (P : ℕ × Option ℕ → List ℕ → Bool) (row row' : Record) (gs : List (ℕ × Option ℕ)) → group_texts row gs ≡ group_texts row' gs
+    → list_any (λ g. P g (field_or_empty row g.1)) gs ≡ list_any (λ g. P g (field_or_empty row' g.1)) gs
 any_by P row row' [] e = refl
 any_by P row row' (g ∷ gs) e =
     ap (λ t. P g t || list_any (λ h. P h (field_or_empty row h.1)) gs) (ap (λ (ts : List (List ℕ)). get_or ts 0 []) e)
@@ -42,6 +44,7 @@ same_groups r t row row' gs e =
     ∙ ap (λ b. least (fault_if UnknownSpecial (list_any (is_unknown_in row') gs) ++ fault_if UnknownGroup b)) (any_by (λ g text. names_none (column_of r t g.0) (meaning_of text)) row row' gs e)
 
 -- nothing is wrong with the cells of groups of a row that has a variant
-pub no_group_wrong : (r : ReportValue) (t : ℕ) (h : Header) (ss : List SlotView) (ds : List DecimalsView) (row : Record) (c : ℕ) (v : Variant) → IsVariant r t h ss ds v → IsOfRow r t h row c v → groups_wrong r t row (group_places r t h c) ≡ None
+pub no_group_wrong : (r : ReportValue) (t : ℕ) (h : Header) (ss : List SlotView) (ds : List DecimalsView) (row : Record) (c : ℕ) (v : Variant)
+    → IsVariant r t h ss ds v → IsOfRow r t h row c v → groups_wrong r t row (group_places r t h c) ≡ None
 no_group_wrong r t h ss ds row c v p o =
     ap (λ k. groups_wrong r t row (group_places r t h k)) (sym o.0) ∙ p.groups row (ap (λ k. group_texts row (group_places r t h k)) o.0 ∙ sym o.1)

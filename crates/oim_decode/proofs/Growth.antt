@@ -17,7 +17,8 @@ slice_get-append [] ys i x e = absurd (cc)
 slice_get-append (y ∷ xs) ys zero x e = e
 slice_get-append (y ∷ xs) ys (suc i) x e = slice_get-append xs ys i x e
 
-more_slot : {A : Type 0} (xs ys : List A) (o : Option ℕ) (w : Option A) → is_some o ≡ is_some w → option_and_then (slice_get xs) o ≡ w → option_and_then (slice_get (xs ++ ys)) o ≡ w
+more_slot : {A : Type 0} (xs ys : List A) (o : Option ℕ) (w : Option A) → is_some o ≡ is_some w
+    → option_and_then (slice_get xs) o ≡ w → option_and_then (slice_get (xs ++ ys)) o ≡ w
 more_slot xs ys None w p e = e
 more_slot xs ys (Some i) None p e = absurd (cc)
 more_slot xs ys (Some i) (Some x) p e = slice_get-append xs ys i x e
@@ -29,14 +30,19 @@ is_some-map f (Some x) = refl
 pub has_slot_more : (r : ReportValue) (t : ℕ) (h : Header) (ss more : List Wanted) (e : EntryView) → HasSlot r t h ss e → HasSlot r t h (ss ++ more) e
 has_slot_more r t h ss more e p = record {
   report = p.report;
+  settled = p.settled;
   is_there = p.is_there;
-  slot = more_slot ss more e.slot (option_map (λ s. record { report = r; role = role_of r e.name; side = side_of e.written; source = s }) (source_written r t h e.written))
-      (p.is_there ∙ sym (is_some-map (λ (s : Source). let w : Wanted = record { report = r; role = role_of r e.name; side = side_of e.written; source = s } in w) (source_written r t h e.written))) p.slot;
+  slot = more_slot ss more e.slot
+      (option_map (λ s. record { report = r; role = role_of r e.name; side = side_of e.written; source = s }) (source_written r t h e.written))
+      (p.is_there
+      ∙ sym (is_some-map (λ (s : Source). let w : Wanted = record { report = r; role = role_of r e.name; side = side_of e.written; source = s } in w)
+      (source_written r t h e.written))) p.slot;
 }
 
-pub decimals_more : (r : ReportValue) (t : ℕ) (h : Header) (ds more : List Source) (o : Option WrittenDecimals) (p : WrittenPlaces) → IsDecimals r t h ds o p → IsDecimals r t h (ds ++ more) o p
+pub decimals_more : (r : ReportValue) (t : ℕ) (h : Header) (ds more : List Source) (o : Option WrittenDecimals) (p : WrittenPlaces)
+    → IsDecimals r t h ds o p → IsDecimals r t h (ds ++ more) o p
 decimals_more r t h ds more o p d = record {
-  accuracy = d.accuracy;
+  settled = d.settled;
   is_there = d.is_there;
   slot = more_slot ds more p.slot (option_and_then (source_decimals r t h) o) d.is_there d.slot;
 }

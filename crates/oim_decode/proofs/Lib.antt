@@ -23,3 +23,4 @@ pub mod Refreshed
 pub mod StepLaws
 pub mod LoopLaws
 mod RowExamples
+mod RunExamples

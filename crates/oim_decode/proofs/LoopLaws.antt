@@ -1,6 +1,7 @@
 -- The facts of a row, cell by cell.
 use Rattle.oim_meta.specs.Readers.{columns_of}
-use Rattle.std.proofs.Common.{Bool, true, false, cond, ◌≡◌, ◌<◌, ◌≤◌, ℕ, ◌+◌, List, [], ◌∷◌, ◌++◌, length, map, take, drop, get_or, codes, Option, Some, None, Result, Ok, Err, refl, sym, ap, subst, ◌∙◌, arith, zero, suc, append_assoc, append-nil, length-append}
+use Rattle.std.proofs.Common.{Bool, true, false, cond, ◌≡◌, ◌<◌, ◌≤◌, ℕ, ◌+◌, List, [], ◌∷◌, ◌++◌, length, map, take, drop, get_or, codes, Option, Some, None, Result, Ok, Err}
+use Rattle.std.proofs.Common.{refl, sym, ap, subst, ◌∙◌, arith, zero, suc, append_assoc, append-nil, length-append}
 use Rattle.std.specs.List.{slice_get}
 use Rattle.std.specs.Option.{option_map, option_to_list}
 use Rattle.std.proofs.lemmas.List.{at_drop_more, at_drop_all, length-map, get_or-map, map-append, take_more}
@@ -9,7 +10,7 @@ use Rattle.oim_json.specs.JsonText.{member_text}
 use Rattle.oim_json.proofs.Blocks.{texts_append, texts_push, ends_push}
 use Rattle.oim_meta.specs.Grid.{Record}
 use Rattle.oim_meta.specs.ReportValue.{ReportValue}
-use Rattle.oim_resolve.specs.declared.fact.Fact.{Fact}
+use Rattle.oim_resolve.specs.FactParts.{FactParts as Fact}
 use Rattle.oim_resolve.specs.declared.fact.Row.{Row}
 use Rattle.oim_rows.specs.Header.{Header}
 use Rattle.oim_rows.specs.RowFacts.{facts_from, fact_at, in_front, is_fact_column}
@@ -35,60 +36,63 @@ text_step None = refl
 text_step (Some f) = append-nil (codes "," ++ member_text f)
 
 -- the end of a text that came is noted
-noted_more : (base : ℕ) (old now next noted ns ms : List ℕ) (fs : List Fact) (o : Option Fact) → now ≡ old ++ behind_commas fs → next ≡ now ++ fact_text o → ns ≡ noted ++ ends_from (base + length old) fs
-    → (length now < length next → ms ≡ ns ++ (base + length next) ∷ []) → (length next ≤ length now → ms ≡ ns) → ms ≡ noted ++ ends_from (base + length old) (fs ++ option_to_list o)
-noted_more base old now next noted ns ms fs None is grown marks more none =
-    none (omega (arith, ap length grown, length-append now [])) ∙ marks ∙ ap (λ (gs : List Fact). noted ++ ends_from (base + length old) gs) (sym (append-nil fs))
-noted_more base old now next noted ns ms fs (Some f) is grown marks more none =
+noted_more : (old now next noted ns ms : List ℕ) (fs : List Fact) (o : Option Fact) → now ≡ old ++ behind_commas fs → next ≡ now ++ fact_text o → ns ≡ noted ++ ends_from (length old) fs
+    → (length now < length next → ms ≡ ns ++ length next ∷ []) → (length next ≤ length now → ms ≡ ns) → ms ≡ noted ++ ends_from (length old) (fs ++ option_to_list o)
+noted_more old now next noted ns ms fs None is grown marks more none =
+    none (omega (arith, ap length grown, length-append now [])) ∙ marks ∙ ap (λ (gs : List Fact). noted ++ ends_from (length old) gs) (sym (append-nil fs))
+noted_more old now next noted ns ms fs (Some f) is grown marks more none =
     let text : next ≡ old ++ behind_commas (fs ++ f ∷ []) =
     grown ∙ ap (λ t. t ++ behind_comma f) is ∙ append_assoc old (behind_commas fs) (behind_comma f) ∙ ap (λ t. old ++ t) (sym (texts_push fs f)) in
-    let long : base + length next ≡ (base + length old) + length (behind_commas (fs ++ f ∷ [])) = omega (arith, ap length text, length-append old (behind_commas (fs ++ f ∷ []))) in
+    let long : length next ≡ length old + length (behind_commas (fs ++ f ∷ [])) = ap length text ∙ length-append old (behind_commas (fs ++ f ∷ [])) in
     let some : length (behind_comma f) ≡ suc (length (member_text f)) = refl in
     let came : length next ≡ length now + length (behind_comma f) = ap length grown ∙ length-append now (behind_comma f) in
-    more (omega arith) ∙ ap (λ t. t ++ (base + length next) ∷ []) marks ∙ append_assoc noted (ends_from (base + length old) fs) ((base + length next) ∷ [])
-    ∙ ap (λ k. noted ++ (ends_from (base + length old) fs ++ k ∷ [])) long ∙ ap (λ t. noted ++ t) (sym (ends_push (base + length old) fs f))
+    more (omega arith) ∙ ap (λ t. t ++ length next ∷ []) marks ∙ append_assoc noted (ends_from (length old) fs) (length next ∷ [])
+    ∙ ap (λ k. noted ++ (ends_from (length old) fs ++ k ∷ [])) long ∙ ap (λ t. noted ++ t) (sym (ends_push (length old) fs f))
 
 -- nothing is written and noted yet
-nothing_yet : (base : ℕ) (old noted : List ℕ) → (old ≡ old ++ behind_commas []) × (noted ≡ noted ++ ends_from (base + length old) [])
+nothing_yet : (old noted : List ℕ) → (old ≡ old ++ behind_commas []) × (noted ≡ noted ++ ends_from (length old) [])
 unfolding behind_commas ends_from
-nothing_yet base old noted = (sym (append-nil old), sym (append-nil noted))
+nothing_yet old noted = (sym (append-nil old), sym (append-nil noted))
 
 module _ (r : ReportValue) (t : ℕ) (h : Header) (n : ℕ) (w : Record) where
   abbrev here : Row
   here = row_under r t h n w
 
-  pub none_yet : (base : ℕ) (old noted : List ℕ) → HasFacts r t h n w 0 base old old noted noted
-  none_yet base old noted = record { facts = []; are = sym (after_none (facts_under r t h n w)); text = (nothing_yet base old noted).0; ends = (nothing_yet base old noted).1 }
+  pub none_yet : (old noted : List ℕ) → HasFacts r t h n w 0 old old noted noted
+  none_yet old noted = record { facts = []; are = sym (after_none (facts_under r t h n w)); text = (nothing_yet old noted).0; ends = (nothing_yet old noted).1 }
 
   from_here : (i : ℕ) → i < length h → facts_from r t here i (drop i h) ≡ in_front (fact_at r t here i (get_or h i None)) (facts_from r t here (i + 1) (drop (i + 1) h))
   from_here i b = at_drop_more (λ xs. facts_from r t here i xs) h i None b
 
-  pub one_more : (i base : ℕ) (old new next noted ns ms : List ℕ) → i < length h → HasFacts r t h n w i base old new noted ns → GivesStep (fact_at r t here i (get_or h i None)) new next
-      → (length new < length next → ms ≡ ns ++ (base + length next) ∷ []) → (length next ≤ length new → ms ≡ ns) → HasFacts r t h n w (i + 1) base old next noted ms
-  one_more i base old new next noted ns ms b p g more none = record {
+  pub one_more : (i : ℕ) (old new next noted ns ms : List ℕ) → i < length h → HasFacts r t h n w i old new noted ns → GivesStep (fact_at r t here i (get_or h i None)) new next
+      → (length new < length next → ms ≡ ns ++ length next ∷ []) → (length next ≤ length new → ms ≡ ns) → HasFacts r t h n w (i + 1) old next noted ms
+  one_more i old new next noted ns ms b p g more none = record {
     facts = p.facts ++ option_to_list g.fact;
-    are = p.are ∙ ap (after_these p.facts) (from_here i b ∙ ap (λ o. in_front o (facts_from r t here (i + 1) (drop (i + 1) h))) g.is) ∙ after_step p.facts g.fact (facts_from r t here (i + 1) (drop (i + 1) h));
+    are = p.are ∙ ap (after_these p.facts) (from_here i b ∙ ap (λ o. in_front o (facts_from r t here (i + 1) (drop (i + 1) h))) g.is)
+        ∙ after_step p.facts g.fact (facts_from r t here (i + 1) (drop (i + 1) h));
     text = g.text ∙ ap (λ q. q ++ fact_text g.fact) p.text ∙ append_assoc old (behind_commas p.facts) (fact_text g.fact)
         ∙ ap (λ q. old ++ q) (ap (λ q. behind_commas p.facts ++ q) (sym (text_step g.fact)) ∙ sym (texts_append p.facts (option_to_list g.fact)));
-    ends = noted_more base old new next noted ns ms p.facts g.fact p.text g.text p.ends more none;
+    ends = noted_more old new next noted ns ms p.facts g.fact p.text g.text p.ends more none;
   }
 
-  pub all_given : (i base : ℕ) (old new noted ns : List ℕ) → length h ≤ i → HasFacts r t h n w i base old new noted ns → GivesFacts r t h n w base old new noted ns
-  all_given i base old new noted ns b p = record {
+  pub all_given : (i : ℕ) (old new noted ns : List ℕ) → length h ≤ i → HasFacts r t h n w i old new noted ns → GivesFacts r t h n w old new noted ns
+  all_given i old new noted ns b p = record {
     facts = p.facts;
     are = p.are ∙ ap (after_these p.facts) (at_drop_all (λ xs. facts_from r t here i xs) h i b) ∙ ap (λ (q : List Fact). Ok q) (append-nil p.facts);
     text = p.text;
     ends = p.ends;
   }
 
-  pub stops_at : (i base : ℕ) (old new noted ns : List ℕ) (e : RowFault) → i < length h → HasFacts r t h n w i base old new noted ns → IsStepFault (fact_at r t here i (get_or h i None)) e → IsRowFault r t h n w e
-  stops_at i base old new noted ns row_fault.Memory b p g = tt
-  stops_at i base old new noted ns (row_fault.Cell e) b p g = p.are ∙ ap (after_these p.facts) (from_here i b ∙ ap (λ o. in_front o (facts_from r t here (i + 1) (drop (i + 1) h))) g)
+  pub stops_at : (i : ℕ) (old new noted ns : List ℕ) (e : RowFault) → i < length h → HasFacts r t h n w i old new noted ns
+      → IsStepFault (fact_at r t here i (get_or h i None)) e → IsRowFault r t h n w e
+  stops_at i old new noted ns row_fault.Memory b p g = tt
+  stops_at i old new noted ns (row_fault.Cell e) b p g = p.are ∙ ap (after_these p.facts) (from_here i b ∙ ap (λ o. in_front o (facts_from r t here (i + 1) (drop (i + 1) h))) g)
 
   pub as_long : (cs : List (Option FactColumn)) → AreFactColumns r t h cs → length cs ≡ length h
   as_long cs p = sym (length-map cs (option_map (λ (x : FactColumn). x.column))) ∙ ap length p.columns ∙ length-map h (fact_column r t)
 
-  pub column_at : (cs : List (Option FactColumn)) (i : ℕ) (x : Option FactColumn) → AreFactColumns r t h cs → i < length cs → x ≡ get_or cs i x → fact_column r t (get_or h i None) ≡ option_map (λ (y : FactColumn). y.column) x
+  pub column_at : (cs : List (Option FactColumn)) (i : ℕ) (x : Option FactColumn) → AreFactColumns r t h cs → i < length cs → x ≡ get_or cs i x
+      → fact_column r t (get_or h i None) ≡ option_map (λ (y : FactColumn). y.column) x
   column_at cs i x p b is =
       let k : i < length h = subst (λ m. i < m) (as_long cs p) b in
       sym (get_or-map (fact_column r t) h i None None k) ∙ sym (ap (λ ys. get_or ys i None) p.columns)
@@ -111,7 +115,8 @@ pushed P [] y p q (suc j) x e = absurd (cc)
 pushed P (z ∷ xs) y p q zero x e = p zero x e
 pushed P (z ∷ xs) y p q (suc j) x e = pushed P xs y (λ k w g. p (suc k) w g) q j x e
 
-pub one_column : {A B C : Type 0} (f : A → C) (g : B → C) (xs ys : List A) (y : A) (h : List B) (i : ℕ) (d x : B) → i < length h → x ≡ get_or h i d → ys ≡ xs ++ y ∷ [] → map f xs ≡ map g (take i h) → f y ≡ g x
+pub one_column : {A B C : Type 0} (f : A → C) (g : B → C) (xs ys : List A) (y : A) (h : List B) (i : ℕ) (d x : B) → i < length h → x ≡ get_or h i d
+    → ys ≡ xs ++ y ∷ [] → map f xs ≡ map g (take i h) → f y ≡ g x
     → map f ys ≡ map g (take (i + 1) h)
 one_column f g xs ys y h i d x b at is so same =
     let more : take (i + 1) h ≡ take i h ++ x ∷ [] = take_more h i d b ∙ ap (λ z. take i h ++ z ∷ []) (sym at) in

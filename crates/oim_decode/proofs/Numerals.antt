@@ -70,14 +70,16 @@ abbrev IsSign : List ℕ → ℕ → Type 0
 IsSign xs n = (k : ℕ) → without_leading_sign (take (n + k) xs) ≡ take k (drop n xs)
 
 -- behind a sign of length n, m digits; and the rest of the text as the code slices it
-pub digits_there : (kind : NumberKind) (xs : List ℕ) (n m : ℕ) → IsSign xs n → m ≤ length (take (length xs - n) (drop n xs)) → 0 < m → AllDigits 10 (take m (take (length xs - n) (drop n xs))) → IsNumeralOf kind (take (n + m) xs)
+pub digits_there : (kind : NumberKind) (xs : List ℕ) (n m : ℕ) → IsSign xs n → m ≤ length (take (length xs - n) (drop n xs)) → 0 < m
+    → AllDigits 10 (take m (take (length xs - n) (drop n xs))) → IsNumeralOf kind (take (n + m) xs)
 digits_there kind xs n m sign le some h =
     let within : m ≤ length (drop n xs) = subst (λ (l : List ℕ). m ≤ length l) (take_rest xs n) le in
     let is : length (take m (drop n xs)) ≡ m = length-take-le m (drop n xs) within in
     let there : 0 < length (take m (drop n xs)) = omega (arith, is) in
     is_numeral kind (take (n + m) xs) (take m (drop n xs)) (sign m) there (subst (λ (l : List ℕ). AllDigits 10 (take m l)) (take_rest xs n) h)
 
-pub pointed_digits_there : (kind : NumberKind) (xs : List ℕ) (n m : ℕ) → IsSign xs n → m ≤ length (take (length xs - n) (drop n xs)) → 1 < m → takes_point kind ≡ true → IsPointed (take m (take (length xs - n) (drop n xs)))
+pub pointed_digits_there : (kind : NumberKind) (xs : List ℕ) (n m : ℕ) → IsSign xs n → m ≤ length (take (length xs - n) (drop n xs)) → 1 < m
+    → takes_point kind ≡ true → IsPointed (take m (take (length xs - n) (drop n xs)))
     → IsNumeralOf kind (take (n + m) xs)
 pointed_digits_there kind xs n m sign le some takes h =
     let within : m ≤ length (drop n xs) = subst (λ (l : List ℕ). m ≤ length l) (take_rest xs n) le in
@@ -92,7 +94,8 @@ whole_split kind s b n same bare_ends long h =
     subst (λ t. IsSplit kind t s None) (sym bare_ends) (bare kind s numeral)
 
 -- a text that is a numeral, `d` and decimals
-pub suffix_split : (kind : NumberKind) (s b v rest suffix : List ℕ) (a : Accuracy) (n : ℕ) → b ≡ s → trimmed s ≡ s → IsNumeralOf kind (take n b) → v ≡ take n s → rest ≡ drop n s → rest ≡ 100 ∷ suffix → IsDecimals suffix a → IsSplit kind (trimmed s) v (Some a)
+pub suffix_split : (kind : NumberKind) (s b v rest suffix : List ℕ) (a : Accuracy) (n : ℕ) → b ≡ s → trimmed s ≡ s → IsNumeralOf kind (take n b) → v ≡ take n s
+    → rest ≡ drop n s → rest ≡ 100 ∷ suffix → IsDecimals suffix a → IsSplit kind (trimmed s) v (Some a)
 suffix_split kind s b v rest suffix a n same bare_ends h front back marked decimals =
     let numeral : IsNumeralOf kind v = subst (IsNumeralOf kind) (ap (take n) same ∙ sym front) h in
     let whole : (v ++ codes "d") ++ suffix ≡ s = append_assoc v (codes "d") suffix ∙ ap (λ t. v ++ t) (sym marked ∙ back) ∙ ap (λ t. t ++ drop n s) front ∙ take-append-drop n s in

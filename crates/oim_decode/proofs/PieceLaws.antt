@@ -135,7 +135,8 @@ module _ (c : Cell) (k : Kind) where
 -- THE REST
 
 -- the least fault of the third step, from its parts
-pub rest_is : (c : Cell) (k : Kind) (dimensions decimals number : Option CellFault) → dimensions ≡ written_fault c k (written_entries (levels c)) → decimals ≡ least (decimals_faults c k) → number ≡ least (faults_in (fact_value c k))
+pub rest_is : (c : Cell) (k : Kind) (dimensions decimals number : Option CellFault) → dimensions ≡ written_fault c k (written_entries (levels c))
+    → decimals ≡ least (decimals_faults c k) → number ≡ least (faults_in (fact_value c k))
     → least_of (least_of dimensions decimals) number ≡ least (rest_faults c k)
 unfolding rest_faults
 rest_is c k dimensions decimals number d e n =
@@ -154,7 +155,10 @@ dimensions_of c = flat_map (λ n. named_entry n (dimension_entry c (concept_kind
 
 -- a text is that of the fact, put together from its pieces
 pub text_is : (c : Cell) (j : List ℕ) → j ≡ joined (map dimension_text (dimensions_of c))
-    → quoted (id_of c) ++ codes ":{" ++ decimals_text (fact_decimals c (concept_kind c)) ++ codes "\"dimensions\":{" ++ j ++ codes "},\"value\":" ++ value_text (text_in (fact_value c (concept_kind c))) ++ codes "}"
+    → quoted (id_of c) ++ codes ":{" ++ decimals_text (fact_decimals c (concept_kind c)) ++ codes "\"dimensions\":{" ++ j
+    ++ codes "},\"value\":" ++ value_text (text_in (fact_value c (concept_kind c))) ++ codes "}"
     ≡ member_text (fact_of c)
 unfolding member_text fact_of
-text_is c j e = ap (λ t. quoted (id_of c) ++ codes ":{" ++ decimals_text (fact_decimals c (concept_kind c)) ++ codes "\"dimensions\":{" ++ t ++ codes "},\"value\":" ++ value_text (text_in (fact_value c (concept_kind c))) ++ codes "}") e
+text_is c j e =
+    ap (λ t. quoted (id_of c) ++ codes ":{" ++ decimals_text (fact_decimals c (concept_kind c)) ++ codes "\"dimensions\":{" ++ t
+    ++ codes "},\"value\":" ++ value_text (text_in (fact_value c (concept_kind c))) ++ codes "}") e

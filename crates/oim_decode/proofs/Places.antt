@@ -21,15 +21,18 @@ meaning_set : {K : Type 0} (f : K → Meaning) (ks : List K) (i : ℕ) (k : K) �
 meaning_set f ks i k lt = meaning_there f (set ks i k) i k (omega (arith, length-set ks i k)) (sym (get_or-set_same ks i k k lt))
 
 -- a view with the meaning of what was put at a place, where `turn` gives a view another meaning
-pub turned : {V K : Type 0} (turn : V → Meaning → V) (f : K → Meaning) (v w : V) (ks : List K) (i : ℕ) (k : K) (m : Meaning) → w ≡ v → i < length ks → f k ≡ m → turn w (meaning_at f (set ks i k) i) ≡ turn v m
+pub turned : {V K : Type 0} (turn : V → Meaning → V) (f : K → Meaning) (v w : V) (ks : List K) (i : ℕ) (k : K) (m : Meaning) → w ≡ v
+    → i < length ks → f k ≡ m → turn w (meaning_at f (set ks i k) i) ≡ turn v m
 turned turn f v w ks i k m e lt same = ap (λ x. turn x (meaning_at f (set ks i k) i)) e ∙ ap (turn v) (meaning_set f ks i k lt ∙ same)
 
-pub turned_ok : {V K E : Type 0} (r : Result (Unit {0}) E) (turn : V → Meaning → V) (text_of : K → List ℕ) (v w : V) (ks : List K) (i : ℕ) (k : K) (t : List ℕ) → w ≡ v → i < length ks → text_of k ≡ (if is_ok r then t else [])
+pub turned_ok : {V K E : Type 0} (r : Result (Unit {0}) E) (turn : V → Meaning → V) (text_of : K → List ℕ) (v w : V) (ks : List K) (i : ℕ) (k : K) (t : List ℕ)
+    → w ≡ v → i < length ks → text_of k ≡ (if is_ok r then t else [])
     → OnOk r (turn w (meaning_at (λ x. meaning_of (text_of x)) (set ks i k) i) ≡ turn v (meaning_of t))
 turned_ok (Ok x) turn text_of v w ks i k t e lt text = turned turn (λ y. meaning_of (text_of y)) v w ks i k (meaning_of t) e lt (ap meaning_of text)
 turned_ok (Err x) turn text_of v w ks i k t e lt text = tt
 
-pub turned_err : {V K E : Type 0} (r : Result (Unit {0}) E) (turn : V → Meaning → V) (text_of : K → List ℕ) (v w : V) (ks : List K) (i : ℕ) (k : K) (t : List ℕ) → w ≡ v → i < length ks → text_of k ≡ (if is_ok r then t else [])
+pub turned_err : {V K E : Type 0} (r : Result (Unit {0}) E) (turn : V → Meaning → V) (text_of : K → List ℕ) (v w : V) (ks : List K) (i : ℕ) (k : K) (t : List ℕ)
+    → w ≡ v → i < length ks → text_of k ≡ (if is_ok r then t else [])
     → OnErr r (turn w (meaning_at (λ x. meaning_of (text_of x)) (set ks i k) i) ≡ turn v Absent)
 turned_err (Ok x) turn text_of v w ks i k t e lt text = tt
 turned_err (Err x) turn text_of v w ks i k t e lt text = turned turn (λ y. meaning_of (text_of y)) v w ks i k Absent e lt (ap meaning_of text ∙ empty_meaning)

@@ -20,15 +20,15 @@ use Rattle.oim_meta.specs.declared.kind.Kind.{Kind}
 use Rattle.oim_resolve.specs.Cell.{Cell, text_at}
 use Rattle.oim_resolve.specs.Facts.{role_of, stated_by}
 use Rattle.oim_resolve.specs.Faults.{least_of}
-use Rattle.oim_resolve.specs.Values.{value, side_of, referred, not_empty, Stated, Fixed, Read}
+use Rattle.oim_resolve.specs.Values.{value, side_of, referred, not_empty, Stated, Read}
 use Rattle.oim_resolve.specs.declared.fact.CellFault.{CellFault}
 use Rattle.oim_rows.specs.Header.{Header}
 use Rattle.oim_rows.specs.RowFacts.{cell_at, field_or_empty, source_of_column}
 use Rattle.oim_decode.specs.ReadyTable.{IsFresh, IsFreshDecimals}
 use Rattle.oim_decode.specs.Pieces.{given_fault, given_piece, written_fault, written_pieces}
-use Rattle.oim_decode.specs.Ready.{EntryView, HasSlot, IsPlaced, IsSlotOf, IsDecimals, Wanted, WrittenPlaces, fixed_accuracy, literal_meaning, shown, shown_fault, shown_pieces, shown_stated, source_named, source_written, source_decimals, wanted_of, written_of}
+use Rattle.oim_decode.specs.Ready.{EntryView, HasSlot, IsPlaced, IsSlotOf, IsDecimals, Wanted, WrittenPlaces, place_named, settled_meaning, settled_stated, shown, shown_fault, shown_pieces, shown_stated, source_written, source_decimals, wanted_of, written_of}
 use Rattle.oim_decode.specs.Rows.{cell_under}
-use Rattle.oim_decode.specs.Slots.{SlotView, DecimalsView, Source, RowNumber, source_meaning}
+use Rattle.oim_decode.specs.Slots.{SlotView, DecimalsView, Source, RowNumber, Named, cell_or_parameter, source_meaning}
 
 -- LISTS
 
@@ -56,8 +56,8 @@ module _ (r : ReportValue) (t : ℕ) (h : Header) (n : ℕ) (row : Record) (c : 
   named_text name (Some i) e =
       ap not_empty (sym (text_is i (position-Some (λ (k : Column). bytes_eq k.id name) (columns_of r t) i Rattle.oim_meta.specs.Readers.no_column e).0))
 
-  -- what a reference names gives what the cell's row gives
-  pub named_is : (name : List ℕ) → source_meaning (source_named r t h name) n row ≡ referred cell name
+  -- the cell of a name, else its parameter, is what the cell's row gives
+  pub named_is : (name : List ℕ) → cell_or_parameter (field_or_empty row (place_named r t h name)) (parameter_of r t name) ≡ referred cell name
   named_is name =
       ap (λ o. option_map_or meaning_of (option_or o (parameter_of r t name)) m.Absent) (named_text name (position (λ (k : Column). bytes_eq k.id name) (columns_of r t)) refl)
 
@@ -68,11 +68,24 @@ module _ (r : ReportValue) (t : ℕ) (h : Header) (n : ℕ) (row : Record) (c : 
       ap (λ o. option_map_or (λ (x : SlotView). x.meaning) o m.Absent) x.1 ∙ (all_at (IsFresh r n row) ss i x.0 fresh x.1).meaning
       ∙ ap (λ q. source_meaning q n row) (ap (λ (y : Wanted). y.source) x.2 ∙ is)
 
+  abbrev slot_meaning : List SlotView → ℕ → Meaning
+  slot_meaning ss i = option_map_or (λ (x : SlotView). x.meaning) (slice_get ss i) m.Absent
+
+  -- a reference by its slot, where the header has its column, else its parameter
+  by_name : (ss : List SlotView) (q : Option (List ℕ)) (place o : Option ℕ) (role_side : Source → Wanted) → ((s : Source) → (role_side s).source ≡ s)
+      → All (IsFresh r n row) ss → is_some o ≡ is_some (option_map (λ j. Named j q) place)
+      → option_and_then (slice_get (map wanted_of ss)) o ≡ option_map role_side (option_map (λ j. Named j q) place)
+      → option_map_or (slot_meaning ss) o (option_map_or meaning_of q m.Absent) ≡ cell_or_parameter (field_or_empty row place) q
+  by_name ss q None None f g fresh p e = refl
+  by_name ss q None (Some i) f g fresh p e = absurd (cc)
+  by_name ss q (Some j) None f g fresh p e = absurd (cc)
+  by_name ss q (Some j) (Some i) f g fresh p e = by_slot ss i (Named j q) (f (Named j q)) (g (Named j q)) fresh e
+
   -- what is written, by its slot
   by_written : (ss : List SlotView) (w : Written) (o : Option ℕ) (role_side : Source → Wanted) → ((s : Source) → (role_side s).source ≡ s)
       → All (IsFresh r n row) ss → is_some o ≡ is_some (source_written r t h w)
       → option_and_then (slice_get (map wanted_of ss)) o ≡ option_map role_side (source_written r t h w)
-      → option_map_or (λ i. option_map_or (λ (s : SlotView). s.meaning) (slice_get ss i) m.Absent) o (literal_meaning w) ≡ value cell w
+      → option_map_or (slot_meaning ss) o (settled_meaning r t w) ≡ value cell w
   by_written ss w.Absent None f g fresh p e = refl
   by_written ss w.Nil None f g fresh p e = refl
   by_written ss w.Empty None f g fresh p e = refl
@@ -82,15 +95,16 @@ module _ (r : ReportValue) (t : ℕ) (h : Header) (n : ℕ) (row : Record) (c : 
   by_written ss w.Empty (Some i) f g fresh p e = absurd (cc)
   by_written ss (w.Text x) (Some i) f g fresh p e = absurd (cc)
   by_written ss (w.RowNumber s) None f g fresh p e = absurd (cc)
-  by_written ss (w.Named x s) None f g fresh p e = absurd (cc)
   by_written ss (w.RowNumber s) (Some i) f g fresh p e = by_slot ss i RowNumber (f RowNumber) (g RowNumber) fresh e
-  by_written ss (w.Named x s) (Some i) f g fresh p e = by_slot ss i (source_named r t h x) (f (source_named r t h x)) (g (source_named r t h x)) fresh e ∙ named_is x
+  by_written ss (w.Named x s) o f g fresh p e = by_name ss (parameter_of r t x) (place_named r t h x) o f g fresh p e ∙ named_is x
 
   pub shown_is : (ss : List SlotView) (e : EntryView) → All (IsFresh r n row) ss → HasSlot r t h (map wanted_of ss) e → shown ss e ≡ value cell e.written
   shown_is ss e fresh p =
-      by_written ss e.written e.slot (λ s. record { report = r; role = role_of r e.name; side = side_of e.written; source = s }) (λ s. refl) fresh p.is_there p.slot
+      ap (λ v. option_map_or (slot_meaning ss) e.slot v) p.settled
+      ∙ by_written ss e.written e.slot (λ s. record { report = r; role = role_of r e.name; side = side_of e.written; source = s }) (λ s. refl) fresh p.is_there p.slot
 
-  placed_by : (ss : List SlotView) (e : EntryView) (i : ℕ) (s : Source) → e.report ≡ r → slice_get (map wanted_of ss) i ≡ Some (record { report = r; role = role_of r e.name; side = side_of e.written; source = s })
+  placed_by : (ss : List SlotView) (e : EntryView) (i : ℕ) (s : Source) → e.report ≡ r
+      → slice_get (map wanted_of ss) i ≡ Some (record { report = r; role = role_of r e.name; side = side_of e.written; source = s })
       → IsSlotOf e (slice_get ss i)
   placed_by ss e i s same g =
       let x = found wanted_of ss i _ g in
@@ -118,10 +132,12 @@ module _ (r : ReportValue) (t : ℕ) (h : Header) (n : ℕ) (row : Record) (c : 
       (ap (λ q. given_fault q k e.name (side_of e.written) (shown ss e)) one.report ∙ ap (given_fault r k e.name (side_of e.written)) (shown_is ss e fresh one))
       ∙ faults_shown ss k es (least_of f (given_fault r k e.name (side_of e.written) (value cell e.written))) fresh (λ i d b. p (suc i) d (omega arith))
 
-  pub fault_shown : (ss : List SlotView) (k : Kind) (es : List EntryView) → All (IsFresh r n row) ss → All (HasSlot r t h (map wanted_of ss)) es → shown_fault ss k es ≡ written_fault cell k (map written_of es)
+  pub fault_shown : (ss : List SlotView) (k : Kind) (es : List EntryView) → All (IsFresh r n row) ss → All (HasSlot r t h (map wanted_of ss)) es
+      → shown_fault ss k es ≡ written_fault cell k (map written_of es)
   fault_shown ss k es fresh p = faults_shown ss k es None fresh p
 
-  pub pieces_shown : (ss : List SlotView) (k : Kind) (es : List EntryView) → All (IsFresh r n row) ss → All (HasSlot r t h (map wanted_of ss)) es → shown_pieces ss k es ≡ written_pieces cell k (map written_of es)
+  pub pieces_shown : (ss : List SlotView) (k : Kind) (es : List EntryView) → All (IsFresh r n row) ss → All (HasSlot r t h (map wanted_of ss)) es
+      → shown_pieces ss k es ≡ written_pieces cell k (map written_of es)
   pieces_shown ss k [] fresh p = refl
   pieces_shown ss k (e ∷ es) fresh p =
       let one : HasSlot r t h (map wanted_of ss) e = p 0 e (omega arith) in
@@ -137,12 +153,21 @@ module _ (r : ReportValue) (t : ℕ) (h : Header) (n : ℕ) (row : Record) (c : 
       let x = found (λ (d : DecimalsView). d.source) ds i s e in
       ap (λ o. option_map_or (λ (d : DecimalsView). d.meaning) o m.Absent) x.1 ∙ all_at (IsFreshDecimals n row) ds i x.0 fresh x.1 ∙ ap (λ q. source_meaning q n row) x.2
 
-  abbrev stated_slot : List DecimalsView → Option Rattle.oim_cells.specs.declared.cells.Accuracy.Accuracy → Option ℕ → Stated
-  stated_slot ds a o = option_map_or (λ i. Read (option_map_or (λ (d : DecimalsView). d.meaning) (slice_get ds i) m.Absent)) o (option_map_or Fixed a (Read m.Absent))
+  abbrev stated_slot : List DecimalsView → Stated → Option ℕ → Stated
+  stated_slot ds settled o = option_map_or (λ i. Read (option_map_or (λ (d : DecimalsView). d.meaning) (slice_get ds i) m.Absent)) o settled
+
+  decimals_by_name : (ds : List DecimalsView) (q : Option (List ℕ)) (place o : Option ℕ) → All (IsFreshDecimals n row) ds
+      → is_some o ≡ is_some (option_map (λ j. Named j q) place)
+      → option_and_then (slice_get (map (λ (d : DecimalsView). d.source) ds)) o ≡ option_map (λ j. Named j q) place
+      → stated_slot ds (Read (option_map_or meaning_of q m.Absent)) o ≡ Read (cell_or_parameter (field_or_empty row place) q)
+  decimals_by_name ds q None None fresh p e = refl
+  decimals_by_name ds q None (Some i) fresh p e = absurd (cc)
+  decimals_by_name ds q (Some j) None fresh p e = absurd (cc)
+  decimals_by_name ds q (Some j) (Some i) fresh p e = ap Read (decimals_slot ds i (Named j q) fresh e)
 
   by_decimals : (ds : List DecimalsView) (w : Option WrittenDecimals) (o : Option ℕ) → All (IsFreshDecimals n row) ds → is_some o ≡ is_some (option_and_then (source_decimals r t h) w)
       → option_and_then (slice_get (map (λ (d : DecimalsView). d.source) ds)) o ≡ option_and_then (source_decimals r t h) w
-      → stated_slot ds (option_and_then fixed_accuracy w) o ≡ stated_by cell w
+      → stated_slot ds (settled_stated r t w) o ≡ stated_by cell w
   by_decimals ds None None fresh p e = refl
   by_decimals ds None (Some i) fresh p e = absurd (cc)
   by_decimals ds (Some d.Absent) None fresh p e = refl
@@ -151,15 +176,17 @@ module _ (r : ReportValue) (t : ℕ) (h : Header) (n : ℕ) (row : Record) (c : 
   by_decimals ds (Some (d.Fixed a)) (Some i) fresh p e = absurd (cc)
   by_decimals ds (Some d.RowNumber) None fresh p e = absurd (cc)
   by_decimals ds (Some d.RowNumber) (Some i) fresh p e = ap Read (decimals_slot ds i RowNumber fresh e)
-  by_decimals ds (Some (d.Named x)) None fresh p e = absurd (cc)
-  by_decimals ds (Some (d.Named x)) (Some i) fresh p e = ap Read (decimals_slot ds i (source_named r t h x) fresh e ∙ named_is x)
+  by_decimals ds (Some (d.Named x)) o fresh p e = decimals_by_name ds (parameter_of r t x) (place_named r t h x) o fresh p e ∙ ap Read (named_is x)
 
-  pub stated_shown : (ds : List DecimalsView) (w : Option WrittenDecimals) (q : WrittenPlaces) → All (IsFreshDecimals n row) ds → IsDecimals r t h (map (λ (d : DecimalsView). d.source) ds) w q → shown_stated ds q ≡ stated_by cell w
-  stated_shown ds w q fresh p = ap (λ a. stated_slot ds a q.slot) p.accuracy ∙ by_decimals ds w q.slot fresh p.is_there p.slot
+  pub stated_shown : (ds : List DecimalsView) (w : Option WrittenDecimals) (q : WrittenPlaces) → All (IsFreshDecimals n row) ds
+      → IsDecimals r t h (map (λ (d : DecimalsView). d.source) ds) w q → shown_stated ds q ≡ stated_by cell w
+  stated_shown ds w q fresh p = ap (λ a. stated_slot ds a q.slot) p.settled ∙ by_decimals ds w q.slot fresh p.is_there p.slot
 
   slot_in : (ds : List DecimalsView) (i : ℕ) (o : Option Source) → true ≡ is_some o → slice_get (map (λ (d : DecimalsView). d.source) ds) i ≡ o → i < length ds
   slot_in ds i None p e = absurd (cc)
   slot_in ds i (Some s) p e = let x = found (λ (d : DecimalsView). d.source) ds i s e in slice_get_within ds i x.0 x.1
 
   pub decimals_in : (ds : List DecimalsView) (w : Option WrittenDecimals) (q : WrittenPlaces) (i : ℕ) → IsDecimals r t h (map (λ (d : DecimalsView). d.source) ds) w q → q.slot ≡ Some i → i < length ds
-  decimals_in ds w q i p at = slot_in ds i (option_and_then (source_decimals r t h) w) (sym (ap is_some at) ∙ p.is_there) (sym (ap (option_and_then (slice_get (map (λ (d : DecimalsView). d.source) ds))) at) ∙ p.slot)
+  decimals_in ds w q i p at =
+      slot_in ds i (option_and_then (source_decimals r t h) w) (sym (ap is_some at) ∙ p.is_there)
+      (sym (ap (option_and_then (slice_get (map (λ (d : DecimalsView). d.source) ds))) at) ∙ p.slot)

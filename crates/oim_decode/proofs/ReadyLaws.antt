@@ -15,7 +15,7 @@ use Rattle.oim_resolve.specs.Values.{side_of}
 use Rattle.oim_resolve.specs.declared.fact.CellFault.{CellFault}
 use Rattle.oim_resolve.specs.declared.role.Role.{Role}
 use Rattle.oim_decode.specs.Pieces.{piece}
-use Rattle.oim_decode.specs.Ready.{EntryView, IsPlaced, IsSlotOf, shown, behind_name, kind_or, kind_given, literal_meaning}
+use Rattle.oim_decode.specs.Ready.{EntryView, IsPlaced, IsSlotOf, shown, behind_name, kind_or, kind_given}
 use Rattle.oim_decode.specs.Slots.{SlotView, concept_given}
 
 -- a slot that is there
@@ -41,7 +41,7 @@ module _ (ss : List SlotView) (e : EntryView) (i : ℕ) (p : IsPlaced ss e) (at 
     pub meaning_is : x.meaning ≡ shown ss e
     meaning_is =
         ap (λ (s : SlotView). s.meaning) same
-        ∙ sym (ap (λ o. option_map_or (λ j. option_map_or (λ (s : SlotView). s.meaning) (slice_get ss j) m.Absent) o (literal_meaning e.written)) at
+        ∙ sym (ap (λ o. option_map_or (λ j. option_map_or (λ (s : SlotView). s.meaning) (slice_get ss j) m.Absent) o e.settled) at
         ∙ ap (λ o. option_map_or (λ (s : SlotView). s.meaning) o m.Absent) there.1)
 
     -- what depends on report, role, side and meaning
@@ -55,9 +55,9 @@ module _ (ss : List SlotView) (e : EntryView) (i : ℕ) (p : IsPlaced ss e) (at 
         ∙ ap (λ d. F e.report (role_of e.report e.name) d x.meaning) (ap (λ (s : SlotView). s.side) same ∙ there.4)
         ∙ ap (F e.report (role_of e.report e.name) (side_of e.written)) meaning_is
 
--- what depends on three values that are the same
-pub by_three : {A B C D : Type 0} (F : A → B → C → D) (a a' : A) (b b' : B) (c c' : C) → a ≡ a' → b ≡ b' → c ≡ c' → F a b c ≡ F a' b' c'
-by_three F a a' b b' c c' p q r = λ i. F (p i) (q i) (r i)
+-- what depends on two values that are the same
+pub by_two : {A B C : Type 0} (F : A → B → C) (a a' : A) (b b' : B) → a ≡ a' → b ≡ b' → F a b ≡ F a' b'
+by_two F a a' b b' p q = λ i. F (p i) (q i)
 
 -- a name and its value
 pub behind_name_is : (n : List ℕ) (o : Option (Option (List ℕ))) → behind_name (quoted n ++ codes ":") (option_map value_text o) ≡ piece n o

@@ -18,7 +18,7 @@ use Rattle.oim_resolve.specs.declared.fact.CellFault.{CellFault}
 use Rattle.oim_resolve.specs.declared.role.Role.{Role}
 use Rattle.oim_resolve.specs.declared.role.Role.TheVariants as role
 use Rattle.oim_decode.specs.Pieces.{given_fault, given_piece, piece}
-use Rattle.oim_decode.specs.Ready.{EntryView, IsPlaced, behind_name, kept_fault, kept_text, literal_meaning, shown, shown_fault, shown_pieces}
+use Rattle.oim_decode.specs.Ready.{EntryView, IsPlaced, behind_name, kept_text, settled_fault, settled_piece, shown, shown_fault, shown_pieces}
 use Rattle.oim_decode.specs.ReadyRuns.{AreRuns, behind_text, least_run_fault, run_fault, run_text, slot_fault, slot_piece}
 use Rattle.oim_decode.specs.Slots.{SlotView, piece_given}
 use Rattle.oim_decode.specs.declared.ready_runs.ReadyRuns.{ReadyRuns}
@@ -94,36 +94,35 @@ module _ (k : Kind) (es : List EntryView) (e : EntryView) where
       piece_open ss = sym (piece_if_kept k (role_of e.report e.name) (open_piece ss) kept)
 
       module _ (y : ReadyRuns) where
-        -- a literal
-        pub literal_added : e.slot ≡ None → y.runs.items ≡ x.runs.items → y.rest.items ≡ x.rest.items ++ kept_text e.report e.name e.written e.slot → y.fault ≡ least_of x.fault (kept_fault e.report e.name e.written e.slot)
-            → AreRuns k (es ++ e ∷ []) y
+        -- an entry without a slot
+        pub literal_added : e.slot ≡ None → y.runs.items ≡ x.runs.items → y.rest.items ≡ x.rest.items ++ kept_text e
+            → y.fault ≡ least_of x.fault (settled_fault e) → AreRuns k (es ++ e ∷ []) y
         literal_added none runs rest fault = record {
           fault = λ ss q.
               let F = least_run_fault ss x.runs.items in
-              ap (λ (zs : List Run). least_of (least_run_fault ss zs) y.fault) runs ∙ ap (least_of F) fault ∙ least_of-assoc F x.fault (kept_fault e.report e.name e.written e.slot)
-              ∙ ap (λ g. least_of g (kept_fault e.report e.name e.written e.slot)) (p.fault ss (front (IsPlaced ss) es e q)) ∙ ap (least_of (shown_fault ss k es)) (fault_is ss) ∙ sym (fault_more ss);
+              ap (λ (zs : List Run). least_of (least_run_fault ss zs) y.fault) runs ∙ ap (least_of F) fault ∙ least_of-assoc F x.fault (settled_fault e)
+              ∙ ap (λ g. least_of g (settled_fault e)) (p.fault ss (front (IsPlaced ss) es e q)) ∙ ap (least_of (shown_fault ss k es)) (fault_is ss) ∙ sym (fault_more ss);
           text = λ ss q.
               let T = flat_map (run_text ss) x.runs.items in
-              ap (λ (zs : List Run). flat_map (run_text ss) zs ++ y.rest.items) runs ∙ ap (λ t. T ++ t) rest ∙ sym (append_assoc T x.rest.items (kept_text e.report e.name e.written e.slot))
-              ∙ ap (λ t. t ++ kept_text e.report e.name e.written e.slot) (p.text ss (front (IsPlaced ss) es e q)) ∙ ap (λ t. shown_pieces ss k es ++ t) (piece_is ss) ∙ sym (pieces_more ss);
+              ap (λ (zs : List Run). flat_map (run_text ss) zs ++ y.rest.items) runs ∙ ap (λ t. T ++ t) rest ∙ sym (append_assoc T x.rest.items (kept_text e))
+              ∙ ap (λ t. t ++ kept_text e) (p.text ss (front (IsPlaced ss) es e q)) ∙ ap (λ t. shown_pieces ss k es ++ t) (piece_is ss) ∙ sym (pieces_more ss);
           slots = λ ss q. subst (All (λ (z : Run). z.slot < length ss)) (sym runs) (p.slots ss (front (IsPlaced ss) es e q));
         }
           where
-            shown_is : (ss : List SlotView) → shown ss e ≡ literal_meaning e.written
-            shown_is ss = ap (λ o. option_map_or (λ j. option_map_or (λ (s : SlotView). s.meaning) (slice_get ss j) m.Absent) o (literal_meaning e.written)) none
+            shown_is : (ss : List SlotView) → shown ss e ≡ e.settled
+            shown_is ss = ap (λ o. option_map_or (λ j. option_map_or (λ (s : SlotView). s.meaning) (slice_get ss j) m.Absent) o e.settled) none
 
-            fault_is : (ss : List SlotView) → kept_fault e.report e.name e.written e.slot ≡ fault_of ss
-            fault_is ss =
-                ap (kept_fault e.report e.name e.written) none
-                ∙ sym (ap (λ v. least (value_faults_of e.report (role_of e.report e.name) (side_of e.written) v)) (shown_is ss)) ∙ fault_open ss
+            fault_is : (ss : List SlotView) → settled_fault e ≡ fault_of ss
+            fault_is ss = sym (ap (λ v. least (value_faults_of e.report (role_of e.report e.name) (side_of e.written) v)) (shown_is ss)) ∙ fault_open ss
 
-            piece_is : (ss : List SlotView) → kept_text e.report e.name e.written e.slot ≡ piece_of ss
+            piece_is : (ss : List SlotView) → kept_text e ≡ piece_of ss
             piece_is ss =
-                ap (kept_text e.report e.name e.written) none
+                ap (λ o. option_map_or (λ i. quoted e.name ++ codes ":") o (settled_piece e)) none
                 ∙ sym (ap (λ v. piece e.name (entry_given e.report (role_of e.report e.name) (side_of e.written) v)) (shown_is ss)) ∙ piece_open ss
 
-        -- a reference
-        pub reference_added : (i : ℕ) (w : Run) → e.slot ≡ Some i → y.runs.items ≡ x.runs.items ++ w ∷ [] → w.alone.items ≡ x.rest.items → w.named.items ≡ x.rest.items ++ kept_text e.report e.name e.written e.slot
+        -- an entry with a slot
+        pub reference_added : (i : ℕ) (w : Run) → e.slot ≡ Some i → y.runs.items ≡ x.runs.items ++ w ∷ []
+            → w.alone.items ≡ x.rest.items → w.named.items ≡ x.rest.items ++ kept_text e
             → w.fault ≡ x.fault → w.slot ≡ i → y.rest.items ≡ [] → y.fault ≡ None → AreRuns k (es ++ e ∷ []) y
         reference_added i w at runs alone named fault slot rest none = record {
           fault = λ ss q.
@@ -138,7 +137,8 @@ module _ (k : Kind) (es : List EntryView) (e : EntryView) where
               let T = flat_map (run_text ss) x.runs.items in
               ap (λ (zs : List Run). flat_map (run_text ss) zs ++ y.rest.items) runs ∙ ap (λ t. flat_map (run_text ss) (x.runs.items ++ w ∷ []) ++ t) rest
               ∙ append-nil (flat_map (run_text ss) (x.runs.items ++ w ∷ []))
-              ∙ flat_map-append (run_text ss) x.runs.items (w ∷ []) ∙ ap (λ t. T ++ t) (append-nil (run_text ss w) ∙ text_is ss (last (IsPlaced ss) es e q)) ∙ sym (append_assoc T x.rest.items (piece_of ss))
+              ∙ flat_map-append (run_text ss) x.runs.items (w ∷ [])
+              ∙ ap (λ t. T ++ t) (append-nil (run_text ss w) ∙ text_is ss (last (IsPlaced ss) es e q)) ∙ sym (append_assoc T x.rest.items (piece_of ss))
               ∙ ap (λ t. t ++ piece_of ss) (p.text ss (front (IsPlaced ss) es e q)) ∙ sym (pieces_more ss);
           slots = λ ss q.
               let here : w.slot < length ss = subst (λ j. j < length ss) (sym slot) (in_range ss e i (last (IsPlaced ss) es e q) at) in
@@ -161,7 +161,7 @@ module _ (k : Kind) (es : List EntryView) (e : EntryView) where
                 let given : slot_piece (slice_get ss w.slot) ≡ piece_given e.report (role_of e.report e.name) (side_of e.written) (shown ss e) =
                 ap (λ j. slot_piece (slice_get ss j)) slot ∙ ap slot_piece s.1 ∙ parts_are ss e i q at s.0 s.2 piece_given in
                 ap (λ t. behind_text t w.named.items (slot_piece (slice_get ss w.slot))) alone
-                ∙ ap (λ t. behind_text x.rest.items t (slot_piece (slice_get ss w.slot))) (named ∙ ap (λ o. x.rest.items ++ kept_text e.report e.name e.written o) at)
+                ∙ ap (λ t. behind_text x.rest.items t (slot_piece (slice_get ss w.slot))) (named ∙ ap (λ o. x.rest.items ++ option_map_or (λ i. quoted e.name ++ codes ":") o (settled_piece e)) at)
                 ∙ ap (behind_text x.rest.items (x.rest.items ++ name)) given
                 ∙ behind_split x.rest.items name (piece_given e.report (role_of e.report e.name) (side_of e.written) (shown ss e))
                 ∙ ap (λ t. x.rest.items ++ t) (behind_name_is e.name (entry_given e.report (role_of e.report e.name) (side_of e.written) (shown ss e)) ∙ piece_open ss)
@@ -173,7 +173,8 @@ module _ (k j : Kind) (same : (o : Role) → is_dropped k o ≡ is_dropped j o) 
       ≡ fold (λ g (e : EntryView). least_of g (given_fault e.report j e.name (side_of e.written) (shown ss e))) f es
   faults_same f [] = refl
   faults_same f (e ∷ es) =
-      ap (λ b. fold (λ g (x : EntryView). least_of g (given_fault x.report k x.name (side_of x.written) (shown ss x))) (least_of f (cond b None (least (value_faults_of e.report (role_of e.report e.name) (side_of e.written) (shown ss e))))) es) (same (role_of e.report e.name))
+      let rest : Option CellFault → Option CellFault = λ d. fold (λ g (x : EntryView). least_of g (given_fault x.report k x.name (side_of x.written) (shown ss x))) (least_of f d) es in
+      ap (λ b. rest (cond b None (least (value_faults_of e.report (role_of e.report e.name) (side_of e.written) (shown ss e))))) (same (role_of e.report e.name))
       ∙ faults_same (least_of f (given_fault e.report j e.name (side_of e.written) (shown ss e))) es
 
   pieces_same : (es : List EntryView) → shown_pieces ss k es ≡ shown_pieces ss j es
@@ -201,7 +202,8 @@ of_number n = as_kind (kind.Number Integer) (kind.Number n) same
     same role.Explicit = refl
     same role.Typed = refl
 
-same_other : (j : Kind) → is_dropped kind.Other role.Unit ≡ is_dropped j role.Unit → is_dropped kind.Other role.Language ≡ is_dropped j role.Language → (o : Role) → is_dropped kind.Other o ≡ is_dropped j o
+same_other : (j : Kind) → is_dropped kind.Other role.Unit ≡ is_dropped j role.Unit → is_dropped kind.Other role.Language ≡ is_dropped j role.Language
+    → (o : Role) → is_dropped kind.Other o ≡ is_dropped j o
 same_other j u l role.Unit = u
 same_other j u l role.Language = l
 same_other j u l role.Concept = refl

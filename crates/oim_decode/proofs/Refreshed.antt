@@ -7,7 +7,8 @@ set_map f [] i x y b is e = refl
 set_map f (z ∷ xs) zero x y b is e = ap (λ q. q ∷ map f xs) (e ∙ ap f is)
 set_map f (z ∷ xs) (suc i) x y b is e = ap (λ q. f z ∷ q) (set_map f xs i x y (omega arith) is e)
 
-pub set_below : {A : Type 0} (P : A → Type 0) (xs : List A) (i : ℕ) (y : A) → i < length xs → ((k : ℕ) (d : A) → k < i → P (get_or xs k d)) → P y → (k : ℕ) (d : A) → k < suc i → P (get_or (set xs i y) k d)
+pub set_below : {A : Type 0} (P : A → Type 0) (xs : List A) (i : ℕ) (y : A) → i < length xs → ((k : ℕ) (d : A) → k < i → P (get_or xs k d))
+    → P y → (k : ℕ) (d : A) → k < suc i → P (get_or (set xs i y) k d)
 set_below P [] i y b p q k d h = absurd (omega arith)
 set_below P (z ∷ xs) zero y b p q zero d h = q
 set_below P (z ∷ xs) zero y b p q (suc k) d h = absurd (omega arith)

@@ -2,7 +2,7 @@
 use Rattle.std.proofs.Common.{◌≡◌, ℕ, List, Option, Some, None, true, false, Result, Ok, Err, IfSome, option_map, ◌+◌, ◌++◌, refl, ap, sym, ◌∙◌, inl, inr}
 use Rattle.oim_meta.specs.Grid.{Field, Record}
 use Rattle.oim_meta.specs.Taking.{TakesRecord}
-use Rattle.oim_resolve.specs.declared.fact.Fact.{Fact}
+use Rattle.oim_resolve.specs.FactParts.{FactParts as Fact}
 use Rattle.oim_rows.specs.RowFacts.{Reading, checked, facts_from, id_place_of, ids_after, row_fault, row_of, row_result}
 use Rattle.oim_rows.specs.Streams.{OrNoMemory, Stream, IsOutside, stream_from}
 use Rattle.oim_rows.proofs.StreamLaws.{gives_end, gives_fault, gives_row}

@@ -28,14 +28,16 @@ abbrev pub IsSpelled : List ℕ → List ℕ → List ℕ → ℕ → ℕ → Ty
 IsSpelled start out xs from i = out ++ take (i - from) (drop from xs) ≡ start ++ flat_map escaped_byte (take i xs)
 
 -- a byte that stands for itself is one more of the run
-pub spelled_run : (start out xs : List ℕ) (from i d : ℕ) → from ≤ i → i < length xs → escaped_byte (get_or xs i d) ≡ get_or xs i d ∷ [] → IsSpelled start out xs from i → IsSpelled start out xs from (i + 1)
+pub spelled_run : (start out xs : List ℕ) (from i d : ℕ) → from ≤ i → i < length xs → escaped_byte (get_or xs i d) ≡ get_or xs i d ∷ []
+    → IsSpelled start out xs from i → IsSpelled start out xs from (i + 1)
 spelled_run start out xs from i d le lt same h =
     ap (λ t. out ++ t) (run_more xs from i d le lt) ∙ sym (append_assoc out (take (i - from) (drop from xs)) (get_or xs i d ∷ []))
     ∙ ap (λ t. t ++ get_or xs i d ∷ []) h ∙ append_assoc start (flat_map escaped_byte (take i xs)) (get_or xs i d ∷ [])
     ∙ ap (λ t. start ++ (flat_map escaped_byte (take i xs) ++ t)) (sym same) ∙ ap (λ t. start ++ t) (sym (escaped_more xs i d lt))
 
 -- another byte ends the run, and its escape follows
-pub spelled_escape : (start out xs : List ℕ) (from i d : ℕ) → i < length xs → IsSpelled start out xs from i → (out ++ take (i - from) (drop from xs)) ++ escaped_byte (get_or xs i d) ≡ start ++ flat_map escaped_byte (take (i + 1) xs)
+pub spelled_escape : (start out xs : List ℕ) (from i d : ℕ) → i < length xs → IsSpelled start out xs from i
+    → (out ++ take (i - from) (drop from xs)) ++ escaped_byte (get_or xs i d) ≡ start ++ flat_map escaped_byte (take (i + 1) xs)
 spelled_escape start out xs from i d lt h =
     ap (λ t. t ++ escaped_byte (get_or xs i d)) h ∙ append_assoc start (flat_map escaped_byte (take i xs)) (escaped_byte (get_or xs i d))
     ∙ ap (λ t. start ++ t) (sym (escaped_more xs i d lt))

@@ -24,7 +24,7 @@ use Rattle.oim_decode.specs.Slots.{Source, RowNumber, Named, source_meaning, pie
 
 -- a reference to the second place of the header, whose name is a parameter too
 abbrev source : Source
-source = Named (Some 1) (Some (codes "eg:A1"))
+source = Named 1 (Some (codes "eg:A1"))
 
 abbrev row : List ℕ → Record
 row cell = codes "r1" ∷ cell ∷ []
@@ -41,11 +41,11 @@ none_is_no_empty_cell : source_meaning source 1 (row (codes "#none")) ≡ Absent
 unfolding meaning_of field_at
 none_is_no_empty_cell = refl
 
-parameter_without_a_column : source_meaning (Named None (Some (codes "##x"))) 1 (row []) ≡ Text (codes "#x")
+parameter_of_a_hash : source_meaning (Named 1 (Some (codes "##x"))) 1 (row []) ≡ Text (codes "#x")
 unfolding meaning_of field_at
-parameter_without_a_column = refl
+parameter_of_a_hash = refl
 
-nothing_named : source_meaning (Named (Some 1) None) 1 (row []) ≡ Absent
+nothing_named : source_meaning (Named 1 None) 1 (row []) ≡ Absent
 unfolding field_at
 nothing_named = refl
 
@@ -56,7 +56,11 @@ abbrev names : Bindings
 names = (codes "eg", codes "http://example.com/eg") ∷ (codes "xbrli", codes "http://www.xbrl.org/2003/instance") ∷ []
 
 abbrev types : List (List ℕ × List (List ℕ × Kind))
-types = (codes "http://example.com/eg", (codes "Branch", kind.Typed) ∷ (codes "Cash", kind.Number number.Integer) ∷ (codes "Due", kind.Date) ∷ (codes "Open", kind.Boolean) ∷ (codes "Rule", kind.Name) ∷ []) ∷ []
+types = (
+  codes "http://example.com/eg",
+  (codes "Branch", kind.Typed) ∷ (codes "Cash", kind.Number number.Integer) ∷ (codes "Due", kind.Date)
+      ∷ (codes "Open", kind.Boolean) ∷ (codes "Rule", kind.Name) ∷ [],
+) ∷ []
 
 abbrev report : ReportValue
 report = record {

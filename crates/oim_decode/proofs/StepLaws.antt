@@ -4,7 +4,7 @@ use Rattle.oim_meta.specs.Readers.{columns_of}
 use Rattle.oim_meta.specs.ReportValue.{ReportValue}
 use Rattle.oim_resolve.specs.Cell.{cell_of}
 use Rattle.oim_resolve.specs.Facts.{cell_result}
-use Rattle.oim_resolve.specs.declared.fact.Fact.{Fact}
+use Rattle.oim_resolve.specs.FactParts.{FactParts as Fact}
 use Rattle.oim_resolve.specs.declared.fact.Row.{Row}
 use Rattle.oim_rows.specs.RowFacts.{at_place, fact_at, is_fact_column}
 use Rattle.oim_rows.specs.declared.fault.TableFault.{TableFault}
@@ -15,7 +15,8 @@ by_kind true k c a z g e = ap g (cc)
 by_kind false k c a z g e = absurd (cc)
 
 -- a header cell whose column holds facts gives what the cell gives
-pub fact_under : (r : ReportValue) (t : ℕ) (row : Row) (p : ℕ) (o : Option ℕ) (c : ℕ) → fact_column r t o ≡ Some c → fact_at r t row p o ≡ at_place t row.number (p + 1) (cell_result (cell_of r t row c))
+pub fact_under : (r : ReportValue) (t : ℕ) (row : Row) (p : ℕ) (o : Option ℕ) (c : ℕ) → fact_column r t o ≡ Some c
+    → fact_at r t row p o ≡ at_place t row.number (p + 1) (cell_result (cell_of r t row c))
 fact_under r t row p None c e = absurd (cc)
 fact_under r t row p (Some k) c e =
     by_kind (is_fact_column (columns_of r t) k) k c (Ok None) (Ok None) (λ q. at_place t row.number (p + 1) (cell_result (cell_of r t row q))) e

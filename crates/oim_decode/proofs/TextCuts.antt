@@ -1,6 +1,8 @@
 -- Cutting the last comma.
-use Rattle.std.proofs.Common.{◌≡◌, ◌<◌, ◌≤◌, ℕ, ◌+◌, ◌-◌, Bool, true, false, List, [], ◌∷◌, ◌++◌, length, take, map, codes, Option, refl, sym, ap, ◌∙◌, append_assoc, append-nil, length-append, arith, cond, nat_lt}
+use Rattle.std.proofs.Common.{◌≡◌, ◌<◌, ◌≤◌, ℕ, ◌+◌, ◌-◌, Bool, true, false, List, [], ◌∷◌, ◌++◌, length, take, map, codes, Option}
+use Rattle.std.proofs.Common.{refl, sym, ap, ◌∙◌, append_assoc, append-nil, length-append, arith, cond, nat_lt}
 use Rattle.std.proofs.lemmas.Bool.Decides.{nat_tests}
+use mathlib.Core.List.{IsPrefix}
 use Rattle.oim_json.specs.JsonText.{dimension_text, joined}
 use Rattle.oim_decode.specs.Pieces.{pieces}
 use Rattle.oim_decode.specs.Rest.{cut, cut_behind}
@@ -25,6 +27,11 @@ cut_comma a (x ∷ p) =
     let len : length (a ++ x ∷ p) - 1 ≡ length a + (length (x ∷ p) - 1) = omega (arith, length-append a (x ∷ p)) in
     ap (λ b. cond b (cut (a ++ x ∷ p)) (a ++ x ∷ p)) more ∙ ap (λ m. take m (a ++ x ∷ p)) len ∙ take-behind a (x ∷ p) (length (x ∷ p) - 1)
 
+-- and the first items stay
+pub cut_stays : (n : ℕ) (xs ys zs : List ℕ) → n ≡ length xs → IsPrefix xs ys → zs ≡ cut_behind n ys → IsPrefix xs zs
+cut_stays n xs ys zs here front is =
+    (cut front.0, sym (is ∙ ap (λ m. cut_behind m ys) here ∙ ap (cut_behind (length xs)) (sym front.1) ∙ cut_comma xs front.0))
+
 cut-last : (j : List ℕ) (x : ℕ) → cut (j ++ x ∷ []) ≡ j
 cut-last j x =
     let len : length (j ++ x ∷ []) - 1 ≡ length j + 0 = omega (arith, length-append j (x ∷ [])) in
@@ -36,11 +43,8 @@ cut_pieces [] = refl
 cut_pieces (d ∷ ds) = ap cut (pieces_joined d ds) ∙ cut-last (joined (map dimension_text (d ∷ ds))) 44
 
 -- the object of dimensions, put in place
-pub dimensions_put : (old a b p x y z w : List ℕ) (n : ℕ) → x ≡ old ++ a → n ≡ length x → y ≡ x ++ p → z ≡ cut_behind n y → w ≡ z ++ b → w ≡ old ++ ((a ++ cut p) ++ b)
-dimensions_put old a b p x y z w n ex en ey ez ew =
-    ew
-    ∙ ap (λ t. t ++ b) (ez ∙ ap (λ m. cut_behind m y) en ∙ ap (cut_behind (length x)) ey ∙ cut_comma x p ∙ ap (λ t. t ++ cut p) ex ∙ append_assoc old a (cut p))
-    ∙ append_assoc old (a ++ cut p) b
+pub dimensions_put : (old a j b x z w : List ℕ) → x ≡ old ++ a → z ≡ x ++ j → w ≡ z ++ b → w ≡ old ++ ((a ++ j) ++ b)
+dimensions_put old a j b x z w ex ez ew = ew ∙ ap (λ t. t ++ b) (ez ∙ ap (λ t. t ++ j) ex ∙ append_assoc old a j) ∙ append_assoc old (a ++ j) b
 
 -- what follows the identifier, put together
 pub rest_put : (old a A j B v z x y u w : List ℕ) → x ≡ old ++ a → y ≡ x ++ ((A ++ j) ++ B) → u ≡ y ++ v → w ≡ u ++ z → w ≡ old ++ (((((a ++ A) ++ j) ++ B) ++ v) ++ z)

@@ -1,5 +1,5 @@
 -- What the texts mean that a reference has where no cell and no parameter is given, and where it is the number of the row.
-use Rattle.std.proofs.Common.{◌≡◌, ℕ, ◌<◌, ◌^◌, ◌==◌, List, [], ◌∷◌, length, true, Option, None, sym, subst, ◌∙◌, arith, refl}
+use Rattle.std.proofs.Common.{◌≡◌, ℕ, ◌<◌, ◌^◌, ◌==◌, List, [], ◌∷◌, length, true, None, Some, sym, subst, ◌∙◌, arith, refl}
 use Rattle.std.specs.Prelude.{decimal}
 use Rattle.std.specs.Char.{digit_value}
 use Rattle.std.specs.Str.Parse.{IsNumeral}
@@ -23,6 +23,6 @@ digits_meaning (c ∷ cs) h =
 pub number_meaning : (n : ℕ) → n < 2 ^ 64 → meaning_of (decimal n) ≡ Text (decimal n)
 number_meaning n h = digits_meaning (decimal n) (decimal_is_IsNumeral n h).0
 
-pub nothing_named : (place : Option ℕ) (n : ℕ) (r : Record) (cell : List ℕ) → cell ≡ field_or_empty r place → (length cell == 0) ≡ true → meaning_of [] ≡ source_meaning (Named place None) n r
+pub nothing_named : (place n : ℕ) (r : Record) (cell : List ℕ) → cell ≡ field_or_empty r (Some place) → (length cell == 0) ≡ true → meaning_of [] ≡ source_meaning (Named place None) n r
 nothing_named place n r cell is none =
-    let empty : field_or_empty r place ≡ [] = sym is ∙ nil_from_length cell (eqb-true (length cell) 0 none) in empty_meaning ∙ rw (empty) refl
+    let empty : field_or_empty r (Some place) ≡ [] = sym is ∙ nil_from_length cell (eqb-true (length cell) 0 none) in empty_meaning ∙ rw (empty) refl

@@ -28,7 +28,8 @@ module _ (r : ReportValue) (t : ℕ) (h : Header) (xs ys : List SlotView) (g : G
   variants_grow vs p k d b = variant_grows (get_or vs k d) (p k d b)
 
 -- a variant stays one where its slots are refreshed
-pub still_variant : (r : ReportValue) (t : ℕ) (h : Header) (ss ss' : List SlotView) (ds ds' : List DecimalsView) (v : Variant) → map wanted_of ss' ≡ map wanted_of ss → map (λ (d : DecimalsView). d.source) ds' ≡ map (λ (d : DecimalsView). d.source) ds
+pub still_variant : (r : ReportValue) (t : ℕ) (h : Header) (ss ss' : List SlotView) (ds ds' : List DecimalsView) (v : Variant) → map wanted_of ss' ≡ map wanted_of ss
+    → map (λ (d : DecimalsView). d.source) ds' ≡ map (λ (d : DecimalsView). d.source) ds
     → IsVariant r t h ss ds v → IsVariant r t h ss' ds' v
 still_variant r t h ss ss' ds ds' v e d p = record {
   entries = p.entries;

@@ -1,5 +1,5 @@
 -- What a cell gives the text of a row. (xBRL-CSV 1.0, from cells to facts; xBRL-JSON 1.0, the facts object)
-use Rattle.std.specs.Prelude.{⊤, map, drop, ◌+◌, if◌then◌else◌, ◌≡◌, ◌<◌, ◌⊎◌, ℕ, List, [], ◌++◌, Option, Some, None, Result, Ok, Err, codes, length}
+use Rattle.std.specs.Prelude.{⊤, map, drop, if◌then◌else◌, ◌≡◌, ◌<◌, ◌⊎◌, ℕ, List, [], ◌++◌, Option, Some, None, Result, Ok, Err, codes, length}
 use Rattle.std.specs.Option.{option_map, option_and_then}
 use Rattle.std.specs.List.{slice_get, All, list_any, flat_map}
 use Rattle.oim_json.specs.Blocks.{behind_commas, ends_from}
@@ -15,7 +15,7 @@ use Rattle.oim_resolve.specs.declared.fact.CellFault.TheVariants.{UnknownSpecial
 use Rattle.oim_rows.specs.Header.{Header}
 use Rattle.oim_rows.specs.RowFacts.{source_of_column, facts_from, is_fact_column}
 use Rattle.oim_rows.specs.declared.fault.TableFault.{TableFault}
-use Rattle.oim_resolve.specs.declared.fact.Fact.{Fact}
+use Rattle.oim_resolve.specs.FactParts.{FactParts as Fact}
 use Rattle.oim_decode.specs.declared.row_fault.RowFault.{RowFault}
 use Rattle.oim_decode.specs.declared.row_fault.RowFault.TheVariants as row_fault
 use Rattle.oim_decode.specs.declared.column.FactColumn.{FactColumn}
@@ -73,19 +73,19 @@ abbrev pub after_these : List Fact → Result (List Fact) TableFault → Result 
 after_these fs (Ok more) = Ok (fs ++ more)
 after_these fs (Err e) = Err e
 
--- the text so far is that of the facts of the cells before place i, and where each fact's text ends is noted, `base` bytes further on
-pub record HasFacts (r : ReportValue) (t : ℕ) (h : Header) (n : ℕ) (row : Record) (i base : ℕ) (old new noted notes : List ℕ) : Type 0 where
+-- the text so far is that of the facts of the cells before place i, and where each fact's text ends is noted
+pub record HasFacts (r : ReportValue) (t : ℕ) (h : Header) (n : ℕ) (row : Record) (i : ℕ) (old new noted notes : List ℕ) : Type 0 where
   pub facts : List Fact
   pub are : facts_under r t h n row ≡ after_these facts (facts_from r t (row_under r t h n row) i (drop i h))
   pub text : new ≡ old ++ behind_commas facts
-  pub ends : notes ≡ noted ++ ends_from (base + length old) facts
+  pub ends : notes ≡ noted ++ ends_from (length old) facts
 
--- a row's facts were appended, each behind a comma, and where each ends was noted, `base` bytes further on
-pub record GivesFacts (r : ReportValue) (t : ℕ) (h : Header) (n : ℕ) (row : Record) (base : ℕ) (old new noted notes : List ℕ) : Type 0 where
+-- a row's facts were appended, each behind a comma, and where each ends was noted
+pub record GivesFacts (r : ReportValue) (t : ℕ) (h : Header) (n : ℕ) (row : Record) (old new noted notes : List ℕ) : Type 0 where
   pub facts : List Fact
   pub are : facts_under r t h n row ≡ Ok facts
   pub text : new ≡ old ++ behind_commas facts
-  pub ends : notes ≡ noted ++ ends_from (base + length old) facts
+  pub ends : notes ≡ noted ++ ends_from (length old) facts
 
 -- the fault of the first cell of a row that has one, but for memory
 abbrev pub IsRowFault : ReportValue → ℕ → Header → ℕ → Record → RowFault → Type 0

@@ -14,3 +14,4 @@ pub mod ReadyTable
 pub mod Variants
 pub mod Facts
 pub mod Writers
+pub mod Pages

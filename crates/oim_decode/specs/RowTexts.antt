@@ -2,7 +2,7 @@
 use Rattle.std.specs.Prelude.{⊤, ◌≡◌, ◌⊎◌, List, [], ◌++◌, ℕ, Result, Ok, Err}
 use Rattle.oim_meta.specs.Grid.{Record}
 use Rattle.oim_meta.specs.ReportValue.{ReportValue}
-use Rattle.oim_resolve.specs.declared.fact.Fact.{Fact}
+use Rattle.oim_resolve.specs.FactParts.{FactParts as Fact}
 use Rattle.oim_rows.specs.Header.{Header, file_fault}
 use Rattle.oim_rows.specs.RowFacts.{Reading, facts_from, row_of}
 use Rattle.oim_rows.specs.declared.fault.TableFault.{TableFault}

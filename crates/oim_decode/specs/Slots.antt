@@ -1,6 +1,6 @@
 -- What a reference of a table's properties gives in a row, and what the text that it gives says of a fact.
 -- (xBRL-CSV 1.0, column and parameter references, special values; xBRL-JSON 1.0, the dimensions and decimals of a fact)
-use Rattle.std.specs.Prelude.{ℕ, List, Option, Result, Ok, Err, decimal}
+use Rattle.std.specs.Prelude.{ℕ, List, Option, Some, Result, Ok, Err, decimal}
 use Rattle.std.specs.Option.{option_map, option_or, option_and_then, option_map_or}
 use Rattle.oim_cells.specs.Cells.{Meaning, meaning_of}
 use Rattle.oim_cells.specs.Cells as m
@@ -16,16 +16,20 @@ use Rattle.oim_resolve.specs.Values.{not_empty, Read}
 use Rattle.oim_rows.specs.RowFacts.{field_or_empty}
 use Rattle.oim_json.specs.JsonText.{value_text, decimals_text}
 
--- what a reference names, for the rows of one header: the number of the row, or the place in the header of the column of a name,
--- and the parameter of that name, where there are such
+-- what a reference names whose meaning each row gives: the number of the row, or the place in the header of the column of a name,
+-- and the parameter of that name, where there is one
 pub data Source : Type 0 where
   RowNumber : Source
-  Named : Option ℕ → Option (List ℕ) → Source
+  Named : ℕ → Option (List ℕ) → Source
 
--- the meaning of what a reference names in row n: its cell, where that is not empty, else the parameter
+-- the meaning of a cell, where that is not empty, else of a parameter
+abbrev pub cell_or_parameter : List ℕ → Option (List ℕ) → Meaning
+cell_or_parameter cell parameter = option_map_or meaning_of (option_or (not_empty cell) parameter) m.Absent
+
+-- the meaning of what a reference names in row n
 abbrev pub source_meaning : Source → ℕ → Record → Meaning
 source_meaning RowNumber n r = m.Text (decimal n)
-source_meaning (Named place parameter) n r = option_map_or meaning_of (option_or (not_empty (field_or_empty r place)) parameter) m.Absent
+source_meaning (Named place parameter) n r = cell_or_parameter (field_or_empty r (Some place)) parameter
 
 -- what a value gives a fact in a role, as JSON: nothing, null or a text in quotes
 abbrev pub piece_given : ReportValue → Role → Side → Meaning → Option (List ℕ)

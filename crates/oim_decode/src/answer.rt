@@ -15,6 +15,7 @@ ghost use Rattle.oim_decode.specs.Answers.{piece_in};
 ghost use Rattle.oim_decode.specs.Slots.{piece_given, concept_given};
 
 use crate::append::{put, put_quoted};
+use crate::page::Page;
 use oim_cells::CellMeaning;
 use oim_meta::{Kind, Report, Side};
 use oim_names::{UnitKind, language, qname, sqname, unit};
@@ -42,7 +43,7 @@ pub(crate) fn nothing(fault: Option<CellFault>) -> Answer
 }
 
 /// Appends a text in quotes, perhaps with a fault.
-fn written(fault: Option<CellFault>, text: &str, out: &mut Vec<u8>) -> Result<Answer, AllocError>
+fn written(fault: Option<CellFault>, text: &str, out: &mut Page) -> Result<Answer, AllocError>
     ensures answer { IfOk result (λ a. a ≡ record { fault = fault; is_written = true }) }
     ensures text { OnOk result (out.new.items ≡ out.old.items ++ quoted text.now) }
 {
@@ -92,7 +93,7 @@ fn period_answer(
     report: &Report,
     side: Side,
     text: &str,
-    out: &mut Vec<u8>,
+    out: &mut Page,
 ) -> Result<Answer, AllocError>
     requires { out.old.items ≡ [] }
     ensures fault { IfOk result (λ a. a.fault ≡ least (value_faults_of report.now role.Period side (a_text text.now))) }
@@ -113,7 +114,7 @@ fn unit_answer(
     report: &Report,
     side: Side,
     text: &str,
-    out: &mut Vec<u8>,
+    out: &mut Page,
 ) -> Result<Answer, AllocError>
     requires { out.old.items ≡ [] }
     ensures fault { IfOk result (λ a. a.fault ≡ least (value_faults_of report.now role.Unit side (a_text text.now))) }
@@ -133,7 +134,7 @@ fn language_answer(
     report: &Report,
     side: Side,
     text: &str,
-    out: &mut Vec<u8>,
+    out: &mut Page,
 ) -> Result<Answer, AllocError>
     requires { out.old.items ≡ [] }
     ensures fault { IfOk result (λ a. a.fault ≡ least (value_faults_of report.now role.Language side (a_text text.now))) }
@@ -153,7 +154,7 @@ fn text_answer(
     role: Role,
     side: Side,
     text: &str,
-    out: &mut Vec<u8>,
+    out: &mut Page,
 ) -> Result<Answer, AllocError>
     requires { out.old.items ≡ [] }
     ensures fault { IfOk result (λ a. a.fault ≡ least (value_faults_of report.now role side (a_text text.now))) }
@@ -187,7 +188,7 @@ pub(crate) fn answer_of(
     role: Role,
     side: Side,
     value: CellMeaning<'_>,
-    out: &mut Vec<u8>,
+    out: &mut Page,
 ) -> Result<Answer, AllocError>
     requires { out.old.items ≡ [] }
     ensures fault { IfOk result (λ a. a.fault ≡ least (value_faults_of report.now role side (seen_meaning value.entry))) }

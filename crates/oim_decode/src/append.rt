@@ -6,14 +6,15 @@ ghost use Rattle.std.specs.List.{flat_map, list_all};
 ghost use mathlib.Core.List.{IsPrefix};
 ghost use Rattle.oim_json.specs.JsonText.{escaped_byte, is_unescaped, quoted};
 
+use crate::page::Page;
 use std::alloc::AllocError;
 
 /// Appends bytes. Fails where memory is short, and then appends nothing.
 #[inline(always)]
-pub(crate) fn put(out: &mut Vec<u8>, bytes: &[u8]) -> Result<(), AllocError>
+pub(crate) fn put(out: &mut Page, bytes: &[u8]) -> Result<(), AllocError>
     ensures { out.new.items ≡ (if is_ok result then out.old.items ++ bytes.now else out.old.items) }
 {
-    out.extend_from_slice(bytes)
+    out.put(bytes)
 }
 
 /// Whether a byte stands for itself in a JSON text.
@@ -34,7 +35,7 @@ fn needs_no_escape(text: &str) -> bool
 
 /// Appends a text, escaped. Fails where memory is short; what was there stays at the front.
 #[inline]
-pub(crate) fn put_escaped(out: &mut Vec<u8>, text: &str) -> Result<(), AllocError>
+pub(crate) fn put_escaped(out: &mut Page, text: &str) -> Result<(), AllocError>
     ensures escaped { OnOk result (out.new.items ≡ out.old.items ++ flat_map escaped_byte text.now) }
     ensures stays { IsPrefix out.old.items out.new.items }
 {
@@ -48,7 +49,7 @@ pub(crate) fn put_escaped(out: &mut Vec<u8>, text: &str) -> Result<(), AllocErro
 /// Appends a text in quotes of which each byte stands for itself. Fails where memory is short; what
 /// was there stays at the front.
 #[inline]
-pub(crate) fn put_plain(out: &mut Vec<u8>, text: &str) -> Result<(), AllocError>
+pub(crate) fn put_plain(out: &mut Page, text: &str) -> Result<(), AllocError>
     requires { list_all is_unescaped text.now ≡ true }
     ensures quoted { OnOk result (out.new.items ≡ out.old.items ++ quoted text.now) }
     ensures stays { IsPrefix out.old.items out.new.items }
@@ -63,7 +64,7 @@ pub(crate) fn put_plain(out: &mut Vec<u8>, text: &str) -> Result<(), AllocError>
 /// front.
 #[inline]
 #[tactic(auto, using(std::proofs::Common::append_assoc), unfolding(oim_json::specs::JsonText::quoted))]
-pub(crate) fn put_quoted(out: &mut Vec<u8>, text: &str) -> Result<(), AllocError>
+pub(crate) fn put_quoted(out: &mut Page, text: &str) -> Result<(), AllocError>
     ensures quoted { OnOk result (out.new.items ≡ out.old.items ++ quoted text.now) }
     ensures stays { IsPrefix out.old.items out.new.items }
 {
@@ -75,7 +76,7 @@ pub(crate) fn put_quoted(out: &mut Vec<u8>, text: &str) -> Result<(), AllocError
 
 /// Appends a text, escaped: runs of bytes that stand for themselves, with escapes between.
 #[inline(never)]
-fn put_runs(out: &mut Vec<u8>, bytes: &[u8]) -> Result<(), AllocError>
+fn put_runs(out: &mut Page, bytes: &[u8]) -> Result<(), AllocError>
     ensures escaped { OnOk result (out.new.items ≡ out.old.items ++ flat_map escaped_byte bytes.now) }
     ensures stays { IsPrefix out.old.items out.new.items }
 {
@@ -90,7 +91,7 @@ fn put_runs(out: &mut Vec<u8>, bytes: &[u8]) -> Result<(), AllocError>
 }
 
 /// Appends a run and the escape of the byte behind it.
-fn put_run(out: &mut Vec<u8>, run: &[u8], byte: u8) -> Result<(), AllocError>
+fn put_run(out: &mut Page, run: &[u8], byte: u8) -> Result<(), AllocError>
     requires { is_unescaped byte ≡ false }
     ensures escaped { OnOk result (out.new.items ≡ (out.old.items ++ run.now) ++ escaped_byte byte) }
     ensures stays { IsPrefix out.old.items out.new.items }
@@ -109,7 +110,7 @@ fn hex_digit(n: u8) -> u8
 
 /// Appends the escape of a byte that does not stand for itself.
 #[tactic(auto, unfolding(oim_json::specs::JsonText::escaped_byte))]
-fn put_escape(out: &mut Vec<u8>, byte: u8) -> Result<(), AllocError>
+fn put_escape(out: &mut Page, byte: u8) -> Result<(), AllocError>
     requires { is_unescaped byte ≡ false }
     ensures escaped { OnOk result (out.new.items ≡ out.old.items ++ escaped_byte byte) }
     ensures stays { IsPrefix out.old.items out.new.items }
@@ -127,7 +128,7 @@ fn put_escape(out: &mut Vec<u8>, byte: u8) -> Result<(), AllocError>
 }
 
 /// Appends the escape of a control character by its code.
-fn put_code(out: &mut Vec<u8>, byte: u8) -> Result<(), AllocError>
+fn put_code(out: &mut Page, byte: u8) -> Result<(), AllocError>
     requires { byte < 32 }
     ensures { out.new.items ≡ (if is_ok result then out.old.items ++ (92 ∷ 117 ∷ 48 ∷ 48 ∷ digit_char (byte / 16) ∷ digit_char (byte % 16) ∷ []) else out.old.items) }
 {

@@ -5,6 +5,7 @@ ghost use Rattle.csv.specs.Records.{fields_of};
 ghost use Rattle.oim_rows.specs.RowFacts.{IsTextRecord, id_place_of, row_id_text};
 ghost use Rattle.oim_decode.specs.RowTexts.{IsAnswer, facts_in, reading_up_to, row_facts};
 
+use crate::page::Page;
 use crate::remember::{first, none, rest, then};
 use crate::row_fault::RowFault;
 use crate::row_writer::RowWriter;
@@ -20,7 +21,7 @@ use told::{Tells, Told};
 /// The texts of facts, each behind a comma. A contract sees the list of facts, which no code holds.
 #[derive(Drop)]
 pub(crate) struct Batch {
-    bytes: Vec<u8>,
+    bytes: Page,
     // where each text ends
     ends: Vec<usize>,
     facts: Told<Items<Fact>>,
@@ -28,7 +29,7 @@ pub(crate) struct Batch {
 
 impl Model for Batch {
     ghost use Rattle.std.specs.Prelude.{◌≡◌, List};
-    ghost use Rattle.oim_resolve.specs.declared.fact.Fact.{Fact as FactValue};
+    ghost use Rattle.oim_resolve.specs.FactParts.{FactParts as FactValue};
     ghost use Rattle.oim_json.specs.Blocks.{behind_commas, ends_from};
 
     ghost Value = { List FactValue };
@@ -56,7 +57,7 @@ impl Batch {
         ensures { result ≡ [] }
     {
         Batch {
-            bytes: Vec::new(alloc),
+            bytes: Page::new(alloc),
             ends: Vec::new(alloc),
             facts: none(),
         }
@@ -139,10 +140,9 @@ impl Batch {
         ensures { IfOk result (λ b. b ≡ drop count self.now) }
     {
         let start = self.ends[count - 1];
-        let mut bytes = room;
-        bytes.clear();
+        let mut bytes = Page::of(room);
         bytes.reserve(self.bytes.len())?;
-        bytes.extend_from_slice(after(self.bytes.as_slice(), start))?;
+        bytes.put(after(self.bytes.as_slice(), start))?;
         Ok(Batch {
             bytes,
             ends: counted_from(alloc, behind(self.ends.as_slice(), count), start)?,
@@ -164,7 +164,7 @@ impl Batch {
         } = self;
         bytes.truncate(ends[count - 1]);
         ends.truncate(count);
-        Block::from_parts(bytes, ends, first(&facts, count))
+        Block::from_parts(bytes.into_vec(), ends, first(&facts, count))
     }
 }
 

@@ -2,6 +2,7 @@
 
 ghost use Rattle.std.specs.Prelude.{◌≡◌, ◌<◌, ◌⊎◌, ℕ, List, Some, None, true, false, codes, length, IfErr, IfOk, OnOk};
 ghost use Rattle.std.specs.List.{All, list_any};
+ghost use mathlib.Core.List.{IsPrefix};
 ghost use Rattle.csv.specs.Records.{fields_of};
 ghost use Rattle.oim_cells.specs.Cells.{seen_meaning};
 ghost use Rattle.oim_meta.specs.Readers.{column_of, columns_of};
@@ -21,6 +22,7 @@ use crate::append::put;
 use crate::choose::{find_variant, make_variant};
 use crate::column::FactColumn;
 use crate::decimals_slot::DecimalsSlot;
+use crate::page::Page;
 use crate::ready_table::ReadyTable;
 use crate::row_at::RowAt;
 use crate::slot::Slot;
@@ -103,7 +105,7 @@ fn put_fact<'a>(
     decimals: &[DecimalsSlot<'a>],
     start: &[u8],
     tail: &[u8],
-    out: &mut Vec<u8>,
+    out: &mut Page,
 ) -> Result<(), CellFault>
     requires variant { IsVariant (at.now).report.now (at.now).table (at.now).header.now slots.now decimals.now variant.now }
     requires row { IsOfRow (at.now).report.now (at.now).table (at.now).header.now (fields_of (at.now).record.now) column variant.now }
@@ -113,7 +115,8 @@ fn put_fact<'a>(
     requires value { seen_meaning value ≡ fact_meaning (cell_under (at.now).report.now (at.now).table (at.now).header.now (at.now).number (fields_of (at.now).record.now) column) }
     requires start { start.now ≡ start_text (cell_under (at.now).report.now (at.now).table (at.now).header.now (at.now).number (fields_of (at.now).record.now) column) }
     requires tail { tail.now ≡ tail_text (at.now).report.now (at.now).table column }
-    ensures { GivesFact (cell_under (at.now).report.now (at.now).table (at.now).header.now (at.now).number (fields_of (at.now).record.now) column) out.old.items out.new.items result }
+    ensures fact { GivesFact (cell_under (at.now).report.now (at.now).table (at.now).header.now (at.now).number (fields_of (at.now).record.now) column) out.old.items out.new.items result }
+    ensures front { IsPrefix out.old.items out.new.items }
 {
     let kind = match concept_in(variant, column, at, slots, decimals) {
         Ok(kind) => kind,
@@ -193,7 +196,7 @@ pub(crate) fn put_cell<'a>(
     start: &[u8],
     guess: usize,
     kept: &mut ReadyTable<'a>,
-    out: &mut Vec<u8>,
+    out: &mut Page,
 ) -> Result<Option<usize>, CellFault>
     requires report { report.now ≡ (at.now).report.now }
     requires column { IsFactColumn (at.now).report.now (at.now).table (at.now).header.now column.now }
@@ -201,6 +204,7 @@ pub(crate) fn put_cell<'a>(
     requires kept { IsKept (at.now).report.now (at.now).table (at.now).header.now (at.now).number (fields_of (at.now).record.now) kept.old }
     ensures cell { GivesCell (cell_under (at.now).report.now (at.now).table (at.now).header.now (at.now).number (fields_of (at.now).record.now) (column.now).column) out.old.items out.new.items result }
     ensures kept { OnOk result (IsKept (at.now).report.now (at.now).table (at.now).header.now (at.now).number (fields_of (at.now).record.now) kept.new) }
+    ensures front { IsPrefix out.old.items out.new.items }
 {
     let value = value_in(at, column);
     if is_absent(value) {

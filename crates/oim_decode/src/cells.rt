@@ -11,6 +11,7 @@ ghost use Rattle.oim_decode.specs.Variants.{IsKept};
 
 use crate::cell::put_cell;
 use crate::column::FactColumn;
+use crate::page::Page;
 use crate::ready_table::ReadyTable;
 use crate::row_at::RowAt;
 use crate::row_fault::RowFault;
@@ -65,7 +66,7 @@ fn put_step<'a>(
     start: &[u8],
     last: &mut [usize],
     kept: &mut ReadyTable<'a>,
-    out: &mut Vec<u8>,
+    out: &mut Page,
 ) -> Result<(), RowFault>
     requires report { report.now ≡ (at.now).report.now }
     requires column { IsFactColumn (at.now).report.now (at.now).table (at.now).header.now column.now }
@@ -76,6 +77,7 @@ fn put_step<'a>(
     ensures fault { (o : Option ℕ) → fact_column (at.now).report.now (at.now).table o ≡ Some (column.now).column
         → IfErr result (IsStepFault (fact_at (at.now).report.now (at.now).table (row_under (at.now).report.now (at.now).table (at.now).header.now (at.now).number (fields_of (at.now).record.now)) place o)) }
     ensures kept { OnOk result (IsKept (at.now).report.now (at.now).table (at.now).header.now (at.now).number (fields_of (at.now).record.now) kept.new) }
+    ensures front { IsPrefix out.old.items out.new.items }
 {
     let guess = guess_at(last, place);
     match put_cell(alloc, report, at, column, start, guess, kept, out) {
@@ -101,7 +103,7 @@ fn put_at<'a>(
     start: &[u8],
     last: &mut [usize],
     kept: &mut ReadyTable<'a>,
-    out: &mut Vec<u8>,
+    out: &mut Page,
 ) -> Result<(), RowFault>
     requires report { report.now ≡ (at.now).report.now }
     requires columns { AreFactColumns (at.now).report.now (at.now).table (at.now).header.now columns.now }
@@ -113,6 +115,7 @@ fn put_at<'a>(
     ensures fault { IfErr result (IsStepFault (fact_at (at.now).report.now (at.now).table (row_under (at.now).report.now (at.now).table (at.now).header.now (at.now).number (fields_of (at.now).record.now)) place
         (slice_index_or (at.now).header.now place None))) }
     ensures kept { OnOk result (IsKept (at.now).report.now (at.now).table (at.now).header.now (at.now).number (fields_of (at.now).record.now) kept.new) }
+    ensures front { IsPrefix out.old.items out.new.items }
 {
     match &columns[place] {
         Some(column) => put_step(alloc, report, at, place, column, start, last, kept, out),
@@ -120,24 +123,21 @@ fn put_at<'a>(
     }
 }
 
-/// Notes where a text ends that came behind the first `before` bytes, `base` bytes further on; nothing
-/// where none came.
+/// Notes where a text ends that came behind the first `before` bytes; nothing where none came.
 #[inline(always)]
-fn note_end(before: usize, base: usize, out: &[u8], ends: &mut Vec<usize>) -> Result<(), AllocError>
-    requires { base ≤ 9223372036854775807 }
-    ensures more { OnOk result (before < length out.now → ends.new.items ≡ ends.old.items ++ (base + length out.now) ∷ []) }
-    ensures none { OnOk result (length out.now ≤ before → ends.new.items ≡ ends.old.items) }
+fn note_end(before: usize, end: usize, ends: &mut Vec<usize>) -> Result<(), AllocError>
+    ensures more { OnOk result (before < end → ends.new.items ≡ ends.old.items ++ end ∷ []) }
+    ensures none { OnOk result (end ≤ before → ends.new.items ≡ ends.old.items) }
     ensures stays { IsPrefix ends.old.items ends.new.items }
 {
-    if before < out.len() {
-        ends.push(base + out.len())?;
+    if before < end {
+        ends.push(end)?;
     }
     Ok(())
 }
 
-/// Appends the facts of a row in header order, each behind a comma, and notes where each of them ends,
-/// `base` bytes further on; or answers the fault of its first cell that has one. After a fault a
-/// beginning of the text is left.
+/// Appends the facts of a row in header order, each behind a comma, and notes where each of them ends;
+/// or answers the fault of its first cell that has one. After a fault a beginning of the text is left.
 pub(crate) fn put_cells<'a>(
     alloc: Global,
     report: &'a Report,
@@ -146,17 +146,15 @@ pub(crate) fn put_cells<'a>(
     start: &[u8],
     last: &mut [usize],
     kept: &mut ReadyTable<'a>,
-    out: &mut Vec<u8>,
-    base: usize,
+    out: &mut Page,
     ends: &mut Vec<usize>,
 ) -> Result<(), RowFault>
     requires report { report.now ≡ (at.now).report.now }
     requires columns { AreFactColumns (at.now).report.now (at.now).table (at.now).header.now columns.now }
-    requires base { base ≤ 9223372036854775807 }
     requires start { start.now ≡ start_text (cell_under (at.now).report.now (at.now).table (at.now).header.now (at.now).number (fields_of (at.now).record.now) 0) }
     requires kept { IsKept (at.now).report.now (at.now).table (at.now).header.now (at.now).number (fields_of (at.now).record.now) kept.old }
-    ensures facts { IfOk result (λ _. GivesFacts (at.now).report.now (at.now).table (at.now).header.now (at.now).number (fields_of (at.now).record.now) base out.old.items out.new.items ends.old.items ends.new.items) }
-    ensures front { IsPrefix ends.old.items ends.new.items }
+    ensures facts { IfOk result (λ _. GivesFacts (at.now).report.now (at.now).table (at.now).header.now (at.now).number (fields_of (at.now).record.now) out.old.items out.new.items ends.old.items ends.new.items) }
+    ensures front { IsPrefix out.old.items out.new.items × IsPrefix ends.old.items ends.new.items }
     ensures fault { IfErr result (IsRowFault (at.now).report.now (at.now).table (at.now).header.now (at.now).number (fields_of (at.now).record.now)) }
     ensures kept { OnOk result (IsKept (at.now).report.now (at.now).table (at.now).header.now (at.now).number (fields_of (at.now).record.now) kept.new) }
 {
@@ -165,7 +163,7 @@ pub(crate) fn put_cells<'a>(
         if let Err(fault) = put_at(alloc, report, at, columns, i, start, last, kept, out) {
             return Err(fault);
         }
-        note_end(before, base, out.as_slice(), ends)?;
+        note_end(before, out.len(), ends)?;
     }
     Ok(())
 }

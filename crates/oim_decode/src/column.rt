@@ -1,5 +1,7 @@
 //! A column of facts of a header.
 
+use crate::page::Page;
+
 /// A column of facts: its place in the template and in the header, the columns of groups that it takes
 /// from with their places in the header, and the text from the dot before its identifier.
 #[derive(Drop)]
@@ -7,5 +9,5 @@ pub(crate) struct FactColumn {
     pub(crate) column: usize,
     pub(crate) place: Option<usize>,
     pub(crate) groups: Vec<(usize, Option<usize>)>,
-    pub(crate) tail: Vec<u8>,
+    pub(crate) tail: Page,
 }

@@ -9,6 +9,7 @@ ghost use Rattle.oim_decode.specs.declared.column.FactColumn.{FactColumn as Fact
 
 use crate::append::{put, put_escaped};
 use crate::column::FactColumn;
+use crate::page::Page;
 use crate::sources::place_in;
 use oim_meta::{Column, ColumnKind, Report};
 use std::alloc::{AllocError, Global};
@@ -30,17 +31,12 @@ fn group_places_of(
 
 /// The text of a fact from the dot before its column's identifier to the brace of its object.
 #[tactic(auto, using(std::proofs::lemmas::Grind::common_steps))]
-fn tail_of(
-    alloc: Global,
-    report: &Report,
-    table: usize,
-    column: usize,
-) -> Result<Vec<u8>, AllocError>
+fn tail_of(alloc: Global, report: &Report, table: usize, column: usize) -> Result<Page, AllocError>
     requires table { table < length report.now.tables }
     requires column { column < length (columns_of report.now table) }
     ensures { IfOk result (λ v. v.items ≡ tail_text report.now table column) }
 {
-    let mut tail = Vec::new(alloc);
+    let mut tail = Page::new(alloc);
     put_escaped(&mut tail, ".")?;
     put_escaped(&mut tail, report.column(table, column).id.as_str())?;
     put(&mut tail, b"\":{")?;

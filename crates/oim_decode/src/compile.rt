@@ -10,17 +10,18 @@ ghost use Rattle.oim_resolve.specs.Written.{group_named, written, written_decima
 ghost use Rattle.oim_rows.specs.RowFacts.{field_or_empty};
 ghost use Rattle.oim_decode.specs.ReadyTable.{IsFresh, IsFreshDecimals, Grows, held};
 ghost use Rattle.oim_decode.specs.Pieces.{named, written_entries};
-ghost use Rattle.oim_decode.specs.Ready.{HasSlot, IsDecimals, ConceptHasSlot, fixed_accuracy, wanted_of, written_of};
+ghost use Rattle.oim_decode.specs.Ready.{HasSlot, IsDecimals, ConceptHasSlot, wanted_of, written_of};
 ghost use Rattle.oim_decode.specs.Rows.{group_texts, levels_by, group_in};
 
 use crate::decimals_slot::DecimalsSlot;
 use crate::ready::ReadyEntry;
 use crate::ready_decimals::ReadyDecimals;
 use crate::row_at::RowAt;
+use crate::settled::{Stated, settled_stated};
 use crate::slot::Slot;
 use crate::slots::decimals_slot_for;
 use crate::sources::source_decimals;
-use oim_cells::{Accuracy, CellMeaning, meaning};
+use oim_cells::{CellMeaning, meaning};
 use oim_meta::{Level, Report, WrittenDecimals};
 use oim_names::{Text, find};
 use oim_resolve::levels;
@@ -144,16 +145,6 @@ pub(crate) fn concept_of<'a>(
     }
 }
 
-/// The accuracy that is written.
-fn accuracy_of(written: &WrittenDecimals) -> Option<Accuracy>
-    ensures { result ≡ fixed_accuracy written.now }
-{
-    match written {
-        WrittenDecimals::Fixed(accuracy) => Some(*accuracy),
-        WrittenDecimals::Absent | WrittenDecimals::RowNumber | WrittenDecimals::Named(_) => None,
-    }
-}
-
 /// The decimals that are written, with their slot, made where there is none yet.
 fn decimals_ready<'a>(
     alloc: Global,
@@ -161,23 +152,18 @@ fn decimals_ready<'a>(
     written: &WrittenDecimals,
     at: &RowAt<'_>,
     slots: &mut Vec<DecimalsSlot<'a>>,
-) -> Result<ReadyDecimals, AllocError>
+) -> Result<ReadyDecimals<'a>, AllocError>
     requires report { report.now ≡ (at.now).report.now }
     requires fresh { All (IsFreshDecimals (at.now).number (fields_of (at.now).record.now)) slots.old.items }
     ensures decimals { IfOk result (λ d. IsDecimals report.now (at.now).table (at.now).header.now (map (λ s. s.source) slots.new.items) (Some written.now) d) }
     ensures fresh { OnOk result (All (IsFreshDecimals (at.now).number (fields_of (at.now).record.now)) slots.new.items) }
     ensures grown { OnOk result (Grows slots.old.items slots.new.items) }
 {
-    match source_decimals(report, at.table, at.header, written) {
-        Some(source) => {
-            let slot = decimals_slot_for(alloc, source, at, slots)?;
-            Ok(ReadyDecimals::of_slot(alloc, slot))
-        }
-        None => {
-            let fixed = ReadyDecimals::fixed(alloc, accuracy_of(written))?;
-            Ok(fixed)
-        }
-    }
+    let slot = match source_decimals(report, at.table, at.header, written) {
+        Some(source) => Some(decimals_slot_for(alloc, source, at, slots)?),
+        None => None,
+    };
+    ReadyDecimals::new(alloc, settled_stated(report, at.table, written), slot)
 }
 
 /// The decimals that levels write.
@@ -187,7 +173,7 @@ pub(crate) fn decimals_of<'a>(
     levels: &[&'a Level],
     at: &RowAt<'_>,
     slots: &mut Vec<DecimalsSlot<'a>>,
-) -> Result<ReadyDecimals, AllocError>
+) -> Result<ReadyDecimals<'a>, AllocError>
     requires report { report.now ≡ (at.now).report.now }
     requires fresh { All (IsFreshDecimals (at.now).number (fields_of (at.now).record.now)) slots.old.items }
     ensures decimals { IfOk result (λ d. IsDecimals report.now (at.now).table (at.now).header.now (map (λ s. s.source) slots.new.items) (written_decimals (reverse (held levels.now))) d) }
@@ -195,14 +181,8 @@ pub(crate) fn decimals_of<'a>(
     ensures grown { OnOk result (Grows slots.old.items slots.new.items) }
 {
     match levels::written_decimals(levels) {
-        Some(written) => {
-            let decimals = decimals_ready(alloc, report, written, at, slots)?;
-            Ok(decimals)
-        }
-        None => {
-            let fixed = ReadyDecimals::fixed(alloc, None)?;
-            Ok(fixed)
-        }
+        Some(written) => decimals_ready(alloc, report, written, at, slots),
+        None => ReadyDecimals::new(alloc, Stated::Read(CellMeaning::Absent), None),
     }
 }
 

@@ -11,6 +11,7 @@ ghost use Rattle.oim_json.specs.JsonText.{decimals_text};
 ghost use Rattle.oim_decode.specs.Slots.{decimals_stated};
 
 use crate::append::put;
+use crate::page::Page;
 use itoa::Buffer;
 use oim_cells::{Accuracy, CellMeaning, decimals};
 use oim_resolve::CellFault;
@@ -18,7 +19,7 @@ use std::alloc::AllocError;
 
 /// Appends a number in decimal digits. Fails where memory is short, and then appends nothing.
 #[inline]
-fn put_integer(out: &mut Vec<u8>, n: i32) -> Result<(), AllocError>
+fn put_integer(out: &mut Page, n: i32) -> Result<(), AllocError>
     ensures digits { OnOk result (out.new.items ≡ out.old.items ++ signed_decimal n) }
     ensures stays { IsPrefix out.old.items out.new.items }
 {
@@ -29,7 +30,7 @@ fn put_integer(out: &mut Vec<u8>, n: i32) -> Result<(), AllocError>
 /// Appends the decimals of a fact: a number of places. Fails where memory is short; what was there
 /// stays at the front.
 #[inline]
-pub(crate) fn put_places(out: &mut Vec<u8>, places: i32) -> Result<(), AllocError>
+pub(crate) fn put_places(out: &mut Page, places: i32) -> Result<(), AllocError>
     ensures decimals { OnOk result (out.new.items ≡ out.old.items ++ decimals_text (Some places)) }
     ensures stays { IsPrefix out.old.items out.new.items }
 {
@@ -42,7 +43,7 @@ pub(crate) fn put_places(out: &mut Vec<u8>, places: i32) -> Result<(), AllocErro
 /// where memory is short.
 #[tactic(auto, unfolding(oim_json::specs::JsonText::decimals_text))]
 pub(crate) fn put_stated(
-    out: &mut Vec<u8>,
+    out: &mut Page,
     value: CellMeaning<'_>,
 ) -> Result<Option<CellFault>, AllocError>
     ensures fault { IfOk result (λ f. f ≡ least (stated_faults (Read (seen_meaning value.entry)))) }

@@ -5,6 +5,7 @@ ghost use Rattle.std.specs.String.{string_bytes};
 ghost use Rattle.oim_decode.specs.Kept.{IsKept, IsEmpty};
 
 use crate::answer::{Answer, answer_of, concept_of, nothing};
+use crate::page::Page;
 use oim_cells::meaning;
 use oim_meta::{Kind, Report, Side};
 use oim_resolve::{CellFault, Role};
@@ -16,7 +17,7 @@ pub(crate) struct Kept {
     pub(crate) text: String,
     pub(crate) answer: Answer,
     /// Where the answer is written, its JSON text.
-    pub(crate) piece: Vec<u8>,
+    pub(crate) piece: Page,
     /// What it gives as a concept. It is read in that role alone.
     pub(crate) concept: Result<Kind, CellFault>,
 }
@@ -29,7 +30,7 @@ impl Kept {
         Kept {
             text: String::new(alloc),
             answer: nothing(None),
-            piece: Vec::new(alloc),
+            piece: Page::new(alloc),
             concept: Err(CellFault::NoConcept),
         }
     }

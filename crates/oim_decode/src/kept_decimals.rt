@@ -5,6 +5,7 @@ ghost use Rattle.std.specs.String.{string_bytes};
 ghost use Rattle.oim_decode.specs.KeptDecimals.{AreDecimals, NoDecimals};
 
 use crate::decimals::put_stated;
+use crate::page::Page;
 use oim_cells::meaning;
 use oim_resolve::CellFault;
 use std::alloc::{AllocError, Global};
@@ -15,7 +16,7 @@ pub(crate) struct KeptDecimals {
     pub(crate) text: String,
     pub(crate) fault: Option<CellFault>,
     /// The decimals as JSON, empty where none are stated.
-    pub(crate) stated: Vec<u8>,
+    pub(crate) stated: Page,
 }
 
 impl KeptDecimals {
@@ -26,7 +27,7 @@ impl KeptDecimals {
         KeptDecimals {
             text: String::new(alloc),
             fault: None,
-            stated: Vec::new(alloc),
+            stated: Page::new(alloc),
         }
     }
 
@@ -55,7 +56,7 @@ impl KeptDecimals {
         answer
     }
 
-    /// Reads a text, and keeps it. Where memory is short, what is left is no text with its answer.
+    /// Reads a text, and keeps it. Where memory is short, what is left may not be a text with its answer.
     fn try_read(&mut self, text: &str) -> Result<(), AllocError>
         ensures kept { OnOk result (AreDecimals self.new) }
         ensures text { OnOk result (string_bytes self.new.text ≡ text.now) }

@@ -2,8 +2,8 @@
 //!
 //! `TableBlocks` reads a table's file record by record, and gives the texts of its facts in blocks. What it gives is
 //! exactly the table's stream: the facts of each row before the first bad one, in header order, and then the end or the
-//! table's first fault. A row with any fault gives no fact. Apart from a failed read and running out of memory, which may
-//! end a table at any row. After the end or a fault it answers the same again and reads nothing.
+//! table's first fault. A row with any fault gives no fact. A failed read, or running out of memory, may end a table at
+//! any row. After the end or a fault it answers the same again and reads nothing.
 //!
 //! No fact lies in memory as a value: a row's cells are written as text, and the list of the facts is remembered for
 //! contracts alone.
@@ -24,6 +24,7 @@ mod kept;
 mod kept_decimals;
 mod least;
 mod numeral;
+mod page;
 mod place;
 mod ready;
 mod ready_decimals;
@@ -34,6 +35,7 @@ mod remember;
 mod row_at;
 mod row_fault;
 mod row_writer;
+mod settled;
 mod slot;
 mod slots;
 mod source;

@@ -1,21 +1,23 @@
 //! A dimension that a level writes, made ready for the rows.
 
 ghost use Rattle.std.specs.Prelude.{◌≡◌, ◌++◌, ◌<◌, ◌⊎◌, ℕ, List, Some, map, length, IfOk, None};
-ghost use Rattle.std.specs.Option.{option_map};
+ghost use Rattle.std.specs.Option.{option_map, option_map_or};
 ghost use Rattle.std.specs.List.{All};
 ghost use Rattle.oim_json.specs.JsonText.{quoted};
 ghost use Rattle.oim_resolve.specs.Facts.{is_dropped, role_of};
 ghost use Rattle.oim_resolve.specs.declared.role.Role.TheVariants.{Concept};
-ghost use Rattle.oim_decode.specs.Ready.{shown, IsPlaced, behind_name, kept_fault, kept_text, kind_given};
+ghost use Rattle.oim_decode.specs.Ready.{shown, IsPlaced, behind_name, kept_text as kept_by, kind_given, settled_fault};
 ghost use Rattle.std.specs.Prelude.{OnOk, codes, if◌then◌else◌};
 ghost use Rattle.csv.specs.Records.{fields_of};
 ghost use Rattle.oim_cells.specs.Cells.{seen_meaning};
 ghost use Rattle.oim_decode.specs.ReadyTable.{IsFresh, Grows};
-ghost use Rattle.oim_decode.specs.Ready.{HasSlot, wanted_of, written_of, literal_meaning as meaning_written};
+ghost use Rattle.oim_decode.specs.Ready.{HasSlot, wanted_of, written_of};
 
 use crate::answer::{answer_of, concept_of};
 use crate::append::{put, put_quoted};
+use crate::page::Page;
 use crate::row_at::RowAt;
+use crate::settled::settled_meaning;
 use crate::slot::Slot;
 use crate::slots::slot_for;
 use crate::sources::source_written;
@@ -25,36 +27,46 @@ use oim_resolve::{CellFault, Role, side_of};
 use std::alloc::{AllocError, Global};
 use std::marker::Model;
 
-/// A dimension that a level writes: a literal with its text and the comma behind it, or the name of a
-/// reference. A contract sees what is written, and the place of the slot of a reference.
+/// A dimension that a level writes. Where it means the same in each row, its text is kept; else its
+/// name, and the place of the slot of its reference. A contract sees what is written, what that means
+/// where rows say nothing of it, and the place.
 #[derive(Drop)]
 pub(crate) struct ReadyEntry<'a> {
     report: &'a Report,
     name: &'a str,
     written: &'a Written,
+    settled: CellMeaning<'a>,
     slot: Option<usize>,
     role: Role,
     fault: Option<CellFault>,
     kind: Result<Kind, CellFault>,
-    text: Vec<u8>,
+    /// The dimension with the comma behind it, or the name of one with a slot.
+    text: Page,
 }
 
 impl<'a> Model for ReadyEntry<'a> {
     ghost use Rattle.std.specs.Prelude.{◌≡◌};
+    ghost use Rattle.oim_cells.specs.Cells.{seen_meaning};
     ghost use Rattle.oim_resolve.specs.Facts.{role_of};
-    ghost use Rattle.oim_decode.specs.Ready.{EntryView, kept_fault, kept_text, kept_kind};
+    ghost use Rattle.oim_decode.specs.Ready.{EntryView, kept_text, kind_given, settled_fault};
 
     ghost Value = { EntryView };
 
-    ghost view = { λ a. record { report = a.report.now; name = a.name.now; written = a.written.now; slot = a.slot } };
+    ghost view = { λ a. record {
+      report = a.report.now;
+      name = a.name.now;
+      written = a.written.now;
+      settled = seen_meaning a.settled;
+      slot = a.slot;
+    } };
 
     ghost invariant = { λ a. (a.role ≡ role_of a.report.now a.name.now)
-        × (a.fault ≡ kept_fault a.report.now a.name.now a.written.now a.slot)
-        × (a.kind ≡ kept_kind a.report.now a.written.now a.slot)
-        × (a.text.items ≡ kept_text a.report.now a.name.now a.written.now a.slot) };
+        × (a.fault ≡ settled_fault (record { report = a.report.now; name = a.name.now; written = a.written.now; settled = seen_meaning a.settled; slot = a.slot }))
+        × (a.kind ≡ kind_given a.report.now (seen_meaning a.settled))
+        × (a.text.items ≡ kept_text (record { report = a.report.now; name = a.name.now; written = a.written.now; settled = seen_meaning a.settled; slot = a.slot })) };
 }
 
-/// The kind of the concept that a literal names, or its fault.
+/// The kind of the concept that a meaning names, or its fault.
 #[tactic(auto, using(crate::proofs::ReadyLaws::kind_is))]
 fn kind_of(report: &Report, value: CellMeaning<'_>) -> Result<Kind, CellFault>
     ensures { result ≡ kind_given report.now (seen_meaning value.entry) }
@@ -62,23 +74,11 @@ fn kind_of(report: &Report, value: CellMeaning<'_>) -> Result<Kind, CellFault>
     concept_of(report, value)
 }
 
-/// The meaning of a literal.
-fn literal_meaning(written: &Written) -> CellMeaning<'_>
-    ensures { seen_meaning result ≡ meaning_written written.now }
-{
-    match written {
-        Written::Nil => CellMeaning::Nil,
-        Written::Empty => CellMeaning::Empty,
-        Written::Text(text) => CellMeaning::Text(text.as_str()),
-        Written::Absent | Written::RowNumber(_) | Written::Named(_, _) => CellMeaning::Absent,
-    }
-}
-
 /// The name of a dimension and the colon behind it.
-fn name_text(alloc: Global, name: &str) -> Result<Vec<u8>, AllocError>
+fn name_text(alloc: Global, name: &str) -> Result<Page, AllocError>
     ensures { IfOk result (λ t. t.items ≡ quoted name.now ++ codes ":") }
 {
-    let mut text = Vec::new(alloc);
+    let mut text = Page::new(alloc);
     put_quoted(&mut text, name)?;
     text.push(b':')?;
     Ok(text)
@@ -86,16 +86,11 @@ fn name_text(alloc: Global, name: &str) -> Result<Vec<u8>, AllocError>
 
 /// The text of a dimension with a comma behind it, or no text where its value is not written.
 #[tactic(auto, using(std::proofs::Common::append_assoc))]
-fn piece_of(
-    alloc: Global,
-    name: &str,
-    is_written: bool,
-    value: &[u8],
-) -> Result<Vec<u8>, AllocError>
+fn piece_of(alloc: Global, name: &str, is_written: bool, value: &[u8]) -> Result<Page, AllocError>
     ensures { IfOk result (λ t. t.items ≡ behind_name (quoted name.now ++ codes ":") (if is_written then Some value.now else None)) }
 {
     if !is_written {
-        return Ok(Vec::new(alloc));
+        return Ok(Page::new(alloc));
     }
     let mut text = name_text(alloc, name)?;
     put(&mut text, value)?;
@@ -103,53 +98,49 @@ fn piece_of(
     Ok(text)
 }
 
+/// The text that is kept of a dimension: its name where it has a slot, else what it gives.
+fn kept_text(
+    alloc: Global,
+    name: &str,
+    slot: Option<usize>,
+    is_written: bool,
+    value: &[u8],
+) -> Result<Page, AllocError>
+    ensures { IfOk result (λ t. t.items ≡ option_map_or (λ _. quoted name.now ++ codes ":") slot
+        (behind_name (quoted name.now ++ codes ":") (if is_written then Some value.now else None))) }
+{
+    match slot {
+        Some(_) => name_text(alloc, name),
+        None => piece_of(alloc, name, is_written, value),
+    }
+}
+
 impl<'a> ReadyEntry<'a> {
-    /// A literal, read.
-    fn literal(
+    /// A dimension with this meaning where rows say nothing of it, and with the place of its slot.
+    fn of(
         alloc: Global,
         report: &'a Report,
         name: &'a str,
         written: &'a Written,
+        settled: CellMeaning<'a>,
+        slot: Option<usize>,
     ) -> Result<ReadyEntry<'a>, AllocError>
-        ensures { IfOk result (λ e. e ≡ record { report = report.now; name = name.now; written = written.now; slot = None }) }
+        ensures { IfOk result (λ e. e ≡ record { report = report.now; name = name.now; written = written.now; settled = seen_meaning settled.entry; slot = slot }) }
     {
         let role = Role::of(report, name);
         let side = side_of(written);
-        let value = literal_meaning(written);
-        let mut written_value = Vec::new(alloc);
-        let answer = answer_of(alloc, report, role, side, value, &mut written_value)?;
-        let text = piece_of(alloc, name, answer.is_written, written_value.as_slice())?;
+        let mut value = Page::new(alloc);
+        let answer = answer_of(alloc, report, role, side, settled, &mut value)?;
+        let text = kept_text(alloc, name, slot, answer.is_written, value.as_slice())?;
         Ok(ReadyEntry {
             report,
             name,
             written,
-            slot: None,
+            settled,
+            slot,
             role,
             fault: answer.fault,
-            kind: kind_of(report, value),
-            text,
-        })
-    }
-
-    /// The reference of a slot.
-    fn reference(
-        alloc: Global,
-        report: &'a Report,
-        name: &'a str,
-        written: &'a Written,
-        slot: usize,
-    ) -> Result<ReadyEntry<'a>, AllocError>
-        ensures { IfOk result (λ e. e ≡ record { report = report.now; name = name.now; written = written.now; slot = Some slot }) }
-    {
-        let text = name_text(alloc, name)?;
-        Ok(ReadyEntry {
-            report,
-            name,
-            written,
-            slot: Some(slot),
-            role: Role::of(report, name),
-            fault: None,
-            kind: Err(CellFault::NoConcept),
+            kind: kind_of(report, settled),
             text,
         })
     }
@@ -170,18 +161,15 @@ impl<'a> ReadyEntry<'a> {
         ensures fresh { OnOk result (All (IsFresh report.now (at.now).number (fields_of (at.now).record.now)) slots.new.items) }
         ensures grown { OnOk result (Grows slots.old.items slots.new.items) }
     {
-        match source_written(report, at.table, at.header, written) {
+        let slot = match source_written(report, at.table, at.header, written) {
             Some(source) => {
                 let role = Role::of(report, name);
-                let slot = slot_for(alloc, report, role, side_of(written), source, at, slots)?;
-                let entry = ReadyEntry::reference(alloc, report, name, written, slot)?;
-                Ok(entry)
+                Some(slot_for(alloc, report, role, side_of(written), source, at, slots)?)
             }
-            None => {
-                let entry = ReadyEntry::literal(alloc, report, name, written)?;
-                Ok(entry)
-            }
-        }
+            None => None,
+        };
+        let settled = settled_meaning(report, at.table, written);
+        ReadyEntry::of(alloc, report, name, written, settled, slot)
     }
 }
 
@@ -200,16 +188,16 @@ impl<'a> ReadyEntry<'a> {
         self.slot
     }
 
-    /// The text of a literal with the comma behind it, or the name of a reference.
+    /// The dimension with the comma behind it, or the name of one with a slot.
     pub(crate) fn text(&self) -> &[u8]
-        ensures { result.now ≡ kept_text (self.now).report (self.now).name (self.now).written (self.now).slot }
+        ensures { result.now ≡ kept_by self.now }
     {
         self.text.as_slice()
     }
 
-    /// The fault of a literal.
+    /// The least fault of what the dimension means where rows say nothing of it.
     pub(crate) fn fault(&self) -> Option<CellFault>
-        ensures { result ≡ kept_fault (self.now).report (self.now).name (self.now).written (self.now).slot }
+        ensures { result ≡ settled_fault self.now }
     {
         self.fault
     }

@@ -2,6 +2,7 @@
 
 ghost use Rattle.std.specs.Prelude.{◌≡◌, ◌++◌, ◌∷◌, ◌<◌, [], List, None, length, IfOk, OnOk};
 ghost use Rattle.std.specs.List.{All};
+ghost use mathlib.Core.List.{IsPrefix};
 ghost use Rattle.oim_meta.specs.declared.kind.Kind.{Kind as KindValue};
 ghost use Rattle.oim_resolve.specs.Facts.{value_faults_of};
 ghost use Rattle.oim_resolve.specs.Faults.{least};
@@ -11,6 +12,7 @@ ghost use Rattle.oim_decode.specs.Slots.{piece_given};
 
 use crate::append::put;
 use crate::least::least_of;
+use crate::page::Page;
 use crate::ready::ReadyEntry;
 use crate::slot::Slot;
 use oim_cells::NumberKind;
@@ -23,9 +25,9 @@ use std::mem;
 #[derive(Drop)]
 pub(crate) struct Run {
     /// The texts of literals.
-    pub(crate) alone: Vec<u8>,
+    pub(crate) alone: Page,
     /// The same and the name of the reference's dimension.
-    pub(crate) named: Vec<u8>,
+    pub(crate) named: Page,
     /// The least fault of the literals.
     pub(crate) fault: Option<CellFault>,
     pub(crate) slot: usize,
@@ -36,7 +38,7 @@ pub(crate) struct Run {
 pub(crate) struct ReadyRuns {
     pub(crate) runs: Vec<Run>,
     /// The texts of the literals behind the last reference, and their least fault.
-    pub(crate) rest: Vec<u8>,
+    pub(crate) rest: Page,
     pub(crate) fault: Option<CellFault>,
 }
 
@@ -47,11 +49,12 @@ fn put_slot(
     slot: &Slot<'_>,
     alone: &[u8],
     named: &[u8],
-    out: &mut Vec<u8>,
+    out: &mut Page,
 ) -> Result<Option<CellFault>, AllocError>
     ensures fault { IfOk result (λ f. f ≡ least (value_faults_of (slot.now).report (slot.now).role (slot.now).side (slot.now).meaning)) }
     ensures text { IfOk result (λ f. f ≡ None → out.new.items ≡ out.old.items
         ++ behind_text alone.now named.now (piece_given (slot.now).report (slot.now).role (slot.now).side (slot.now).meaning)) }
+    ensures front { IsPrefix out.old.items out.new.items }
 {
     let fault = slot.fault();
     if fault.is_some() {
@@ -70,10 +73,11 @@ fn put_slot(
 impl Run {
     /// Appends the bytes and what the reference gives, or answers the least fault of both.
     #[inline(always)]
-    fn put(&self, slots: &[Slot<'_>], out: &mut Vec<u8>) -> Result<Option<CellFault>, AllocError>
+    fn put(&self, slots: &[Slot<'_>], out: &mut Page) -> Result<Option<CellFault>, AllocError>
         requires { (self.now).slot < length slots.now }
         ensures fault { IfOk result (λ f. f ≡ run_fault slots.now self.now) }
         ensures text { IfOk result (λ f. f ≡ None → out.new.items ≡ out.old.items ++ run_text slots.now self.now) }
+        ensures front { IsPrefix out.old.items out.new.items }
     {
         let slot = &slots[self.slot];
         let fault = put_slot(slot, self.alone.as_slice(), self.named.as_slice(), out)?;
@@ -87,11 +91,12 @@ impl ReadyRuns {
     pub(crate) fn put(
         &self,
         slots: &[Slot<'_>],
-        out: &mut Vec<u8>,
+        out: &mut Page,
     ) -> Result<Option<CellFault>, AllocError>
         requires { All (λ x. x.slot < length slots.now) (self.now).runs.items }
         ensures fault { IfOk result (λ f. f ≡ runs_fault slots.now self.now) }
         ensures text { IfOk result (λ f. f ≡ None → out.new.items ≡ out.old.items ++ runs_text slots.now self.now) }
+        ensures front { IsPrefix out.old.items out.new.items }
     {
         let fault = put_runs(self.runs.as_slice(), slots, out)?;
         put(out, self.rest.as_slice())?;
@@ -106,11 +111,12 @@ ghost use Rattle.std.specs.List.{flat_map};
 fn put_runs(
     runs: &[Run],
     slots: &[Slot<'_>],
-    out: &mut Vec<u8>,
+    out: &mut Page,
 ) -> Result<Option<CellFault>, AllocError>
     requires { All (λ x. x.slot < length slots.now) runs.now }
     ensures fault { IfOk result (λ f. f ≡ least_run_fault slots.now runs.now) }
     ensures text { IfOk result (λ f. f ≡ None → out.new.items ≡ out.old.items ++ flat_map (run_text slots.now) runs.now) }
+    ensures front { IsPrefix out.old.items out.new.items }
 {
     let mut fault = None;
     for i in 0..runs.len() {
@@ -127,7 +133,7 @@ impl ReadyRuns {
     {
         ReadyRuns {
             runs: Vec::new(alloc),
-            rest: Vec::new(alloc),
+            rest: Page::new(alloc),
             fault: None,
         }
     }
@@ -145,7 +151,7 @@ impl ReadyRuns {
             return Ok(());
         };
         let named = behind(alloc, self.rest.as_slice(), entry.text())?;
-        let alone = mem::replace(&mut self.rest, Vec::new(alloc));
+        let alone = mem::replace(&mut self.rest, Page::new(alloc));
         let fault = self.fault;
         self.fault = None;
         self.runs.push(Run {
@@ -208,10 +214,10 @@ impl KindRuns {
 }
 
 /// Two texts, one behind the other.
-fn behind(alloc: Global, first: &[u8], second: &[u8]) -> Result<Vec<u8>, AllocError>
+fn behind(alloc: Global, first: &[u8], second: &[u8]) -> Result<Page, AllocError>
     ensures { IfOk result (λ t. t.items ≡ first.now ++ second.now) }
 {
-    let mut text = Vec::new(alloc);
+    let mut text = Page::new(alloc);
     put(&mut text, first)?;
     put(&mut text, second)?;
     Ok(text)

@@ -1,6 +1,6 @@
 //! Writing the facts of a row as text.
 
-ghost use Rattle.std.specs.Prelude.{◌≡◌, ◌++◌, ◌<◌, ◌≤◌, [], IfErr, IfOk, OnOk, length};
+ghost use Rattle.std.specs.Prelude.{◌≡◌, ◌++◌, ◌<◌, IfErr, IfOk, OnOk, length};
 ghost use mathlib.Core.List.{IsPrefix};
 ghost use Rattle.csv.specs.Records.{fields_of};
 ghost use Rattle.oim_json.specs.Blocks.{behind_commas, ends_from};
@@ -10,10 +10,10 @@ ghost use Rattle.oim_decode.specs.Rows.{cell_under};
 ghost use Rattle.oim_decode.specs.RowTexts.{IsAnswer, facts_in, reading_up_to, row_facts};
 ghost use Rattle.oim_decode.specs.Variants.{IsReady};
 
-use crate::append::put;
 use crate::cells::put_cells;
 use crate::column::FactColumn;
 use crate::columns::ready_columns;
+use crate::page::Page;
 use crate::ready_table::{ReadyTable, nothing_ready};
 use crate::refresh::refresh_table;
 use crate::row_at::RowAt;
@@ -38,10 +38,8 @@ pub(crate) struct RowWriter<'a> {
     last: Vec<usize>,
     ready: ReadyTable<'a>,
     // the text of a fact up to the row's identifier, and the same with the identifier
-    lead: Vec<u8>,
-    start: Vec<u8>,
-    // the text of the row at hand
-    text: Vec<u8>,
+    lead: Page,
+    start: Page,
 }
 
 impl<'a> Model for RowWriter<'a> {
@@ -91,23 +89,22 @@ impl<'a> RowWriter<'a> {
             last: zeros(alloc, header.len())?,
             ready: nothing_ready(alloc),
             lead,
-            start: Vec::new(alloc),
-            text: Vec::new(alloc),
+            start: Page::new(alloc),
         })
     }
 
     /// Appends the text of each fact of row `number` behind a comma, and where each of them ends.
     /// `id` is the row's identifier.
     ///
-    /// Fails with the fault of the first cell that has one, and where memory is short. What was
-    /// there before stands then before what was written of the row.
+    /// Fails with the fault of the first cell that has one, and where memory is short. What was there
+    /// stays then, with a beginning of the row behind it.
     pub(crate) fn put_row(
         &mut self,
         alloc: Global,
         number: u32,
         id: &str,
         row: &StringRecord,
-        out: &mut Vec<u8>,
+        out: &mut Page,
         ends: &mut Vec<usize>,
     ) -> Result<(), RowFault>
         requires id { id.now ≡ row_id_text (id_place_of (reading_up_to number self.old)) number (fields_of row.now) }
@@ -137,14 +134,10 @@ impl<'a> RowWriter<'a> {
             self.start.as_slice(),
             self.last.as_mut_slice(),
             &mut self.ready,
-            &mut self.text,
-            out.len(),
+            out,
             ends,
         ) {
-            Ok(()) => {
-                put(out, self.text.as_slice())?;
-                Ok(())
-            }
+            Ok(()) => Ok(()),
             Err(fault) => {
                 self.ready = nothing_ready(alloc);
                 Err(fault)
@@ -153,8 +146,8 @@ impl<'a> RowWriter<'a> {
     }
 }
 
-/// Puts the texts of a row's facts, each behind a comma, in place of what `text` holds, and notes where
-/// each of them ends, `base` bytes further on; or answers the fault of its first cell that has one.
+/// Appends the texts of a row's facts, each behind a comma, and notes where each of them ends; or answers
+/// the fault of its first cell that has one. After a fault a beginning of the text is left.
 fn write_row<'a>(
     alloc: Global,
     report: &'a Report,
@@ -163,23 +156,18 @@ fn write_row<'a>(
     start: &[u8],
     last: &mut [usize],
     ready: &mut ReadyTable<'a>,
-    text: &mut Vec<u8>,
-    base: usize,
+    out: &mut Page,
     ends: &mut Vec<usize>,
 ) -> Result<(), RowFault>
     requires report { report.now ≡ (at.now).report.now }
     requires columns { AreFactColumns (at.now).report.now (at.now).table (at.now).header.now columns.now }
-    requires base { base ≤ 9223372036854775807 }
     requires start { start.now ≡ start_text (cell_under (at.now).report.now (at.now).table (at.now).header.now (at.now).number (fields_of (at.now).record.now) 0) }
     requires ready { IsReady (at.now).report.now (at.now).table (at.now).header.now ready.old }
-    ensures facts { IfOk result (λ _. GivesFacts (at.now).report.now (at.now).table (at.now).header.now (at.now).number (fields_of (at.now).record.now) base [] text.new.items ends.old.items ends.new.items) }
-    ensures front { IsPrefix ends.old.items ends.new.items }
+    ensures facts { IfOk result (λ _. GivesFacts (at.now).report.now (at.now).table (at.now).header.now (at.now).number (fields_of (at.now).record.now) out.old.items out.new.items ends.old.items ends.new.items) }
+    ensures front { IsPrefix out.old.items out.new.items × IsPrefix ends.old.items ends.new.items }
     ensures fault { IfErr result (IsRowFault (at.now).report.now (at.now).table (at.now).header.now (at.now).number (fields_of (at.now).record.now)) }
     ensures ready { OnOk result (IsReady (at.now).report.now (at.now).table (at.now).header.now ready.new) }
 {
-    text.clear();
     refresh_table(alloc, at, ready)?;
-    put_cells(
-        alloc, report, at, columns, start, last, ready, text, base, ends,
-    )
+    put_cells(alloc, report, at, columns, start, last, ready, out, ends)
 }

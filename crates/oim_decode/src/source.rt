@@ -1,6 +1,6 @@
-//! What a reference of a table's properties names, for the rows of one header.
+//! What a reference names whose meaning each row of a table gives.
 
-ghost use Rattle.std.specs.Prelude.{◌≡◌, decimal, true};
+ghost use Rattle.std.specs.Prelude.{◌≡◌, Some, decimal, true};
 ghost use Rattle.std.specs.Option.{option_map};
 ghost use Rattle.csv.specs.Records.{fields_of};
 ghost use Rattle.oim_cells.specs.Cells.{meaning_of};
@@ -10,29 +10,18 @@ ghost use Rattle.oim_decode.specs.Slots.{source_meaning};
 
 use csv::StringRecord;
 
-/// What a reference names, for the rows of one header.
+/// What a reference names whose meaning each row gives.
 #[derive(Clone, Copy)]
 pub(crate) enum SourceOf<'a> {
     /// The number of the row.
     RowNumber,
     /// The place in the header of the column of a name, and the parameter of that name.
-    Named(Option<usize>, Option<&'a str>),
+    Named(usize, Option<&'a str>),
 }
 
 /// Whether two texts that may be there are the same.
 fn is_same_text(first: Option<&str>, second: Option<&str>) -> bool
     ensures { result ≡ true → option_map (λ t. t.now) first.entry ≡ option_map (λ t. t.now) second.entry }
-{
-    match (first, second) {
-        (Some(first), Some(second)) => first == second,
-        (None, None) => true,
-        (Some(_), None) | (None, Some(_)) => false,
-    }
-}
-
-/// Whether two places that may be there are the same.
-fn is_same_place(first: Option<usize>, second: Option<usize>) -> bool
-    ensures { result ≡ true → first ≡ second }
 {
     match (first, second) {
         (Some(first), Some(second)) => first == second,
@@ -49,7 +38,7 @@ impl<'a> SourceOf<'a> {
         match (self, other) {
             (SourceOf::RowNumber, SourceOf::RowNumber) => true,
             (SourceOf::Named(place, parameter), SourceOf::Named(other_place, other_parameter)) =>
-                is_same_place(place, other_place) && is_same_text(parameter, other_parameter),
+                place == other_place && is_same_text(parameter, other_parameter),
             (SourceOf::RowNumber, SourceOf::Named(_, _))
             | (SourceOf::Named(_, _), SourceOf::RowNumber) => false,
         }
@@ -80,16 +69,13 @@ impl<'a> SourceOf<'a> {
     }
 }
 
-/// The text of a row's cell, empty where the header has no such column.
+/// The text of a row's cell, empty where the row has no such place.
 #[inline(always)]
-fn cell_in(place: Option<usize>, row: &StringRecord) -> &str
-    ensures { result.now ≡ field_or_empty (fields_of row.now) place }
+fn cell_in(place: usize, row: &StringRecord) -> &str
+    ensures { result.now ≡ field_or_empty (fields_of row.now) (Some place) }
 {
-    match place {
-        Some(place) => match row.get(place) {
-            Some(text) => text,
-            None => "",
-        },
+    match row.get(place) {
+        Some(text) => text,
         None => "",
     }
 }

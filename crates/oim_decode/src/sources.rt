@@ -27,24 +27,22 @@ pub(crate) fn place_in(header: &[Option<usize>], column: usize) -> Option<usize>
     header.iter().position(|place| is_place(*place, column))
 }
 
-/// What a reference to a name names.
-pub(crate) fn source_named<'a>(
+/// What a reference to a name names: None where the header has no column of that name.
+fn source_named<'a>(
     report: &'a Report,
     table: usize,
     header: &[Option<usize>],
     name: &str,
-) -> SourceOf<'a>
+) -> Option<SourceOf<'a>>
     requires { table < length report.now.tables }
-    ensures { seen_source result ≡ named_by report.now table header.now name.now }
+    ensures { option_map seen_source result ≡ named_by report.now table header.now name.now }
 {
-    let place = match place_of(report.template_columns(table), name) {
-        Some(column) => place_in(header, column),
-        None => None,
-    };
-    SourceOf::Named(place, report.parameter(table, name))
+    let column = place_of(report.template_columns(table), name)?;
+    let place = place_in(header, column)?;
+    Some(SourceOf::Named(place, report.parameter(table, name)))
 }
 
-/// What a written value refers to: None where it is a literal.
+/// What a written value refers to: None where it means the same in each row.
 pub(crate) fn source_written<'a>(
     report: &'a Report,
     table: usize,
@@ -56,12 +54,12 @@ pub(crate) fn source_written<'a>(
 {
     match written {
         Written::RowNumber(_) => Some(SourceOf::RowNumber),
-        Written::Named(name, _) => Some(source_named(report, table, header, name.as_str())),
+        Written::Named(name, _) => source_named(report, table, header, name.as_str()),
         Written::Absent | Written::Nil | Written::Empty | Written::Text(_) => None,
     }
 }
 
-/// What written decimals refer to: None where they are fixed.
+/// What written decimals refer to: None where they state the same in each row.
 pub(crate) fn source_decimals<'a>(
     report: &'a Report,
     table: usize,
@@ -73,7 +71,7 @@ pub(crate) fn source_decimals<'a>(
 {
     match written {
         WrittenDecimals::RowNumber => Some(SourceOf::RowNumber),
-        WrittenDecimals::Named(name) => Some(source_named(report, table, header, name.as_str())),
+        WrittenDecimals::Named(name) => source_named(report, table, header, name.as_str()),
         WrittenDecimals::Absent | WrittenDecimals::Fixed(_) => None,
     }
 }

@@ -84,7 +84,7 @@ impl<'a, R: Read + Drop> TableBlocks<'a, R> {
 }
 
 ghost use Rattle.std.specs.Prelude.{◌++◌, IsSome, List};
-ghost use Rattle.oim_resolve.specs.declared.fact.Fact.{Fact as FactValue};
+ghost use Rattle.oim_resolve.specs.FactParts.{FactParts as FactValue};
 ghost use Rattle.oim_decode.specs.Blocks.{ReadsRows, facts_of_rows};
 
 impl<R: Read> TableBlocks<'_, R> {

@@ -2,6 +2,7 @@
 
 ghost use Rattle.std.specs.Prelude.{◌≡◌, ◌++◌, true, IfOk, IfSome, None};
 ghost use Rattle.std.specs.List.{list_all};
+ghost use mathlib.Core.List.{IsPrefix};
 ghost use Rattle.oim_cells.specs.Cells.{seen_meaning};
 ghost use Rattle.oim_json.specs.JsonText.{is_unescaped, value_text};
 ghost use Rattle.oim_resolve.specs.FactValues.{accuracy_in, faults_in, text_in, value_given};
@@ -11,6 +12,7 @@ ghost use Rattle.oim_resolve.specs.ProgramValues.{seen_reading};
 
 use crate::append::{put, put_plain, put_quoted};
 use crate::numeral::split;
+use crate::page::Page;
 use oim_cells::{Accuracy, CellMeaning};
 use oim_meta::{Kind, Report};
 use oim_resolve::{CellFault, FactValue, fact_value};
@@ -54,11 +56,12 @@ pub(crate) fn suffix_of(reading: Result<FactValue<'_>, CellFault>) -> Option<Acc
 pub(crate) fn put_value(
     kind: Kind,
     reading: Result<FactValue<'_>, CellFault>,
-    out: &mut Vec<u8>,
+    out: &mut Page,
 ) -> Result<Option<CellFault>, AllocError>
     requires { is_numeric kind ≡ true → IfSome (text_in (seen_reading reading)) (λ t. list_all is_unescaped t ≡ true) }
     ensures fault { IfOk result (λ f. f ≡ least (faults_in (seen_reading reading.entry))) }
     ensures text { IfOk result (λ f. f ≡ None → out.new.items ≡ out.old.items ++ value_text (text_in (seen_reading reading.entry))) }
+    ensures front { IsPrefix out.old.items out.new.items }
 {
     match reading {
         Ok(

@@ -2,6 +2,7 @@
 
 ghost use Rattle.std.specs.Prelude.{◌≡◌, ◌++◌, ◌<◌, ℕ, length, IfOk, None, Some, codes};
 ghost use Rattle.std.specs.List.{All};
+ghost use mathlib.Core.List.{IsPrefix};
 ghost use Rattle.oim_cells.specs.Cells.{seen_meaning};
 ghost use Rattle.oim_json.specs.JsonText.{decimals_text, value_text};
 ghost use Rattle.oim_resolve.specs.Facts.{decimals_given};
@@ -14,6 +15,7 @@ ghost use Rattle.oim_decode.specs.Rest.{decimals_wrong, value_wrong, cut, cut_be
 use crate::append::put;
 use crate::decimals_slot::DecimalsSlot;
 use crate::least::least_of;
+use crate::page::Page;
 use crate::ready::ReadyEntry;
 use crate::ready_decimals::ReadyDecimals;
 use crate::ready_runs::{KindRuns, ReadyRuns};
@@ -37,12 +39,12 @@ pub(crate) struct Variant<'a> {
     /// The same for each kind of concept, as they are written.
     pub(crate) runs: KindRuns,
     pub(crate) concept: Option<ReadyEntry<'a>>,
-    pub(crate) decimals: ReadyDecimals,
+    pub(crate) decimals: ReadyDecimals<'a>,
 }
 
 /// Takes off the last byte, if any came behind the first `before`.
 #[inline(always)]
-fn cut_comma(out: &mut Vec<u8>, before: usize)
+fn cut_comma(out: &mut Page, before: usize)
     ensures { out.new.items ≡ cut_behind before out.old.items }
 {
     let len = out.len();
@@ -51,23 +53,40 @@ fn cut_comma(out: &mut Vec<u8>, before: usize)
     }
 }
 
+/// Appends the dimensions with commas between them, or answers their least fault.
+#[inline(always)]
+fn put_joined(
+    runs: &ReadyRuns,
+    slots: &[Slot<'_>],
+    out: &mut Page,
+) -> Result<Option<CellFault>, AllocError>
+    requires { All (λ x. x.slot < length slots.now) (runs.now).runs.items }
+    ensures fault { IfOk result (λ f. f ≡ runs_fault slots.now runs.now) }
+    ensures text { IfOk result (λ f. f ≡ None → out.new.items ≡ out.old.items ++ cut (runs_text slots.now runs.now)) }
+    ensures front { IsPrefix out.old.items out.new.items }
+{
+    let before = out.len();
+    let fault = runs.put(slots, out)?;
+    cut_comma(out, before);
+    Ok(fault)
+}
+
 /// Appends the object of dimensions and what stands before the value, or answers the dimensions' least
 /// fault.
 #[inline]
 fn put_dimensions(
     runs: &ReadyRuns,
     slots: &[Slot<'_>],
-    out: &mut Vec<u8>,
+    out: &mut Page,
 ) -> Result<Option<CellFault>, AllocError>
     requires { All (λ x. x.slot < length slots.now) (runs.now).runs.items }
     ensures fault { IfOk result (λ f. f ≡ runs_fault slots.now runs.now) }
     ensures text { IfOk result (λ f. f ≡ None → out.new.items ≡ out.old.items
         ++ (codes "\"dimensions\":{" ++ cut (runs_text slots.now runs.now) ++ codes "},\"value\":")) }
+    ensures front { IsPrefix out.old.items out.new.items }
 {
     put(out, b"\"dimensions\":{")?;
-    let before = out.len();
-    let fault = runs.put(slots, out)?;
-    cut_comma(out, before);
+    let fault = put_joined(runs, slots, out)?;
     put(out, b"},\"value\":")?;
     Ok(fault)
 }
@@ -82,7 +101,7 @@ impl<'a> Variant<'a> {
         value: CellMeaning<'_>,
         slots: &[Slot<'a>],
         decimals: &[DecimalsSlot<'a>],
-        out: &mut Vec<u8>,
+        out: &mut Page,
     ) -> Result<Option<CellFault>, AllocError>
         requires placed { All (IsPlaced slots.now) (self.now).entries.items }
         requires runs { AreKindRuns (self.now).entries.items (self.now).runs }
@@ -94,6 +113,7 @@ impl<'a> Variant<'a> {
             ++ rest_text (decimals_given kind (seen_meaning value.entry) (accuracy_in (value_given report.now kind (seen_meaning value.entry))) (shown_stated decimals.now (self.now).decimals))
             (cut (shown_pieces slots.now kind (self.now).entries.items))
             (text_in (value_given report.now kind (seen_meaning value.entry)))) }
+        ensures front { IsPrefix out.old.items out.new.items }
     {
         let reading = read_value(report, kind, value);
         let stated = self

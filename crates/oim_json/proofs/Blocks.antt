@@ -1,11 +1,12 @@
 -- Texts of facts, each behind a comma, and where each ends.
-use Rattle.std.proofs.Common.{◌≡◌, ℕ, zero, suc, ◌+◌, ◌-◌, ◌≤◌, ◌<◌, List, [], ◌∷◌, ◌++◌, length, take, drop, get_or, Some, None, refl, ap, sym, ◌∙◌, arith, append-nil, append_assoc, length-append, slice_get, option_map, inl, inr, ◌⊎◌}
+use Rattle.std.proofs.Common.{◌≡◌, ℕ, zero, suc, ◌+◌, ◌-◌, ◌≤◌, ◌<◌, List, [], ◌∷◌, ◌++◌, length, take, drop, get_or, slice_get}
+use Rattle.std.proofs.Common.{Some, None, option_map, inl, inr, ◌⊎◌, refl, ap, sym, ◌∙◌, arith, append-nil, append_assoc, length-append}
 use Rattle.std.specs.List.{slice_range}
 use Rattle.std.proofs.Math.Seq.{drop-append-add}
 use Rattle.std.proofs.lemmas.Grind.{flat_map-append}
 use Rattle.std.proofs.lemmas.List.{length-drop, take_at, take_more, take-append-drop}
 use Rattle.std.proofs.lemmas.Option.{get_or_from_slice_get, slice_get_cases, slice_get_within}
-use Rattle.oim_resolve.specs.declared.fact.Fact.{Fact}
+use Rattle.oim_resolve.specs.FactParts.{FactParts as Fact}
 use Rattle.oim_json.specs.JsonText.{member_text}
 use Rattle.oim_json.specs.Document.{facts_text}
 use Rattle.oim_json.specs.Blocks.{behind_comma, behind_commas, ends_from}
@@ -66,7 +67,8 @@ texts_push fs f = texts_append fs (f ∷ []) ∙ ap (λ t. behind_commas fs ++ t
 
 pub ends_push : (n : ℕ) (fs : List Fact) (f : Fact) → ends_from n (fs ++ f ∷ []) ≡ ends_from n fs ++ (n + length (behind_commas (fs ++ f ∷ []))) ∷ []
 ends_push n fs f =
-    let there : (n + length (behind_commas fs)) + length (behind_comma f) ≡ n + length (behind_commas (fs ++ f ∷ [])) = omega (arith, length-append (behind_commas fs) (behind_comma f), ap length (texts_push fs f)) in
+    let there : (n + length (behind_commas fs)) + length (behind_comma f) ≡ n + length (behind_commas (fs ++ f ∷ [])) =
+    omega (arith, length-append (behind_commas fs) (behind_comma f), ap length (texts_push fs f)) in
     ends_append n fs (f ∷ []) ∙ ap (λ t. ends_from n fs ++ t) (ends_one (n + length (behind_commas fs)) f ∙ ap (λ k. k ∷ []) there)
 
 -- the texts before a place, and those from there on
@@ -114,8 +116,8 @@ written_one fs i f bytes opened written h is so first then =
     then ∙ ap (λ t. t ++ member_text f) (first ∙ ap (λ t. t ++ 44 ∷ []) so) ∙ append_assoc (behind_commas (take i fs)) (44 ∷ []) (member_text f)
     ∙ sym (texts_push (take i fs) f) ∙ ap (λ g. behind_commas (take i fs ++ g ∷ [])) is ∙ ap behind_commas (sym (take_more fs i f h))
 
-pub noted_one : (fs : List Fact) (i n end : ℕ) (f : Fact) (ends noted : List ℕ) → i < length fs → ends ≡ ends_from n (take i fs) → end ≡ n + length (behind_commas (take (i + 1) fs)) → noted ≡ ends ++ end ∷ []
-    → noted ≡ ends_from n (take (i + 1) fs)
+pub noted_one : (fs : List Fact) (i n end : ℕ) (f : Fact) (ends noted : List ℕ) → i < length fs → ends ≡ ends_from n (take i fs)
+    → end ≡ n + length (behind_commas (take (i + 1) fs)) → noted ≡ ends ++ end ∷ [] → noted ≡ ends_from n (take (i + 1) fs)
 noted_one fs i n end f ends noted h so at then =
     let more = take_more fs i f h in
     then ∙ ap (λ t. t ++ end ∷ []) so ∙ ap (λ k. ends_from n (take i fs) ++ k ∷ []) (at ∙ ap (λ t. n + length (behind_commas t)) more)
@@ -140,7 +142,8 @@ text_between fs i a b h from to = by (slice_get_cases fs i).1
   where
     by : ((f : Fact) × (i < length fs) × (slice_get fs i ≡ Some f) × (get_or fs i f ≡ f)) ⊎ ((length fs ≤ i) × (slice_get fs i ≡ None)) → (a ≤ b) × (b ≤ length (behind_commas fs))
     by (inl (f, within, at, same)) =
-        let upto : behind_commas (take (i + 1) fs) ≡ behind_commas (take i fs) ++ (44 ∷ member_text f) = ap behind_commas (take_more fs i f within ∙ ap (λ g. take i fs ++ g ∷ []) same) ∙ texts_push (take i fs) f in
+        let upto : behind_commas (take (i + 1) fs) ≡ behind_commas (take i fs) ++ (44 ∷ member_text f) =
+        ap behind_commas (take_more fs i f within ∙ ap (λ g. take i fs ++ g ∷ []) same) ∙ texts_push (take i fs) f in
         (omega (arith, from, to, ap length upto, length-append (behind_commas (take i fs)) (44 ∷ member_text f)), omega (arith, to, texts_within (i + 1) fs))
     by (inr (past, none)) = absurd (omega arith)
 

@@ -5,15 +5,7 @@ use Rattle.oim_json.specs.Chunks.{IsPut, Puts}
 use Rattle.oim_json.specs.Document.{piece}
 use Rattle.oim_json.specs.Sinks.{SinkView, Broke, WritesAll, Wrote}
 use Rattle.oim_json.specs.declared.mark.WriteFault.{WriteFault}
-use Rattle.oim_json.proofs.Writes.{broke_before, broke_later, wrote_nothing, wrote_twice}
-
--- the text waits behind the others
-pub waits_too : (a : SinkView) (waited waits text : List ℕ) → waits ≡ waited ++ text → IsPut a a waited waits text
-waits_too a waited waits text is = record { written = []; wrote = wrote_nothing a; rest = sym is }
-
--- what waited was written, and the text waits
-pub waits_alone : (a b : SinkView) (waited waits text : List ℕ) → Wrote a b waited → waits ≡ [] ++ text → IsPut a b waited waits text
-waits_alone a b waited waits text wrote is = record { written = waited; wrote = wrote; rest = ap (λ l. waited ++ l) (sym is) }
+use Rattle.oim_json.proofs.Writes.{broke_before, broke_later, wrote_twice}
 
 -- both were written
 none_waits : (a b c : SinkView) (waited waits text : List ℕ) → Wrote a b waited → Wrote b c text → waits ≡ [] → IsPut a c waited waits text
@@ -21,7 +13,8 @@ none_waits a b c waited waits text first second none =
     record { written = waited ++ text; wrote = wrote_twice a b c waited text first second; rest = sym (ap (λ l. (waited ++ text) ++ l) none ∙ append-nil (waited ++ text)) }
 
 -- a text that is longer than a chunk
-pub put_past : (a b c : SinkView) (waited waits text : List ℕ) (r : Result (Unit {0}) WriteFault) → Wrote a b waited → waits ≡ [] → WritesAll b.mark c.mark b.told c.told r text → Puts a c waited waits text r
+pub put_past : (a b c : SinkView) (waited waits text : List ℕ) (r : Result (Unit {0}) WriteFault)
+    → Wrote a b waited → waits ≡ [] → WritesAll b.mark c.mark b.told c.told r text → Puts a c waited waits text r
 put_past a b c waited waits text (Ok u) first none second = none_waits a b c waited waits text first second none
 put_past a b c waited waits text (Err fault) first none second = broke_later a b c waited text fault first second
 

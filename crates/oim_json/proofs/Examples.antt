@@ -3,9 +3,9 @@ use Rattle.std.proofs.Common.{◌≡◌, [], ◌∷◌, ◌++◌, Some, None, tr
 use Rattle.std.specs.List.{list_all}
 use Rattle.std.specs.Fmt.{digits}
 use Rattle.oim_meta.specs.ReportValue.{ReportValue}
-use Rattle.oim_resolve.specs.declared.fact.Fact.{Fact}
+use Rattle.oim_resolve.specs.FactParts.{FactParts as Fact}
 use Rattle.oim_json.specs.Blocks.{behind_commas, ends_from}
-use Rattle.oim_json.specs.Document.{members, more_members, piece, tail_text, text_after}
+use Rattle.oim_json.specs.Document.{has_any, members, more_members, piece, tail_text, text_after}
 use Rattle.oim_json.specs.FaultNames.{number_of, name_of}
 use Rattle.oim_json.specs.JsonText.{escaped_byte, is_unescaped, quoted, value_text, dimension_text, decimals_text, comma_before, member_text, namespace_text, base_url_text, head_text}
 use Rattle.oim_json.specs.Lines.{cut_at_line_feeds, with_commas}
@@ -25,7 +25,8 @@ cash =
           ∷ (codes "period", Some (codes "2021-01-01T00:00:00/2022-01-01T00:00:00")) ∷ (codes "unit", Some (codes "iso4217:EUR")) ∷ [];
     }
 
-cash_text : member_text cash ≡ codes "\"t1.r_1.cash\":{\"dimensions\":{\"concept\":\"eg:Cash\",\"entity\":\"eg:A1\",\"period\":\"2021-01-01T00:00:00/2022-01-01T00:00:00\",\"unit\":\"iso4217:EUR\"},\"value\":\"100\"}"
+cash_text : member_text cash
+    ≡ codes "\"t1.r_1.cash\":{\"dimensions\":{\"concept\":\"eg:Cash\",\"entity\":\"eg:A1\",\"period\":\"2021-01-01T00:00:00/2022-01-01T00:00:00\",\"unit\":\"iso4217:EUR\"},\"value\":\"100\"}"
 unfolding cash escaped_byte quoted value_text dimension_text decimals_text member_text
 cash_text = refl
 
@@ -80,7 +81,9 @@ sample =
       parameters = [];
     }
 
-sample_head : head_text sample ≡ codes "{\"documentInfo\":{\"documentType\":\"https://xbrl.org/2021/xbrl-json\",\"namespaces\":{\"eg\":\"http://example.com/eg\",\"iso4217\":\"http://www.xbrl.org/2003/iso4217\",\"xbrli\":\"http://www.xbrl.org/2003/instance\"},\"taxonomy\":[\"http://example.com/eg.xsd\"]},\"facts\":{"
+sample_head : head_text sample
+    ≡ codes "{\"documentInfo\":{\"documentType\":\"https://xbrl.org/2021/xbrl-json\",\"namespaces\":{\"eg\":\"http://example.com/eg\","
+    ++ codes "\"iso4217\":\"http://www.xbrl.org/2003/iso4217\",\"xbrli\":\"http://www.xbrl.org/2003/instance\"},\"taxonomy\":[\"http://example.com/eg.xsd\"]},\"facts\":{"
 unfolding sample escaped_byte quoted namespace_text base_url_text head_text
 sample_head = refl
 
@@ -155,6 +158,14 @@ unfinished_in_lines = refl
 more_in_lines : more_members Lines true (brief ∷ []) ≡ codes ",\n\"a\":{\"dimensions\":{},\"value\":null}"
 unfolding brief escaped_byte quoted value_text decimals_text member_text
 more_in_lines = refl
+
+-- the first of two has no comma where none stands before it, and the second has one
+two_members : more_members Compact false (brief ∷ brief ∷ []) ≡ codes "\"a\":{\"dimensions\":{},\"value\":null},\"a\":{\"dimensions\":{},\"value\":null}"
+unfolding brief escaped_byte quoted value_text decimals_text member_text
+two_members = refl
+
+has_members : (has_any false [] ≡ false) × (has_any true [] ≡ true) × (has_any false (brief ∷ []) ≡ true)
+has_members = (refl, refl, refl)
 
 -- cut at its line feeds, it gives the head, each member with its comma, the closing braces, and nothing behind the last line feed
 lines_cut : cut_at_line_feeds (codes "{\n\"a\":1,\n\"b\":2\n}}\n") ≡ codes "{" ∷ codes "\"a\":1," ∷ codes "\"b\":2" ∷ codes "}}" ∷ [] ∷ []

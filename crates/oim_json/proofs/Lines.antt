@@ -1,5 +1,6 @@
 -- No line feed stands in the text of a fact or of a head, since each byte of a text is written escaped.
-use Rattle.std.proofs.Common.{◌≡◌, ◌∙◌, sym, ap, append_assoc, append-nil, ℕ, zero, suc, ◌+◌, ◌/◌, ◌%◌, ℤ, pos, negsuc, List, [], ◌∷◌, ◌++◌, map, Option, Some, None, Bool, true, false, not, ◌&&◌, ◌==◌, nat_lt, refl, arith, codes}
+use Rattle.std.proofs.Common.{◌≡◌, ◌∙◌, refl, sym, ap, arith, append_assoc, append-nil, ℕ, zero, suc, ◌+◌, ◌/◌, ◌%◌, nat_lt, ℤ, pos, negsuc}
+use Rattle.std.proofs.Common.{List, [], ◌∷◌, ◌++◌, map, codes, Option, Some, None, Bool, true, false, not, ◌&&◌, ◌==◌}
 use Rattle.std.specs.Prelude.{if◌then◌else◌}
 use Rattle.std.specs.List.{AllByRecursion, flat_map, list_all, slice_split}
 use Rattle.std.specs.Char.{digit_char}
@@ -7,7 +8,7 @@ use Rattle.std.specs.Fmt.{digits, digits_onto, digit_glyph, decimal, signed_deci
 use Rattle.oim_names.specs.QName.{Lacks}
 use Rattle.oim_names.proofs.Cut.{eqb_of}
 use Rattle.oim_meta.specs.ReportValue.{ReportValue}
-use Rattle.oim_resolve.specs.declared.fact.Fact.{Fact}
+use Rattle.oim_resolve.specs.FactParts.{FactParts as Fact}
 use Rattle.oim_json.specs.JsonText.{base_url_text, escaped_byte, head_text, namespace_text, quoted, value_text, dimension_text, decimals_text, joined, member_text}
 use Rattle.oim_json.specs.Document.{facts_text, members, placed_member, tail_text, text_after}
 use Rattle.oim_json.specs.Lines.{LinesAreMembers, cut_at_line_feeds, with_commas}
@@ -128,7 +129,9 @@ namespace_line n =
 
 base_url_line : (url : Option (List ℕ)) → Lacks 10 (base_url_text url)
 unfolding base_url_text
-base_url_line (Some url) = both (codes "\"baseURL\":" ++ quoted url) (codes ",") (both (codes "\"baseURL\":") (quoted url) (fixed (codes "\"baseURL\":") refl) (quoted_line url)) (fixed (codes ",") refl)
+base_url_line (Some url) =
+    let name = codes "\"baseURL\":" in
+    both (name ++ quoted url) (codes ",") (both name (quoted url) (fixed name refl) (quoted_line url)) (fixed (codes ",") refl)
 base_url_line None = tt
 
 pub head_line : (r : ReportValue) → Lacks 10 (head_text r)

@@ -4,7 +4,7 @@ use Rattle.std.specs.Prelude.{Some}
 use Rattle.std.specs.List.{slice_get}
 use Rattle.std.proofs.lemmas.List.{take_more, take-append-drop}
 use Rattle.std.proofs.lemmas.Option.{get_or_from_slice_get, slice_get_within}
-use Rattle.oim_resolve.specs.declared.fact.Fact.{Fact}
+use Rattle.oim_resolve.specs.FactParts.{FactParts as Fact}
 use Rattle.oim_json.specs.Blocks.{behind_commas}
 use Rattle.oim_json.specs.Document.{has_any, members, more_members, piece, placed_member}
 use Rattle.oim_json.specs.JsonText.{joined}

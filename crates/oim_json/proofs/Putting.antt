@@ -1,7 +1,7 @@
 -- A block's members, each put on a line of its own.
 use Rattle.std.specs.Prelude.{◌≡◌, ◌+◌, ℕ, Bool, List, [], ◌++◌, Option, Some, None, take, drop, option_map, slice_get}
 use Rattle.std.proofs.Common.{refl, sym, ap, ◌∙◌, subst}
-use Rattle.oim_resolve.specs.declared.fact.Fact.{Fact}
+use Rattle.oim_resolve.specs.FactParts.{FactParts as Fact}
 use Rattle.oim_json.specs.Chunks.{IsPut}
 use Rattle.oim_json.specs.Document.{has_any, line_start, more_members, piece}
 use Rattle.oim_json.specs.JsonText.{member_text}
@@ -24,7 +24,8 @@ module _ (any : Bool) (fs : List Fact) (i : ℕ) (has : Bool) (text : List ℕ) 
       by None none = absurd (let no : None ≡ Some text = ap (option_map member_text) (sym none) ∙ at in cc)
       by (Some f) found =
           let is : member_text f ≡ text = (let same : Some (member_text f) ≡ Some text = ap (option_map member_text) (sym found) ∙ at in cc) in
-          one_more Lines any fs i f found ∙ ap (λ t. more_members Lines any (take i fs) ++ t) (ap (λ b. piece b (line_start Lines ++ member_text f)) (sym so) ∙ ap (λ t. piece has (line_start Lines ++ t)) is)
+          one_more Lines any fs i f found
+          ∙ ap (λ t. more_members Lines any (take i fs) ++ t) (ap (λ b. piece b (line_start Lines ++ member_text f)) (sym so) ∙ ap (λ t. piece has (line_start Lines ++ t)) is)
 
   module _ (first now new : SinkView) (waited waits : List ℕ) (put : IsPut first now [] waited (more_members Lines any (take i fs))) where
     pub line_put : IsPut now new waited waits line → IsPut first new [] waits (more_members Lines any (take (i + 1) fs))

@@ -33,7 +33,8 @@ pub slice_rest : (i : ℕ) (xs : List ℕ) → take (length xs - i) (drop i xs) 
 slice_rest i xs = subst (λ (n : ℕ). take n (drop i xs) ≡ drop i xs) (length-drop i xs) (take-length (drop i xs))
 
 -- a write of n bytes of the rest from i on
-pub writes_more : (a b c : Option (List ℕ)) (xs : List ℕ) (i n : ℕ) → i ≤ length xs → n ≤ length (take (length xs - i) (drop i xs)) → Appends a b (take i xs) → Appends b c (take n (take (length xs - i) (drop i xs)))
+pub writes_more : (a b c : Option (List ℕ)) (xs : List ℕ) (i n : ℕ) → i ≤ length xs → n ≤ length (take (length xs - i) (drop i xs))
+    → Appends a b (take i xs) → Appends b c (take n (take (length xs - i) (drop i xs)))
     → (i + n ≤ length xs) × Appends a c (take (i + n) xs)
 writes_more a b c xs i n le at p q =
     let at' : n ≤ length (drop i xs) = subst (λ (l : List ℕ). n ≤ length l) (slice_rest i xs) at in

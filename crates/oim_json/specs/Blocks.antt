@@ -1,7 +1,7 @@
 -- The bytes of a block: the text of each fact behind a comma, and where each of these texts ends.
 use Rattle.std.specs.Prelude.{ℕ, ◌+◌, List, [], ◌∷◌, length}
 use Rattle.std.specs.List.{flat_map}
-use Rattle.oim_resolve.specs.declared.fact.Fact.{Fact}
+use Rattle.oim_resolve.specs.FactParts.{FactParts as Fact}
 use Rattle.oim_json.specs.JsonText.{member_text}
 
 -- a comma, and the text of a fact

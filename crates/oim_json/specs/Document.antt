@@ -1,6 +1,6 @@
 -- The parts of a document: head, the facts' members joined by commas, tail (xBRL-JSON 1.0, the report object).
 use Rattle.std.specs.Prelude.{ℕ, List, [], ◌∷◌, ◌++◌, map, codes, Bool, true, false}
-use Rattle.oim_resolve.specs.declared.fact.Fact.{Fact}
+use Rattle.oim_resolve.specs.FactParts.{FactParts as Fact}
 use Rattle.oim_json.specs.JsonText.{joined, member_text}
 use Rattle.oim_json.specs.declared.layout.Layout.{Layout}
 use Rattle.oim_json.specs.declared.layout.Layout.TheVariants.{Compact, Lines}

@@ -3,7 +3,7 @@ use Rattle.std.specs.Prelude.{◌≡◌, ◌==◌, ℕ, List, [], ◌∷◌, ◌
 use Rattle.std.specs.List.{slice_split}
 use Rattle.oim_meta.specs.ReportValue.{ReportValue}
 use Rattle.oim_names.specs.QName.{Lacks}
-use Rattle.oim_resolve.specs.declared.fact.Fact.{Fact}
+use Rattle.oim_resolve.specs.FactParts.{FactParts as Fact}
 use Rattle.oim_json.specs.JsonText.{head_text, member_text}
 use Rattle.oim_json.specs.Document.{facts_text, tail_text, text_after}
 use Rattle.oim_json.specs.declared.layout.Layout.TheVariants.{Lines}

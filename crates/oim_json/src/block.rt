@@ -1,6 +1,6 @@
 //! Blocks: the texts of some facts.
 
-ghost use Rattle.std.specs.Prelude.{◌≡◌, ◌≤◌, ◌<◌, ◌+◌, [], Some, drop, take, length, option_map, slice_get, slice_range, IfOk};
+ghost use Rattle.std.specs.Prelude.{◌≡◌, ◌≤◌, ◌<◌, ◌+◌, Some, drop, take, length, option_map, slice_get, slice_range, IfOk};
 ghost use Rattle.oim_json.specs.Blocks.{behind_commas, ends_from};
 ghost use Rattle.oim_json.specs.Document.{facts_text, more_members};
 ghost use Rattle.oim_json.specs.JsonText.{member_text};
@@ -14,8 +14,8 @@ use std::alloc::{AllocError, Global};
 use std::marker::Model;
 use told::Told;
 
-/// The texts of 1 to 256 facts, joined by commas. A contract sees the list of facts, which no code
-/// holds any more.
+/// The texts of 1 to 256 facts, joined by commas. A contract sees the list of facts; the block itself
+/// keeps only their texts.
 #[derive(Drop)]
 pub struct Block {
     // each text behind a comma
@@ -27,17 +27,17 @@ pub struct Block {
 
 impl Model for Block {
     ghost use Rattle.std.specs.Prelude.{◌≡◌, ◌≤◌, List, length};
-    ghost use Rattle.oim_resolve.specs.declared.fact.Fact.{Fact as FactValue};
+    ghost use Rattle.oim_resolve.specs.FactParts.{FactParts};
     ghost use Rattle.oim_json.specs.Blocks.{behind_commas, ends_from};
 
-    ghost Value = { List FactValue };
+    ghost Value = { List FactParts };
 
     ghost view = { λ b. b.facts.value };
 
     ghost invariant = { λ b. (b.bytes.items ≡ behind_commas b.facts.value) × (b.ends.items ≡ ends_from 0 b.facts.value) × (1 ≤ length b.facts.value) × (length b.facts.value ≤ 256) };
 }
 
-/// The block of 1 to 256 facts. Fails where memory is short.
+/// The block of 1 to 256 facts. It fails only if memory runs out.
 pub fn block_of(alloc: Global, facts: &Items<Fact>) -> Result<Block, AllocError>
     requires some { 1 ≤ length facts.now }
     requires most { length facts.now ≤ 256 }
@@ -58,8 +58,8 @@ pub fn block_of(alloc: Global, facts: &Items<Fact>) -> Result<Block, AllocError>
 }
 
 impl Block {
-    /// A block of the texts of 1 to 256 facts, each behind a comma, of where each of them ends, and
-    /// of what is told of the facts.
+    /// A block from the texts of 1 to 256 facts, each behind a comma, and from where each text ends.
+    /// `facts` tells contracts the facts. It takes no memory.
     pub fn from_parts(bytes: Vec<u8>, ends: Vec<usize>, facts: Told<Items<Fact>>) -> Block
         requires texts { bytes.items ≡ behind_commas facts.value }
         requires ends { ends.items ≡ ends_from 0 facts.value }
@@ -115,13 +115,12 @@ impl Block {
         self.ends[i - 1] + 1
     }
 
-    /// The room of the texts, without them, for those of another block. It takes no memory.
+    /// The vector of the texts, which it still holds, each behind a comma. It is for the texts of another
+    /// block.
     pub fn into_room(self) -> Vec<u8>
-        ensures { result.items ≡ [] }
+        ensures { result.items ≡ behind_commas self }
     {
-        let mut room = self.bytes;
-        room.clear();
-        room
+        self.bytes
     }
 }
 

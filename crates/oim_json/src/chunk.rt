@@ -11,8 +11,8 @@ use std::marker::Model;
 /// How many bytes a chunk holds.
 const CHUNK: usize = 8192;
 
-/// At most 8,192 bytes that wait to be written. They stand in the chunk itself, so it takes no
-/// memory. A contract sees the bytes that wait.
+/// At most 8,192 bytes that wait to be written. They stand in the chunk itself, so it does not
+/// allocate. A contract sees the bytes that wait.
 #[derive(Drop)]
 pub(crate) struct Chunk {
     bytes: [u8; CHUNK],

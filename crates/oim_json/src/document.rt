@@ -23,8 +23,8 @@ pub fn tail(layout: Layout) -> &'static [u8]
     }
 }
 
-/// What stands before the members: the report's information in xBRL-JSON 1.0, on one line. Fails
-/// where memory is short.
+/// What stands before the members: the report's information in xBRL-JSON 1.0, on one line. It fails
+/// only if memory runs out.
 pub fn head(alloc: Global, report: &Report) -> Result<Vec<u8>, AllocError>
     ensures { IfOk result (λ bytes. bytes.items ≡ head_text report.now) }
 {

@@ -6,9 +6,9 @@
 //!   with texts escaped as `serde_json` does, or a member on each line);
 //! - a text of a fact holds no line feed, and a document in lines, cut at its line feeds, gives the
 //!   head, each fact's text with its comma, and the closing braces (`specs/Lines.antt`);
-//! - `write_members` that is Ok has written the members of a block in the layout asked for;
-//! - `write_all_of` that is Ok has written all of its bytes; else a beginning of them, and the sink's
-//!   mark is the fault that it answers.
+//! - `write_members`, if it is Ok, has written the members of a block in the layout asked for;
+//! - `write_all_of`, if it is Ok, has written all of its bytes; else it has written a beginning of them,
+//!   and the sink's mark is the fault that it answers.
 #![tactic(auto)]
 
 mod block;

@@ -3,6 +3,8 @@
 ghost use Rattle.std.specs.Prelude.{◌≡◌};
 ghost use Rattle.oim_json.specs.FaultNames.{number_of, name_of};
 
+use thiserror::Error;
+
 /// Whether writes to a sink have failed.
 #[derive(Debug, Clone, Copy, PartialEq, Eq)]
 pub enum Mark {
@@ -15,11 +17,13 @@ pub enum Mark {
 }
 
 /// Why bytes could not be written.
-#[derive(Debug, Clone, Copy, PartialEq, Eq)]
+#[derive(Debug, Clone, Copy, PartialEq, Eq, Error)]
 pub enum WriteFault {
     /// A write answered an error.
+    #[error("a write failed")]
     Failed,
     /// A write answered 0.
+    #[error("a write took no bytes")]
     Zero,
 }
 

@@ -4,13 +4,13 @@ ghost use Rattle.std.specs.Prelude.{◌≡◌, ◌++◌, IfOk, OnOk};
 ghost use Rattle.oim_json.specs.JsonText.{decimals_text, member_text};
 ghost use Rattle.oim_json.specs.Lines.{IsOneLine};
 
-use crate::write::{JsonText, push_integer, push_joined, push_text};
+use crate::write::{push_integer, push_joined, push_text, push_value};
 use oim_resolve::Fact;
 use std::alloc::{AllocError, Global};
 use std::marker::Model;
 use std::snapshot::Snapshot;
 
-/// The text of a fact. A contract sees the fact, which no code holds any more.
+/// The text of a fact. A contract sees the fact; the member itself keeps only its text.
 #[derive(Drop)]
 pub struct Member {
     bytes: Vec<u8>,
@@ -19,20 +19,17 @@ pub struct Member {
 
 impl Model for Member {
     ghost use Rattle.std.specs.Prelude.{◌≡◌};
-    ghost use Rattle.oim_resolve.specs.declared.fact.Fact.{Fact as FactValue};
-    ghost use Rattle.oim_resolve.specs.contracts.fact.Fact.{the_row};
+    ghost use Rattle.oim_resolve.specs.FactParts.{FactParts};
     ghost use Rattle.oim_json.specs.JsonText.{member_text};
 
-    ghost Value = { FactValue };
-
-    ghost coded = { the_row.coded };
+    ghost Value = { FactParts };
 
     ghost view = { λ m. m.fact.value };
 
     ghost invariant = { λ m. m.bytes.items ≡ member_text m.fact.value };
 }
 
-/// The member of a fact (xBRL-JSON 1.0, the facts object). Fails where memory is short.
+/// The member of a fact (xBRL-JSON 1.0, the facts object). It fails only if memory runs out.
 pub fn member_of(alloc: Global, fact: &Fact) -> Result<Member, AllocError>
     ensures { IfOk result (λ m. m ≡ fact.now) }
 {
@@ -54,27 +51,19 @@ impl Member {
     }
 }
 
-#[tactic(auto, using(std::proofs::Common::append_assoc), unfolding(crate::specs::JsonText::member_text))]
+/// Appends the text of a fact: its identifier and its object.
 pub(crate) fn push_member(alloc: Global, out: &mut Vec<u8>, fact: &Fact) -> Result<(), AllocError>
     ensures { OnOk result (out.new.items ≡ out.old.items ++ member_text fact.now) }
 {
-    push_text(alloc, out, fact.id.as_str())?;
+    push_text(alloc, out, fact.id())?;
     out.extend_from_slice(b":{")?;
-    push_decimals(out, fact.decimals)?;
+    push_decimals(out, fact.decimals())?;
     out.extend_from_slice(b"\"dimensions\":{")?;
-    push_joined(alloc, out, fact.dimensions.as_slice())?;
+    push_joined(alloc, out, fact.dimensions())?;
     out.extend_from_slice(b"},\"value\":")?;
-    fact.value.push_to(alloc, out)?;
+    push_value(alloc, out, fact.value())?;
     out.push(b'}')?;
     Ok(())
-}
-
-impl JsonText for Fact {
-    ghost text = { member_text };
-
-    fn push_to(&self, alloc: Global, out: &mut Vec<u8>) -> Result<(), AllocError> {
-        push_member(alloc, out, self)
-    }
 }
 
 fn push_decimals(out: &mut Vec<u8>, decimals: Option<i32>) -> Result<(), AllocError>

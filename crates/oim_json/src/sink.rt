@@ -16,7 +16,7 @@ pub trait Sink {
 
     ghost mark: { Self → Mark };
 
-    /// Writes some of the bytes, and answers how many.
+    /// Writes some of the bytes, and answers how many: at most all of them, and 0 where it takes none.
     fn write_some(&mut self, bytes: &[u8]) -> io::Result<usize>
         requires { 0 < length bytes.now }
         ensures { WritesSome (mark self.old) (mark self.new) (told self.old) (told self.new) result bytes.now };
@@ -58,7 +58,8 @@ impl<W: Write> Sink for Marked<W> {
     }
 }
 
-/// Writes all the bytes, or says why it could not.
+/// Writes all the bytes. If a write answers an error (`Failed`) or takes nothing (`Zero`), a beginning
+/// of them is written.
 pub fn write_all_of<W: Sink>(sink: &mut W, bytes: &[u8]) -> Result<(), WriteFault>
     ensures { WritesAll (W.mark sink.old) (W.mark sink.new) (W.told sink.old) (W.told sink.new) result bytes.now }
 {

@@ -1,5 +1,7 @@
 //! Texts and writes on worked facts.
 
+ghost use Rattle.std.specs.Prelude.{◌≡◌, IfOk};
+
 use crate::{Layout, Marked, Member, TAIL, block_of, member_of, tail, write_members};
 use oim_names::{Items, Text};
 use oim_resolve::Fact;
@@ -8,20 +10,22 @@ use std::io;
 use std::io::Write;
 use std::test::Fail;
 
-fn text(alloc: Global, s: &str) -> Result<Text, AllocError> {
-    Ok(Text::new(String::from_str(alloc, s)?))
+fn text(alloc: Global, s: &str) -> Result<Text, AllocError>
+    ensures { IfOk result (λ t. t ≡ s.now) }
+{
+    Text::from_str(alloc, s)
 }
 
 fn sample(alloc: Global) -> Result<Fact, AllocError> {
     let mut dimensions = Vec::new(alloc);
     dimensions.push((text(alloc, "concept")?, Some(text(alloc, "eg:Note")?)))?;
     dimensions.push((text(alloc, "eg:Branch")?, None))?;
-    Ok(Fact {
-        id: text(alloc, "t1.r_1.note")?,
-        value: Some(text(alloc, "say \"hi\" \\\n\u{e9}\u{1}")?),
-        decimals: Some(-2),
-        dimensions: Items::from_vec(dimensions),
-    })
+    Ok(Fact::new(
+        text(alloc, "t1.r_1.note")?,
+        Some(text(alloc, "say \"hi\" \\\n\u{e9}\u{1}")?),
+        Some(-2),
+        Items::from_vec(dimensions),
+    ))
 }
 
 fn is_sent<T: Send + Drop>(_value: T) {}

@@ -3,6 +3,7 @@
 ghost use Rattle.std.specs.Prelude.{◌≡◌, ◌++◌, ℕ, List, map, OnOk};
 ghost use Rattle.std.specs.Fmt.{signed_decimal};
 ghost use Rattle.std.specs.List.{list_all};
+ghost use Rattle.std.specs.Option.{option_map};
 ghost use Rattle.oim_json.specs.JsonText.{is_unescaped, quoted, value_text, dimension_text, namespace_text, comma_before, joined};
 
 use itoa::Buffer;
@@ -55,15 +56,18 @@ impl JsonText for Text {
     }
 }
 
-impl JsonText for Option<Text> {
-    ghost text = { value_text };
-
-    #[tactic(auto, unfolding(crate::specs::JsonText::value_text))]
-    fn push_to(&self, alloc: Global, out: &mut Vec<u8>) -> Result<(), AllocError> {
-        match self {
-            Some(text) => push_text(alloc, out, text.as_str()),
-            None => out.extend_from_slice(b"null"),
-        }
+/// Appends a text in quotes, or null.
+#[tactic(auto, unfolding(crate::specs::JsonText::value_text))]
+pub(crate) fn push_value(
+    alloc: Global,
+    out: &mut Vec<u8>,
+    value: Option<&Text>,
+) -> Result<(), AllocError>
+    ensures { OnOk result (out.new.items ≡ out.old.items ++ value_text (option_map (λ t. t.now) value.entry)) }
+{
+    match value {
+        Some(text) => push_text(alloc, out, text.as_str()),
+        None => out.extend_from_slice(b"null"),
     }
 }
 
@@ -74,7 +78,7 @@ impl JsonText for (Text, Option<Text>) {
     fn push_to(&self, alloc: Global, out: &mut Vec<u8>) -> Result<(), AllocError> {
         push_text(alloc, out, self.0.as_str())?;
         out.push(b':')?;
-        self.1.push_to(alloc, out)
+        push_value(alloc, out, self.1.as_ref())
     }
 }
 

@@ -13,9 +13,9 @@ use crate::mark::WriteFault;
 use crate::sink::{Sink, write_all_of};
 
 /// Writes the members of a block's facts, behind those that the document has already, if it has
-/// `any`. Fails where a write answers an error (Failed) or takes nothing (Zero), with a beginning of
-/// these members written. It takes no memory beyond what the sink takes. A compact block is written
-/// in one call; in lines up to 8,192 bytes are put together for each call.
+/// `any`. If a write answers an error (`Failed`) or takes nothing (`Zero`), a beginning of these members
+/// is written. It takes no memory apart from what the sink takes. A compact block is written as one
+/// text; in lines up to 8,192 bytes are put together for each write.
 pub fn write_members<W: Sink>(
     sink: &mut W,
     layout: Layout,

@@ -1,4 +1,4 @@
--- The drains, of which the first were taken.
+-- A list of drains of which the first ones were taken to their endings.
 use Rattle.std.specs.Prelude.{◌≡◌, ℕ, ◌<◌, ◌≤◌, ◌+◌, zero, suc, List, [], ◌∷◌, ◌++◌, length, slice_set}
 use Rattle.std.proofs.Common.{arith, refl, ap, sym, ◌∙◌, ◌≢◌, append_assoc, append-nil, get_or, get_or-set_other, get_or-set_same, below_more}
 use Rattle.std.proofs.Math.ListN.{length-set}

@@ -8,7 +8,7 @@ use Rattle.oim_json.specs.declared.layout.Layout.TheVariants.{Compact, Lines}
 use Rattle.oim_merge.specs.Histories.{all_of, document, facts_before, refusals}
 use Rattle.oim_merge.specs.Merging.{Merges}
 use Rattle.oim_merge.specs.declared.progress.MergeEnd.TheVariants as end
-use Rattle.oim_resolve.specs.declared.fact.Fact.{Fact}
+use Rattle.oim_resolve.specs.FactParts.{FactParts as Fact}
 use Rattle.oim_ring.specs.declared.item.Ending.TheVariants.{Closed, Refused}
 use Rattle.oim_ring.specs.declared.item.Item.{Item}
 use Rattle.oim_ring.specs.declared.item.Item.TheVariants.{Block, Ending}
@@ -61,12 +61,12 @@ two_tables : document Compact (codes "{") (whole_a ∷ whole_b ∷ []) ≡ codes
 unfolding members member_text decimals_text dimension_text value_text quoted escaped_byte
 two_tables = refl
 
--- the facts before its refusal stand, and no tail
+-- the facts before the refusal are there, and no tail
 second_refused : document Compact (codes "{") (whole_a ∷ refused_b ∷ []) ≡ codes "{\"a\":{\"dimensions\":{},\"value\":null},\"b\":{\"dimensions\":{},\"value\":null}"
 unfolding members member_text decimals_text dimension_text value_text quoted escaped_byte
 second_refused = refl
 
--- nothing of a later table stands, though that is whole
+-- nothing of a later table is there, even though it is whole
 first_refused : document Compact (codes "{") (refused_a ∷ whole_b ∷ []) ≡ codes "{\"a\":{\"dimensions\":{},\"value\":null}"
 unfolding members member_text decimals_text dimension_text value_text quoted escaped_byte
 first_refused = refl
@@ -81,7 +81,7 @@ no_refusal = refl
 refusal_of_the_second : refusals (all_of (whole_a ∷ refused_b ∷ [])) ≡ second_fault ∷ []
 refusal_of_the_second = refl
 
--- of two refused tables both, in their order, though a whole table stands between them
+-- the faults of both refused tables, in order, even though a whole table stands between them
 refusals_of_both : refusals (all_of (refused_a ∷ whole_b ∷ refused_b ∷ [])) ≡ first_fault ∷ second_fault ∷ []
 refusals_of_both = refl
 
@@ -109,7 +109,7 @@ second_refused_in_lines : document Lines (codes "{") (whole_a ∷ refused_b ∷ 
 unfolding members member_text decimals_text dimension_text value_text quoted escaped_byte
 second_refused_in_lines = refl
 
--- the head alone
+-- only the head
 refused_at_once_in_lines : document Lines (codes "{") ((Ending (Refused first_fault) ∷ []) ∷ whole_b ∷ []) ≡ codes "{"
 unfolding members
 refused_at_once_in_lines = refl

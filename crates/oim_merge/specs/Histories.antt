@@ -1,9 +1,9 @@
--- The text of histories. A history is what was taken from one ring: blocks of facts, and then an ending.
+-- The text of histories. A history is the list of items taken from one ring: blocks of facts, then an ending.
 -- xBRL-CSV 1.0 (a report is the facts of its tables), xBRL-JSON 1.0 (the document).
 use Rattle.std.specs.Prelude.{ℕ, List, [], ◌∷◌, ◌++◌}
 use Rattle.oim_json.specs.Document.{tail_text, text_after}
 use Rattle.oim_json.specs.declared.layout.Layout.{Layout}
-use Rattle.oim_resolve.specs.declared.fact.Fact.{Fact}
+use Rattle.oim_resolve.specs.FactParts.{FactParts as Fact}
 use Rattle.oim_ring.specs.declared.item.Ending.TheVariants.{Closed, Refused}
 use Rattle.oim_ring.specs.declared.item.Item.{Item}
 use Rattle.oim_ring.specs.declared.item.Item.TheVariants.{Block, Ending}
@@ -28,7 +28,7 @@ facts_before (Block facts ∷ items) = facts ++ facts_before items
 facts_before (Ending Closed ∷ items) = facts_before items
 facts_before (Ending (Refused fault) ∷ items) = []
 
--- the tail stands exactly where nothing is refused
+-- the tail is written exactly if nothing is refused
 abbrev pub tail_for : Layout → List TableFault → List ℕ
 tail_for layout [] = tail_text layout
 tail_for layout (fault ∷ faults) = []
@@ -37,6 +37,6 @@ tail_for layout (fault ∷ faults) = []
 abbrev pub unfinished : Layout → List ℕ → List Item → List ℕ
 unfinished layout head items = text_after layout head (facts_before items)
 
--- the head, the facts before the first refusal, and the tail exactly where all endings are Closed
+-- the head, the facts before the first refusal, and the tail exactly if all endings are Closed
 abbrev pub document : Layout → List ℕ → List (List Item) → List ℕ
 document layout head hs = unfinished layout head (all_of hs) ++ tail_for layout (refusals (all_of hs))

@@ -17,21 +17,22 @@ rings_of drains = map (λ d. d.ring) drains
 abbrev pub taken_of : List DrainView → List (List Item)
 taken_of drains = map (λ d. d.taken) drains
 
--- nothing was taken
+-- nothing was taken from any drain
 abbrev pub IsFresh : List DrainView → Type 0
 IsFresh drains = All (λ d. d.taken ≡ []) drains
 
--- each history has one ending, and that is its last item
+-- each history has exactly one ending, which is its last item
 abbrev pub EndEach : List (List Item) → Type 0
 EndEach hs = All EndsOnce hs
 
--- how the writing of a text ends, where the tables have these faults: whole, as it is where there is a fault, or at a failed write
+-- how writing a text ends, where the tables have these faults: the text is written and there is no fault, it is written and there is one,
+-- or a write failed before it was whole
 abbrev pub EndsWith : SinkView → SinkView → List ℕ → List TableFault → MergeEnd → Type 0
 EndsWith old new text faults Complete = (faults ≡ []) × Wrote old new text
 EndsWith old new text faults Refused = (¬ (faults ≡ [])) × Wrote old new text
 EndsWith old new text faults (Write fault) = Broke old new text fault
 
--- these histories are merged behind this head: the faults are those of all refusals, in order, and what is written is the document in
--- this layout
+-- the histories are merged after the head: the faults are those of all refusals, in order, and the text written is the document in the
+-- given layout
 abbrev pub Merges : Layout → SinkView → SinkView → List ℕ → List (List Item) → List TableFault → MergeEnd → Type 0
 Merges layout old new head hs faults end = (faults ≡ refusals (all_of hs)) × EndsWith old new (document layout head hs) faults end

@@ -1,16 +1,16 @@
-//! The writer that merges the rings of all tables, in table order.
+//! The writer, which merges the rings of all tables in table order.
 //!
-//! What the crate promises of `merge`:
+//! What is proved of `merge`:
+//!
 //! - it takes each drain, in order, to its ending and no further;
-//! - what it wrote is the text of the lists taken (`specs/Histories.antt`), in the layout asked for:
-//!   the head, the facts of the blocks before the first refusal, and the tail exactly where no table
-//!   is refused;
-//! - it gives the fault of each ending that is Refused, in table order, whatever the end is;
-//! - it answers Complete only where there is none of them, and Refused only where there is one;
-//! - it answers Write where a write failed or took nothing before that text was whole; then it wrote
-//!   a beginning of the text, and the fault is the sink's mark.
+//! - it writes the text of the items taken (`specs/Histories.antt`) in the given layout: the head, the
+//!   facts of the blocks before the first refusal, and the tail exactly if no table is refused;
+//! - it gives the fault of each ending that is `Refused`, in table order, however the merge ends;
+//! - it answers `Complete` only if there is no such ending, and `Refused` only if there is one;
+//! - it answers `Write` if a write failed or took nothing before the text was whole; then it wrote a
+//!   beginning of the text, and the fault is the sink's mark.
 //!
-//! It waits, and that it returns is not promised.
+//! It waits, and it is not proved that it returns.
 #![tactic(auto)]
 
 mod merging;

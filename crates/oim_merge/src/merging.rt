@@ -15,16 +15,17 @@ use oim_ring::{Drain, Ending, Item};
 use oim_rows::TableFault;
 use std::sync::Wait;
 
-/// Writes the document that begins with this head and has the facts of all drains, in order, in the
-/// layout asked for. It takes each drain to its ending and no further, writes until a refusal or a
-/// write fault, and after that only drains. Nothing may have been taken from any drain. It waits for
-/// items, and takes no memory beyond what the sink takes: `faults` is empty and has room for one
-/// fault of each drain.
+/// Writes the document that begins with `head` and has the facts of all drains, in order, in the given
+/// layout (xBRL-JSON 1.0). It takes each drain to its ending and no further. It writes until a refusal
+/// or a write fault, and after that it only empties the drains. Nothing may have been taken from any
+/// drain before, and `faults` must be empty and have room for one fault for each drain. It waits for
+/// items, and allocates only what the sink allocates.
 ///
-/// Whatever the end is, `faults` then holds the fault of each drain that ended refused, in their
-/// order. Complete: every drain ended closed, and the document is whole. Refused: a drain ended
-/// refused; the facts before the first such ending are written, and no tail. Write: a write failed
-/// (Failed) or took nothing (Zero), and a beginning of the document is written.
+/// However it ends, `faults` then holds the fault of each drain that ended refused, in their order. The
+/// answer is `Complete` if every drain ended closed and the document is whole; `Refused` if a drain
+/// ended refused, and then the facts before the first such ending are written, without a tail; and
+/// `Write` if a write failed (`Failed`) or took nothing (`Zero`), and then a beginning of the document
+/// is written.
 pub fn merge<R: Wait, W: Sink>(
     rt: &R,
     drains: &mut [Drain],
@@ -47,7 +48,7 @@ pub fn merge<R: Wait, W: Sink>(
     finish(progress, layout, sink)
 }
 
-// Writes the head.
+/// Writes the head.
 fn begin<W: Sink>(head: &[u8], sink: &mut W) -> Progress
     ensures { Begins head.now (sink_at (W.mark sink.old) (W.told sink.old)) (sink_at (W.mark sink.new) (W.told sink.new)) result }
 {
@@ -61,7 +62,7 @@ fn begin<W: Sink>(head: &[u8], sink: &mut W) -> Progress
     }
 }
 
-// Takes a drain to its ending, writes what it gives, and notes its fault where it is refused.
+/// Takes a drain to its ending, writes its blocks, and notes its fault if it is refused.
 fn take_all<R: Wait, W: Sink>(
     rt: &R,
     drain: &mut Drain,
@@ -82,7 +83,10 @@ fn take_all<R: Wait, W: Sink>(
     for _ in rt.forever() {
         match drain.take() {
             None => drain.wait(rt),
-            Some(Item::Block(block)) => write_block(&block, progress, layout, sink),
+            Some(Item::Block(block)) => {
+                write_block(&block, progress, layout, sink);
+                drain.give_back(rt, block);
+            }
             Some(Item::Ending(ending)) => {
                 end_table(ending, progress, faults);
                 return;
@@ -92,7 +96,7 @@ fn take_all<R: Wait, W: Sink>(
     unreachable!()
 }
 
-// Writes a block while the document is written. A block has one fact at least.
+/// Writes a block if the document is still being written. A block has at least one fact.
 fn write_block<W: Sink>(block: &Block, progress: &mut Progress, layout: Layout, sink: &mut W)
     ensures { Advances layout progress.old progress.new (sink_at (W.mark sink.old) (W.told sink.old)) (sink_at (W.mark sink.new) (W.told sink.new)) (items.Block block.now ∷ []) }
 {
@@ -107,7 +111,7 @@ fn write_block<W: Sink>(block: &Block, progress: &mut Progress, layout: Layout, 
     }
 }
 
-// Notes how a table ends: its fault, and that the document is over where it was still written.
+/// Notes how a table ends: if it is refused, its fault, and that the document is not written further.
 fn end_table(ending: Ending, progress: &mut Progress, faults: &mut Vec<TableFault>)
     requires { vec_len faults.old < vec_capacity faults.old }
     ensures faults { faults.new.items ≡ faults.old.items ++ refusals (items.Ending ending ∷ []) }
@@ -128,7 +132,7 @@ fn end_table(ending: Ending, progress: &mut Progress, faults: &mut Vec<TableFaul
     }
 }
 
-// Writes the tail where the document is whole.
+/// Writes the tail if no table was refused and no write failed.
 fn finish<W: Sink>(progress: Progress, layout: Layout, sink: &mut W) -> MergeEnd
     ensures { Ends layout progress (sink_at (W.mark sink.old) (W.told sink.old)) (sink_at (W.mark sink.new) (W.told sink.new)) result }
 {

@@ -1,4 +1,4 @@
-//! How far a document is written.
+//! How far a document is written, and how a merge ends.
 
 use oim_json::WriteFault;
 
@@ -7,13 +7,13 @@ use oim_json::WriteFault;
 pub enum MergeEnd {
     /// Every table ended closed, and the document is whole.
     Complete,
-    /// A table was refused. The facts up to and with the first of these tables are written.
+    /// A table was refused. The facts before the first refusal are written.
     Refused,
     /// A write failed or took nothing, before any table was refused.
     Write(WriteFault),
 }
 
-/// Whether the document is still written.
+/// Whether the document is still being written.
 #[derive(Clone, Copy)]
 pub(crate) enum Standing {
     Open,

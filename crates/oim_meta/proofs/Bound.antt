@@ -1,4 +1,4 @@
--- Where no text stands under two names and each name is one without a colon, the members' texts are namespaces.
+-- If no text has two names and each name is an NCName, the members' texts are namespaces.
 use Rattle.std.proofs.Common.{◌≡◌, Bool, true, false, not, refl}
 use Rattle.serde_json.specs.Data.{Members, no_members, member}
 use Rattle.oim_names.specs.Bindings.{HaveNames, IsNamespaces}
@@ -16,8 +16,10 @@ holds false h = absurd cc
 
 have_names : (ms : Members) → any_member is_bad_prefix ms ≡ false → HaveNames (bindings_of ms)
 have_names no_members h = tt
-have_names (member k d ms) h =
-    (holds (is_ncname k) (left (not (is_ncname k)) (not (is_text d)) (left (is_bad_prefix k d) (any_member is_bad_prefix ms) h)), have_names ms (right (is_bad_prefix k d) (any_member is_bad_prefix ms) h))
+have_names (member k d ms) h = (
+  holds (is_ncname k) (left (not (is_ncname k)) (not (is_text d)) (left (is_bad_prefix k d) (any_member is_bad_prefix ms) h)),
+  have_names ms (right (is_bad_prefix k d) (any_member is_bad_prefix ms) h),
+)
 
 -- of members in order, without a bad prefix
 pub namespaces_are : (ms : Members) → IsRising (names_of ms) → has_bad_prefix ms ≡ false → IsNamespaces (bindings_of ms)

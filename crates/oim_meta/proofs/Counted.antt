@@ -1,4 +1,4 @@
--- The members of a `Map` are as many as its entries, and a list with an item has some item.
+-- A `Map` has as many members as entries, and a list with an item has some item.
 use Rattle.std.proofs.Common.{◌≡◌, ◌≤◌, suc, List, [], ◌∷◌, String, Global, true, length, refl, ap, arith}
 use Rattle.serde_json.specs.View.{members_view, items_view}
 use Rattle.serde_json.specs.declared.value.Value.{Value}

@@ -28,11 +28,12 @@ two k d l e = object (member k d (member l e no_members))
 -- DIMENSIONS AS WRITTEN: literals
 literals :
     map (written_of (codes "entity")) ([] ∷ codes "#none" ∷ codes "#nil" ∷ codes "#empty" ∷ codes "##x" ∷ codes "x$" ∷ codes "$$x" ∷ codes "$$" ∷ codes "$$$" ∷ [])
-    ≡ written.Absent ∷ written.Absent ∷ written.Nil ∷ written.Empty ∷ written.Text (codes "#x") ∷ written.Text (codes "x$") ∷ written.Text (codes "$x") ∷ written.Text (codes "$") ∷ written.Text (codes "$$") ∷ []
+    ≡ written.Absent ∷ written.Absent ∷ written.Nil ∷ written.Empty ∷ written.Text (codes "#x") ∷ written.Text (codes "x$") ∷ written.Text (codes "$x")
+    ∷ written.Text (codes "$") ∷ written.Text (codes "$$") ∷ []
 unfolding strip_front strip_back reference_of meaning_of
 literals = refl
 
--- references: a side stands in period alone
+-- references: only at the key period do they have a side
 references :
     map (written_of (codes "unit")) (codes "$a" ∷ codes "$rowNumber" ∷ codes "$year@start" ∷ codes "$rowNumber@end" ∷ [])
     ≡ written.Named (codes "a") Whole ∷ written.RowNumber Whole ∷ written.Named (codes "year@start") Whole ∷ written.Named (codes "rowNumber@end") Whole ∷ []
@@ -41,7 +42,8 @@ references = refl
 
 sides :
     map (written_of (codes "period")) (codes "$a" ∷ codes "$a@start" ∷ codes "$a@end" ∷ codes "$rowNumber@start" ∷ codes "$rowNumber@end" ∷ codes "$rowNumber" ∷ codes "a@end" ∷ [])
-    ≡ written.Named (codes "a") Whole ∷ written.Named (codes "a") Start ∷ written.Named (codes "a") End ∷ written.RowNumber Start ∷ written.RowNumber End ∷ written.RowNumber Whole ∷ written.Text (codes "a@end") ∷ []
+    ≡ written.Named (codes "a") Whole ∷ written.Named (codes "a") Start ∷ written.Named (codes "a") End ∷ written.RowNumber Start ∷ written.RowNumber End
+    ∷ written.RowNumber Whole ∷ written.Text (codes "a@end") ∷ []
 unfolding strip_front strip_back reference_of meaning_of
 sides = refl
 
@@ -57,7 +59,7 @@ texts_of_decimals :
 unfolding text_decimals strip_front accuracy_of
 texts_of_decimals = refl
 
--- KINDS: with dimensions, even without members, a fact column
+-- KINDS: a column with dimensions, even empty, is a fact column
 kinds :
     map kind_of
     (nothing ∷ one (codes "dimensions") nothing ∷ one (codes "propertyGroups") nothing ∷ one (codes "comment") (boolean true) ∷ one (codes "comment") (boolean false)
@@ -92,25 +94,33 @@ takes =
 columns : Members
 columns = member (codes "f") takes (member (codes "g") groups (member (codes "h") groups no_members))
 
-facts : column_of columns (codes "f") takes ≡ record { id = codes "f"; kind = Fact; level = record { dimensions = []; decimals = Some (decimals.Fixed (Places (pos 1))) }; groups = []; from = 2 ∷ 1 ∷ [] }
+facts : column_of columns (codes "f") takes
+    ≡ record { id = codes "f"; kind = Fact; level = record { dimensions = []; decimals = Some (decimals.Fixed (Places (pos 1))) }; groups = []; from = 2 ∷ 1 ∷ [] }
 unfolding column_of level_of columns takes groups
 facts = refl
 
--- of a column that is no fact column neither decimals nor propertiesFrom are read
-property_groups : column_of columns (codes "g") groups ≡ record { id = codes "g"; kind = Groups; level = no_level; groups = (codes "usd", record { dimensions = []; decimals = Some (decimals.Fixed (Places (pos 0))) }) ∷ []; from = [] }
+-- decimals and propertiesFrom of a column that is not a fact column are not read
+property_groups : column_of columns (codes "g") groups
+    ≡ record { id = codes "g"; kind = Groups; level = no_level; groups = (codes "usd", record { dimensions = []; decimals = Some (decimals.Fixed (Places (pos 0))) }) ∷ []; from = [] }
 unfolding column_of level_of columns takes groups no_level
 property_groups = refl
 
-plain : column_of columns (codes "p") (two (codes "decimals") (number (unsigned 7)) (codes "propertiesFrom") (array (item (string (codes "g")) no_items))) ≡ record { id = codes "p"; kind = Plain; level = no_level; groups = []; from = [] }
+plain : column_of columns (codes "p") (two (codes "decimals") (number (unsigned 7)) (codes "propertiesFrom") (array (item (string (codes "g")) no_items)))
+    ≡ record { id = codes "p"; kind = Plain; level = no_level; groups = []; from = [] }
 unfolding column_of columns no_level
 plain = refl
 
-comments : column_of columns (codes "c") (two (codes "comment") (boolean true) (codes "decimals") (number (unsigned 7))) ≡ record { id = codes "c"; kind = Comment; level = no_level; groups = []; from = [] }
+comments : column_of columns (codes "c") (two (codes "comment") (boolean true) (codes "decimals") (number (unsigned 7)))
+    ≡ record { id = codes "c"; kind = Comment; level = no_level; groups = []; from = [] }
 unfolding column_of columns no_level
 comments = refl
 
 -- TEMPLATES AND TABLES
-template : template_of (codes "p") (object (member (codes "columns") (two (codes "b") nothing (codes "c") nothing) (member (codes "decimals") (number (unsigned 3)) (member (codes "rowIdColumn") (string (codes "c")) no_members))))
+template :
+    template_of (codes "p")
+    (object
+    (member (codes "columns") (two (codes "b") nothing (codes "c") nothing)
+    (member (codes "decimals") (number (unsigned 3)) (member (codes "rowIdColumn") (string (codes "c")) no_members))))
     ≡ record {
       id = codes "p";
       columns = record { id = codes "b"; kind = Plain; level = no_level; groups = []; from = [] } ∷ record { id = codes "c"; kind = Plain; level = no_level; groups = []; from = [] } ∷ [];
@@ -177,7 +187,7 @@ other_parts : (value.level ≡ no_level) × (value.types ≡ []) × (value.table
 unfolding value report_of report level_of no_level
 other_parts = (refl, refl, refl, refl)
 
--- READERS: a table's parameter stands before the report's, and each table has its own template
+-- READERS: a table's parameter hides the report's, and each table has its own template
 parameters_read :
     (map (parameter_of value 2) (codes "n" ∷ codes "m" ∷ codes "o" ∷ codes "p" ∷ []) ≡ Some (codes "3") ∷ Some (codes "1") ∷ Some (codes "4") ∷ None ∷ [])
     × (parameter_of value 0 (codes "n") ≡ Some (codes "2"))

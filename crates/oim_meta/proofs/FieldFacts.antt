@@ -8,7 +8,7 @@ use Rattle.csv.specs.Records.{field_at}
 use Rattle.oim_meta.specs.CsvFiles.{text_field, text_of, three_texts, two_texts}
 use Rattle.oim_meta.specs.Grid.{Field, Record}
 
--- a field that is text, and one that is none
+-- a field that is text, and one that is not
 pub text-there : (r : Record) (i : ℕ) (f t : Field) → Some f ≡ field_at r i → t ≡ f → IsUtf8 f → Some t ≡ text_field r i
 text-there r i f t there same utf8 = rw (← there, is_utf8-from_IsUtf8 f utf8, same) refl
 

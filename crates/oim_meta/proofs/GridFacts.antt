@@ -25,7 +25,8 @@ next_record-shrinks cfg s fields field (c ∷ rest) p e =
     at (is_end (step cfg s c).1) refl (next_record-shrinks cfg (step cfg s c).0 (fields_after (step cfg s c).1 fields field) (field_after (step cfg s c).1 c field) rest p)
   where
     at : (b : Bool) → is_end (step cfg s c).1 ≡ b
-        → (next_record cfg (step cfg s c).0 (fields_after (step cfg s c).1 fields field) (field_after (step cfg s c).1 c field) rest ≡ Some p → (length p.2 < length rest) ⊎ ((p.1 ≡ state.StartRecord) × (p.2 ≡ [])))
+        → (next_record cfg (step cfg s c).0 (fields_after (step cfg s c).1 fields field) (field_after (step cfg s c).1 c field) rest ≡ Some p
+        → (length p.2 < length rest) ⊎ ((p.1 ≡ state.StartRecord) × (p.2 ≡ [])))
         → (length p.2 < length (c ∷ rest)) ⊎ ((p.1 ≡ state.StartRecord) × (p.2 ≡ []))
     at true h more =
         let e2 : Some (fields_after (step cfg s c).1 fields field, (step cfg s c).0, rest) ≡ Some p = rw h at e in
@@ -37,13 +38,13 @@ next_record-shrinks cfg s fields field (c ∷ rest) p e =
           | inr end ↦ inr end
         ]
 
--- at the end of the text there is no more record
+-- at the end of the text there are no more records
 records_from-end : (n : ℕ) → records_from default_config n state.StartRecord [] ≡ []
 unfolding records_from next_record
 records_from-end zero = refl
 records_from-end (suc n) = refl
 
--- turns enough for the text are as good as any number above
+-- more turns than the text needs change nothing
 pub records_from-enough : (n m : ℕ) (s : State) (xs : List ℕ) → length xs < n → length xs < m → records_from default_config n s xs ≡ records_from default_config m s xs
 unfolding records_from
 records_from-enough zero m s xs a b = absurd (omega arith)
@@ -59,11 +60,13 @@ records_from-enough (suc n) (suc m) s xs a b = at (next_record default_config s 
       | inr end ↦ rw (end.0, end.1, records_from-end n, records_from-end m) refl
     ])
 
-records_from-step : (n : ℕ) (s : State) (xs : List ℕ) (p : Read) → next_record default_config s [] [] xs ≡ Some p → records_from default_config (n + 1) s xs ≡ p.0 ∷ records_from default_config n p.1 p.2
+records_from-step : (n : ℕ) (s : State) (xs : List ℕ) (p : Read) → next_record default_config s [] [] xs ≡ Some p
+    → records_from default_config (n + 1) s xs ≡ p.0 ∷ records_from default_config n p.1 p.2
 unfolding records_from
 records_from-step n s xs p e = rw (add-one n, e) refl
 
-records_from-rest : (s : State) (xs : List ℕ) (p : Read) → next_record default_config s [] [] xs ≡ Some p → records_from default_config (length xs) p.1 p.2 ≡ records_from default_config (length p.2 + 1) p.1 p.2
+records_from-rest : (s : State) (xs : List ℕ) (p : Read) → next_record default_config s [] [] xs ≡ Some p
+    → records_from default_config (length xs) p.1 p.2 ≡ records_from default_config (length p.2 + 1) p.1 p.2
 records_from-rest s xs p e =
     elim (next_record-shrinks default_config s [] [] xs p e) [
       | inl less ↦ records_from-enough (length xs) (length p.2 + 1) p.1 p.2 less (omega arith)
@@ -101,7 +104,7 @@ pub takes_record : {R : Type 0} (rem : R → Option (List ℕ)) (a b : Reader R)
     → Took (option_map (records_left a.state) (source_of rem a)) found f (option_map (records_left b.state) (source_of rem b))
 takes_record rem a b found f config r = rw r.1 (takes-next a.state b.state (source_of rem a) (pending_of (rem b.rdr) b) found f (rw config at r.0))
 
--- of a reader that has failed nothing is known
+-- nothing is known of a reader that has failed
 pub takes_none : {R : Type 0} (rem : R → Option (List ℕ)) (a b : Reader R) (found : Bool) (f : Record) → a.failed ≡ true
     → Took (option_map (records_left a.state) (source_of rem a)) found f (option_map (records_left b.state) (source_of rem b))
 takes_none rem a b found f failed = rw failed tt

@@ -11,12 +11,12 @@ use Rattle.oim_meta.specs.Grid.{Field, Record}
 use Rattle.oim_meta.specs.Named.{pushed_under}
 use Rattle.oim_meta.specs.Types.{TypesValue, kind_in}
 use Rattle.oim_meta.specs.TypeWords.{Words}
-use Rattle.oim_meta.specs.TypesFile.{type_after, types_file, with_kind, with_type}
+use Rattle.oim_meta.specs.TypesFile.{most_types, type_after, types_file, with_kind, with_type}
 use Rattle.oim_meta.specs.WholeFile.{kind_by, kind_said}
 use Rattle.oim_meta.specs.declared.fault.MetaFault.TheVariants as fault
 use Rattle.oim_meta.specs.declared.kind.Kind.{Kind}
 
--- one entry more is found where none of that name is before it
+-- one more entry is found if no earlier one has its name
 value-pushed : {V : Type 0} (name key : List ℕ) (v : V) (es : List (List ℕ × V)) → value_at name (es ++ (key, v) ∷ []) ≡ option_or (value_at name es) (if bytes_eq key name then Some v else None)
 value-pushed name key v [] = refl
 value-pushed {V} name key v (e ∷ es) = by (bytes_eq e.0 name) refl (value-pushed name key v es)
@@ -48,8 +48,9 @@ apart-bytes e u v unlike like = by (bytes_eq u v) refl
         cc (wrong, right)
     by false h = h
 
--- the kinds after one name more
-said-more : (types : TypesValue) (u l uri local : List ℕ) (k : Kind) → kind_in (pushed_under types u l k) uri local ≡ option_or (kind_in types uri local) (if bytes_eq u uri && bytes_eq l local then Some k else None)
+-- the kinds after one more name
+said-more : (types : TypesValue) (u l uri local : List ℕ) (k : Kind)
+    → kind_in (pushed_under types u l k) uri local ≡ option_or (kind_in types uri local) (if bytes_eq u uri && bytes_eq l local then Some k else None)
 said-more [] u l uri local k = by (bytes_eq u uri) refl
   where
     by : (b : Bool) → bytes_eq u uri ≡ b → kind_in (pushed_under [] u l k) uri local ≡ (if bytes_eq u uri && bytes_eq l local then Some k else None)
@@ -71,15 +72,18 @@ said-more (e ∷ es) u l uri local k = by (bytes_eq e.0 u) (bytes_eq e.0 uri) re
         rw (h, i, apart) (sym (or-none (value_at local e.1)))
     by false false h i more = rw (h, i) more
 
--- what one record more says
-said-after : (words : Words) (types after : TypesValue) (r : Record) (uri local : List ℕ) → type_after words types r ≡ Some after → kind_in after uri local ≡ option_or (kind_in types uri local) (option_and_then (kind_by words uri local) (three_texts r))
+-- what one more record says
+said-after : (words : Words) (types after : TypesValue) (r : Record) (uri local : List ℕ) → type_after words types r ≡ Some after
+    → kind_in after uri local ≡ option_or (kind_in types uri local) (option_and_then (kind_by words uri local) (three_texts r))
 said-after words types after r uri local e = of (three_texts r) refl
   where
-    word : (p : Field × Field × Field) (o : Option Kind) → value_at p.2 words ≡ o → option_and_then (λ k. Some (with_kind types p.0 p.1 k)) o ≡ Some after → kind_in after uri local ≡ option_or (kind_in types uri local) (kind_by words uri local p)
+    word : (p : Field × Field × Field) (o : Option Kind) → value_at p.2 words ≡ o → option_and_then (λ k. Some (with_kind types p.0 p.1 k)) o ≡ Some after
+        → kind_in after uri local ≡ option_or (kind_in types uri local) (kind_by words uri local p)
     word p None h e2 = cc e2
     word p (Some k) h e2 = let same : pushed_under types p.0 p.1 k ≡ after = cc e2 in rw (← same, h) (said-more types p.0 p.1 uri local k)
 
-    good : (p : Field × Field × Field) (b : Bool) → (is_ncname p.1 && is_none (kind_in types p.0 p.1)) ≡ b → with_type words types p ≡ Some after → kind_in after uri local ≡ option_or (kind_in types uri local) (kind_by words uri local p)
+    good : (p : Field × Field × Field) (b : Bool) → (is_ncname p.1 && is_none (kind_in types p.0 p.1)) ≡ b → with_type words types p ≡ Some after
+        → kind_in after uri local ≡ option_or (kind_in types uri local) (kind_by words uri local p)
     good p true h e2 = word p (value_at p.2 words) refl (rw h at e2)
     good p false h e2 = let none : None ≡ Some after = rw h at e2 in cc none
 
@@ -87,10 +91,11 @@ said-after words types after r uri local e = of (three_texts r) refl
     of None h = let none : None ≡ Some after = rw h at e in cc none
     of (Some p) h = rw h (good p (is_ncname p.1 && is_none (kind_in types p.0 p.1)) refl (rw h at e))
 
-pub said-all : (words : Words) (n : ℕ) (before types : TypesValue) (rs : List Record) (uri local : List ℕ) → all_of (types_file words) n before rs ≡ Ok types → kind_in types uri local ≡ option_or (kind_in before uri local) (kind_said words rs uri local)
+pub said-all : (words : Words) (n : ℕ) (before types : TypesValue) (rs : List Record) (uri local : List ℕ) → all_of (types_file words) n before rs ≡ Ok types
+    → kind_in types uri local ≡ option_or (kind_in before uri local) (kind_said words rs uri local)
 unfolding all_of
 said-all words n before types [] uri local e = let same : before ≡ types = cc e in rw same (sym (or-none (kind_in types uri local)))
-said-all words n before types (r ∷ rs) uri local e = past (nat_le 1048576 n) refl (λ t. said-all words (n + 1) t types rs uri local)
+said-all words n before types (r ∷ rs) uri local e = past (nat_le most_types n) refl (λ t. said-all words (n + 1) t types rs uri local)
   where
     taken : (o : Option TypesValue) → type_after words before r ≡ o → unless_bad (λ t. all_of (types_file words) (n + 1) t rs) (ok_or o fault.BadTypes) ≡ Ok types
         → ((t : TypesValue) → all_of (types_file words) (n + 1) t rs ≡ Ok types → kind_in types uri local ≡ option_or (kind_in t uri local) (kind_said words rs uri local))
@@ -100,7 +105,7 @@ said-all words n before types (r ∷ rs) uri local e = past (nat_le 1048576 n) r
         more t e2 ∙ ap (λ (o : Option Kind). option_or o (kind_said words rs uri local)) (said-after words before t r uri local h)
         ∙ or-assoc (kind_in before uri local) (option_and_then (kind_by words uri local) (three_texts r)) (kind_said words rs uri local)
 
-    past : (b : Bool) → nat_le 1048576 n ≡ b
+    past : (b : Bool) → nat_le most_types n ≡ b
         → ((t : TypesValue) → all_of (types_file words) (n + 1) t rs ≡ Ok types → kind_in types uri local ≡ option_or (kind_in t uri local) (kind_said words rs uri local))
         → kind_in types uri local ≡ option_or (kind_in before uri local) (kind_said words (r ∷ rs) uri local)
     past true h more = let bad : Err fault.TooLarge ≡ Ok types = rw h at e in cc bad

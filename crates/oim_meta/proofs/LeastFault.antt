@@ -1,10 +1,11 @@
--- The first fault of a metadata is the one of the least number.
+-- The first fault of a metadata is the one with the least number.
 use Rattle.std.proofs.Common.{◌≡◌, ◌≤◌, ◌⊎◌, inl, inr, List, [], ◌∷◌, Option, Some, None, Bool, true, false, refl, sym, arith, rules, ◌∙◌}
 use Rattle.std.specs.Prelude.{⊤, find, if◌then◌else◌}
 use Rattle.std.specs.List.{AllByRecursion}
 use Rattle.serde_json.specs.Data.{Data}
 use Rattle.oim_meta.specs.declared.fault.MetaFault.{MetaFault}
-use Rattle.oim_meta.specs.declared.fault.MetaFault.TheVariants.{Syntax, NotReport, BadNamespaces, BadTaxonomy, Unsupported, BadIdentifier, BadTemplate, ColumnKinds, UnknownTemplate, UnknownColumn, BadDimension, BadDecimals, BadParameter, BadTypes, TooLarge, Memory, Read}
+use Rattle.oim_meta.specs.declared.fault.MetaFault.TheVariants.{Syntax, NotReport, BadNamespaces, BadTaxonomy, Unsupported, BadIdentifier, BadTemplate, ColumnKinds, UnknownTemplate}
+use Rattle.oim_meta.specs.declared.fault.MetaFault.TheVariants.{UnknownColumn, BadDimension, BadDecimals, BadParameter, BadTypes, TooLarge, Memory, Read}
 use Rattle.oim_meta.specs.declared.limits.Limits.{Limits}
 use Rattle.oim_meta.specs.FaultNames.{fault_number}
 use Rattle.oim_meta.specs.FaultOrder.{IsLeastFault}
@@ -25,7 +26,7 @@ above x e [] all h = absurd h
 above x e (y ∷ ys) all (inl same) = rw same all.0
 above x e (y ∷ ys) all (inr more) = above x e ys all.1 more
 
--- what a search through faults that rise finds
+-- what a search through faults with rising numbers finds
 least : (p : MetaFault → Bool) (xs : List MetaFault) (f e : MetaFault) → Rise xs → find p xs ≡ Some f → IsIn e xs → p e ≡ true → fault_number f ≤ fault_number e
 least p [] f e rise found h has = absurd h
 least p (x ∷ xs) f e rise found h has = at (p x) refl h found (λ k more. least p xs f e rise.1 k more has)
@@ -56,7 +57,7 @@ none_has p (x ∷ xs) e found h = at (p x) refl h found (λ k more. none_has p x
 in_order : Rise faults_in_order
 in_order = search rules
 
--- each fault is looked for, or no metadata has it
+-- every fault is looked for, except those that no metadata has
 looked_for : (limits : Limits) (given : ParametersValue) (types : TypesValue) (d : Data) (e : MetaFault) → IsIn e faults_in_order ⊎ (has_fault limits given types d e ≡ false)
 looked_for limits given types d Syntax = inr refl
 looked_for limits given types d NotReport = inl (inl refl)

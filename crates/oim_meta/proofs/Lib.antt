@@ -17,6 +17,6 @@ pub mod ReadOrder
 pub mod Ordered
 pub mod OwnUris
 mod Examples
-mod FaultExamples
-mod FileExamples
+mod ExamplesFaults
+mod ExamplesFiles
 pub mod LeastFault

@@ -1,4 +1,4 @@
--- Looking up in values by name, adding one more, and adding one to a group.
+-- Values by name: looking one up, adding one, and adding one to a group.
 use Rattle.std.proofs.Common.{◌≡◌, ◌<◌, ◌+◌, ℕ, zero, suc, List, [], ◌∷◌, ◌++◌, Option, Some, None, Bool, true, false, nat_lt, if◌then◌else◌, refl, ap, arith, length, slice_get}
 use Rattle.std.proofs.lemmas.Cmp.{nat_list_eq_equiv}
 use Rattle.std.specs.List.{AllZip, position, position_or_len}
@@ -64,7 +64,7 @@ under-first bytes group name v (e ∷ es) zero old f at =
 under-first {K} {V} bytes group name v (e ∷ es) (suc i) old f at =
     rw (← nat_list_eq_equiv.symm group (bytes e.0), f.0) (ap (λ (l : List (List ℕ × List (List ℕ × V))). (bytes e.0, e.1) ∷ l) (under-first bytes group name v es i old f.1 at))
 
--- one more in a group that is there
+-- one more entry in a group that is there
 pub under-found : {K V : Type 0} (bytes : K → List ℕ) (group name : List ℕ) (v : V) (es : List (K × List (List ℕ × V))) (i : ℕ) (old : List (List ℕ × V))
     → Some i ≡ position (λ k. bytes_eq group (bytes k)) (keys_of es) → i < length es → slice_get (values_of es) i ≡ Some old
     → renamed bytes (set_value_at es i (old ++ (name, v) ∷ [])) ≡ pushed_under (renamed bytes es) group name v
@@ -72,7 +72,7 @@ under-found {K} bytes group name v es i old found within at =
     let test : K → Bool = λ k. bytes_eq group (bytes k) in
     under-first bytes group name v es i old (first-at test es i (at-place (position_or_len test (keys_of es)) (length (keys_of es)) i found) within) at
 
--- one more in a group that is new
+-- one more entry in a new group
 pub under-new : {V : Type 0} (group name : List ℕ) (v : V) (es : List (List ℕ × List (List ℕ × V))) → value_at group es ≡ None → es ++ (group, (name, v) ∷ []) ∷ [] ≡ pushed_under es group name v
 under-new group name v [] none = refl
 under-new {V} group name v (e ∷ es) none = by (bytes_eq e.0 group) refl (under-new group name v es)
@@ -82,8 +82,9 @@ under-new {V} group name v (e ∷ es) none = by (bytes_eq e.0 group) refl (under
     by true h more = let some : Some e.1 ≡ None = rw h at none in cc some
     by false h more = rw h (ap (λ (l : List (List ℕ × List (List ℕ × V))). e ∷ l) (more (rw h at none)))
 
--- where a group lacks a name, its values do
-pub lacks-under : {V : Type 0} (group name : List ℕ) (es : List (List ℕ × List (List ℕ × V))) (old : List (List ℕ × V)) → option_and_then (value_at name) (value_at group es) ≡ None → value_at group es ≡ Some old
+-- a name that is not under a group is not among its entries
+pub lacks-under : {V : Type 0} (group name : List ℕ) (es : List (List ℕ × List (List ℕ × V))) (old : List (List ℕ × V))
+    → option_and_then (value_at name) (value_at group es) ≡ None → value_at group es ≡ Some old
     → value_at name old ≡ None
 lacks-under group name es old none there = rw there at none
 

@@ -57,7 +57,7 @@ unfolding IsStrictlySortedBy
 rising no_members h = tt
 rising (member k d ms) h = (h.0, rising ms h.2)
 
--- what a member makes has its name
+-- what a member makes has the name of the member
 names_kept : {X : Type 0} (name : X → List ℕ) (of : List ℕ → Data → X) → ((k : List ℕ) (d : Data) → name (of k d) ≡ k) → (ms : Members) → map name (map_members of ms) ≡ names_of ms
 names_kept name of h no_members = refl
 names_kept name of h (member k d ms) = rw (h k d, names_kept name of h ms) refl
@@ -65,7 +65,7 @@ names_kept name of h (member k d ms) = rw (h k d, names_kept name of h ms) refl
 made_rise : {X : Type 0} (name : X → List ℕ) (of : List ℕ → Data → X) → ((k : List ℕ) (d : Data) → name (of k d) ≡ k) → (ms : Members) → AreInOrder ms → IsRising (map name (map_members of ms))
 made_rise name of h ms ordered = rw (names_kept name of h ms) (rising ms ordered)
 
--- what each member makes has a property where the member's value is in order
+-- what each member makes has a property if the member's value is in order
 each_made : {X : Type 0} (P : X → Type 0) (of : List ℕ → Data → X) → ((k : List ℕ) (d : Data) → IsInOrder d → P (of k d)) → (ms : Members) → AreInOrder ms → AllByRecursion P (map_members of ms)
 each_made P of h no_members ordered = tt
 each_made P of h (member k d ms) ordered = (h k d ordered.1, each_made P of h ms ordered.2)
@@ -147,7 +147,8 @@ good_keys : (ms : Members) → any_member is_bad_key ms ≡ false → AreIdentif
 good_keys no_members h = tt
 good_keys (member k d ms) h = (not_bad (is_identifier k) (left (is_bad_key k d) _ h), good_keys ms (right (is_bad_key k d) _ h))
 
-made_good : {X : Type 0} (name : X → List ℕ) (of : List ℕ → Data → X) → ((k : List ℕ) (d : Data) → name (of k d) ≡ k) → (ms : Members) → any_member is_bad_key ms ≡ false → AreIdentifiers (map name (map_members of ms))
+made_good : {X : Type 0} (name : X → List ℕ) (of : List ℕ → Data → X) → ((k : List ℕ) (d : Data) → name (of k d) ≡ k) → (ms : Members)
+    → any_member is_bad_key ms ≡ false → AreIdentifiers (map name (map_members of ms))
 made_good name of h ms good = rw (names_kept name of h ms) (good_keys ms good)
 
 abbrev IsGood : Template → Type 0
@@ -159,17 +160,21 @@ good_template id t h k =
     let ms = section (codes "columns") t in
     (not_bad (is_identifier id) h, made_good (λ (c : Column). c.id) (column_of ms) (column_id ms) ms k)
 
-good_templates : (ms : Members) → any_member is_bad_key ms ≡ false → any_member (λ _ t. any_member is_bad_key (section (codes "columns") t)) ms ≡ false → AllByRecursion IsGood (map_members template_of ms)
+good_templates : (ms : Members) → any_member is_bad_key ms ≡ false → any_member (λ _ t. any_member is_bad_key (section (codes "columns") t)) ms ≡ false
+    → AllByRecursion IsGood (map_members template_of ms)
 good_templates no_members h k = tt
-good_templates (member id t ms) h k =
-    (good_template id t (left (is_bad_key id t) _ h) (left (any_member is_bad_key (section (codes "columns") t)) _ k), good_templates ms (right (is_bad_key id t) _ h) (right (any_member is_bad_key (section (codes "columns") t)) _ k))
+good_templates (member id t ms) h k = (
+  good_template id t (left (is_bad_key id t) _ h) (left (any_member is_bad_key (section (codes "columns") t)) _ k),
+  good_templates ms (right (is_bad_key id t) _ h) (right (any_member is_bad_key (section (codes "columns") t)) _ k),
+)
 
 pub have_identifiers : (d : Data) → has_bad_identifier d ≡ false → HaveIdentifiers (templates_of d) (tables_of d)
 unfolding HaveIdentifiers has_bad_identifier
 have_identifiers d h =
     let templates = section (codes "tableTemplates") d in
     let tables = section (codes "tables") d in
-    let keys : any_member is_bad_key templates ≡ false = left (any_member is_bad_key templates) _ (left (any_member is_bad_key templates || any_member is_bad_key tables) (any_column is_bad_key d) h) in
-    let table_keys : any_member is_bad_key tables ≡ false = right (any_member is_bad_key templates) _ (left (any_member is_bad_key templates || any_member is_bad_key tables) (any_column is_bad_key d) h) in
+    let both = left (any_member is_bad_key templates || any_member is_bad_key tables) (any_column is_bad_key d) h in
+    let keys : any_member is_bad_key templates ≡ false = left (any_member is_bad_key templates) _ both in
+    let table_keys : any_member is_bad_key tables ≡ false = right (any_member is_bad_key templates) _ both in
     let column_keys : any_column is_bad_key d ≡ false = right (any_member is_bad_key templates || any_member is_bad_key tables) _ h in
     (made_good (λ (t : Table). t.id) (table_of templates) (table_id templates) tables table_keys, good_templates templates keys column_keys)

@@ -1,5 +1,4 @@
--- Where no text stands under two names, the namespaces that an object gives stand in order, and
--- each has a URI of its own.
+-- If no text has two names, the namespaces that an object gives are in order, and each has a URI of its own.
 use Rattle.std.proofs.Common.{◌≡◌, ℕ, List, ◌∷◌, false, not, ◌&&◌, Less, refl, ap, bytes_eq, nat_cmp}
 use Rattle.std.specs.List.{AllByRecursion, IsDistinct}
 use Rattle.std.specs.List.Sorted.{IsStrictlySortedBy}
@@ -11,8 +10,9 @@ use Rattle.oim_meta.specs.Order.{names_of, IsRising, has_other, repeats_text}
 use Rattle.oim_meta.specs.Value.{named_text}
 use Rattle.oim_meta.proofs.Unrepeated.{left, right, fewer, below-differs, unlike}
 
--- the text of a name below all others is none of theirs
-no_text : (k t : List ℕ) (ms : Members) → AllByRecursion (λ l. slice_cmp nat_cmp k l ≡ Less) (names_of ms) → has_other k t ms ≡ false → AllByRecursion (λ u. bytes_eq t u ≡ false) (values_of (map_members named_text ms))
+-- the text of a name below all others is not one of theirs
+no_text : (k t : List ℕ) (ms : Members) → AllByRecursion (λ l. slice_cmp nat_cmp k l ≡ Less) (names_of ms) → has_other k t ms ≡ false
+    → AllByRecursion (λ u. bytes_eq t u ≡ false) (values_of (map_members named_text ms))
 no_text k t no_members above h = tt
 no_text k t (member l d ms) above h =
     (unlike (bytes_eq k l) _ (below-differs k l above.0) (left _ (has_other k t ms) h), no_text k t ms above.1 (right (not (bytes_eq k l) && bytes_eq t (text_of d)) _ h))

@@ -6,7 +6,7 @@ use Rattle.std.specs.Str.{bytes_eq}
 use Rattle.oim_names.specs.Lookup.{value_at}
 use Rattle.oim_meta.specs.Parameters.{ParametersValue, marked}
 
--- a name is among the names where it is among the parameters
+-- a name is among the names if it is among the parameters
 marked-value : (name : List ℕ) (entries : ParametersValue) → value_at name (marked entries) ≡ option_map (λ v. tt) (value_at name entries)
 marked-value name [] = refl
 marked-value name (e ∷ es) = by (bytes_eq e.0 name) refl (marked-value name es)

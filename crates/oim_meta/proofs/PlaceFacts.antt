@@ -9,11 +9,13 @@ use Rattle.oim_meta.specs.declared.data.Level.{Level}
 use Rattle.oim_meta.specs.declared.data.Table.{Table}
 use Rattle.oim_meta.specs.declared.data.Template.{Template}
 
-pub template_is_there : (level : Level) (templates : List Template) (tables : List Table) → IsReport level templates tables → (i : ℕ) → i < length tables → (slice_index_or tables i no_table).template < length templates
+pub template_is_there : (level : Level) (templates : List Template) (tables : List Table) → IsReport level templates tables → (i : ℕ) → i < length tables
+    → (slice_index_or tables i no_table).template < length templates
 unfolding IsReport
 template_is_there level templates tables h i p = h.0 i no_table p
 
-pub template_has_columns : (level : Level) (templates : List Template) (tables : List Table) → IsReport level templates tables → (k : ℕ) (d : Template) → k < length templates → HasColumns (slice_index_or templates k d)
+pub template_has_columns : (level : Level) (templates : List Template) (tables : List Table) → IsReport level templates tables → (k : ℕ) (d : Template)
+    → k < length templates → HasColumns (slice_index_or templates k d)
 unfolding IsReport
 template_has_columns level templates tables h k d p = h.1 k d p
 
@@ -25,7 +27,7 @@ pub row_id_is_there : (t : Template) → HasColumns t → IfSome t.row_id_column
 unfolding HasColumns
 row_id_is_there t h = h.1
 
--- the parts of a report stand in order
+-- the parts of a report are in order
 pub parts_rise : (level : Level) (templates : List Template) (tables : List Table) → IsReport level templates tables → PartsRise level templates tables
 unfolding IsReport
 parts_rise level templates tables h = h.2

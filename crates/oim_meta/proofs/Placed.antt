@@ -1,5 +1,6 @@
--- Where no table's template and no template's column is unknown, each place is in range.
-use Rattle.std.proofs.Common.{◌≡◌, ℕ, suc, ◌<◌, List, [], ◌∷◌, ◌++◌, Bool, true, false, cond, not, ◌||◌, ◌&&◌, length, All, Option, Some, None, Ordering, Less, Equal, Greater, refl, arith, bytes_eq, fold, nat_eq}
+-- If no table's template and no template's column is unknown, each place is in range.
+use Rattle.std.proofs.Common.{◌≡◌, ℕ, suc, ◌<◌, List, [], ◌∷◌, ◌++◌, Bool, true, false, cond, not, ◌||◌, ◌&&◌}
+use Rattle.std.proofs.Common.{length, All, Option, Some, None, Ordering, Less, Equal, Greater, refl, arith, bytes_eq, fold, nat_eq}
 use Rattle.std.specs.Prelude.{is_none, option_map, option_and_then, unwrap_or, codes, IfSome}
 use Rattle.std.specs.List.{AllByRecursion, list_any}
 use Rattle.std.specs.Ordering.{nat_cmp, match_ordering, is_eq}
@@ -64,8 +65,11 @@ each_table : (o : Option Data) (tables : Members) → any_member (lacks_template
     → AllByRecursion (IsPlaced (length (map_members template_of (members_of o)))) (map_members (table_of (members_of o)) tables)
 unfolding table_of
 each_table o no_members h = tt
-each_table o (member id t ms) h =
-    (below template_of (template_name id t) (members_of o) (found (template_name id t) o (left (lacks_template_of o id t) (any_member (lacks_template_of o) ms) h)), each_table o ms (right (lacks_template_of o id t) _ h))
+each_table o (member id t ms) h = (
+  below template_of (template_name id t) (members_of o)
+      (found (template_name id t) o (left (lacks_template_of o id t) (any_member (lacks_template_of o) ms) h)),
+  each_table o ms (right (lacks_template_of o id t) _ h),
+)
 
 tables_placed : (d : Data) → has_unknown_template d ≡ false → All (IsPlaced (length (templates_of d))) (tables_of d)
 unfolding has_unknown_template
@@ -84,7 +88,7 @@ unless_there : (n : ℕ) (b : Bool) (seen : List ℕ) (x : ℕ) → AllByRecursi
 unless_there n true seen x all h = all
 unless_there n false seen x all h = one_more n seen x all h
 
--- a name that is that of a property group column is that of a column
+-- the name of a property group column is the name of a column
 named : (o : Option Data) → not (if_there (λ c. is_groups (kind_of c)) o) ≡ false → is_none o ≡ false
 named None h = absurd cc
 named (Some c) h = refl

@@ -1,4 +1,4 @@
--- The members of a JSON object that was read stand in byte order of name.
+-- The members of a JSON object that was read are in byte order of name.
 use Rattle.std.proofs.Common.{◌≡◌, ℕ, List, Option, Some, None, option_map, option_and_then, Ordering, Less, Equal, Greater, refl, ap, ◌∙◌, nat_cmp}
 use Rattle.std.specs.Prelude.{⊤, IfSome}
 use Rattle.std.specs.Ordering.{match_ordering, ordering_reverse}

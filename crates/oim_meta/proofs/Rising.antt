@@ -8,7 +8,8 @@ use Rattle.serde_json.specs.View.{members_view}
 use Rattle.serde_json.specs.declared.value.Value.{Value}
 use Rattle.oim_meta.specs.Order.{names_of, IsRising}
 
-above : (x : String Global) (es : List (String Global × Value)) → AllByRecursion (λ y. string_cmp x y ≡ Less) (keys_of es) → AllByRecursion (λ y. slice_cmp nat_cmp (string_bytes x) y ≡ Less) (names_of (members_view es))
+above : (x : String Global) (es : List (String Global × Value)) → AllByRecursion (λ y. string_cmp x y ≡ Less) (keys_of es)
+    → AllByRecursion (λ y. slice_cmp nat_cmp (string_bytes x) y ≡ Less) (names_of (members_view es))
 above x [] h = tt
 above x (e ∷ es) h = (h.0, above x es h.1)
 

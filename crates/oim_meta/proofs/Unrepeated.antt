@@ -1,4 +1,4 @@
--- Tests that fail of all members, and names that differ.
+-- Tests that all members fail, and names that differ.
 use Rattle.std.proofs.Common.{◌≡◌, ℕ, List, Bool, true, false, not, ◌||◌, ◌&&◌, Less, refl, sym, ap, ◌∙◌, bytes_eq, nat_cmp}
 use Rattle.std.specs.Ordering.{is_eq}
 use Rattle.std.specs.Bool.{Decides}

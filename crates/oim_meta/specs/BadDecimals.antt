@@ -14,7 +14,7 @@ abbrev pub is_decimals_by_dollar : List ℕ → Option (List ℕ) → Bool
 is_decimals_by_dollar s (Some name) = is_identifier name
 is_decimals_by_dollar s None = bytes_eq s (codes "#none") || is_some (accuracy_of s)
 
--- a reference, none, or a text of decimals
+-- a reference, #none, or a text of decimals
 abbrev pub is_decimals_text : List ℕ → Bool
 is_decimals_text s = is_decimals_by_dollar s (strip_front (codes "$") s)
 

@@ -14,7 +14,7 @@ use Rattle.oim_meta.specs.Levels.{any_level}
 use Rattle.oim_meta.specs.Prefixes.{prefixes_of}
 use Rattle.oim_meta.specs.Written.{strip_front, strip_back}
 
--- a dimension that every report has
+-- a core dimension
 abbrev pub is_core : List ℕ → Bool
 is_core key =
     bytes_eq key (codes "concept") || bytes_eq key (codes "entity") || bytes_eq key (codes "period") || bytes_eq key (codes "unit") || bytes_eq key (codes "language")
@@ -45,7 +45,7 @@ is_dimension (Some Other) = false
 is_dimension (Some Explicit) = true
 is_dimension (Some Typed) = true
 
--- an unknown special value, or nil or empty where it may not stand
+-- an unknown special value, or nil or empty where it is not allowed
 abbrev pub is_bad_meaning : Option Kind → Meaning → Bool
 is_bad_meaning kind meaning.Absent = false
 is_bad_meaning kind meaning.Nil = not (is_typed kind)
@@ -58,11 +58,11 @@ front_name name (Some front) end = front
 front_name name None (Some front) = front
 front_name name None None = name
 
--- the name of a reference: only in period it may have a side
+-- the name in a reference; only at the key period can it have a side
 unfoldable pub name_in : List ℕ → List ℕ → List ℕ
 name_in key name = if bytes_eq key (codes "period") then front_name name (strip_back (codes "@start") name) (strip_back (codes "@end") name) else name
 
--- after a dollar sign: a second one begins a literal text, anything else has to be a reference
+-- after a dollar sign: a second one begins a literal text; anything else must be a reference
 abbrev pub is_bad_reference : List ℕ → List ℕ → Option (List ℕ) → Bool
 is_bad_reference key rest (Some doubled) = false
 is_bad_reference key rest None = not (is_identifier (name_in key rest))
@@ -75,12 +75,12 @@ is_bad_by_dollar kind key s None = is_bad_meaning kind (meaning_of s)
 abbrev pub is_bad_text : Option Kind → List ℕ → List ℕ → Bool
 is_bad_text kind key s = is_bad_by_dollar kind key s (strip_front (codes "$") s)
 
--- neither core nor a dimension of the types; no text; neither a reference nor a literal
+-- the key is neither core nor a dimension of the types, or the value is not a text, or neither a reference nor a literal
 unfoldable pub is_bad_dimension : TypesValue → Bindings → List ℕ → Data → Bool
 is_bad_dimension types names key d =
     (not (is_core key) && not (is_dimension (kind_named types names key))) || not (is_text d) || is_bad_text (kind_named types names key) key (text_of d)
 
--- a bad one among the dimensions of one level
+-- some dimension of one level is bad
 abbrev pub has_bad_dimension : TypesValue → Bindings → Data → Bool
 has_bad_dimension types names d = any_member (is_bad_dimension types names) (section (codes "dimensions") d)
 

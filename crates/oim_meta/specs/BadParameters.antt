@@ -16,11 +16,11 @@ is_bad_parameter name d = not (is_identifier name) || not (is_text d)
 abbrev pub has_bad_parameters : Data → Bool
 has_bad_parameters d = if_there (no_object_or (any_member is_bad_parameter)) (get (codes "parameters") d)
 
--- the parameters file has the name
+-- the parameters file gives this name too
 abbrev pub is_given : ParametersValue → List ℕ → Data → Bool
 is_given given name _ = is_some (value_at name given)
 
--- it is not a text that is a plain path
+-- a value that is not a text of a plain path
 abbrev pub is_no_plain_path : Data → Bool
 is_no_plain_path d = unwrap_or (option_map (λ path. not (is_plain_path path)) (as_str d)) true
 
@@ -28,7 +28,7 @@ is_no_plain_path d = unwrap_or (option_map (λ path. not (is_plain_path path)) (
 unfoldable pub has_bad_parameter_url : Data → Bool
 has_bad_parameter_url d = if_there is_no_plain_path (get (codes "parameterURL") d)
 
--- 13: bad parameters of report or table, a name of the parameters file among the report's, a bad name of that file
+-- 13: bad parameters of report or table, a name in both the report and the parameters file, or a bad name of that file
 unfoldable pub has_bad_parameter : ParametersValue → Data → Bool
 has_bad_parameter given d =
     has_bad_parameters d || any_member (λ _ t. has_bad_parameters t) (section (codes "tables") d) || any_member (is_given given) (section (codes "parameters") d)

@@ -10,19 +10,19 @@ use Rattle.oim_meta.specs.declared.fault.MetaFault.TheVariants as fault
 use Rattle.oim_meta.specs.declared.records.ReadFault.{ReadFault}
 use Rattle.oim_meta.specs.declared.records.ReadFault.TheVariants as read
 
--- the field at a place, where it is text
+-- the field at a place, if it is text
 abbrev pub text_of : Field → Option Field
 text_of f = if is_utf8 f then Some f else None
 
 abbrev pub text_field : Record → ℕ → Option Field
 text_field r i = option_and_then text_of (field_at r i)
 
--- the fields of a record of just two texts
+-- the fields of a record of exactly two texts
 abbrev pub two_texts : Record → Option (Field × Field)
 two_texts (a ∷ b ∷ []) = if is_utf8 a && is_utf8 b then Some (a, b) else None
 two_texts r = None
 
--- the fields of a record of just three texts
+-- the fields of a record of exactly three texts
 abbrev pub three_texts : Record → Option (Field × Field × Field)
 three_texts (a ∷ b ∷ c ∷ []) = if is_utf8 a && is_utf8 b && is_utf8 c then Some (a, b, c) else None
 three_texts r = None
@@ -34,29 +34,29 @@ seen_two p = (p.0.now, p.1.now)
 abbrev pub seen_three : Bor (List ℕ) × Bor (List ℕ) × Bor (List ℕ) → Field × Field × Field
 seen_three p = (p.0.now, p.1.now, p.2.now)
 
--- what is read from a file of entries: how many entries it may have, the fault of a bad record, what there is
--- before the first entry, and what there is after one record more, where that one is good
+-- how a file of entries is read: the most entries that it may have, the fault of a bad record, the value before the
+-- first entry, and the value after one more record, if that record is good
 pub record EntryFile (S : Type 0) : Type 0 where
   pub limit : ℕ
   pub bad : MetaFault
   pub start : S
   pub after : S → Record → Option S
 
--- one record more after n of them; a record past the limit has that fault alone, whatever it holds
+-- the value after one more record than n; a record past the limit has only that fault, whatever it holds
 abbrev pub one_more : {S : Type 0} → EntryFile S → ℕ → S → Record → Result S MetaFault
 one_more f n s r = if nat_le f.limit n then Err fault.TooLarge else ok_or (f.after s r) f.bad
 
--- what follows where there is no fault yet
+-- go on if there is no fault yet
 abbrev pub unless_bad : {A B : Type 0} → (A → Result B MetaFault) → Result A MetaFault → Result B MetaFault
 unless_bad next (Err e) = Err e
 unless_bad next (Ok a) = next a
 
--- these records after n others: what there is after all of them, or the fault of the earliest bad one
+-- these records after n others: the value after all of them, or the fault of the earliest bad one
 unfoldable pub all_of : {S : Type 0} → EntryFile S → ℕ → S → List Record → Result S MetaFault
 all_of f n s [] = Ok s
 all_of f n s (r ∷ rs) = unless_bad (λ t. all_of f (n + 1) t rs) (one_more f n s r)
 
--- a whole file, whose header chooses what is read; one with no record, or with a header that chooses nothing, is bad
+-- a whole file, whose header chooses how it is read; a file without a record, or whose header chooses nothing, is bad
 abbrev pub file_result : {S : Type 0} → MetaFault → (Record → Option (EntryFile S)) → List Record → Result S MetaFault
 file_result bad chosen [] = Err bad
 file_result bad chosen (r ∷ rs) = option_map_or (λ f. all_of f 0 f.start rs) (chosen r) (Err bad)

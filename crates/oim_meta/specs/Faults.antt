@@ -8,11 +8,11 @@ use Rattle.oim_meta.specs.Members.{is_text, is_object, text_at, section, any_mem
 use Rattle.oim_meta.specs.Order.{repeats_text}
 use Rattle.oim_meta.specs.PlainPath.{is_plain_path}
 
--- the text at documentType is that of xBRL-CSV
+-- documentType is that of xBRL-CSV
 abbrev pub is_csv : Data → Bool
 is_csv i = unwrap_or (option_map (λ t. bytes_eq t (codes "https://xbrl.org/2021/xbrl-csv")) (text_at (codes "documentType") i)) false
 
--- 2: no object documentInfo, another or no documentType
+-- 2: documentInfo or its documentType is absent or another
 unfoldable pub has_no_report : Data → Bool
 has_no_report d = not (if_there is_csv (get (codes "documentInfo") d))
 
@@ -23,7 +23,7 @@ is_bad_prefix prefix uri = not (is_ncname prefix) || not (is_text uri)
 abbrev pub has_bad_prefix : Members → Bool
 has_bad_prefix ms = any_member is_bad_prefix ms || repeats_text ms
 
--- 3, in documentInfo: namespaces no object, a bad prefix or URI, one URI for two prefixes
+-- 3, in documentInfo: namespaces is not an object, has a bad prefix or URI, or has one URI for two prefixes
 unfoldable pub has_bad_namespaces : Data → Bool
 has_bad_namespaces i = if_there (no_object_or has_bad_prefix) (get (codes "namespaces") i)
 
@@ -31,22 +31,22 @@ has_bad_namespaces i = if_there (no_object_or has_bad_prefix) (get (codes "names
 abbrev pub has_no_text : Items → Bool
 has_no_text = any_item (λ d. not (is_text d))
 
--- it is not a list of texts
+-- a value that is not a list of texts
 abbrev pub is_no_texts : Data → Bool
 is_no_texts d = unwrap_or (option_map has_no_text (as_array d)) true
 
--- 4, in documentInfo: taxonomy absent or no list of texts; baseURL no text
+-- 4, in documentInfo: taxonomy is absent or not a list of texts, or baseURL is not a text
 unfoldable pub has_bad_taxonomy : Data → Bool
 has_bad_taxonomy i = unwrap_or (option_map is_no_texts (get (codes "taxonomy") i)) true || if_there (λ d. not (is_text d)) (get (codes "baseURL") i)
 
--- it is not a list, or some item stands in it
+-- a value that is not an empty list
 abbrev pub is_no_empty_list : Data → Bool
 is_no_empty_list d = unwrap_or (option_map (any_item (λ _. true)) (as_array d)) true
 
 abbrev pub is_anything : List ℕ → Data → Bool
 is_anything _ _ = true
 
--- it is not an object, or some member stands in it
+-- a value that is not an empty object
 abbrev pub is_no_empty_object : Data → Bool
 is_no_empty_object = no_object_or (any_member is_anything)
 
@@ -54,7 +54,7 @@ is_no_empty_object = no_object_or (any_member is_anything)
 abbrev pub info_at : List ℕ → Data → Option Data
 info_at k d = option_and_then (get k) (get (codes "documentInfo") d)
 
--- 5: extends in documentInfo that is not an empty list, or links that is not an empty object
+-- 5: extends in documentInfo is not an empty list, or links is not an empty object
 unfoldable pub is_unsupported : Data → Bool
 is_unsupported d = if_there is_no_empty_list (info_at (codes "extends") d) || if_there is_no_empty_object (get (codes "links") d)
 
@@ -66,7 +66,7 @@ is_bad_key name _ = not (is_identifier name)
 abbrev pub any_column : (List ℕ → Data → Bool) → Data → Bool
 any_column p d = any_member (λ _ template. any_member p (section (codes "columns") template)) (section (codes "tableTemplates") d)
 
--- 6: a key of tableTemplates, tables or a columns that is not an identifier
+-- 6: the key of a template, table or column is not an identifier
 unfoldable pub has_bad_identifier : Data → Bool
 has_bad_identifier d =
     any_member is_bad_key (section (codes "tableTemplates") d) || any_member is_bad_key (section (codes "tables") d) || any_column is_bad_key d
@@ -77,11 +77,11 @@ is_no_text d = not (is_text d)
 abbrev pub is_no_object : Data → Bool
 is_no_object d = not (is_object d)
 
--- it is not a truth value
+-- a value that is not a truth value
 abbrev pub is_no_flag : Data → Bool
 is_no_flag d = is_none (as_bool d)
 
--- dimensions that is not an object
+-- dimensions is not an object
 abbrev pub has_bad_section : Data → Bool
 has_bad_section d = if_there is_no_object (get (codes "dimensions") d)
 
@@ -93,7 +93,7 @@ is_bad_group name g = bytes_eq name [] || is_no_object g || has_bad_section g
 abbrev pub is_fact : Data → Bool
 is_fact c = is_some (get (codes "dimensions") c)
 
--- propertiesFrom of a fact column that is not a list of texts
+-- propertiesFrom of a fact column is not a list of texts
 abbrev pub has_bad_sources : Data → Bool
 has_bad_sources c = is_fact c && if_there is_no_texts (get (codes "propertiesFrom") c)
 
@@ -103,23 +103,23 @@ is_bad_column _ c =
     is_no_object c || has_bad_section c || if_there (no_object_or (any_member is_bad_group)) (get (codes "propertyGroups") c)
     || if_there is_no_flag (get (codes "comment") c) || has_bad_sources c
 
--- columns absent or no object, or a column of the wrong shape
+-- columns is absent or not an object, or a column has the wrong shape
 abbrev pub has_bad_columns : Data → Bool
 has_bad_columns t = unwrap_or (option_map (no_object_or (any_member is_bad_column)) (get (codes "columns") t)) true
 
--- a template of the wrong shape; one that is not an object has no columns
+-- a template of the wrong shape; a value that is not an object has no columns
 abbrev pub is_bad_template : List ℕ → Data → Bool
 is_bad_template _ t = has_bad_columns t || has_bad_section t || if_there is_no_text (get (codes "rowIdColumn") t)
 
--- url absent or no plain path
+-- url is absent or not a plain path
 abbrev pub lacks_url : Data → Bool
 lacks_url t = unwrap_or (option_map (λ url. not (is_plain_path url)) (text_at (codes "url") t)) true
 
--- a table of the wrong shape; one that is not an object has no url
+-- a table of the wrong shape; a value that is not an object has no url
 abbrev pub is_bad_table : List ℕ → Data → Bool
 is_bad_table _ t = lacks_url t || if_there is_no_text (get (codes "template") t) || if_there is_no_flag (get (codes "optional") t)
 
--- 7: a wrong shape
+-- 7: dimensions, a template or a table of the wrong shape
 unfoldable pub has_bad_shape : Data → Bool
 has_bad_shape d =
     has_bad_section d || if_there (no_object_or (any_member is_bad_template)) (get (codes "tableTemplates") d)
@@ -139,7 +139,7 @@ is_mixed_column _ c = (is_fact c && is_groups c) || (is_fact c && is_comment c) 
 unfoldable pub has_mixed_column : Data → Bool
 has_mixed_column = any_column is_mixed_column
 
--- the name of a table's template: its own where it gives none
+-- the name of a table's template; the table's own name if it gives none
 abbrev pub template_name : List ℕ → Data → List ℕ
 template_name id t = unwrap_or (text_at (codes "template") t) id
 

@@ -1,9 +1,10 @@
--- The faults that a metadata has, with the limits, the parameters file's parameters and the types, and the first of them.
+-- The faults of a metadata, by the limits, the parameters file and the types, and the first of them.
 use Rattle.std.specs.Prelude.{Bool, false, Option, List, [], ◌∷◌, codes, find}
 use Rattle.serde_json.specs.Data.{Data}
 use Rattle.serde_json.specs.Find.{get}
 use Rattle.oim_meta.specs.declared.fault.MetaFault.{MetaFault}
-use Rattle.oim_meta.specs.declared.fault.MetaFault.TheVariants.{Syntax, NotReport, BadNamespaces, BadTaxonomy, Unsupported, BadIdentifier, BadTemplate, ColumnKinds, UnknownTemplate, UnknownColumn, BadDimension, BadDecimals, BadParameter, BadTypes, TooLarge, Memory, Read}
+use Rattle.oim_meta.specs.declared.fault.MetaFault.TheVariants.{Syntax, NotReport, BadNamespaces, BadTaxonomy, Unsupported, BadIdentifier, BadTemplate, ColumnKinds, UnknownTemplate}
+use Rattle.oim_meta.specs.declared.fault.MetaFault.TheVariants.{UnknownColumn, BadDimension, BadDecimals, BadParameter, BadTypes, TooLarge, Memory, Read}
 use Rattle.oim_meta.specs.declared.limits.Limits.{Limits}
 use Rattle.oim_meta.specs.Parameters.{ParametersValue}
 use Rattle.oim_meta.specs.Types.{TypesValue}
@@ -35,16 +36,16 @@ has_fault limits given types d TooLarge = has_too_many limits d
 has_fault limits given types d Memory = false
 has_fault limits given types d Read = false
 
--- the first of those that take the types, the parameters file's parameters or the limits
+-- the first of the faults that depend on the types, the parameters file or the limits
 abbrev pub late_fault : Limits → ParametersValue → TypesValue → Data → Option MetaFault
 late_fault limits given types d = find (has_fault limits given types d) (BadDimension ∷ BadDecimals ∷ BadParameter ∷ TooLarge ∷ [])
 
--- the faults in the order in which they are looked for: that of their numbers, and last the counts
+-- the faults in the order in which they are looked for, which is that of their numbers
 abbrev pub faults_in_order : List MetaFault
 faults_in_order =
     NotReport ∷ BadNamespaces ∷ BadTaxonomy ∷ Unsupported ∷ BadIdentifier ∷ BadTemplate ∷ ColumnKinds ∷ UnknownTemplate ∷ UnknownColumn ∷ BadDimension ∷ BadDecimals ∷ BadParameter ∷ TooLarge
     ∷ []
 
--- the first of them that a metadata has
+-- the first fault that a metadata has
 abbrev pub first_fault : Limits → ParametersValue → TypesValue → Data → Option MetaFault
 first_fault limits given types d = find (has_fault limits given types d) faults_in_order

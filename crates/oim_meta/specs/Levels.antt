@@ -1,4 +1,4 @@
--- The levels of a metadata that may write dimensions and decimals (xBRL-CSV 1.0: dimensions and decimals of report, table template, column and property group).
+-- The levels of a metadata that may write dimensions and decimals: report, table template, column and property group (xBRL-CSV 1.0).
 use Rattle.std.specs.Prelude.{ℕ, List, Bool, ◌||◌, codes}
 use Rattle.serde_json.specs.Data.{Data}
 use Rattle.oim_meta.specs.Members.{any_member, section}
@@ -7,7 +7,7 @@ use Rattle.oim_meta.specs.Members.{any_member, section}
 abbrev pub is_column_level : (Data → Bool) → (Data → Bool) → List ℕ → Data → Bool
 is_column_level p q _ c = q c || any_member (λ _ g. p g) (section (codes "propertyGroups") c)
 
--- a template, a column of it or a group passes its test
+-- a template, one of its columns or one of their groups passes its test
 abbrev pub is_template_level : (Data → Bool) → (Data → Bool) → List ℕ → Data → Bool
 is_template_level p q _ t = p t || any_member (is_column_level p q) (section (codes "columns") t)
 

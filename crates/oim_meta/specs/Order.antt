@@ -27,7 +27,7 @@ repeats_text ms = any_member (λ name d. has_other name (text_of d) ms) ms
 abbrev pub IsAbove : List ℕ → Members → Type 0
 IsAbove name ms = AllByRecursion (λ other. slice_cmp nat_cmp name other ≡ Less) (names_of ms)
 
--- the names of an object rise, and those of each object that is a member's value
+-- the names of an object rise, and so do those of each object among its values
 abbrev mutual
   pub IsInOrder : Data → Type 0
   IsInOrder null = ⊤

@@ -4,6 +4,6 @@ use Rattle.std.specs.Prelude.{ℕ, List, ⊤, map}
 abbrev pub ParametersValue : Type 0
 ParametersValue = List (List ℕ × List ℕ)
 
--- the names alone
+-- only the names
 abbrev pub marked : ParametersValue → List (List ℕ × ⊤)
 marked entries = map (λ e. (e.0, tt)) entries

@@ -1,4 +1,4 @@
--- What is true of the parts of any report: the places that they name, their order, and their identifiers.
+-- What is true of the parts of any report: the places that they name, their order and their identifiers.
 use Rattle.std.specs.Prelude.{◌<◌, List, IfSome, length}
 use Rattle.std.specs.List.{All}
 use Rattle.oim_meta.specs.InOrder.{PartsRise, HaveIdentifiers}
@@ -6,11 +6,11 @@ use Rattle.oim_meta.specs.declared.data.Level.{Level}
 use Rattle.oim_meta.specs.declared.data.Table.{Table}
 use Rattle.oim_meta.specs.declared.data.Template.{Template}
 
--- the columns that a template's columns take groups from, and its column of row identifiers, are there
+-- the columns that a template's columns take groups from are there, and so is its column of row identifiers
 unfoldable pub HasColumns : Template → Type 0
 HasColumns t = All (λ c. All (λ i. i < length t.columns) c.from) t.columns × IfSome t.row_id_column (λ i. i < length t.columns)
 
--- each table's template is there, and each column that a template names; the parts stand in order, with identifiers
+-- each table's template is there, and each column that a template names; the parts are in order and have identifiers
 unfoldable pub IsReport : Level → List Template → List Table → Type 0
 IsReport level templates tables =
     All (λ (t : Table). t.template < length templates) tables × All HasColumns templates

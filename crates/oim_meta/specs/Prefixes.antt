@@ -5,7 +5,7 @@ use Rattle.serde_json.specs.Find.{get}
 use Rattle.oim_names.specs.Bindings.{Bindings}
 use Rattle.oim_meta.specs.Members.{text_of, section, map_members}
 
--- each member's name with its text
+-- the name of each member with its text
 abbrev pub bindings_of : Members → Bindings
 bindings_of = map_members (λ prefix uri. (prefix, text_of uri))
 

@@ -1,4 +1,4 @@
--- What the readers of a report answer, with something for places that are out of range.
+-- What the readers of a report answer. Places that are out of range have empty parts.
 use Rattle.std.specs.Prelude.{ℕ, List, [], Option, None, false, slice_index_or}
 use Rattle.std.specs.Option.{option_or}
 use Rattle.oim_names.specs.Lookup.{value_at}
@@ -11,7 +11,7 @@ use Rattle.oim_meta.specs.declared.data.Table.{Table}
 use Rattle.oim_meta.specs.declared.data.Template.{Template}
 use Rattle.oim_meta.specs.declared.kind.Kind.{Kind}
 
--- what stands for a place that is out of range
+-- the parts at a place that is out of range
 abbrev pub no_level : Level
 no_level = record { dimensions = []; decimals = None }
 

@@ -1,4 +1,4 @@
--- What reading a metadata answers, from its bytes. A mark EF BB BF at their start is passed over.
+-- What reading a metadata answers, from its bytes. One byte-order mark (EF BB BF) at their start is skipped.
 use Rattle.std.specs.Prelude.{◌≡◌, ◌<◌, ◌≤◌, ◌⊎◌, ℕ, List, length, take, drop, [], ◌∷◌, Bool, false, nat_eq, if◌then◌else◌, Option, Some, None, IsUtf8, codes, find}
 use Rattle.std.specs.Cmp.Lexicographic.{pointwise}
 use Rattle.serde_json.specs.Data.{Data}
@@ -21,11 +21,11 @@ use Rattle.oim_meta.specs.Value.{report_of}
 abbrev pub after_mark : List ℕ → List ℕ
 after_mark bytes = if pointwise nat_eq (take 3 bytes) (239 ∷ 187 ∷ 191 ∷ []) then drop 3 bytes else bytes
 
--- the bytes are JSON for d
+-- the bytes are JSON text for d
 abbrev pub IsJson : List ℕ → Data → Type 0
 IsJson bytes d = IsUtf8 (after_mark bytes) × (read (after_mark bytes) ≡ Some d)
 
--- the bytes are not JSON for any value
+-- the bytes are not JSON text for any value
 abbrev pub HasNoJson : List ℕ → Type 0
 HasNoJson bytes = (d : Data) → IsJson bytes d → ⊥
 
@@ -43,7 +43,7 @@ IsNoJson bytes f = ⊥
 abbrev pub SaysReport : Limits → ParametersValue → TypesValue → List ℕ → ReportValue → Type 0
 SaysReport limits given types bytes r = (length bytes ≤ limits.metadata) × ((d : Data) × IsJson bytes d × (first_fault limits given types d ≡ None) × (r ≡ report_of given types d))
 
--- the first fault of the value that the bytes are
+-- the first fault of the value whose JSON text the bytes are
 abbrev pub HasFirst : Limits → ParametersValue → TypesValue → List ℕ → MetaFault → Type 0
 HasFirst limits given types bytes f = (length bytes ≤ limits.metadata) × ((d : Data) × IsJson bytes d × (first_fault limits given types d ≡ Some f))
 

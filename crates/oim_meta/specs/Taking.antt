@@ -1,11 +1,11 @@
--- What a call takes from the records that are left, where these are known.
+-- What a call takes from the records that are left, if they are known.
 use Rattle.std.specs.Prelude.{List, [], ◌∷◌, ◌≡◌, Bool, true, false, Option, Some, None, ◌⊎◌}
 use Rattle.csv.specs.Reading.{Ready, default_config, has_failed, is_flexible, reader_config, reader_trim}
 use Rattle.csv.specs.declared.reader.Reader.{Reader}
 use Rattle.csv.specs.declared.reader.Trim.TheVariants as trim
 use Rattle.oim_meta.specs.Grid.{Record}
 
--- a record is the next one of those left; none comes only where none is left, and then none is left for good
+-- a record is the next one of those left; there is none only if none is left, and then none is left for good
 abbrev pub TakesRecord : Option (List Record) → Bool → Record → Option (List Record) → Type 0
 TakesRecord None found r after = found ≡ false → after ≡ Some []
 TakesRecord (Some []) found r after = (found ≡ false) × (after ≡ Some [])

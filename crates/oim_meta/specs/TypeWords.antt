@@ -35,7 +35,7 @@ wider_words =
     ∷ (codes "qname", kind.Name)
     ∷ plain_words
 
--- each table under the name by which a header chooses it
+-- each table under the name that a header gives for it
 abbrev pub tables_of_words : List (List ℕ × Words)
 tables_of_words = (codes "type", plain_words) ∷ (codes "type2", wider_words) ∷ []
 

@@ -1,4 +1,4 @@
--- The types of concepts and dimensions: for each namespace its names, each with its kind.
+-- The types of concepts and dimensions: the names of each namespace, each with its kind.
 use Rattle.std.specs.Prelude.{ℕ, List, Option}
 use Rattle.std.specs.Option.{option_and_then}
 use Rattle.oim_names.specs.Lookup.{value_at}

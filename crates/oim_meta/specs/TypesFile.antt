@@ -1,5 +1,5 @@
 -- The types table, a CSV file (RFC 4180) with a record for each concept and dimension: its namespace, its name and its
--- type. It stands for the taxonomy (XBRL 2.1, XBRL Dimensions 1.0).
+-- type. It takes the place of the taxonomy (XBRL 2.1, XBRL Dimensions 1.0).
 use Rattle.std.specs.Prelude.{ℕ, List, [], ◌&&◌, Option, Some, None, is_none, if◌then◌else◌, Result}
 use Rattle.std.specs.Option.{option_and_then, option_map}
 use Rattle.oim_names.specs.Lookup.{value_at}
@@ -13,11 +13,11 @@ use Rattle.oim_meta.specs.declared.fault.MetaFault.{MetaFault}
 use Rattle.oim_meta.specs.declared.fault.MetaFault.TheVariants as fault
 use Rattle.oim_meta.specs.declared.kind.Kind.{Kind}
 
--- the types with one name more, the last of its namespace; a namespace stands where it first came
+-- the types with one more name, the last of its namespace; a new namespace is the last
 abbrev pub with_kind : TypesValue → List ℕ → List ℕ → Kind → TypesValue
 with_kind types uri local k = pushed_under types uri local k
 
--- a name is an NCName, which stands once in its namespace, and has one of the words
+-- a name is an NCName that no earlier record has in its namespace, and its type is one of the words
 abbrev pub with_type : Words → TypesValue → Field × Field × Field → Option TypesValue
 with_type words earlier p =
     if is_ncname p.1 && is_none (kind_in earlier p.0 p.1) then option_and_then (λ k. Some (with_kind earlier p.0 p.1 k)) (value_at p.2 words)
@@ -26,10 +26,16 @@ with_type words earlier p =
 abbrev pub type_after : Words → TypesValue → Record → Option TypesValue
 type_after words earlier r = option_and_then (with_type words earlier) (three_texts r)
 
--- what is read with a table of words
+abbrev pub most_types : ℕ
+most_types = 1048576
+
+-- how a file is read with a table of words
 abbrev pub types_file : Words → EntryFile TypesValue
-types_file words = record { limit = 1048576; bad = fault.BadTypes; start = []; after = type_after words }
+types_file words = record { limit = most_types; bad = fault.BadTypes; start = []; after = type_after words }
+
+abbrev pub types_chosen : Record → Option (EntryFile TypesValue)
+types_chosen header = option_map types_file (words_chosen header)
 
 -- the types of a file whose header chooses the words, or the fault of its earliest bad record
 abbrev pub types_result : List Record → Result TypesValue MetaFault
-types_result = file_result fault.BadTypes (λ header. option_map types_file (words_chosen header))
+types_result = file_result fault.BadTypes types_chosen

@@ -20,14 +20,14 @@ is_groups Groups = true
 is_groups Comment = false
 is_groups Plain = false
 
--- the column of a template that has the name
+-- the column of a template with this name
 abbrev pub column_at : Data → List ℕ → Option Data
 column_at t name = option_and_then (get name) (get (codes "columns") t)
 
 abbrev pub lacks_column : Data → List ℕ → Bool
 lacks_column t name = is_none (column_at t name)
 
--- the name is not that of a property group column
+-- no property group column has the name
 abbrev pub lacks_groups : Data → List ℕ → Bool
 lacks_groups t name = not (if_there (λ c. is_groups (kind_of c)) (column_at t name))
 

@@ -1,5 +1,5 @@
 -- The report that a metadata without faults spells out (xBRL-CSV 1.0: metadata, table templates,
--- columns and tables). The members of a JSON object stand in byte order of name.
+-- columns and tables). The members of a JSON object are in byte order of name.
 use Rattle.std.specs.Prelude.{ℕ, suc, List, [], ◌∷◌, ◌++◌, Bool, false, bytes_eq, nat_eq, fold, Option, Some, None, option_map, option_and_then, unwrap_or, is_some, codes, if◌then◌else◌}
 use Rattle.std.specs.List.{list_any}
 use Rattle.serde_json.specs.Data.{Data, null, Items, Members, no_members, member}
@@ -21,7 +21,7 @@ use Rattle.oim_meta.specs.Prefixes.{prefixes_of}
 use Rattle.oim_meta.specs.Written.{written_of}
 use Rattle.oim_meta.specs.Decimals.{decimals_of}
 
--- the truth value at a key; false where there is none
+-- the truth value at a key; false if there is none
 abbrev pub flag_at : List ℕ → Data → Bool
 flag_at k d = unwrap_or (option_and_then as_bool (get k d)) false
 
@@ -47,7 +47,7 @@ abbrev pub place_of : List ℕ → Members → ℕ
 place_of name no_members = 0
 place_of name (member k d ms) = if bytes_eq name k then 0 else suc (place_of name ms)
 
--- x goes last, unless it is there
+-- x is added at the end, unless it is there
 abbrev pub add_new : List ℕ → ℕ → List ℕ
 add_new seen x = if list_any (λ y. nat_eq y x) seen then seen else seen ++ x ∷ []
 
@@ -55,11 +55,11 @@ abbrev pub add_place : Members → List ℕ → Option (List ℕ) → List ℕ
 add_place columns seen None = seen
 add_place columns seen (Some name) = add_new seen (place_of name columns)
 
--- the places of names among columns, each at its first place alone; what is not a text names nothing
+-- the places of names among columns, each once, in the order of first mention; a value that is not a text names nothing
 abbrev pub places_of : Members → Items → List ℕ
 places_of columns names = fold (add_place columns) [] (map_items as_str names)
 
--- with dimensions, even without members, a fact column; with propertyGroups one of property groups
+-- a column with dimensions, even empty, is a fact column; else one with propertyGroups is a property group column
 abbrev pub kind_of : Data → ColumnKind
 kind_of c =
     if is_some (get (codes "dimensions") c) then Fact
@@ -67,7 +67,7 @@ kind_of c =
     else if flag_at (codes "comment") c then Comment
     else Plain
 
--- what a column writes: only that of a fact column is read
+-- what a column writes; only that of a fact column is read
 abbrev pub column_level : ColumnKind → Data → Level
 column_level Fact c = level_of c
 column_level Groups c = nothing_written
@@ -101,7 +101,7 @@ row_id_of t = option_map (λ name. place_of name (section (codes "columns") t)) 
 unfoldable pub template_of : List ℕ → Data → Template
 template_of id t = record { id = id; columns = columns_of t; row_id_column = row_id_of t; level = level_of t }
 
--- a table, with the templates of its report
+-- a table, by the templates of its report
 unfoldable pub table_of : Members → List ℕ → Data → Table
 table_of templates id t =
     record {

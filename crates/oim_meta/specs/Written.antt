@@ -9,11 +9,11 @@ use Rattle.oim_meta.specs.declared.data.Side.TheVariants.{Whole, Start, End}
 use Rattle.oim_meta.specs.declared.data.Written.{Written}
 use Rattle.oim_meta.specs.declared.data.Written.TheVariants.{Absent, Nil, Empty, Text, RowNumber, Named}
 
--- what stands after p
+-- the text after the prefix p
 unfoldable pub strip_front : List ℕ → List ℕ → Option (List ℕ)
 strip_front p s = if starts_with nat_eq s p then Some (drop (length p) s) else None
 
--- what stands before p
+-- the text before the suffix p
 unfoldable pub strip_back : List ℕ → List ℕ → Option (List ℕ)
 strip_back p s = if ends_with nat_eq s p then Some (take (length s - length p) s) else None
 
@@ -26,12 +26,12 @@ or_whole name (Some front) end = named front Start
 or_whole name None (Some front) = named front End
 or_whole name None None = named name Whole
 
--- a reference without its dollar sign: only in period it may have a side
+-- a reference without its dollar sign; only at the key period can it have a side
 unfoldable pub reference_of : List ℕ → List ℕ → Written
 reference_of key name =
     if bytes_eq key (codes "period") then or_whole name (strip_back (codes "@start") name) (strip_back (codes "@end") name) else named name Whole
 
--- a meaning, written; an unknown one has a fault of its own
+-- a literal by its meaning; an unknown one is a fault
 abbrev pub literal_by : Meaning → Written
 literal_by meaning.Absent = Absent
 literal_by meaning.Nil = Nil
@@ -47,7 +47,6 @@ abbrev pub by_dollar : List ℕ → List ℕ → Option (List ℕ) → Written
 by_dollar key s (Some rest) = unless_dollar key rest (strip_front (codes "$") rest)
 by_dollar key s None = literal_by (meaning_of s)
 
--- what a text says at a dimension's key: after two dollar signs a text, after one a reference,
--- else a literal
+-- what a text says at a dimension's key: two dollar signs begin a literal text and one a reference; other texts are literals
 abbrev pub written_of : List ℕ → List ℕ → Written
 written_of key s = by_dollar key s (strip_front (codes "$") s)

@@ -2,16 +2,17 @@
 
 ghost use Rattle.std.specs.Prelude.{◌≡◌, ◌++◌, IfOk, false, codes};
 ghost use Rattle.serde_json.specs.Data.{null};
-ghost use Rattle.serde_json.specs.Find.{get};
 ghost use Rattle.serde_json.specs.View.{view};
-ghost use Rattle.oim_meta.specs.Members.{section, map_members, if_there};
-ghost use Rattle.oim_meta.specs.Value.{info_of, named_text, document_info, report_of};
-ghost use Rattle.oim_meta.specs.Faults.{has_bad_identifier, has_bad_namespaces, has_unknown_template};
+ghost use Rattle.oim_meta.specs.Members.{section, map_members};
+ghost use Rattle.oim_meta.specs.Value.{document_info, info_of, level_of, named_text, report_of, tables_of, templates_of};
+ghost use Rattle.oim_meta.specs.Faults.{has_bad_identifier, has_unknown_template};
 ghost use Rattle.oim_meta.specs.Order.{IsInOrder};
+ghost use Rattle.oim_meta.specs.Prefixes.{prefixes_of};
 ghost use Rattle.oim_meta.specs.UnknownColumn.{has_unknown_column};
 
 mod levels;
 pub(crate) mod made;
+pub(crate) mod namespaces;
 mod places;
 mod tables;
 mod templates;
@@ -19,18 +20,17 @@ mod templates;
 use crate::build::levels::level;
 use crate::build::made::{copied, list_from, texts_at};
 use crate::build::tables::tables;
-use crate::check::namespaces::prefixes;
-use crate::data::Info;
+use crate::data::{Info, Level, Table, Template};
 use crate::lookup::text_at;
 use crate::parameters::Parameters;
 use crate::report::Report;
 use crate::types::Types;
-use oim_names::{Items, Text};
+use oim_names::{Items, Namespaces, Text};
 use serde_json::Value;
 use std::alloc::{AllocError, Global};
 pub(crate) use templates::kind_of;
 
-/// What the document says of itself, else nothing.
+/// The document information, or nothing if there is none.
 fn document_of<'a>(value: &'a Value, nothing: &'a Value) -> &'a Value
     requires { view nothing.now ≡ null }
     ensures { view result.now ≡ document_info (view value.now) }
@@ -63,31 +63,55 @@ fn all_parameters(
     Ok(Items::from_vec(all))
 }
 
-/// The report of a metadata that has none of the faults that its places and prefixes can have.
+/// The parts of a report that come from its JSON alone, apart from the prefixes.
+#[derive(Drop)]
+struct Parts {
+    info: Info,
+    level: Level,
+    templates: Items<Template>,
+    tables: Items<Table>,
+}
+
+fn built(alloc: Global, value: &Value) -> Result<Parts, AllocError>
+    ensures info { IfOk result (λ made. made.info ≡ info_of (document_info (view value.now))) }
+    ensures level { IfOk result (λ made. made.level ≡ level_of (view value.now)) }
+    ensures templates { IfOk result (λ made. made.templates ≡ templates_of (view value.now)) }
+    ensures tables { IfOk result (λ made. made.tables ≡ tables_of (view value.now)) }
+{
+    let nothing = Value::Null;
+    Ok(Parts {
+        info: info(alloc, document_of(value, &nothing))?,
+        level: level(alloc, value)?,
+        templates: list_from(alloc, value, "tableTemplates")?,
+        tables: tables(alloc, value)?,
+    })
+}
+
+/// The report of a metadata with these prefixes, each of whose names of templates and columns is known.
 #[tactic(auto, unfolding(crate::specs::Value::report_of))]
 pub(crate) fn report(
     alloc: Global,
     value: &Value,
+    namespaces: Namespaces,
     parameters: Parameters,
     types: Types,
 ) -> Result<Report, AllocError>
-    requires namespaces { if_there has_bad_namespaces (get (codes "documentInfo") (view value.now))
-        ≡ false }
+    requires namespaces { namespaces ≡ prefixes_of (view value.now) }
     requires templates { has_unknown_template (view value.now) ≡ false }
     requires columns { has_unknown_column (view value.now) ≡ false }
     requires order { IsInOrder (view value.now) }
     requires identifiers { has_bad_identifier (view value.now) ≡ false }
     ensures { IfOk result (λ r. r ≡ report_of parameters types (view value.now)) }
 {
-    let nothing = Value::Null;
-    let document = document_of(value, &nothing);
+    let parameters = all_parameters(alloc, value, parameters)?;
+    let parts = built(alloc, value)?;
     Ok(Report {
-        info: info(alloc, document)?,
-        namespaces: prefixes(alloc, value)?,
+        info: parts.info,
+        namespaces,
         types,
-        level: level(alloc, value)?,
-        templates: list_from(alloc, value, "tableTemplates")?,
-        tables: tables(alloc, value)?,
-        parameters: all_parameters(alloc, value, parameters)?,
+        level: parts.level,
+        templates: parts.templates,
+        tables: parts.tables,
+        parameters,
     })
 }

@@ -7,7 +7,6 @@ pub(crate) mod document;
 pub(crate) mod identifiers;
 pub(crate) mod kinds;
 pub(crate) mod levels;
-pub(crate) mod namespaces;
 pub(crate) mod parameters;
 pub(crate) mod paths;
 pub(crate) mod shapes;

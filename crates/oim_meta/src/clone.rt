@@ -1,9 +1,11 @@
 //! Equal copies of a report and of its parts.
 
-ghost use Rattle.std.specs.Prelude.{◌≡◌};
+ghost use Rattle.std.specs.Prelude.{◌≡◌, IfOk};
 
 use crate::data::{Column, Info, Level, Table, Template, Written, WrittenDecimals};
 use crate::report::Report;
+use crate::types::Types;
+use oim_names::{Items, Namespaces, Text};
 use std::alloc::AllocError;
 
 impl Clone for Written {
@@ -97,18 +99,45 @@ impl Clone for Info {
     }
 }
 
+impl Report {
+    /// Equal copies of its level, its templates and its tables.
+    fn cloned_tables(&self) -> Result<(Level, Items<Template>, Items<Table>), AllocError>
+        ensures level { IfOk result (λ made. made.0 ≡ self.now.level) }
+        ensures templates { IfOk result (λ made. made.1 ≡ self.now.templates) }
+        ensures tables { IfOk result (λ made. made.2 ≡ self.now.tables) }
+    {
+        let level = self.level.clone()?;
+        let templates = self.templates.clone()?;
+        Ok((level, templates, self.tables.clone()?))
+    }
+
+    /// Equal copies of its prefixes, its types and its parameters.
+    fn cloned_names(&self) -> Result<(Namespaces, Types, Items<(Text, Text)>), AllocError>
+        ensures namespaces { IfOk result (λ made. made.0 ≡ self.now.namespaces) }
+        ensures types { IfOk result (λ made. made.1 ≡ self.now.types) }
+        ensures parameters { IfOk result (λ made. made.2 ≡ self.now.parameters) }
+    {
+        let namespaces = self.namespaces.clone()?;
+        let types = self.types.clone()?;
+        Ok((namespaces, types, self.parameters.clone()?))
+    }
+}
+
 impl Clone for Report {
     ghost is_clone = { λ v w. w ≡ v };
 
     fn clone(&self) -> Result<Report, AllocError> {
+        let info = self.info.clone()?;
+        let (namespaces, types, parameters) = self.cloned_names()?;
+        let (level, templates, tables) = self.cloned_tables()?;
         Ok(Report {
-            info: self.info.clone()?,
-            namespaces: self.namespaces.clone()?,
-            types: self.types.clone()?,
-            level: self.level.clone()?,
-            templates: self.templates.clone()?,
-            tables: self.tables.clone()?,
-            parameters: self.parameters.clone()?,
+            info,
+            namespaces,
+            types,
+            level,
+            templates,
+            tables,
+            parameters,
         })
     }
 }

@@ -3,14 +3,15 @@
 ghost use Rattle.std.specs.Prelude.{◌≡◌, option_map};
 ghost use Rattle.serde_json.specs.View.{view, items_view, members_view};
 ghost use Rattle.oim_meta.specs.Members.{any_item, any_member};
-ghost use Rattle.oim_meta.specs.UnknownColumn.{column_at as column_named, lacks_groups as groups_lack, has_unknown_row_id, is_unknown_source, has_unknown_source, lacks_named_column, has_unknown_column};
+ghost use Rattle.oim_meta.specs.UnknownColumn.{column_at as column_named, lacks_groups as groups_lack, has_unknown_row_id, is_unknown_source};
+ghost use Rattle.oim_meta.specs.UnknownColumn.{has_unknown_source, lacks_named_column, has_unknown_column};
 
 use crate::build::kind_of;
 use crate::data::ColumnKind;
 use crate::lookup::{list_at, object_at, text_at};
 use serde_json::{Map, Value};
 
-/// The column of a template that has a name.
+/// The column of a template with this name.
 fn column_at<'a>(template: &'a Value, name: &str) -> Option<&'a Value>
     ensures { option_map (λ v. view v.now) result ≡ column_named (view template.now) name.now }
 {

@@ -18,7 +18,7 @@ fn in_range(number: i64) -> Option<i32>
     i32::try_from(number).ok()
 }
 
-/// The whole number of a value, where it fits 32 bits.
+/// The whole number of a value, if it fits into 32 bits.
 pub(crate) fn whole(value: &Value) -> Option<i32>
     ensures { result ≡ whole_of (view value.now) }
 {

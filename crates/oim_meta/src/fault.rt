@@ -1,64 +1,51 @@
 //! The faults of a metadata, a parameters file and a types table.
 
 ghost use Rattle.std.specs.Prelude.{◌≡◌};
+ghost use Rattle.oim_meta.specs.CsvFiles.{fault_of_read};
 ghost use Rattle.oim_meta.specs.FaultNames.{fault_number, fault_name};
 
+use crate::records::ReadFault;
+use std::alloc::AllocError;
 use thiserror::Error;
 
 /// Why a metadata, its parameters file or its types table is refused.
 #[derive(Clone, Copy, Debug, PartialEq, Eq, Error)]
+#[error("{}", self.sentence())]
 pub enum MetaFault {
     /// The bytes are not well-formed JSON in UTF-8.
-    #[error("Syntax")]
     Syntax,
     /// The value is not an object, or its document is not of the type xBRL-CSV.
-    #[error("NotReport")]
     NotReport,
     /// The namespaces are not an object of texts, a prefix is not an NCName, or a URI has two prefixes.
-    #[error("BadNamespaces")]
     BadNamespaces,
     /// The taxonomy is not a list of texts, or the base URL is not a text.
-    #[error("BadTaxonomy")]
     BadTaxonomy,
     /// The metadata extends another, or has links.
-    #[error("Unsupported")]
     Unsupported,
     /// The key of a template, table or column is not an identifier.
-    #[error("BadIdentifier")]
     BadIdentifier,
     /// A template, column, property group, table or list of dimensions has a wrong shape.
-    #[error("BadTemplate")]
     BadTemplate,
     /// A column is of two or three of the kinds fact, property group and comment.
-    #[error("ColumnKinds")]
     ColumnKinds,
     /// A table names a template that is not there.
-    #[error("UnknownTemplate")]
     UnknownTemplate,
     /// A template refers to a column that it does not define.
-    #[error("UnknownColumn")]
     UnknownColumn,
     /// The key of a dimension is not known, or its value is not well-formed.
-    #[error("BadDimension")]
     BadDimension,
     /// The value of `decimals` is not well-formed.
-    #[error("BadDecimals")]
     BadDecimals,
-    /// Parameters are not texts under identifiers, a name stands twice, or the parameters file's name
+    /// Parameters are not texts under identifiers, a name appears twice, or the parameters file's name
     /// is not a plain path.
-    #[error("BadParameter")]
     BadParameter,
     /// The types table has a bad record.
-    #[error("BadTypes")]
     BadTypes,
-    /// More bytes, tables, columns or records than the limit.
-    #[error("TooLarge")]
+    /// There are more bytes, tables, columns or records than the limit.
     TooLarge,
     /// Memory ran out.
-    #[error("Memory")]
     Memory,
     /// The reader failed.
-    #[error("Read")]
     Read,
 }
 
@@ -111,5 +98,57 @@ impl MetaFault {
             MetaFault::Memory => "Memory",
             MetaFault::Read => "Read",
         }
+    }
+
+    /// What is wrong, as a message for people.
+    fn sentence(&self) -> &'static str {
+        match self {
+            MetaFault::Syntax => "the bytes are not well-formed JSON in UTF-8",
+            MetaFault::NotReport => "the metadata is not an xBRL-CSV document",
+            MetaFault::BadNamespaces => "the namespaces are not well-formed",
+            MetaFault::BadTaxonomy => "the taxonomy or the base URL is not well-formed",
+            MetaFault::Unsupported => "the metadata extends another or has links",
+            MetaFault::BadIdentifier => {
+                "the key of a template, table or column is not an identifier"
+            }
+            MetaFault::BadTemplate => {
+                "a template, column, property group, table or list of dimensions has a wrong shape"
+            }
+            MetaFault::ColumnKinds => "a column is of more than one kind",
+            MetaFault::UnknownTemplate => "a table names a template that is not there",
+            MetaFault::UnknownColumn => "a template refers to a column that it does not define",
+            MetaFault::BadDimension => "a dimension is not known or its value is not well-formed",
+            MetaFault::BadDecimals => "a value of decimals is not well-formed",
+            MetaFault::BadParameter => {
+                "a parameter or the name of the parameters file is not well-formed"
+            }
+            MetaFault::BadTypes => "a record of the types table is not well-formed",
+            MetaFault::TooLarge => {
+                "there are more bytes, tables, columns or records than the limit"
+            }
+            MetaFault::Memory => "memory ran out",
+            MetaFault::Read => "the reader failed",
+        }
+    }
+}
+
+impl From<ReadFault> for MetaFault {
+    ghost from_gives = { λ fault made. made ≡ fault_of_read fault };
+
+    fn from(fault: ReadFault) -> MetaFault {
+        match fault {
+            ReadFault::Read => MetaFault::Read,
+            ReadFault::Memory => MetaFault::Memory,
+        }
+    }
+}
+
+impl From<AllocError> for MetaFault {
+    ghost use Rattle.oim_meta.specs.declared.fault.MetaFault.TheVariants.{Memory};
+
+    ghost from_gives = { λ _ made. made ≡ Memory };
+
+    fn from(_error: AllocError) -> MetaFault {
+        MetaFault::Memory
     }
 }

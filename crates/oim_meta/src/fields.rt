@@ -7,7 +7,7 @@ ghost use Rattle.oim_meta.specs.CsvFiles.{seen_three, seen_two, text_field, thre
 
 use csv::ByteRecord;
 
-/// The field at a place, where it is text.
+/// The field at a place, if it is text.
 fn text_at(row: &ByteRecord, i: usize) -> Option<&str>
     ensures { option_map (λ t. t.now) result ≡ text_field (fields_of row.now) i }
 {
@@ -20,7 +20,7 @@ fn text_at(row: &ByteRecord, i: usize) -> Option<&str>
     }
 }
 
-/// The fields of a record of just two texts.
+/// The fields of a record of exactly two texts.
 pub(crate) fn texts_of_two(row: &ByteRecord) -> Option<(&str, &str)>
     ensures { option_map seen_two result ≡ two_texts (fields_of row.now) }
 {
@@ -36,7 +36,7 @@ pub(crate) fn texts_of_two(row: &ByteRecord) -> Option<(&str, &str)>
     Some((first, second))
 }
 
-/// The fields of a record of just three texts.
+/// The fields of a record of exactly three texts.
 pub(crate) fn texts_of_three(row: &ByteRecord) -> Option<(&str, &str, &str)>
     ensures { option_map seen_three result ≡ three_texts (fields_of row.now) }
 {

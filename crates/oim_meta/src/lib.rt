@@ -4,13 +4,13 @@
 //! - `read_report` answers a report exactly where the metadata has no fault, and then the report
 //!   that its JSON spells out (`specs/Value.antt`); else exactly its first fault, in the order of
 //!   `specs/FirstFault.antt`, one predicate for each fault number;
-//! - `parameter_url`, `read_parameters` and `read_types` answer their value exactly where there is
-//!   no fault of theirs, and else the first; a parameters file or types table has the fault of its
-//!   earliest bad record;
+//! - `parameter_url`, `read_parameters` and `read_types` answer a value exactly where there is no fault,
+//!   and else the first fault; that of a parameters file or types table is the fault of its earliest
+//!   bad record;
 //! - the readers of a `Report` give its parts, and `clone_report` an equal report;
-//! - the parts of any `Report` stand in byte order of name, and its tables, templates and columns have
+//! - the parts of any `Report` are in byte order of name, and its tables, templates and columns have
 //!   identifiers (`stands_in_order`, `specs/InOrder.antt`);
-//! - `Records` gives the records of a CSV file one at a time, past one byte-order mark.
+//! - `Records` gives the records of a CSV file one at a time, after one byte-order mark.
 //!
 //! All this holds apart from running out of memory and readers that fail. The layers above never meet a half-checked report.
 #![tactic(auto)]

@@ -5,7 +5,7 @@ ghost use Rattle.std.specs.Prelude.{◌≡◌};
 /// How large a report may be. A value equal to its limit is accepted.
 #[derive(Clone, Copy, Debug, PartialEq, Eq)]
 pub struct Limits {
-    /// Rows of one table; at most 4,294,967,294 where a call takes limits.
+    /// Rows of one table. Calls that take limits want at most 4,294,967,294.
     pub rows: u32,
     /// Tables of a report.
     pub tables: usize,

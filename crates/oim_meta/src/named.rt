@@ -10,7 +10,7 @@ use indexmap::IndexMap;
 use std::alloc::{AllocError, Global};
 use std::marker::Model;
 
-/// Values by name, of which none stands twice. A contract sees them in the order in which they came.
+/// Values by name. No name appears twice. A contract sees them in the order in which they were added.
 #[derive(Drop)]
 pub(crate) struct Named<V> {
     pub(crate) entries: IndexMap<String, V>,
@@ -43,7 +43,7 @@ impl<V> Named<V> {
         self.entries.get(name)
     }
 
-    /// Adds a value as the last. Fails where memory runs out.
+    /// Adds a value as the last. Fails if memory runs out.
     pub(crate) fn push(&mut self, name: String, value: V) -> Result<(), AllocError>
     where
         V: Drop,

@@ -1,4 +1,4 @@
-//! One text under two names.
+//! One text with two names.
 
 ghost use Rattle.std.specs.Prelude.{◌≡◌};
 ghost use Rattle.serde_json.specs.View.{members_view};
@@ -17,7 +17,7 @@ fn has_other(members: &Map<String, Value>, name: &str, text: &str) -> bool
     false
 }
 
-/// Whether one text stands under two names.
+/// Whether one text has two names.
 pub(crate) fn repeats_text(members: &Map<String, Value>) -> bool
     ensures { result ≡ repeated (members_view members.now.entries) }
 {

@@ -1,20 +1,17 @@
 //! The parameters of a report, and the parameters file.
 
-ghost use Rattle.std.specs.Prelude.{◌≡◌, ◌⊎◌, ◌++◌, ◌∷◌, [], Err, IfOk, IfSome, None, is_some};
-ghost use Rattle.std.specs.Option.{ok_or};
-ghost use Rattle.csv.specs.Records.{fields_of};
+ghost use Rattle.std.specs.Prelude.{◌≡◌, ◌++◌, ◌∷◌, [], IfOk, IfSome, None, is_some};
 ghost use Rattle.oim_names.specs.Lookup.{value_at};
-ghost use Rattle.oim_meta.specs.CsvFiles.{OrOutside, all_of};
+ghost use Rattle.oim_meta.specs.CsvFiles.{OrOutside};
 ghost use Rattle.oim_meta.specs.Grid.{grid};
-ghost use Rattle.oim_meta.specs.ParametersFile.{is_parameters_header, parameter_after, parameters_file, parameters_result};
+ghost use Rattle.oim_meta.specs.ParametersFile.{parameters_result};
 
-use crate::entries::fault_of_read;
+use crate::entries::{Entries, read_file};
 use crate::fault::MetaFault;
 use crate::fields::texts_of_two;
 use crate::named::Named;
-use crate::records::Records;
 use csv::ByteRecord;
-use oim_names::{Items, Text, find, is_identifier};
+use oim_names::{Items, Text, is_identifier};
 use std::alloc::{AllocError, Global};
 use std::io::Read;
 use std::marker::Model;
@@ -24,52 +21,10 @@ use std::marker::Model;
 #[derive(Drop)]
 pub struct Parameters {
     entries: Items<(Text, Text)>,
-}
-
-impl Model for Parameters {
-    ghost use Rattle.oim_meta.specs.Parameters.{ParametersValue};
-
-    ghost Value = { ParametersValue };
-
-    ghost view = { λ p. p.entries };
-}
-
-impl Parameters {
-    /// No parameters. It takes no memory.
-    pub fn none(alloc: Global) -> Parameters
-        ensures { result ≡ [] }
-    {
-        Parameters {
-            entries: Items::new(alloc),
-        }
-    }
-
-    /// Whether a name is among them.
-    pub(crate) fn has_name(&self, name: &str) -> bool
-        ensures { result ≡ is_some (value_at name.now self.now) }
-    {
-        find(self.entries.as_slice(), name).is_some()
-    }
-
-    /// The names with their values.
-    pub(crate) fn into_items(self) -> Items<(Text, Text)>
-        ensures { result ≡ self }
-    {
-        self.entries
-    }
-}
-
-/// How many parameters a file may have.
-const LIMIT: usize = 65_536;
-
-/// The parameters that are read so far, and their names to find a repeated one.
-#[derive(Drop)]
-struct ParametersSoFar {
-    entries: Items<(Text, Text)>,
     names: Named<()>,
 }
 
-impl Model for ParametersSoFar {
+impl Model for Parameters {
     ghost use Rattle.std.specs.Prelude.{◌≡◌};
     ghost use Rattle.oim_meta.specs.Parameters.{ParametersValue, marked};
 
@@ -80,140 +35,125 @@ impl Model for ParametersSoFar {
     ghost invariant = { λ p. p.names ≡ marked p.entries };
 }
 
-impl ParametersSoFar {
-    fn new(alloc: Global) -> ParametersSoFar
+fn entry(alloc: Global, name: &str, value: &str) -> Result<(Text, Text), AllocError>
+    ensures { IfOk result (λ made. made ≡ (name.now, value.now)) }
+{
+    let name = Text::from_str(alloc, name)?;
+    Ok((name, Text::from_str(alloc, value)?))
+}
+
+impl Parameters {
+    /// No parameters. It takes no memory.
+    pub fn none(alloc: Global) -> Parameters
         ensures { result ≡ [] }
     {
-        ParametersSoFar {
+        Parameters {
             entries: Items::new(alloc),
             names: Named::new(alloc),
         }
     }
 
-    /// Whether a parameter has this name.
-    fn has(&self, name: &str) -> bool
+    /// Whether a name is among them. It does not search through all names.
+    pub(crate) fn has_name(&self, name: &str) -> bool
         ensures { result ≡ is_some (value_at name.now self.now) }
     {
         self.names.get(name).is_some()
     }
 
-    /// The same parameters, without the names.
-    fn into_parameters(self) -> Parameters
+    /// The names with their values.
+    pub(crate) fn into_items(self) -> Items<(Text, Text)>
         ensures { result ≡ self }
     {
-        Parameters {
-            entries: self.entries,
-        }
+        self.entries
     }
 
-    /// With one parameter more.
-    fn with(self, alloc: Global, name: &str, value: &str) -> Result<ParametersSoFar, AllocError>
+    /// The same parameters and one more, the last.
+    fn with(self, alloc: Global, name: &str, value: &str) -> Result<Parameters, AllocError>
         requires { value_at name.now self ≡ None }
         ensures { IfOk result (λ more. more ≡ self ++ (name.now, value.now) ∷ []) }
     {
-        let ParametersSoFar {
+        let Parameters {
             mut entries,
             mut names,
         } = self;
         names.push(String::from_str(alloc, name)?, ())?;
-        entries.push((Text::from_str(alloc, name)?, Text::from_str(alloc, value)?))?;
-        Ok(ParametersSoFar { entries, names })
+        entries.push(entry(alloc, name, value)?)?;
+        Ok(Parameters { entries, names })
     }
 }
 
-fn is_header(row: &ByteRecord) -> bool
-    ensures { result ≡ is_parameters_header (fields_of row.now) }
-{
-    match texts_of_two(row) {
-        Some((name, value)) => name == "name" && value == "value",
-        None => false,
-    }
-}
+/// How many parameters a file may have.
+const MOST_PARAMETERS: usize = 65_536;
 
-/// The parameters with that of one record more.
-fn with_record(
-    so_far: ParametersSoFar,
-    alloc: Global,
-    row: &ByteRecord,
-) -> Result<ParametersSoFar, MetaFault>
-    ensures { (result ≡ Err MetaFault.Memory) ⊎ (result ≡ ok_or (parameter_after so_far (fields_of row.now)) MetaFault.BadParameter) }
-{
-    let Some((name, value)) = texts_of_two(row) else {
-        return Err(MetaFault::BadParameter);
-    };
-    if !is_identifier(name) || so_far.has(name) {
-        return Err(MetaFault::BadParameter);
-    }
-    match so_far.with(alloc, name, value) {
-        Ok(more) => Ok(more),
-        Err(_) => Err(MetaFault::Memory),
-    }
-}
+/// The entries of a parameters file: names with their values.
+#[derive(Drop)]
+struct NamesWithValues;
 
-/// The parameters of the records after the header.
-fn read_entries<R: Read>(
-    alloc: Global,
-    records: &mut Records<R>,
-    row: &mut ByteRecord,
-) -> Result<ParametersSoFar, MetaFault>
-    ensures { IfSome records.old (λ rs. OrOutside result (all_of parameters_file 0 [] rs)) }
-{
-    let mut so_far = ParametersSoFar::new(alloc);
-    for _ in 0..LIMIT {
-        match records.read(row) {
-            Ok(true) => {}
-            Ok(false) => return Ok(so_far),
-            Err(fault) => return Err(fault_of_read(fault)),
+impl Entries for NamesWithValues {
+    ghost use Rattle.std.specs.Prelude.{refl};
+    ghost use Rattle.oim_meta.specs.ParametersFile.{parameters_chosen, parameters_file};
+    ghost use Rattle.oim_meta.specs.declared.fault.MetaFault.TheVariants.{BadParameter};
+
+    type Read = Parameters;
+
+    ghost fault = { BadParameter };
+
+    ghost chosen = { parameters_chosen };
+
+    ghost file = { λ _. parameters_file };
+
+    ghost one_fault = { λ _. refl };
+
+    fn fault() -> MetaFault {
+        MetaFault::BadParameter
+    }
+
+    fn chosen(header: &ByteRecord) -> Option<NamesWithValues> {
+        match texts_of_two(header) {
+            Some((name, value)) if name == "name" && value == "value" => Some(NamesWithValues),
+            _ => None,
         }
-        so_far = match with_record(so_far, alloc, row) {
-            Ok(more) => more,
-            Err(fault) => return Err(fault),
-        };
     }
-    match records.read(row) {
-        Ok(true) => Err(MetaFault::TooLarge),
-        Ok(false) => Ok(so_far),
-        Err(fault) => Err(fault_of_read(fault)),
-    }
-}
 
-/// The parameters of all records.
-fn read_file<R: Read>(
-    alloc: Global,
-    records: &mut Records<R>,
-    row: &mut ByteRecord,
-) -> Result<ParametersSoFar, MetaFault>
-    ensures { IfSome records.old (λ rs. OrOutside result (parameters_result rs)) }
-{
-    match records.read(row) {
-        Ok(true) => {}
-        Ok(false) => return Err(MetaFault::BadParameter),
-        Err(fault) => return Err(fault_of_read(fault)),
+    fn limit(&self) -> usize {
+        MOST_PARAMETERS
     }
-    if !is_header(row) {
-        return Err(MetaFault::BadParameter);
+
+    fn start(&self, alloc: Global) -> Parameters {
+        Parameters::none(alloc)
     }
-    read_entries(alloc, records, row)
+
+    fn after(
+        &self,
+        alloc: Global,
+        so_far: Parameters,
+        row: &ByteRecord,
+    ) -> Result<Option<Parameters>, AllocError> {
+        let Some((name, value)) = texts_of_two(row) else {
+            return Ok(None);
+        };
+        if !is_identifier(name) || so_far.has_name(name) {
+            return Ok(None);
+        }
+        Ok(Some(so_far.with(alloc, name, value)?))
+    }
 }
 
 /// Reads a parameters file, a CSV file (RFC 4180) whose header is `name,value` and whose records each
-/// give a parameter (xBRL-CSV 1.0, parameters). One byte-order mark at its start is passed over. A name
-/// is an identifier and stands once; a value is any text.
+/// give a parameter (xBRL-CSV 1.0, parameters). One byte-order mark at its start is skipped. A name
+/// is an identifier and appears once; a value is any text.
 ///
-/// It answers the fault of the earliest bad record:
+/// # Errors
 ///
-/// - `BadParameter`: a record of another length than the header's, a field that is not UTF-8, a name
-///   that is not an identifier or that an earlier record has, another header, or no record at all;
-/// - `TooLarge`: a record after the 65,536th data record, whatever it holds;
+/// The fault of the earliest bad record:
+///
+/// - `BadParameter`: the file is empty, the header is another, a record does not have two fields, a field is
+///   not UTF-8, or a name is not an identifier or appears twice;
+/// - `TooLarge`: there is a record after the 65,536th data record, whatever it holds;
 /// - `Memory`: memory ran out;
 /// - `Read`: the reader failed.
 pub fn read_parameters<R: Read + Drop>(alloc: Global, reader: R) -> Result<Parameters, MetaFault>
     ensures { IfSome (R.remaining reader) (λ bytes. OrOutside result (parameters_result (grid bytes))) }
 {
-    let mut records = Records::new(alloc, reader);
-    let mut row = ByteRecord::new(alloc);
-    match read_file(alloc, &mut records, &mut row) {
-        Ok(so_far) => Ok(so_far.into_parameters()),
-        Err(fault) => Err(fault),
-    }
+    read_file::<NamesWithValues, R>(alloc, reader)
 }

@@ -1,25 +1,27 @@
 //! Reading a metadata: its first fault, or the report that it says.
 
-ghost use Rattle.std.specs.Prelude.{◌≡◌, ◌⊎◌, codes, false, option_map, Some, None, IfOk, OnOk, IfErr};
+ghost use Rattle.std.specs.Prelude.{◌≡◌, ◌⊎◌, codes, false, if◌then◌else◌, option_map, Some, None, Ok, Err, IfOk, OnOk, IfErr};
 ghost use Rattle.serde_json.specs.Find.{get};
 ghost use Rattle.serde_json.specs.View.{view};
 ghost use Rattle.oim_meta.specs.declared.fault.MetaFault.TheVariants.{Memory};
 ghost use Rattle.oim_meta.specs.Members.{if_there};
 ghost use Rattle.oim_meta.specs.Faults.{has_bad_identifier, has_bad_namespaces, has_unknown_template};
 ghost use Rattle.oim_meta.specs.Order.{IsInOrder};
+ghost use Rattle.oim_meta.specs.Prefixes.{prefixes_of};
 ghost use Rattle.oim_meta.specs.UnknownColumn.{has_unknown_column};
 ghost use Rattle.oim_meta.specs.FirstFault.{first_fault, late_fault};
+ghost use Rattle.oim_meta.specs.Value.{report_of};
 ghost use Rattle.oim_meta.specs.Reading.{IsJson, IsNoJson, IsFaultOf, SaysReport, IsFault, SaysUrl, IsUrlFault, first_url_fault};
 
 use crate::build;
 use crate::build::made::copied;
+use crate::build::namespaces::prefixes;
 use crate::check::counts::too_many;
 use crate::check::decimals::bad_decimals;
 use crate::check::dimensions::bad_dimensions;
 use crate::check::document::{bad_namespaces_in, bad_taxonomy_in, no_report, unsupported};
 use crate::check::identifiers::bad_identifier;
 use crate::check::kinds::mixed_column;
-use crate::check::namespaces::prefixes;
 use crate::check::parameters::{bad_parameter, bad_parameter_url};
 use crate::check::shapes::bad_shape;
 use crate::check::templates::unknown_template;
@@ -30,7 +32,7 @@ use crate::lookup::text_at;
 use crate::parameters::Parameters;
 use crate::report::Report;
 use crate::types::Types;
-use oim_names::Text;
+use oim_names::{Namespaces, Text};
 use serde_json::{Error, Value};
 use std::alloc::Global;
 
@@ -58,48 +60,48 @@ fn parse(alloc: Global, bytes: &[u8]) -> Result<Value, MetaFault>
     }
 }
 
-/// Refuses the faults that are looked for with the types, the parameters file's parameters and the
-/// limits.
+/// Fails with a fault if it is there.
+fn refuse(is_there: bool, fault: MetaFault) -> Result<(), MetaFault>
+    ensures { result ≡ (if is_there then Err fault else Ok tt) }
+{
+    if is_there { Err(fault) } else { Ok(()) }
+}
+
+/// The prefixes of a metadata. Refuses the faults that are looked for with the types, the parameters
+/// file's parameters and the limits.
 fn check_levels(
     alloc: Global,
     report: &Value,
     parameters: &Parameters,
     types: &Types,
     limits: &Limits,
-) -> Result<(), MetaFault>
+) -> Result<Namespaces, MetaFault>
     requires { if_there has_bad_namespaces (get (codes "documentInfo") (view report.now)) ≡ false }
+    ensures names { IfOk result (λ names. names ≡ prefixes_of (view report.now)) }
     ensures sound { OnOk result (late_fault limits.now parameters.now types.now (view report.now) ≡ None) }
     ensures fault { IfErr result (λ fault. (fault ≡ Memory)
         ⊎ (late_fault limits.now parameters.now types.now (view report.now) ≡ Some fault)) }
 {
-    let Ok(names) = prefixes(alloc, report) else {
-        return Err(MetaFault::Memory);
-    };
-    if bad_dimensions(types, &names, report) {
-        return Err(MetaFault::BadDimension);
-    }
-    if bad_decimals(report) {
-        return Err(MetaFault::BadDecimals);
-    }
-    if bad_parameter(parameters, report) {
-        return Err(MetaFault::BadParameter);
-    }
-    if too_many(limits, report) {
-        return Err(MetaFault::TooLarge);
-    }
-    Ok(())
+    let names = prefixes(alloc, report)?;
+    refuse(
+        bad_dimensions(types, &names, report),
+        MetaFault::BadDimension,
+    )?;
+    refuse(bad_decimals(report), MetaFault::BadDecimals)?;
+    refuse(bad_parameter(parameters, report), MetaFault::BadParameter)?;
+    refuse(too_many(limits, report), MetaFault::TooLarge)?;
+    Ok(names)
 }
 
-/// Refuses the first fault of a metadata.
+/// The prefixes of a metadata. Refuses its first fault.
 fn check(
     alloc: Global,
     report: &Value,
     parameters: &Parameters,
     types: &Types,
     limits: &Limits,
-) -> Result<(), MetaFault>
-    ensures namespaces { OnOk result
-        (if_there has_bad_namespaces (get (codes "documentInfo") (view report.now)) ≡ false) }
+) -> Result<Namespaces, MetaFault>
+    ensures names { IfOk result (λ names. names ≡ prefixes_of (view report.now)) }
     ensures templates { OnOk result (has_unknown_template (view report.now) ≡ false) }
     ensures columns { OnOk result (has_unknown_column (view report.now) ≡ false) }
     ensures identifiers { OnOk result (has_bad_identifier (view report.now) ≡ false) }
@@ -107,41 +109,43 @@ fn check(
     ensures fault { IfErr result (λ fault. (fault ≡ Memory)
         ⊎ (first_fault limits.now parameters.now types.now (view report.now) ≡ Some fault)) }
 {
-    if no_report(report) {
-        return Err(MetaFault::NotReport);
-    }
-    if bad_namespaces_in(report) {
-        return Err(MetaFault::BadNamespaces);
-    }
-    if bad_taxonomy_in(report) {
-        return Err(MetaFault::BadTaxonomy);
-    }
-    if unsupported(report) {
-        return Err(MetaFault::Unsupported);
-    }
-    if bad_identifier(report) {
-        return Err(MetaFault::BadIdentifier);
-    }
-    if bad_shape(report) {
-        return Err(MetaFault::BadTemplate);
-    }
-    if mixed_column(report) {
-        return Err(MetaFault::ColumnKinds);
-    }
-    if unknown_template(report) {
-        return Err(MetaFault::UnknownTemplate);
-    }
-    if unknown_column(report) {
-        return Err(MetaFault::UnknownColumn);
-    }
+    refuse(no_report(report), MetaFault::NotReport)?;
+    refuse(bad_namespaces_in(report), MetaFault::BadNamespaces)?;
+    refuse(bad_taxonomy_in(report), MetaFault::BadTaxonomy)?;
+    refuse(unsupported(report), MetaFault::Unsupported)?;
+    refuse(bad_identifier(report), MetaFault::BadIdentifier)?;
+    refuse(bad_shape(report), MetaFault::BadTemplate)?;
+    refuse(mixed_column(report), MetaFault::ColumnKinds)?;
+    refuse(unknown_template(report), MetaFault::UnknownTemplate)?;
+    refuse(unknown_column(report), MetaFault::UnknownColumn)?;
     check_levels(alloc, report, parameters, types, limits)
 }
 
-/// The report that a metadata says, with the parameters of its parameters file and its types.
+/// The report that a JSON value says. Refuses its first fault.
+fn report_in(
+    alloc: Global,
+    value: &Value,
+    parameters: Parameters,
+    types: Types,
+    limits: &Limits,
+) -> Result<Report, MetaFault>
+    requires { IsInOrder (view value.now) }
+    ensures sound { OnOk result (first_fault limits.now parameters types (view value.now) ≡ None) }
+    ensures value { IfOk result (λ r. r ≡ report_of parameters types (view value.now)) }
+    ensures fault { IfErr result (λ fault. (fault ≡ Memory)
+        ⊎ (first_fault limits.now parameters types (view value.now) ≡ Some fault)) }
+{
+    let namespaces = check(alloc, value, &parameters, &types, limits)?;
+    Ok(build::report(alloc, value, namespaces, parameters, types)?)
+}
+
+/// The report that a metadata says (xBRL-CSV 1.0, metadata), with the parameters of its parameters file
+/// and its types.
 ///
-/// Refuses the first fault that it has: `TooLarge` for the bytes, then `Syntax` to `BadParameter`
-/// in the order of their numbers, then `TooLarge` for the tables and columns. `Memory` comes
-/// wherever memory runs out.
+/// # Errors
+///
+/// The first fault of the metadata: `TooLarge` for the bytes, then `Syntax` to `BadParameter` in the order
+/// of their numbers, then `TooLarge` for the tables and columns. `Memory` if memory runs out.
 pub fn read_report(
     alloc: Global,
     bytes: &[u8],
@@ -156,11 +160,7 @@ pub fn read_report(
         return Err(MetaFault::TooLarge);
     }
     let value = parse(alloc, bytes)?;
-    check(alloc, &value, &parameters, &types, limits)?;
-    match build::report(alloc, &value, parameters, types) {
-        Ok(report) => Ok(report),
-        Err(_) => Err(MetaFault::Memory),
-    }
+    report_in(alloc, &value, parameters, types, limits)
 }
 
 /// Refuses what is not a report, and a name of the parameters file that is not a plain path.
@@ -168,21 +168,17 @@ fn check_url(report: &Value) -> Result<(), MetaFault>
     ensures sound { OnOk result (first_url_fault (view report.now) ≡ None) }
     ensures fault { IfErr result (λ fault. first_url_fault (view report.now) ≡ Some fault) }
 {
-    if no_report(report) {
-        return Err(MetaFault::NotReport);
-    }
-    if bad_parameter_url(report) {
-        return Err(MetaFault::BadParameter);
-    }
-    Ok(())
+    refuse(no_report(report), MetaFault::NotReport)?;
+    refuse(bad_parameter_url(report), MetaFault::BadParameter)
 }
 
-/// The name of the parameters file that a metadata gives, a plain path, or `None` where it gives
-/// none.
+/// The name of the parameters file that a metadata gives (xBRL-CSV 1.0, parameterURL), a plain path, or
+/// `None` if it gives none.
 ///
-/// Refuses `TooLarge` for the bytes, `Syntax`, `NotReport`, and `BadParameter` where the name is not
-/// a text or not a plain path; no other fault is looked for. `Memory` comes wherever memory runs
-/// out.
+/// # Errors
+///
+/// `TooLarge` for the bytes, `Syntax`, `NotReport`, or `BadParameter` if the name is not a text or not a
+/// plain path; no other fault is looked for. `Memory` if memory runs out.
 pub fn parameter_url(
     alloc: Global,
     bytes: &[u8],
@@ -196,8 +192,5 @@ pub fn parameter_url(
     }
     let value = parse(alloc, bytes)?;
     check_url(&value)?;
-    match copied(alloc, text_at(&value, "parameterURL")) {
-        Ok(url) => Ok(url),
-        Err(_) => Err(MetaFault::Memory),
-    }
+    Ok(copied(alloc, text_at(&value, "parameterURL"))?)
 }

@@ -14,7 +14,7 @@ use oim_names::{Namespaces, find};
 use std::alloc::AllocError;
 
 impl Report {
-    /// What the document says of itself.
+    /// What the document says of itself: its base URL and its taxonomy.
     pub fn info(&self) -> &Info
         ensures { result.now ≡ self.now.info }
     {
@@ -102,7 +102,7 @@ impl Report {
         &self.template(i).columns.as_slice()[c]
     }
 
-    /// The place of the column of row identifiers, where the table's template names one.
+    /// The place of the column of row identifiers, if the table's template names one.
     #[tactic(auto, using(crate::proofs::PlaceFacts::row_id_is_there))]
     pub fn row_id_column(&self, i: usize) -> Option<usize>
         requires { i < length self.now.tables }
@@ -127,7 +127,7 @@ impl Report {
         &self.level
     }
 
-    /// The table's parameter of a name, else the report's.
+    /// The value of the table's parameter with this name, else of the report's.
     pub fn parameter(&self, i: usize, name: &str) -> Option<&str>
         requires { i < length self.now.tables }
         ensures { option_map (λ t. t.now) result ≡ parameter_of self.now i name.now }
@@ -141,15 +141,15 @@ impl Report {
         }
     }
 
-    /// The kind of the concept or dimension of a URI and a local part.
+    /// The kind of the concept or dimension with this namespace URI and local part.
     pub fn kind_of(&self, uri: &str, local: &str) -> Option<Kind>
         ensures { result ≡ kind_of self.now uri.now local.now }
     {
         self.types.kind_of(uri, local)
     }
 
-    /// The parts of any report stand in byte order of name, and its tables, templates and columns have
-    /// identifiers. It does nothing.
+    /// The parts of any report are in byte order of name, and its tables, templates and columns have
+    /// identifiers. The call does nothing.
     #[tactic(auto, using(crate::proofs::PlaceFacts::parts_rise, crate::proofs::PlaceFacts::have_identifiers))]
     pub fn stands_in_order(&self)
         ensures order { PartsRise self.now.level self.now.templates self.now.tables }
@@ -158,7 +158,7 @@ impl Report {
         let _level = &self.level;
     }
 
-    /// An equal report. The first stays as it is. Fails where memory runs out.
+    /// An equal report. This one stays as it is. Fails if memory runs out.
     pub fn clone_report(&self) -> Result<Report, AllocError>
         ensures { IfOk result (λ copy. copy ≡ self.now) }
     {

@@ -33,10 +33,10 @@ fn fault_of(kind: &ErrorKind) -> ReadFault
     }
 }
 
-/// The records that are left in a CSV file (RFC 4180): fields part at commas, and a quote is doubled
-/// inside quotes; records part at LF, CR or CRLF, and may differ in length; a line without a character
-/// is not a record. A contract sees the list of those left, where the reader tells its bytes; after the end
-/// or a fault it is empty, whatever the reader.
+/// The records that are left in a CSV file (RFC 4180). Commas separate fields, and inside quotes a quote is
+/// doubled. LF, CR or CRLF ends a record. Records can differ in length, and an empty line is not a record.
+/// A contract sees the list of the records left, if it knows the bytes of the reader; after the end or a fault
+/// the list is empty for any reader.
 #[derive(Drop)]
 pub struct Records<R: Read> {
     reader: Reader<R>,
@@ -57,8 +57,8 @@ impl<R: Read> Model for Records<R> {
 }
 
 impl<R: Read> Records<R> {
-    /// The records of a file, the header among them. One byte-order mark (EF BB BF) at its start is
-    /// passed over. Nothing is read yet, and no memory taken.
+    /// The records of a file, with the header. One byte-order mark (EF BB BF) at its start is skipped.
+    /// Nothing is read yet, and no memory is taken.
     pub fn new(alloc: Global, reader: R) -> Records<R>
         ensures { result ≡ option_map grid (R.remaining reader) }
     {
@@ -71,8 +71,8 @@ impl<R: Read> Records<R> {
         }
     }
 
-    /// Reads the next record into `row`, and says whether there was one. After the end or a fault there are no
-    /// more, and nothing is read.
+    /// Reads the next record into `row`, and says whether there was one. After the end or a fault there are
+    /// no more records, and nothing is read.
     ///
     /// - `Read`: the reader failed;
     /// - `Memory`: memory ran out.

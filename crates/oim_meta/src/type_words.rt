@@ -61,7 +61,7 @@ fn wider_kind(word: &str) -> Option<Kind>
 
 impl TypeWords {
     /// The table that a header chooses.
-    pub(crate) fn chosen(header: &ByteRecord) -> Option<TypeWords>
+    pub(crate) fn of_header(header: &ByteRecord) -> Option<TypeWords>
         ensures { option_map words_in result ≡ words_chosen (fields_of header.now) }
     {
         match texts_of_three(header) {

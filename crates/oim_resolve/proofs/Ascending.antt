@@ -1,18 +1,20 @@
 -- The names of a cell's levels ascend, and so do those of its fact.
-use Rattle.std.proofs.Common.{◌≡◌, ℕ, Bool, true, false, List, [], ◌∷◌, ◌++◌, map, Option, Some, None, refl, sym, ap, subst, ◌∙◌}
+use Rattle.std.proofs.Common.{◌≡◌, ℕ, Bool, true, false, List, [], ◌∷◌, ◌++◌, map, Option, Some, None, Result, Ok, refl, sym, ap, subst, ◌∙◌}
 use Rattle.std.specs.List.{AllByRecursion, fold, flat_map}
 use Rattle.std.specs.Ordering.{match_ordering, nat_cmp, ordering_reverse}
 use Rattle.std.specs.Cmp.Lexicographic.{slice_cmp, nat_list_cmp_total}
 use Rattle.std.specs.declared.cmp.Ordering.{Ordering}
 use Rattle.std.specs.declared.cmp.Ordering.TheVariants.{Less, Equal, Greater}
 use Rattle.oim_meta.specs.declared.data.Level.{Level}
-use Rattle.oim_resolve.specs.declared.fact.Fact.{Fact}
+use Rattle.oim_meta.specs.declared.kind.Kind.{Kind}
+use Rattle.oim_resolve.specs.FactParts.{FactParts as Fact}
 use Rattle.oim_resolve.specs.declared.fact.CellFault.{CellFault}
 use Rattle.oim_resolve.specs.Cell.{Cell}
+use Rattle.oim_resolve.specs.Faults.{unless}
 use Rattle.oim_resolve.specs.Facts.{fact_of, cell_result, named_entry, dimension_entry, concept_kind}
 use Rattle.oim_resolve.specs.Written.{put_name, names, levels}
 use Rattle.oim_resolve.specs.Order.{IsAscending, HasNamesInOrder}
-use Rattle.oim_resolve.proofs.Outcomes.{outcome, cell_result-outcome}
+use Rattle.oim_resolve.proofs.Outcomes.{Together, all_given, cell_result-outcome, outcome, read_value, rest}
 
 abbrev pub order : List ℕ → List ℕ → Ordering
 order = slice_cmp nat_cmp
@@ -74,6 +76,12 @@ IsAscending-entries f (n ∷ ns) h = one_more IsAscending n (f n) (entries f ns)
 pub fact_ascends : (c : Cell) → IsAscending (map (λ d. d.0) (fact_of c).dimensions)
 unfolding fact_of
 fact_ascends c = IsAscending-entries (dimension_entry c (concept_kind c)) (names (levels c)) (IsAscending-names (levels c))
+
+-- the dimensions that are read for a fact
+pub given_ascends : (c : Cell) (k : Kind) (w : Together) (r : Result Together CellFault) → r ≡ Ok w → r ≡ unless (rest c k) (Ok (all_given c k)) → IsAscending (map (λ d. d.0) w.0.0)
+given_ascends c k w r is e =
+    let parts : w ≡ all_given c k = read_value (rest c k) (all_given c k) w (sym is ∙ e) in
+    subst (λ (x : Together). IsAscending (map (λ d. d.0) x.0.0)) (sym parts) (IsAscending-entries (dimension_entry c k) (names (levels c)) (IsAscending-names (levels c)))
 
 of_outcome : (a : Bool) (x y z : Option CellFault) (f : Fact) → IsAscending (map (λ d. d.0) f.dimensions) → HasNamesInOrder (outcome a x y z f)
 unfolding outcome

@@ -1,5 +1,7 @@
 -- Cells whose results are known, found by computing the definitions.
-use Rattle.std.proofs.Common.{◌≡◌, ℕ, ℤ, List, [], ◌∷◌, ◌++◌, Option, Some, None, Result, Ok, Err, codes, map, decimal, refl, false, pos, negsuc}
+use Rattle.std.proofs.Common.{◌≡◌, ℕ, ℤ, List, [], ◌∷◌, ◌++◌, Option, Some, None, Result, Ok, Err, codes, map, decimal, refl, true, false, pos, negsuc}
+use Rattle.std.specs.Prelude.{⊤}
+use Rattle.std.specs.Fmt.{digits}
 use Rattle.std.specs.Str.{chars, is_utf8}
 use lib.Utf8.{encode}
 use Rattle.oim_names.specs.Bindings.{Bindings}
@@ -8,12 +10,14 @@ use Rattle.oim_names.specs.QName.{qname_of, sqname_of}
 use Rattle.oim_names.specs.Unit.{unit_of}
 use Rattle.oim_names.specs.Language.{language_of}
 use Rattle.oim_cells.specs.Cells.{meaning_of, numeral_of, accuracy_of}
+use Rattle.oim_cells.specs.Cells as m
 use Rattle.oim_cells.specs.declared.cells.NumberKind.TheVariants as number
 use Rattle.oim_cells.specs.declared.cells.Accuracy.TheVariants as accuracy
 use Rattle.oim_period.specs.Calendar.{days_of_years, days_of_months, day_number, is_date, is_week, is_clock}
 use Rattle.oim_period.specs.Dates.{is_date_text}
 use Rattle.oim_period.specs.Digits.{one_at, two_at, four_at}
-use Rattle.oim_period.specs.Periods.{start_of, end_of, found, first_some, moment_by, moment_of, days_by, days_of, whole_days, in_order, pair_of, duration_of, without, period_of, first_number, year_of, month_of, date_in_year, day_text, moment_text, period_text}
+use Rattle.oim_period.specs.Periods.{start_of, end_of, found, first_some, moment_by, moment_of, days_by, days_of, whole_days, in_order, pair_of}
+use Rattle.oim_period.specs.Periods.{duration_of, without, period_of, first_number, year_of, month_of, date_in_year, day_text, moment_text, period_text}
 use Rattle.oim_meta.specs.ReportValue.{ReportValue}
 use Rattle.oim_meta.specs.declared.data.Column.{Column}
 use Rattle.oim_meta.specs.declared.data.ColumnKind.TheVariants as column
@@ -28,11 +32,34 @@ use Rattle.oim_meta.specs.declared.data.WrittenDecimals.TheVariants as d
 use Rattle.oim_meta.specs.declared.kind.Kind.{Kind}
 use Rattle.oim_meta.specs.declared.kind.Kind.TheVariants as kind
 use Rattle.oim_resolve.specs.declared.fact.Row.{Row}
-use Rattle.oim_resolve.specs.declared.fact.Fact.{Fact}
+use Rattle.oim_resolve.specs.FactParts.{FactParts as Fact}
 use Rattle.oim_resolve.specs.declared.fact.CellFault.{CellFault}
 use Rattle.oim_resolve.specs.declared.fact.CellFault.TheVariants as fault
-use Rattle.oim_resolve.specs.Facts.{cell_result, rest_faults, fact_of}
-use Rattle.oim_resolve.specs.Faults.{name_of, number_of}
+use Rattle.oim_resolve.specs.declared.role.Role.TheVariants as role
+use Rattle.oim_resolve.specs.Facts.{cell_result, early_result, rest_faults, fact_of, is_numeric, is_of_text, role_of, value_faults_of}
+use Rattle.oim_resolve.specs.Faults.{both, least_of, name_of, number_of}
+use Rattle.oim_resolve.specs.Values.{side_of}
+
+-- what is unfolded to compute with names, with periods and with cells that are written out
+unfoldable names_on_literals : ⊤
+unfolding chars is_utf8 encode is_ncname is_name_char is_name_start qname_of sqname_of unit_of language_of
+names_on_literals = tt
+
+unfoldable days_on_literals : ⊤
+unfolding days_of_years days_of_months day_number is_date is_week is_clock is_date_text one_at two_at four_at
+days_on_literals = tt
+
+unfoldable periods_on_literals : ⊤
+unfolding days_on_literals start_of end_of found first_some moment_by moment_of days_by days_of whole_days in_order pair_of duration_of without period_of
+periods_on_literals = tt
+
+unfoldable short_forms_on_literals : ⊤
+unfolding first_number year_of month_of date_in_year day_text moment_text period_text
+short_forms_on_literals = tt
+
+unfoldable on_literals : ⊤
+unfolding cell_result rest_faults fact_of meaning_of numeral_of accuracy_of names_on_literals periods_on_literals short_forms_on_literals
+on_literals = tt
 
 abbrev names : Bindings
 names =
@@ -89,7 +116,8 @@ abbrev row : List (List ℕ) → Row
 row cells = record { number = 1; id = codes "r_1"; cells = cells }
 
 -- what a cell of a report of these parts gives
-abbrev gives : (dimensions : List (List ℕ × Written)) → Option WrittenDecimals → (columns : List Column) → (of_table of_report : List (List ℕ × List ℕ)) → List (List ℕ) → ℕ → Result (Option Fact) CellFault
+abbrev gives : (dimensions : List (List ℕ × Written)) → Option WrittenDecimals → (columns : List Column) → (of_table of_report : List (List ℕ × List ℕ))
+    → List (List ℕ) → ℕ → Result (Option Fact) CellFault
 gives dimensions decimals columns of_table of_report cells column =
     cell_result (record { report = report dimensions decimals columns of_table of_report; table = 0; row = row cells; column = column })
 
@@ -129,37 +157,37 @@ abbrev note : Option (List ℕ) → Result (Option Fact) CellFault
 note value = fact (codes "x") value None (with_period (codes "eg:Note"))
 
 plain_number : in_base (codes "eg:Cash") (codes "100") ≡ cash (codes "x") (codes "100") (unit (codes "iso4217:EUR"))
-unfolding cell_result rest_faults fact_of meaning_of numeral_of accuracy_of chars is_utf8 encode is_ncname is_name_char is_name_start qname_of sqname_of unit_of language_of days_of_years days_of_months day_number is_date is_week is_clock one_at two_at four_at start_of end_of found first_some moment_by moment_of days_by days_of whole_days in_order pair_of duration_of without period_of first_number year_of month_of date_in_year day_text moment_text period_text
+unfolding on_literals
 plain_number = refl
 
 text_cell : in_base (codes "eg:Note") (codes "first") ≡ note (Some (codes "first"))
-unfolding cell_result rest_faults fact_of meaning_of numeral_of accuracy_of chars is_utf8 encode is_ncname is_name_char is_name_start qname_of sqname_of unit_of language_of days_of_years days_of_months day_number is_date is_week is_clock one_at two_at four_at start_of end_of found first_some moment_by moment_of days_by days_of whole_days in_order pair_of duration_of without period_of first_number year_of month_of date_in_year day_text moment_text period_text
+unfolding on_literals
 text_cell = refl
 
 -- SPECIAL VALUES in a text column
 
 special_empty : in_base (codes "eg:Note") (codes "#empty") ≡ note (Some [])
-unfolding cell_result rest_faults fact_of meaning_of numeral_of accuracy_of chars is_utf8 encode is_ncname is_name_char is_name_start qname_of sqname_of unit_of language_of days_of_years days_of_months day_number is_date is_week is_clock one_at two_at four_at start_of end_of found first_some moment_by moment_of days_by days_of whole_days in_order pair_of duration_of without period_of first_number year_of month_of date_in_year day_text moment_text period_text
+unfolding on_literals
 special_empty = refl
 
 special_nil : in_base (codes "eg:Note") (codes "#nil") ≡ note None
-unfolding cell_result rest_faults fact_of meaning_of numeral_of accuracy_of chars is_utf8 encode is_ncname is_name_char is_name_start qname_of sqname_of unit_of language_of days_of_years days_of_months day_number is_date is_week is_clock one_at two_at four_at start_of end_of found first_some moment_by moment_of days_by days_of whole_days in_order pair_of duration_of without period_of first_number year_of month_of date_in_year day_text moment_text period_text
+unfolding on_literals
 special_nil = refl
 
 special_doubled : in_base (codes "eg:Note") (codes "##x") ≡ note (Some (codes "#x"))
-unfolding cell_result rest_faults fact_of meaning_of numeral_of accuracy_of chars is_utf8 encode is_ncname is_name_char is_name_start qname_of sqname_of unit_of language_of days_of_years days_of_months day_number is_date is_week is_clock one_at two_at four_at start_of end_of found first_some moment_by moment_of days_by days_of whole_days in_order pair_of duration_of without period_of first_number year_of month_of date_in_year day_text moment_text period_text
+unfolding on_literals
 special_doubled = refl
 
 special_none : in_base (codes "eg:Note") (codes "#none") ≡ Ok None
-unfolding cell_result rest_faults fact_of meaning_of numeral_of accuracy_of chars is_utf8 encode is_ncname is_name_char is_name_start qname_of sqname_of unit_of language_of days_of_years days_of_months day_number is_date is_week is_clock one_at two_at four_at start_of end_of found first_some moment_by moment_of days_by days_of whole_days in_order pair_of duration_of without period_of first_number year_of month_of date_in_year day_text moment_text period_text
+unfolding on_literals
 special_none = refl
 
 special_nothing : in_base (codes "eg:Note") ([]) ≡ Ok None
-unfolding cell_result rest_faults fact_of meaning_of numeral_of accuracy_of chars is_utf8 encode is_ncname is_name_char is_name_start qname_of sqname_of unit_of language_of days_of_years days_of_months day_number is_date is_week is_clock one_at two_at four_at start_of end_of found first_some moment_by moment_of days_by days_of whole_days in_order pair_of duration_of without period_of first_number year_of month_of date_in_year day_text moment_text period_text
+unfolding on_literals
 special_nothing = refl
 
 special_unknown : in_base (codes "eg:Note") (codes "#foo") ≡ Err fault.UnknownSpecial
-unfolding cell_result rest_faults fact_of meaning_of numeral_of accuracy_of chars is_utf8 encode is_ncname is_name_char is_name_start qname_of sqname_of unit_of language_of days_of_years days_of_months day_number is_date is_week is_clock one_at two_at four_at start_of end_of found first_some moment_by moment_of days_by days_of whole_days in_order pair_of duration_of without period_of first_number year_of month_of date_in_year day_text moment_text period_text
+unfolding on_literals
 special_unknown = refl
 
 -- NUMERALS, with report decimals 0
@@ -170,26 +198,31 @@ abbrev rate : List ℕ → Option ℤ → Result (Option Fact) CellFault
 rate value decimals = fact (codes "x") (Some value) decimals (with_period (codes "eg:Rate") ++ unit (codes "iso4217:EUR"))
 
 numeral_suffix : in_rate (codes "1250.5d-2") ≡ rate (codes "1250.5") (Some (negsuc 1))
-unfolding cell_result rest_faults fact_of meaning_of numeral_of accuracy_of chars is_utf8 encode is_ncname is_name_char is_name_start qname_of sqname_of unit_of language_of days_of_years days_of_months day_number is_date is_week is_clock one_at two_at four_at start_of end_of found first_some moment_by moment_of days_by days_of whole_days in_order pair_of duration_of without period_of first_number year_of month_of date_in_year day_text moment_text period_text
+unfolding on_literals
 numeral_suffix = refl
 
 numeral_plain : in_rate (codes " 7 ") ≡ rate (codes "7") (Some (pos 0))
-unfolding cell_result rest_faults fact_of meaning_of numeral_of accuracy_of chars is_utf8 encode is_ncname is_name_char is_name_start qname_of sqname_of unit_of language_of days_of_years days_of_months day_number is_date is_week is_clock one_at two_at four_at start_of end_of found first_some moment_by moment_of days_by days_of whole_days in_order pair_of duration_of without period_of first_number year_of month_of date_in_year day_text moment_text period_text
+unfolding on_literals
 numeral_plain = refl
 
 numeral_exact : in_rate (codes "1dINF") ≡ rate (codes "1") None
-unfolding cell_result rest_faults fact_of meaning_of numeral_of accuracy_of chars is_utf8 encode is_ncname is_name_char is_name_start qname_of sqname_of unit_of language_of days_of_years days_of_months day_number is_date is_week is_clock one_at two_at four_at start_of end_of found first_some moment_by moment_of days_by days_of whole_days in_order pair_of duration_of without period_of first_number year_of month_of date_in_year day_text moment_text period_text
+unfolding on_literals
 numeral_exact = refl
 
 numeral_bad : in_rate (codes "d3") ≡ Err fault.BadNumber
-unfolding cell_result rest_faults fact_of meaning_of numeral_of accuracy_of chars is_utf8 encode is_ncname is_name_char is_name_start qname_of sqname_of unit_of language_of days_of_years days_of_months day_number is_date is_week is_clock one_at two_at four_at start_of end_of found first_some moment_by moment_of days_by days_of whole_days in_order pair_of duration_of without period_of first_number year_of month_of date_in_year day_text moment_text period_text
+unfolding on_literals
 numeral_bad = refl
 
 numeral_empty : in_rate (codes "#empty") ≡ Err fault.BadNumber
-unfolding cell_result rest_faults fact_of meaning_of numeral_of accuracy_of chars is_utf8 encode is_ncname is_name_char is_name_start qname_of sqname_of unit_of language_of days_of_years days_of_months day_number is_date is_week is_clock one_at two_at four_at start_of end_of found first_some moment_by moment_of days_by days_of whole_days in_order pair_of duration_of without period_of first_number year_of month_of date_in_year day_text moment_text period_text
+unfolding on_literals
 numeral_empty = refl
 
--- GROUPS: a has no unit of its own accord, b takes the group's, c keeps its own; g names the group
+-- a nil fact has no decimals
+numeral_nil : in_rate (codes "#nil") ≡ fact (codes "x") None None (with_period (codes "eg:Rate") ++ unit (codes "iso4217:EUR"))
+unfolding on_literals
+numeral_nil = refl
+
+-- GROUPS: a says that it has no unit, b takes the group's, c keeps its own; g names the group
 abbrev group_columns : List Column
 group_columns =
     fact_column (codes "a") (concept (codes "eg:Cash") ∷ (codes "unit", w.Absent) ∷ []) (3 ∷ [])
@@ -202,34 +235,38 @@ abbrev in_groups : List ℕ → List ℕ → ℕ → Result (Option Fact) CellFa
 in_groups g t = gives base_level None group_columns [] [] (t ∷ t ∷ t ∷ g ∷ [])
 
 group_unit_taken_away : in_groups (codes "usd") (codes "1") 0 ≡ cash (codes "a") (codes "1") []
-unfolding cell_result rest_faults fact_of meaning_of numeral_of accuracy_of chars is_utf8 encode is_ncname is_name_char is_name_start qname_of sqname_of unit_of language_of days_of_years days_of_months day_number is_date is_week is_clock one_at two_at four_at start_of end_of found first_some moment_by moment_of days_by days_of whole_days in_order pair_of duration_of without period_of first_number year_of month_of date_in_year day_text moment_text period_text
+unfolding on_literals
 group_unit_taken_away = refl
 
 group_unit_taken : in_groups (codes "usd") (codes "2") 1 ≡ cash (codes "b") (codes "2") (unit (codes "iso4217:USD"))
-unfolding cell_result rest_faults fact_of meaning_of numeral_of accuracy_of chars is_utf8 encode is_ncname is_name_char is_name_start qname_of sqname_of unit_of language_of days_of_years days_of_months day_number is_date is_week is_clock one_at two_at four_at start_of end_of found first_some moment_by moment_of days_by days_of whole_days in_order pair_of duration_of without period_of first_number year_of month_of date_in_year day_text moment_text period_text
+unfolding on_literals
 group_unit_taken = refl
 
 group_below_column : in_groups (codes "usd") (codes "3") 2 ≡ cash (codes "c") (codes "3") (unit (codes "iso4217:GBP"))
-unfolding cell_result rest_faults fact_of meaning_of numeral_of accuracy_of chars is_utf8 encode is_ncname is_name_char is_name_start qname_of sqname_of unit_of language_of days_of_years days_of_months day_number is_date is_week is_clock one_at two_at four_at start_of end_of found first_some moment_by moment_of days_by days_of whole_days in_order pair_of duration_of without period_of first_number year_of month_of date_in_year day_text moment_text period_text
+unfolding on_literals
 group_below_column = refl
 
 group_not_named : in_groups [] (codes "2") 1 ≡ cash (codes "b") (codes "2") (unit (codes "iso4217:EUR"))
-unfolding cell_result rest_faults fact_of meaning_of numeral_of accuracy_of chars is_utf8 encode is_ncname is_name_char is_name_start qname_of sqname_of unit_of language_of days_of_years days_of_months day_number is_date is_week is_clock one_at two_at four_at start_of end_of found first_some moment_by moment_of days_by days_of whole_days in_order pair_of duration_of without period_of first_number year_of month_of date_in_year day_text moment_text period_text
+unfolding on_literals
 group_not_named = refl
 
 group_unknown : in_groups (codes "gbp") (codes "2") 1 ≡ Err fault.UnknownGroup
-unfolding cell_result rest_faults fact_of meaning_of numeral_of accuracy_of chars is_utf8 encode is_ncname is_name_char is_name_start qname_of sqname_of unit_of language_of days_of_years days_of_months day_number is_date is_week is_clock one_at two_at four_at start_of end_of found first_some moment_by moment_of days_by days_of whole_days in_order pair_of duration_of without period_of first_number year_of month_of date_in_year day_text moment_text period_text
+unfolding on_literals
 group_unknown = refl
 
 group_unknown_of_no_fact : in_groups (codes "gbp") [] 1 ≡ Ok None
-unfolding cell_result rest_faults fact_of meaning_of numeral_of accuracy_of chars is_utf8 encode is_ncname is_name_char is_name_start qname_of sqname_of unit_of language_of days_of_years days_of_months day_number is_date is_week is_clock one_at two_at four_at start_of end_of found first_some moment_by moment_of days_by days_of whole_days in_order pair_of duration_of without period_of first_number year_of month_of date_in_year day_text moment_text period_text
+unfolding on_literals
 group_unknown_of_no_fact = refl
 
 -- an unknown special value comes before an unknown group
-
 group_order : in_groups (codes "gbp") (codes "#foo") 1 ≡ Err fault.UnknownSpecial
-unfolding cell_result rest_faults fact_of meaning_of numeral_of accuracy_of chars is_utf8 encode is_ncname is_name_char is_name_start qname_of sqname_of unit_of language_of days_of_years days_of_months day_number is_date is_week is_clock one_at two_at four_at start_of end_of found first_some moment_by moment_of days_by days_of whole_days in_order pair_of duration_of without period_of first_number year_of month_of date_in_year day_text moment_text period_text
+unfolding on_literals
 group_order = refl
+
+group_special_values : map (λ g. in_groups g (codes "2") 1) (codes "#none" ∷ codes "#nil" ∷ codes "#empty" ∷ codes "#foo" ∷ [])
+    ≡ cash (codes "b") (codes "2") (unit (codes "iso4217:EUR")) ∷ Err fault.UnknownGroup ∷ Err fault.UnknownGroup ∷ Err fault.UnknownSpecial ∷ []
+unfolding on_literals
+group_special_values = refl
 
 -- REFERENCES: the concept of x is what column c, or the parameter c, says
 abbrev referring : (of_table of_report : List (List ℕ × List ℕ)) → List ℕ → Result (Option Fact) CellFault
@@ -240,19 +277,19 @@ abbrev parameter : List ℕ → List (List ℕ × List ℕ)
 parameter t = (codes "c", t) ∷ []
 
 reference_row_first : referring (parameter (codes "eg:Mass")) [] (codes "eg:Cash") ≡ cash (codes "x") (codes "1") (unit (codes "iso4217:EUR"))
-unfolding cell_result rest_faults fact_of meaning_of numeral_of accuracy_of chars is_utf8 encode is_ncname is_name_char is_name_start qname_of sqname_of unit_of language_of days_of_years days_of_months day_number is_date is_week is_clock one_at two_at four_at start_of end_of found first_some moment_by moment_of days_by days_of whole_days in_order pair_of duration_of without period_of first_number year_of month_of date_in_year day_text moment_text period_text
+unfolding on_literals
 reference_row_first = refl
 
 reference_table_first : referring (parameter (codes "eg:Cash")) (parameter (codes "eg:Mass")) [] ≡ cash (codes "x") (codes "1") (unit (codes "iso4217:EUR"))
-unfolding cell_result rest_faults fact_of meaning_of numeral_of accuracy_of chars is_utf8 encode is_ncname is_name_char is_name_start qname_of sqname_of unit_of language_of days_of_years days_of_months day_number is_date is_week is_clock one_at two_at four_at start_of end_of found first_some moment_by moment_of days_by days_of whole_days in_order pair_of duration_of without period_of first_number year_of month_of date_in_year day_text moment_text period_text
+unfolding on_literals
 reference_table_first = refl
 
 reference_none : referring (parameter (codes "eg:Cash")) [] (codes "#none") ≡ Err fault.NoConcept
-unfolding cell_result rest_faults fact_of meaning_of numeral_of accuracy_of chars is_utf8 encode is_ncname is_name_char is_name_start qname_of sqname_of unit_of language_of days_of_years days_of_months day_number is_date is_week is_clock one_at two_at four_at start_of end_of found first_some moment_by moment_of days_by days_of whole_days in_order pair_of duration_of without period_of first_number year_of month_of date_in_year day_text moment_text period_text
+unfolding on_literals
 reference_none = refl
 
 reference_unknown_name : referring [] [] (codes "eg:Region") ≡ Err fault.UnknownName
-unfolding cell_result rest_faults fact_of meaning_of numeral_of accuracy_of chars is_utf8 encode is_ncname is_name_char is_name_start qname_of sqname_of unit_of language_of days_of_years days_of_months day_number is_date is_week is_clock one_at two_at four_at start_of end_of found first_some moment_by moment_of days_by days_of whole_days in_order pair_of duration_of without period_of first_number year_of month_of date_in_year day_text moment_text period_text
+unfolding on_literals
 reference_unknown_name = refl
 
 -- WHAT A CONCEPT DROPS: units of texts and languages of numbers, before they are read
@@ -261,16 +298,17 @@ spoken u c t =
     gives ((codes "entity", text (codes "eg:A1")) ∷ (codes "language", text (codes "en-GB")) ∷ (codes "period", text (codes "2021Q4")) ∷ (codes "unit", u) ∷ []) None
     (plain_column (codes "u") ∷ fact_column (codes "x") (concept c ∷ []) [] ∷ []) [] [] (codes "#foo" ∷ t ∷ []) 1
 
-dropped_unit_is_not_read : spoken (reference (codes "u")) (codes "eg:Note") (codes "say") ≡ fact (codes "x") (Some (codes "say")) None (common (codes "eg:Note") ++ entry (codes "language") (codes "en-gb") ∷ period quarter)
-unfolding cell_result rest_faults fact_of meaning_of numeral_of accuracy_of chars is_utf8 encode is_ncname is_name_char is_name_start qname_of sqname_of unit_of language_of days_of_years days_of_months day_number is_date is_week is_clock one_at two_at four_at start_of end_of found first_some moment_by moment_of days_by days_of whole_days in_order pair_of duration_of without period_of first_number year_of month_of date_in_year day_text moment_text period_text
+dropped_unit_is_not_read : spoken (reference (codes "u")) (codes "eg:Note") (codes "say")
+    ≡ fact (codes "x") (Some (codes "say")) None (common (codes "eg:Note") ++ entry (codes "language") (codes "en-gb") ∷ period quarter)
+unfolding on_literals
 dropped_unit_is_not_read = refl
 
 kept_unit_is_read : spoken (reference (codes "u")) (codes "eg:Cash") (codes "1") ≡ Err fault.UnknownSpecial
-unfolding cell_result rest_faults fact_of meaning_of numeral_of accuracy_of chars is_utf8 encode is_ncname is_name_char is_name_start qname_of sqname_of unit_of language_of days_of_years days_of_months day_number is_date is_week is_clock one_at two_at four_at start_of end_of found first_some moment_by moment_of days_by days_of whole_days in_order pair_of duration_of without period_of first_number year_of month_of date_in_year day_text moment_text period_text
+unfolding on_literals
 kept_unit_is_read = refl
 
 pure_unit : spoken (text (codes "xbrli:pure")) (codes "eg:Cash") (codes "1") ≡ cash (codes "x") (codes "1") []
-unfolding cell_result rest_faults fact_of meaning_of numeral_of accuracy_of chars is_utf8 encode is_ncname is_name_char is_name_start qname_of sqname_of unit_of language_of days_of_years days_of_months day_number is_date is_week is_clock one_at two_at four_at start_of end_of found first_some moment_by moment_of days_by days_of whole_days in_order pair_of duration_of without period_of first_number year_of month_of date_in_year day_text moment_text period_text
+unfolding on_literals
 pure_unit = refl
 
 -- TYPED AND EXPLICIT DIMENSIONS, AND SIDES; b is the plain column
@@ -283,20 +321,23 @@ typed region = (codes "eg:Branch", reference (codes "b")) ∷ (codes "eg:Region"
 abbrev sided : List (List ℕ × Written)
 sided = (codes "entity", text (codes "eg:A1")) ∷ (codes "period", w.Named (codes "b") side.End) ∷ (codes "unit", text (codes "iso4217:EUR")) ∷ []
 
-typed_nil : with_b (typed (codes "eg:North")) (codes "#nil") ≡ fact (codes "x") (Some (codes "1")) None (entry (codes "concept") (codes "eg:Cash") ∷ (codes "eg:Branch", None) ∷ entry (codes "eg:Region") (codes "eg:North") ∷ entry (codes "entity") (codes "eg:A1") ∷ period quarter ++ unit (codes "iso4217:EUR"))
-unfolding cell_result rest_faults fact_of meaning_of numeral_of accuracy_of chars is_utf8 encode is_ncname is_name_char is_name_start qname_of sqname_of unit_of language_of days_of_years days_of_months day_number is_date is_week is_clock one_at two_at four_at start_of end_of found first_some moment_by moment_of days_by days_of whole_days in_order pair_of duration_of without period_of first_number year_of month_of date_in_year day_text moment_text period_text
+typed_nil : with_b (typed (codes "eg:North")) (codes "#nil")
+    ≡ fact (codes "x") (Some (codes "1")) None
+    (entry (codes "concept") (codes "eg:Cash") ∷ (codes "eg:Branch", None) ∷ entry (codes "eg:Region") (codes "eg:North") ∷ entry (codes "entity") (codes "eg:A1")
+    ∷ period quarter ++ unit (codes "iso4217:EUR"))
+unfolding on_literals
 typed_nil = refl
 
 explicit_bad : with_b (typed (codes "North")) [] ≡ Err fault.BadValue
-unfolding cell_result rest_faults fact_of meaning_of numeral_of accuracy_of chars is_utf8 encode is_ncname is_name_char is_name_start qname_of sqname_of unit_of language_of days_of_years days_of_months day_number is_date is_week is_clock one_at two_at four_at start_of end_of found first_some moment_by moment_of days_by days_of whole_days in_order pair_of duration_of without period_of first_number year_of month_of date_in_year day_text moment_text period_text
+unfolding on_literals
 explicit_bad = refl
 
 side_end : with_b sided (codes "2021Q4") ≡ fact (codes "x") (Some (codes "1")) None (common (codes "eg:Cash") ++ period (codes "2022-01-01T00:00:00") ++ unit (codes "iso4217:EUR"))
-unfolding cell_result rest_faults fact_of meaning_of numeral_of accuracy_of chars is_utf8 encode is_ncname is_name_char is_name_start qname_of sqname_of unit_of language_of days_of_years days_of_months day_number is_date is_week is_clock one_at two_at four_at start_of end_of found first_some moment_by moment_of days_by days_of whole_days in_order pair_of duration_of without period_of first_number year_of month_of date_in_year day_text moment_text period_text
+unfolding on_literals
 side_end = refl
 
 side_of_an_instant : with_b sided (codes "2021-12-31T00:00:00") ≡ Err fault.NotDuration
-unfolding cell_result rest_faults fact_of meaning_of numeral_of accuracy_of chars is_utf8 encode is_ncname is_name_char is_name_start qname_of sqname_of unit_of language_of days_of_years days_of_months day_number is_date is_week is_clock one_at two_at four_at start_of end_of found first_some moment_by moment_of days_by days_of whole_days in_order pair_of duration_of without period_of first_number year_of month_of date_in_year day_text moment_text period_text
+unfolding on_literals
 side_of_an_instant = refl
 
 -- A BAD PERIOD in the report: a fault where a cell has a fact, and not where it has none; and it comes before a bad number
@@ -304,11 +345,11 @@ abbrev bad_period : List ℕ → Result (Option Fact) CellFault
 bad_period t = gives ((codes "period", text (codes "nope")) ∷ []) None (fact_column (codes "x") (concept (codes "eg:Cash") ∷ []) [] ∷ []) [] [] (t ∷ []) 0
 
 bad_period_met : bad_period (codes "x") ≡ Err fault.BadPeriod
-unfolding cell_result rest_faults fact_of meaning_of numeral_of accuracy_of chars is_utf8 encode is_ncname is_name_char is_name_start qname_of sqname_of unit_of language_of days_of_years days_of_months day_number is_date is_week is_clock one_at two_at four_at start_of end_of found first_some moment_by moment_of days_by days_of whole_days in_order pair_of duration_of without period_of first_number year_of month_of date_in_year day_text moment_text period_text
+unfolding on_literals
 bad_period_met = refl
 
 bad_period_not_met : bad_period [] ≡ Ok None
-unfolding cell_result rest_faults fact_of meaning_of numeral_of accuracy_of chars is_utf8 encode is_ncname is_name_char is_name_start qname_of sqname_of unit_of language_of days_of_years days_of_months day_number is_date is_week is_clock one_at two_at four_at start_of end_of found first_some moment_by moment_of days_by days_of whole_days in_order pair_of duration_of without period_of first_number year_of month_of date_in_year day_text moment_text period_text
+unfolding on_literals
 bad_period_not_met = refl
 
 -- MORE GENERAL AND MORE SPECIFIC LEVELS
@@ -336,22 +377,23 @@ of_unit u = level ((codes "unit", text u) ∷ [])
 
 template_over_report : with_levels (level base_level) (of_unit (codes "iso4217:USD")) (fact_column (codes "x") (concept (codes "eg:Cash") ∷ []) [] ∷ []) (codes "1" ∷ [])
     ≡ cash (codes "x") (codes "1") (unit (codes "iso4217:USD"))
-unfolding cell_result rest_faults fact_of meaning_of numeral_of accuracy_of chars is_utf8 encode is_ncname is_name_char is_name_start qname_of sqname_of unit_of language_of days_of_years days_of_months day_number is_date is_week is_clock one_at two_at four_at start_of end_of found first_some moment_by moment_of days_by days_of whole_days in_order pair_of duration_of without period_of first_number year_of month_of date_in_year day_text moment_text period_text
+unfolding on_literals
 template_over_report = refl
 
--- x takes its properties from g and h, in the order that it says; the first group is the more specific
+-- x takes its properties from g and h, in the order that it names them; the first group is the more specific
 abbrev two_groups : List ℕ → Result (Option Fact) CellFault
 two_groups from =
     with_levels (level base_level) (of_unit (codes "iso4217:CHF"))
-    (fact_column (codes "x") (concept (codes "eg:Cash") ∷ []) from ∷ groups_column (codes "g") (codes "a") (of_unit (codes "iso4217:USD")) ∷ groups_column (codes "h") (codes "a") (of_unit (codes "iso4217:GBP")) ∷ [])
+    (fact_column (codes "x") (concept (codes "eg:Cash") ∷ []) from
+    ∷ groups_column (codes "g") (codes "a") (of_unit (codes "iso4217:USD")) ∷ groups_column (codes "h") (codes "a") (of_unit (codes "iso4217:GBP")) ∷ [])
     (codes "1" ∷ codes "a" ∷ codes "a" ∷ [])
 
 first_group_first : two_groups (1 ∷ 2 ∷ []) ≡ cash (codes "x") (codes "1") (unit (codes "iso4217:USD"))
-unfolding cell_result rest_faults fact_of meaning_of numeral_of accuracy_of chars is_utf8 encode is_ncname is_name_char is_name_start qname_of sqname_of unit_of language_of days_of_years days_of_months day_number is_date is_week is_clock one_at two_at four_at start_of end_of found first_some moment_by moment_of days_by days_of whole_days in_order pair_of duration_of without period_of first_number year_of month_of date_in_year day_text moment_text period_text
+unfolding on_literals
 first_group_first = refl
 
 groups_in_the_order_named : two_groups (2 ∷ 1 ∷ []) ≡ cash (codes "x") (codes "1") (unit (codes "iso4217:GBP"))
-unfolding cell_result rest_faults fact_of meaning_of numeral_of accuracy_of chars is_utf8 encode is_ncname is_name_char is_name_start qname_of sqname_of unit_of language_of days_of_years days_of_months day_number is_date is_week is_clock one_at two_at four_at start_of end_of found first_some moment_by moment_of days_by days_of whole_days in_order pair_of duration_of without period_of first_number year_of month_of date_in_year day_text moment_text period_text
+unfolding on_literals
 groups_in_the_order_named = refl
 
 -- DECIMALS that report, template, group and column write; d is a plain column
@@ -368,13 +410,28 @@ fixed n = Some (d.Fixed (accuracy.Places (pos n)))
 decimals_of_each_level : with_decimals (fixed 1) None None None [] ∷ with_decimals (fixed 1) (fixed 2) None None [] ∷ with_decimals (fixed 1) (fixed 2) (fixed 3) None []
     ∷ with_decimals (fixed 1) (fixed 2) (fixed 3) (fixed 4) [] ∷ with_decimals (fixed 1) (fixed 2) (fixed 3) (Some d.Absent) [] ∷ with_decimals (fixed 1) (Some d.Absent) None None [] ∷ []
     ≡ rate (codes "7") (Some (pos 1)) ∷ rate (codes "7") (Some (pos 2)) ∷ rate (codes "7") (Some (pos 3)) ∷ rate (codes "7") (Some (pos 4)) ∷ rate (codes "7") None ∷ rate (codes "7") None ∷ []
-unfolding cell_result rest_faults fact_of meaning_of numeral_of accuracy_of chars is_utf8 encode is_ncname is_name_char is_name_start qname_of sqname_of unit_of language_of days_of_years days_of_months day_number is_date is_week is_clock one_at two_at four_at start_of end_of found first_some moment_by moment_of days_by days_of whole_days in_order pair_of duration_of without period_of first_number year_of month_of date_in_year day_text moment_text period_text
+unfolding on_literals
 decimals_of_each_level = refl
 
 decimals_by_reference : map (with_decimals (fixed 1) None None (Some (d.Named (codes "d")))) (codes "2" ∷ codes "INF" ∷ codes "#none" ∷ codes "#nil" ∷ codes "#empty" ∷ codes "x" ∷ codes "#foo" ∷ [])
     ≡ rate (codes "7") (Some (pos 2)) ∷ rate (codes "7") None ∷ rate (codes "7") None ∷ Err fault.BadDecimals ∷ Err fault.BadDecimals ∷ Err fault.BadDecimals ∷ Err fault.UnknownSpecial ∷ []
-unfolding cell_result rest_faults fact_of meaning_of numeral_of accuracy_of chars is_utf8 encode is_ncname is_name_char is_name_start qname_of sqname_of unit_of language_of days_of_years days_of_months day_number is_date is_week is_clock one_at two_at four_at start_of end_of found first_some moment_by moment_of days_by days_of whole_days in_order pair_of duration_of without period_of first_number year_of month_of date_in_year day_text moment_text period_text
+unfolding on_literals
 decimals_by_reference = refl
+
+decimals_by_row_number : with_decimals None None None (Some d.RowNumber) [] ≡ rate (codes "7") (Some (pos 1))
+unfolding digits on_literals
+decimals_by_row_number = refl
+
+-- decimals are not read for a nil fact, for a numeral with a suffix, and for a concept that is not numeric
+abbrev with_bad_decimals : List ℕ → List ℕ → Result (Option Fact) CellFault
+with_bad_decimals c t =
+    gives base_level (Some (d.Named (codes "d"))) (fact_column (codes "x") (concept c ∷ []) [] ∷ plain_column (codes "d") ∷ []) [] [] (t ∷ codes "y" ∷ []) 0
+
+decimals_not_read :
+    with_bad_decimals (codes "eg:Rate") (codes "#nil") ∷ with_bad_decimals (codes "eg:Rate") (codes "7d1") ∷ with_bad_decimals (codes "eg:Note") (codes "7") ∷ []
+    ≡ fact (codes "x") None None (with_period (codes "eg:Rate") ++ unit (codes "iso4217:EUR")) ∷ rate (codes "7") (Some (pos 1)) ∷ note (Some (codes "7")) ∷ []
+unfolding on_literals
+decimals_not_read = refl
 
 -- NIL AND EMPTY for each role, by reference to the plain column b
 abbrev referred : List ℕ → List ℕ → List ℕ → Result (Option Fact) CellFault
@@ -387,36 +444,77 @@ abbrev refused : List (Result (Option Fact) CellFault)
 refused = Err fault.BadReference ∷ Err fault.BadReference ∷ Err fault.BadReference ∷ Err fault.BadReference ∷ []
 
 abbrev with_branch : Option (List ℕ) → Result (Option Fact) CellFault
-with_branch v = fact (codes "x") (Some (codes "1")) None (entry (codes "concept") (codes "eg:Cash") ∷ (codes "eg:Branch", v) ∷ entry (codes "entity") (codes "eg:A1") ∷ period quarter ++ unit (codes "iso4217:EUR"))
+with_branch v =
+    fact (codes "x") (Some (codes "1")) None
+    (entry (codes "concept") (codes "eg:Cash") ∷ (codes "eg:Branch", v) ∷ entry (codes "entity") (codes "eg:A1") ∷ period quarter ++ unit (codes "iso4217:EUR"))
 
 nil_by_reference : map (λ n. referred (codes "eg:Cash") n (codes "#nil")) roles ≡ refused
-unfolding cell_result rest_faults fact_of meaning_of numeral_of accuracy_of chars is_utf8 encode is_ncname is_name_char is_name_start qname_of sqname_of unit_of language_of days_of_years days_of_months day_number is_date is_week is_clock one_at two_at four_at start_of end_of found first_some moment_by moment_of days_by days_of whole_days in_order pair_of duration_of without period_of first_number year_of month_of date_in_year day_text moment_text period_text
+unfolding on_literals
 nil_by_reference = refl
 
 empty_by_reference : map (λ n. referred (codes "eg:Cash") n (codes "#empty")) roles ≡ refused
-unfolding cell_result rest_faults fact_of meaning_of numeral_of accuracy_of chars is_utf8 encode is_ncname is_name_char is_name_start qname_of sqname_of unit_of language_of days_of_years days_of_months day_number is_date is_week is_clock one_at two_at four_at start_of end_of found first_some moment_by moment_of days_by days_of whole_days in_order pair_of duration_of without period_of first_number year_of month_of date_in_year day_text moment_text period_text
+unfolding on_literals
 empty_by_reference = refl
 
 language_by_reference : map (referred (codes "eg:Note") (codes "language")) (codes "#nil" ∷ codes "#empty" ∷ codes "#none" ∷ codes "e n" ∷ [])
     ≡ Err fault.BadReference ∷ Err fault.BadReference ∷ fact (codes "x") (Some (codes "1")) None (with_period (codes "eg:Note")) ∷ Err fault.BadValue ∷ []
-unfolding cell_result rest_faults fact_of meaning_of numeral_of accuracy_of chars is_utf8 encode is_ncname is_name_char is_name_start qname_of sqname_of unit_of language_of days_of_years days_of_months day_number is_date is_week is_clock one_at two_at four_at start_of end_of found first_some moment_by moment_of days_by days_of whole_days in_order pair_of duration_of without period_of first_number year_of month_of date_in_year day_text moment_text period_text
+unfolding on_literals
 language_by_reference = refl
 
 typed_by_reference : map (referred (codes "eg:Cash") (codes "eg:Branch")) (codes "#nil" ∷ codes "#empty" ∷ []) ≡ with_branch None ∷ with_branch (Some []) ∷ []
-unfolding cell_result rest_faults fact_of meaning_of numeral_of accuracy_of chars is_utf8 encode is_ncname is_name_char is_name_start qname_of sqname_of unit_of language_of days_of_years days_of_months day_number is_date is_week is_clock one_at two_at four_at start_of end_of found first_some moment_by moment_of days_by days_of whole_days in_order pair_of duration_of without period_of first_number year_of month_of date_in_year day_text moment_text period_text
+unfolding on_literals
 typed_by_reference = refl
 
+-- and as literals
+literal_branches : map (λ x. with_b ((codes "eg:Branch", x) ∷ base_level) []) (w.Nil ∷ w.Empty ∷ w.Absent ∷ [])
+    ≡ with_branch None ∷ with_branch (Some []) ∷ cash (codes "x") (codes "1") (unit (codes "iso4217:EUR")) ∷ []
+unfolding on_literals
+literal_branches = refl
+
+literal_regions : map (λ x. with_b ((codes "eg:Region", x) ∷ base_level) []) (w.Nil ∷ w.Empty ∷ []) ≡ Err fault.BadReference ∷ Err fault.BadReference ∷ []
+unfolding on_literals
+literal_regions = refl
+
 concept_by_reference : map (referring [] []) (codes "#nil" ∷ codes "#empty" ∷ codes "#foo" ∷ []) ≡ Err fault.BadReference ∷ Err fault.BadReference ∷ Err fault.UnknownSpecial ∷ []
-unfolding cell_result rest_faults fact_of meaning_of numeral_of accuracy_of chars is_utf8 encode is_ncname is_name_char is_name_start qname_of sqname_of unit_of language_of days_of_years days_of_months day_number is_date is_week is_clock one_at two_at four_at start_of end_of found first_some moment_by moment_of days_by days_of whole_days in_order pair_of duration_of without period_of first_number year_of month_of date_in_year day_text moment_text period_text
+unfolding on_literals
 concept_by_reference = refl
 
 -- A LANGUAGE AND A UNIT for each kind of concept: the language of a text, the unit of a number, and neither of another
 
-kinds_drop : spoken (text (codes "iso4217:EUR")) (codes "eg:Note") (codes "1") ∷ spoken (text (codes "iso4217:EUR")) (codes "eg:Cash") (codes "1") ∷ spoken (text (codes "iso4217:EUR")) (codes "eg:Blob") (codes "1") ∷ []
+kinds_drop : map (λ c. spoken (text (codes "iso4217:EUR")) c (codes "1")) (codes "eg:Note" ∷ codes "eg:Cash" ∷ codes "eg:Blob" ∷ [])
     ≡ fact (codes "x") (Some (codes "1")) None (common (codes "eg:Note") ++ entry (codes "language") (codes "en-gb") ∷ period quarter) ∷ cash (codes "x") (codes "1") (unit (codes "iso4217:EUR"))
     ∷ fact (codes "x") (Some (codes "1")) None (with_period (codes "eg:Blob")) ∷ []
-unfolding cell_result rest_faults fact_of meaning_of numeral_of accuracy_of chars is_utf8 encode is_ncname is_name_char is_name_start qname_of sqname_of unit_of language_of days_of_years days_of_months day_number is_date is_week is_clock one_at two_at four_at start_of end_of found first_some moment_by moment_of days_by days_of whole_days in_order pair_of duration_of without period_of first_number year_of month_of date_in_year day_text moment_text period_text
+unfolding on_literals
 kinds_drop = refl
+
+abbrev kinds : List Kind
+kinds = kind.Number number.Integer ∷ kind.Text ∷ kind.Boolean ∷ kind.Date ∷ kind.Name ∷ kind.Other ∷ kind.Explicit ∷ kind.Typed ∷ []
+
+units_of_numbers : map is_numeric kinds ≡ true ∷ false ∷ false ∷ false ∷ false ∷ false ∷ false ∷ false ∷ []
+units_of_numbers = refl
+
+languages_of_texts : map is_of_text kinds ≡ false ∷ true ∷ false ∷ false ∷ false ∷ false ∷ false ∷ false ∷ []
+languages_of_texts = refl
+
+-- NAMES OF DIMENSIONS: five that each report has; of the others those that the types table calls typed are typed, and all others explicit
+
+role_names : map (role_of (report [] None [] [] [])) (codes "concept" ∷ codes "entity" ∷ codes "period" ∷ codes "unit" ∷ codes "language" ∷ codes "eg:Branch" ∷ [])
+    ≡ role.Concept ∷ role.Entity ∷ role.Period ∷ role.Unit ∷ role.Language ∷ role.Typed ∷ []
+unfolding on_literals
+role_names = refl
+
+explicit_names : map (role_of (report [] None [] [] []))
+    (codes "eg:Region" ∷ codes "eg:Nowhere" ∷ codes "eg:Blob" ∷ codes "eg:Cash" ∷ codes "eg:Due" ∷ codes "eg:Note" ∷ codes "eg:Open" ∷ codes "eg:Rule" ∷ [])
+    ≡ role.Explicit ∷ role.Explicit ∷ role.Explicit ∷ role.Explicit ∷ role.Explicit ∷ role.Explicit ∷ role.Explicit ∷ role.Explicit ∷ []
+unfolding on_literals
+explicit_names = refl
+
+-- the local part of an entity's identifier may begin with a digit, that of another name not
+entity_of_digits : gives ((codes "entity", text (codes "eg:12-34")) ∷ (codes "period", text (codes "2021Q4")) ∷ []) None
+    (fact_column (codes "x") (concept (codes "eg:Note") ∷ []) [] ∷ []) [] [] (codes "a" ∷ []) 0
+    ≡ fact (codes "x") (Some (codes "a")) None (entry (codes "concept") (codes "eg:Note") ∷ entry (codes "entity") (codes "eg:12-34") ∷ period quarter)
+unfolding on_literals
+entity_of_digits = refl
 
 -- BOOLEANS, DATES AND NAMES: without the blanks at their ends, and with neither unit nor language
 
@@ -424,63 +522,109 @@ abbrev of_concept : List ℕ → Option (List ℕ) → Result (Option Fact) Cell
 of_concept c value = fact (codes "x") value None (with_period c)
 
 booleans : map (in_base (codes "eg:Open")) (codes " true " ∷ codes "1" ∷ codes "#nil" ∷ codes "#none" ∷ codes "TRUE" ∷ codes "#empty" ∷ codes " " ∷ [])
-    ≡ of_concept (codes "eg:Open") (Some (codes "true")) ∷ of_concept (codes "eg:Open") (Some (codes "1")) ∷ of_concept (codes "eg:Open") None ∷ Ok None ∷ Err fault.BadFactValue ∷ Err fault.BadFactValue ∷ Err fault.BadFactValue ∷ []
-unfolding cell_result rest_faults fact_of meaning_of numeral_of accuracy_of chars is_utf8 encode is_ncname is_name_char is_name_start qname_of sqname_of unit_of language_of days_of_years days_of_months day_number is_date is_week is_clock one_at two_at four_at start_of end_of found first_some moment_by moment_of days_by days_of whole_days in_order pair_of duration_of without period_of first_number year_of month_of date_in_year day_text moment_text period_text
+    ≡ of_concept (codes "eg:Open") (Some (codes "true")) ∷ of_concept (codes "eg:Open") (Some (codes "1")) ∷ of_concept (codes "eg:Open") None ∷ Ok None
+    ∷ Err fault.BadFactValue ∷ Err fault.BadFactValue ∷ Err fault.BadFactValue ∷ []
+unfolding on_literals
 booleans = refl
 
 dates : map (in_base (codes "eg:Due")) (codes "2024-02-29" ∷ codes "2023-02-29" ∷ codes "2024-02-29Z" ∷ codes "24-2-29" ∷ codes "#empty" ∷ codes "#nil" ∷ [])
-    ≡ of_concept (codes "eg:Due") (Some (codes "2024-02-29")) ∷ Err fault.BadFactValue ∷ Err fault.BadFactValue ∷ Err fault.BadFactValue ∷ Err fault.BadFactValue ∷ of_concept (codes "eg:Due") None ∷ []
-unfolding cell_result rest_faults fact_of meaning_of numeral_of accuracy_of chars is_utf8 encode is_ncname is_name_char is_name_start qname_of sqname_of unit_of language_of days_of_years days_of_months day_number is_date is_week is_clock one_at two_at four_at start_of end_of found first_some moment_by moment_of days_by days_of whole_days in_order pair_of duration_of without period_of first_number year_of month_of date_in_year day_text moment_text period_text is_date_text
+    ≡ of_concept (codes "eg:Due") (Some (codes "2024-02-29"))
+    ∷ Err fault.BadFactValue ∷ Err fault.BadFactValue ∷ Err fault.BadFactValue ∷ Err fault.BadFactValue ∷ of_concept (codes "eg:Due") None ∷ []
+unfolding on_literals
 dates = refl
 
 qnames : map (in_base (codes "eg:Rule")) (codes "eg:Cash" ∷ codes " eg:Cash\t" ∷ codes "Cash" ∷ codes "zz:a" ∷ codes "#empty" ∷ codes "#nil" ∷ [])
-    ≡ of_concept (codes "eg:Rule") (Some (codes "eg:Cash")) ∷ of_concept (codes "eg:Rule") (Some (codes "eg:Cash")) ∷ Err fault.BadFactValue ∷ Err fault.BadFactValue ∷ Err fault.BadFactValue ∷ of_concept (codes "eg:Rule") None ∷ []
-unfolding cell_result rest_faults fact_of meaning_of numeral_of accuracy_of chars is_utf8 encode is_ncname is_name_char is_name_start qname_of sqname_of unit_of language_of days_of_years days_of_months day_number is_date is_week is_clock one_at two_at four_at start_of end_of found first_some moment_by moment_of days_by days_of whole_days in_order pair_of duration_of without period_of first_number year_of month_of date_in_year day_text moment_text period_text
+    ≡ of_concept (codes "eg:Rule") (Some (codes "eg:Cash")) ∷ of_concept (codes "eg:Rule") (Some (codes "eg:Cash"))
+    ∷ Err fault.BadFactValue ∷ Err fault.BadFactValue ∷ Err fault.BadFactValue ∷ of_concept (codes "eg:Rule") None ∷ []
+unfolding on_literals
 qnames = refl
 
 no_language : spoken (text (codes "iso4217:EUR")) (codes "eg:Open") (codes "1") ≡ of_concept (codes "eg:Open") (Some (codes "1"))
-unfolding cell_result rest_faults fact_of meaning_of numeral_of accuracy_of chars is_utf8 encode is_ncname is_name_char is_name_start qname_of sqname_of unit_of language_of days_of_years days_of_months day_number is_date is_week is_clock one_at two_at four_at start_of end_of found first_some moment_by moment_of days_by days_of whole_days in_order pair_of duration_of without period_of first_number year_of month_of date_in_year day_text moment_text period_text
+unfolding on_literals
 no_language = refl
 
 -- another concept's text keeps its blanks
 blanks_of_others : in_base (codes "eg:Blob") (codes " TRUE ") ≡ of_concept (codes "eg:Blob") (Some (codes " TRUE "))
-unfolding cell_result rest_faults fact_of meaning_of numeral_of accuracy_of chars is_utf8 encode is_ncname is_name_char is_name_start qname_of sqname_of unit_of language_of days_of_years days_of_months day_number is_date is_week is_clock one_at two_at four_at start_of end_of found first_some moment_by moment_of days_by days_of whole_days in_order pair_of duration_of without period_of first_number year_of month_of date_in_year day_text moment_text period_text
+unfolding on_literals
 blanks_of_others = refl
 
 -- THE ROW NUMBER, AND THE START of a duration
 
 row_number : with_b ((codes "eg:Branch", w.RowNumber side.Whole) ∷ base_level) [] ≡ with_branch (Some (decimal 1))
-unfolding cell_result rest_faults fact_of meaning_of numeral_of accuracy_of chars is_utf8 encode is_ncname is_name_char is_name_start qname_of sqname_of unit_of language_of days_of_years days_of_months day_number is_date is_week is_clock one_at two_at four_at start_of end_of found first_some moment_by moment_of days_by days_of whole_days in_order pair_of duration_of without period_of first_number year_of month_of date_in_year day_text moment_text period_text
+unfolding on_literals
 row_number = refl
 
 side_start : with_b ((codes "entity", text (codes "eg:A1")) ∷ (codes "period", w.Named (codes "b") side.Start) ∷ (codes "unit", text (codes "iso4217:EUR")) ∷ []) (codes "2021Q4")
     ≡ fact (codes "x") (Some (codes "1")) None (common (codes "eg:Cash") ++ period (codes "2021-10-01T00:00:00") ++ unit (codes "iso4217:EUR"))
-unfolding cell_result rest_faults fact_of meaning_of numeral_of accuracy_of chars is_utf8 encode is_ncname is_name_char is_name_start qname_of sqname_of unit_of language_of days_of_years days_of_months day_number is_date is_week is_clock one_at two_at four_at start_of end_of found first_some moment_by moment_of days_by days_of whole_days in_order pair_of duration_of without period_of first_number year_of month_of date_in_year day_text moment_text period_text
+unfolding on_literals
 side_start = refl
+
+sides_asked_for : map side_of (w.RowNumber side.Start ∷ w.Named (codes "b") side.End ∷ reference (codes "b") ∷ text (codes "b") ∷ []) ≡ side.Start ∷ side.End ∷ side.Whole ∷ side.Whole ∷ []
+sides_asked_for = refl
+
+-- THE FIRST TWO STEPS: no fact, a fault of the cell or its groups, a fault of the concept, or no answer yet
+
+abbrev early : ReportValue → List (List ℕ) → ℕ → Option (Result (Option Fact) CellFault)
+early r cells column = early_result (record { report = r; table = 0; row = row cells; column = column })
+
+abbrev early_in_groups : List ℕ → List ℕ → Option (Result (Option Fact) CellFault)
+early_in_groups g t = early (report base_level None group_columns [] []) (t ∷ t ∷ t ∷ g ∷ []) 1
+
+early_answers : early_in_groups (codes "gbp") [] ∷ early_in_groups (codes "gbp") (codes "2") ∷ early_in_groups (codes "usd") (codes "x") ∷ []
+    ≡ Some (Ok None) ∷ Some (Err fault.UnknownGroup) ∷ None ∷ []
+unfolding early_result on_literals
+early_answers = refl
+
+early_concept : early (report base_level None (fact_column (codes "x") [] [] ∷ []) [] []) (codes "1" ∷ []) 0 ≡ Some (Err fault.NoConcept)
+unfolding early_result on_literals
+early_concept = refl
 
 -- ORDER OF FAULTS in the last step: a bad value before a bad period, bad decimals before a bad number
 
-bad_value_first : gives ((codes "entity", text (codes "A1")) ∷ (codes "period", text (codes "nope")) ∷ []) None (fact_column (codes "x") (concept (codes "eg:Cash") ∷ []) [] ∷ []) [] [] (codes "x" ∷ []) 0 ≡ Err fault.BadValue
-unfolding cell_result rest_faults fact_of meaning_of numeral_of accuracy_of chars is_utf8 encode is_ncname is_name_char is_name_start qname_of sqname_of unit_of language_of days_of_years days_of_months day_number is_date is_week is_clock one_at two_at four_at start_of end_of found first_some moment_by moment_of days_by days_of whole_days in_order pair_of duration_of without period_of first_number year_of month_of date_in_year day_text moment_text period_text
+bad_value_first : gives ((codes "entity", text (codes "A1")) ∷ (codes "period", text (codes "nope")) ∷ []) None
+    (fact_column (codes "x") (concept (codes "eg:Cash") ∷ []) [] ∷ []) [] [] (codes "x" ∷ []) 0 ≡ Err fault.BadValue
+unfolding on_literals
 bad_value_first = refl
 
-bad_decimals_first : gives base_level (Some (d.Named (codes "d"))) (fact_column (codes "x") (concept (codes "eg:Cash") ∷ []) [] ∷ plain_column (codes "d") ∷ []) [] [] (codes "x" ∷ codes "y" ∷ []) 0 ≡ Err fault.BadDecimals
-unfolding cell_result rest_faults fact_of meaning_of numeral_of accuracy_of chars is_utf8 encode is_ncname is_name_char is_name_start qname_of sqname_of unit_of language_of days_of_years days_of_months day_number is_date is_week is_clock one_at two_at four_at start_of end_of found first_some moment_by moment_of days_by days_of whole_days in_order pair_of duration_of without period_of first_number year_of month_of date_in_year day_text moment_text period_text
+bad_decimals_first : gives base_level (Some (d.Named (codes "d")))
+    (fact_column (codes "x") (concept (codes "eg:Cash") ∷ []) [] ∷ plain_column (codes "d") ∷ []) [] [] (codes "x" ∷ codes "y" ∷ []) 0 ≡ Err fault.BadDecimals
+unfolding on_literals
 bad_decimals_first = refl
 
-bad_period_before_a_bad_boolean : gives ((codes "entity", text (codes "eg:A1")) ∷ (codes "period", text (codes "nope")) ∷ []) None (fact_column (codes "x") (concept (codes "eg:Open") ∷ []) [] ∷ []) [] [] (codes "TRUE" ∷ []) 0 ≡ Err fault.BadPeriod
-unfolding cell_result rest_faults fact_of meaning_of numeral_of accuracy_of chars is_utf8 encode is_ncname is_name_char is_name_start qname_of sqname_of unit_of language_of days_of_years days_of_months day_number is_date is_week is_clock one_at two_at four_at start_of end_of found first_some moment_by moment_of days_by days_of whole_days in_order pair_of duration_of without period_of first_number year_of month_of date_in_year day_text moment_text period_text
+bad_period_before_a_bad_boolean : gives ((codes "entity", text (codes "eg:A1")) ∷ (codes "period", text (codes "nope")) ∷ []) None
+    (fact_column (codes "x") (concept (codes "eg:Open") ∷ []) [] ∷ []) [] [] (codes "TRUE" ∷ []) 0 ≡ Err fault.BadPeriod
+unfolding on_literals
 bad_period_before_a_bad_boolean = refl
+
+bad_period_alone : value_faults_of (report [] None [] [] []) role.Period side.Whole (m.Text (codes "nope")) ≡ fault.BadPeriod ∷ []
+unfolding on_literals
+bad_period_alone = refl
+
+-- of two faults the one with the lesser number
+abbrev joined : Result ℕ CellFault → Result ℕ CellFault → Result (ℕ × ℕ) CellFault
+joined = both (λ a b. (a, b))
+
+two_readings : joined (Ok 1) (Ok 2) ∷ joined (Ok 1) (Err fault.BadValue) ∷ joined (Err fault.BadPeriod) (Ok 2) ∷ joined (Err fault.BadPeriod) (Err fault.BadValue) ∷ []
+    ≡ Ok (1, 2) ∷ Err fault.BadValue ∷ Err fault.BadPeriod ∷ Err fault.BadValue ∷ []
+two_readings = refl
+
+two_faults : least_of None (Some fault.BadValue) ∷ least_of (Some fault.BadPeriod) None ∷ least_of (Some fault.BadPeriod) (Some fault.BadValue) ∷ []
+    ≡ Some fault.BadValue ∷ Some fault.BadPeriod ∷ Some fault.BadValue ∷ []
+two_faults = refl
 
 -- THE FAULTS by number and name
 all_faults : List CellFault
-all_faults = fault.UnknownSpecial ∷ fault.UnknownGroup ∷ fault.NoConcept ∷ fault.UnknownName ∷ fault.BadReference ∷ fault.BadValue ∷ fault.BadPeriod ∷ fault.NotDuration ∷ fault.BadDecimals ∷ fault.BadNumber ∷ fault.Memory ∷ fault.BadFactValue ∷ []
+all_faults =
+    fault.UnknownSpecial ∷ fault.UnknownGroup ∷ fault.NoConcept ∷ fault.UnknownName ∷ fault.BadReference ∷ fault.BadValue
+    ∷ fault.BadPeriod ∷ fault.NotDuration ∷ fault.BadDecimals ∷ fault.BadNumber ∷ fault.Memory ∷ fault.BadFactValue ∷ []
 
 numbers : map number_of all_faults ≡ 31 ∷ 32 ∷ 33 ∷ 34 ∷ 35 ∷ 36 ∷ 37 ∷ 38 ∷ 39 ∷ 40 ∷ 42 ∷ 44 ∷ []
 unfolding all_faults
 numbers = refl
 
 fault_names :
-    map name_of all_faults ≡ codes "UnknownSpecial" ∷ codes "UnknownGroup" ∷ codes "NoConcept" ∷ codes "UnknownName" ∷ codes "BadReference" ∷ codes "BadValue" ∷ codes "BadPeriod" ∷ codes "NotDuration" ∷ codes "BadDecimals" ∷ codes "BadNumber" ∷ codes "Memory" ∷ codes "BadFactValue" ∷ []
+    map name_of all_faults
+    ≡ codes "UnknownSpecial" ∷ codes "UnknownGroup" ∷ codes "NoConcept" ∷ codes "UnknownName" ∷ codes "BadReference" ∷ codes "BadValue"
+    ∷ codes "BadPeriod" ∷ codes "NotDuration" ∷ codes "BadDecimals" ∷ codes "BadNumber" ∷ codes "Memory" ∷ codes "BadFactValue" ∷ []
 unfolding all_faults
 fault_names = refl

@@ -1,5 +1,5 @@
 -- The least fault of two sets together.
-use Rattle.std.proofs.Common.{◌≡◌, ℕ, true, false, List, [], ◌∷◌, ◌++◌, append_assoc, Option, Some, None, Result, Ok, Err, cond, leb, refl, sym, ap, ◌∙◌, arith}
+use Rattle.std.proofs.Common.{◌≡◌, ℕ, true, false, List, [], ◌∷◌, ◌++◌, Bool, append_assoc, Option, Some, None, Result, Ok, Err, cond, leb, refl, sym, ap, ◌∙◌, arith}
 use Rattle.std.proofs.lemmas.Bool.Decides.{nat_tests}
 use Rattle.std.proofs.lemmas.List.{append-nil}
 use Rattle.oim_resolve.specs.declared.fact.CellFault.{CellFault}
@@ -12,17 +12,21 @@ kept : {X : Type 0} (a b c : ℕ) → leb a b ≡ true → leb b c ≡ true → 
 kept a b c e k f g h = let l : leb a c ≡ true = grind (arith, nat_tests) in ap (λ q. cond q f g) e ∙ ap (λ q. cond q f h) (sym l)
 
 lesser-assoc : (f g h : CellFault) → lesser f (lesser g h) ≡ lesser (lesser f g) h
-lesser-assoc f g h =
-    elim (leb (number_of f) (number_of g)) as (λ b. leb (number_of f) (number_of g) ≡ b → lesser f (lesser g h) ≡ cond (leb (number_of (cond b f g)) (number_of h)) (cond b f g) h) [
-      | true ↦ λ e. elim (leb (number_of g) (number_of h)) as (λ c. leb (number_of g) (number_of h) ≡ c → cond (leb (number_of f) (number_of (cond c g h))) f (cond c g h) ≡ cond (leb (number_of f) (number_of h)) f h) [
-        | true ↦ λ k. kept (number_of f) (number_of g) (number_of h) e k f g h
-        | false ↦ λ k. refl
-      ] refl
-      | false ↦ λ e. elim (leb (number_of g) (number_of h)) as (λ c. leb (number_of g) (number_of h) ≡ c → cond (leb (number_of f) (number_of (cond c g h))) f (cond c g h) ≡ cond c g h) [
-        | true ↦ λ k. ap (λ b. cond b f g) e
-        | false ↦ λ k. ap (λ b. cond b f h) (above (number_of f) (number_of g) (number_of h) e k)
-      ] refl
-    ] refl
+lesser-assoc f g h = by (leb (number_of f) (number_of g)) refl
+  where
+    first : (c : Bool) → leb (number_of f) (number_of g) ≡ true → leb (number_of g) (number_of h) ≡ c
+        → cond (leb (number_of f) (number_of (cond c g h))) f (cond c g h) ≡ cond (leb (number_of f) (number_of h)) f h
+    first true e k = kept (number_of f) (number_of g) (number_of h) e k f g h
+    first false e k = refl
+
+    other : (c : Bool) → leb (number_of f) (number_of g) ≡ false → leb (number_of g) (number_of h) ≡ c
+        → cond (leb (number_of f) (number_of (cond c g h))) f (cond c g h) ≡ cond c g h
+    other true e k = ap (λ b. cond b f g) e
+    other false e k = ap (λ b. cond b f h) (above (number_of f) (number_of g) (number_of h) e k)
+
+    by : (b : Bool) → leb (number_of f) (number_of g) ≡ b → lesser f (lesser g h) ≡ cond (leb (number_of (cond b f g)) (number_of h)) (cond b f g) h
+    by true e = first (leb (number_of g) (number_of h)) e refl
+    by false e = other (leb (number_of g) (number_of h)) e refl
 
 -- least_of is associative
 pub least_of-assoc : (f g h : Option CellFault) → least_of f (least_of g h) ≡ least_of (least_of f g) h
@@ -36,7 +40,8 @@ least-append [] ys = refl
 least-append (x ∷ xs) ys = ap (least_of (Some x)) (least-append xs ys) ∙ least_of-assoc (Some x) (least xs) (least ys)
 
 -- two readings that each give a value unless a set has a fault
-pub both_unless : {A B C : Type 0} (join : A → B → C) (xs ys : List CellFault) (a : A) (b : B) → both join (unless (least xs) (Ok a)) (unless (least ys) (Ok b)) ≡ unless (least (xs ++ ys)) (Ok (join a b))
+pub both_unless : {A B C : Type 0} (join : A → B → C) (xs ys : List CellFault) (a : A) (b : B)
+    → both join (unless (least xs) (Ok a)) (unless (least ys) (Ok b)) ≡ unless (least (xs ++ ys)) (Ok (join a b))
 both_unless join xs ys a b = by (least xs) (least ys) ∙ ap (λ f. unless f (Ok (join a b))) (sym (least-append xs ys))
   where
     by : (x y : Option CellFault) → both join (unless x (Ok a)) (unless y (Ok b)) ≡ unless (least_of x y) (Ok (join a b))

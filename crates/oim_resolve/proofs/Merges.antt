@@ -174,7 +174,8 @@ where_some None = refl
 where_some (Some v) = refl
 
 -- a name stands in what is merged exactly where one of the levels writes it
-three : (a b d : Option Written) → (is_some a || (is_some b || (is_some d || false))) ≡ is_some {T = Written × Bool} (option_or (option_map (λ w. (w, true)) d) (option_map (λ w. (w, false)) (option_or b (option_or a None))))
+three : (a b d : Option Written) → (is_some a || (is_some b || (is_some d || false)))
+    ≡ is_some {T = Written × Bool} (option_or (option_map (λ w. (w, true)) d) (option_map (λ w. (w, false)) (option_or b (option_or a None))))
 three None None None = refl
 three None None (Some d) = refl
 three None (Some b) None = refl

@@ -1,17 +1,21 @@
 -- The result of a cell, case by case.
 use Rattle.std.proofs.Common.{◌≡◌, ℕ, ℤ, List, ◌++◌, Bool, true, false, Option, Some, None, Result, Ok, Err, IfSome, refl, sym, ap, subst, ◌∙◌}
 use Rattle.std.specs.Prelude.{if◌then◌else◌}
-use Rattle.oim_resolve.specs.declared.fact.Fact.{Fact}
+use Rattle.oim_resolve.specs.FactParts.{FactParts as Fact}
 use Rattle.oim_resolve.specs.declared.fact.CellFault.{CellFault}
 use Rattle.oim_resolve.specs.Cell.{Cell}
 use Rattle.oim_resolve.specs.Faults.{least, unless, both}
-use Rattle.oim_resolve.specs.FactValues.{ValueParts, faults_in, text_in}
+use Rattle.oim_resolve.specs.FactValues.{ValueParts, value_given, faults_in, text_in, accuracy_in}
 use Rattle.oim_resolve.specs.ProgramValues.{text_read}
 use Rattle.std.specs.List.{flat_map}
 use Rattle.oim_meta.specs.declared.kind.Kind.{Kind}
 use Rattle.oim_resolve.specs.Written.{levels, names}
 use Rattle.oim_resolve.proofs.LeastFaults.{both_unless, pair}
-use Rattle.oim_resolve.specs.Facts.{id_of, fact_value, fact_decimals, named_entry, dimension_entry, dimension_faults, decimals_faults, is_absent, fact_meaning, cell_and_group_faults, concept_faults, concept_kind, rest_faults, fact_of, cell_result, early_result}
+use Rattle.oim_cells.specs.Cells.{Meaning}
+use Rattle.oim_cells.specs.declared.cells.Accuracy.{Accuracy}
+use Rattle.oim_resolve.specs.Values.{Stated}
+use Rattle.oim_resolve.specs.Facts.{id_of, fact_value, fact_decimals, named_entry, dimension_entry, dimension_faults, decimals_faults, decimals_read, stated, is_absent}
+use Rattle.oim_resolve.specs.Facts.{fact_meaning, cell_and_group_faults, concept_faults, concept_kind, rest_faults, fact_of, cell_result, early_result}
 
 unfoldable pub outcome : Bool → Option CellFault → Option CellFault → Option CellFault → Fact → Result (Option Fact) CellFault
 outcome absent x y z f = if absent then Ok None else unless x (unless y (unless z (Ok (Some f))))
@@ -53,14 +57,6 @@ module _ (c : Cell) where
 
   past_second : no_cell ≡ false → None ≡ first → None ≡ second → cell_result c ≡ outcome false None None third (fact_of c)
   past_second a h k = past_first a h ∙ ap (λ x. outcome false None x third (fact_of c)) (sym k)
-
-  pub third_fault : (f : CellFault) → no_cell ≡ false → None ≡ first → None ≡ second → Some f ≡ third → Err f ≡ cell_result c
-  unfolding outcome
-  third_fault f a h k l = sym (past_second a h k ∙ ap (λ x. outcome false None None x (fact_of c)) (sym l))
-
-  pub no_fault : (f : Fact) → no_cell ≡ false → None ≡ first → None ≡ second → None ≡ third → f ≡ fact_of c → Ok (Some f) ≡ cell_result c
-  unfolding outcome
-  no_fault f a h k l e = ap (λ g. Ok (Some g)) e ∙ sym (past_second a h k ∙ ap (λ x. outcome false None None x (fact_of c)) (sym l))
 
 -- what a reading says of the set whose least fault it has
 pub read_fault : {A : Type 0} (o : Option CellFault) (a : A) (f : CellFault) → Err f ≡ unless o (Ok a) → Some f ≡ o
@@ -115,8 +111,14 @@ pub fact_parts : (c : Cell) (k : Kind) (id : List ℕ) (value : Option (List ℕ
     → ◌≡◌ {A = Fact} (record { id = id; value = value; decimals = decimals; dimensions = dimensions }) (fact_of c)
 unfolding fact_of
 fact_parts c k id value decimals dimensions h a v d e =
-    let of_kind : (j : Kind) → Fact = λ j. record { id = id_of c; value = text_in (fact_value c j); decimals = fact_decimals c j; dimensions = flat_map (λ n. named_entry n (dimension_entry c j n)) (names (levels c)) } in
-    let parts : ◌≡◌ {A = Fact} (record { id = id; value = value; decimals = decimals; dimensions = dimensions }) (of_kind k) = λ i. record { id = a i; value = v i; decimals = d i; dimensions = e i } in
+    let of_kind : (j : Kind) → Fact = λ j. record {
+      id = id_of c;
+      value = text_in (fact_value c j);
+      decimals = fact_decimals c j;
+      dimensions = flat_map (λ n. named_entry n (dimension_entry c j n)) (names (levels c));
+    } in
+    let parts : ◌≡◌ {A = Fact} (record { id = id; value = value; decimals = decimals; dimensions = dimensions }) (of_kind k) =
+    λ i. record { id = a i; value = v i; decimals = d i; dimensions = e i } in
     parts ∙ ap of_kind h
 
 -- a reading's text, or its fault
@@ -125,39 +127,65 @@ text_read-unless (Ok v) = refl
 text_read-unless (Err f) = refl
 
 -- the last step: dimensions, decimals and value read together
-module _ (c : Cell) (k : Kind) (same : k ≡ concept_kind c) where
-  abbrev rest : Option CellFault
-  rest = least (rest_faults c k)
+abbrev pub Dimensions : Type 0
+Dimensions = List (List ℕ × Option (List ℕ))
 
-  abbrev pub given_dimensions : List (List ℕ × Option (List ℕ))
+-- what the three say together
+abbrev pub Together : Type 0
+Together = (Dimensions × Option ℤ) × Option (List ℕ)
+
+module _ (c : Cell) (k : Kind) where
+  abbrev pub given_faults : List CellFault
+  given_faults = flat_map (dimension_faults c k) (names (levels c))
+
+  abbrev pub given_dimensions : Dimensions
   given_dimensions = flat_map (λ n. named_entry n (dimension_entry c k n)) (names (levels c))
 
-  -- what the three say together
-  abbrev pub Together : Type 0
-  Together = (List (List ℕ × Option (List ℕ)) × Option ℤ) × Option (List ℕ)
+  abbrev pub all_given : Together
+  all_given = ((given_dimensions, fact_decimals c k), text_in (fact_value c k))
 
-  pub all_three : (d : Result (List (List ℕ × Option (List ℕ))) CellFault) (n : Result (Option ℤ) CellFault) (t : Result (Option (List ℕ)) CellFault)
-      → d ≡ unless (least (flat_map (dimension_faults c k) (names (levels c)))) (Ok given_dimensions)
+  abbrev pub rest : Option CellFault
+  rest = least (rest_faults c k)
+
+  -- dimensions, decimals and text, each read
+  all_three : (d : Result Dimensions CellFault) (n : Result (Option ℤ) CellFault) (t : Result (Option (List ℕ)) CellFault)
+      → d ≡ unless (least given_faults) (Ok given_dimensions)
       → n ≡ unless (least (decimals_faults c k)) (Ok (fact_decimals c k))
       → t ≡ text_read (fact_value c k)
-      → both pair (both pair d n) t ≡ unless rest (Ok ((given_dimensions, fact_decimals c k), text_in (fact_value c k)))
+      → both pair (both pair d n) t ≡ unless rest (Ok all_given)
   unfolding rest_faults
   all_three d n t hd hn ht =
+      let both_given = unless (least (given_faults ++ decimals_faults c k)) (Ok (given_dimensions, fact_decimals c k)) in
       ap (λ x. both pair (both pair x n) t) hd
-      ∙ ap (λ x. both pair (both pair (unless (least (flat_map (dimension_faults c k) (names (levels c)))) (Ok given_dimensions)) x) t) hn
-      ∙ ap (λ x. both pair x t) (both_unless pair (flat_map (dimension_faults c k) (names (levels c))) (decimals_faults c k) given_dimensions (fact_decimals c k))
-      ∙ ap (λ x. both pair (unless (least (flat_map (dimension_faults c k) (names (levels c)) ++ decimals_faults c k)) (Ok (given_dimensions, fact_decimals c k))) x) (ht ∙ text_read-unless (fact_value c k))
-      ∙ both_unless pair (flat_map (dimension_faults c k) (names (levels c)) ++ decimals_faults c k) (faults_in (fact_value c k)) (given_dimensions, fact_decimals c k) (text_in (fact_value c k))
+      ∙ ap (λ x. both pair (both pair (unless (least given_faults) (Ok given_dimensions)) x) t) hn
+      ∙ ap (λ x. both pair x t) (both_unless pair given_faults (decimals_faults c k) given_dimensions (fact_decimals c k))
+      ∙ ap (λ x. both pair both_given x) (ht ∙ text_read-unless (fact_value c k))
+      ∙ both_unless pair (given_faults ++ decimals_faults c k) (faults_in (fact_value c k)) (given_dimensions, fact_decimals c k) (text_in (fact_value c k))
 
-  pub fact_fault : (f : CellFault) (r : Result Together CellFault) → r ≡ Err f → r ≡ unless rest (Ok ((given_dimensions, fact_decimals c k), text_in (fact_value c k))) → Err f ≡ unless rest (Ok (fact_of c))
-  fact_fault f r is e = ap (λ o. unless o (Ok (fact_of c))) (read_fault rest ((given_dimensions, fact_decimals c k), text_in (fact_value c k)) f (sym is ∙ e))
+  -- the same, from the steps by which a program reads them: the meaning of the cell, its reading and its suffix, what is stated, and the three
+  pub read_together : (v : Meaning) (r : Result ValueParts CellFault) (suffix : Option Accuracy) (s : Stated) (d : Result Dimensions CellFault)
+      (n : Result (Option ℤ) CellFault) (t : Result (Option (List ℕ)) CellFault) (two : Result (Dimensions × Option ℤ) CellFault) (whole : Result Together CellFault)
+      → v ≡ fact_meaning c → r ≡ value_given c.report k v → suffix ≡ accuracy_in r → s ≡ stated c
+      → d ≡ unless (least given_faults) (Ok given_dimensions) → n ≡ decimals_read k v suffix s → t ≡ text_read r
+      → two ≡ both pair d n → whole ≡ both pair two t → whole ≡ unless rest (Ok all_given)
+  read_together v r suffix s d n t two whole hv hr hsuffix hs hd hn ht htwo hwhole =
+      let reading : r ≡ fact_value c k = hr ∙ ap (value_given c.report k) hv in
+      let accuracy : suffix ≡ accuracy_in (fact_value c k) = hsuffix ∙ ap accuracy_in reading in
+      let decimals : n ≡ unless (least (decimals_faults c k)) (Ok (fact_decimals c k)) =
+      hn ∙ ap (λ x. decimals_read k x suffix s) hv ∙ ap (λ x. decimals_read k (fact_meaning c) x s) accuracy
+      ∙ ap (decimals_read k (fact_meaning c) (accuracy_in (fact_value c k))) hs in
+      hwhole ∙ ap (λ x. both pair x t) htwo ∙ all_three d n t hd decimals (ht ∙ ap text_read reading)
 
-  pub fact_whole : (id : List ℕ) (w : Together) (r : Result Together CellFault) → id ≡ id_of c
-      → r ≡ Ok w → r ≡ unless rest (Ok ((given_dimensions, fact_decimals c k), text_in (fact_value c k)))
+  pub fact_fault : (f : CellFault) (r : Result Together CellFault) → r ≡ Err f → r ≡ unless rest (Ok all_given) → Err f ≡ unless rest (Ok (fact_of c))
+  fact_fault f r is e = ap (λ o. unless o (Ok (fact_of c))) (read_fault rest all_given f (sym is ∙ e))
+
+  pub fact_whole : (id : List ℕ) (w : Together) (r : Result Together CellFault) → k ≡ concept_kind c → id ≡ id_of c
+      → r ≡ Ok w → r ≡ unless rest (Ok all_given)
       → Ok (record { id = id; value = w.1; decimals = w.0.1; dimensions = w.0.0 }) ≡ unless rest (Ok (fact_of c))
-  fact_whole id w r a is e =
-      let all : Together = ((given_dimensions, fact_decimals c k), text_in (fact_value c k)) in
-      let none : None ≡ rest = read_none rest all w (sym is ∙ e) in
-      let parts : w ≡ all = read_value rest all w (sym is ∙ e) in
-      ap Ok (fact_parts c k id w.1 w.0.1 w.0.0 same a (ap (λ (x : Together). x.1) parts) (ap (λ (x : Together). x.0.1) parts) (ap (λ (x : Together). x.0.0) parts))
-      ∙ ap (λ o. unless o (Ok (fact_of c))) none
+  fact_whole id w r same a is e =
+      let none : None ≡ rest = read_none rest all_given w (sym is ∙ e) in
+      let parts : w ≡ all_given = read_value rest all_given w (sym is ∙ e) in
+      let value = ap (λ (x : Together). x.1) parts in
+      let decimals = ap (λ (x : Together). x.0.1) parts in
+      let dimensions = ap (λ (x : Together). x.0.0) parts in
+      ap Ok (fact_parts c k id w.1 w.0.1 w.0.0 same a value decimals dimensions) ∙ ap (λ o. unless o (Ok (fact_of c))) none

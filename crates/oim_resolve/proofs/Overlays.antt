@@ -23,7 +23,8 @@ use Rattle.oim_resolve.specs.Cell.{Cell, column, meaning_at}
 use Rattle.oim_resolve.specs.ProgramLevels.{named, merged_at, merged_levels, written_names, put_levels}
 use Rattle.oim_resolve.specs.ProgramDimensions.{row_entries, written_entries}
 use Rattle.oim_resolve.specs.Order.{IsAscending}
-use Rattle.oim_resolve.specs.ProgramPlan.{Entry, Keyed, entry_in, planned_levels, planned_column, planned_level, put_entry, put_entries, keep, over, with_named, group_in, seen_planned, seen_keyed, seen_flagged, seen_group}
+use Rattle.oim_resolve.specs.ProgramPlan.{Entry, Keyed, entry_in, group_in, planned_levels, planned_column, planned_level}
+use Rattle.oim_resolve.specs.ProgramPlan.{put_entry, put_entries, keep, over, with_named, seen_planned, seen_keyed, seen_flagged, seen_group}
 use Rattle.oim_resolve.specs.declared.plan.dimension.PlannedDimension.{PlannedDimension}
 use Rattle.oim_resolve.specs.declared.plan.group.PlannedGroup.{PlannedGroup}
 use Rattle.oim_resolve.specs.Rows.{planned_named, planned_groups, row_map}
@@ -172,7 +173,8 @@ keys-mapped H [] = refl
 keys-mapped H (e ∷ es) = ap (λ ks. e.0 ∷ ks) (keys-mapped H es)
 
 -- a list in order is what its names look up
-skip_first : {V : Type 0} (k : List ℕ × V) (es : List (List ℕ × V)) (ns : List (List ℕ)) → Precedes k.0 ns → flat_map (λ n. named n (value_at n (k ∷ es))) ns ≡ flat_map (λ n. named n (value_at n es)) ns
+skip_first : {V : Type 0} (k : List ℕ × V) (es : List (List ℕ × V)) (ns : List (List ℕ)) → Precedes k.0 ns
+    → flat_map (λ n. named n (value_at n (k ∷ es))) ns ≡ flat_map (λ n. named n (value_at n es)) ns
 skip_first k es [] h = refl
 skip_first k es (n ∷ ns) h =
     ap (λ b. named n (cond b (Some k.1) (value_at n es)) ++ flat_map (λ n. named n (value_at n (k ∷ es))) ns) (apart k.0 n h.0)
@@ -341,7 +343,8 @@ seen_entries (p ∷ ps) = ap (λ es. seen_planned p ∷ es) (seen_entries ps)
 pub group_found : (r : ReportValue) (t : ℕ) (n : List ℕ) (gs : List (List ℕ × Level)) → value_at n (map (group_in r t) gs) ≡ option_map (λ l. (l, planned_level r t l)) (value_at n gs)
 group_found r t n gs = value_at-mapped (λ n l. (l, planned_level r t l)) n gs
 
-one_named : (c : Cell) (o : Option Level) → map (λ (g : Level × List Keyed). g.1) (option_to_list (option_map (λ l. (l, planned_level c.report c.table l)) o)) ≡ map (planned_level c.report c.table) (option_to_list o)
+one_named : (c : Cell) (o : Option Level)
+    → map (λ (g : Level × List Keyed). g.1) (option_to_list (option_map (λ l. (l, planned_level c.report c.table l)) o)) ≡ map (planned_level c.report c.table) (option_to_list o)
 one_named c None = refl
 one_named c (Some l) = refl
 
@@ -390,7 +393,7 @@ lookup_over c n is l K e =
     let ascends = subst (λ ks. IsAscending (keys ks)) (sym same) (ascending-groups r t gs start (start_ascends r t r.level (template_of r t).level (column c).level gs)) in
     value_at-fold n (planned_level r t l) K (subst AllOwn (sym (planned_level-is r t l)) (all_own r t l.dimensions)) ascends
 
--- where the row names no group
+-- what a column writes, where the row names no group
 pub column_is : (c : Cell) → named_groups c ≡ [] → map (λ k. k.1.0) (planned_column c.report c.table c.column) ≡ row_entries c
 unfolding row_entries planned_column
 column_is c h =
@@ -406,7 +409,8 @@ nothing_named c h = by (column c).from h
     by (i ∷ is) e = absurd (omega (arith, e))
 
 -- the level of the group that a cell names
-pub level_named : (o : Option (Bor PlannedGroup)) (p : Option Level) (F : Level → List Keyed) → option_map (λ g. (seen_group g.now).1) o ≡ option_map (λ l. (l, F l)) p → option_map (λ g. g.now.level.now) o ≡ p
+pub level_named : (o : Option (Bor PlannedGroup)) (p : Option Level) (F : Level → List Keyed)
+    → option_map (λ g. (seen_group g.now).1) o ≡ option_map (λ l. (l, F l)) p → option_map (λ g. g.now.level.now) o ≡ p
 level_named o p F e = firsts o ∙ ap (option_map (λ x. x.0)) e ∙ back p
   where
     firsts : (o : Option (Bor PlannedGroup)) → option_map (λ g. g.now.level.now) o ≡ option_map (λ (x : Level × List Keyed). x.0) (option_map (λ g. (seen_group g.now).1) o)
@@ -422,21 +426,35 @@ without_flag None = refl
 without_flag (Some p) = refl
 
 -- a look-up with the groups of one row cell more
-pub lookup_more : (c : Cell) (n : List ℕ) (is : List ℕ) (k d : ℕ) (o : Option (Entry × Bool)) → k < length is
-    → o ≡ value_at n (fold put_entries (planned_column c.report c.table c.column) (planned_groups c (take k is)))
-    → with_named n o (planned_named c (get_or is k d)) ≡ value_at n (fold put_entries (planned_column c.report c.table c.column) (planned_groups c (take (k + 1) is)))
-lookup_more c n is k d o h e =
-    let start = planned_column c.report c.table c.column in
-    let before = planned_groups c (take k is) in
-    let more : planned_groups c (take (k + 1) is) ≡ before ++ map (λ (g : Level × List Keyed). g.1) (option_to_list (planned_named c (get_or is k d))) =
-    ap (planned_groups c) (take_more is k d h)
-    ∙ ap (map (λ (g : Level × List Keyed). g.1)) (flat_map-append (λ i. option_to_list (planned_named c i)) (take k is) (get_or is k d ∷ []) ∙ ap (λ xs. flat_map (λ i. option_to_list (planned_named c i)) (take k is) ++ xs) (append-nil (option_to_list (planned_named c (get_or is k d)))))
-    ∙ map-append (λ (g : Level × List Keyed). g.1) (flat_map (λ i. option_to_list (planned_named c i)) (take k is)) (option_to_list (planned_named c (get_or is k d))) in
-    by (group_named (column_of c.report c.table (get_or is k d)) (meaning_at c (get_or is k d)))
-    ∙ ap (value_at n) (sym (fold-append put_entries start before (map (λ (g : Level × List Keyed). g.1) (option_to_list (planned_named c (get_or is k d))))))
-    ∙ ap (λ gs. value_at n (fold put_entries start gs)) (sym more)
-  where
-    by : (l : Option Level) → with_named n o (option_map (λ l. (l, planned_level c.report c.table l)) l)
-        ≡ value_at n (fold put_entries (fold put_entries (planned_column c.report c.table c.column) (planned_groups c (take k is))) (map (λ (g : Level × List Keyed). g.1) (option_to_list (option_map (λ l. (l, planned_level c.report c.table l)) l))))
-    by None = e
-    by (Some l) = ap (λ p. over p (value_at n (planned_level c.report c.table l))) e ∙ sym (lookup_over c n (take k is) l (fold put_entries (planned_column c.report c.table c.column) (planned_groups c (take k is))) refl)
+module _ (c : Cell) (n : List ℕ) (is : List ℕ) (k d : ℕ) where
+  abbrev entries_of : List (Level × List Keyed) → List (List Keyed)
+  entries_of gs = map (λ g. g.1) gs
+
+  abbrev named_in : List ℕ → List (Level × List Keyed)
+  named_in js = flat_map (λ i. option_to_list (planned_named c i)) js
+
+  -- the column with the groups of the first row cells, and the group that the next one names
+  abbrev so_far : List Keyed
+  so_far = fold put_entries (planned_column c.report c.table c.column) (planned_groups c (take k is))
+
+  abbrev next : Option (Level × List Keyed)
+  next = planned_named c (get_or is k d)
+
+  groups_more : k < length is → planned_groups c (take (k + 1) is) ≡ planned_groups c (take k is) ++ entries_of (option_to_list next)
+  groups_more h =
+      let named = flat_map-append (λ i. option_to_list (planned_named c i)) (take k is) (get_or is k d ∷ [])
+      ∙ ap (λ xs. named_in (take k is) ++ xs) (append-nil (option_to_list next)) in
+      ap (planned_groups c) (take_more is k d h) ∙ ap entries_of named ∙ map-append (λ (g : Level × List Keyed). g.1) (named_in (take k is)) (option_to_list next)
+
+  with_next : (o : Option (Entry × Bool)) (l : Option Level) → o ≡ value_at n so_far
+      → with_named n o (option_map (λ l. (l, planned_level c.report c.table l)) l)
+      ≡ value_at n (fold put_entries so_far (entries_of (option_to_list (option_map (λ l. (l, planned_level c.report c.table l)) l))))
+  with_next o None e = e
+  with_next o (Some l) e = ap (λ p. over p (value_at n (planned_level c.report c.table l))) e ∙ sym (lookup_over c n (take k is) l so_far refl)
+
+  pub lookup_more : (o : Option (Entry × Bool)) → k < length is → o ≡ value_at n so_far
+      → with_named n o next ≡ value_at n (fold put_entries (planned_column c.report c.table c.column) (planned_groups c (take (k + 1) is)))
+  lookup_more o h e =
+      with_next o (group_named (column_of c.report c.table (get_or is k d)) (meaning_at c (get_or is k d))) e
+      ∙ ap (value_at n) (sym (fold-append put_entries (planned_column c.report c.table c.column) (planned_groups c (take k is)) (entries_of (option_to_list next))))
+      ∙ ap (λ gs. value_at n (fold put_entries (planned_column c.report c.table c.column) gs)) (sym (groups_more h))

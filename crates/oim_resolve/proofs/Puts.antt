@@ -6,7 +6,7 @@ use Rattle.std.specs.Ordering.{match_ordering, nat_cmp}
 use Rattle.std.specs.Cmp.Lexicographic.{slice_cmp}
 use Rattle.std.specs.declared.cmp.Ordering.{Ordering}
 use Rattle.std.specs.declared.cmp.Ordering.TheVariants.{Less, Equal, Greater}
-use Rattle.std.proofs.lemmas.List.{take_more, take_all, at_drop_more, at_drop_all, take-append-drop, map-append, take-map, drop-map, get_or-map, length-map, take-set, length-set, drop-set-lt}
+use Rattle.std.proofs.lemmas.List.{take_more, at_drop_more, take-append-drop, map-append, take-map, drop-map, get_or-map, length-map, take-set, length-set, drop-set-lt}
 use Rattle.std.proofs.lemmas.Grind.{get_or-set_at}
 use Rattle.oim_resolve.specs.declared.plan.dimension.PlannedDimension.{PlannedDimension}
 use Rattle.oim_resolve.specs.ProgramCell.{held}
@@ -35,11 +35,9 @@ put_entry_less : (ks : List Keyed) (i : ℕ) (e d : Keyed) → i < length ks →
 put_entry_less ks i e d h q p =
     p ∙ ap (λ xs. take i ks ++ xs) (put_entry-at ks i e d Less h q ∙ ap (λ xs. e ∷ xs) (sym (at_drop_more (λ xs. xs) ks i d h)))
 
-put_entry_equal : (ks : List Keyed) (i : ℕ) (e d : Keyed) → i < length ks → slice_cmp nat_cmp e.0 (get_or ks i d).0 ≡ Equal → PutsEntryFrom ks i e → put_entry ks e ≡ take i ks ++ settled (get_or ks i d) e ∷ drop (i + 1) ks
+put_entry_equal : (ks : List Keyed) (i : ℕ) (e d : Keyed) → i < length ks → slice_cmp nat_cmp e.0 (get_or ks i d).0 ≡ Equal → PutsEntryFrom ks i e
+    → put_entry ks e ≡ take i ks ++ settled (get_or ks i d) e ∷ drop (i + 1) ks
 put_entry_equal ks i e d h q p = p ∙ ap (λ xs. take i ks ++ xs) (put_entry-at ks i e d Equal h q)
-
-put_entry_last : (ks : List Keyed) (i : ℕ) (e : Keyed) → i ≡ length ks → PutsEntryFrom ks i e → put_entry ks e ≡ ks ++ e ∷ []
-put_entry_last ks i e h p = p ∙ ap (λ xs. take i ks ++ xs) (at_drop_all (λ xs. put_entry xs e) ks i (omega arith)) ∙ ap (λ xs. xs ++ e ∷ []) (take_all i ks (omega arith))
 
 -- the same of a list of references
 abbrev seen : List (Bor PlannedDimension) → List Keyed
@@ -90,12 +88,6 @@ module _ (ks : List (Bor PlannedDimension)) (i : ℕ) (n k : Bor PlannedDimensio
 
   pub entry_more : slice_cmp nat_cmp n.now.name k.now.name ≡ Greater → PutsEntryFrom (seen ks) (i + 1) (lent n)
   entry_more e = subst (λ xs. PutsEntryFrom xs (i + 1) (lent n)) (sym (seen-is ks)) (put_entry_more (map lent ks) i (lent n) (lent k) in_range (ordered Greater e) from)
-
-pub entry_last : (ks : List (Bor PlannedDimension)) (i : ℕ) (n : Bor PlannedDimension) → i ≡ length ks → PutsEntryFrom (seen ks) i (lent n) → seen (ks ++ n ∷ []) ≡ put_entry (seen ks) (lent n)
-entry_last ks i n h p =
-    seen-is (ks ++ n ∷ []) ∙ map-append lent ks (n ∷ [])
-    ∙ sym (put_entry_last (map lent ks) i (lent n) (rw (length-map ks lent) h) (subst (λ xs. PutsEntryFrom xs i (lent n)) (seen-is ks) p))
-    ∙ ap (λ xs. put_entry xs (lent n)) (sym (seen-is ks))
 
 pub set_split : {X : Type 0} (xs : List X) (i : ℕ) (y : X) → i < length xs → set xs i y ≡ take i xs ++ y ∷ drop (i + 1) xs
 set_split xs i y h =

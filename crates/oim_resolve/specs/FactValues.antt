@@ -14,12 +14,12 @@ use Rattle.oim_meta.specs.ReportValue.{ReportValue}
 use Rattle.oim_resolve.specs.declared.fact.CellFault.{CellFault}
 use Rattle.oim_resolve.specs.declared.fact.CellFault.TheVariants.{BadNumber, BadFactValue}
 
--- what a cell gives its fact: the value's text, none for nil, and how exact the cell itself says that the value is
+-- what a cell gives its fact: the value's text, none for nil, and the accuracy that its suffix states
 pub record ValueParts : Type 0 where
   pub text : Option (List ℕ)
   pub accuracy : Option Accuracy
 
--- a text that says nothing of its accuracy
+-- a text without a suffix
 abbrev pub plain : List ℕ → ValueParts
 plain t = record { text = Some t; accuracy = None }
 
@@ -55,7 +55,7 @@ value_given r k m.Empty = text_given r k []
 value_given r k (m.Text t) = text_given r k t
 value_given r k m.Unknown = Ok no_text
 
--- the parts of a reading: the set with its fault, the text, the accuracy
+-- the parts of a reading: the set of its fault, the text, the accuracy
 abbrev pub faults_in : Result ValueParts CellFault → List CellFault
 faults_in (Ok v) = []
 faults_in (Err f) = f ∷ []

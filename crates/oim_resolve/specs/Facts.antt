@@ -23,7 +23,7 @@ use Rattle.oim_meta.specs.ReportValue.{ReportValue}
 use Rattle.oim_meta.specs.declared.data.WrittenDecimals.{WrittenDecimals}
 use Rattle.oim_meta.specs.declared.data.Side.{Side}
 use Rattle.oim_meta.specs.declared.data.Side.TheVariants as side
-use Rattle.oim_resolve.specs.declared.fact.Fact.{Fact}
+use Rattle.oim_resolve.specs.FactParts.{FactParts as Fact}
 use Rattle.oim_resolve.specs.declared.fact.CellFault.{CellFault}
 use Rattle.oim_resolve.specs.declared.fact.CellFault.TheVariants.{UnknownSpecial, UnknownGroup, NoConcept, UnknownName, BadReference, BadValue, BadPeriod, NotDuration, BadDecimals}
 use Rattle.oim_resolve.specs.declared.role.Role.{Role}
@@ -62,7 +62,7 @@ fact_meaning c = meaning_at c c.column
 
 -- STEP 1
 
--- a group cell says something, and names no group of its column
+-- the row's cell at a place says something, and names no group of its column
 abbrev pub names_no_group : Cell → ℕ → Bool
 names_no_group c i =
     is_nil_or_empty (meaning_at c i)
@@ -192,7 +192,7 @@ has_form r role.Concept t = true
 has_form r role.Period t = true
 has_form r role.Typed t = true
 
--- the side of a period: nothing where a side is asked of an instant
+-- the side of a period: nothing where the start or the end of an instant is asked for
 abbrev pub sided : Side → Reading → Option Reading
 sided side.Whole p = Some p
 sided side.Start p = start_of p
@@ -282,7 +282,7 @@ rest_faults c k = flat_map (dimension_faults c k) (names (levels c)) ++ decimals
 
 -- THE FACT
 
--- an accuracy of some places
+-- the decimal places of an accuracy that is finite
 abbrev pub places : Accuracy → Option ℤ
 places (Places n) = Some n
 places Infinite = None

@@ -2,7 +2,8 @@
 use Rattle.std.specs.Prelude.{ℕ, codes, List, [], ◌∷◌, Bool, true, false, Option, Some, None, Result, Ok, Err, nat_le, if◌then◌else◌}
 use Rattle.std.specs.Option.{option_map_or}
 use Rattle.oim_resolve.specs.declared.fact.CellFault.{CellFault}
-use Rattle.oim_resolve.specs.declared.fact.CellFault.TheVariants.{UnknownSpecial, UnknownGroup, NoConcept, UnknownName, BadReference, BadValue, BadPeriod, NotDuration, BadDecimals, BadNumber, Memory, BadFactValue}
+use Rattle.oim_resolve.specs.declared.fact.CellFault.TheVariants.{UnknownSpecial, UnknownGroup, NoConcept, UnknownName, BadReference, BadValue}
+use Rattle.oim_resolve.specs.declared.fact.CellFault.TheVariants.{BadPeriod, NotDuration, BadDecimals, BadNumber, Memory, BadFactValue}
 
 abbrev pub number_of : CellFault → ℕ
 number_of UnknownSpecial = 31

@@ -1,6 +1,7 @@
 pub mod Cell
 pub mod Written
 pub mod Values
+pub mod FactParts
 pub mod Faults
 pub mod FactValues
 pub mod Facts

@@ -1,4 +1,4 @@
--- The levels of a column that no row changes, merged beforehand. (xBRL-CSV 1.0, dimensions: column over template over report)
+-- The levels of a column that are the same for all rows, merged beforehand. (xBRL-CSV 1.0, dimensions: column over template over report)
 use Rattle.std.specs.Prelude.{ℕ, List, [], ◌∷◌, map, Bool, true, false, Option, Some, None}
 use Rattle.std.specs.List.{flat_map, fold}
 use Rattle.std.specs.Option.{option_map, option_or}

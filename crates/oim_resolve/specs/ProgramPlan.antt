@@ -1,4 +1,4 @@
--- A plan as the program holds it: what it keeps of a written dimension, all that no row changes. (xBRL-CSV 1.0, dimensions and property groups)
+-- A plan as the program holds it: of a written dimension, what is the same for all rows. (xBRL-CSV 1.0, dimensions and property groups)
 use Rattle.std.specs.Prelude.{◌≡◌, ◌<◌, ℕ, List, [], ◌∷◌, map, Bool, true, Option, Some, None, length, slice_index_or, if◌then◌else◌}
 use Rattle.std.specs.Borrow.{Bor}
 use Rattle.std.specs.List.{fold, position}

@@ -1,11 +1,15 @@
 //! What a cell is read from and what it gives: a row of a table, a fact or a fault.
 
-ghost use Rattle.std.specs.Prelude.{◌≡◌};
+ghost use Rattle.std.specs.Prelude.{◌≡◌, map};
+ghost use Rattle.std.specs.Option.{option_map};
 ghost use Rattle.oim_resolve.specs.Faults.{number_of, name_of};
+ghost use Rattle.oim_resolve.specs.Order.{IsAscending};
 ghost use Rattle.oim_resolve.specs.declared.fact.CellFault.TheVariants.{Memory};
 
 use oim_names::{Items, Text};
 use std::alloc::AllocError;
+use std::marker::Model;
+use thiserror::Error;
 
 /// A row of a table: its number, from 1, its identifier, and a cell for each column of the
 /// template, in the template's order, the empty text where the file omits the column.
@@ -25,41 +29,119 @@ impl Row {
     }
 }
 
-/// A fact. A value of None is nil. The dimensions stand in byte order of name, and no name twice.
+/// A fact. The names of its dimensions stand in byte order, and none stands twice. A contract sees
+/// its parts.
 #[derive(Drop)]
 pub struct Fact {
-    pub id: Text,
-    pub value: Option<Text>,
-    pub decimals: Option<i32>,
-    pub dimensions: Items<(Text, Option<Text>)>,
+    id: Text,
+    value: Option<Text>,
+    decimals: Option<i32>,
+    dimensions: Items<(Text, Option<Text>)>,
+}
+
+impl Model for Fact {
+    ghost use Rattle.std.specs.Prelude.{map};
+    ghost use Rattle.oim_resolve.specs.FactParts.{FactParts};
+
+    ghost Value = { FactParts };
+
+    ghost use Rattle.oim_resolve.specs.Order.{IsAscending};
+
+    ghost view = { λ f. record { id = f.id; value = f.value; decimals = f.decimals; dimensions = f.dimensions } };
+
+    ghost invariant = { λ f. IsAscending (map (λ d. d.0) f.dimensions) };
+}
+
+impl Fact {
+    /// A fact of these parts, whose dimensions stand in byte order of name, no name twice. It takes no
+    /// memory.
+    pub fn new(
+        id: Text,
+        value: Option<Text>,
+        decimals: Option<i32>,
+        dimensions: Items<(Text, Option<Text>)>,
+    ) -> Fact
+        requires { IsAscending (map (λ d. d.0) dimensions) }
+        ensures { result ≡ record { id = id; value = value; decimals = decimals; dimensions = dimensions } }
+    {
+        Fact {
+            id,
+            value,
+            decimals,
+            dimensions,
+        }
+    }
+
+    /// The identifier.
+    pub fn id(&self) -> &str
+        ensures { result.now ≡ (self.now).id }
+    {
+        self.id.as_str()
+    }
+
+    /// The text of the value, or None for nil.
+    pub fn value(&self) -> Option<&Text>
+        ensures { option_map (λ t. t.now) result ≡ (self.now).value }
+    {
+        self.value.as_ref()
+    }
+
+    /// How many decimal places are accurate, below 0 for places before the point. None says nothing, or
+    /// that the value is exact.
+    pub fn decimals(&self) -> Option<i32>
+        ensures { result ≡ (self.now).decimals }
+    {
+        self.decimals
+    }
+
+    /// The dimensions, each with its name, where a value of None is nil. They stand in byte order of
+    /// name, and no name stands twice.
+    pub fn dimensions(&self) -> &[(Text, Option<Text>)]
+        ensures dimensions { result.now ≡ (self.now).dimensions }
+        ensures order { IsAscending (map (λ d. d.0) result.now) }
+    {
+        self.dimensions.as_slice()
+    }
 }
 
 /// What is wrong with a cell (xBRL-CSV 1.0).
-#[derive(Clone, Copy, Debug, PartialEq, Eq)]
+#[derive(Clone, Copy, Debug, PartialEq, Eq, Error)]
 pub enum CellFault {
     /// A text that begins with a single `#` and is not a special value.
+    #[error("a text begins with # and is not a special value")]
     UnknownSpecial,
     /// A group cell that names no property group of its column.
+    #[error("a cell names no property group of its column")]
     UnknownGroup,
     /// No concept is given.
+    #[error("no concept is given")]
     NoConcept,
     /// The concept is not the name of a concept in the types table.
+    #[error("the types table has no concept of this name")]
     UnknownName,
     /// A dimension that is not typed is nil or empty.
+    #[error("a dimension that is not typed is nil or empty")]
     BadReference,
     /// An entity, a unit, a language or a member of an explicit dimension is not well-formed.
+    #[error("an entity, unit, language or explicit member is not well-formed")]
     BadValue,
     /// A period is not well-formed.
+    #[error("a period is not well-formed")]
     BadPeriod,
-    /// A side is asked of an instant.
+    /// The start or the end of an instant is asked for.
+    #[error("the start or end of an instant is asked for")]
     NotDuration,
     /// Decimals that are neither an integer nor `INF`.
+    #[error("decimals are neither an integer nor INF")]
     BadDecimals,
     /// The cell of a number is not a numeral.
+    #[error("the cell of a number is not a numeral")]
     BadNumber,
     /// Memory ran out.
+    #[error("memory ran out")]
     Memory,
-    /// The cell of a boolean, a date or a name is none.
+    /// The cell of a boolean, a date or a name is not well-formed.
+    #[error("the cell of a boolean, date or name is not well-formed")]
     BadFactValue,
 }
 

@@ -1,13 +1,13 @@
 //! One cell of a table to its fact (xBRL-CSV 1.0; Open Information Model 1.0).
 //!
 //! A cell gives exactly what `cell_result` of `specs/Facts.antt` says, apart from running out of
-//! memory: no fact where the cell says nothing, else the fault of the least number of the first step
-//! that has a fault, else the fact. `compile` makes the `Plan` of a table, with all read beforehand
-//! that no row changes: the merged map of each column, each property group, what each name stands
-//! for, what each literal gives or what is wrong with it, and which column and which parameter each
+//! memory: no fact if the cell says nothing, else the fault with the least number of the first step
+//! that has a fault, else the fact. `compile` makes the `Plan` of a table. It reads once what is the
+//! same for all rows: the merged map of each column, each property group, what each name stands for,
+//! what each literal gives or what is wrong with it, and which column and which parameter each
 //! reference names. `Plan::resolve` finds the fact of one cell; `resolve` does both for a single
-//! cell. A literal's fault is answered only by a cell that meets it. The dimensions of a fact stand in
-//! byte order of name, and its identifier is that of the table, the row and the column, with points
+//! cell. A literal's fault is answered only by a cell that meets it. The dimensions of a `Fact` stand
+//! in byte order of name. Its identifier is that of the table, the row and the column, with points
 //! between them.
 //!
 //! `read_value` reads one dimension and `read_concept` a concept, each from what a row gives, and

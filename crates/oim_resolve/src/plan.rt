@@ -48,8 +48,8 @@ impl<'a> Model for Plan<'a> {
     ghost invariant = { λ p. IsPlan p.report.now p.table p.columns.items };
 }
 
-/// The plan of the table at a place of the report, counted from 0. Fails where memory is short. No
-/// fault of a literal is answered here, but only by a cell that meets it. (xBRL-CSV 1.0, tables)
+/// The plan of the table at a place of the report, counted from 0. It fails only if memory runs out:
+/// the fault of a literal is answered by a cell that meets it. (xBRL-CSV 1.0, tables)
 pub fn compile(alloc: Global, report: &Report, table: usize) -> Result<Plan<'_>, AllocError>
     requires { table < length report.now.tables }
     ensures { IfOk result (λ p. (p.report ≡ report.now) × (p.table ≡ table)) }
@@ -83,8 +83,9 @@ fn resolve_planned<'a>(
 impl Plan<'_> {
     /// The fact of a cell of the plan's table, if it has one: the same answer as that of `resolve` for
     /// the plan's report and table, with the same faults. `column` is the place of a column of facts in
-    /// the table's template, from 0, and the row has a cell for each column of the template. What the
-    /// first two steps answer comes whatever memory there is. (xBRL-CSV 1.0, from cells to facts)
+    /// the table's template, from 0, and the row has a cell for each column of the template. The first
+    /// two steps take no memory, so their answer does not depend on it. (xBRL-CSV 1.0, from cells to
+    /// facts)
     pub fn resolve(
         &self,
         alloc: Global,
@@ -115,12 +116,12 @@ impl Plan<'_> {
 /// template, and the column holds facts. For many cells of a table, `compile` its plan once. (xBRL-CSV
 /// 1.0, from cells to facts)
 ///
-/// Where the cell says nothing (it is empty or `#none`) there is no fact. Else the answer is the
-/// fault of the least number of the first of three steps that has one: the cell and its group cells
+/// If the cell says nothing (it is empty or `#none`), there is no fact. Else the answer is the fault
+/// with the least number of the first of three steps that has one: the cell and its group cells
 /// (`UnknownSpecial`, `UnknownGroup`); the concept (`UnknownSpecial`, `NoConcept`, `UnknownName`,
 /// `BadReference`); and the other dimensions, the decimals and the value (`UnknownSpecial`,
 /// `BadReference`, `BadValue`, `BadPeriod`, `NotDuration`, `BadDecimals`, `BadNumber`, `BadFactValue`).
-/// `Memory` comes where memory is short.
+/// `Memory` comes if memory runs out.
 pub fn resolve(
     alloc: Global,
     report: &Report,

@@ -16,7 +16,7 @@ use oim_period::is_date;
 pub struct FactValue<'a> {
     /// The text of the value, or None for nil.
     pub text: Option<&'a str>,
-    /// How exact the cell itself says that its number is.
+    /// The accuracy that the suffix of a numeral states.
     pub accuracy: Option<Accuracy>,
 }
 
@@ -79,9 +79,9 @@ fn text_value<'a>(report: &Report, kind: Kind, text: &'a str) -> Result<FactValu
 /// What a cell of this meaning gives a fact whose concept has this kind. (xBRL-CSV 1.0, special values and
 /// the decimals suffix; XML Schema Part 2, second edition: the lexical forms of the kinds)
 ///
-/// A cell of a number gives its numeral and what the suffix behind it says; one of a boolean, a date or a
-/// name its text without the spaces, tabs, carriage returns and line feeds at both ends; any other its text
-/// as it is. `#empty` is read as the empty text, and nil gives no text. It takes no memory.
+/// The cell of a number gives its numeral and what the suffix behind it says; that of a boolean, a date or
+/// a name gives its text without the spaces, tabs, carriage returns and line feeds at both ends; any other
+/// gives its text as it is. `#empty` is read as the empty text, and nil gives no text. It takes no memory.
 ///
 /// - `BadNumber`: the text is not a numeral of the kind;
 /// - `BadFactValue`: the text is not a boolean, not a date (`yyyy-mm-dd`, without time zone), or not a QName

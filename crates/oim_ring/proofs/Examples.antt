@@ -1,7 +1,7 @@
 -- The definitions, executed on worked cases.
 use Rattle.std.specs.Prelude.{Ok}
 use Rattle.std.proofs.Common.{◌≡◌, ◌∷◌, [], ◌++◌, List, None, true, false, codes, arith, refl}
-use Rattle.oim_resolve.specs.declared.fact.Fact.{Fact}
+use Rattle.oim_resolve.specs.FactParts.{FactParts as Fact}
 use Rattle.oim_ring.specs.Closing.{Closes, RefusesClose}
 use Rattle.oim_ring.specs.Ends.{FeedView, Ring}
 use Rattle.oim_ring.specs.Items.{blocks_only, EndsOnce}
@@ -10,7 +10,7 @@ use Rattle.oim_ring.specs.declared.item.Ending as Endings
 use Rattle.oim_ring.specs.declared.item.Ending.TheVariants.{Closed, Refused}
 use Rattle.oim_ring.specs.declared.item.Item.{Item}
 use Rattle.oim_ring.specs.declared.item.Item.TheVariants.{Block, Ending}
-use Rattle.oim_ring.proofs.Whole.{once_ended}
+use Rattle.oim_ring.proofs.TakenWhole.{once_ended}
 use Rattle.oim_resolve.specs.declared.fact.CellFault.TheVariants.{BadNumber}
 use Rattle.oim_rows.specs.declared.fault.TableFault.{TableFault}
 use Rattle.oim_rows.specs.declared.fault.TableKind.TheVariants as kind
@@ -52,7 +52,7 @@ nothing_has_not_ended once = let e = once_ended [] once in cc
 blocks_have_not_ended : EndsOnce (block ∷ []) → ⊥
 blocks_have_not_ended once = let e = once_ended (block ∷ []) once in cc
 
--- what begins with an ending and goes on
+-- a list that goes on after an ending
 goes_on : (before : List Item) (last : Endings.Ending) → blocks_only before ≡ true → Ending Closed ∷ block ∷ [] ≡ before ++ Ending last ∷ [] → ⊥
 goes_on [] last only is = cc
 goes_on (Block facts ∷ more) last only is = cc
@@ -62,7 +62,7 @@ nothing_after_an_ending : EndsOnce (Ending Closed ∷ block ∷ []) → ⊥
 nothing_after_an_ending once = goes_on once.before once.ending once.only once.is
 
 module _ (ring : Ring) where
-  -- a feed with room for one item more
+  -- a feed with room for one more item
   abbrev with_room : FeedView
   with_room = record { ring = ring; size = 2; sent = block ∷ [] }
 

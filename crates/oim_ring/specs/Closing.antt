@@ -7,12 +7,12 @@ use Rattle.oim_ring.specs.declared.item.Item.TheVariants as items
 use Rattle.oim_ring.specs.declared.feed.CloseFault.{CloseFault}
 use Rattle.oim_ring.specs.declared.feed.CloseFault.TheVariants.{Full, Lost}
 
--- the feed and the ending come back unchanged, and not from a ring to which fewer items than its size were sent
+-- the feed and the ending come back unchanged, and only if at least as many items were sent as the ring's size
 abbrev pub RefusesClose : FeedView → Ending → CloseFault → Type 0
 RefusesClose feed ending (Full back again) = (back ≡ feed) × (again ≡ ending) × ¬ (length feed.sent < feed.size)
 RefusesClose feed ending Lost = Unit {0}
 
--- the token has all that was sent, the ending last and no other ending
+-- closing succeeds with a token of all that was sent, of which only the last item is an ending, or it is refused
 abbrev pub Closes : FeedView → Ending → Result ClosedView CloseFault → Type 0
 Closes feed ending result =
     MatchResult result

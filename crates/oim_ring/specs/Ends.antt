@@ -7,7 +7,7 @@ use Rattle.rtrb.specs.declared.consumer.Consumer.{Consumer}
 use Rattle.rtrb.specs.declared.finished.Finished.{Finished}
 use Rattle.oim_ring.specs.declared.item.Item.{Item}
 
--- which ring it is
+-- the identity of a ring
 abbrev pub Ring : Type 0
 Ring = Ptr × Ptr × Names
 

@@ -10,7 +10,7 @@ blocks_only [] = true
 blocks_only (Block facts ∷ items) = blocks_only items
 blocks_only (Ending ending ∷ items) = false
 
--- the last item is an ending, and no other
+-- the last item is an ending, and no other item is
 pub record EndsOnce (items : List Item) : Type 0 where
   pub before : List Item
   pub ending : Endings.Ending

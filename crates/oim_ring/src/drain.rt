@@ -1,24 +1,25 @@
-//! The end of a ring that takes.
+//! The receiving end of a ring.
 
 ghost use Rattle.std.specs.Prelude.{◌≡◌, false, [], ◌∷◌, ◌++◌, IfSome, IfNone};
 ghost use Rattle.rtrb.specs.Ring.{received};
 ghost use Rattle.oim_ring.specs.Ends.{taker_ring};
 ghost use Rattle.oim_ring.specs.Items.{blocks_only};
 
-use crate::backlog::Place;
-use crate::feed::Closed;
+use crate::backlog::BacklogHandle;
+use crate::feed::ClosedFeed;
 use crate::item::Item;
-use crate::waiting::Waiting;
+use crate::waiting::DrainWaiting;
+use oim_json::Block;
 use rtrb::Consumer;
 use std::marker::Model;
 use std::sync::Wait;
 
-/// The end that takes. Contracts see its ring and the items taken.
+/// The receiving end of a ring. Contracts see its ring and the items taken so far.
 #[derive(Drop)]
 pub struct Drain {
     consumer: Consumer<Item>,
-    waiting: Waiting,
-    place: Place,
+    waiting: DrainWaiting,
+    backlog: BacklogHandle,
 }
 
 impl Model for Drain {
@@ -30,7 +31,7 @@ impl Model for Drain {
     ghost view = { λ d. record { ring = taker_ring d.consumer; taken = received d.consumer } };
 }
 
-/// A drain from which all was taken that was ever sent. Contracts see it as that list.
+/// A drain that has taken everything that was sent. Contracts see it as the list of those items.
 #[derive(Drop)]
 pub struct Drained {
     consumer: Consumer<Item>,
@@ -47,51 +48,62 @@ impl Model for Drained {
 }
 
 impl Drain {
-    pub(crate) fn new(consumer: Consumer<Item>, waiting: Waiting, place: Place) -> Drain
+    pub(crate) fn new(
+        consumer: Consumer<Item>,
+        waiting: DrainWaiting,
+        backlog: BacklogHandle,
+    ) -> Drain
         ensures { (result.ring ≡ taker_ring consumer) × (result.taken ≡ received consumer) }
     {
         Drain {
             consumer,
             waiting,
-            place,
+            backlog,
         }
     }
 
-    /// Takes the next item. None where nothing was found, and then nothing changed. It takes no memory
-    /// and does not wait.
+    /// Takes the next item, or gives `None` if it found none, and then nothing changed. It allocates no
+    /// memory and does not wait.
     pub fn take(&mut self) -> Option<Item>
         ensures ring { self.new.ring ≡ self.old.ring }
         ensures some { IfSome result (λ item. self.new.taken ≡ self.old.taken ++ item ∷ []) }
         ensures none { IfNone result (self.new.taken ≡ self.old.taken) }
     {
-        self.place.take_turn();
+        self.backlog.take_turn();
         let item = self.consumer.pop().ok()?;
         if let Item::Block(_) = item {
-            self.place.less();
+            self.backlog.less();
         }
         self.waiting.wake();
         Some(item)
     }
 
-    /// Waits until the feed sends an item, and not at all if it sent one since this drain last waited.
-    /// To be called where nothing was found. What was taken stays as it is.
+    /// Waits until the feed wakes this drain, which it does after each few items, when the ring is full
+    /// and at the close, or until some milliseconds have passed. So it may return although nothing was
+    /// sent. Call it when `take` found nothing. The items taken stay the same.
     pub fn wait<R: Wait>(&self, rt: &R) {
         self.waiting.wait(rt);
     }
 
-    /// Shows that what was taken is all that was sent, once the ending was taken. The token is that
-    /// of the ring's own feed. It takes no memory and does not wait.
-    pub fn settle(self, closed: Closed) -> Drained
+    /// Gives the vector of a block's texts back for blocks that are sent later, if few enough are waiting
+    /// to be used. The items taken stay the same.
+    pub fn give_back<R: Wait>(&self, rt: &R, block: Block) {
+        self.backlog.keep_room(rt, block.into_room());
+    }
+
+    /// Shows that the items taken are all the items sent, once the ending was taken. The token must come
+    /// from the feed of the same ring. It allocates no memory and does not wait.
+    pub fn settle(self, closed: ClosedFeed) -> Drained
         requires one_ring { closed.ring ≡ self.ring }
         requires ended { blocks_only self.taken ≡ false }
         ensures sent { result ≡ closed.sent }
         ensures taken { result ≡ self.taken }
     {
-        let Closed { mut finished } = closed;
+        let ClosedFeed { mut finished } = closed;
         let Drain {
             mut consumer,
             waiting: _,
-            place: _,
+            backlog: _,
         } = self;
         consumer.slots_after(&mut finished);
         Drained { consumer }

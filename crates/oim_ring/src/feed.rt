@@ -1,4 +1,4 @@
-//! The end of a ring that sends.
+//! The sending end of a ring.
 
 ghost use Rattle.std.specs.Prelude.{◌≡◌, ◌<◌, [], ◌∷◌, ◌++◌, true, length, IsOk, OnOk, IfErr};
 ghost use Rattle.rtrb.specs.Ring.{sent, producer_capacity};
@@ -8,21 +8,22 @@ ghost use Rattle.oim_ring.specs.FaultNames.{name_of, number_of};
 ghost use Rattle.oim_ring.specs.Items.{blocks_only};
 ghost use Rattle.oim_ring.specs.declared.item.Item.TheVariants as items;
 
-use crate::backlog::Place;
+use crate::backlog::BacklogHandle;
 use crate::item::{Ending, Item};
-use crate::waiting::Waiting;
+use crate::waiting::FeedWaiting;
 use oim_json::Block;
 use rtrb::{Finished, Producer, PushError};
+use std::alloc::Global;
 use std::marker::Model;
 use std::sync::Wait;
 
-/// The end that sends. Contracts see its ring, its size and the items sent, of which none is an
-/// ending.
+/// The sending end of a ring. Contracts see its ring, its size and the items sent so far, none of
+/// which is an ending.
 #[derive(Drop)]
 pub struct Feed {
     producer: Producer<Item>,
-    waiting: Waiting,
-    place: Place,
+    waiting: FeedWaiting,
+    backlog: BacklogHandle,
 }
 
 impl Model for Feed {
@@ -38,14 +39,14 @@ impl Model for Feed {
     ghost invariant = { λ f. blocks_only (sent f.producer) ≡ true };
 }
 
-/// What is left of a feed that was closed. Contracts see its ring and all that was sent, of which the
-/// last item is an ending and no other.
+/// The token of a feed that was closed. Contracts see its ring and all items sent, of which only the
+/// last is an ending.
 #[derive(Drop)]
-pub struct Closed {
+pub struct ClosedFeed {
     pub(crate) finished: Finished<Item>,
 }
 
-impl Model for Closed {
+impl Model for ClosedFeed {
     ghost use Rattle.rtrb.specs.Ring.{all_sent};
     ghost use Rattle.oim_ring.specs.Items.{EndsOnce};
     ghost use Rattle.oim_ring.specs.Ends.{ClosedView, finished_ring};
@@ -60,9 +61,9 @@ impl Model for Closed {
 /// Why a feed was not closed.
 #[derive(Drop)]
 pub enum CloseFault {
-    /// 65: the ring is full. The feed and the ending, unchanged.
+    /// 65: the ring is full. The feed and the ending come back unchanged.
     Full(Feed, Ending),
-    /// 66: the ending was sent, and there is no token of the finished feed.
+    /// 66: the ending was sent, but there is no token of the finished feed.
     Lost,
 }
 
@@ -77,7 +78,7 @@ impl CloseFault {
         }
     }
 
-    /// The fault's name.
+    /// The fault's name, spelled as in the code.
     pub fn name(&self) -> &'static str
         ensures { result.now ≡ name_of self.now }
     {
@@ -89,19 +90,24 @@ impl CloseFault {
 }
 
 impl Feed {
-    pub(crate) fn new(producer: Producer<Item>, waiting: Waiting, place: Place) -> Feed
+    pub(crate) fn new(
+        producer: Producer<Item>,
+        waiting: FeedWaiting,
+        backlog: BacklogHandle,
+    ) -> Feed
         requires { sent producer ≡ [] }
         ensures { (result.ring ≡ sender_ring producer) × (result.size ≡ producer_capacity producer) × (result.sent ≡ []) }
     {
         Feed {
             producer,
             waiting,
-            place,
+            backlog,
         }
     }
 
-    /// Sends a block. Err: the ring is full; the block comes back unchanged, and nothing changed. While
-    /// fewer items were sent than the ring's size it is not full. It takes no memory and does not wait.
+    /// Sends a block. If the ring is full, the error gives the block back, and nothing changed. The ring
+    /// is not full while fewer items were sent than its size. It allocates no memory and does not wait.
+    #[tactic(auto, using(crate::proofs::TakenWhole::blocks_more))]
     pub fn put(&mut self, block: Block) -> Result<(), Block>
         ensures ring { (self.new.ring ≡ self.old.ring) × (self.new.size ≡ self.old.size) }
         ensures ok { OnOk result (self.new.sent ≡ self.old.sent ++ items.Block block ∷ []) }
@@ -109,38 +115,41 @@ impl Feed {
         ensures room { length self.old.sent < self.old.size → IsOk result }
         ensures open { blocks_only self.new.sent ≡ true }
     {
-        self.place.more();
+        self.backlog.more();
         match self.producer.push(Item::Block(block)) {
             Ok(()) => {
-                self.waiting.wake();
+                self.waiting.tell();
                 Ok(())
             }
             Err(PushError::Full(Item::Block(block))) => {
-                self.place.less();
+                self.backlog.less();
+                self.waiting.wake();
                 Err(block)
             }
             Err(PushError::Full(Item::Ending(_))) => unreachable!(),
         }
     }
 
-    /// Sends the ending, and gives the token of the finished feed. Full: the ring is full, which it
-    /// is not while fewer items were sent than its size, and nothing changed. Lost: the ending was
-    /// sent, and there is no token. It takes no memory and does not wait.
-    pub fn close(self, ending: Ending) -> Result<Closed, CloseFault>
+    /// Sends the ending and gives the token of the finished feed. Fails with `Full`, which gives the feed
+    /// and the ending back unchanged, if the ring is full; it is not while fewer items were sent than its
+    /// size. Fails with `Lost` if the ending was sent but there is no token. It allocates no memory and
+    /// does not wait.
+    pub fn close(self, ending: Ending) -> Result<ClosedFeed, CloseFault>
         ensures { Closes self ending result }
     {
         let Feed {
             mut producer,
-            waiting,
-            place,
+            mut waiting,
+            backlog,
         } = self;
         match producer.push(Item::Ending(ending)) {
             Ok(()) => {}
             Err(_) => {
+                waiting.wake();
                 let feed = Feed {
                     producer,
                     waiting,
-                    place,
+                    backlog,
                 };
                 return Err(CloseFault::Full(feed, ending));
             }
@@ -148,26 +157,36 @@ impl Feed {
         let finished = producer.finish();
         waiting.wake();
         match finished {
-            Some(finished) => Ok(Closed { finished }),
+            Some(finished) => Ok(ClosedFeed { finished }),
             None => Err(CloseFault::Lost),
         }
     }
 
-    /// Waits until the drain takes an item, and not at all if it took one since this feed last waited.
-    /// To be called where the ring was found full. What was sent stays as it is.
+    /// Waits until the drain takes an item. Returns at once if it took one since this feed last waited.
+    /// Call it when the ring was full. The items sent stay the same.
     pub fn wait<R: Wait>(&self, rt: &R) {
         self.waiting.wait(rt);
     }
 
-    /// Waits while the report's rings hold as many blocks as they may together and nothing was asked
-    /// of this feed's drain yet. To be called before a block is put. What was sent stays as it is.
+    /// Waits while the report's rings together hold as many blocks as they may and the writer has not
+    /// reached this feed's table. Call it before a block is put. The items sent stay the same.
     pub fn wait_for_turn<R: Wait>(&self, rt: &R) {
-        self.place.wait(rt);
+        self.backlog.wait(rt);
     }
 
-    /// Whether a wait for the turn would sleep now.
+    /// A vector for the texts of a block: that of a block that any of the report's drains gave back, with
+    /// what it held, or an empty one, as always before the writer has reached this feed's table. It
+    /// allocates no memory.
+    pub fn room<R: Wait>(&self, rt: &R, alloc: Global) -> Vec<u8> {
+        match self.backlog.kept_room(rt) {
+            Some(room) => room,
+            None => Vec::new(alloc),
+        }
+    }
+
+    /// Whether `wait_for_turn` would wait now.
     #[cfg(test)]
     pub(crate) fn is_held(&self) -> bool {
-        self.place.is_held()
+        self.backlog.is_held()
     }
 }

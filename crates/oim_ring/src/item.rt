@@ -1,4 +1,4 @@
-//! What a ring holds.
+//! The items of a ring.
 
 use oim_json::Block;
 use oim_rows::TableFault;
@@ -17,6 +17,6 @@ pub enum Ending {
 pub enum Item {
     /// Facts of the table, which come before its ending.
     Block(Block),
-    /// The table's ending, after which nothing comes.
+    /// The table's ending, which is its last item.
     Ending(Ending),
 }

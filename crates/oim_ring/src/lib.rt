@@ -1,19 +1,24 @@
-//! One bounded ring for each table: a feed that a worker fills with blocks of facts, and a drain
-//! that the merge takes from. Feed and drain may stand in two threads.
+//! One bounded ring for each table: a feed, which a worker fills with blocks of facts, and a drain,
+//! from which the merge takes them. Feed and drain may be on two threads.
 //!
-//! What the crate promises:
-//! - `lane` gives the two empty ends of one new ring; it alone takes memory;
-//! - `put` and `close` that succeed have sent their item; while fewer items than the size were sent
-//!   neither finds the ring full, and where it is full they give all back unchanged;
-//! - what a feed sent holds an ending at most as its last item;
-//! - `take` that gives an item has taken it, and None has changed nothing;
-//! - `settle` shows that what was taken is what was sent, each item once and in order.
+//! What is proved:
 //!
-//! No lock stands round a ring, and none of these calls waits: `Feed::wait`, `Feed::wait_for_turn`
-//! and `Drain::wait` alone sleep, until the other end or the writer has moved. `Lanes` opens the
-//! rings of one report, whose feeds wait for their turn while too many blocks wait in all. That a ring holds no more items than its size, that `take`
-//! finds what was put, that `close` gives the token while the drain is there, and that a wait ends,
-//! is shown by tests alone.
+//! - `lane` and `Lanes::open` give the two empty ends of one new ring;
+//! - when `put` or `close` succeeds, it has sent its item; neither finds the ring full while fewer
+//!   items were sent than its size, and when it is full they give everything back unchanged;
+//! - of the items that a feed sent, only the last can be an ending;
+//! - when `take` gives an item, it has taken it, and `None` has changed nothing;
+//! - `settle` shows that the items taken are the items sent, each once and in order.
+//!
+//! There is no lock around a ring, and none of these calls waits. Only `Feed::wait`,
+//! `Feed::wait_for_turn` and `Drain::wait` sleep, until the other end or the writer has moved or, in the
+//! last, for some milliseconds. `Feed::room` and `Drain::give_back`, which hand the vectors of written
+//! blocks back to the feeds, may wait for one another for a moment. `Lanes`
+//! opens the rings of one report, whose feeds wait for their turn while too many blocks wait in all
+//! rings together.
+//!
+//! What only tests show: that a ring holds no more items than its size, that `take` finds what was put,
+//! that `close` gives the token while the drain is there, and that a wait ends.
 #![tactic(auto)]
 
 mod backlog;
@@ -24,7 +29,7 @@ mod opening;
 mod waiting;
 
 pub use drain::{Drain, Drained};
-pub use feed::{CloseFault, Closed, Feed};
+pub use feed::{CloseFault, ClosedFeed, Feed};
 pub use item::{Ending, Item};
 pub use opening::{Lanes, lane};
 

@@ -1,8 +1,8 @@
-//! New rings.
+//! Opening new rings.
 
 ghost use Rattle.std.specs.Prelude.{◌≡◌, ◌≤◌, [], IfOk};
 
-use crate::backlog::{Backlog, Place};
+use crate::backlog::{Backlog, BacklogHandle};
 use crate::drain::Drain;
 use crate::feed::Feed;
 use crate::item::Item;
@@ -11,8 +11,8 @@ use rtrb::RingBuffer;
 use std::alloc::{AllocError, Global};
 use std::sync::Arc;
 
-/// Opens the rings of one report, in table order. Together they hold at most as many blocks as was
-/// asked for before feeds that wait for their turn wait, but for the table that the writer takes.
+/// Opens the rings of one report, in table order. Once as many blocks wait in them together as may, a
+/// feed that waits for its turn is held back, apart from that of the table that the writer takes.
 #[derive(Drop)]
 pub struct Lanes {
     backlog: Arc<Backlog>,
@@ -20,7 +20,7 @@ pub struct Lanes {
 }
 
 impl Lanes {
-    /// No ring yet. `most` blocks may wait in all rings together. Fails where memory is short.
+    /// Opens no ring yet. `most` blocks may wait in all rings together. Fails if memory runs out.
     pub fn new(alloc: Global, most: usize) -> Result<Lanes, AllocError> {
         Ok(Lanes {
             backlog: Backlog::new(alloc, most)?,
@@ -28,25 +28,33 @@ impl Lanes {
         })
     }
 
-    /// The two ends of the next table's ring, with room for `size` items, 1 to 65,536. Nothing was
-    /// sent or taken. Fails where memory is short.
+    /// The two ends of the next table's ring, with room for `size` items, 1 to 65,536. Nothing was sent
+    /// or taken yet. Fails if memory runs out.
     pub fn open(&mut self, alloc: Global, size: usize) -> Result<(Feed, Drain), AllocError>
         requires { (1 ≤ size) × (size ≤ 65536) }
         ensures feed { IfOk result (λ r. (r.0.size ≡ size) × (r.0.sent ≡ [])) }
         ensures drain { IfOk result (λ r. r.1.taken ≡ []) }
         ensures one_ring { IfOk result (λ r. r.1.ring ≡ r.0.ring) }
     {
-        let (sending, taking) = both_ends(alloc)?;
+        let (sending, taking) = both_ends(alloc, size)?;
         let (producer, consumer) = RingBuffer::<Item>::new(alloc, size)?;
-        let feed = Feed::new(producer, sending, Place::of(&self.backlog, self.opened)?);
-        let drain = Drain::new(consumer, taking, Place::of(&self.backlog, self.opened)?);
+        let feed = Feed::new(
+            producer,
+            sending,
+            BacklogHandle::of(&self.backlog, self.opened)?,
+        );
+        let drain = Drain::new(
+            consumer,
+            taking,
+            BacklogHandle::of(&self.backlog, self.opened)?,
+        );
         self.opened = self.opened.saturating_add(1);
         Ok((feed, drain))
     }
 }
 
-/// The two ends of a new ring with room for `size` items, 1 to 65,536, which stands alone. Nothing
-/// was sent or taken. Fails where memory is short.
+/// The two ends of a new ring on its own, with room for `size` items, 1 to 65,536. Nothing was sent or
+/// taken yet. Fails if memory runs out.
 pub fn lane(alloc: Global, size: usize) -> Result<(Feed, Drain), AllocError>
     requires { (1 ≤ size) × (size ≤ 65536) }
     ensures feed { IfOk result (λ r. (r.0.size ≡ size) × (r.0.sent ≡ [])) }

@@ -1,5 +1,5 @@
-//! The backlog of a report's rings, as it runs: which feeds it holds back, that each is let go again,
-//! and that the feed of the table that the writer takes is never held back.
+//! Tests of the backlog of a report's rings: which feeds it holds back, that each is let go again, and
+//! that the feed of the table that the writer takes is never held back.
 
 use crate::{CloseFault, Drain, Ending, Feed, Item, Lanes};
 use oim_json::{Block, block_of};
@@ -12,21 +12,21 @@ use std::test::Fail;
 use std::thread;
 use std::thread::Threads;
 
-/// Turns that a thread may look for what another does.
+/// How often a thread looks for what another one does.
 const TURNS: u32 = 20_000_000;
 
-/// Blocks of each table that two workers send.
+/// How many blocks of each table two workers send.
 const BLOCKS: u32 = 300;
 
 /// A block of one fact.
 fn block(alloc: Global) -> Result<Block, AllocError> {
     let mut facts = Items::new(alloc);
-    let fact = Fact {
-        id: Text::from_str(alloc, "t1.r_1.a")?,
-        value: None,
-        decimals: None,
-        dimensions: Items::new(alloc),
-    };
+    let fact = Fact::new(
+        Text::from_str(alloc, "t1.r_1.a")?,
+        None,
+        None,
+        Items::new(alloc),
+    );
     match facts.push(fact) {
         Ok(()) => block_of(alloc, &facts),
         Err(_) => Err(AllocError),
@@ -44,8 +44,8 @@ fn gives(drain: &mut Drain) -> bool {
     matches!(drain.take(), Some(Item::Block(_)))
 }
 
-/// Whether the second of two blocks of table 1 holds back that table and table 2, and neither holds back
-/// table 0, whose block passes meanwhile.
+/// Whether the second of two blocks of table 1 holds back that table and table 2, but not table 0, whose
+/// block passes meanwhile.
 fn are_held(
     alloc: Global,
     own: &mut Feed,
@@ -60,7 +60,7 @@ fn are_held(
     Ok(is_one && are_two && is_full && passes && next.is_held() && last.is_held())
 }
 
-/// Whether table 1 goes on once the writer has come to its ring, and holds back table 2 alone then.
+/// Whether table 1 goes on once the writer has reached its ring, and then holds back only table 2.
 fn is_let_go(
     alloc: Global,
     next: &mut Feed,
@@ -72,7 +72,7 @@ fn is_let_go(
     Ok(is_let_go && is_full && !next.is_held() && last.is_held())
 }
 
-/// Whether an ending counts as no block: one is waiting in the ring, and then none.
+/// Whether an ending does not count as a block: one block waits in the ring, and then none.
 fn is_no_block(feed: Feed, drain: &mut Drain, last: &Feed) -> bool {
     let is_given = gives(drain) && !last.is_held();
     let is_closed = feed.close(Ending::Closed).is_ok() && !last.is_held();
@@ -80,7 +80,7 @@ fn is_no_block(feed: Feed, drain: &mut Drain, last: &Feed) -> bool {
     is_given && is_closed && is_empty && !last.is_held()
 }
 
-/// Whether the feeds of three rings, in which two blocks may wait, are held back so.
+/// Whether the feeds of three rings, in which two blocks may wait, are held back as above.
 fn hold_back(alloc: Global) -> Result<bool, AllocError> {
     let mut lanes = Lanes::new(alloc, 2)?;
     let (mut own, mut own_drain) = lanes.open(alloc, 2)?;
@@ -98,7 +98,7 @@ fn later_tables_are_held_back(rt: HostRuntime) -> Result<(), Fail> {
     Ok(())
 }
 
-/// Whether a count comes to this in time.
+/// Whether a count reaches this value in time.
 fn comes_to(count: &AtomicUsize, wanted: usize) -> bool {
     for _ in 0..TURNS {
         if count.load(Ordering::SeqCst) >= wanted {
@@ -109,15 +109,15 @@ fn comes_to(count: &AtomicUsize, wanted: usize) -> bool {
     false
 }
 
-/// Waits for the turn of a feed. It counts 1 before and 1 after.
+/// Waits for the turn of a feed, and counts 1 before and 1 after.
 fn wait_counted<T: Wait>(rt: &T, feed: &Feed, count: &AtomicUsize) {
     count.fetch_add(1, Ordering::SeqCst);
     feed.wait_for_turn(rt);
     count.fetch_add(1, Ordering::SeqCst);
 }
 
-/// Whether the table that the writer takes passes blocks while the next one waits, which goes on once
-/// the writer looks at its ring, though that is empty.
+/// Whether the table that the writer takes passes blocks while the next one waits, and the next one goes
+/// on once the writer looks at its ring, even though that is empty.
 fn passes_before<T: Wait>(
     rt: &T,
     alloc: Global,
@@ -135,7 +135,7 @@ fn passes_before<T: Wait>(
     Ok(passes && was_held && next.take().is_none() && comes_to(count, 2))
 }
 
-/// Whether the feed of table 1, held back by two blocks of table 2, goes on only once the writer comes to it.
+/// Whether the feed of table 1, held back by two blocks of table 2, goes on only once the writer reaches it.
 fn waits_for_the_writer<T: Threads + Wait + Sync>(
     rt: &T,
     alloc: Global,
@@ -219,7 +219,7 @@ fn close_waiting<T: Wait>(rt: &T, feed: Feed) -> bool {
     false
 }
 
-/// Sends a table of many blocks. Answers whether all were sent.
+/// Sends a table of many blocks, and tells whether all were sent.
 fn send_table<T: Wait>(rt: &T, alloc: Global, feed: Feed) -> bool {
     let mut feed = feed;
     for _ in 0..BLOCKS {
@@ -233,7 +233,7 @@ fn send_table<T: Wait>(rt: &T, alloc: Global, feed: Feed) -> bool {
     close_waiting(rt, feed)
 }
 
-/// How many blocks come before the ending.
+/// The number of blocks before the ending.
 fn blocks_of<T: Wait>(rt: &T, drain: &mut Drain) -> u32 {
     let mut count = 0u32;
     for _ in 0..TURNS {
@@ -246,7 +246,26 @@ fn blocks_of<T: Wait>(rt: &T, drain: &mut Drain) -> u32 {
     0
 }
 
-/// Whether two workers send three tables through rings of one block, of which one may wait in all.
+/// Whether the vector of a block that was given back reaches the feed of the table that the writer takes,
+/// and only once.
+fn comes_back<T: Wait>(rt: &T, alloc: Global) -> Result<bool, AllocError> {
+    let mut lanes = Lanes::new(alloc, 2)?;
+    let (feed, drain) = lanes.open(alloc, 1)?;
+    let (next, _next_drain) = lanes.open(alloc, 1)?;
+    let was_empty = feed.room(rt, alloc).is_empty();
+    drain.give_back(rt, block(alloc)?);
+    let is_kept = next.room(rt, alloc).is_empty() && !feed.room(rt, alloc).is_empty();
+    Ok(was_empty && is_kept && feed.room(rt, alloc).is_empty())
+}
+
+#[test]
+fn a_room_comes_back(rt: HostRuntime) -> Result<(), Fail> {
+    let comes = comes_back(&rt, rt.alloc())?;
+    assert!(rt; comes);
+    Ok(())
+}
+
+/// Whether two workers send three tables through rings of one block, where only one block may wait in all.
 fn sends_three<T: Threads + Wait + Sync>(rt: &T, alloc: Global) -> Result<bool, AllocError> {
     let mut lanes = Lanes::new(alloc, 1)?;
     let (first, mut first_drain) = lanes.open(alloc, 1)?;

@@ -56,7 +56,7 @@ bytes_apart a b h = false_from_ne_true (bytes_eq a b) (λ t. h ((bytes_eq-Decide
 pub bytes_same : (a b : List ℕ) → a ≡ b → bytes_eq a b ≡ true
 bytes_same a b e = (bytes_eq-Decides a b).1 e
 
--- digits are no dots
+-- no digit is a dot
 digits-no_dot : (t : List ℕ) → AllDigits 10 t → HasNoDot t
 digits-no_dot [] h = tt
 digits-no_dot (b ∷ bs) h =

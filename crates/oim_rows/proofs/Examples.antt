@@ -14,12 +14,15 @@ use Rattle.oim_meta.specs.Grid.{Record}
 use Rattle.oim_meta.specs.declared.data.Written.TheVariants as written
 use Rattle.oim_meta.specs.declared.kind.Kind.TheVariants as type
 use Rattle.oim_resolve.specs.Facts.{cell_result, fact_of, rest_faults}
-use Rattle.oim_resolve.specs.declared.fact.Fact.{Fact}
+use Rattle.oim_resolve.specs.FactParts.{FactParts as Fact}
 use Rattle.oim_resolve.specs.declared.fact.CellFault.TheVariants as cell
 use Rattle.oim_rows.specs.FaultNames.{name_of, number_of}
-use Rattle.oim_rows.specs.Header.{fault_at, file_fault, header_fault, header_of}
-use Rattle.oim_rows.specs.RowFacts.{Reading, cell_at, id_kind, row_fault, row_id_text, row_result}
-use Rattle.oim_rows.specs.Streams.{ending, stream_from, stream_of, table_stream}
+use Rattle.oim_meta.specs.declared.records.ReadFault.TheVariants as read
+use Rattle.oim_rows.specs.Header.{fault_at, file_fault, file_header_fault, header_fault, header_of, is_column, names_row_id}
+use Rattle.oim_rows.specs.Identifiers.{facts_of, facts_of_tables}
+use Rattle.oim_rows.specs.RowFacts.{Reading, cell_at, facts_from, holds_facts, id_kind, is_fact_column, row_fault, row_id_text, row_result, source_of_column}
+use Rattle.oim_rows.specs.Streams.{early_header_fault, early_row_answer, ending, fault_of_read, stream_from, stream_of, table_stream}
+use Rattle.oim_rows.specs.WholeTable.{ids_of, row_after, row_at}
 use Rattle.oim_rows.specs.declared.fault.TableKind.TheVariants as kind
 
 abbrev columns : List Column
@@ -144,3 +147,53 @@ fault_of_a_file = refl
 
 last_place : fault_at 3 2 4_294_967_296 kind.BadRowId ≡ record { table = 3; row = 2; column = 4_294_967_295; kind = kind.BadRowId }
 last_place = refl
+
+-- HEADERS AND COLUMNS: an empty header cell names nothing; a template may have no column of row identifiers; only a column of facts holds facts
+places_of_columns : (source_of_column (None ∷ Some 0 ∷ []) 0 ≡ Some 1) × (is_column 0 None ≡ false) × (names_row_id None [] ≡ true) × (names_row_id (Some 1) (Some 0 ∷ []) ≡ false)
+places_of_columns = (refl, refl, refl, refl)
+
+empty_file : file_header_fault (report false) 0 [] ≡ Some (file_fault 0 kind.NoHeader)
+empty_file = refl
+
+columns_of_facts : map holds_facts (content.Fact ∷ content.Groups ∷ content.Comment ∷ content.Plain ∷ []) ≡ true ∷ false ∷ false ∷ false ∷ []
+columns_of_facts = refl
+
+past_the_columns : is_fact_column columns 2 ≡ false
+past_the_columns = refl
+
+-- the fault of a cell stands at its place in the header, from 1: here behind an empty header cell
+place_of_a_cell : facts_from (report false) 0 (record { number = 4; id = codes "a"; cells = codes "#foo" ∷ codes "a" ∷ [] }) 0 (None ∷ Some 1 ∷ Some 0 ∷ []) ≡ Err (fault_at 0 4 3 (kind.Cell cell.UnknownSpecial))
+unfolding cell_result rest_faults fact_of meaning_of chars
+place_of_a_cell = refl
+
+-- what a failed reader gives, and an answer that takes no memory
+faults_of_reads : (fault_of_read 2 read.Read ≡ file_fault 2 kind.Read) × (fault_of_read 2 read.Memory ≡ file_fault 2 kind.Memory)
+faults_of_reads = (refl, refl)
+
+early_header : early_header_fault (report false) 0 (Ok false) [] ∷ early_header_fault (report false) 0 (Err read.Read) [] ∷ early_header_fault (report false) 0 (Ok true) (codes "cash" ∷ []) ∷ []
+    ≡ Some (file_fault 0 kind.NoHeader) ∷ Some (file_fault 0 kind.Read) ∷ None ∷ []
+early_header = refl
+
+early_rows : early_row_answer reading 1 [] (Ok false) [] ∷ early_row_answer reading 1 [] (Err read.Memory) [] ∷ early_row_answer reading 1 [] (Ok true) [] ∷ []
+    ≡ Some (Ok None) ∷ Some (Err (file_fault 0 kind.Memory)) ∷ Some (Err (fault_at 0 1 0 kind.Ragged)) ∷ []
+early_rows = refl
+
+-- ALL ROWS AT ONCE: rows are counted from 1, and a row follows the identifiers of those before it
+rows_by_place : (row_at (codes "ab") 0 ≡ Some 97) × (row_at (codes "ab") 1 ≡ Some 98) × (row_at (codes "a") 1 ≡ None)
+rows_by_place = (refl, refl, refl)
+
+identifiers_of_rows : (ids_of (Some 1) (line (codes "x") (codes "a") ∷ line [] (codes "b") ∷ []) ≡ codes "a" ∷ codes "b" ∷ []) × (ids_of None (line (codes "x") (codes "a") ∷ []) ≡ [])
+unfolding field_at
+identifiers_of_rows = (refl, refl)
+
+second_row : row_after reading (line (codes "x") (codes "a") ∷ []) (line (codes "y") (codes "b")) ≡ Err (fault_at 0 2 0 kind.TooManyRows)
+unfolding stream_from cell_result rest_faults fact_of meaning_of chars is_row_identifier is_plain_char is_ncname is_name_char is_name_start qname_of field_at is_utf8 lib.Utf8.encode
+second_row = refl
+
+-- a table without a file has no facts, and its place is counted
+facts_of_two_tables : facts_of_tables (report true) 9 0 (None ∷ []) ≡ []
+facts_of_two_tables = refl
+
+facts_of_a_stream : facts_of (record { rows = (note (codes "a") (codes "x") ∷ []) ∷ [] ∷ (note (codes "b") (codes "y") ∷ []) ∷ []; fault = None })
+    ≡ note (codes "a") (codes "x") ∷ note (codes "b") (codes "y") ∷ []
+facts_of_a_stream = refl

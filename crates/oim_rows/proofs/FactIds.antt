@@ -24,12 +24,12 @@ use Rattle.oim_meta.specs.declared.data.Template.{Template}
 use Rattle.oim_resolve.specs.Cell.{cell_of}
 use Rattle.oim_resolve.specs.Facts.{cell_result}
 use Rattle.oim_resolve.specs.declared.fact.CellFault.{CellFault}
-use Rattle.oim_resolve.specs.declared.fact.Fact.{Fact}
+use Rattle.oim_resolve.specs.FactParts.{FactParts as Fact}
 use Rattle.oim_resolve.specs.declared.fact.Row.{Row}
 use Rattle.oim_rows.specs.Header.{Header, header_fault, header_of, is_column, is_empty, is_unknown, file_fault, names_row_id, or_else, repeat_from, repeats, fault_at}
 use Rattle.oim_resolve.proofs.FactFacts as resolved
 use Rattle.oim_rows.specs.Identifiers.{HaveOwnIds, facts_of, facts_of_tables}
-use Rattle.oim_rows.specs.RowFacts.{Reading, at_place, checked, fact_at, facts_from, holds_facts, id_fault, id_kind, id_place_of, ids_after, is_fact_column, is_not_text, row_fault, row_id_text, row_of, row_result}
+use Rattle.oim_rows.specs.RowFacts.{Reading, at_place, checked, fact_at, facts_from, holds_facts, id_fault, id_kind, id_place_of, ids_after, is_fact_column, is_not_text, limit_fault, ragged_fault, row_fault, row_id_text, text_fault, row_of, row_result}
 use Rattle.oim_rows.specs.Streams.{Stream, reading_of, row_in_front, stream_from, stream_of, table_stream}
 use Rattle.oim_rows.specs.declared.fault.TableFault.{TableFault}
 use Rattle.oim_rows.specs.declared.fault.TableKind.TheVariants as kind
@@ -195,12 +195,12 @@ id_ok g (Some p) n ids r within small e =
 
 row_ok : (g : Reading) (n : ℕ) (ids : List Field) (r : Record) → row_fault g n ids r ≡ None → (n ≤ g.limit) × (id_fault g (id_place_of g) n ids r ≡ None)
 row_ok g n ids r e =
-    let last = if nat_lt g.limit n then Some (fault_at g.table n 0 kind.TooManyRows) else id_fault g (id_place_of g) n ids r in
-    let texts = option_map (λ p. fault_at g.table n (p + 1) kind.NotUtf8) (position_from is_not_text 0 r) in
-    let long = if_none (not (length r == length g.header)) (fault_at g.table n 0 kind.Ragged) (or_else texts last) e in
-    let both = first_none texts last long.1 in
-    let few = if_none (nat_lt g.limit n) (fault_at g.table n 0 kind.TooManyRows) (id_fault g (id_place_of g) n ids r) both.1 in
-    (ltb-false g.limit n few.0, few.1)
+    let id = id_fault g (id_place_of g) n ids r in
+    let long = first_none (ragged_fault g n r) (or_else (text_fault g n r) (or_else (limit_fault g n) id)) e in
+    let texts = first_none (text_fault g n r) (or_else (limit_fault g n) id) long.1 in
+    let few = first_none (limit_fault g n) id texts.1 in
+    let within = if_none (nat_lt g.limit n) (fault_at g.table n 0 kind.TooManyRows) None few.0 in
+    (ltb-false g.limit n within.0, few.1)
 
 -- facts of two lists that differ, each from each
 joined : (P Q : Fact → Type 0) → ((f g : Fact) → P f → Q g → bytes_eq f.id g.id ≡ false) → (fs gs : List Fact) → AllByRecursion P fs → AllByRecursion Q gs → HaveOwnIds fs → HaveOwnIds gs

@@ -1,6 +1,6 @@
 -- The facts of a row, cell by cell.
 use Rattle.std.proofs.Common.{◌≡◌, ◌+◌, ℕ, List, [], ◌∷◌, ◌++◌, Option, Some, None, Result, Ok, Err, refl, sym, ap, append_assoc, drop}
-use Rattle.oim_resolve.specs.declared.fact.Fact.{Fact}
+use Rattle.oim_resolve.specs.FactParts.{FactParts as Fact}
 use Rattle.oim_resolve.specs.declared.fact.Row.{Row}
 use Rattle.oim_meta.specs.ReportValue.{ReportValue}
 use Rattle.oim_rows.specs.Header.{Header}

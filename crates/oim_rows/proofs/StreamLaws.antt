@@ -2,7 +2,7 @@
 use Rattle.std.proofs.Common.{◌≡◌, ◌⊎◌, ◌+◌, ℕ, Bool, List, [], ◌∷◌, true, false, Option, Some, None, Result, Ok, Err, refl, sym, ap, subst, inl, inr, option_map, IfOk, IfSome, MatchResult, OnSome}
 use Rattle.oim_meta.specs.Grid.{Field, Record, grid}
 use Rattle.oim_meta.specs.Taking.{TakesRecord}
-use Rattle.oim_resolve.specs.declared.fact.Fact.{Fact}
+use Rattle.oim_resolve.specs.FactParts.{FactParts as Fact}
 use Rattle.oim_meta.specs.Readers.{columns_of}
 use Rattle.oim_meta.specs.ReportValue.{ReportValue}
 use Rattle.oim_meta.specs.declared.records.ReadFault.{ReadFault}

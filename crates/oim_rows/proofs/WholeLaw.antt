@@ -4,7 +4,7 @@ use Rattle.std.proofs.lemmas.List.{append-nil, map-append}
 use Rattle.std.specs.Prelude.{MatchOption, unwrap_or}
 use Rattle.csv.specs.Records.{field_at}
 use Rattle.oim_meta.specs.Grid.{Record}
-use Rattle.oim_resolve.specs.declared.fact.Fact.{Fact}
+use Rattle.oim_resolve.specs.FactParts.{FactParts as Fact}
 use Rattle.oim_rows.specs.RowFacts.{Reading, id_place_of, ids_after}
 use Rattle.oim_rows.specs.Streams.{Stream, ending, row_in_front, stream_from}
 use Rattle.oim_rows.specs.WholeTable.{Gives, IsStreamOf, ids_of, row_after, row_at}

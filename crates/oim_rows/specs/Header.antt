@@ -49,7 +49,7 @@ named_column columns f = if is_empty f then None else place_of columns f
 abbrev pub header_of : List Column → Record → Header
 header_of columns r = map (named_column columns) r
 
--- a cell that isn't empty and names no column
+-- a cell that is not empty and does not name a column
 abbrev pub is_unknown : List Column → Field → Bool
 is_unknown columns f = not (is_empty f) && is_none (place_of columns f)
 
@@ -72,7 +72,7 @@ abbrev pub names_row_id : Option ℕ → Header → Bool
 names_row_id None h = true
 names_row_id (Some c) h = list_any (is_column c) h
 
--- a cell that names no column
+-- a cell that does not name a column
 abbrev pub unknown_fault : ReportValue → ℕ → Record → Option TableFault
 unknown_fault report table r = option_map (λ p. fault_at table 0 (p + 1) kind.UnknownHeader) (position_from (is_unknown (columns_of report table)) 0 r)
 
@@ -80,7 +80,7 @@ unknown_fault report table r = option_map (λ p. fault_at table 0 (p + 1) kind.U
 abbrev pub repeated_fault : ℕ → Header → Option TableFault
 repeated_fault table h = option_map (λ p. fault_at table 0 (p + 1) kind.RepeatedHeader) (repeat_from 0 [] h)
 
--- no column of row identifiers
+-- the column of row identifiers is missing
 abbrev pub row_id_fault : ReportValue → ℕ → Header → Option TableFault
 row_id_fault report table h = if names_row_id (template_of report table).row_id_column h then None else Some (file_fault table kind.NoRowIdColumn)
 
@@ -95,7 +95,7 @@ header_faults report table r =
 abbrev pub header_fault : ReportValue → ℕ → Record → Option TableFault
 header_fault report table r = first_of (header_faults report table r)
 
--- a column twice, or no column of row identifiers
+-- a column twice, or a missing column of row identifiers
 abbrev pub columns_fault : ReportValue → ℕ → Header → Option TableFault
 columns_fault report table h = or_else (repeated_fault table h) (row_id_fault report table h)
 

@@ -15,9 +15,9 @@ use Rattle.oim_meta.specs.declared.data.ColumnKind.TheVariants as content
 use Rattle.oim_resolve.specs.Cell.{cell_of}
 use Rattle.oim_resolve.specs.Facts.{cell_result}
 use Rattle.oim_resolve.specs.declared.fact.CellFault.{CellFault}
-use Rattle.oim_resolve.specs.declared.fact.Fact.{Fact}
+use Rattle.oim_resolve.specs.FactParts.{FactParts as Fact}
 use Rattle.oim_resolve.specs.declared.fact.Row.{Row}
-use Rattle.oim_rows.specs.Header.{Header, fault_at, is_column, is_empty, or_else}
+use Rattle.oim_rows.specs.Header.{Header, first_of, fault_at, is_column, is_empty, or_else}
 use Rattle.oim_rows.specs.declared.fault.TableFault.{TableFault}
 use Rattle.oim_rows.specs.declared.fault.TableKind.{TableKind}
 use Rattle.oim_rows.specs.declared.fault.TableKind.TheVariants as kind
@@ -70,7 +70,7 @@ row_of g n r = record {
   cells = map (cell_at g.header r) (range_with_len 0 (length (columns_of g.report g.table)));
 }
 
--- what is wrong with a row identifier, beside those of the earlier rows
+-- what is wrong with a row identifier, where the earlier rows have these
 abbrev pub id_kind : List Field → Field → Option TableKind
 id_kind ids f =
     if is_empty f then Some kind.MissingRowId
@@ -81,13 +81,24 @@ abbrev pub id_fault : Reading → Option ℕ → ℕ → List Field → Record �
 id_fault g None n ids r = None
 id_fault g (Some p) n ids r = option_map (fault_at g.table n (p + 1)) (id_kind ids (unwrap_or (field_at r p) []))
 
--- the first fault of a row, but for its cells: another length, no text, above the limit, the row identifier
+-- another length than the header's
+abbrev pub ragged_fault : Reading → ℕ → Record → Option TableFault
+ragged_fault g n r = if not (length r == length g.header) then Some (fault_at g.table n 0 kind.Ragged) else None
+
+-- a cell that is not UTF-8
+abbrev pub text_fault : Reading → ℕ → Record → Option TableFault
+text_fault g n r = option_map (λ p. fault_at g.table n (p + 1) kind.NotUtf8) (position_from is_not_text 0 r)
+
+-- more rows than the limit
+abbrev pub limit_fault : Reading → ℕ → Option TableFault
+limit_fault g n = if nat_lt g.limit n then Some (fault_at g.table n 0 kind.TooManyRows) else None
+
+-- the faults of row n apart from those of its cells, in the order in which they count
+abbrev pub row_faults : Reading → ℕ → List Field → Record → List (Option TableFault)
+row_faults g n ids r = ragged_fault g n r ∷ text_fault g n r ∷ limit_fault g n ∷ id_fault g (id_place_of g) n ids r ∷ []
+
 abbrev pub row_fault : Reading → ℕ → List Field → Record → Option TableFault
-row_fault g n ids r =
-    if not (length r == length g.header) then Some (fault_at g.table n 0 kind.Ragged)
-    else or_else (option_map (λ p. fault_at g.table n (p + 1) kind.NotUtf8) (position_from is_not_text 0 r))
-    (if nat_lt g.limit n then Some (fault_at g.table n 0 kind.TooManyRows)
-    else id_fault g (id_place_of g) n ids r)
+row_fault g n ids r = first_of (row_faults g n ids r)
 
 abbrev pub holds_facts : ColumnKind → Bool
 holds_facts content.Fact = true

@@ -6,7 +6,7 @@ use Rattle.oim_meta.specs.Readers.{columns_of, table_of}
 use Rattle.oim_meta.specs.ReportValue.{ReportValue}
 use Rattle.oim_meta.specs.declared.records.ReadFault.{ReadFault}
 use Rattle.oim_meta.specs.declared.records.ReadFault.TheVariants as read
-use Rattle.oim_resolve.specs.declared.fact.Fact.{Fact}
+use Rattle.oim_resolve.specs.FactParts.{FactParts as Fact}
 use Rattle.oim_rows.specs.Header.{Header, file_fault, header_fault, header_of, unknown_fault}
 use Rattle.oim_rows.specs.RowFacts.{Reading, id_place_of, ids_after, row_fault, row_result}
 use Rattle.oim_rows.specs.declared.fault.TableFault.{TableFault}
@@ -47,16 +47,16 @@ abbrev pub table_stream : ReportValue → ℕ → ℕ → Option (List ℕ) → 
 table_stream report table limit None = ending (if (table_of report table).is_optional then None else Some (file_fault table kind.NoFile))
 table_stream report table limit (Some bytes) = stream_of report table limit (grid bytes)
 
--- the reader failed, or a growth was refused
+-- the reader failed, or memory ran out
 abbrev pub IsOutside : ℕ → TableFault → Type 0
 IsOutside table e = (e ≡ file_fault table kind.Read) ⊎ (e ≡ file_fault table kind.Memory)
 
--- the fault of a table whose reader gives no record
+-- the fault of a table whose reader failed
 abbrev pub fault_of_read : ℕ → ReadFault → TableFault
 fault_of_read table read.Read = file_fault table kind.Read
 fault_of_read table read.Memory = file_fault table kind.Memory
 
--- what the reader's answer for the header gives without memory: its own fault, that there is no record, or a cell that names no column
+-- what the reader's answer for the header gives without memory: its own fault, that there is no record, or a cell that does not name a column
 abbrev pub early_header_fault : ReportValue → ℕ → Result Bool ReadFault → Record → Option TableFault
 early_header_fault report table (Err f) r = Some (fault_of_read table f)
 early_header_fault report table (Ok false) r = Some (file_fault table kind.NoHeader)
@@ -73,12 +73,12 @@ abbrev pub row_answer : Result (List Fact) TableFault → Result (Option (List F
 row_answer (Ok facts) = Ok (Some facts)
 row_answer (Err e) = Err e
 
--- the answer, unless a growth was refused
+-- the answer, unless memory ran out
 abbrev pub OrNoMemory : {A : Type 0} → ℕ → Result A TableFault → Result A TableFault → Type 0
 OrNoMemory table result answer = (result ≡ Err (file_fault table kind.Memory)) ⊎ (result ≡ answer)
 
 -- an answer of a table with this stream: the next row of it, with the stream after it, or its end or its fault, unless
--- the reader failed or a growth was refused
+-- the reader failed or memory ran out
 abbrev pub GivesNext : ℕ → Stream → Result (Option (List Fact)) TableFault → Option Stream → Type 0
 GivesNext table s (Ok (Some facts)) None = ⊥
 GivesNext table s (Ok (Some facts)) (Some rest) = s ≡ row_in_front (Ok facts) rest

@@ -1,93 +1,32 @@
-//! How the rows of one table are read.
+//! How the records of one table become the facts of its rows.
 
-ghost use Rattle.std.specs.Prelude.{◌≡◌, ◌⊎◌, ◌≤◌, ◌<◌, ◌+◌, not, map, length, IfOk, None, Some, length};
-ghost use Rattle.std.specs.List.{position_from, range_with_len};
-ghost use Rattle.std.specs.Str.{bytes_eq, is_utf8};
-ghost use Rattle.csv.specs.Records.{field_at, fields_of};
-ghost use Rattle.oim_rows.specs.Header.{is_column};
-ghost use Rattle.oim_rows.specs.RowFacts.{IsTextRecord, field_or_empty, id_kind, is_not_text, source_of_column};
+ghost use Rattle.std.specs.Prelude.{◌≡◌, ◌≤◌, ◌<◌, Err, IfOk, IfSome, OnOk, length, map};
+ghost use Rattle.std.specs.List.{range_with_len};
+ghost use Rattle.std.specs.String.{string_bytes};
+ghost use Rattle.csv.specs.Records.{fields_of};
+ghost use Rattle.oim_meta.specs.Readers.{columns_of};
+ghost use Rattle.oim_rows.specs.RowFacts.{IsNewId, IsTextRecord, fact_at, facts_from, field_or_empty, holds_facts, id_place_of, ids_after, is_fact_column, row_fault, row_id_text, row_of, row_result, source_of_column};
+ghost use Rattle.oim_rows.specs.Streams.{OrNoMemory};
 
-use crate::fault::{TableFault, TableKind};
-use crate::header::{field, source_of};
+use crate::cells::text_at;
+use crate::fault::{TableFault, TableKind, fault_at_place, whole_fault};
+use crate::form::{RowForm, push_number};
+use crate::header::source_of;
 use crate::ids::RowIds;
 use csv::ByteRecord;
-use std::alloc::{AllocError, Global};
-
-/// What is wrong with a row identifier.
-pub(crate) fn kind_of_id(ids: &RowIds, text: &str) -> Option<TableKind>
-    ensures { result ≡ id_kind ids.now text.now }
-{
-    if text.is_empty() {
-        return Some(TableKind::MissingRowId);
-    }
-    if !oim_names::is_row_identifier(text) {
-        return Some(TableKind::BadRowId);
-    }
-    if ids.has(text) {
-        return Some(TableKind::RepeatedRowId);
-    }
-    None
-}
-
-fn is_no_text(cell: &[u8]) -> bool
-    ensures { result ≡ is_not_text cell.now }
-{
-    match str::from_utf8(cell) {
-        Ok(_) => false,
-        Err(_) => true,
-    }
-}
-
-/// The first cell that is no text.
-pub(crate) fn first_not_text(row: &ByteRecord) -> Option<usize>
-    ensures { result ≡ position_from is_not_text 0 (fields_of row.now) }
-{
-    for i in 0..row.len() {
-        if is_no_text(field(row, i)) {
-            return Some(i);
-        }
-    }
-    None
-}
-
-/// The text of a cell, or the empty text where there is none.
-pub(crate) fn text_at(row: &ByteRecord, place: Option<usize>) -> &str
-    requires { IsTextRecord (fields_of row.now) }
-    ensures { result.now ≡ field_or_empty (fields_of row.now) place }
-{
-    match place {
-        Some(i) => match row.get(i) {
-            Some(cell) => match str::from_utf8(cell) {
-                Ok(text) => text,
-                Err(_) => unreachable!(),
-            },
-            None => "",
-        },
-        None => "",
-    }
-}
-
-ghost use Rattle.std.specs.Prelude.{Err};
-ghost use Rattle.oim_rows.specs.RowFacts.{id_fault, row_fault, row_of, facts_from};
-ghost use Rattle.oim_rows.specs.Header.{file_fault, header_of};
-
-use crate::header::{fault_at_place, whole_fault};
-use oim_meta::{Column, ColumnKind, Report};
+use oim_meta::{Column, ColumnKind};
 use oim_names::{Items, Text};
 use oim_resolve::{CellFault, Fact, Plan, Row, compile};
+use std::alloc::{AllocError, Global};
 use std::marker::Model;
 
-/// How the rows of one table are read. A contract sees the report, the table, the limit and the
-/// header.
+/// How the records of one table become the facts of its rows: the form of its rows, and the plan of its
+/// template. A contract sees the report, the table, the limit and the header.
 #[derive(Drop)]
-pub struct Decoder<'a> {
+pub(crate) struct Decoder<'a> {
+    form: RowForm<'a>,
     plan: Plan<'a>,
-    table: usize,
     columns: &'a [Column],
-    limit: u32,
-    header: Vec<Option<usize>>,
-    // the place in the header of the row identifier
-    id_place: Option<usize>,
     // the place in the header of each column of the template
     sources: Vec<Option<usize>>,
 }
@@ -98,9 +37,9 @@ impl<'a> Model for Decoder<'a> {
 
     ghost Value = { Reading };
 
-    ghost view = { λ a. record { report = a.plan.report; table = a.table; limit = a.limit; header = a.header.items } };
+    ghost view = { λ a. a.form };
 
-    ghost invariant = { λ a. IsOfTable a.plan a.table a.columns.now a.id_place a.header.items a.sources.items };
+    ghost invariant = { λ a. IsOfTable a.form a.plan a.columns.now a.sources.items };
 }
 
 fn sources_of(
@@ -117,49 +56,22 @@ fn sources_of(
     Ok(sources)
 }
 
-/// The place in a header of the row identifier, where the template has a column for it.
-pub(crate) fn place_of_id(header: &[Option<usize>], column: Option<usize>) -> Option<usize>
-    ensures { result ≡ row_id_place column header.now }
-{
-    match column {
-        Some(column) => source_of(header, column),
-        None => None,
-    }
-}
-
 impl<'a> Decoder<'a> {
-    /// How the rows of a table are read under this header. Fails where memory is short.
-    pub fn new(
-        alloc: Global,
-        report: &'a Report,
-        table: usize,
-        limit: u32,
-        header: Vec<Option<usize>>,
-    ) -> Result<Decoder<'a>, AllocError>
-        requires { table < length report.now.tables }
-        ensures { IfOk result (λ p. p ≡ record { report = report.now; table = table; limit = limit; header = header.items }) }
+    /// How the rows of this form are read. Fails where memory is short.
+    pub(crate) fn new(alloc: Global, form: RowForm<'a>) -> Result<Decoder<'a>, AllocError>
+        ensures { IfOk result (λ p. p ≡ form.entry) }
     {
-        let plan = compile(alloc, report, table)?;
-        let columns = report.template_columns(table);
-        let id_place = place_of_id(header.as_slice(), report.row_id_column(table));
-        let sources = sources_of(alloc, header.as_slice(), columns.len())?;
+        let plan = compile(alloc, form.report(), form.table())?;
+        let columns = form.report().template_columns(form.table());
+        let sources = sources_of(alloc, form.header(), columns.len())?;
         Ok(Decoder {
+            form,
             plan,
-            table,
             columns,
-            limit,
-            header,
-            id_place,
             sources,
         })
     }
 }
-
-ghost use Rattle.std.specs.Prelude.{◌++◌, codes, decimal};
-ghost use Rattle.std.specs.String.{string_bytes};
-ghost use Rattle.oim_rows.specs.RowFacts.{row_id_place, row_id_text};
-
-use itoa::Buffer;
 
 /// The cells under these places of the header.
 fn cells_of(
@@ -177,31 +89,24 @@ fn cells_of(
     Ok(cells)
 }
 
-/// The identifier of a row that has no cell for it.
-fn numbered_id(alloc: Global, number: u32) -> Result<String, AllocError>
-    ensures { IfOk result (λ id. string_bytes id ≡ codes "r_" ++ decimal number) }
-{
-    let mut buffer = Buffer::new();
-    let mut id = String::with_capacity(alloc, 12)?;
-    id.push_str("r_")?;
-    id.push_str(buffer.format(number))?;
-    Ok(id)
-}
-
 impl Decoder<'_> {
     /// The identifier of row `number`.
     fn id_text(&self, alloc: Global, number: u32, row: &ByteRecord) -> Result<String, AllocError>
         requires { IsTextRecord (fields_of row.now) }
         ensures { IfOk result (λ id. string_bytes id ≡ row_id_text (id_place_of self.now) number (fields_of row.now)) }
     {
-        match self.id_place {
+        match self.form.id_place() {
             Some(place) => String::from_str(alloc, text_at(row, Some(place))),
-            None => numbered_id(alloc, number),
+            None => {
+                let mut id = String::new(alloc);
+                push_number(&mut id, number)?;
+                Ok(id)
+            }
         }
     }
 
     /// A record as a row, with a cell for each column of the template. Fails where memory is short.
-    pub fn row(&self, alloc: Global, number: u32, row: &ByteRecord) -> Result<Row, AllocError>
+    fn row(&self, alloc: Global, number: u32, row: &ByteRecord) -> Result<Row, AllocError>
         requires { IsTextRecord (fields_of row.now) }
         ensures { IfOk result (λ r. r ≡ row_of self.now number (fields_of row.now)) }
     {
@@ -210,11 +115,6 @@ impl Decoder<'_> {
         Ok(Row::new(number, Text::new(id), cells))
     }
 }
-
-ghost use Rattle.std.specs.Prelude.{IfSome};
-ghost use Rattle.oim_meta.specs.Readers.{columns_of};
-ghost use Rattle.oim_rows.specs.RowFacts.{fact_at, holds_facts, is_fact_column};
-ghost use Rattle.oim_rows.specs.Streams.{OrNoMemory};
 
 fn is_of_facts(kind: ColumnKind) -> bool
     ensures { result ≡ holds_facts kind }
@@ -236,6 +136,13 @@ fn is_fact(columns: &[Column], column: usize) -> bool
 }
 
 impl Decoder<'_> {
+    /// The place of the table in its report.
+    pub(crate) fn table(&self) -> usize
+        ensures { result ≡ (self.now).table }
+    {
+        self.form.table()
+    }
+
     /// The fact under one header cell.
     fn fact_of_cell(
         &self,
@@ -255,9 +162,9 @@ impl Decoder<'_> {
         }
         match self.plan.resolve(alloc, row, column) {
             Ok(fact) => Ok(fact),
-            Err(CellFault::Memory) => Err(whole_fault(self.table, TableKind::Memory)),
+            Err(CellFault::Memory) => Err(whole_fault(self.table(), TableKind::Memory)),
             Err(fault) => Err(fault_at_place(
-                self.table,
+                self.table(),
                 row.number,
                 place,
                 TableKind::Cell(fault),
@@ -268,7 +175,7 @@ impl Decoder<'_> {
     /// The facts of a row, in header order, for the columns that `header` names.
     ///
     /// Fails with the fault of the first cell that has one, and with Memory where memory is short.
-    pub fn facts_of_row(
+    fn facts_of_row(
         &self,
         alloc: Global,
         row: &Row,
@@ -278,68 +185,17 @@ impl Decoder<'_> {
         ensures { OrNoMemory (self.now).table result (facts_from (self.now).report (self.now).table row.now 0 header.now) }
     {
         let Ok(room) = Vec::with_capacity(alloc, header.len()) else {
-            return Err(whole_fault(self.table, TableKind::Memory));
+            return Err(whole_fault(self.table(), TableKind::Memory));
         };
         let mut facts = Items::from_vec(room);
         for i in 0..header.len() {
             if let Some(fact) = self.fact_of_cell(alloc, row, i, header[i])? {
                 if facts.push(fact).is_err() {
-                    return Err(whole_fault(self.table, TableKind::Memory));
+                    return Err(whole_fault(self.table(), TableKind::Memory));
                 }
             }
         }
         Ok(facts)
-    }
-}
-
-ghost use Rattle.std.specs.Prelude.{OnOk, IsSome, false, nat_lt};
-ghost use Rattle.std.specs.List.{list_any};
-ghost use Rattle.oim_rows.specs.Header.{fault_at};
-ghost use Rattle.oim_rows.specs.RowFacts.{id_place_of, ids_after, row_result, IsNewId};
-
-/// The fault of a row as a whole.
-pub(crate) fn fault_of_whole_row(table: usize, row: u32, kind: TableKind) -> TableFault
-    ensures { result ≡ fault_at table row 0 kind }
-{
-    TableFault {
-        table,
-        row,
-        column: 0,
-        kind,
-    }
-}
-
-impl Decoder<'_> {
-    /// The place of the table.
-    pub fn table(&self) -> usize
-        ensures { result ≡ (self.now).table }
-    {
-        self.table
-    }
-
-    /// The column of each header cell, none for an empty one.
-    pub fn header(&self) -> &[Option<usize>]
-        ensures { result.now ≡ (self.now).header }
-    {
-        self.header.as_slice()
-    }
-
-    /// The first fault of a row, but for its cells.
-    fn fault_of_row(&self, number: u32, ids: &RowIds, row: &ByteRecord) -> Option<TableFault>
-        ensures { result ≡ row_fault self.now number ids.now (fields_of row.now) }
-    {
-        if row.len() != self.header.len() {
-            return Some(fault_of_whole_row(self.table, number, TableKind::Ragged));
-        }
-        if let Some(place) = first_not_text(row) {
-            return Some(fault_at_place(self.table, number, place, TableKind::NotUtf8));
-        }
-        if number > self.limit {
-            return Some(fault_of_whole_row(self.table, number, TableKind::TooManyRows));
-        }
-        let place = self.id_place?;
-        let kind = kind_of_id(ids, text_at(row, Some(place)))?;
-        Some(fault_at_place(self.table, number, place, kind))
     }
 
     /// Adds the identifier of a row to those before it.
@@ -348,14 +204,14 @@ impl Decoder<'_> {
         requires new { IsNewId (id_place_of self.now) ids.old (fields_of row.now) }
         ensures { OnOk result (ids.new ≡ ids_after (id_place_of self.now) ids.old (fields_of row.now)) }
     {
-        if let Some(place) = self.id_place {
+        if let Some(place) = self.form.id_place() {
             ids.push(String::from_str(alloc, text_at(row, Some(place)))?)?;
         }
         Ok(())
     }
 
     /// The facts of row `number`. The row's identifier joins those of the rows before it.
-    pub fn facts(
+    pub(crate) fn facts(
         &self,
         alloc: Global,
         number: u32,
@@ -367,15 +223,15 @@ impl Decoder<'_> {
         ensures ids { OnOk result (ids.new ≡ ids_after (id_place_of self.now) ids.old (fields_of row.now)) }
         ensures within { OnOk result (number ≤ (self.now).limit) }
     {
-        if let Some(fault) = self.fault_of_row(number, ids, row) {
+        if let Some(fault) = self.form.fault_of_row(number, ids, row) {
             return Err(fault);
         }
         let Ok(cells) = self.row(alloc, number, row) else {
-            return Err(whole_fault(self.table, TableKind::Memory));
+            return Err(whole_fault(self.table(), TableKind::Memory));
         };
-        let facts = self.facts_of_row(alloc, &cells, self.header.as_slice())?;
+        let facts = self.facts_of_row(alloc, &cells, self.form.header())?;
         if self.add_id(alloc, ids, row).is_err() {
-            return Err(whole_fault(self.table, TableKind::Memory));
+            return Err(whole_fault(self.table(), TableKind::Memory));
         }
         Ok(facts)
     }

@@ -1,40 +1,44 @@
 //! What is wrong with a table, and where.
 
 ghost use Rattle.std.specs.Prelude.{◌≡◌};
+ghost use Rattle.std.specs.Prelude.{◌+◌};
 ghost use Rattle.oim_rows.specs.FaultNames.{number_of, name_of};
+ghost use Rattle.oim_rows.specs.Header.{fault_at, file_fault};
+ghost use Rattle.oim_rows.specs.Streams.{fault_of_read};
 
+use oim_meta::ReadFault;
 use oim_resolve::CellFault;
 
 /// What a fault of a table is.
 #[derive(Clone, Copy, PartialEq, Eq, Debug)]
 pub enum TableKind {
-    /// 20: a table that isn't optional has no file.
+    /// 20: a table that is not optional has no file.
     NoFile,
     /// 21: the reader failed.
     Read,
-    /// 22: there is no record at all.
+    /// 22: the file has no record at all.
     NoHeader,
-    /// 23: a header cell that isn't empty names no column of the template.
+    /// 23: a header cell that is not empty does not name a column of the template.
     UnknownHeader,
     /// 24: a column stands twice in the header.
     RepeatedHeader,
-    /// 25: the template's column of row identifiers isn't in the header.
+    /// 25: the template's column of row identifiers is not in the header.
     NoRowIdColumn,
     /// 26: a record has another length than the header.
     Ragged,
-    /// 27: a cell isn't UTF-8.
+    /// 27: a cell is not UTF-8.
     NotUtf8,
-    /// 41: the row is above the limit.
+    /// 41: the table has more rows than the limit.
     TooManyRows,
     /// 28: the cell of the row identifier is empty.
     MissingRowId,
-    /// 29: it is not a row identifier.
+    /// 29: the cell of the row identifier is not well-formed.
     BadRowId,
-    /// 30: an earlier row of the table has it.
+    /// 30: an earlier row of the table has the same row identifier.
     RepeatedRowId,
-    /// 31 to 40, and 44: a cell has this fault. Want of memory is `Memory`, for a cell as for all else.
+    /// 31 to 40, and 44: a cell has this fault. Where memory runs out for a cell, that is `Memory`.
     Cell(CellFault),
-    /// 42: a growth was refused.
+    /// 42: memory ran out.
     Memory,
     /// 43: no worker could be started.
     NoThread,
@@ -115,5 +119,56 @@ impl TableFault {
         ensures { result.now ≡ name_of (self.now).kind }
     {
         self.kind.name()
+    }
+}
+
+/// A fault of a table's file as a whole.
+pub fn whole_fault(table: usize, kind: TableKind) -> TableFault
+    ensures { result ≡ file_fault table kind }
+{
+    TableFault {
+        table,
+        row: 0,
+        column: 0,
+        kind,
+    }
+}
+
+/// A fault of a row as a whole.
+pub(crate) fn fault_of_whole_row(table: usize, row: u32, kind: TableKind) -> TableFault
+    ensures { result ≡ fault_at table row 0 kind }
+{
+    TableFault {
+        table,
+        row,
+        column: 0,
+        kind,
+    }
+}
+
+/// A fault of a row at a place in the header, from 0.
+pub(crate) fn fault_at_place(table: usize, row: u32, place: usize, kind: TableKind) -> TableFault
+    ensures { result ≡ fault_at table row (place + 1) kind }
+{
+    let column = if place < u32::MAX as usize {
+        place as u32 + 1
+    } else {
+        u32::MAX
+    };
+    TableFault {
+        table,
+        row,
+        column,
+        kind,
+    }
+}
+
+/// The fault of a table whose reader failed: Read, or Memory.
+pub fn fault_of_read(table: usize, fault: ReadFault) -> TableFault
+    ensures { result ≡ fault_of_read table fault }
+{
+    match fault {
+        ReadFault::Read => whole_fault(table, TableKind::Read),
+        ReadFault::Memory => whole_fault(table, TableKind::Memory),
     }
 }

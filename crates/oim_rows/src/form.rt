@@ -4,14 +4,13 @@ ghost use Rattle.std.specs.Prelude.{◌≡◌, ◌⊎◌, ◌<◌, IfOk, IfErr, 
 ghost use Rattle.std.specs.String.{string_bytes};
 ghost use Rattle.csv.specs.Records.{fields_of};
 ghost use Rattle.oim_rows.specs.Header.{file_header_fault};
-ghost use Rattle.oim_rows.specs.RowFacts.{IsNewId, id_place_of, ids_after, row_fault, row_id_text};
+ghost use Rattle.oim_rows.specs.RowFacts.{IsNewId, id_place_of, ids_after, row_fault, row_id_place, row_id_text};
 ghost use Rattle.oim_rows.specs.Streams.{IsOutside, TakesHeader};
 
-use crate::decoder::{fault_of_whole_row, first_not_text, kind_of_id, place_of_id, text_at};
-use crate::fault::{TableFault, TableKind};
-use crate::header::fault_at_place;
+use crate::cells::{first_not_text, text_at};
+use crate::fault::{TableFault, TableKind, fault_at_place, fault_of_whole_row};
+use crate::header::{read_header, source_of};
 use crate::ids::RowIds;
-use crate::rows::read_header;
 use csv::{ByteRecord, StringRecord};
 use itoa::Buffer;
 use oim_meta::{Records, Report};
@@ -41,6 +40,16 @@ impl<'a> Model for RowForm<'a> {
     ghost view = { λ a. record { report = a.report.now; table = a.table; limit = a.limit; header = a.header.items } };
 
     ghost invariant = { λ a. (a.table < length a.report.now.tables) × (a.id_place ≡ row_id_place (template_of a.report.now a.table).row_id_column a.header.items) };
+}
+
+/// The place in a header of the row identifier, where the template has a column for it.
+fn place_of_id(header: &[Option<usize>], column: Option<usize>) -> Option<usize>
+    ensures { result ≡ row_id_place column header.now }
+{
+    match column {
+        Some(column) => source_of(header, column),
+        None => None,
+    }
 }
 
 impl<'a> RowForm<'a> {
@@ -78,7 +87,21 @@ impl<'a> RowForm<'a> {
     }
 }
 
-impl RowForm<'_> {
+impl<'a> RowForm<'a> {
+    /// The report of the table.
+    pub(crate) fn report(&self) -> &'a Report
+        ensures { result.now ≡ (self.now).report }
+    {
+        self.report
+    }
+
+    /// The place in the header of the row identifier, where the table has a column for it.
+    pub(crate) fn id_place(&self) -> Option<usize>
+        ensures { result ≡ id_place_of self.now }
+    {
+        self.id_place
+    }
+
     /// The place of the table in its report.
     pub fn table(&self) -> usize
         ensures value { result ≡ (self.now).table }
@@ -94,8 +117,8 @@ impl RowForm<'_> {
         self.header.as_slice()
     }
 
-    /// The first fault of row `number`, but for its cells, where `ids` are the identifiers of the
-    /// rows before it.
+    /// The first fault of row `number` apart from those of its cells, where `ids` are the identifiers of
+    /// the rows before it: Ragged, NotUtf8, TooManyRows, MissingRowId, BadRowId or RepeatedRowId.
     pub fn fault_of_row(&self, number: u32, ids: &RowIds, row: &ByteRecord) -> Option<TableFault>
         ensures { result ≡ row_fault self.now number ids.now (fields_of row.now) }
     {
@@ -109,7 +132,7 @@ impl RowForm<'_> {
             return Some(fault_of_whole_row(self.table, number, TableKind::TooManyRows));
         }
         let place = self.id_place?;
-        let kind = kind_of_id(ids, text_at(row, Some(place)))?;
+        let kind = ids.fault_of(text_at(row, Some(place)))?;
         Some(fault_at_place(self.table, number, place, kind))
     }
 
@@ -150,7 +173,7 @@ impl RowForm<'_> {
 ghost use Rattle.std.specs.Prelude.{[], unwrap_or};
 ghost use Rattle.csv.specs.Records.{field_at};
 
-// The text of a cell, or the empty text where there is none.
+/// The text of a cell, or the empty text where there is none.
 fn text_or_empty(row: &StringRecord, place: usize) -> &str
     ensures { result.now ≡ unwrap_or (field_at (fields_of row.now) place) [] }
 {
@@ -162,8 +185,8 @@ fn text_or_empty(row: &StringRecord, place: usize) -> &str
 
 ghost use Rattle.std.specs.Prelude.{◌++◌, codes, decimal, Some};
 
-// The identifier of a row that has no cell for it.
-fn push_number(id: &mut String, number: u32) -> Result<(), AllocError>
+/// Appends the identifier of a row of a table that has no column for it: `r_` and the row's number.
+pub(crate) fn push_number(id: &mut String, number: u32) -> Result<(), AllocError>
     ensures { OnOk result (string_bytes id.new ≡ string_bytes id.old ++ (codes "r_" ++ decimal number)) }
 {
     let mut buffer = Buffer::new();

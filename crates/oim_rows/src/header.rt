@@ -1,28 +1,19 @@
 //! The header of a table file.
 
-ghost use Rattle.std.specs.Prelude.{◌≡◌, ◌≤◌, ◌<◌, ◌+◌, ◌⊎◌, [], IfOk, IfErr, IfSome, None, Some, Ok, Err, true, take, length};
+ghost use Rattle.std.specs.Prelude.{◌≡◌, ◌<◌, ◌⊎◌, [], IfOk, IfErr, IfSome, None, Some, Ok, Err, true, take, length};
 ghost use Rattle.std.specs.List.{list_any, position_from};
 ghost use Rattle.std.specs.Str.{bytes_eq};
 ghost use Rattle.csv.specs.Records.{field_at, fields_of};
 ghost use Rattle.oim_meta.specs.Readers.{columns_of as columns_in, template_of};
-ghost use Rattle.oim_rows.specs.Header.{columns_fault, named_column, fault_at, header_fault, header_of, is_column, is_unknown, names_row_id, place_of, repeat_from};
-ghost use Rattle.oim_rows.specs.Streams.{early_header_fault, fault_of_read};
+ghost use Rattle.oim_rows.specs.Header.{columns_fault, named_column, file_fault, file_header_fault, header_fault, header_of, is_column, is_unknown, names_row_id, place_of, repeat_from};
+ghost use Rattle.oim_rows.specs.Streams.{IsOutside, TakesHeader, early_header_fault};
 
-use crate::fault::{TableFault, TableKind};
+use crate::cells::field;
+use crate::fault::{TableFault, TableKind, fault_at_place, fault_of_read, whole_fault};
 use csv::ByteRecord;
-use oim_meta::{Column, ReadFault, Report};
+use oim_meta::{Column, ReadFault, Records, Report};
 use std::alloc::{AllocError, Global};
-
-/// The field at a place.
-pub fn field(row: &ByteRecord, i: usize) -> &[u8]
-    requires { i < length (fields_of row.now) }
-    ensures { field_at (fields_of row.now) i ≡ Some result.now }
-{
-    match row.get(i) {
-        Some(cell) => cell,
-        None => unreachable!(),
-    }
-}
+use std::io::Read;
 
 fn same_bytes(text: &str, bytes: &[u8]) -> bool
     ensures { result ≡ bytes_eq text.now bytes.now }
@@ -56,7 +47,7 @@ fn is_unknown_cell(columns: &[Column], cell: &[u8]) -> bool
     !cell.is_empty() && place_of_cell(columns, cell).is_none()
 }
 
-/// The first header cell that isn't empty and names no column.
+/// The place of the first header cell that is not empty and does not name a column.
 fn first_unknown(columns: &[Column], row: &ByteRecord) -> Option<usize>
     ensures { result ≡ position_from (is_unknown columns.now) 0 (fields_of row.now) }
 {
@@ -93,7 +84,7 @@ fn is_place(place: Option<usize>, column: usize) -> bool
 }
 
 /// The place of a column in a header, or in its front.
-pub fn source_of(header: &[Option<usize>], column: usize) -> Option<usize>
+pub(crate) fn source_of(header: &[Option<usize>], column: usize) -> Option<usize>
     ensures { result ≡ position_from (is_column column) 0 header.now }
 {
     header.iter().position(|place| is_place(*place, column))
@@ -129,43 +120,12 @@ fn first_repeated(header: &[Option<usize>]) -> Option<usize>
     None
 }
 
-/// The fault of a place in the header, from 0.
-pub fn fault_at_place(table: usize, row: u32, place: usize, kind: TableKind) -> TableFault
-    ensures { result ≡ fault_at table row (place + 1) kind }
-{
-    let column = if place < u32::MAX as usize {
-        place as u32 + 1
-    } else {
-        u32::MAX
-    };
-    TableFault {
-        table,
-        row,
-        column,
-        kind,
-    }
-}
-
 fn names_row_id_column(column: Option<usize>, header: &[Option<usize>]) -> bool
     ensures { result ≡ names_row_id column header.now }
 {
     match column {
         Some(column) => has_column(header, column),
         None => true,
-    }
-}
-
-ghost use Rattle.oim_rows.specs.Header.{file_fault};
-
-/// The fault of a file as a whole.
-pub fn whole_fault(table: usize, kind: TableKind) -> TableFault
-    ensures { result ≡ file_fault table kind }
-{
-    TableFault {
-        table,
-        row: 0,
-        column: 0,
-        kind,
     }
 }
 
@@ -183,19 +143,9 @@ fn columns_fault(report: &Report, table: usize, header: &[Option<usize>]) -> Opt
     None
 }
 
-/// The fault of a table whose reader gives no record.
-pub fn fault_of_read(table: usize, fault: ReadFault) -> TableFault
-    ensures { result ≡ fault_of_read table fault }
-{
-    match fault {
-        ReadFault::Read => whole_fault(table, TableKind::Read),
-        ReadFault::Memory => whole_fault(table, TableKind::Memory),
-    }
-}
-
 /// The columns of a table's header, where `found` is the reader's answer for it and `row` the record.
 /// Memory is taken only once each cell names a column.
-pub fn take_header(
+fn take_header(
     alloc: Global,
     report: &Report,
     table: usize,
@@ -224,4 +174,20 @@ pub fn take_header(
         Some(fault) => Err(fault),
         None => Ok(header),
     }
+}
+
+/// The columns of a table's header, the first record.
+pub(crate) fn read_header<R: Read>(
+    alloc: Global,
+    report: &Report,
+    table: usize,
+    records: &mut Records<R>,
+    row: &mut ByteRecord,
+) -> Result<Vec<Option<usize>>, TableFault>
+    requires { table < length report.now.tables }
+    ensures header { IfOk result (λ h. TakesHeader report.now table records.old h.items records.new) }
+    ensures fault { IfErr result (λ e. IsOutside table e ⊎ IfSome records.old (λ rs. file_header_fault report.now table rs ≡ Some e)) }
+{
+    let found = records.read(row);
+    take_header(alloc, report, table, found, row)
 }

@@ -3,13 +3,14 @@
 //! `Rows` reads a table's file record by record, and keeps none of them: the first record is the
 //! header, and each further record is a row. What it gives is exactly the table's stream: the
 //! facts of each row before the first bad one, in header order, and then the end or the table's
-//! first fault, with its row and its place in the header. A row with any fault gives no fact.
+//! first fault, with its row and its place in the header. A row with any fault does not give any fact.
 //! Only a failed read or running out of memory may end a table earlier. After the end or a fault
 //! it answers the same again and reads nothing. A table ends at the limit of rows at the latest.
 //!
 //! Table files are those of xBRL-CSV 1.0.
 #![tactic(auto)]
 
+mod cells;
 mod decoder;
 mod fault;
 mod form;
@@ -18,10 +19,8 @@ mod ids;
 mod laws;
 mod rows;
 
-pub use decoder::Decoder;
-pub use fault::{TableFault, TableKind};
+pub use fault::{TableFault, TableKind, fault_of_read, whole_fault};
 pub use form::RowForm;
-pub use header::{fault_of_read, whole_fault};
 pub use ids::RowIds;
 pub use laws::{fact_identifiers_differ, stream_is_of_all_rows};
 pub use rows::{RowFacts, Rows};

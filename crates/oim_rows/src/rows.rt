@@ -5,11 +5,11 @@ ghost use Rattle.csv.specs.Records.{fields_of};
 ghost use Rattle.oim_meta.specs.Grid.{grid};
 ghost use Rattle.oim_rows.specs.Header.{file_header_fault};
 ghost use Rattle.oim_rows.specs.RowFacts.{id_place_of, ids_after, row_result};
-ghost use Rattle.oim_rows.specs.Streams.{GivesNext, IsOutside, OrNoMemory, TakesHeader, answer_of, early_row_answer, row_answer, kept_answer, stream_from, stream_of};
+ghost use Rattle.oim_rows.specs.Streams.{GivesNext, IsOutside, OrNoMemory, answer_of, early_row_answer, row_answer, kept_answer, stream_from, stream_of};
 
 use crate::decoder::Decoder;
-use crate::fault::{TableFault, TableKind};
-use crate::header::{fault_of_read, take_header, whole_fault};
+use crate::fault::{TableFault, TableKind, fault_of_read, whole_fault};
+use crate::form::RowForm;
 use crate::ids::RowIds;
 use csv::ByteRecord;
 use oim_meta::{Limits, ReadFault, Records, Report};
@@ -62,22 +62,6 @@ impl<'a, R: Read> Model for Rows<'a, R> {
     } };
 
     ghost invariant = { λ a. (a.given ≤ a.decoder.limit) × (a.decoder.limit < 2 ^ 32 - 1) };
-}
-
-/// The columns of a table's header, the first record.
-pub(crate) fn read_header<R: Read>(
-    alloc: Global,
-    report: &Report,
-    table: usize,
-    records: &mut Records<R>,
-    row: &mut ByteRecord,
-) -> Result<Vec<Option<usize>>, TableFault>
-    requires { table < length report.now.tables }
-    ensures header { IfOk result (λ h. TakesHeader report.now table records.old h.items records.new) }
-    ensures fault { IfErr result (λ e. IsOutside table e ⊎ IfSome records.old (λ rs. file_header_fault report.now table rs ≡ Some e)) }
-{
-    let found = records.read(row);
-    take_header(alloc, report, table, found, row)
 }
 
 /// The facts of row `number`, where `found` is the reader's answer for it and `row` the record.
@@ -142,16 +126,16 @@ impl<'a, R: Read + Drop> Rows<'a, R> {
         ensures stream { IfSome (R.remaining reader) (λ bytes. IfOk result (λ rows. rows.left ≡ Some (stream_of report.now table limits.rows (grid bytes)))) }
         ensures header { IfSome (R.remaining reader) (λ bytes. IfOk result (λ _. file_header_fault report.now table (grid bytes) ≡ None)) }
 
-        // Its fault, unless the reader failed or a growth was refused.
+        // Its fault, unless the reader failed or memory ran out.
         ensures fault { IfSome (R.remaining reader) (λ bytes. IfErr result (λ e. IsOutside table e ⊎ (file_header_fault report.now table (grid bytes) ≡ Some e))) }
     {
         let mut records = Records::new(alloc, reader);
         let mut row = ByteRecord::new(alloc);
-        let header = match read_header(alloc, report, table, &mut records, &mut row) {
-            Ok(header) => header,
+        let form = match RowForm::read(alloc, report, table, limits.rows, &mut records, &mut row) {
+            Ok(form) => form,
             Err(fault) => return Err(fault),
         };
-        let Ok(decoder) = Decoder::new(alloc, report, table, limits.rows, header) else {
+        let Ok(decoder) = Decoder::new(alloc, form) else {
             return Err(whole_fault(table, TableKind::Memory));
         };
         Ok(Rows {

@@ -1,7 +1,7 @@
-//! Tests of calls under want of memory: each call is made with no memory left, then with a little more,
-//! and so on until it has enough. So the first growth is refused, then the second, and so on.
+//! Tests of calls that run out of memory: each call is made with no memory left, then with a little more,
+//! and so on until it has enough. So its first allocation is refused, then its second, and so on.
 //!
-//! The crate stands above the others and has nothing but these tests and what makes them.
+//! The crate is above the others, and has only these tests and what they need.
 #![tactic(auto)]
 
 mod scarcity;

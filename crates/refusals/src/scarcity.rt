@@ -1,40 +1,40 @@
-//! Memory that is taken, and given back a little at a time.
+//! Taking all memory, and giving it back a little at a time.
 
 use std::alloc::Global;
 
-/// Bytes that are enough for most calls.
+/// A number of bytes that is enough for most calls.
 pub const ROOM: usize = 65_536;
 
-/// The most bytes that a call may have at last.
+/// The largest number of bytes that a call may be given.
 const MOST: usize = 1 << 20;
 
-/// The bytes that a call has more each time.
+/// How many more bytes a call is given each time.
 const STEP: usize = 16;
 
-/// What a call did with the memory that was left.
+/// What a call did with the memory that it had.
 #[derive(Clone, Copy, PartialEq, Eq, Debug)]
 pub enum Answer {
-    /// It was refused memory, and everything is as it was.
+    /// It was refused memory, and nothing changed.
     Refused,
-    /// It had enough memory, and answers as with ample memory.
+    /// It had enough memory, and answered as with ample memory.
     Enough,
-    /// It answers something else.
+    /// It answered something else.
     Wrong,
 }
 
-/// A call that can be made again once it was refused memory.
+/// A call that can be made again after it was refused memory.
 pub trait Call {
-    /// Makes the call. Nothing else in it takes memory.
+    /// Makes the call. Nothing else in it allocates memory.
     fn make(&mut self, alloc: Global) -> Answer;
 }
 
-/// What is left of the address space, taken so that nothing more can be had.
+/// The rest of the address space, taken so that no more memory can be allocated.
 #[derive(Drop)]
 struct Hoard {
     _blocks: Vec<Vec<u8>>,
 }
 
-/// Takes all memory, in ever smaller blocks. None where the list of them can't be made.
+/// Takes all memory, in ever smaller blocks. `None` if the list of them cannot be made.
 fn take_all(alloc: Global) -> Option<Hoard> {
     let mut blocks = Vec::with_capacity(alloc, 1 << 20).ok()?;
     for shift in (4..47usize).rev() {
@@ -50,12 +50,12 @@ fn take_all(alloc: Global) -> Option<Hoard> {
     Some(Hoard { _blocks: blocks })
 }
 
-/// How often a call is refused memory before it has enough, with 16 bytes more each time, up to `room`
-/// bytes, at most 1,048,576. None where it never has enough, or answers something else before. It takes
-/// all memory meanwhile, so it is for a process that does nothing else.
+/// How often a call is refused memory before it has enough, with 16 more bytes each time, up to `room`
+/// bytes, which is at most 1,048,576. `None` if it never has enough, or answers something else before. It
+/// takes all memory meanwhile, so it is for a process that does nothing else.
 pub fn refusals<C: Call>(alloc: Global, room: usize, call: &mut C) -> Option<u32> {
     let room = room.min(MOST);
-    // the system's first large block stands apart from its heap, and a second one in it
+    // The system's first large block is outside its heap, and a second one inside.
     drop(Vec::<u8>::with_capacity(alloc, room).ok()?);
     let mut filler = Vec::<u8>::with_capacity(alloc, room).ok()?;
     let _hoard = take_all(alloc)?;

@@ -1,4 +1,4 @@
-//! The blocks of a table under want of memory.
+//! Reading a table in blocks while memory runs out.
 
 use crate::tests_metadata::report;
 use crate::{Answer, Call, ROOM, refusals};
@@ -11,7 +11,7 @@ use std::test::Fail;
 /// A table of two rows.
 const TABLE: &[u8] = b"cash,note,g\n100,first,x\n200,second,x\n";
 
-/// What a call did that answers a fault of a table, if it was not refused.
+/// What a call did that can give a fault of a table, if it was not refused.
 fn of_fault(fault: TableFault) -> Answer {
     if fault.kind == TableKind::Memory {
         Answer::Refused
@@ -20,7 +20,7 @@ fn of_fault(fault: TableFault) -> Answer {
     }
 }
 
-/// What the reading of all blocks did. Facts that were read before memory was refused may come first.
+/// What reading all blocks did. Facts that were read before memory was refused may come first.
 fn read_blocks(alloc: Global, blocks: &mut TableBlocks<'_, &[u8]>) -> Answer {
     let mut facts = 0usize;
     for _ in 0..5u32 {

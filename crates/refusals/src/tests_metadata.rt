@@ -1,4 +1,4 @@
-//! The files of a report's metadata under want of memory.
+//! Reading a report's metadata, types table and parameters file while memory runs out.
 
 use crate::{Answer, Call, ROOM, refusals};
 use oim_meta::{
@@ -24,7 +24,7 @@ pub(crate) const METADATA: &str =
 pub(crate) const TYPES: &str =
     "namespace,name,type\nhttp://example.com/eg,Cash,integer\nhttp://example.com/eg,Note,text\nhttp://example.com/eg,Branch,typed\n";
 
-/// What a call did that answers a fault of the metadata, if it was not refused.
+/// What a call did that can give a fault of the metadata, if it was not refused.
 fn of_fault(fault: MetaFault) -> Answer {
     if fault == MetaFault::Memory {
         Answer::Refused
@@ -42,7 +42,7 @@ pub(crate) fn report(alloc: Global) -> Result<Box<Report>, MetaFault> {
     Box::new(alloc, report).map_err(|_| MetaFault::Memory)
 }
 
-/// Reads the name of the parameters file.
+/// Reads the URL of the parameters file.
 #[derive(Drop)]
 struct ReadsUrl;
 

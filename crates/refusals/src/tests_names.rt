@@ -1,4 +1,4 @@
-//! Namespaces and texts under want of memory, and `add` with ample memory.
+//! Namespaces and texts while memory runs out, and `add` with ample memory.
 
 use crate::{Answer, Call, ROOM, refusals};
 use oim_names::{NameFault, Namespaces, Text};
@@ -27,7 +27,7 @@ fn are(names: &Namespaces, prefixes: &[&str]) -> bool {
     true
 }
 
-/// Whether `add` refuses what is no prefix, or is there already, and then binds one more.
+/// Whether `add` refuses what is not a prefix, or is bound already, and then binds one more.
 fn are_bound(alloc: Global) -> Result<bool, NameFault> {
     let mut names = example(alloc)?;
     let is_bad = names.add("1a", "u") == Err(NameFault::BadPrefix);
@@ -43,7 +43,7 @@ fn prefixes_are_bound(rt: HostRuntime) {
     assert!(rt; are_bound(rt.alloc()) == Ok(true));
 }
 
-/// Binds one prefix more.
+/// Binds one more prefix.
 #[derive(Drop)]
 struct Binds {
     names: Namespaces,
@@ -70,7 +70,7 @@ fn add_without_memory(rt: HostRuntime) -> Result<(), Fail> {
     Ok(())
 }
 
-/// Copies a text that is shared.
+/// Copies a shared text.
 #[derive(Drop)]
 struct CopiesShared {
     text: Text,

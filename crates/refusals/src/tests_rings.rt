@@ -1,11 +1,11 @@
-//! Rings under want of memory.
+//! Opening rings while memory runs out.
 
 use crate::{Answer, Call, ROOM, refusals};
 use oim_ring::{Lanes, lane};
 use std::alloc::{AllocError, Global};
 use std::test::Fail;
 
-/// What a call did that takes memory alone, if it was not refused.
+/// What a call did that can fail only because memory runs out, if it was not refused.
 fn answer<T: Drop>(made: Result<T, AllocError>) -> Answer {
     match made {
         Ok(_) => Answer::Enough,
@@ -13,7 +13,7 @@ fn answer<T: Drop>(made: Result<T, AllocError>) -> Answer {
     }
 }
 
-/// Opens a ring that stands alone.
+/// Opens a ring on its own.
 #[derive(Drop)]
 struct OpensOne;
 

@@ -1,4 +1,4 @@
-//! The rows of a table, their cells and their texts under want of memory.
+//! The rows of a table, their cells and their texts while memory runs out.
 
 ghost use Rattle.std.specs.Prelude.{◌<◌, length};
 
@@ -15,7 +15,7 @@ use std::test::Fail;
 /// A table of two rows.
 const TABLE: &[u8] = b"cash,note,g\n100,first,x\n200,second,x\n";
 
-/// What a call did that answers a fault of a table, if it was not refused.
+/// What a call did that can give a fault of a table, if it was not refused.
 fn of_fault(fault: TableFault) -> Answer {
     if fault.kind == TableKind::Memory {
         Answer::Refused
@@ -24,7 +24,7 @@ fn of_fault(fault: TableFault) -> Answer {
     }
 }
 
-/// Whether a reader of rows that was refused memory answers so again.
+/// Whether a reader of rows that was refused memory answers the same again.
 fn is_settled(rows: &mut Rows<'_, &[u8]>, fault: TableFault) -> bool {
     match rows.next() {
         Err(again) => again == fault,
@@ -32,7 +32,7 @@ fn is_settled(rows: &mut Rows<'_, &[u8]>, fault: TableFault) -> bool {
     }
 }
 
-/// What the reading of two rows did.
+/// What reading two rows did.
 fn read_rows(rows: &mut Rows<'_, &[u8]>) -> Answer {
     let mut given = 0u32;
     for _ in 0..3u32 {

@@ -1,4 +1,4 @@
--- What the getters of a parse give, by the rows that the parse made.
+-- What the getters of a parse give, in terms of the rows that the parse made.
 use Rattle.std.proofs.Common.{◌≡◌, ◌∙◌, ap, ap₂, ℕ, false, List, [], ◌∷◌, Option, Some, None, Result, Ok, refl}
 use Rattle.std.specs.Borrow.{Bor}
 use Rattle.std.specs.Str.Parse.{ParsesUnsigned}
@@ -17,7 +17,7 @@ number_read E G None n none value only =
     cc
 number_read E G (Some t) n none value only = (only t (value t refl)).1
 
--- an argument that gets a parser and then one default value
+-- an argument that is given a parser and then one default value
 pub chosen : (a b c : Arg) (parser : ValueParser) (d : Bor Text) (r : Rule) → b ≡ record a { value_parser = b.value_parser } → b.value_parser ≡ Some parser
     → c ≡ record b { default_vals = One d } → rule_of a ≡ r → a.global ≡ false
     → (rule_of c ≡ record r { parser = Some parser; defaults = d.now ∷ [] }) × (c.global ≡ false)

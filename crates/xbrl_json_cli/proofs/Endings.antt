@@ -1,4 +1,4 @@
--- How a run ends, from how its conversion does.
+-- How a run ends, from how its conversion ends.
 use Rattle.std.specs.Prelude.{◌≡◌, ◌⊎◌, Bool, true, false, if◌then◌else◌, ℕ, suc, List, [], ◌∷◌, ◌++◌, map, take, ◌+◌, ◌<◌, Option, Some, None, IfOk, IfSome, Result, Ok, Err, length, slice_index_or}
 use Rattle.std.proofs.Common.{refl, sym, ap, subst, ◌∙◌, inl, inr}
 use Rattle.std.proofs.lemmas.List.{length-append, map_more}
@@ -41,12 +41,13 @@ keeps_same : (a : Option (List ℕ)) → Keeps a a
 keeps_same None = tt
 keeps_same (Some xs) = refl
 
--- a conversion that found no memory for the names
+-- a conversion for which memory ran out while the names were made
 pub no_memory_ends : (layout : Layout) (early : Option ConvertFault) (report : ReportValue) (ss : List Stream) (sink : SinkView) → EndsAs layout early report ss sink sink (outcome.Run fault.Memory)
 no_memory_ends layout None report ss sink = (refl, keeps_same sink.told)
 no_memory_ends layout (Some f) report ss sink = (inr refl, (refl, keeps_same sink.told))
 
-pub converted : (layout : Layout) (workers ring readers limit : ℕ) (report : ReportValue) (files : List (Option (List ℕ))) (old new : SinkView) (r : Result Run ConvertFault) (names : List (List ℕ)) (o : Outcome)
+pub converted : (layout : Layout) (workers ring readers limit : ℕ) (report : ReportValue) (files : List (Option (List ℕ))) (old new : SinkView)
+    (r : Result Run ConvertFault) (names : List (List ℕ)) (o : Outcome)
     → names ≡ table_ids report → o ≡ outcome_by names r → readers ≡ length files
     → IfOk r (λ run. AreHistories (streams report limit files) run.drains.items)
     → IfOk r (λ run. AreUncut run.drains.items → AreStreams (streams report limit files) run.drains.items × IsAnswer layout report (streams report limit files) old new run.faults.items run.end)
@@ -56,15 +57,18 @@ pub converted : (layout : Layout) (workers ring readers limit : ℕ) (report : R
 converted layout workers ring readers limit report files old new r names o named is many histories headline faults writes =
     subst (λ n. EndsAs layout (early_fault workers ring n (length report.tables)) report (streams report limit files) old new o) many
     (subst (EndsAs layout (early_fault workers ring readers (length report.tables)) report (streams report limit files) old new) (sym is)
-    (answered layout report limit files old new names named (early_fault workers ring readers (length report.tables)) r (never_lost workers ring readers (length report.tables)) histories headline faults writes))
+    (answered layout report limit files old new names named (early_fault workers ring readers (length report.tables)) r
+    (never_lost workers ring readers (length report.tables)) histories headline faults writes))
 
--- of a report that texts say
-no_report : (layout : Layout) (early : Option ConvertFault) (report : ReportValue) (ss : List Stream) (old new : SinkView) (s : Source) (f : MetaFault) → EndsAs layout early report ss old new (outcome.Report s f) → ⊥
+-- a report that is given by texts
+no_report : (layout : Layout) (early : Option ConvertFault) (report : ReportValue) (ss : List Stream) (old new : SinkView) (s : Source)
+    (f : MetaFault) → EndsAs layout early report ss old new (outcome.Report s f) → ⊥
 no_report layout None report ss old new s f ends = ends
 no_report layout (Some g) report ss old new s f (inl is, none) = cc
 no_report layout (Some g) report ss old new s f (inr is, none) = cc
 
-unwritten : (layout : Layout) (early : Option ConvertFault) (report : ReportValue) (ss : List Stream) (old new : SinkView) → EndsAs layout early report ss old new (outcome.Run fault.Memory) → Unwritten old new
+unwritten : (layout : Layout) (early : Option ConvertFault) (report : ReportValue) (ss : List Stream) (old new : SinkView)
+    → EndsAs layout early report ss old new (outcome.Run fault.Memory) → Unwritten old new
 unwritten layout None report ss old new ends = ends
 unwritten layout (Some g) report ss old new ends = ends.1
 
@@ -95,7 +99,7 @@ module _ (given : Texts) (old new : SinkView) (report : ReportValue) (says : Say
   ends (outcome.Run (fault.Tables t)) e = all_texts (outcome.Run (fault.Tables t)) e
   ends (outcome.Run (fault.Write w)) e = all_texts (outcome.Run (fault.Write w)) e
 
--- of a report whose tables each have a file, or none
+-- a report whose tables each have a file or none
 run_ends : (layout : Layout) (workers ring : ℕ) (report : ReportValue) (files : List (Option (List ℕ))) (old new : SinkView) (o : Outcome) → length files ≡ length report.tables
     → EndsAs layout (early_fault workers ring (length files) (length report.tables)) report (streams report profile.rows files) old new o
     → EndsAs layout (range_fault workers ring) report (streams report profile.rows files) old new o
@@ -106,7 +110,7 @@ length_map : {A B : Type 0} (f : A → B) (xs : List A) → length (map f xs) �
 length_map f [] = refl
 length_map f (x ∷ xs) = ap suc (length_map f xs)
 
--- readers of the first tables, and of one more
+-- readers of the first tables, and of the next one
 files_more : {R : Type 0} (told : R → Option (List ℕ)) (rs : List (Option R)) (fs : List (Option (List ℕ))) (r : Option R) (f : Option (List ℕ))
     → AreFilesOf told rs fs → IsFileOf told r f → AreFilesOf told (rs ++ r ∷ []) (fs ++ f ∷ [])
 files_more told [] [] r f are is = (is, tt)
@@ -123,7 +127,8 @@ one_more told None base path tables i rs rs' r l is more are opened = tt
 one_more told (Some at) base path tables i rs rs' r l is more are opened =
     let opened' : IsFileOf told r (at (base ++ (slice_index_or tables i no_table).url)) = subst (λ p. IsFileOf told r (at p)) is opened in
     let both = files_more told rs (map (table_file at base) (take i tables)) r (at (base ++ (slice_index_or tables i no_table).url)) are opened' in
-    let same : map (table_file at base) (take (i + 1) tables) ≡ map (table_file at base) (take i tables) ++ table_file at base (slice_index_or tables i no_table) ∷ [] = map_more (table_file at base) tables i no_table l in
+    let same : map (table_file at base) (take (i + 1) tables) ≡ map (table_file at base) (take i tables)
+    ++ table_file at base (slice_index_or tables i no_table) ∷ [] = map_more (table_file at base) tables i no_table l in
     subst (λ xs. AreFilesOf told xs (map (table_file at base) (take (i + 1) tables))) (sym more)
     (subst (λ fs. AreFilesOf told (rs ++ r ∷ []) fs) (sym same) both)
 
@@ -148,7 +153,8 @@ early_leaves range sink (outcome.Run f) early = inl (early, (refl, keeps_same si
 early_leaves range sink (outcome.Output w) early = absurd early
 
 -- a run whose tables are converted
-pub runs : {R : Type 0} (told : R → Option (List ℕ)) (known : Option Files) (base meta types : List ℕ) (workers ring : ℕ) (layout : Layout) (old new : SinkView) (o : Outcome) (report : ReportValue) (readers : List (Option R)) → IsFolderOf base meta
+pub runs : {R : Type 0} (told : R → Option (List ℕ)) (known : Option Files) (base meta types : List ℕ) (workers ring : ℕ) (layout : Layout)
+    (old new : SinkView) (o : Outcome) (report : ReportValue) (readers : List (Option R)) → IsFolderOf base meta
     → IfSome known (λ files. IsReport files base meta types (Ok report))
     → IfSome known (λ files. AreFilesOf told readers (table_files files base report))
     → ((files : List (Option (List ℕ))) → AreFilesOf told readers files
@@ -168,7 +174,7 @@ runs told (Some files) base meta types workers ring layout old new o report read
       });
     }
 
--- a run that found no memory for the readers of its tables
+-- a run for which memory ran out while the readers of its tables were made
 pub short : (known : Option Files) (base meta types : List ℕ) (workers ring : ℕ) (layout : Layout) (sink : SinkView) (o : Outcome) (report : ReportValue) → IsFolderOf base meta
     → IfSome known (λ files. IsReport files base meta types (Ok report)) → o ≡ no_memory
     → IfSome known (λ files. EndsOver files meta types workers ring layout sink sink o)
@@ -186,7 +192,7 @@ short (Some files) base meta types workers ring layout sink o report folder is n
       });
     }
 
--- what every outcome leaves
+-- what every outcome leaves behind
 pub converted_leaves : (layout : Layout) (workers ring readers : ℕ) (report : ReportValue) (old new : SinkView) (r : Result Run ConvertFault) (names : List (List ℕ)) (o : Outcome)
     → o ≡ outcome_by names r → AnswersFault (early_fault workers ring readers (length report.tables)) r
     → Writes layout report (length report.tables) old new r
@@ -198,10 +204,11 @@ converted_leaves layout workers ring readers report old new r names o is faults 
 pub short_leaves : (range : Option ConvertFault) (sink : SinkView) (o : Outcome) → o ≡ no_memory → Leaves range sink sink o
 short_leaves range sink o none = subst (Leaves range sink sink) (sym none) (inl (refl, (refl, keeps_same sink.told)))
 
-pub run_leaves : (workers ring readers tables : ℕ) (old new : SinkView) (o : Outcome) → readers ≡ tables → Leaves (early_fault workers ring readers tables) old new o → Leaves (range_fault workers ring) old new o
+pub run_leaves : (workers ring readers tables : ℕ) (old new : SinkView) (o : Outcome) → readers ≡ tables
+    → Leaves (early_fault workers ring readers tables) old new o → Leaves (range_fault workers ring) old new o
 run_leaves workers ring readers tables old new o many = subst (λ early. Leaves early old new o) (in_range workers ring readers tables many)
 
--- BEHIND A BUFFER
+-- THROUGH A BUFFER
 
 flushed_or : (failed : Bool) (ended o : Outcome) → o ≡ (if failed then flushed ended else ended) → (o ≡ ended) ⊎ (o ≡ flushed ended)
 flushed_or true ended o is = inr is

@@ -1,19 +1,25 @@
--- The definitions, executed on worked cases.
-use Rattle.std.proofs.Common.{◌≡◌, ◌++◌, ◌∷◌, [], ℕ, List, Some, None, Err, true, false, codes, map, refl, take, if◌then◌else◌}
+-- The definitions on worked cases.
+use Rattle.std.proofs.Common.{◌≡◌, ◌++◌, ◌∷◌, [], ℕ, List, Some, None, Err, true, false, codes, inl, inr, map, refl, take, if◌then◌else◌}
 use Rattle.std.specs.Fmt.{digits}
 use Rattle.std.specs.Borrow.{Bor}
 use Rattle.std.specs.Str.{bytes_eq}
 use Rattle.clap.proofs.OnLiterals.{clap_on_literals}
 use Rattle.clap.specs.Words.{Row, Text, fault_of, first_of, matches_of, one_of}
 use Rattle.clap.specs.declared.error.kind.ErrorKind.TheVariants as kind
+use Rattle.oim_convert.specs.Runs.{AreHistories, IsOuter}
 use Rattle.oim_convert.specs.declared.fault.ConvertFault.TheVariants as fault
+use Rattle.oim_json.specs.JsonText.{head_text}
+use Rattle.oim_json.specs.Sinks.{SinkView}
+use Rattle.oim_json.specs.declared.layout.Layout.{Layout}
 use Rattle.oim_json.specs.declared.mark.WriteFault.TheVariants as write
+use Rattle.oim_merge.specs.Merging.{Merges}
 use Rattle.oim_merge.specs.declared.progress.MergeEnd.TheVariants as end
 use Rattle.oim_meta.specs.Readers.{no_level}
 use Rattle.oim_meta.specs.ReportValue.{ReportValue}
 use Rattle.oim_meta.specs.declared.data.Table.{Table}
 use Rattle.oim_meta.specs.declared.fault.MetaFault.TheVariants as refused
 use Rattle.oim_resolve.specs.declared.fact.CellFault.TheVariants as cell
+use Rattle.oim_ring.specs.declared.item.Item.{Item}
 use Rattle.oim_rows.specs.Header.{fault_at}
 use Rattle.oim_rows.specs.declared.fault.TableFault.{TableFault}
 use Rattle.oim_rows.specs.declared.fault.TableKind.TheVariants as table
@@ -22,15 +28,15 @@ use Rattle.xbrl_json_cli.specs.Conversion.{flushed}
 use Rattle.xbrl_json_cli.specs.Folders.{Files}
 use Rattle.xbrl_json_cli.specs.Lines.{line_of, status_of}
 use Rattle.xbrl_json_cli.specs.Naming.{outcome_at}
-use Rattle.xbrl_json_cli.specs.Outcomes.{refused_tables, table_ids}
+use Rattle.xbrl_json_cli.specs.Outcomes.{AreDefined, Gives, Leaves, refused_tables, table_ids}
 use Rattle.xbrl_json_cli.specs.Runs.{range_fault, table_files}
-use Rattle.xbrl_json_cli.specs.Steps.{metadata_steps, no_memory, opening, parameters_steps, reading, step}
+use Rattle.xbrl_json_cli.specs.Steps.{Stops, metadata_steps, no_memory, opening, parameters_steps, reading, step}
 use Rattle.xbrl_json_cli.specs.declared.outcome.Source.TheVariants as source
 use Rattle.xbrl_json_cli.specs.declared.outcome.Outcome.TheVariants as outcome
 
 -- ---- the command line
 
--- the words of the layouts, wherever they stand
+-- the words of the layouts, wherever they are in memory
 abbrev word : Text → Bor Text
 word text = record { ref_ptr = (0, 0); now = text }
 
@@ -156,6 +162,14 @@ missing_parameters = refl
 unread_metadata : map (λ s. s.refusals) (metadata_steps held (codes "f/m.json")) ≡ (no_memory ∷ []) ∷ (outcome.Report source.Report refused.Read ∷ no_memory ∷ []) ∷ []
 unread_metadata = refl
 
+-- a run ends at the first file that is missing, or at a file that is there because memory runs out
+stops_at_the_second : Stops (opening held (codes "f/m.json") ∷ opening held (codes "x.csv") ∷ []) (outcome.CannotRead (codes "x.csv"))
+stops_at_the_second =
+    record { before = opening held (codes "f/m.json") ∷ []; here = opening held (codes "x.csv"); later = []; split = refl; passed = (refl, tt); ends = inl refl }
+
+stops_without_memory : Stops (opening held (codes "f/m.json") ∷ opening held (codes "x.csv") ∷ []) no_memory
+stops_without_memory = record { before = []; here = opening held (codes "f/m.json"); later = opening held (codes "x.csv") ∷ []; split = refl; passed = tt; ends = inr (inl refl) }
+
 abbrev first : Table
 first = record { id = codes "t1"; url = codes "t1.csv"; is_optional = false; template = 0; parameters = [] }
 
@@ -229,3 +243,33 @@ line_of_each_refused_table : line_of (outcome.Tables two_refused)
     ≡ codes "xbrl-json: table t2, row 2, column 1: BadNumber (40)\nxbrl-json: table t3, row 0, column 1: UnknownHeader (23)\n"
 unfolding digits
 line_of_each_refused_table = refl
+
+not_outer : IsOuter table.UnknownHeader → ⊥
+not_outer (inl e) = cc
+not_outer (inr (inl e)) = cc
+not_outer (inr (inr e)) = cc
+
+a_fault_of_the_table : AreDefined (unknown_header ∷ [])
+a_fault_of_the_table = (not_outer, tt)
+
+a_failed_read : AreDefined (fault_at 0 0 0 table.Read ∷ []) → ⊥
+a_failed_read defined = defined.0 (inl refl)
+
+module _ (layout : Layout) (old new : SinkView) where
+  done_in_range : Leaves None old old outcome.Done
+  done_in_range = (refl, refl)
+
+  not_done_out_of_range : Leaves (range_fault 65 1) old new outcome.Done → ⊥
+  not_done_out_of_range leaves = let e = leaves.0 in cc
+
+  no_tables_without_a_fault : Leaves None old new (outcome.Tables []) → ⊥
+  no_tables_without_a_fault leaves = leaves.2 refl
+
+  -- a report without tables has no fault of a table
+  no_fault_without_a_table : Gives layout report [] old new (unknown_header ∷ []) end.Refused → ⊥
+  no_fault_without_a_table given = by given.histories given.are given.merged
+    where
+      by : (hs : List (List Item)) → AreHistories [] hs → Merges layout old new (head_text report) hs (unknown_header ∷ []) end.Refused → ⊥
+      by [] are merged = let e = merged.0 in cc
+      by (h ∷ hs) (inl are) merged = are
+      by (h ∷ hs) (inr are) merged = are

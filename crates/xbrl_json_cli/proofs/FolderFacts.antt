@@ -1,4 +1,4 @@
--- The folder of a path, by its last slash.
+-- The folder of a path, found by its last slash.
 use Rattle.std.proofs.Common.{◌≡◌, ◌≢◌, ◌∙◌, refl, sym, ap, arith, ℕ, ◌+◌, ◌<◌, List, [], ◌∷◌, ◌++◌, length, get_or, take, drop, inl, inr}
 use Rattle.std.proofs.lemmas.List.{get_or-drop, length-drop, take-append-drop, take_more}
 use Rattle.std.proofs.lemmas.List.Elements.{All-from_get_or}

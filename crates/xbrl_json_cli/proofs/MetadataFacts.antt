@@ -1,4 +1,4 @@
--- What reading a metadata answers is what the metadata is read as.
+-- The calls that read a metadata answer with its result as it is defined.
 use Rattle.std.proofs.Common.{◌≡◌, ◌∙◌, refl, sym, ap, arith, ℕ, ◌+◌, ◌<◌, ◌≤◌, ◌⊎◌, List, length, take, Bool, true, false, Option, Some, None, Result, Ok, Err, inl, inr, nat_lt}
 use Rattle.std.specs.Prelude.{if◌then◌else◌, codes}
 use Rattle.std.specs.Str.{is_utf8}
@@ -46,7 +46,8 @@ pub says_url : (limits : Limits) (bytes : List ℕ) (url : Option (List ℕ)) �
 says_url limits bytes url h =
     reads_value limits url_in bytes h.1.0 h.0 h.1.1 ∙ ap (λ f. unless_fault f (text_at (codes "parameterURL") h.1.0)) h.1.2 ∙ ap Ok (sym h.1.3)
 
-pub says_report : (limits : Limits) (given : ParametersValue) (types : TypesValue) (bytes : List ℕ) (r : ReportValue) → SaysReport limits given types bytes r → report_result limits given types bytes ≡ Ok r
+pub says_report : (limits : Limits) (given : ParametersValue) (types : TypesValue) (bytes : List ℕ) (r : ReportValue)
+    → SaysReport limits given types bytes r → report_result limits given types bytes ≡ Ok r
 says_report limits given types bytes r h =
     reads_value limits (report_in limits given types) bytes h.1.0 h.0 h.1.1 ∙ ap (λ f. unless_fault f (report_of given types h.1.0)) h.1.2 ∙ ap Ok (sym h.1.3)
 
@@ -102,7 +103,7 @@ report_fault limits given types bytes meta.BadParameter h = has_first limits (fi
 report_fault limits given types bytes meta.BadTypes h = has_first limits (first_fault limits given types) (report_of given types) bytes meta.BadTypes h
 report_fault limits given types bytes meta.Read h = has_first limits (first_fault limits given types) (report_of given types) bytes meta.Read h
 
--- the bytes past the limit are not looked at
+-- bytes past the limit do not matter
 take_reads : {A : Type 0} (limits : Limits) (next : Data → Result A MetaFault) (bytes : List ℕ) (b : Bool) → nat_lt limits.metadata (length bytes) ≡ b
     → read_as limits next (take (limits.metadata + 1) bytes) ≡ read_as limits next bytes
 take_reads limits next bytes true long =

@@ -3,18 +3,18 @@ use Rattle.std.specs.Prelude.{⊤, ◌≡◌, ◌≢◌, ◌≤◌, ℕ, suc, �
 use Rattle.std.proofs.Common.{arith, refl, sym, ap, ◌∙◌, subst, inl, inr, get_or-set_other}
 use Rattle.std.proofs.Math.ListN.{get_or-map}
 use Rattle.std.proofs.lemmas.List.{length-append}
-use Rattle.oim_convert.proofs.Own.{IsOwn, own_table}
-use Rattle.oim_convert.proofs.Streams.{refusals_with}
+use Rattle.oim_convert.proofs.OwnFaults.{IsOwn, own_table}
+use Rattle.oim_convert.proofs.StreamHistories.{refusals_with}
 use Rattle.oim_convert.specs.Answer.{ending_of, streams, streams_from}
 use Rattle.oim_convert.specs.Histories.{AreDecoded, AreUnserved, IsGiven}
 use Rattle.oim_convert.specs.Runs.{AreHistories}
-use Rattle.oim_merge.proofs.Going.{all_refusals, blocks_refusals}
+use Rattle.oim_merge.proofs.Writing.{all_refusals, blocks_refusals}
 use Rattle.oim_merge.specs.Histories.{all_of, refusals}
 use Rattle.oim_merge.specs.Merging.{EndEach}
 use Rattle.oim_meta.specs.Readers.{no_table, table_of}
 use Rattle.oim_meta.specs.ReportValue.{ReportValue}
 use Rattle.oim_meta.specs.declared.data.Table.{Table}
-use Rattle.oim_resolve.specs.declared.fact.Fact.{Fact}
+use Rattle.oim_resolve.specs.FactParts.{FactParts as Fact}
 use Rattle.oim_ring.specs.Items.{EndsOnce}
 use Rattle.oim_ring.specs.declared.item.Ending as Endings
 use Rattle.oim_ring.specs.declared.item.Ending.TheVariants.{Closed, Refused}
@@ -27,7 +27,7 @@ use Rattle.xbrl_json_cli.specs.Outcomes.{name_in, named_by, refused_tables, tabl
 
 -- ONE FAULT OF A TABLE, IN TABLE ORDER
 
--- the faults stand in the order of their tables, one of each at most, from place i on
+-- the faults are in the order of their tables, at most one of each, from table i on
 abbrev pub Rises : ℕ → List TableFault → Type 0
 Rises i [] = ⊤
 Rises i (e ∷ faults) = (i ≤ e.table) × Rises (e.table + 1) faults
@@ -79,7 +79,8 @@ histories_rise report limit files hs (inr none) = unserved_rises 0 (streams repo
 
 -- THEIR NAMES
 
-rising_names : (name : ℕ → List ℕ) (names : List (List ℕ)) (i : ℕ) (faults : List TableFault) → ((p : ℕ) → i ≤ p → name_in names p ≡ name p) → Rises i faults → with_names names faults ≡ named_by name faults
+rising_names : (name : ℕ → List ℕ) (names : List (List ℕ)) (i : ℕ) (faults : List TableFault) → ((p : ℕ) → i ≤ p → name_in names p ≡ name p)
+    → Rises i faults → with_names names faults ≡ named_by name faults
 rising_names name names i [] same rises = refl
 rising_names name names i (e ∷ faults) same (le, later) =
     ap (λ (n : List ℕ). (n, e) ∷ with_names (slice_set names e.table []) faults) (same e.table le)

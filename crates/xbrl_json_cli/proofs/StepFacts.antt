@@ -1,5 +1,34 @@
--- What the steps of a run give, from what the calls in them answer.
-use Rattle.std.proofs.Common.{◌≡◌, ◌∙◌, refl, sym, ap, subst, ℕ, ◌+◌, ◌⊎◌, List, [], ◌∷◌, ◌++◌, take, Option, Some, None, IfSome, IfOk, IfErr, option_map, unwrap_or, Result, Ok, Err, inl, inr, append_assoc}
+-- What the steps of a run give, from the answers of the calls in them.
+use Rattle.std.proofs.Common.{
+  ◌≡◌,
+  ◌∙◌,
+  refl,
+  sym,
+  ap,
+  subst,
+  ℕ,
+  ◌+◌,
+  ◌⊎◌,
+  List,
+  [],
+  ◌∷◌,
+  ◌++◌,
+  take,
+  Option,
+  Some,
+  None,
+  IfSome,
+  IfOk,
+  IfErr,
+  option_map,
+  unwrap_or,
+  Result,
+  Ok,
+  Err,
+  inl,
+  inr,
+  append_assoc,
+}
 use Rattle.oim_convert.specs.Files.{IsFileOf}
 use Rattle.oim_meta.specs.CsvFiles.{OrOutside}
 use Rattle.oim_meta.specs.Grid.{grid}
@@ -13,7 +42,32 @@ use Rattle.xbrl_json_cli.proofs.MetadataFacts.{report_taken, url_taken}
 use Rattle.xbrl_json_cli.specs.Conversion.{profile}
 use Rattle.xbrl_json_cli.specs.Folders.{Files}
 use Rattle.xbrl_json_cli.specs.Metadata.{report_result, url_result}
-use Rattle.xbrl_json_cli.specs.Steps.{IsAmong, IsEarly, Passes, Step, Stops, Takes, bytes_at, looking, metadata_steps, missing, no_memory, opening, parameters_at, parameters_of, parameters_steps, reading, report_at, step, steps, types_at, types_steps, url_at, value_or, wrong}
+use Rattle.xbrl_json_cli.specs.Steps.{
+  IsAmong,
+  IsEarly,
+  Passes,
+  Step,
+  Stops,
+  Takes,
+  bytes_at,
+  looking,
+  metadata_steps,
+  missing,
+  no_memory,
+  opening,
+  parameters_at,
+  parameters_of,
+  parameters_steps,
+  reading,
+  report_at,
+  step,
+  steps,
+  types_at,
+  types_steps,
+  url_at,
+  value_or,
+  wrong,
+}
 use Rattle.xbrl_json_cli.specs.declared.outcome.Outcome.{Outcome}
 use Rattle.xbrl_json_cli.specs.declared.outcome.Outcome.TheVariants as outcome
 use Rattle.xbrl_json_cli.specs.declared.outcome.Source.{Source}
@@ -25,7 +79,7 @@ pub passes_both : (xs ys : List Step) → Passes xs → Passes ys → Passes (xs
 passes_both [] ys p q = q
 passes_both (x ∷ xs) ys p q = (p.0, passes_both xs ys p.1 q)
 
--- a run that ends at a step ends so with more steps behind it, and with steps before it that have no fault
+-- a run that ends at a step ends the same way with more steps after it, and with steps before it that have no fault
 pub stops_first : (xs ys : List Step) (o : Outcome) → Stops xs o → Stops (xs ++ ys) o
 stops_first xs ys o s =
     record {
@@ -78,7 +132,7 @@ pub not_opened : {R : Type 0} (told : R → Option (List ℕ)) (known : Option F
 not_opened told None path o is said = tt
 not_opened told (Some files) path o is said = stops_at (opening files path) [] o (not_opened_by told path o (files path) is said)
 
--- A FILE THAT IS READ
+-- READING A FILE
 
 abbrev is_same : {A B : Type 0} → Result A B → Result A B → Type 0
 is_same a b = a ≡ b
@@ -167,7 +221,7 @@ read_most told r inner limit start items same is empty h =
     most_of None e = tt
     most_of (Some bytes) e = e
 
--- WHAT WAS READ IS LOOKED AT
+-- LOOKING AT WHAT WAS READ
 
 module _ {A : Type 0} (answer : Result A MetaFault) where
   pub looks_value : (a : A) → answer ≡ Ok a → Takes {X = A} (looking answer ∷ []) (λ x. answer ≡ Ok x) (Ok a)
@@ -179,7 +233,7 @@ module _ {A : Type 0} (answer : Result A MetaFault) where
 
 -- ALL STEPS
 
--- the steps behind the first ones
+-- the steps after the first ones
 abbrev from_report : Files → (base meta types : List ℕ) → List Step
 from_report files base meta types = looking (report_at files base meta types) ∷ []
 
@@ -240,8 +294,9 @@ module _ (files : Files) (base meta types : List ℕ) where
       (stops_first (parameters_steps files base (value_or None (url_at files meta))) (from_report files base meta types) o
       (subst (λ u. Stops (parameters_steps files base u) o) (sym (url_named files meta items url read.1 named.1)) s))))
 
-  -- the report by the parts that were read
-  report_same : (items : List ℕ) (known : TypesValue) (url : Option (List ℕ)) (given : ParametersValue) → HasRead files meta items → HasTypes files types known → HasUrl items url → HasParameters files base url given
+  -- the report, from the parts that were read
+  report_same : (items : List ℕ) (known : TypesValue) (url : Option (List ℕ)) (given : ParametersValue) → HasRead files meta items
+      → HasTypes files types known → HasUrl items url → HasParameters files base url given
       → report_result profile given known items ≡ report_at files base meta types
   report_same items known url given read typed named parameters =
       let is_known : value_or [] (types_at files types) ≡ known = ap (value_or []) typed.1 in
@@ -279,7 +334,7 @@ module _ (files : Files) (base meta types : List ℕ) where
           (stops_later (looking (url_at files meta) ∷ []) (from_parameters files base meta types) o looked
           (stops_later (parameters_steps files base (value_or None (url_at files meta))) (from_report files base meta types) o found takes)))
 
--- the same, where a folder tells its files
+-- the same, for a folder that tells its files
 pub metadata_stop : (told : Option Files) (base meta types : List ℕ) (o : Outcome) → IfSome told (λ files. Stops (metadata_steps files meta) o)
     → IfSome told (λ files. IsReport files base meta types (Err o))
 metadata_stop None base meta types o s = tt
@@ -326,7 +381,8 @@ no_path (Some files) base url o is =
 
 abbrev ReadAt : Files → List ℕ → Result ParametersValue Outcome → Type 0
 ReadAt files path result =
-    Takes {X = ParametersValue} (opening files path ∷ reading source.Parameters (parameters_result (grid (bytes_at files path))) ∷ []) (λ p. parameters_result (grid (bytes_at files path)) ≡ Ok p) result
+    Takes {X = ParametersValue} (opening files path ∷ reading source.Parameters (parameters_result (grid (bytes_at files path))) ∷ []) (λ p.
+    parameters_result (grid (bytes_at files path)) ≡ Ok p) result
 
 pub at_path : (known : Option Files) (base url path : List ℕ) (result : Result ParametersValue Outcome) → path ≡ base ++ url → IfSome known (λ files. ReadAt files path result)
     → IfSome known (λ files. IsParameters files base (Some url) result)

@@ -1,8 +1,9 @@
--- How a conversion on threads ends, as an outcome.
+-- The end of a conversion on threads, as an outcome.
 use Rattle.std.specs.Prelude.{◌≡◌, ℕ, ◌≤◌, Bool, true, false, ◌||◌, nat_lt, ◌==◌, if◌then◌else◌, List, [], ◌∷◌, ◌++◌, Option, Some, None, Result, Ok, Err, IfOk, length}
 use Rattle.std.proofs.Common.{arith, refl, sym, ap, subst, inl, inr}
 use Rattle.std.proofs.lemmas.Bool.{eq-eqb}
 use Rattle.oim_convert.specs.Answer.{IsAnswer, streams}
+use Rattle.oim_convert.specs.Limits.{largest_ring, most_workers}
 use Rattle.oim_convert.specs.Runs.{AnswersFault, AreHistories, AreStreams, AreUncut, IsCut, IsRun, Writes, early_fault}
 use Rattle.oim_convert.specs.declared.fault.ConvertFault.{ConvertFault}
 use Rattle.oim_convert.specs.declared.fault.ConvertFault.TheVariants as fault
@@ -10,7 +11,7 @@ use Rattle.oim_convert.specs.declared.run.Run.{Run}
 use Rattle.oim_json.specs.JsonText.{head_text}
 use Rattle.oim_json.specs.Sinks.{SinkView, Unwritten}
 use Rattle.oim_json.specs.declared.layout.Layout.{Layout}
-use Rattle.oim_merge.proofs.Going.{all_refusals}
+use Rattle.oim_merge.proofs.Writing.{all_refusals}
 use Rattle.oim_merge.specs.Histories.{all_of, refusals}
 use Rattle.oim_merge.specs.Merging.{Merges}
 use Rattle.oim_merge.specs.declared.progress.MergeEnd.{MergeEnd}
@@ -36,12 +37,12 @@ chosen false false true e = cc
 chosen false false false e = cc
 
 pub never_lost : (workers ring readers tables : ℕ) → early_fault workers ring readers tables ≡ Some fault.Lost → ⊥
-never_lost workers ring readers tables = chosen (nat_lt workers 1 || nat_lt 64 workers) (nat_lt ring 1 || nat_lt 65536 ring) (readers == tables)
+never_lost workers ring readers tables = chosen (nat_lt workers 1 || nat_lt most_workers workers) (nat_lt ring 1 || nat_lt largest_ring ring) (readers == tables)
 
 pub in_range : (workers ring readers tables : ℕ) → readers ≡ tables → early_fault workers ring readers tables ≡ range_fault workers ring
 in_range workers ring readers tables same =
-    ap (λ b. if nat_lt workers 1 || nat_lt 64 workers then Some fault.BadWorkers
-    else if nat_lt ring 1 || nat_lt 65536 ring then Some fault.BadSize
+    ap (λ b. if nat_lt workers 1 || nat_lt most_workers workers then Some fault.BadWorkers
+    else if nat_lt ring 1 || nat_lt largest_ring ring then Some fault.BadSize
     else if b then None else Some fault.WrongReaders) (eq-eqb readers tables same)
 
 -- THE ANSWER THAT IS DEFINED
@@ -102,7 +103,8 @@ module _ (layout : Layout) (report : ReportValue) (limit : ℕ) (files : List (O
   abbrev Outcome_of : Option ConvertFault → Result Run ConvertFault → Type 0
   Outcome_of early r = EndsAs layout early report said old new (outcome_by names r)
 
-  pub answered : (early : Option ConvertFault) (r : Result Run ConvertFault) → (early ≡ Some fault.Lost → ⊥) → IfOk r (λ run. AreHistories said run.drains.items) → IfOk r (λ run. Headline layout report said old new run)
+  pub answered : (early : Option ConvertFault) (r : Result Run ConvertFault) → (early ≡ Some fault.Lost → ⊥)
+      → IfOk r (λ run. AreHistories said run.drains.items) → IfOk r (λ run. Headline layout report said old new run)
       → AnswersFault early r → Writes layout report (length report.tables) old new r → Outcome_of early r
   answered None (Ok run) never histories headline faults writes =
       ended layout report said old new names run.faults.items run.end (names_are report limit files run.drains.items names run.faults.items named histories writes.merged.0)
@@ -123,7 +125,7 @@ module _ (layout : Layout) (report : ReportValue) (limit : ℕ) (files : List (O
   answered (Some f) (Err (fault.Tables e)) never histories headline faults writes = absurd writes
   answered (Some f) (Err (fault.Write w)) never histories headline faults writes = absurd writes
 
--- a list that has room for one fault of each table
+-- a list with room for one fault of each table
 pub roomy : (layout : Layout) (report : ReportValue) (tables room : ℕ) (old new : SinkView) (r : Result Run ConvertFault) → room ≡ tables → Writes layout report tables old new r
     → IfOk r (λ run. length run.faults.items ≤ room)
 roomy layout report tables room old new (Ok run) same writes =
@@ -133,7 +135,7 @@ roomy layout report tables room old new (Ok run) same writes =
     omega (arith, few, all, count, same)
 roomy layout report tables room old new (Err f) same writes = tt
 
--- WHAT IS LEFT BEHIND
+-- WHAT AN OUTCOME LEAVES BEHIND
 
 module _ (layout : Layout) (report : ReportValue) (tables : ℕ) (old new : SinkView) (names : List (List ℕ)) where
   no_names : (faults : List TableFault) → with_names names faults ≡ [] → faults ≡ []

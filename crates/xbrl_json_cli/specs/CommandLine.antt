@@ -1,4 +1,4 @@
--- The command line, and what its words ask for.
+-- The command line, and the settings that its words give.
 use Rattle.std.specs.Prelude.{◌≡◌, ◌⊎◌, ℕ, Bool, true, false, List, [], ◌∷◌, Option, Some, None, Result, IfOk, codes, map}
 use Rattle.std.specs.Borrow.{Bor}
 use Rattle.std.specs.Str.{bytes_eq}
@@ -9,6 +9,7 @@ use Rattle.clap.specs.Simple.{on_top}
 use Rattle.clap.specs.declared.error.Error.{Error}
 use Rattle.clap.specs.declared.builder.action.ArgAction.TheVariants.{Set, SetTrue}
 use Rattle.clap.specs.declared.builder.value_parser.ValueParser.TheVariants.{Names, Unsigned}
+use Rattle.oim_convert.specs.Limits.{largest_ring, most_workers}
 use Rattle.oim_json.specs.declared.layout.Layout.{Layout}
 use Rattle.oim_json.specs.declared.layout.Layout.TheVariants as layout
 use Rattle.xbrl_json_cli.specs.declared.settings.Settings.{Settings}
@@ -25,7 +26,7 @@ abbrev pub number_option : Text → ℕ → Text → Rule
 number_option id most default =
     record (option id) { parser = Some (Unsigned 1 most); defaults = default ∷ [] }
 
--- the words that an option may have
+-- the words that may be the value of an option
 abbrev pub Words : Type 0
 Words = Bor (List (Bor Text))
 
@@ -56,13 +57,13 @@ command_line layouts = with_rule
     (with_rule
     (with_rule
     (with_rule inputs
-    (number_option (codes "workers") 64 (codes "4")))
-    (number_option (codes "ring") 65536 (codes "1024")))
+    (number_option (codes "workers") most_workers (codes "4")))
+    (number_option (codes "ring") largest_ring (codes "1024")))
     (option (codes "out")))
     (word_option (codes "layout") layouts (codes "compact")))
     (flag (codes "progress"))
 
--- the text is there and writes n in decimal digits
+-- the option has a text, which is n in decimal digits
 abbrev pub IsNumberOf : Option Text → ℕ → Type 0
 IsNumberOf None n = ⊥
 IsNumberOf (Some text) n = n ≡ digits_value 10 (without_leading_plus text)
@@ -72,7 +73,7 @@ abbrev pub IsLayoutOf : Option Text → Layout → Type 0
 IsLayoutOf text layout.Compact = text ≡ Some (codes "compact")
 IsLayoutOf text layout.Lines = text ≡ Some (codes "lines")
 
--- the flag is given, which its text says
+-- the flag is given, as its text says
 abbrev pub is_given : Option Text → Bool
 is_given None = false
 is_given (Some text) = bytes_eq text (codes "true")
@@ -87,11 +88,11 @@ HasSettings rows s = (first_of (codes "meta") rows ≡ Some s.meta)
     × IsLayoutOf (first_of (codes "layout") rows) s.layout
     × (s.progress ≡ is_given (first_of (codes "progress") rows))
 
--- what the words give by a command line: the settings, or a refusal by one of its kinds
+-- the answer to the words: the settings, or a refusal of one of the kinds that the command line gives
 pub record Answers (line : App) (words : List Text) (r : Result Settings Error) : Type 0 where
   pub values : IfOk r (HasSettings (matches_of line words))
   pub fails : FailsBy (fault_of line words) r
 
--- the path is one of those that the run reads by the settings alone
+-- the path of an input file that the settings name
 abbrev pub IsInput : Settings → List ℕ → Type 0
 IsInput s path = (path ≡ s.meta) ⊎ (path ≡ s.types)

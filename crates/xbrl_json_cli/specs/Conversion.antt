@@ -1,4 +1,4 @@
--- What becomes of a report whose files are given by their bytes.
+-- The outcome of converting a report whose files are given by their bytes.
 -- xBRL-CSV 1.0 (the metadata and the table files), xBRL-JSON 1.0 (the document).
 use Rattle.std.specs.Prelude.{◌≡◌, ◌⊎◌, length, ℕ, List, [], Option, Result, Ok, Err}
 use Rattle.oim_meta.specs.CsvFiles.{OrOutside}
@@ -25,8 +25,8 @@ use Rattle.xbrl_json_cli.specs.declared.outcome.Source.TheVariants as source
 abbrev pub profile : Limits
 profile = record { rows = 100_000_000; tables = 4_096; columns = 4_096; metadata = 67_108_864 }
 
--- how many workers convert a report, the size of each ring, and the layout of its document; the report's limits, and the bytes
--- of its metadata, of its types table and of the files of its tables
+-- a conversion's number of workers, ring size and layout, the limits of the report, and the bytes of its metadata, its types table and the
+-- files of its tables
 pub record Texts : Type 0 where
   pub workers : ℕ
   pub ring : ℕ
@@ -39,7 +39,7 @@ pub record Texts : Type 0 where
 abbrev pub texts : (workers ring : ℕ) → Layout → Limits → (metadata types : List ℕ) → List (Option (List ℕ)) → Texts
 texts workers ring layout limits metadata types files = record { workers = workers; ring = ring; layout = layout; limits = limits; metadata = metadata; types = types; files = files }
 
--- the report that a metadata says with the types of a types table, and with no parameters of a file
+-- the report of a metadata with the types of a types table, and without a parameters file
 pub record SaysWith (limits : Limits) (metadata types : List ℕ) (report : ReportValue) : Type 0 where
   pub known : TypesValue
   pub typed : types_result (grid types) ≡ Ok known
@@ -49,20 +49,20 @@ pub record SaysWith (limits : Limits) (metadata types : List ℕ) (report : Repo
 abbrev pub IsTypesFault : (types : List ℕ) → MetaFault → Type 0
 IsTypesFault types f = OrOutside (Err f) (types_result (grid types))
 
--- the fault of the metadata, where the types table has none
+-- the fault of the metadata, if the types table has none
 pub record HasReportFault (limits : Limits) (metadata types : List ℕ) (f : MetaFault) : Type 0 where
   pub known : TypesValue
   pub typed : types_result (grid types) ≡ Ok known
   pub fault : IsFault limits [] known metadata f
 
--- what reading the metadata and the types table answers
+-- the answer to reading the metadata and the types table
 abbrev pub Reads : Limits → (metadata types : List ℕ) → Result ReportValue Outcome → Type 0
 Reads limits metadata types (Ok report) = SaysWith limits metadata types report
 Reads limits metadata types (Err (outcome.Report source.Report f)) = HasReportFault limits metadata types f
 Reads limits metadata types (Err (outcome.Report source.Types f)) = IsTypesFault types f
 Reads limits metadata types (Err o) = ⊥
 
--- the conversion of the report that the texts say
+-- the conversion of the report that the texts give
 pub record ConvertedTexts (given : Texts) (old new : SinkView) (o : Outcome) : Type 0 where
   pub report : ReportValue
   pub says : SaysWith given.limits given.metadata given.types report
@@ -75,13 +75,13 @@ Ends given old new (outcome.Report source.Types f) = Unwritten old new × IsType
 Ends given old new (outcome.Run fault.Memory) = Unwritten old new
 Ends given old new o = ConvertedTexts given old new o
 
--- a flush that failed is a failed write, where something was written before it
+-- a failed flush is a failed write, if a document was written before it
 abbrev pub flushed : Outcome → Outcome
 flushed outcome.Done = outcome.Output write.Failed
 flushed (outcome.Tables named) = outcome.Output write.Failed
 flushed o = o
 
--- a run to a writer behind a buffer: memory ran out for the buffer, or the run ended so behind the buffer, which was flushed then
+-- a run to a writer through a buffer: the run ended like this at the buffer, which was then flushed
 pub record EndsBehind (ends : SinkView → SinkView → Outcome → Type 0) (o : Outcome) : Type 0 where
   pub ended : Outcome
   pub before : SinkView
@@ -90,5 +90,6 @@ pub record EndsBehind (ends : SinkView → SinkView → Outcome → Type 0) (o :
   pub run : ends before after ended
   pub last : (o ≡ ended) ⊎ (o ≡ flushed ended)
 
+-- the same, or memory ran out for the buffer
 abbrev pub Buffered : (SinkView → SinkView → Outcome → Type 0) → Outcome → Type 0
 Buffered ends o = (o ≡ outcome.Run fault.Memory) ⊎ EndsBehind ends o

@@ -1,4 +1,4 @@
--- What a folder holds, and which files stand beside another.
+-- The files of a folder, and the folder of a path.
 use Rattle.std.specs.Prelude.{◌≡◌, ◌≢◌, ◌⊎◌, ℕ, List, [], ◌∷◌, ◌++◌, Option, Some, None, if◌then◌else◌}
 use Rattle.std.specs.List.{All}
 use Rattle.std.specs.Str.{bytes_eq}
@@ -8,7 +8,7 @@ use Rattle.std.specs.Borrow.{Bor}
 abbrev pub Files : Type 0
 Files = List ℕ → Option (List ℕ)
 
--- a path up to and with its last slash, nothing where it has none
+-- a path up to and including its last slash, or nothing if it has none
 pub record IsFolderOf (base path : List ℕ) : Type 0 where
   pub name : List ℕ
   pub split : path ≡ base ++ name

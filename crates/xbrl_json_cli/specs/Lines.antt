@@ -21,7 +21,7 @@ status_of (outcome.CannotWrite path) = 3
 status_of (outcome.Run f) = 3
 status_of (outcome.Output f) = 3
 
--- the status of words that the command line's definition refuses for this: help and the version are what was asked for
+-- the exit status for words that the definition of the command line refuses with this kind; help and the version are not failures
 abbrev pub words_status : ErrorKind → ℕ
 words_status kind.DisplayHelp = 0
 words_status kind.DisplayVersion = 0
@@ -33,7 +33,7 @@ source_name source.Report = codes "report"
 source_name source.Parameters = codes "parameters"
 source_name source.Types = codes "types"
 
--- the line of a fault in what is named
+-- the line for a fault at a named place
 abbrev pub fault_text : List ℕ → List ℕ → ℕ → List ℕ
 fault_text place name number =
     codes "xbrl-json: " ++ (place ++ (codes ": " ++ (name ++ (codes " (" ++ (decimal number ++ 41 ∷ 10 ∷ [])))))
@@ -43,16 +43,16 @@ table_text id f =
     fault_text (codes "table " ++ (id ++ (codes ", row " ++ (decimal f.row ++ (codes ", column " ++ decimal f.column)))))
     (table_fault.name_of f.kind) (table_fault.number_of f.kind)
 
--- the lines of refused tables, in order
+-- the lines for refused tables, in order
 abbrev pub tables_text : List (List ℕ × TableFault) → List ℕ
 tables_text [] = []
 tables_text (named ∷ more) = table_text named.0 named.1 ++ tables_text more
 
--- the line of a file that cannot be read or written
+-- the line for a file that cannot be read or written
 abbrev pub path_text : List ℕ → List ℕ → List ℕ
 path_text what path = codes "xbrl-json: cannot " ++ (what ++ (codes " " ++ (path ++ 10 ∷ [])))
 
--- a finished document has no line, and each refused table has one
+-- the lines for an outcome: none for a whole document, and one for each refused table
 abbrev pub line_of : Outcome → List ℕ
 line_of outcome.Done = []
 line_of (outcome.Report s f) = fault_text (source_name s) (fault_name f) (fault_number f)

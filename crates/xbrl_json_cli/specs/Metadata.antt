@@ -1,4 +1,4 @@
--- What a metadata is read as, within the limits of this profile: a value, or its first fault.
+-- The result of reading a metadata, within the limits of this profile: a value, or its first fault.
 use Rattle.std.specs.Prelude.{ℕ, List, length, nat_lt, if◌then◌else◌, Option, Some, None, Result, Ok, Err, codes}
 use Rattle.std.specs.Str.{is_utf8}
 use Rattle.serde_json.specs.Data.{Data}
@@ -14,7 +14,7 @@ use Rattle.oim_meta.specs.declared.fault.MetaFault.{MetaFault}
 use Rattle.oim_meta.specs.declared.fault.MetaFault.TheVariants as meta
 use Rattle.oim_meta.specs.declared.limits.Limits.{Limits}
 
--- the JSON value that bytes are, behind a mark, if any
+-- the JSON value that the bytes are, after a byte order mark if there is one
 abbrev pub json_of : List ℕ → Option Data
 json_of bytes = if is_utf8 (after_mark bytes) then read (after_mark bytes) else None
 
@@ -23,12 +23,12 @@ abbrev pub unless_fault : {A : Type 0} → Option MetaFault → A → Result A M
 unless_fault None a = Ok a
 unless_fault (Some f) a = Err f
 
--- what follows where there is JSON
+-- the result from the JSON value, if there is one
 abbrev pub in_json : {A : Type 0} → (Data → Result A MetaFault) → Option Data → Result A MetaFault
 in_json next None = Err meta.Syntax
 in_json next (Some d) = next d
 
--- what a metadata that is not too large, and is JSON, is read as
+-- the result from a metadata that is not too large and is JSON
 abbrev pub read_as : {A : Type 0} → Limits → (Data → Result A MetaFault) → List ℕ → Result A MetaFault
 read_as limits next bytes = if nat_lt limits.metadata (length bytes) then Err meta.TooLarge else in_json next (json_of bytes)
 
@@ -38,7 +38,7 @@ url_in d = unless_fault (first_url_fault d) (text_at (codes "parameterURL") d)
 abbrev pub report_in : Limits → ParametersValue → TypesValue → Data → Result ReportValue MetaFault
 report_in limits given types d = unless_fault (first_fault limits given types d) (report_of given types d)
 
--- the name of the parameters file, if any
+-- the URL of the parameters file, if the metadata has one
 abbrev pub url_result : Limits → List ℕ → Result (Option (List ℕ)) MetaFault
 url_result limits = read_as limits url_in
 

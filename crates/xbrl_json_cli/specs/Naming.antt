@@ -1,4 +1,4 @@
--- The names of refused tables, taken out of a list of names one after the other.
+-- The names of refused tables, taken out of a list of names one after another.
 use Rattle.std.specs.Prelude.{ℕ, List, [], ◌∷◌, Result, Ok, Err, slice_set}
 use Rattle.oim_convert.specs.declared.fault.ConvertFault.{ConvertFault}
 use Rattle.oim_convert.specs.declared.run.Run.{Run}
@@ -9,12 +9,12 @@ use Rattle.xbrl_json_cli.specs.Outcomes.{name_in}
 use Rattle.xbrl_json_cli.specs.declared.outcome.Outcome.{Outcome}
 use Rattle.xbrl_json_cli.specs.declared.outcome.Outcome.TheVariants as outcome
 
--- each fault behind the name at its table's place, which is taken out
+-- each fault with the name at its table's place, which is taken out of the names
 abbrev pub with_names : List (List ℕ) → List TableFault → List (List ℕ × TableFault)
 with_names names [] = []
 with_names names (e ∷ faults) = (name_in names e.table, e) ∷ with_names (slice_set names e.table []) faults
 
--- the outcome of a conversion that answered so, where the tables have these names
+-- the outcome of a conversion with this answer, where the tables have these names
 abbrev pub outcome_at : List (List ℕ) → List TableFault → MergeEnd → Outcome
 outcome_at names faults end.Complete = outcome.Done
 outcome_at names faults end.Refused = outcome.Tables (with_names names faults)

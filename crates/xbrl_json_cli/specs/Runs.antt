@@ -13,7 +13,7 @@ use Rattle.xbrl_json_cli.specs.Outcomes.{EndsAs}
 use Rattle.xbrl_json_cli.specs.Steps.{Passes, Stops, report_at, steps}
 use Rattle.xbrl_json_cli.specs.declared.outcome.Outcome.{Outcome}
 
--- the file of a table, if the folder has one at its path
+-- the file of a table, if the folder has one at the table's path
 abbrev pub table_file : Files → List ℕ → Table → Option (List ℕ)
 table_file files base t = files (base ++ t.url)
 
@@ -21,7 +21,7 @@ table_file files base t = files (base ++ t.url)
 abbrev pub table_files : Files → List ℕ → ReportValue → List (Option (List ℕ))
 table_files files base report = map (table_file files base) report.tables
 
--- the fault of settings that are out of range, as a conversion finds it where each table has its reader
+-- the fault of settings that are out of range, as a conversion finds it when each table has its reader
 abbrev pub range_fault : (workers ring : ℕ) → Option ConvertFault
 range_fault workers ring = early_fault workers ring 0 0
 
@@ -32,8 +32,8 @@ pub record Converted (files : Files) (base meta types : List ℕ) (workers ring 
   pub given : report_at files base meta types ≡ Ok report
   pub ends : EndsAs layout (range_fault workers ring) report (streams report profile.rows (table_files files base report)) old new o
 
--- how a run over these files ends, where the base is the folder of the metadata's path: at a step before the conversion, with
--- nothing written, or as the conversion does
+-- how a run over these files ends, where the base is the folder of the metadata's path: at a step before the conversion, and then nothing is
+-- written, or as the conversion does
 pub record EndsOver (files : Files) (meta types : List ℕ) (workers ring : ℕ) (layout : Layout) (old new : SinkView) (o : Outcome) : Type 0 where
   pub base : List ℕ
   pub folder : IsFolderOf base meta

@@ -24,7 +24,7 @@ use Rattle.xbrl_json_cli.specs.declared.outcome.Source.TheVariants as source
 abbrev pub bytes_at : Files → List ℕ → List ℕ
 bytes_at files path = unwrap_or (files path) []
 
--- the value that a file is read as, empty where it has a fault
+-- the value of a file, or an empty one if it has a fault
 abbrev pub value_or : {A : Type 0} → A → Result A MetaFault → A
 value_or empty (Ok a) = a
 value_or empty (Err f) = empty
@@ -33,11 +33,11 @@ value_or empty (Err f) = empty
 abbrev pub types_at : Files → List ℕ → Result TypesValue MetaFault
 types_at files types = types_result (grid (bytes_at files types))
 
--- the name of the parameters file, if the metadata has one
+-- the URL of the parameters file, if the metadata has one
 abbrev pub url_at : Files → List ℕ → Result (Option (List ℕ)) MetaFault
 url_at files meta = url_result profile (bytes_at files meta)
 
--- the parameters, none where no file is named
+-- the parameters, or none if no file is named
 abbrev pub parameters_at : Files → List ℕ → Option (List ℕ) → Result ParametersValue MetaFault
 parameters_at files base None = Ok []
 parameters_at files base (Some url) = parameters_result (grid (bytes_at files (base ++ url)))
@@ -51,8 +51,8 @@ report_at files base meta types = report_result profile (parameters_of files bas
 
 -- ---- the steps
 
--- a step: the outcome that names the fault of the files there, if they have it; and the outcomes that may come in its place
--- whatever the files hold, since a read may fail and memory may run out
+-- a step: the outcome that names the fault of the files at this step, if they have one, and the outcomes that are possible whatever the files
+-- hold, since a read may fail and memory may run out
 pub record Step : Type 0 where
   pub fault : Option Outcome
   pub refusals : List Outcome
@@ -68,7 +68,7 @@ abbrev pub missing : List ℕ → Option (List ℕ) → Option Outcome
 missing path None = Some (outcome.CannotRead path)
 missing path (Some bytes) = None
 
--- the file of this source is wrong
+-- the file of this source has a fault
 abbrev pub wrong : {A : Type 0} → Source → Result A MetaFault → Option Outcome
 wrong s (Ok a) = None
 wrong s (Err f) = Some (outcome.Report s f)
@@ -79,7 +79,7 @@ opening files path = step (missing path (files path)) (no_memory ∷ [])
 abbrev pub reading : {A : Type 0} → Source → Result A MetaFault → Step
 reading s answer = step (wrong s answer) (outcome.Report s refused.Read ∷ outcome.Report s refused.Memory ∷ [])
 
--- what was read of the metadata is looked at, and no file is read
+-- the metadata that was read is looked at, and no file is read
 abbrev pub looking : {A : Type 0} → Result A MetaFault → Step
 looking answer = step (wrong source.Report answer) (outcome.Report source.Report refused.Memory ∷ [])
 
@@ -93,8 +93,8 @@ abbrev pub parameters_steps : Files → List ℕ → Option (List ℕ) → List 
 parameters_steps files base None = []
 parameters_steps files base (Some url) = opening files (base ++ url) ∷ reading source.Parameters (parameters_at files base (Some url)) ∷ []
 
--- the metadata is read, then the types table, then the name of the parameters file is looked up and that file read, and last
--- the metadata is looked at as a report
+-- the metadata is read, then the types table; then the parameters file's URL is looked up and that file is read; last, the report is made
+-- from the metadata
 abbrev pub steps : Files → (base meta types : List ℕ) → List Step
 steps files base meta types =
     metadata_steps files meta
@@ -114,7 +114,7 @@ abbrev pub Passes : List Step → Type 0
 Passes [] = ⊤
 Passes (s ∷ later) = (s.fault ≡ None) × Passes later
 
--- the run ends at a step with none before it that has a fault: by the fault there, or refused
+-- the run ends at a step, by its fault or by one of its refusals, and no step before it has a fault
 pub record Stops (steps : List Step) (o : Outcome) : Type 0 where
   pub before : List Step
   pub here : Step
@@ -123,12 +123,12 @@ pub record Stops (steps : List Step) (o : Outcome) : Type 0 where
   pub passed : Passes before
   pub ends : (here.fault ≡ Some o) ⊎ IsAmong o here.refusals
 
--- all steps were taken and the value is right, or the run ends at one of them
+-- all steps passed and the value is right, or the run ends at one of them
 abbrev pub Takes : {X : Type 0} → List Step → (X → Type 0) → Result X Outcome → Type 0
 Takes steps right (Ok x) = Passes steps × right x
 Takes steps right (Err o) = Stops steps o
 
--- the outcomes of a run that ends at a step, whatever the folder
+-- the outcomes of a run that ends at a step, for every folder
 abbrev pub IsEarly : Outcome → Type 0
 IsEarly (outcome.Report s f) = ⊤
 IsEarly (outcome.CannotRead path) = ⊤

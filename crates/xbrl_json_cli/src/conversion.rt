@@ -1,5 +1,4 @@
-//! The conversion of a report whose tables are given by readers, or all of whose files are given by
-//! their bytes.
+//! Converting a report whose tables are given by readers, or whose files are all given by their bytes.
 
 ghost use Rattle.std.specs.Prelude.{◌≡◌, ◌≤◌, ◌<◌, ℕ, List, [], ◌∷◌, Option, Some, None, IfOk, is_err, if◌then◌else◌, length, slice_set, vec_capacity};
 ghost use Rattle.oim_convert.specs.Answer.{streams};
@@ -27,8 +26,8 @@ use std::sync::Wait;
 use std::thread::Threads;
 use std::{io, mem};
 
-/// The report that a metadata says with the types of a types table, and with no parameters of a
-/// file. Else the outcome that names the fault of the types table, or of the metadata.
+/// The report of a metadata with the types of a types table and without a parameters file. Fails with
+/// the outcome that names the fault of the types table, or else of the metadata.
 pub fn read_texts(
     alloc: Global,
     metadata: &[u8],
@@ -47,7 +46,7 @@ pub fn read_texts(
     }
 }
 
-/// The identifiers of the tables, in table order.
+/// The identifiers of the tables, in table order. Fails if memory runs out.
 fn names_of(alloc: Global, report: &Report) -> Result<Vec<Text>, AllocError>
     ensures { IfOk result (λ names. names.items ≡ table_ids report.now) }
 {
@@ -59,7 +58,7 @@ fn names_of(alloc: Global, report: &Report) -> Result<Vec<Text>, AllocError>
     Ok(names)
 }
 
-/// Takes the name at a place out of the names, empty where the place is out of range.
+/// Takes the name at a place out of the names. It is empty if the place is out of range.
 fn take_name(alloc: Global, names: &mut [Text], place: usize) -> Text
     ensures name { result ≡ name_in names.old place }
     ensures left { names.new ≡ slice_set names.old place [] }
@@ -72,7 +71,7 @@ fn take_name(alloc: Global, names: &mut [Text], place: usize) -> Text
     }
 }
 
-/// The faults of refused tables, each behind the name at its table's place. They stand in `room`.
+/// The faults of refused tables, each with the name at its table's place, put into `room`.
 fn named(
     alloc: Global,
     names: Vec<Text>,
@@ -91,7 +90,7 @@ fn named(
     Items::from_vec(list)
 }
 
-/// The outcome of a conversion that answered so, where the tables have these names.
+/// The outcome of a conversion with this answer, where the tables have these names.
 fn ending(
     alloc: Global,
     names: Vec<Text>,
@@ -113,14 +112,14 @@ fn ending(
     }
 }
 
-/// Converts a report, given a reader of each table's file, in table order, where `None` is a table
-/// without a file. Writes its document in xBRL-JSON 1.0 to the sink, in the layout asked for, with
-/// this number of workers and rings of this size. `limits.rows` is at most 4,294,967,294.
+/// Converts a report, given a reader of each table's file in table order, or `None` for a table without
+/// a file (xBRL-CSV 1.0). Writes its document in xBRL-JSON 1.0 to the sink, in the given layout, with
+/// `workers` workers and rings of `ring` blocks. `limits.rows` is at most 4,294,967,294.
 ///
-/// Answers how the conversion ended, which is the same for every number of workers, ring size and
-/// schedule, apart from failed reads and running out of memory or threads. The names that an outcome
-/// needs, and the room for a list of refused tables, are made first; where memory runs out for them
-/// it is Memory, with nothing written. It waits for its workers.
+/// The answer is how the conversion ended. It is the same for every number of workers, ring size and
+/// schedule, apart from failed reads and running out of memory or threads. The names that the outcome
+/// needs, and the room for a list of refused tables, are made first; if memory runs out for them the
+/// outcome is `Memory`, and nothing is written. It waits for its workers.
 pub fn convert_report<R: Read + Drop + Send, T: Threads + Wait + Sync, W: Sink>(
     rt: &T,
     alloc: Global,
@@ -136,7 +135,8 @@ pub fn convert_report<R: Read + Drop + Send, T: Threads + Wait + Sync, W: Sink>(
     ensures ends { (files : List (Option (List ℕ))) → AreFilesOf R.remaining readers.items files
         → EndsAs layout (early_fault workers ring (length files) (length report.now.tables)) report.now (streams report.now limits.rows files)
         (sink_at (W.mark sink.old) (W.told sink.old)) (sink_at (W.mark sink.new) (W.told sink.new)) result }
-    ensures leaves { Leaves (early_fault workers ring (length readers.items) (length report.now.tables)) (sink_at (W.mark sink.old) (W.told sink.old)) (sink_at (W.mark sink.new) (W.told sink.new)) result }
+    ensures leaves { Leaves (early_fault workers ring (length readers.items) (length report.now.tables))
+        (sink_at (W.mark sink.old) (W.told sink.old)) (sink_at (W.mark sink.new) (W.told sink.new)) result }
 {
     let Ok(names) = names_of(alloc, report) else {
         return Outcome::Run(ConvertFault::Memory);
@@ -150,11 +150,11 @@ pub fn convert_report<R: Read + Drop + Send, T: Threads + Wait + Sync, W: Sink>(
     ending(alloc, names, room, answer)
 }
 
-/// Converts a report, given by the bytes of its metadata and of its types table and by a reader of
-/// each table's file, in table order, where `None` is a table without a file. It has no parameters
-/// file. Writes its document in xBRL-JSON 1.0 to the sink, in the layout asked for, with this number
-/// of workers and rings of this size, and answers how the run ended. `limits.rows` is at most
-/// 4,294,967,294. It waits for its workers.
+/// Converts a report without a parameters file, given the bytes of its metadata and of its types table,
+/// and a reader of each table's file in table order, or `None` for a table without a file (xBRL-CSV
+/// 1.0). Writes its document in xBRL-JSON 1.0 to the sink, in the given layout, with `workers` workers
+/// and rings of `ring` blocks, and answers how the run ended. `limits.rows` is at most 4,294,967,294. It
+/// waits for its workers.
 pub fn convert_texts<R: Read + Drop + Send, T: Threads + Wait + Sync, W: Sink>(
     rt: &T,
     alloc: Global,
@@ -180,8 +180,8 @@ pub fn convert_texts<R: Read + Drop + Send, T: Threads + Wait + Sync, W: Sink>(
     )
 }
 
-/// Converts the report that the program holds, within the limits of this profile, with one worker
-/// and a ring of one block. The document has the layout compact.
+/// Converts the built-in report, within the limits of this profile, with one worker and a ring of one
+/// block, to a document in the compact layout.
 pub fn convert_held<T: Threads + Wait + Sync, W: Sink>(
     rt: &T,
     alloc: Global,
@@ -214,8 +214,8 @@ fn has_document(outcome: &Outcome) -> bool
     matches!(outcome, Outcome::Done | Outcome::Tables(_))
 }
 
-/// The outcome after the flush of what was written. A flush that fails is a failed write, after a
-/// whole document and after the unfinished document of refused tables.
+/// The outcome after the output was flushed. After a document, whole or unfinished, a flush that fails
+/// is a failed write.
 pub fn after_flush(outcome: Outcome, flush: io::Result<()>) -> Outcome
     ensures { result ≡ (if is_err flush then flushed outcome else outcome) }
 {
@@ -226,7 +226,7 @@ pub fn after_flush(outcome: Outcome, flush: io::Result<()>) -> Outcome
     }
 }
 
-/// Converts the report that the program holds to a writer, and flushes it.
+/// Converts the built-in report to a writer, and flushes it.
 pub fn convert_to<T: Threads + Wait + Sync, W: Write + Drop>(
     rt: &T,
     alloc: Global,

@@ -1,4 +1,4 @@
-//! The files of the system, of which nothing is claimed.
+//! The files of the system. No contract says anything about them.
 
 use crate::folder::Folder;
 use crate::progress::{Progress, Watched};
@@ -30,14 +30,14 @@ where
     }
 }
 
-/// The files of the system. A file that cannot be opened is none where it is opened at once. A file
-/// that is looked for is none only where the system says so; any other that cannot be opened fails
-/// at its first read.
+/// The files of the system. A file that is opened at once and cannot be opened counts as missing. A
+/// file that is looked for counts as missing only if the system says that there is no such file; any
+/// other that cannot be opened fails at its first read.
 #[derive(Drop)]
 pub struct Disk<'a, H> {
     /// The system.
     pub rt: &'a H,
-    /// Where the files that are looked for are counted as tables, if anywhere.
+    /// Counts each file that is looked for as a table, if there is one.
     pub progress: Option<&'a Progress<'a, H>>,
 }
 

@@ -1,4 +1,4 @@
-//! Folders: where the files of a report come from.
+//! Folders, from which the files of a report are read.
 
 ghost use Rattle.std.specs.Prelude.{◌≡◌, ℕ, List, Option, Some, None, IfSome, option_map, string_bytes};
 ghost use Rattle.oim_convert.specs.Files.{IsFileOf};
@@ -6,25 +6,25 @@ ghost use Rattle.xbrl_json_cli.specs.Folders.{IsFolderOf, first_at};
 
 use std::io::Read;
 
-/// Files by their paths, which stay as they are while they are opened.
+/// Files by their paths. Opening a file changes none of them.
 pub trait Folder<R: Read> {
-    /// The bytes of the file at each path, where the folder tells them.
+    /// The bytes of the file at each path, if the folder tells them.
     ghost files: { Self → Option (List ℕ → Option (List ℕ)) } = { λ _. None };
 
-    /// Opens the file at the path: a reader of exactly its bytes, or `None` exactly where there is
-    /// no file.
+    /// Opens the file at the path: gives a reader of exactly its bytes, or `None` exactly if there is no
+    /// such file.
     fn open(&mut self, path: &str) -> Option<R>
         ensures same { files self.new ≡ files self.old }
         ensures opens { IfSome (files self.old) (λ at. IsFileOf R.remaining result (at path.now)) };
 
-    /// Looks for the file at the path without opening it: a reader of exactly its bytes that may
-    /// open it at the first read, or `None` exactly where there is no file.
+    /// Looks for the file at the path without opening it: gives a reader of exactly its bytes, which may
+    /// open it at the first read, or `None` exactly if there is no such file.
     fn find(&mut self, path: String) -> Option<R>
         ensures same { files self.new ≡ files self.old }
         ensures finds { IfSome (files self.old) (λ at. IsFileOf R.remaining result (at (string_bytes path))) };
 }
 
-/// Files in memory, each with its path. Of two with one path the first counts.
+/// Files in memory, each with its path. If two have the same path, the first counts.
 #[derive(Clone, Copy)]
 pub struct Texts<'a> {
     /// The paths with the bytes.
@@ -59,8 +59,8 @@ impl<'a> Folder<&'a [u8]> for Texts<'a> {
     }
 }
 
-/// The folder of the file at a path: the path up to and with its last `/`, nothing where it has
-/// none.
+/// The folder of the file at a path: the path up to and including its last `/`, or the empty text if it
+/// has none.
 pub fn folder_of(path: &str) -> &str
     ensures { IsFolderOf result.now path.now }
 {

@@ -1,4 +1,4 @@
-//! The report that the program holds: its metadata, its types table and the file of its one table.
+//! The built-in report: its metadata, its types table and the file of its one table.
 
 /// The metadata, in the JSON of xBRL-CSV 1.0.
 pub const METADATA: &str = r#"{"documentInfo":{"documentType":"https://xbrl.org/2021/xbrl-csv",
@@ -15,7 +15,7 @@ pub const METADATA: &str = r#"{"documentInfo":{"documentType":"https://xbrl.org/
 "tables":{"t1":{"url":"t1.csv","template":"p"}}}
 "#;
 
-/// The types of the taxonomy's concepts and dimensions, a CSV file.
+/// The types table, a CSV file with the types of the taxonomy's concepts and dimensions.
 pub const TYPES: &str = r#"namespace,name,type
 http://example.com/eg,Cash,integer
 http://example.com/eg,Rate,decimal
@@ -26,7 +26,7 @@ http://example.com/eg,Region,explicit
 http://example.com/eg,Branch,typed
 "#;
 
-/// The file of the table t1, in the CSV of xBRL-CSV 1.0.
+/// The file of the table `t1`, in the CSV of xBRL-CSV 1.0.
 pub const TABLE: &str = r#"cash,note
 100,first
 200,second

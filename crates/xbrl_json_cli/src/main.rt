@@ -1,27 +1,28 @@
 //! `xbrl-json`: converts a report in xBRL-CSV 1.0 to xBRL-JSON 1.0.
 //!
 //! `xbrl-json META --types FILE [--workers N] [--ring K] [--out FILE] [--layout compact|lines]
-//! [--progress]` converts the report whose metadata file is META to standard output, or to the file
-//! of `--out`. With no words at all the program converts the report that it holds to standard output.
+//! [--progress]` converts the report whose metadata file is META, to standard output or to the file
+//! given by `--out`. Without any words the program converts its built-in report to standard output.
 //!
-//! What the crate promises:
-//! - `job` that is Ok has the values that the words give, and the defaults for those that they
-//!   leave out; workers are 1 to 64, a ring's size 1 to 65,536; and it fails for exactly the words
-//!   that the command line's definition refuses, apart from running out of memory;
-//! - `run`, over any folder that tells its bytes honestly, ends as the folder's files say: by the
-//!   first fault of the metadata, the types table and the parameters file, in the order in which
-//!   they are read, and then nothing is written; else as the conversion of the report that they
-//!   give: the whole document in the layout asked for, or every refused table in table order, each
-//!   by its identifier with its first fault, and the unfinished document up to and with the first of
-//!   them, for every number of workers, every size of the rings and every schedule of the threads;
-//! - `convert_texts` says the same of a report whose files are given by their bytes, and
-//!   `convert_held` of the held texts;
-//! - `status` and `line` are the exit status and the lines on standard error of each outcome, one
-//!   line for each refused table, and a flush that fails after a document, whole or unfinished, is a
-//!   failed write.
+//! What is proved:
 //!
-//! Nothing is claimed of what the system's files hold, what its output takes and what it says of the
-//! arguments, nor of the line that `--progress` shows.
+//! - if `job` succeeds, the settings have the values that the words give, and the defaults for those
+//!   that they leave out, with 1 to 64 workers and a ring size of 1 to 65,536. Apart from running out
+//!   of memory, it fails for exactly the words that the definition of the command line refuses;
+//! - `run`, over any folder that tells its files honestly, ends as the files say. If the metadata, the
+//!   types table or the parameters file has a fault, the run ends with the first one, in the order in
+//!   which the files are read, and writes nothing. Otherwise it ends as the conversion of the report
+//!   does: with the whole document in the given layout, or with every refused table in table order,
+//!   each by its identifier with its first fault, and the unfinished document up to and including the
+//!   first of them. This holds for every number of workers, ring size and schedule of the threads;
+//! - `convert_texts` does the same for a report whose files are given by their bytes, and `convert_held`
+//!   for the built-in report;
+//! - `status` and `line` give the exit status and the lines on standard error of each outcome, with one
+//!   line for each refused table. A flush that fails after a document, whole or unfinished, is a failed
+//!   write.
+//!
+//! Nothing is claimed about what the system's files hold, what its output takes, what it says about the
+//! arguments, or the line that `--progress` shows.
 #![tactic(auto)]
 
 ghost use Rattle.std.specs.Prelude.{◌≡◌};
@@ -80,10 +81,10 @@ use std::process::ExitCode;
 use std::sync::Wait;
 use std::thread::Threads;
 
-/// What is printed where memory for the lines of an outcome is refused.
+/// What is printed if memory runs out for the lines of an outcome.
 const UNSAID: &str = "xbrl-json: out of memory, and so the faults cannot be said\n";
 
-/// The status of an outcome, whose lines are printed. What cannot be printed is left out.
+/// Prints the lines of an outcome, and gives its exit status. What cannot be printed is left out.
 fn told<H: Eprint>(rt: &H, alloc: Global, outcome: &Outcome) -> u8
     ensures { result ≡ status_of outcome.now }
 {
@@ -94,8 +95,8 @@ fn told<H: Eprint>(rt: &H, alloc: Global, outcome: &Outcome) -> u8
     outcome::status(outcome)
 }
 
-/// The status of words that are not understood, or that ask for help or the version, with what is
-/// to be said printed.
+/// Prints what there is to say about words that are refused, or that ask for help or the version, and
+/// gives the exit status.
 fn explained<H: Print + Eprint>(rt: &H, error: &clap::Error) -> u8
     ensures { result ≡ words_status (kind_of error.now) }
 {
@@ -107,7 +108,7 @@ fn explained<H: Print + Eprint>(rt: &H, error: &clap::Error) -> u8
     }
 }
 
-/// The status of a run with these words, without the program's name.
+/// Runs with these words, which do not include the program's name, and gives the exit status.
 fn started<T: Threads + Wait + Sync>(
     rt: &HostRuntime,
     threads: &T,
@@ -123,7 +124,7 @@ fn started<T: Threads + Wait + Sync>(
     }
 }
 
-/// The status of a run with these arguments, the program's name among them.
+/// Runs with the arguments of the process, and gives the exit status.
 fn program<T: Threads + Wait + Sync>(rt: &HostRuntime, threads: &T) -> u8 {
     let alloc = rt.alloc();
     let no_memory = Outcome::Run(ConvertFault::Memory);

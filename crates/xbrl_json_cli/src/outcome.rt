@@ -1,4 +1,4 @@
-//! How a run ended, with its exit status and its lines on standard error.
+//! How a run ended, and the exit status and the lines on standard error for it.
 
 ghost use Rattle.std.specs.Prelude.{◌≡◌, IfOk, string_bytes};
 ghost use Rattle.xbrl_json_cli.specs.Lines.{fault_text, line_of, path_text, source_name, status_of, table_text, tables_text};
@@ -10,7 +10,7 @@ use oim_names::{Items, Text};
 use oim_rows::TableFault;
 use std::alloc::{AllocError, Global};
 
-/// The file that is at fault.
+/// The file that has a fault.
 #[derive(Clone, Copy)]
 pub enum Source {
     /// The metadata.
@@ -22,7 +22,7 @@ pub enum Source {
 }
 
 impl Source {
-    /// The word that the line names the file by.
+    /// The word that names the file in a line.
     fn name(&self) -> &'static str
         ensures { result.now ≡ source_name self.now }
     {
@@ -39,25 +39,25 @@ impl Source {
 pub enum Outcome {
     /// The whole document is written.
     Done,
-    /// The metadata, the parameters file or the types table has a fault; nothing is written.
+    /// The metadata, the parameters file or the types table has a fault. Nothing is written.
     Report(Source, MetaFault),
-    /// Tables are refused; the document is unfinished. They stand in table order, each under its
-    /// identifier with its first fault.
+    /// Tables are refused, in table order, each by its identifier with its first fault. The document is
+    /// unfinished.
     Tables(Items<(Text, TableFault)>),
-    /// The metadata, the types table or the parameters file, at this path, cannot be opened; nothing
-    /// is written.
+    /// The metadata, the types table or the parameters file, which is at this path, cannot be opened.
+    /// Nothing is written.
     CannotRead(Text),
-    /// The document's file, at this path, cannot be made.
+    /// The document's file, at this path, cannot be created.
     CannotWrite(Text),
-    /// The conversion could not begin, and nothing is written; or it lost the end of a ring (Lost),
-    /// after a document or a beginning of one was written.
+    /// The conversion could not begin, and nothing is written; or it lost the end of a ring (`Lost`) after
+    /// it had written a document or a beginning of one.
     Run(ConvertFault),
-    /// A write failed; a beginning of the document is written.
+    /// A write failed. A beginning of the document is written.
     Output(WriteFault),
 }
 
-/// The exit status: 0 where the document is written, 1 for a fault of the report, 3 where a file,
-/// memory or the output failed.
+/// The exit status: 0 if the document is written, 1 if the report has a fault, 3 if a file, memory or
+/// the output failed.
 pub fn status(outcome: &Outcome) -> u8
     ensures { result ≡ status_of outcome.now }
 {
@@ -70,14 +70,14 @@ pub fn status(outcome: &Outcome) -> u8
     }
 }
 
-/// The line of a fault in what is named.
+/// The line for a fault at a named place.
 fn fault_line(alloc: Global, place: &str, name: &str, number: u32) -> Result<String, AllocError>
     ensures { IfOk result (λ s. string_bytes s ≡ fault_text place.now name.now number) }
 {
     format!(in alloc; "xbrl-json: {place}: {name} ({number})\n")
 }
 
-/// The line of a fault in a table.
+/// The line for a fault of a table.
 fn table_line(alloc: Global, id: &str, fault: &TableFault) -> Result<String, AllocError>
     ensures { IfOk result (λ s. string_bytes s ≡ table_text id.now fault.now) }
 {
@@ -87,7 +87,7 @@ fn table_line(alloc: Global, id: &str, fault: &TableFault) -> Result<String, All
     fault_line(alloc, place.as_str(), fault.name(), fault.number())
 }
 
-/// The lines of refused tables, in order.
+/// The lines for refused tables, in order.
 fn table_lines(alloc: Global, named: &[(Text, TableFault)]) -> Result<String, AllocError>
     ensures { IfOk result (λ s. string_bytes s ≡ tables_text named.now) }
 {
@@ -99,15 +99,15 @@ fn table_lines(alloc: Global, named: &[(Text, TableFault)]) -> Result<String, Al
     Ok(lines)
 }
 
-/// The line of a file that cannot be opened or made.
+/// The line for a file that cannot be read or written.
 fn path_line(alloc: Global, what: &str, path: &str) -> Result<String, AllocError>
     ensures { IfOk result (λ s. string_bytes s ≡ path_text what.now path.now) }
 {
     format!(in alloc; "xbrl-json: cannot {what} {path}\n")
 }
 
-/// The line on standard error, with its line feed; of refused tables one line each, in table order;
-/// empty where the document is written. Fails where memory is short.
+/// The lines on standard error, each with its line feed: none if the document is written, one for each
+/// refused table, in table order, and one for any other outcome. Fails if memory runs out.
 pub fn line(alloc: Global, outcome: &Outcome) -> Result<String, AllocError>
     ensures { IfOk result (λ s. string_bytes s ≡ line_of outcome.now) }
 {

@@ -1,4 +1,4 @@
-//! Where a run's document goes: to a file or to standard output, behind a buffer.
+//! The output of a run: a file or standard output, written through a buffer.
 
 ghost use Rattle.std.specs.Prelude.{◌≡◌, ◌⊎◌, IfSome};
 ghost use Rattle.xbrl_json_cli.specs.CommandLine.{IsInput};
@@ -23,7 +23,8 @@ use std::sync::Wait;
 use std::thread::Threads;
 use std::{fs, io};
 
-/// Runs over the files of a folder to a writer, and flushes it.
+/// Runs over the files of a folder, writes the document to a writer through a buffer, and flushes it.
+/// The answer is how the run ended; a failed flush is a failed write.
 pub fn run_to<R: Read + Drop + Send, F: Folder<R>, T: Threads + Wait + Sync, W: Write + Drop>(
     rt: &T,
     alloc: Global,
@@ -41,7 +42,7 @@ pub fn run_to<R: Read + Drop + Send, F: Folder<R>, T: Threads + Wait + Sync, W: 
     after_flush(outcome, buffered.flush())
 }
 
-/// The outcome of a run whose document cannot go to the file at this path.
+/// The outcome of a run that cannot write its document to the file at this path.
 fn cannot_write(alloc: Global, path: &str) -> Outcome
     ensures { (result ≡ outcome.CannotWrite path.now) ⊎ (result ≡ spec.no_memory) }
 {
@@ -51,8 +52,8 @@ fn cannot_write(alloc: Global, path: &str) -> Outcome
     }
 }
 
-/// Runs over the system's files to a writer, and flushes it. Where the settings ask for it, standard
-/// error shows how far the run is.
+/// Runs over the system's files, writes the document to a writer, and flushes it. If the settings ask
+/// for it, standard error shows the progress of the run.
 fn run_watched<T: Threads + Wait + Sync, W: Write + Drop>(
     rt: &HostRuntime,
     threads: &T,
@@ -80,10 +81,10 @@ fn run_watched<T: Threads + Wait + Sync, W: Write + Drop>(
     outcome
 }
 
-/// Runs over the system's files, to the file of `settings.out`, which is made or cut to nothing
-/// before anything is read, or to standard output. Where `settings.out` is the path of the metadata
-/// or of the types table it cannot be written, and nothing is touched. `threads` starts the
-/// workers' threads.
+/// Runs over the system's files, and writes the document to the file `settings.out`, which is created or
+/// emptied before anything is read, or to standard output. If `settings.out` is the path of the metadata
+/// or of the types table, it cannot be written, and no file is touched. `threads` starts the workers'
+/// threads.
 pub fn convert_as<T: Threads + Wait + Sync>(
     rt: &HostRuntime,
     threads: &T,

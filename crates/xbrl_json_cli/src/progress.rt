@@ -1,4 +1,4 @@
-//! How far a run is, shown on standard error while it works.
+//! The progress of a run, shown on standard error while it works.
 
 use std::fmt::{Display, Formatter};
 use std::io::{Read, Write};
@@ -6,13 +6,13 @@ use std::sync::atomic::{AtomicU64, Ordering};
 use std::time::{Clock, Instant};
 use std::{fmt, io};
 
-/// How often the line on a terminal is written anew, in milliseconds.
+/// How often the line on a terminal is rewritten, in milliseconds.
 const ON_A_TERMINAL: u64 = 200;
 
-/// How often a new line is written elsewhere, in milliseconds.
+/// How often a new line is written where standard error is not a terminal, in milliseconds.
 const ELSEWHERE: u64 = 10_000;
 
-/// A number of bytes, shown in megabytes (of 1,000,000 bytes) with one decimal.
+/// A number of bytes, shown in megabytes (1,000,000 bytes) with one decimal place.
 #[derive(Drop)]
 struct Megabytes(u64);
 
@@ -24,9 +24,9 @@ impl Display for Megabytes {
     }
 }
 
-/// How far a run is: its tables, and the bytes of their files and of the document. The threads of
-/// the run share it, and whichever of them counts something when a line is due writes the line.
-/// Nothing is claimed of the counts.
+/// The progress of a run: its tables, and the bytes of their files and of the document. The threads of
+/// the run share it, and whichever of them counts something when a line is due writes the line. No
+/// contract says anything about the counts.
 #[derive(Drop)]
 pub struct Progress<'a, H> {
     /// The system.
@@ -35,22 +35,22 @@ pub struct Progress<'a, H> {
     start: Instant,
     /// Whether standard error is a terminal, where one line is rewritten in place.
     terminal: bool,
-    /// When the next line is due, in milliseconds after the start.
+    /// When the next line is due, in milliseconds since the start.
     due: AtomicU64,
-    /// The tables of the report.
+    /// The number of tables.
     tables: AtomicU64,
-    /// The tables that are done.
+    /// The number of tables that are done.
     done: AtomicU64,
-    /// The bytes of the tables' files, as the system tells their sizes.
+    /// The size of the tables' files in bytes, as the system tells it.
     size: AtomicU64,
-    /// The bytes that were read of them.
+    /// The number of bytes read from them.
     read: AtomicU64,
-    /// The bytes of the document that were written.
+    /// The number of bytes of the document that were written.
     written: AtomicU64,
 }
 
 impl<'a, H: Eprint + Clock> Progress<'a, H> {
-    /// Nothing is done yet. `None` where the system has no clock.
+    /// Starts with nothing done. `None` if the system has no clock.
     pub fn start(rt: &'a H, terminal: bool) -> Option<Progress<'a, H>> {
         let Ok(start) = Instant::now(rt) else {
             return None;
@@ -74,18 +74,18 @@ impl<'a, H: Eprint + Clock> Progress<'a, H> {
         self.size.fetch_add(size, Ordering::SeqCst);
     }
 
-    /// Counts a table without a file, which is done.
+    /// Counts a table without a file, which is done at once.
     pub fn table_missing(&self) {
         self.table_found(0);
         self.table_done();
     }
 
-    /// Counts a table that is done.
+    /// Counts one more table as done.
     fn table_done(&self) {
         self.done.fetch_add(1, Ordering::SeqCst);
     }
 
-    /// Counts bytes that were read of a table's file.
+    /// Counts bytes that were read from a table's file.
     fn count_read(&self, bytes: usize) {
         self.read.fetch_add(bytes as u64, Ordering::SeqCst);
         self.show_if_due();
@@ -97,7 +97,7 @@ impl<'a, H: Eprint + Clock> Progress<'a, H> {
         self.show_if_due();
     }
 
-    /// Writes the line if it is due and no other thread does.
+    /// Writes the line if it is due and no other thread writes it.
     fn show_if_due(&self) {
         let Ok(elapsed) = self.start.elapsed(self.rt) else {
             return;
@@ -118,7 +118,7 @@ impl<'a, H: Eprint + Clock> Progress<'a, H> {
         }
     }
 
-    /// Writes the last line, unless the run ended before its tables.
+    /// Writes the last line, unless the run ended before it looked for any table.
     pub fn end(&self) {
         if self.tables.load(Ordering::SeqCst) > 0 {
             self.show("\n");
@@ -139,17 +139,17 @@ impl<'a, H: Eprint + Clock> Progress<'a, H> {
     }
 }
 
-/// A reader of a table's file whose bytes are counted, and which is a table that is done once it is
-/// let go; or any other reader.
+/// A reader of a table's file. Its bytes are counted, and its table counts as done once it is dropped.
+/// Without a progress to count in, it is any other reader.
 pub struct Watched<'a, H: Eprint + Clock, R> {
     /// The reader.
     reader: R,
-    /// Where it is counted.
+    /// Where its bytes are counted, if anywhere.
     progress: Option<&'a Progress<'a, H>>,
 }
 
 impl<'a, H: Eprint + Clock, R> Watched<'a, H, R> {
-    /// A reader that is counted here, if anywhere.
+    /// A reader that is counted in this progress, if there is one.
     pub fn new(reader: R, progress: Option<&'a Progress<'a, H>>) -> Watched<'a, H, R> {
         Watched { reader, progress }
     }
@@ -187,7 +187,7 @@ pub struct Counted<'a, H, W> {
 }
 
 impl<'a, H, W> Counted<'a, H, W> {
-    /// A writer that is counted here, if anywhere.
+    /// A writer that is counted in this progress, if there is one.
     pub fn new(writer: W, progress: Option<&'a Progress<'a, H>>) -> Counted<'a, H, W> {
         Counted { writer, progress }
     }

@@ -1,4 +1,4 @@
-//! A run: the files of a folder to a document.
+//! A run, from the files of a folder to a document.
 
 ghost use Rattle.std.specs.Prelude.{◌≡◌, IfSome, IfErr, IfOk, length};
 ghost use Rattle.oim_convert.specs.Files.{AreFilesOf};
@@ -19,8 +19,8 @@ use std::io::Read;
 use std::sync::Wait;
 use std::thread::Threads;
 
-/// A reader of each table's file, in table order, which opens it no sooner than it is read. A file
-/// that is not there is `None`.
+/// A reader of each table's file, in table order, which may open the file only when it is read. `None`
+/// for a file that does not exist.
 fn find_tables<R: Read + Drop, F: Folder<R>>(
     alloc: Global,
     folder: &mut F,
@@ -45,24 +45,25 @@ fn find_tables<R: Read + Drop, F: Folder<R>>(
 }
 
 /// Converts the report whose metadata file is at `settings.meta`, with the types table at
-/// `settings.types`, and writes its document in xBRL-JSON 1.0 to the sink, in the layout
-/// `settings.layout`. The paths of the tables and of the parameters file are the folder of the
-/// metadata's path and their URL. Answers how the run ended: the first fault of the metadata, the
-/// types table and the parameters file, in the order in which they are read, with nothing written;
-/// else as the conversion of the tables ends, with `settings.workers` workers and rings of the size
-/// `settings.ring`. A table whose file does not exist has the fault NoFile, unless it is optional.
-/// A file is opened once a worker has drawn its table; where that is refused, the table's read
-/// fails.
+/// `settings.types` (xBRL-CSV 1.0), and writes its document in xBRL-JSON 1.0 to the sink, in the layout
+/// `settings.layout`, with `settings.workers` workers and rings of `settings.ring` blocks. The path of
+/// each table's file and of the parameters file is the folder of the metadata's path followed by their
+/// URL. It waits for its workers.
 ///
-/// Done says that exactly the document of the files' bytes is written, in this layout. Tables says
-/// that these tables are refused, each by its first fault, in table order, and that the unfinished
-/// document up to and with the first of them is written. Both are the same for every number of
-/// workers, ring size and schedule. Running out of memory or threads and failed reads show as
-/// Memory, NoThread and Read, a failed read of the metadata, the types table or the parameters file
-/// as Report with its source. Run has BadWorkers exactly where there is no early fault, memory does
-/// not run out and the workers are not 1 to 64, BadSize where the workers are but the ring's size is
-/// not 1 to 65,536, and Lost where the token of a ring was lost, after everything was written. It
-/// waits for its workers.
+/// The answer is how the run ended. If the metadata, the types table or the parameters file has a fault,
+/// it is the first one, in the order in which the files are read, and nothing is written. Otherwise it is
+/// how the conversion of the tables ended. A table whose file does not exist has the fault `NoFile`,
+/// unless it is optional. The system's files are opened once a worker has drawn their table; if opening
+/// fails, the table's read fails.
+///
+/// `Done` means that exactly the document of the files' bytes is written, in this layout. `Tables` means
+/// that these tables are refused, each with its first fault, in table order, and that the unfinished
+/// document up to and including the first of them is written. Both are the same for every number of
+/// workers, ring size and schedule. Running out of memory or threads and failed reads give `Memory`,
+/// `NoThread` and `Read`; a failed read of the metadata, the types table or the parameters file gives
+/// `Report` with its source. `Run` has `BadWorkers` exactly if there is no early fault, memory does not
+/// run out and the number of workers is not 1 to 64, `BadSize` if that number is but the ring's size is
+/// not 1 to 65,536, and `Lost` if the token of a ring was lost, after everything was written.
 pub fn run<R: Read + Drop + Send, F: Folder<R>, T: Threads + Wait + Sync, W: Sink>(
     rt: &T,
     alloc: Global,
@@ -70,11 +71,12 @@ pub fn run<R: Read + Drop + Send, F: Folder<R>, T: Threads + Wait + Sync, W: Sin
     folder: &mut F,
     sink: &mut W,
 ) -> Outcome
-    // Of a folder that tells its files: how the run ends.
+    // For a folder that tells its files: how the run ends.
     ensures ends { IfSome (F.files folder.old) (λ files.
-        EndsOver files settings.now.meta settings.now.types settings.now.workers settings.now.ring settings.now.layout (sink_at (W.mark sink.old) (W.told sink.old)) (sink_at (W.mark sink.new) (W.told sink.new)) result) }
+        EndsOver files settings.now.meta settings.now.types settings.now.workers settings.now.ring settings.now.layout
+        (sink_at (W.mark sink.old) (W.told sink.old)) (sink_at (W.mark sink.new) (W.told sink.new)) result) }
 
-    // Of every folder: what each outcome leaves behind.
+    // For every folder: what each outcome leaves behind.
     ensures leaves { Leaves (range_fault settings.now.workers settings.now.ring) (sink_at (W.mark sink.old) (W.told sink.old)) (sink_at (W.mark sink.new) (W.told sink.new)) result }
 {
     let meta = settings.meta.as_str();

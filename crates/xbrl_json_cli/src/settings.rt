@@ -1,22 +1,18 @@
-//! What the command line asks for.
+//! The settings that the command line gives.
 
 ghost use Rattle.std.specs.Prelude.{◌≡◌, ◌≤◌, ◌↔◌, IfOk, IfSome, IsTrue, codes, false, map, option_map};
 ghost use Rattle.clap.specs.Kinds.{FailsBy};
 ghost use Rattle.clap.specs.Words.{app_of, fault_of, first_of, found_of, matches_of, one_of, rows_of, rule_of};
+ghost use Rattle.oim_convert.specs.Limits.{IsRingSize, IsWorkerCount};
 ghost use Rattle.xbrl_json_cli.specs.CommandLine as spec;
 ghost use Rattle.xbrl_json_cli.specs.CommandLine.{Answers, AreLayouts, HasSettings, IsInput, IsLayoutOf, IsNumberOf, Words, command_line};
 
 use clap::builder::ValueParser;
 use clap::{Arg, ArgAction, ArgMatches, Command, Error};
+use oim_convert::{LARGEST_RING, MOST_WORKERS};
 use oim_json::Layout;
 use oim_names::Text;
 use std::alloc::{AllocError, Global};
-
-/// The most workers that a run may have.
-const MOST_WORKERS: usize = 64;
-
-/// The largest size of a table's ring.
-const LARGEST_RING: usize = 65_536;
 
 /// The words of the layouts.
 const LAYOUTS: &[&str] = &["compact", "lines"];
@@ -29,10 +25,10 @@ const TYPES_HELP: &str = "The types table: the type of each concept and dimensio
 const WORKERS_HELP: &str = "How many tables are read at once";
 
 const RING_HELP: &str =
-    "How many blocks of up to 256 facts of one table may wait, of all tables about four times as many";
+    "How many blocks of up to 256 facts may wait for one table; for all tables, about four times as many";
 
 const OUT_HELP: &str =
-    "The file of the document, cut to nothing at once [default: standard output]";
+    "The file of the document, which is emptied first [default: standard output]";
 
 const LAYOUT_HELP: &str = "The document on one line, or with a line for each fact";
 
@@ -42,12 +38,12 @@ const PROGRESS_HELP: &str = "Show on standard error how much is read and written
 const MORE_HELP: &str = r#"Example:
   xbrl-json report/meta.json --types report/types.csv --out report.json
 
-The files of the tables and of the parameters lie beside META, at the paths that it names.
+The table files and the parameters file are at the paths that META names, relative to its folder.
 
 The types table is a CSV file with the header "namespace,name,type2" and one line for each concept
-and dimension of the taxonomy. A concept's type is integer, decimal, double, text, boolean, date,
-qname or other, a dimension's is explicit or typed (with the header "namespace,name,type" without
-boolean, date and qname):
+and dimension of the taxonomy. The type of a concept is integer, decimal, double, text, boolean,
+date, qname or other, and that of a dimension is explicit or typed. With the header
+"namespace,name,type", a concept's type cannot be boolean, date or qname:
   http://example.com/eg,Cash,integer
 
 Exit status:
@@ -56,7 +52,7 @@ Exit status:
   2  the words of the command line are wrong
   3  a file cannot be read or written, or memory ran out"#;
 
-/// What a run is asked for.
+/// The settings of a run.
 #[derive(Drop)]
 pub struct Settings {
     /// The path of the metadata file.
@@ -146,7 +142,7 @@ fn flag<'a>(alloc: Global, name: &'a str, help: &'a str) -> Arg<'a>
         .action(ArgAction::SetTrue)
 }
 
-/// The program with its two files.
+/// The program with the arguments for its two files. Fails if memory runs out.
 fn inputs<'a>(alloc: Global) -> Result<Command<'a>, AllocError>
     ensures { IfOk result (λ c. app_of c ≡ spec.inputs) }
 {
@@ -161,12 +157,13 @@ fn inputs<'a>(alloc: Global) -> Result<Command<'a>, AllocError>
         .arg(types)
 }
 
-/// The program's arguments, as `clap` reads them, where `layouts` are the words of the layouts.
+/// The program's arguments, as `clap` reads them, where `layouts` are the words of the layouts. Fails if
+/// memory runs out.
 fn command<'a>(alloc: Global, layouts: &'a [&'a str]) -> Result<Command<'a>, AllocError>
     ensures { IfOk result (λ c. app_of c ≡ command_line layouts.entry) }
 {
-    let workers = number_option(alloc, "workers", 64, "4", WORKERS_HELP);
-    let ring = number_option(alloc, "ring", 65536, "1024", RING_HELP);
+    let workers = number_option(alloc, "workers", MOST_WORKERS as u64, "4", WORKERS_HELP);
+    let ring = number_option(alloc, "ring", LARGEST_RING as u64, "1024", RING_HELP);
     let out = option(alloc, "out", "FILE", OUT_HELP);
     let layout = word_option(alloc, "layout", layouts, "compact", LAYOUT_HELP);
     let progress = flag(alloc, "progress", PROGRESS_HELP);
@@ -195,7 +192,7 @@ fn is_given(matches: &ArgMatches<'_>, id: &str) -> bool
     }
 }
 
-/// The number that the option `id` has, where it lies between `least` and `most`.
+/// The number that the option `id` has, if it is between `least` and `most`.
 fn number_between(matches: &ArgMatches<'_>, id: &str, least: usize, most: usize) -> Option<usize>
     ensures { IfSome result (λ n. (least ≤ n) × (n ≤ most)
         × IsNumberOf (one_of id.now (rows_of (found_of matches.now))) n) }
@@ -208,7 +205,7 @@ fn number_between(matches: &ArgMatches<'_>, id: &str, least: usize, most: usize)
     }
 }
 
-/// The layout of the option.
+/// The layout that the option `layout` has.
 fn layout_in(matches: &ArgMatches<'_>) -> Option<Layout>
     ensures { IfSome result (IsLayoutOf (first_of (codes "layout") (rows_of (found_of matches.now)))) }
 {
@@ -222,11 +219,11 @@ fn layout_in(matches: &ArgMatches<'_>) -> Option<Layout>
     }
 }
 
-/// The settings in the matches. A parse of `command` always has them.
+/// The settings in the matches. A parse of `command` always has them. Fails if memory runs out.
 fn settings_in(alloc: Global, matches: &ArgMatches<'_>) -> Result<Option<Settings>, AllocError>
     ensures values { IfOk result (λ o. IfSome o (HasSettings (rows_of (found_of matches.now)))) }
-    ensures workers { IfOk result (λ o. IfSome o (λ s. (1 ≤ s.workers) × (s.workers ≤ 64))) }
-    ensures ring { IfOk result (λ o. IfSome o (λ s. (1 ≤ s.ring) × (s.ring ≤ 65536))) }
+    ensures workers { IfOk result (λ o. IfSome o (λ s. IsWorkerCount s.workers)) }
+    ensures ring { IfOk result (λ o. IfSome o (λ s. IsRingSize s.ring)) }
 {
     let (Some(meta), Some(types), Some(workers), Some(ring), Some(layout)) = (
         value_of(matches, "meta"),
@@ -252,16 +249,15 @@ fn settings_in(alloc: Global, matches: &ArgMatches<'_>) -> Result<Option<Setting
     }))
 }
 
-/// The settings that the words give by the command line whose option `layout` has the words
-/// `layouts`.
+/// The settings that the words give, where the option `layout` has the words `layouts`.
 fn settings_by<'a>(
     alloc: Global,
     layouts: &'a [&'a str],
     words: &'a [&'a str],
 ) -> Result<Settings, Error>
     ensures values { IfOk result (HasSettings (matches_of (command_line layouts.entry) (map (λ w. w.now) words.now))) }
-    ensures workers { IfOk result (λ s. (1 ≤ s.workers) × (s.workers ≤ 64)) }
-    ensures ring { IfOk result (λ s. (1 ≤ s.ring) × (s.ring ≤ 65536)) }
+    ensures workers { IfOk result (λ s. IsWorkerCount s.workers) }
+    ensures ring { IfOk result (λ s. IsRingSize s.ring) }
     ensures fails { FailsBy (fault_of (command_line layouts.entry) (map (λ w. w.now) words.now)) result }
 {
     let matches = match command(alloc, layouts)?.try_get_matches_from(words) {
@@ -275,18 +271,17 @@ fn settings_by<'a>(
     }
 }
 
-/// Reads the command line, the words without the program's name: `META --types FILE [--workers N]
-/// [--ring K] [--out FILE] [--layout compact|lines] [--progress]`, with 4 workers, rings of 1,024
-/// and the layout compact unless the words say otherwise. Workers are 1 to 64, a ring's size 1 to
-/// 65,536.
+/// Reads the words of the command line, without the program's name: `META --types FILE [--workers N]
+/// [--ring K] [--out FILE] [--layout compact|lines] [--progress]`, with 4 workers, rings of 1,024 blocks
+/// and the compact layout unless the words say otherwise. There are 1 to 64 workers, and a ring's size is
+/// 1 to 65,536 blocks.
 ///
-/// Fails exactly where the definition of the command line refuses the words, by one of the kinds that
-/// it gives, or where they ask for help or the version; or where memory runs out. The error has the
-/// text to show.
+/// Fails exactly if the definition of the command line refuses the words, with one of the kinds that it
+/// gives, if they ask for help or the version, or if memory runs out. The error has the text to show.
 pub fn job(alloc: Global, words: &[&str]) -> Result<Settings, Error>
     ensures answers { (layouts : Words) × AreLayouts layouts × Answers (command_line layouts) (map (λ w. w.now) words.now) result }
-    ensures workers { IfOk result (λ s. (1 ≤ s.workers) × (s.workers ≤ 64)) }
-    ensures ring { IfOk result (λ s. (1 ≤ s.ring) × (s.ring ≤ 65536)) }
+    ensures workers { IfOk result (λ s. IsWorkerCount s.workers) }
+    ensures ring { IfOk result (λ s. IsRingSize s.ring) }
 {
     settings_by(alloc, LAYOUTS, words)
 }

@@ -1,4 +1,4 @@
-//! The steps of a run before its tables are read: each reads a file, or ends with the outcome that
+//! The steps of a run before its tables are read. Each step reads a file, or fails with the outcome that
 //! names the file and its fault.
 
 ghost use Rattle.std.specs.Prelude.{◌≡◌, ◌≢◌, ◌⊎◌, ◌+◌, ◌++◌, [], ◌∷◌, IfErr, IfOk, IfSome, Ok, Some, option_map, string_bytes, take};
@@ -23,7 +23,7 @@ use std::alloc::{AllocError, Global};
 use std::io;
 use std::io::{ErrorKind, Read};
 
-/// The path of a file of the report's folder.
+/// The path of a file in the report's folder. Fails if memory runs out.
 pub fn path_in(alloc: Global, base: &str, url: &str) -> Result<String, AllocError>
     ensures { IfOk result (λ s. string_bytes s ≡ base.now ++ url.now) }
 {
@@ -39,7 +39,7 @@ pub fn no_memory() -> Outcome
     Outcome::Run(ConvertFault::Memory)
 }
 
-/// The outcome of a run that lacks a file.
+/// The outcome of a run that cannot open the file at this path.
 fn cannot_read(alloc: Global, path: &str) -> Outcome
     ensures { (result ≡ outcome.CannotRead path.now) ⊎ (result ≡ spec.no_memory) }
 {
@@ -66,7 +66,7 @@ fn opened<R: Read + Drop, F: Folder<R>>(
     }
 }
 
-/// The outcome of a metadata that could not be read.
+/// The outcome of a run that failed to read its metadata.
 fn unread(error: io::Error) -> Outcome
     ensures memory { error_kind error ≡ ErrorKind.OutOfMemory → result ≡ spec.no_memory }
     ensures read { error_kind error ≢ ErrorKind.OutOfMemory → result ≡ outcome.Report source.Report refused.Read }
@@ -78,7 +78,7 @@ fn unread(error: io::Error) -> Outcome
     }
 }
 
-/// The bytes of a metadata, one past the limit at most.
+/// The bytes of a metadata, up to one byte past the limit.
 fn bytes_of<R: Read + Drop>(alloc: Global, reader: R) -> Result<Vec<u8>, Outcome>
     ensures bytes { IfSome (R.remaining reader) (λ bytes. IfOk result (λ v. v.items ≡ take (profile.metadata + 1) bytes)) }
     ensures refused { IfErr result (λ o. IsAmong o (outcome.Report source.Report refused.Read ∷ spec.no_memory ∷ [])) }
@@ -91,7 +91,7 @@ fn bytes_of<R: Read + Drop>(alloc: Global, reader: R) -> Result<Vec<u8>, Outcome
     }
 }
 
-/// The bytes of the metadata file, one past the limit at most.
+/// The bytes of the metadata file, up to one byte past the limit.
 fn metadata_at<R: Read + Drop, F: Folder<R>>(
     alloc: Global,
     folder: &mut F,
@@ -128,7 +128,7 @@ fn types_in<R: Read + Drop, F: Folder<R>>(
     }
 }
 
-/// The parameters of the file whose path begins with `base` and goes on with its URL.
+/// The parameters of the file whose path is `base` followed by its URL.
 fn parameters_of<R: Read + Drop, F: Folder<R>>(
     alloc: Global,
     folder: &mut F,
@@ -153,7 +153,7 @@ fn parameters_of<R: Read + Drop, F: Folder<R>>(
     }
 }
 
-/// The parameters of the named parameters file, none where no file is named.
+/// The parameters of the named parameters file, or no parameters if no file is named.
 fn parameters_in<R: Read + Drop, F: Folder<R>>(
     alloc: Global,
     folder: &mut F,
@@ -171,7 +171,7 @@ fn parameters_in<R: Read + Drop, F: Folder<R>>(
     }
 }
 
-/// The name of the parameters file, if any.
+/// The URL of the parameters file, if the metadata has one.
 fn url_in(alloc: Global, metadata: &[u8]) -> Result<Option<Text>, Outcome>
     ensures gives { Takes (looking (url_result profile metadata.now) ∷ []) (λ u. url_result profile metadata.now ≡ Ok u) result }
     ensures early { IfErr result IsEarly }
@@ -198,12 +198,11 @@ fn report_in(
     }
 }
 
-/// The report that the files of a folder give: the metadata at `meta`, with the types table at
-/// `types` and the parameters file that the metadata names, whose path begins with `base`. Else the
-/// outcome that names the first fault, in the order in which the files are read: the metadata is
-/// read, one byte past the limit at most, then the types table, then the parameters file, and last
-/// the metadata is looked at as a report. A read that fails ends the run with Read (17) and the
-/// source of its file.
+/// The report that the files of a folder give: the metadata at `meta`, with the types table at `types`
+/// and the parameters file that the metadata names, whose path is `base` followed by its URL. Fails with
+/// the outcome that names the first fault, in the order in which the files are read: first the metadata,
+/// up to one byte past the limit, then the types table, then the parameters file; last, the report is
+/// made from the metadata. A read that fails ends the run with `Read` (17) and the source of its file.
 pub fn report_of<R: Read + Drop, F: Folder<R>>(
     alloc: Global,
     folder: &mut F,

@@ -1,5 +1,4 @@
-//! Whole reports to their documents, and the line of the fault where there is one, on threads and on
-//! one thread.
+//! Whole reports converted on threads and on one thread: their documents, and the lines of their faults.
 
 ghost use Rattle.std.specs.Prelude.{◌≤◌};
 
@@ -20,11 +19,11 @@ use std::sync::Wait;
 use std::test::Fail;
 use std::thread::Threads;
 
-/// What stands before the facts of each document here.
+/// The beginning of each document here, before its facts.
 pub(crate) const HEAD: &str =
     r#"{"documentInfo":{"documentType":"https://xbrl.org/2021/xbrl-json","namespaces":{"eg":"http://example.com/eg","iso4217":"http://www.xbrl.org/2003/iso4217","xbrli":"http://www.xbrl.org/2003/instance"},"taxonomy":["http://example.com/eg.xsd"]},"facts":{"#;
 
-/// Texts of the held metadata, each with what stands in its place.
+/// Texts of the held metadata, each with the text that replaces it.
 pub(crate) type Edits<'a> = &'a [(&'a str, &'a str)];
 
 /// The held metadata with each text replaced.
@@ -44,7 +43,7 @@ fn readers<'a>(alloc: Global, tables: &[Option<&'a [u8]>]) -> Result<Vec<Option<
     Ok(readers)
 }
 
-/// The limits of most conversions here: two rows a table.
+/// The limits of most conversions here: two rows per table.
 fn two_rows() -> Limits
     ensures { result.rows ≤ 4294967294 }
 {
@@ -54,7 +53,7 @@ fn two_rows() -> Limits
     }
 }
 
-/// The document and the line of a conversion by two workers over rings of one block.
+/// The document and the lines of a conversion by two workers over rings of one block.
 fn converted(
     rt: &(impl Threads + Wait + Sync),
     alloc: Global,
@@ -77,7 +76,7 @@ fn converted(
     Ok((document, line(alloc, &outcome)?))
 }
 
-/// The faults, each behind the identifier of its table.
+/// The faults, each with the identifier of its table.
 fn named(
     alloc: Global,
     report: &Report,
@@ -94,7 +93,7 @@ fn named(
     Ok(Items::from_vec(named))
 }
 
-/// The outcome of a conversion on one thread that answered so.
+/// The outcome of a conversion on one thread with this answer.
 fn outcome_of(
     alloc: Global,
     report: &Report,
@@ -110,7 +109,7 @@ fn outcome_of(
     }
 }
 
-/// The line of a report's conversion on one thread, behind what it writes.
+/// Converts a report on one thread to `document`, and gives the lines.
 fn serial_line(
     alloc: Global,
     report: &Report,
@@ -138,7 +137,7 @@ pub(crate) fn report_from(alloc: Global, metadata: &str) -> Result<Box<Report>, 
     Ok(Box::new(alloc, report)?)
 }
 
-/// The document and the line of a conversion on one thread.
+/// The document and the lines of a conversion on one thread.
 fn converted_serially(
     alloc: Global,
     metadata: &str,
@@ -150,7 +149,7 @@ fn converted_serially(
     Ok((document, line))
 }
 
-/// The first word, and the text behind it.
+/// The first word, and the text after it.
 fn first_word(text: &str) -> (&str, &str) {
     text.split_once(' ').unwrap_or((text, ""))
 }
@@ -183,7 +182,7 @@ fn fact_of(alloc: Global, fact: &str) -> Result<String, AllocError> {
     )
 }
 
-/// The document of these facts, with `; ` between them, finished where there is no fault.
+/// The document of these facts, which have `; ` between them. It is finished if there is no fault.
 pub(crate) fn document_of(alloc: Global, facts: &str, fault: &str) -> Result<String, AllocError> {
     let mut document = String::from_str(alloc, HEAD)?;
     for fact in facts.split("; ") {
@@ -200,7 +199,7 @@ pub(crate) fn document_of(alloc: Global, facts: &str, fault: &str) -> Result<Str
     Ok(document)
 }
 
-/// The lines of faults, with `; ` between them.
+/// The lines of these faults, which have `; ` between them.
 fn lines_of(alloc: Global, faults: &str) -> Result<String, AllocError> {
     let mut lines = String::new(alloc);
     for fault in faults.split("; ") {
@@ -212,7 +211,7 @@ fn lines_of(alloc: Global, faults: &str) -> Result<String, AllocError> {
     Ok(lines)
 }
 
-/// Compares a document and a line with those that are expected.
+/// Compares a document and its lines with the expected ones.
 fn compare(
     rt: &impl Abort,
     found: (Vec<u8>, String),
@@ -266,7 +265,7 @@ fn check(
     )
 }
 
-/// Does so for reports of one table, each given as `FILE => FACTS => FAULT`.
+/// Does the same for reports of one table, each given as `FILE => FACTS => FAULT`.
 fn check_all(
     rt: &(impl Abort + AllocGlobal + Threads + Wait + Sync),
     edits: Edits<'_>,
@@ -284,7 +283,7 @@ pub(crate) const THREE: Edits<'static> = &[(
     r#"{"t1":{"url":"t1.csv","template":"p"},"t2":{"url":"t2.csv","template":"p"},"t3":{"url":"t3.csv","template":"p"}}"#,
 )];
 
-/// A member that no one knows, and a list of no reports that this one extends.
+/// An unknown member, and an empty list of reports that this one extends.
 const UNKNOWN: Edits<'static> = &[
     (r#""tables":"#, r#""foo":1,"tables":"#),
     (r#""taxonomy":"#, r#""extends":[],"taxonomy":"#),
@@ -533,8 +532,8 @@ fn groups_and_parameters(rt: HostRuntime) -> Result<(), Fail> {
     Ok(())
 }
 
-/// A report of one table with what its metadata has in place of texts: its file, and the texts of its
-/// facts, where `@` stands for the report's period.
+/// A report of one table: the texts of its metadata with their replacements, its file, and the texts of
+/// its facts, where `@` stands for the report's period.
 type Whole<'a> = (Edits<'a>, &'a str, &'a str);
 
 /// The held report's period, in its written form.
@@ -602,7 +601,7 @@ fn whole_document(alloc: Global, facts: &str) -> Result<String, AllocError> {
     Ok(document)
 }
 
-/// Converts such a report in both ways, and compares its documents.
+/// Converts such a report in both ways, and compares the documents.
 fn check_whole(
     rt: &(impl Abort + AllocGlobal + Threads + Wait + Sync),
     whole: &Whole<'_>,
@@ -653,8 +652,8 @@ fn the_address_of_a_report(rt: HostRuntime) -> Result<(), Fail> {
     )
 }
 
-/// Writers, as the bytes of a call, the room, and whether they fail or answer 0 then, each with the
-/// fault of a write.
+/// Writers, each given by the bytes it takes per call, its room, whether it fails or answers 0 after
+/// that, and the expected write fault.
 const WRITERS: [(usize, usize, bool, Option<WriteFault>); 4] = [
     (1, 4096, true, None),
     (1, 40, true, Some(WriteFault::Failed)),
@@ -695,7 +694,7 @@ fn narrow_writers(rt: HostRuntime) -> Result<(), Fail> {
     Ok(())
 }
 
-/// Whether the held report's conversion on one thread ends so, behind what it writes.
+/// Converts the held report on one thread to a sink. Tells whether it ends with this fault.
 fn serial_held(
     alloc: Global,
     report: &Report,
@@ -715,7 +714,7 @@ fn serial_held(
     Ok(is_serial_so(&answer, ends))
 }
 
-/// Whether it writes these bytes to such a writer, and answers this fault.
+/// Whether it writes these bytes to such a writer, and ends with this fault.
 fn is_narrow(
     alloc: Global,
     report: &Report,
@@ -760,7 +759,7 @@ fn gives_a_row(rows: &mut Rows<'_, &[u8]>) -> bool {
     matches!(&rows.next(), Ok(Some(_)))
 }
 
-/// Whether the rows answer this fault three times.
+/// Whether the rows answer with this fault three times.
 fn keeps_to(rows: &mut Rows<'_, &[u8]>, fault: TableFault) -> bool {
     for _ in 0..3 {
         if rows.next().err() != Some(fault) {
@@ -770,7 +769,7 @@ fn keeps_to(rows: &mut Rows<'_, &[u8]>, fault: TableFault) -> bool {
     true
 }
 
-/// Whether a table gives its first row, and then this fault again and again.
+/// Whether a table gives its first row, and then the same fault again and again.
 fn answers_again(alloc: Global, report: &Report, table: &[u8], fault: TableFault) -> bool {
     if report.tables() == 0 {
         return false;

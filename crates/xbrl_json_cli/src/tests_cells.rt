@@ -1,4 +1,4 @@
-//! One cell to its fact, from the report and by a compiled plan, with the same answer.
+//! One cell and its fact, from the report and by a compiled plan, with the same answer.
 
 use crate::tests::{Edits, GROUPS, edited, report_from};
 use oim_json::member_of;
@@ -9,14 +9,14 @@ use std::alloc::Global;
 use std::process::Abort;
 use std::test::Fail;
 
-/// The cells of row 1 in the template's order, the place of the fact cell, and what is answered:
-/// the fact behind `t1.r_1.` (where `@` is the report's period), the fault's name, or `no fact`.
+/// The cells of row 1 in the template's order, the place of the fact cell, and the expected answer: the
+/// text of the fact after `t1.r_1.` (where `@` is the report's period), the fault's name, or `no fact`.
 type Case<'a> = (&'a [&'a str], usize, &'a str);
 
 /// The held report's period, in its written form.
 const PERIOD: &str = "2021-01-01T00:00:00/2022-01-01T00:00:00";
 
-/// What an answer says.
+/// The text of an answer.
 fn said(alloc: Global, answer: Result<Option<Fact>, CellFault>) -> Result<String, Fail> {
     match answer {
         Ok(Some(fact)) => {
@@ -29,7 +29,7 @@ fn said(alloc: Global, answer: Result<Option<Fact>, CellFault>) -> Result<String
     }
 }
 
-/// What an answer is to say.
+/// The expected text of an answer.
 fn wanted(alloc: Global, expected: &str) -> Result<String, Fail> {
     match expected.split_once(" {") {
         Some((column, fact)) => {
@@ -48,7 +48,7 @@ pub(crate) fn row_of(alloc: Global, cells: &[&str]) -> Result<Row, Fail> {
     Ok(Row::new(1, Text::from_str(alloc, "r_1")?, Items::from_vec(texts)))
 }
 
-/// What both say of a cell of the report's first table.
+/// The texts of both answers for a cell of the report's first table.
 fn both(
     alloc: Global,
     report: &Report,
@@ -73,7 +73,7 @@ pub(crate) fn report_of(alloc: Global, edits: Edits<'_>) -> Result<Box<Report>, 
     report_from(alloc, metadata.as_str())
 }
 
-/// Whether both say what is expected of a cell.
+/// Whether both answers are the expected one.
 fn agree(alloc: Global, report: &Report, case: &Case<'_>) -> Result<bool, Fail> {
     let (cells, column, expected) = *case;
     let row = row_of(alloc, cells)?;
@@ -82,7 +82,7 @@ fn agree(alloc: Global, report: &Report, case: &Case<'_>) -> Result<bool, Fail> 
     Ok(direct.as_str() == wanted.as_str() && planned.as_str() == wanted.as_str())
 }
 
-/// Compares what both say of cells of a report with what is expected of them.
+/// Compares both answers for cells of a report with the expected ones.
 fn check(
     rt: &(impl Abort + AllocGlobal),
     edits: Edits<'_>,

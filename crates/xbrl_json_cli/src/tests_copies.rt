@@ -1,11 +1,11 @@
-//! The copy of a report, compared with the report through its readers.
+//! A copy of a report, compared with the report.
 
 use crate::tests::{Edits, GROUPS, THREE};
 use crate::tests_cells::report_of;
 use oim_meta::{Column, Report};
 use std::test::Fail;
 
-/// Whether two columns have one identifier, one kind and as many dimensions and groups.
+/// Whether two columns have the same identifier and kind, and equally many dimensions and groups.
 fn are_same_columns(column: &Column, copy: &Column) -> bool {
     column.id.as_str() == copy.id.as_str()
         && column.kind == copy.kind
@@ -14,7 +14,7 @@ fn are_same_columns(column: &Column, copy: &Column) -> bool {
         && column.from.len() == copy.from.len()
 }
 
-/// Whether the tables at a place have one identifier, one file and the same columns.
+/// Whether the tables at a place have the same identifier, file and columns.
 fn have_same_table(report: &Report, copy: &Report, table: usize) -> bool {
     if table >= report.tables() || table >= copy.tables() {
         return false;

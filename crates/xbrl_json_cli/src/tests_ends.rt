@@ -1,12 +1,12 @@
-//! How a conversion is to end, for comparing.
+//! Expected ends of conversions.
 
 use oim_convert::{ConvertFault, Run};
 use oim_json::WriteFault;
 use oim_merge::MergeEnd;
 use oim_rows::TableFault;
 
-/// How a conversion is to end: the fault of each refused table, in table order, and the fault of a
-/// write that failed before them all.
+/// An expected end of a conversion: the fault of each refused table, in table order, and the fault of a
+/// write that failed before all of them.
 #[derive(Clone, Copy)]
 pub(crate) struct Ends<'a> {
     pub(crate) faults: &'a [TableFault],
@@ -41,12 +41,12 @@ fn merge_end(ends: Ends<'_>) -> MergeEnd {
     }
 }
 
-/// Whether a merge that gave these faults ended so.
+/// Whether a merge that gave these faults ended like this.
 pub(crate) fn is_merged_so(faults: &[TableFault], end: MergeEnd, ends: Ends<'_>) -> bool {
     end == merge_end(ends) && faults == ends.faults
 }
 
-/// Whether a conversion on threads ended so.
+/// Whether a conversion on threads ended like this.
 pub(crate) fn is_run_so(answer: &Result<Run, ConvertFault>, ends: Ends<'_>) -> bool {
     match answer {
         Ok(run) => is_merged_so(run.faults.as_slice(), run.end, ends),
@@ -54,7 +54,7 @@ pub(crate) fn is_run_so(answer: &Result<Run, ConvertFault>, ends: Ends<'_>) -> b
     }
 }
 
-/// Whether a conversion on one thread ended so. After a failed write it answers no fault of a table.
+/// Whether a conversion on one thread ended like this. After a failed write it gives no fault of a table.
 pub(crate) fn is_serial_so(answer: &Result<(), ConvertFault>, ends: Ends<'_>) -> bool {
     match answer {
         Ok(()) => merge_end(ends) == MergeEnd::Complete,

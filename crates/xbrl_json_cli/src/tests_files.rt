@@ -88,7 +88,7 @@ fn types_refused(rt: HostRuntime) {
     }
 }
 
-/// A file with this header and so many records, in each of which `@` is its number.
+/// A file with this header and this many records, in each of which `@` stands for its number.
 fn file_of(rt: &HostRuntime, header: &str, record: &str, records: u32) -> Result<String, Fail> {
     let (front, back) = record.split_once('@').unwrap_or((record, ""));
     let mut file = String::from_str(rt.alloc(), header)?;

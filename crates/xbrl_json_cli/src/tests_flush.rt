@@ -25,10 +25,10 @@ impl Write for Unflushed {
     }
 }
 
-/// What is said of a failed flush.
+/// The line for a failed flush.
 const UNFLUSHED: Said<'static> = ("xbrl-json: output: Write (56)\n", 3);
 
-/// Whether a run over these files to such a writer says this.
+/// Whether a run over these files to such a writer prints this.
 fn ends_unflushed(
     rt: &(impl AllocGlobal + Threads + Wait + Sync),
     files: &[File<'_>],

@@ -8,7 +8,7 @@ const TYPES: &str =
 const BASE: &str =
     "{\"documentInfo\":{\"documentType\":\"https://xbrl.org/2021/xbrl-csv\",\"namespaces\":{\"eg\":\"http://example.com/eg\",\"iso4217\":\"http://www.xbrl.org/2003/iso4217\",\"xbrli\":\"http://www.xbrl.org/2003/instance\"},\"taxonomy\":[\"http://example.com/eg.xsd\"]},\"dimensions\":{\"entity\":\"eg:A1\",\"period\":\"2021-01-01T00:00:00/2022-01-01T00:00:00\",\"unit\":\"iso4217:EUR\"},\"tableTemplates\":{\"p\":{\"columns\":{\"cash\":{\"dimensions\":{\"concept\":\"eg:Cash\"}},\"note\":{\"dimensions\":{\"concept\":\"eg:Note\"}}}}},\"tables\":{\"t1\":{\"url\":\"t1.csv\",\"template\":\"p\"}}}";
 
-/// The fault of a metadata, with limits that it meets but for the number of tables.
+/// The fault of a metadata, with limits of which it can exceed only the number of tables.
 fn fault_within(alloc: Global, text: &str, tables: usize) -> Result<Option<MetaFault>, Fail> {
     let types = read_types(alloc, TYPES.as_bytes())?;
     let limits = Limits {
@@ -27,13 +27,13 @@ fn fault_within(alloc: Global, text: &str, tables: usize) -> Result<Option<MetaF
     .err())
 }
 
-/// The base metadata with one text, where it first stands, in place of another.
+/// The base metadata, where the first occurrence of a text is replaced by another.
 fn changed(alloc: Global, old: &str, new: &str) -> Result<String, Fail> {
     let (front, back) = BASE.split_once(old).unwrap_or((BASE, ""));
     Ok(format!(in alloc; "{front}{new}{back}")?)
 }
 
-/// The fault of the base metadata, so changed.
+/// The fault of the base metadata, changed like this.
 fn fault_of(alloc: Global, old: &str, new: &str) -> Result<Option<MetaFault>, Fail> {
     let text = changed(alloc, old, new)?;
     fault_within(alloc, text.as_str(), 1)
@@ -242,9 +242,10 @@ fn names_of_parameters_files(rt: HostRuntime) -> Result<(), Fail> {
 }
 
 #[test]
-fn prints_names(rt: HostRuntime) -> Result<(), Fail> {
+fn prints_sentences(rt: HostRuntime) -> Result<(), Fail> {
     let printed = format!(in rt.alloc(); "{}", MetaFault::BadDimension)?;
-    assert!(rt; printed.as_str() == MetaFault::BadDimension.name());
+    assert!(rt; printed.as_str() == "a dimension is not known or its value is not well-formed");
+    assert!(rt; MetaFault::BadDimension.name() == "BadDimension");
     assert_eq!(rt; MetaFault::BadDimension.number(), 11);
     Ok(())
 }

@@ -1,4 +1,4 @@
-//! Readers that never end, that are cut at each place, or that count how often they are read.
+//! Readers that never end, that are cut at any place, or that count how often they are read.
 
 ghost use Rattle.std.specs.Prelude.{◌≤◌};
 
@@ -18,7 +18,7 @@ use std::sync::atomic::{AtomicUsize, Ordering};
 use std::test::Fail;
 use std::thread::Threads;
 
-/// A reader of these bytes, and then of the same row for ever.
+/// A reader of these bytes, and then of the same row forever.
 #[derive(Clone, Copy)]
 struct Endless<'a> {
     bytes: &'a [u8],
@@ -34,7 +34,7 @@ impl Read for Endless<'_> {
     }
 }
 
-/// The limits of a thousand rows a table.
+/// Limits of a thousand rows per table.
 fn thousand_rows() -> Limits
     ensures { result.rows ≤ 4294967294 }
 {
@@ -51,7 +51,7 @@ fn alone<R: Drop>(alloc: Global, reader: R) -> Result<Vec<Option<R>>, AllocError
     Ok(readers)
 }
 
-/// Whether two workers end so with a report of one table, behind what they write.
+/// Converts a report of one table by two workers to `document`. Tells whether it ends like this.
 fn threaded<R: Read + Drop + Send>(
     rt: &(impl AllocGlobal + Threads + Wait + Sync),
     report: &Report,
@@ -76,7 +76,7 @@ fn threaded<R: Read + Drop + Send>(
     Ok(is_run_so(&answer, ends))
 }
 
-/// Whether one thread ends so with it, behind what it writes.
+/// Converts it on one thread to `document`. Tells whether it ends like this.
 fn serial<R: Read + Drop>(
     alloc: Global,
     report: &Report,
@@ -97,7 +97,7 @@ fn serial<R: Read + Drop>(
     Ok(is_serial_so(&answer, ends))
 }
 
-/// Whether both give this document and end so.
+/// Whether both give this document and end like this.
 fn both_end<R: Read + Drop + Send + Copy>(
     rt: &(impl AllocGlobal + Threads + Wait + Sync),
     report: &Report,
@@ -149,7 +149,7 @@ const LANGUAGE: Edits<'static> = &[(
 /// A table with a quoted cell that has quotes, a line feed and a control character.
 const ESCAPES: &str = "cash,note\n1,\"say \"\"hi\"\" \\\n\u{e9}\u{1}\"\n";
 
-/// The faults of tables that one thread answers, behind what it writes.
+/// Converts a report on one thread to `document`, and gives the faults of tables.
 fn serial_faults(
     alloc: Global,
     report: &Report,
@@ -171,7 +171,7 @@ fn serial_faults(
     }
 }
 
-/// Whether two workers write and answer what one thread does.
+/// Whether two workers write and answer the same as one thread.
 fn is_as_alone(
     rt: &(impl AllocGlobal + Threads + Wait + Sync),
     report: &Report,
@@ -184,7 +184,7 @@ fn is_as_alone(
     Ok(is_ended && document.as_slice() == expected.as_slice())
 }
 
-/// The first length of a beginning of the table for which they do not.
+/// The first length of a beginning of the table for which they differ.
 fn other_length(rt: &(impl AllocGlobal + Threads + Wait + Sync)) -> Result<Option<usize>, Fail> {
     let report = report_of(rt.alloc(), LANGUAGE)?;
     for length in 0..=ESCAPES.len() {
@@ -202,7 +202,7 @@ fn each_beginning_of_a_table(rt: HostRuntime) -> Result<(), Fail> {
     Ok(())
 }
 
-/// A reader that counts how often it is read, and at its end fails or not.
+/// A reader that counts how often it is read, and may fail at its end.
 #[derive(Drop)]
 struct Counted<'a> {
     bytes: &'a [u8],
@@ -220,7 +220,7 @@ impl Read for Counted<'_> {
     }
 }
 
-/// How many rows come before the end or a fault, where there are at most three.
+/// The number of rows before the end or a fault, which is at most three.
 fn rows_before_end<R: Read + Drop>(rows: &mut Rows<'_, R>) -> usize {
     for count in 0..4usize {
         match rows.next() {
@@ -231,7 +231,7 @@ fn rows_before_end<R: Read + Drop>(rows: &mut Rows<'_, R>) -> usize {
     4
 }
 
-/// Whether a table gives so many rows, and nothing is read once they are given.
+/// Whether a table gives this many rows, and nothing is read after that.
 fn stops_reading(alloc: Global, report: &Report, bytes: &[u8], fails: bool, count: usize) -> bool {
     if report.tables() == 0 {
         return false;

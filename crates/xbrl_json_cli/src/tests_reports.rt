@@ -20,7 +20,7 @@ use std::sync::Wait;
 use std::test::Fail;
 use std::thread::Threads;
 
-/// A reader that gives these bytes, at most `step` a call, and then fails or is at its end.
+/// A reader that gives these bytes, at most `step` per call, and then fails or is at its end.
 #[derive(Clone, Copy)]
 struct Cut<'a> {
     bytes: &'a [u8],
@@ -38,7 +38,7 @@ impl Read for Cut<'_> {
     }
 }
 
-/// Whether a conversion ends so, behind what it writes.
+/// Converts a report to `document`. Tells whether it ends like this.
 fn convert(
     alloc: Global,
     report: &Report,
@@ -66,7 +66,7 @@ fn readers_of<'a>(alloc: Global, tables: &[Cut<'a>]) -> Result<Vec<Option<Cut<'a
     Ok(readers)
 }
 
-/// Whether a conversion writes this document and ends so.
+/// Whether a conversion writes this document and ends like this.
 fn ends(
     alloc: Global,
     report: &Report,
@@ -80,8 +80,8 @@ fn ends(
     Ok(is_ended && document.as_slice() == expected.as_bytes())
 }
 
-/// Whether a report's unfinished document has these facts, with `; ` between them, and it ends with
-/// these faults of tables.
+/// Whether a report's unfinished document has these facts, which have `; ` between them, and the
+/// conversion ends with these faults of tables.
 fn is_refused(
     alloc: Global,
     report: &Report,
@@ -107,11 +107,11 @@ const FIRST: &str = "t1.r_1.cash - Cash EUR 100; t1.r_1.note - Note - first";
 const BOTH: &str =
     "t1.r_1.cash - Cash EUR 100; t1.r_1.note - Note - first; t1.r_2.cash - Cash EUR 200; t1.r_2.note - Note - second";
 
-/// The facts of the rows that the held table's reader gave whole, where it failed at a place from the
-/// first number on and before the second.
+/// The facts of the rows that the held table's reader gave as a whole, if it failed at a place from the
+/// first number up to but not including the second.
 const CUTS: &[(usize, usize, &str)] = &[(0, 20, ""), (20, 31, FIRST), (31, 32, BOTH)];
 
-/// Whether the held report ends so where its reader fails at this place.
+/// Whether the held report ends like this if its reader fails at this place.
 fn is_cut(
     alloc: Global,
     report: &Report,
@@ -125,7 +125,7 @@ fn is_cut(
     is_refused(alloc, report, [cut].as_slice(), facts, &[failed_read(0)])
 }
 
-/// The first place where the held report ends otherwise, with so many bytes a call.
+/// The first place where the held report ends differently, with this many bytes per call.
 fn other_cut(alloc: Global, report: &Report, step: usize) -> Result<Option<usize>, Fail> {
     for (from, to, facts) in CUTS {
         for place in *from..*to {
@@ -223,8 +223,8 @@ const BAD_PATH: Edits<'static> = &[
     (r#""tables":"#, r#""parameterURL":"/p.csv","tables":"#),
 ];
 
-/// A metadata's edits, the path and the text of a parameters file, and what a run in the folder `d/`
-/// says. Where that is nothing it writes the fact of the table.
+/// Edits of a metadata, the path and the text of a parameters file, and what a run in the folder `d/`
+/// prints. If it prints nothing, it writes the fact of the table.
 type WithFile<'a> = (Edits<'a>, &'a str, &'a str, &'a str);
 
 const PARAMETERS: &str = "name,value\nc,eg:Cash\n";
@@ -257,7 +257,7 @@ const WITH_FILES: &[WithFile<'static>] = &[
     ),
 ];
 
-/// The line of a run over these files, behind what it writes.
+/// Runs over these files to a writer, and gives the lines.
 fn run_line(
     rt: &(impl AllocGlobal + Threads + Wait + Sync),
     files: &[(&str, &[u8])],
@@ -273,7 +273,7 @@ fn run_line(
     Ok(line(alloc, &outcome)?)
 }
 
-/// Whether a run over these files writes this document and says this.
+/// Whether a run over these files writes this document and prints this.
 fn runs_so(
     rt: &(impl AllocGlobal + Threads + Wait + Sync),
     files: &[(&str, &[u8])],
@@ -285,7 +285,7 @@ fn runs_so(
     Ok(line.as_str() == said && written.as_slice() == document.as_bytes())
 }
 
-/// Whether a run over this metadata and this parameters file writes this document and says this.
+/// Whether a run over this metadata and this parameters file writes this document and prints this.
 fn runs_with<'a>(
     rt: &(impl AllocGlobal + Threads + Wait + Sync),
     metadata: &'a str,
@@ -303,7 +303,7 @@ fn runs_with<'a>(
     runs_so(rt, files.as_slice(), document, said)
 }
 
-/// Whether a run with a parameters file ends as it is to.
+/// Whether a run with a parameters file ends as expected.
 fn ends_with_file(
     rt: &(impl AllocGlobal + Threads + Wait + Sync),
     case: &WithFile<'_>,

@@ -1,5 +1,5 @@
-//! Rings and their merge, as they run: what a full and an empty ring answer, two threads over one
-//! ring, and a report of three tables, the second of which is refused.
+//! Rings and their merge at run time: what a full and an empty ring answer, two threads over one ring,
+//! and a report of three tables, the second of which is refused.
 
 ghost use Rattle.std.specs.Prelude.{◌≡◌, ◌<◌, ◌≤◌, [], length, vec_capacity, IfOk, IfSome};
 
@@ -11,7 +11,7 @@ use oim_merge::merge;
 use oim_meta::{Limits, Report};
 use oim_names::{Items, Text};
 use oim_resolve::{CellFault, Fact};
-use oim_ring::{CloseFault, Closed, Drain, Ending, Feed, Item, lane};
+use oim_ring::{CloseFault, ClosedFeed, Drain, Ending, Feed, Item, lane};
 use oim_rows::{Rows, TableFault, TableKind};
 use std::alloc::{AllocError, Global};
 use std::io::Write;
@@ -19,10 +19,10 @@ use std::sync::Wait;
 use std::test::Fail;
 use std::{io, thread};
 
-/// Turns that each side of a ring may take, each of which ends in a wait where it found nothing.
+/// The number of turns that each side of a ring may take. A turn that finds nothing ends in a wait.
 const TURNS: u32 = 100_000_000;
 
-/// Blocks that go through the ring between two threads.
+/// The number of blocks that go through the ring between two threads.
 const BLOCKS: u32 = 10_000;
 
 const BAD_NUMBER: TableFault = TableFault {
@@ -32,7 +32,7 @@ const BAD_NUMBER: TableFault = TableFault {
     kind: TableKind::Cell(CellFault::BadNumber),
 };
 
-/// The faults of three tables, the second of which is refused, and the third too.
+/// The faults of three tables, of which the second and the third are refused.
 const REFUSED: [TableFault; 2] = [
     BAD_NUMBER,
     TableFault {
@@ -46,12 +46,8 @@ const REFUSED: [TableFault; 2] = [
 /// A block of one fact, which this number identifies.
 fn block(alloc: Global, number: u32) -> Result<Block, AllocError> {
     let mut facts = Items::new(alloc);
-    let fact = Fact {
-        id: Text::new(format!(in alloc; "t1.r_{number}.a")?),
-        value: None,
-        decimals: None,
-        dimensions: Items::new(alloc),
-    };
+    let id = Text::new(format!(in alloc; "t1.r_{number}.a")?);
+    let fact = Fact::new(id, None, None, Items::new(alloc));
     match facts.push(fact) {
         Ok(()) => block_of(alloc, &facts),
         Err(_) => Err(AllocError),
@@ -80,7 +76,7 @@ fn puts(alloc: Global, feed: &mut Feed, number: u32) -> Result<bool, AllocError>
     Ok(feed.put(block).is_ok())
 }
 
-/// Whether the feed, whose ring is full, gives the block with this number back.
+/// Whether the feed, whose ring is full, gives back the block with this number.
 fn gives_back(alloc: Global, feed: &mut Feed, number: u32) -> Result<bool, AllocError> {
     let block = block(alloc, number)?;
     match feed.put(block) {
@@ -89,7 +85,7 @@ fn gives_back(alloc: Global, feed: &mut Feed, number: u32) -> Result<bool, Alloc
     }
 }
 
-/// Whether the empty ring of one item takes the block with this number, and none until it is taken.
+/// Whether the empty ring of one item takes the block with this number, and no other until it is taken.
 fn hands_over(
     alloc: Global,
     feed: &mut Feed,
@@ -118,7 +114,7 @@ fn a_full_ring_gives_blocks_back(rt: HostRuntime) -> Result<(), Fail> {
     Ok(())
 }
 
-/// The feed that a close gives back where the ring is full.
+/// The feed that `close` gives back because the ring is full.
 fn not_closed(feed: Feed) -> Option<Feed>
     ensures { IfSome result (λ f. f.ring ≡ feed.ring) }
 {
@@ -134,8 +130,8 @@ fn not_closed(feed: Feed) -> Option<Feed>
     }
 }
 
-/// What is left of the feed, whose ring has room, once it is closed.
-fn closed(feed: Feed) -> Option<Closed>
+/// The token of the feed, whose ring has room, once it is closed.
+fn closed(feed: Feed) -> Option<ClosedFeed>
     ensures { IfSome result (λ c. c.ring ≡ feed.ring) }
 {
     match feed.close(Ending::Refused(BAD_NUMBER)) {
@@ -144,8 +140,8 @@ fn closed(feed: Feed) -> Option<Closed>
     }
 }
 
-/// Whether the ending is there, behind which the drain settles.
-fn settled(drain: Drain, closed: Closed) -> bool
+/// Whether the ending is there, after which the drain settles.
+fn settled(drain: Drain, closed: ClosedFeed) -> bool
     requires { closed.ring ≡ drain.ring }
 {
     let mut drain = drain;
@@ -171,7 +167,7 @@ fn gives_all(alloc: Global, feed: Feed, drain: Drain) -> Result<bool, AllocError
     Ok(gives(alloc, item, 1)? && settled)
 }
 
-/// Whether a ring that is full with block 1 is closed once that is taken.
+/// Whether a ring that block 1 fills can be closed once the block is taken.
 fn closes_later(alloc: Global, feed: Feed, drain: Drain) -> Result<bool, AllocError>
     requires { drain.ring ≡ feed.ring }
 {
@@ -181,7 +177,7 @@ fn closes_later(alloc: Global, feed: Feed, drain: Drain) -> Result<bool, AllocEr
     }
 }
 
-/// Whether a ring of one item, once it is full, is closed later.
+/// Whether a ring of one item that is full can be closed later.
 fn full_closes_later(alloc: Global) -> Result<bool, AllocError> {
     let (mut feed, drain) = lane(alloc, 1)?;
     if !puts(alloc, &mut feed, 1)? {
@@ -197,7 +193,7 @@ fn a_full_ring_is_closed_later(rt: HostRuntime) -> Result<(), Fail> {
     Ok(())
 }
 
-/// Puts all blocks and then the ending. None where a side took too many turns, or memory was short.
+/// Puts all blocks and then the ending. `None` if it took too many turns, or memory ran out.
 fn put_all<T: Wait>(rt: &T, alloc: Global, feed: Feed) -> Option<u32> {
     let mut feed = feed;
     let mut next = 0u32;
@@ -220,7 +216,7 @@ fn put_all<T: Wait>(rt: &T, alloc: Global, feed: Feed) -> Option<u32> {
     None
 }
 
-/// Closes the feed within so many turns. Answers how many are left.
+/// Closes the feed within this many turns, and gives the number of turns that are left.
 fn close_waiting<T: Wait>(rt: &T, feed: Feed, turns: u32) -> Option<u32> {
     let mut feed = feed;
     for turn in 0..turns {
@@ -234,8 +230,8 @@ fn close_waiting<T: Wait>(rt: &T, feed: Feed, turns: u32) -> Option<u32> {
     None
 }
 
-/// Takes blocks up to the ending. Answers how many came, where they came in order, and the drain,
-/// which has to be there while its feed closes.
+/// Takes blocks up to the ending. Gives their number, if they came in order, and the drain, which must
+/// exist while its feed closes.
 fn take_all<T: Wait>(rt: &T, alloc: Global, drain: Drain) -> Option<(u32, Drain)> {
     let mut drain = drain;
     let mut next = 0u32;
@@ -280,7 +276,7 @@ fn puts_row(alloc: Global, facts: &Items<Fact>, feed: &mut Feed) -> bool {
     }
 }
 
-/// How a table of at most two rows ends, the facts of its rows put.
+/// Puts the facts of a table of at most two rows, and gives the table's ending.
 fn put_rows(alloc: Global, rows: &mut Rows<'_, &[u8]>, feed: &mut Feed) -> Option<Ending> {
     for _ in 0..3 {
         match rows.next() {
@@ -296,7 +292,7 @@ fn put_rows(alloc: Global, rows: &mut Rows<'_, &[u8]>, feed: &mut Feed) -> Optio
     None
 }
 
-/// How the table of this file ends, the facts of its rows put.
+/// Puts the facts of the table with this file, and gives the table's ending.
 fn put_table(
     alloc: Global,
     report: &Report,
@@ -312,7 +308,7 @@ fn put_table(
     }
 }
 
-/// A drain from which nothing was taken, whose feed sent the table of this file and was closed.
+/// A drain from which nothing was taken, whose feed sent the table with this file and was closed.
 fn drain_of(alloc: Global, report: &Report, table: usize, file: &[u8]) -> Option<Drain>
     requires { table < length report.now.tables }
     ensures { IfSome result (λ d. d.taken ≡ []) }
@@ -329,7 +325,7 @@ fn drain_of(alloc: Global, report: &Report, table: usize, file: &[u8]) -> Option
     }
 }
 
-/// Nothing is left in any ring.
+/// Whether nothing is left in any ring.
 fn are_empty(drains: &mut [Drain]) -> bool {
     for drain in drains.iter_mut() {
         if drain.take().is_some() {
@@ -339,7 +335,7 @@ fn are_empty(drains: &mut [Drain]) -> bool {
     true
 }
 
-/// Whether a merge of three drains ends so, and leaves nothing in their rings.
+/// Whether a merge of three drains ends like this, and leaves nothing in their rings.
 fn merge_three<W: Sink>(
     rt: &impl Wait,
     first: Drain,
@@ -362,7 +358,8 @@ fn merge_three<W: Sink>(
     are_empty(&mut drains) && is_merged_so(faults.as_slice(), end, ends)
 }
 
-/// Whether a merge of a report's three tables, whose second is refused, and third too, ends so.
+/// Whether a merge of a report's three tables, of which the second and the third are refused, ends like
+/// this.
 fn merge_tables<W: Sink>(
     rt: &(impl Wait + AllocGlobal),
     report: &Report,
@@ -391,7 +388,7 @@ fn writes(rt: &(impl Wait + AllocGlobal), report: &Report, head: &[u8], expected
     is_ended == Some(true) && document.as_slice() == expected
 }
 
-/// Whether a merge writes the facts before the first bad cell, and no more.
+/// Whether a merge writes the facts before the first bad cell, and nothing more.
 fn is_merged(rt: &(impl Wait + AllocGlobal)) -> Result<bool, Fail> {
     let alloc = rt.alloc();
     let report = report_of(alloc, THREE)?;
@@ -440,7 +437,7 @@ fn fails(rt: &(impl Wait + AllocGlobal), report: &Report, head: &[u8]) -> bool {
     is_ended == Some(true) && writer.calls == 1
 }
 
-/// Whether a merge to a writer that fails calls it once, and takes all from the rings.
+/// Whether a merge to a writer that fails calls it once, and takes everything from the rings.
 fn is_failed(rt: &(impl Wait + AllocGlobal)) -> Result<bool, Fail> {
     let alloc = rt.alloc();
     let report = report_of(alloc, THREE)?;

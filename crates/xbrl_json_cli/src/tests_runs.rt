@@ -1,4 +1,4 @@
-//! Runs over files in memory, from the words to the document, the line and the status.
+//! Runs over files in memory, from the words to the document, the lines and the exit status.
 
 use crate::conversion::convert_held;
 use crate::folder::{Texts, folder_of};
@@ -23,10 +23,10 @@ const WORDS: &str = "m.json --types t.csv";
 /// A path with the bytes of its file.
 pub(crate) type File<'a> = (&'a str, &'a [u8]);
 
-/// A run's line and its status.
+/// A run's lines and its exit status.
 pub(crate) type Said<'a> = (&'a str, u8);
 
-/// The settings of these words, with a blank between two.
+/// The settings of these words, which have a blank between them.
 pub(crate) fn settings_of(alloc: Global, words: &str) -> Result<Settings, Fail> {
     let words = words.split(' ').collect::<Vec<&str>>(alloc)?;
     match job(alloc, words.as_slice()) {
@@ -35,7 +35,7 @@ pub(crate) fn settings_of(alloc: Global, words: &str) -> Result<Settings, Fail> 
     }
 }
 
-/// Whether an outcome has this line and this status.
+/// Whether an outcome has these lines and this status.
 pub(crate) fn says(alloc: Global, outcome: &Outcome, said: Said<'_>) -> Result<bool, Fail> {
     let line = line(alloc, outcome)?;
     Ok(line.as_str() == said.0 && status(outcome) == said.1)
@@ -57,8 +57,8 @@ fn run_over(
     )
 }
 
-/// Whether a run with these settings over these files, with a writer of so much room, writes and
-/// says this.
+/// Whether a run with these settings over these files, to a writer with this much room, writes and
+/// prints this.
 fn ends(
     rt: &(impl AllocGlobal + Threads + Wait + Sync),
     settings: &Settings,
@@ -74,7 +74,7 @@ fn ends(
     Ok(is_written && is_said)
 }
 
-/// Whether a run with these words over these files writes and says this.
+/// Whether a run with these words over these files writes and prints this.
 fn ends_so(
     rt: &(impl AllocGlobal + Threads + Wait + Sync),
     words: &str,
@@ -102,7 +102,7 @@ fn writes<'a>(
     ends_so(rt, words, files.as_slice(), document, ("", 0))
 }
 
-/// Whether such a run writes what the held conversion writes.
+/// Whether such a run writes the same as the held conversion.
 fn is_whole(
     rt: &(impl AllocGlobal + Threads + Wait + Sync),
     words: &str,
@@ -132,7 +132,7 @@ fn whole_documents(rt: HostRuntime) -> Result<(), Fail> {
     Ok(())
 }
 
-/// Whether a run over this metadata and the first so many of these files ends as a refused table.
+/// Whether a run over this metadata and the first `count` of these files ends with a refused table.
 fn refuses(
     rt: &(impl AllocGlobal + Threads + Wait + Sync),
     metadata: &str,
@@ -151,7 +151,7 @@ fn refuses(
     ends_so(rt, WORDS, files, document.as_bytes(), (said, 1))
 }
 
-/// Whether a report of three tables, whose second is refused, ends so with this many files there.
+/// Whether a report of three tables, the second of which is refused, ends like this with this many files.
 fn is_refused(
     rt: &(impl AllocGlobal + Threads + Wait + Sync),
     count: usize,
@@ -162,11 +162,11 @@ fn is_refused(
     refuses(rt, metadata.as_str(), count, document, said)
 }
 
-/// What is said of three tables, the second of which is refused, and the third too.
+/// The lines for three tables, of which the second and the third are refused.
 const BOTH: &str =
     "xbrl-json: table t2, row 2, column 1: BadNumber (40)\nxbrl-json: table t3, row 0, column 1: UnknownHeader (23)\n";
 
-/// Whether the facts before a bad cell are written, and no more.
+/// Whether the facts before a bad cell are written, and nothing more.
 fn stops_at_a_cell(rt: &(impl AllocGlobal + Threads + Wait + Sync)) -> Result<bool, Fail> {
     let facts = "t1.r_1.cash - Cash EUR 5; t2.r_1.cash - Cash EUR 1";
     let document = document_of(rt.alloc(), facts, "BadNumber")?;
@@ -189,7 +189,8 @@ fn no_file_of_a_table(rt: HostRuntime) -> Result<(), Fail> {
     Ok(())
 }
 
-/// Whether a run by these workers over rings of this size ends so, of three tables whose second is refused.
+/// Whether a run over three tables, the second of which is refused, ends like this with this many workers
+/// and rings of this size.
 fn is_refused_by(
     rt: &(impl AllocGlobal + Threads + Wait + Sync),
     metadata: &str,
@@ -218,7 +219,7 @@ fn is_refused_by(
     )
 }
 
-/// Whether it does, with the document that one thread writes.
+/// The same, with the document that one thread writes.
 fn is_refused_in_a_way(
     rt: &(impl AllocGlobal + Threads + Wait + Sync),
     workers: usize,
@@ -239,7 +240,7 @@ fn every_number_of_workers(rt: HostRuntime) -> Result<(), Fail> {
     Ok(())
 }
 
-/// Whether a run over this metadata of 64 tables, which have one file, writes this document.
+/// Whether a run over this metadata of 64 tables, which share one file, writes this document.
 fn writes_tables(
     rt: &(impl AllocGlobal + Threads + Wait + Sync),
     metadata: &str,
@@ -255,7 +256,7 @@ fn writes_tables(
     ends(rt, &settings, files, 65_536, document.as_bytes(), ("", 0))
 }
 
-/// Whether a run writes the document of 64 tables that have one file.
+/// Whether a run writes the document of 64 tables that share one file.
 fn writes_64_tables(rt: &(impl AllocGlobal + Threads + Wait + Sync)) -> Result<bool, Fail> {
     let alloc = rt.alloc();
     let table = r#""t@":{"url":"t1.csv","template":"p"}"#;
@@ -274,7 +275,7 @@ fn a_run_over_64_tables(rt: HostRuntime) -> Result<(), Fail> {
     Ok(())
 }
 
-/// Whether a run with these settings out of range says this, with nothing written.
+/// Whether a run with these settings, which are out of range, prints this and writes nothing.
 fn is_out_of_range(
     rt: &(impl AllocGlobal + Threads + Wait + Sync),
     workers: usize,
@@ -321,7 +322,7 @@ const EXTENDED: Edits<'static> = &[(r#""taxonomy":"#, r#""extends":["a.json"],"t
 
 const BROKEN: Edits<'static> = &[(METADATA, "{")];
 
-/// Whether a run over this metadata and types table, and a bad parameters file, says this and writes
+/// Whether a run over this metadata and types table, and a bad parameters file, prints this and writes
 /// nothing.
 fn stops_over<'a>(
     rt: &(impl AllocGlobal + Threads + Wait + Sync),
@@ -338,7 +339,7 @@ fn stops_over<'a>(
     ends_so(rt, words, files.as_slice(), b"".as_slice(), said)
 }
 
-/// Does so for the held metadata with each text replaced.
+/// The same for the held metadata with each text replaced.
 fn stops(
     rt: &(impl AllocGlobal + Threads + Wait + Sync),
     words: &str,
@@ -405,7 +406,7 @@ fn a_writer_that_fails(rt: HostRuntime) -> Result<(), Fail> {
     Ok(())
 }
 
-/// Whether an optional path is this one, or is not there where this one is empty.
+/// Whether an optional path is this one, or is missing if this one is empty.
 fn is_path(path: &Option<Text>, wanted: &str) -> bool {
     match path {
         Some(path) => path.as_str() == wanted,
@@ -413,8 +414,7 @@ fn is_path(path: &Option<Text>, wanted: &str) -> bool {
     }
 }
 
-/// Whether words ask for the report `m.json` with the types `t.csv`, and for these numbers and this
-/// file to write.
+/// Whether words ask for the report `m.json` with the types `t.csv`, these numbers, and this output file.
 fn asks_for(
     alloc: Global,
     words: &str,

@@ -1,5 +1,5 @@
-//! Reports of many rows, tables and columns: the document that is expected, on one thread and on
-//! threads, for several numbers of workers and sizes of the rings.
+//! Reports of many rows, tables and columns: the expected document, on one thread and on threads, for
+//! several numbers of workers and ring sizes.
 
 use crate::tests::document_of;
 use crate::tests_cells::report_of;
@@ -14,10 +14,10 @@ use std::sync::Wait;
 use std::test::Fail;
 use std::thread::Threads;
 
-/// How many workers there are, and the size of the rings.
+/// The number of workers, and the size of the rings.
 type Way = (usize, usize);
 
-/// The numbers from 1 on, so many, with a blank between two.
+/// The first `count` numbers from 1 on, with a blank between them.
 pub(crate) fn numbers(alloc: Global, count: u32) -> Result<String, AllocError> {
     let mut text = String::from_str(alloc, "1")?;
     for number in 2..=count {
@@ -27,7 +27,7 @@ pub(crate) fn numbers(alloc: Global, count: u32) -> Result<String, AllocError> {
     Ok(text)
 }
 
-/// A text for each number, which stands in it for `@`, with this text between two.
+/// A text for each number, which replaces `@` in it, with `between` between them.
 pub(crate) fn of_each(
     alloc: Global,
     numbers: &str,
@@ -53,7 +53,7 @@ fn readers<'a>(alloc: Global, files: &'a [String]) -> Result<Vec<Option<&'a [u8]
     Ok(readers)
 }
 
-/// Whether a conversion on one thread ends so, behind what it writes.
+/// Converts a report on one thread to `document`. Tells whether it ends like this.
 fn serial(
     alloc: Global,
     report: &Report,
@@ -74,7 +74,7 @@ fn serial(
     Ok(is_serial_so(&answer, ends))
 }
 
-/// Whether a conversion on threads ends so, behind what it writes.
+/// Converts a report on threads to `document`. Tells whether it ends like this.
 fn threaded(
     rt: &(impl AllocGlobal + Threads + Wait + Sync),
     report: &Report,
@@ -101,7 +101,7 @@ fn threaded(
     Ok(is_run_so(&answer, ends))
 }
 
-/// Whether a conversion on one thread writes this document and ends so.
+/// Whether a conversion on one thread writes this document and ends like this.
 fn is_serial(
     alloc: Global,
     report: &Report,
@@ -114,7 +114,7 @@ fn is_serial(
     Ok(is_ended && document.as_slice() == expected.as_bytes())
 }
 
-/// Whether a conversion on threads does.
+/// Whether a conversion on threads writes it and ends like this.
 fn is_threaded(
     rt: &(impl AllocGlobal + Threads + Wait + Sync),
     report: &Report,
@@ -128,8 +128,7 @@ fn is_threaded(
     Ok(is_ended && document.as_slice() == expected.as_bytes())
 }
 
-/// The first of these ways in which a conversion ends otherwise, which is (0, 0) where it does on
-/// one thread.
+/// The first of these ways in which a conversion ends differently. (0, 0) is the way on one thread.
 fn other_way(
     rt: &(impl AllocGlobal + Threads + Wait + Sync),
     report: &Report,
@@ -162,7 +161,7 @@ fn other_way_of_one(
     other_way(rt, report, files.as_slice(), ways, expected, ends)
 }
 
-/// The same, for a table of so many rows, behind which this text stands.
+/// The same, for a table of this many rows followed by this text.
 fn other_way_of_rows(
     rt: &(impl AllocGlobal + Threads + Wait + Sync),
     rows: u32,
@@ -222,7 +221,7 @@ fn a_thousand_rows_over_rings_of_65_536(rt: HostRuntime) -> Result<(), Fail> {
     Ok(())
 }
 
-/// Whole blocks have 256 facts.
+/// A full block has 256 facts.
 #[test]
 fn blocks_of_rows(rt: HostRuntime) -> Result<(), Fail> {
     for rows in [1, 255, 256, 257, 512, 600] {
@@ -257,7 +256,7 @@ fn blocks_before_a_bad_cell(rt: HostRuntime) -> Result<(), Fail> {
 pub(crate) const ORDER: &str =
     "1 10 11 12 13 14 15 16 17 18 19 2 20 21 22 23 24 25 26 27 28 29 3 30 31 32 33 34 35 36 37 38 39 4 40 41 42 43 44 45 46 47 48 49 5 50 51 52 53 54 55 56 57 58 59 6 60 61 62 63 64 7 8 9";
 
-/// The place of 40 among them, counted from 0.
+/// The index of 40 among them.
 const PLACE: usize = 34;
 
 /// A report of the tables t1 to t64.
@@ -272,14 +271,14 @@ fn report_of_tables(alloc: Global) -> Result<Box<Report>, Fail> {
     )
 }
 
-/// The held report with one text in place of another.
+/// The held report with one text replaced by another.
 fn edited_report<'a>(alloc: Global, from: &'a str, to: &'a str) -> Result<Box<Report>, Fail> {
     let edits = [(from, to)];
     report_of(alloc, edits.as_slice())
 }
 
-/// The file of each table in table order: one row with its number, and in that of table 40 a second
-/// one with this text.
+/// The file of each table, in table order: one row with its number, and in table 40 a second row with
+/// this text.
 fn files_of_tables(alloc: Global, second: &str) -> Result<Vec<String>, Fail> {
     let mut files = Vec::new(alloc);
     for number in ORDER.split(' ') {
@@ -289,7 +288,7 @@ fn files_of_tables(alloc: Global, second: &str) -> Result<Vec<String>, Fail> {
     Ok(files)
 }
 
-/// The first other way of the report of 64 tables, with the facts of the tables of these numbers.
+/// The first way in which the report of 64 tables ends differently, with the facts of these tables.
 fn other_way_of_tables(
     rt: &(impl AllocGlobal + Threads + Wait + Sync),
     second: &str,
@@ -329,7 +328,7 @@ fn sixty_four_tables(rt: HostRuntime) -> Result<(), Fail> {
     Ok(())
 }
 
-/// The facts of the 64 tables, where each has rows of these numbers.
+/// The facts of the 64 tables, each of which has rows with these numbers.
 fn facts_of_rows(alloc: Global, rows: &str) -> Result<String, AllocError> {
     let mut facts = String::new(alloc);
     for table in ORDER.split(' ') {
@@ -339,7 +338,7 @@ fn facts_of_rows(alloc: Global, rows: &str) -> Result<String, AllocError> {
     Ok(facts)
 }
 
-/// The files of the 64 tables, each with rows of these numbers.
+/// The files of the 64 tables, each with rows with these numbers.
 fn files_of_rows(alloc: Global, rows: &str) -> Result<Vec<String>, AllocError> {
     let rows = of_each(alloc, rows, "@\n", "")?;
     let mut files = Vec::new(alloc);
@@ -349,7 +348,7 @@ fn files_of_rows(alloc: Global, rows: &str) -> Result<Vec<String>, AllocError> {
     Ok(files)
 }
 
-/// The first other way of the report of 64 tables of so many rows each.
+/// The first way in which the report of 64 tables of this many rows each ends differently.
 fn other_way_of_full_tables(
     rt: &(impl AllocGlobal + Threads + Wait + Sync),
     rows: u32,
@@ -373,7 +372,7 @@ fn sixty_four_tables_of_a_thousand_rows(rt: HostRuntime) -> Result<(), Fail> {
     Ok(())
 }
 
-/// The first other way of a table with a cell of so many bytes.
+/// The first way in which a table with a cell of this many bytes ends differently.
 fn other_way_of_text(
     rt: &(impl AllocGlobal + Threads + Wait + Sync),
     bytes: usize,
@@ -399,7 +398,7 @@ fn long_cells(rt: HostRuntime) -> Result<(), Fail> {
     Ok(())
 }
 
-/// A report of one table with as many columns.
+/// A report of one table with a column for each number.
 fn report_of_columns(alloc: Global, numbers: &str) -> Result<Box<Report>, Fail> {
     let column = r#""c@":{"dimensions":{"concept":"eg:Cash"}}"#;
     let columns = of_each(alloc, numbers, column, ",")?;
@@ -410,21 +409,21 @@ fn report_of_columns(alloc: Global, numbers: &str) -> Result<Box<Report>, Fail> 
     )
 }
 
-/// The facts of two rows that are the numbers.
+/// The facts of two rows whose cells are the numbers.
 fn facts_of_columns(alloc: Global, numbers: &str) -> Result<String, AllocError> {
     let first = of_each(alloc, numbers, "t1.r_1.c@ - Cash EUR @", "; ")?;
     let second = of_each(alloc, numbers, "t1.r_2.c@ - Cash EUR @", "; ")?;
     format!(in alloc; "{}; {}", first.as_str(), second.as_str())
 }
 
-/// A file of two rows that are the numbers.
+/// A file of two rows whose cells are the numbers.
 fn file_of_columns(alloc: Global, numbers: &str) -> Result<String, AllocError> {
     let header = of_each(alloc, numbers, "c@", ",")?;
     let row = of_each(alloc, numbers, "@", ",")?;
     format!(in alloc; "{}\n{}\n{}\n", header.as_str(), row.as_str(), row.as_str())
 }
 
-/// The first other way of a table of so many columns.
+/// The first way in which a table of this many columns ends differently.
 fn other_way_of_columns(
     rt: &(impl AllocGlobal + Threads + Wait + Sync),
     columns: u32,

@@ -1,5 +1,5 @@
-//! Conversions on threads, of which some are not started or whose writer fails, and the claims by
-//! which threads draw tables.
+//! Conversions of which some threads are not started or whose writer fails, and the claims from which
+//! threads draw tables.
 
 use crate::tests::{Edits, HEAD, THREE, document_of};
 use crate::tests_cells::report_of;
@@ -21,7 +21,7 @@ use std::thread::Threads;
 
 const NO_TABLES: Edits<'static> = &[(r#"{"t1":{"url":"t1.csv","template":"p"}}"#, "{}")];
 
-/// The faults of three tables, the second of which is refused, and the third too.
+/// The faults of three tables, of which the second and the third are refused.
 const REFUSED: [TableFault; 2] = [
     TableFault {
         table: 1,
@@ -37,7 +37,7 @@ const REFUSED: [TableFault; 2] = [
     },
 ];
 
-/// The faults of three tables for which no thread is there.
+/// The faults of three tables without a thread.
 const NO_THREADS: [TableFault; 3] = [
     TableFault {
         table: 0,
@@ -59,13 +59,13 @@ const NO_THREADS: [TableFault; 3] = [
     },
 ];
 
-/// The files of a report of three tables, the second of which is refused, and the third too.
+/// The files of a report of three tables, of which the second and the third are refused.
 const FILES: &[&[u8]] = &[b"cash\n5\n", b"cash\n1\nx\n", b"nope\n1\n"];
 
-/// How many workers there are, and how many of them are started.
+/// The number of workers, and how many of them are started.
 type Crew = (usize, usize);
 
-/// Whether a conversion by such a crew ends so, behind what it writes.
+/// Converts a report by such a crew to `document`. Tells whether it ends like this.
 fn started_end(
     rt: &(impl AllocGlobal + Threads + Wait + Sync),
     report: &Report,
@@ -91,7 +91,7 @@ fn started_end(
     is_run_so(&answer, ends)
 }
 
-/// Whether a conversion of these files by such a crew ends so, with this document.
+/// Whether a conversion of these files by such a crew ends like this, with this document.
 fn ends(
     rt: &(impl AllocGlobal + Threads + Wait + Sync),
     report: &Report,
@@ -106,7 +106,7 @@ fn ends(
     Ok(is_ended && document.as_slice() == expected.as_bytes())
 }
 
-/// Whether three tables, the second of which is refused, end so by such a crew.
+/// Whether three tables, the second of which is refused, end like this with such a crew.
 fn is_refused(rt: &(impl AllocGlobal + Threads + Wait + Sync), crew: Crew) -> Result<bool, Fail> {
     let alloc = rt.alloc();
     let report = report_of(alloc, THREE)?;
@@ -133,7 +133,7 @@ fn one_started_worker_is_enough(rt: HostRuntime) -> Result<(), Fail> {
     Ok(())
 }
 
-/// Whether a report with these files ends so, with this document, where no worker starts.
+/// Whether a report with these files ends like this, with this document, if no worker starts.
 fn ends_unstarted(
     rt: &(impl AllocGlobal + Threads + Wait + Sync),
     edits: Edits<'_>,
@@ -156,7 +156,7 @@ fn no_started_worker_is_no_thread(rt: HostRuntime) -> Result<(), Fail> {
     Ok(())
 }
 
-/// Whether a report without tables is whole where no worker starts.
+/// Whether a report without tables is whole if no worker starts.
 fn is_whole_unstarted(rt: &(impl AllocGlobal + Threads + Wait + Sync)) -> Result<bool, Fail> {
     let expected = document_of(rt.alloc(), "", "")?;
     ends_unstarted(rt, NO_TABLES, [].as_slice(), expected.as_str(), WHOLE)
@@ -209,7 +209,7 @@ impl Read for Ended<'_> {
     }
 }
 
-/// Readers of so many tables of these bytes.
+/// Readers of this many tables of these bytes.
 fn ending_readers<'a>(
     alloc: Global,
     tables: usize,
@@ -227,8 +227,8 @@ fn ending_readers<'a>(
     Ok(readers)
 }
 
-/// Whether a conversion by three workers of three tables of these bytes, over rings of one block,
-/// fails to write once this is written, and comes to the end of each table all the same.
+/// Whether a conversion of three tables of these bytes, by three workers over rings of one block, fails
+/// to write once this is written, and still reaches the end of each table.
 fn fails_behind(
     rt: &(impl AllocGlobal + Threads + Wait + Sync),
     report: &Report,
@@ -247,7 +247,7 @@ fn fails_behind(
     Ok(is_failed && are_ended && narrow.taken.as_slice() == expected)
 }
 
-/// Whether it does so where so many quarters of the document can be written.
+/// The same, if this many quarters of the document can be written.
 fn fails_after(
     rt: &(impl AllocGlobal + Threads + Wait + Sync),
     report: &Report,
@@ -263,7 +263,7 @@ fn fails_after(
     Ok(is_whole && fails)
 }
 
-/// Whether it does so for tables of 600 rows each.
+/// The same, for tables of 600 rows each.
 fn is_failed(
     rt: &(impl AllocGlobal + Threads + Wait + Sync),
     quarters: usize,

@@ -1,4 +1,4 @@
-//! The conversion on threads, as it runs: tables that are open at once, shared out among workers, and
+//! The conversion on threads at run time: tables that are open at once, shared out among workers, and
 //! merged before they end.
 
 use crate::tests::{HEAD, document_of};
@@ -15,10 +15,10 @@ use std::test::Fail;
 use std::thread::Threads;
 use std::{io, thread};
 
-/// Turns that a reader may wait.
+/// The number of turns that a reader may wait.
 const TURNS: u32 = 20_000_000;
 
-/// Whether a count comes to this in time.
+/// Whether a count reaches this value in time.
 fn comes_to(count: &AtomicUsize, wanted: usize) -> bool {
     for _ in 0..TURNS {
         if count.load(Ordering::SeqCst) >= wanted {
@@ -29,8 +29,8 @@ fn comes_to(count: &AtomicUsize, wanted: usize) -> bool {
     false
 }
 
-/// A reader of these bytes that counts its first read among those that were asked, and answers it
-/// once there are so many.
+/// A reader of these bytes that counts its first read, and answers it once this many first reads were
+/// counted.
 #[derive(Drop)]
 struct Gated<'a> {
     bytes: &'a [u8],
@@ -52,7 +52,7 @@ impl Read for Gated<'_> {
     }
 }
 
-/// Readers of tables of one row, each of which waits for so many first reads.
+/// Readers of tables of one row, each of which waits for this many first reads.
 fn waiting<'a>(
     alloc: Global,
     asked: &'a AtomicUsize,
@@ -70,7 +70,7 @@ fn waiting<'a>(
     Ok(readers)
 }
 
-/// The held report with so many tables t1, t2 and so on of its template.
+/// The held report with this many tables of its template: t1, t2 and so on.
 pub(crate) fn report_with(alloc: Global, tables: usize) -> Result<Box<Report>, Fail> {
     let mut text = String::from_str(alloc, "{")?;
     for table in 1..=tables {
@@ -85,7 +85,7 @@ pub(crate) fn report_with(alloc: Global, tables: usize) -> Result<Box<Report>, F
     report_of(alloc, &[edit])
 }
 
-/// The document of so many tables of one row.
+/// The document of this many tables of one row.
 fn document_with(alloc: Global, tables: usize) -> Result<String, AllocError> {
     let mut facts = String::new(alloc);
     for table in 1..=tables {
@@ -95,7 +95,8 @@ fn document_with(alloc: Global, tables: usize) -> Result<String, AllocError> {
     document_of(alloc, facts.as_str(), "")
 }
 
-/// Whether a conversion by this many workers over rings of this size ends so, behind what it writes.
+/// Converts a report by this many workers over rings of this size to `writer`. Tells whether it ends
+/// like this.
 pub(crate) fn ends_so<R: Read + Drop + Send, W: Write>(
     rt: &(impl AllocGlobal + Threads + Wait + Sync),
     report: &Report,
@@ -121,7 +122,7 @@ pub(crate) fn ends_so<R: Read + Drop + Send, W: Write>(
     is_run_so(&answer, so)
 }
 
-/// Whether so many workers convert such tables to this document.
+/// Whether this many workers convert such tables to this document.
 fn converts(
     rt: &(impl AllocGlobal + Threads + Wait + Sync),
     report: &Report,
@@ -136,7 +137,7 @@ fn converts(
     Ok(is_whole && document.as_slice() == expected)
 }
 
-/// Whether so many workers convert a report whose tables wait for so many first reads.
+/// Whether this many workers convert a report whose tables wait for this many first reads.
 fn ends_whole(
     rt: &(impl AllocGlobal + Threads + Wait + Sync),
     wanted: &[usize],
@@ -165,7 +166,7 @@ fn a_worker_that_waits_keeps_no_table_from_the_other(rt: HostRuntime) -> Result<
     Ok(())
 }
 
-/// A reader of these bytes and then of more, which is at its end once so many bytes were written.
+/// A reader of these bytes and then of more, which is at its end once this many bytes were written.
 #[derive(Drop)]
 struct Late<'a> {
     bytes: &'a [u8],
@@ -187,7 +188,7 @@ impl Read for Late<'_> {
     }
 }
 
-/// A writer that counts the bytes that it took.
+/// A writer that counts the bytes that it takes.
 #[derive(Drop)]
 struct Counting<'a> {
     taken: Vec<u8>,
@@ -206,7 +207,7 @@ impl Write for Counting<'_> {
     }
 }
 
-/// A table with a header and rows of these numbers.
+/// A table with a header and rows with these numbers.
 pub(crate) fn file_of(alloc: Global, from: u32, to: u32) -> Result<String, AllocError> {
     let mut file = String::from_str(alloc, "cash\n")?;
     for number in from..to {
@@ -228,7 +229,7 @@ pub(crate) fn readers_of<'a>(
     Ok(readers)
 }
 
-/// Whether one thread converts a report with these files, behind what it writes.
+/// Converts a report with these files on one thread to `document`. Tells whether it succeeds.
 pub(crate) fn converts_alone(
     alloc: Global,
     report: &Report,
@@ -248,8 +249,8 @@ pub(crate) fn converts_alone(
     .is_ok())
 }
 
-/// Whether one worker converts a table of these two pieces, whose end comes once a member is
-/// written, to this document.
+/// Whether one worker converts a table of these two pieces, which ends only once a member is written, to
+/// this document.
 fn converts_late(
     rt: &(impl AllocGlobal + Threads + Wait + Sync),
     report: &Report,
@@ -273,7 +274,7 @@ fn converts_late(
     Ok(is_whole && writer.taken.as_slice() == expected)
 }
 
-/// Whether it converts a table in two halves to the document that one thread writes.
+/// Whether it converts a table in two halves to the same document as one thread.
 fn converts_halves(
     rt: &(impl AllocGlobal + Threads + Wait + Sync),
     report: &Report,
@@ -286,7 +287,7 @@ fn converts_halves(
     Ok(is_whole && is_same)
 }
 
-/// Whether members of a table are written before its end comes, where each half of its file has some
+/// Whether members of a table are written before its end is read, where each half of its file has about
 /// 600 rows.
 fn is_merged_before_its_end(rt: &(impl AllocGlobal + Threads + Wait + Sync)) -> Result<bool, Fail> {
     let report = report_of(rt.alloc(), &[])?;

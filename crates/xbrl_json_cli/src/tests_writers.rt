@@ -1,5 +1,4 @@
-//! Writers that take only so many bytes, and conversions on threads to such a writer for each number
-//! of bytes.
+//! Writers that take only a number of bytes, and conversions on threads to such a writer for each number.
 
 use crate::tests::{THREE, document_of};
 use crate::tests_cells::report_of;
@@ -16,8 +15,8 @@ use std::sync::Wait;
 use std::test::Fail;
 use std::thread::Threads;
 
-/// A writer that takes at most `most` bytes a call, and once `room` bytes are out no more: it fails
-/// then, or answers 0.
+/// A writer that takes at most `most` bytes per call, and `room` bytes in all: after that it fails, or
+/// answers 0.
 #[derive(Drop)]
 pub(crate) struct Narrow {
     pub(crate) taken: Vec<u8>,
@@ -27,7 +26,7 @@ pub(crate) struct Narrow {
 }
 
 impl Narrow {
-    /// A writer that takes all bytes of a call, up to so many in all.
+    /// A writer that takes all bytes of a call, up to this many in all.
     pub(crate) fn new(alloc: Global, room: usize, fails: bool) -> Narrow {
         Narrow {
             taken: Vec::new(alloc),
@@ -56,7 +55,7 @@ impl Write for Narrow {
     }
 }
 
-/// Three tables, the second of which is refused, and the third too.
+/// Three tables, of which the second and the third are refused.
 const FILES: &[&[u8]] = &[b"cash\n5\n", b"cash\n1\nx\n", b"nope\n1\n"];
 
 /// Their faults.
@@ -75,11 +74,11 @@ const REFUSED: [TableFault; 2] = [
     },
 ];
 
-/// How many workers there are, the size of the rings, and whether the writer fails or answers 0.
+/// The number of workers, the size of the rings, and whether the writer fails or answers 0.
 type Way = (usize, usize, bool);
 
-/// How a conversion to a writer with this much room ends, where the document has `whole` bytes. Every
-/// refused table is answered, whether a write fails or not.
+/// The expected end of a conversion to a writer with this much room, where the document has `whole`
+/// bytes. The fault of every refused table is given, whether a write fails or not.
 fn wanted(room: usize, whole: usize, fails: bool) -> Ends<'static> {
     let fault = if fails {
         WriteFault::Failed
@@ -92,7 +91,7 @@ fn wanted(room: usize, whole: usize, fails: bool) -> Ends<'static> {
     }
 }
 
-/// Whether a conversion writes just what there is room for of this document, and ends so.
+/// Whether a conversion writes as much of this document as there is room for, and ends like this.
 fn fills(
     rt: &(impl AllocGlobal + Threads + Wait + Sync),
     report: &Report,
@@ -107,7 +106,7 @@ fn fills(
     Ok(is_ended && whole.get(..room) == Some(narrow.taken.as_slice()))
 }
 
-/// The first room for which a conversion does otherwise.
+/// The first room for which a conversion ends differently.
 fn other_room(
     rt: &(impl AllocGlobal + Threads + Wait + Sync),
     report: &Report,
@@ -133,8 +132,8 @@ fn other_room_of_three(
     Ok(other_room(rt, &report, way, whole.as_bytes())?)
 }
 
-/// Whether nothing is written of eight tables of a hundred facts, by eight workers over rings of one
-/// block, to a writer that fails at its first write.
+/// Whether eight workers over rings of one block write nothing of eight tables of a hundred facts to a
+/// writer that fails at its first write.
 fn writes_nothing(rt: &(impl AllocGlobal + Threads + Wait + Sync)) -> Result<bool, Fail> {
     let report = report_with(rt.alloc(), 8)?;
     let file = file_of(rt.alloc(), 0, 100)?;

@@ -22,7 +22,7 @@ pub(crate) trait FromMember {
         ensures { IfOk result (λ made. made ≡ of name.now (view value.now)) };
 }
 
-/// What an object's members make, in their order, which is that of their names.
+/// What an object's members make, in byte order of name.
 pub(crate) fn vec_of<T: FromMember + Drop>(
     alloc: Global,
     members: &Map<String, Value>,
@@ -52,7 +52,7 @@ pub(crate) fn list_from<T: FromMember + Drop>(
     }
 }
 
-/// The text, or the empty one where the value is not a text.
+/// The text of a value, or the empty text if the value is not a text.
 fn text_of(alloc: Global, value: &Value) -> Result<Text, AllocError>
     ensures { IfOk result (λ made. made ≡ text_in (view value.now)) }
 {
@@ -68,7 +68,7 @@ impl FromMember for (Text, Text) {
     }
 }
 
-/// The truth value at a key; false where there is none.
+/// The truth value at a key, or false if there is none.
 pub(crate) fn flag(value: &Value, key: &str) -> bool
     ensures { result ≡ flag_at key.now (view value.now) }
 {
@@ -95,7 +95,7 @@ pub(crate) fn texts_at(alloc: Global, value: &Value, key: &str) -> Result<Items<
     }
 }
 
-/// A copy of a text, where there is one.
+/// A copy of a text, if there is one.
 pub(crate) fn copied(alloc: Global, text: Option<&str>) -> Result<Option<Text>, AllocError>
     ensures { IfOk result (λ made. made ≡ option_map (λ s. s.now) text.entry) }
 {

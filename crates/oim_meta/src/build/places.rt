@@ -10,7 +10,7 @@ use crate::lookup::object_at;
 use serde_json::{Map, Value};
 use std::alloc::{AllocError, Global};
 
-/// The place of a name among the members; their number where it is not there.
+/// The place of a name among the members, or their number if it is not there.
 fn place(members: &Map<String, Value>, name: &str) -> usize
     ensures { result ≡ place_of name.now (members_view members.now.entries) }
 {
@@ -59,7 +59,7 @@ fn push_place(
     }
 }
 
-/// The places of names among columns, each at its first place alone.
+/// The places of names among columns, each once, in the order of first mention.
 pub(crate) fn places(
     alloc: Global,
     columns: &Map<String, Value>,

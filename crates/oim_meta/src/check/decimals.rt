@@ -63,7 +63,7 @@ impl LevelTest for BadDecimals {
     }
 }
 
-/// Whether decimals of report, template, fact column or property group have none of their forms.
+/// Whether decimals of report, template, fact column or property group are not well-formed.
 #[tactic(auto, unfolding(crate::specs::BadDecimals::has_bad_decimals))]
 pub(crate) fn bad_decimals(report: &Value) -> bool
     ensures { result ≡ has_bad_decimals (view report.now) }

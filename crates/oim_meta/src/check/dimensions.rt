@@ -2,7 +2,8 @@
 
 ghost use Rattle.std.specs.Prelude.{◌≡◌};
 ghost use Rattle.serde_json.specs.View.{view};
-ghost use Rattle.oim_meta.specs.BadDimensions.{is_core as core_key, is_typed as typed, is_dimension as dimension, kind_named, is_bad_meaning, name_in, is_bad_text, has_bad_dimension, has_bad_dimensions};
+ghost use Rattle.oim_meta.specs.BadDimensions.{is_core as core_key, is_typed as typed, is_dimension as dimension, kind_named, is_bad_meaning};
+ghost use Rattle.oim_meta.specs.BadDimensions.{name_in, is_bad_text, has_bad_dimension, has_bad_dimensions};
 ghost use Rattle.oim_meta.specs.Prefixes.{prefixes_of};
 ghost use Rattle.oim_cells.specs.Cells.{meaning_of};
 

@@ -5,7 +5,8 @@ ghost use Rattle.std.specs.Prelude.{◌≡◌, codes, true};
 ghost use Rattle.serde_json.specs.Find.{get};
 ghost use Rattle.serde_json.specs.View.{view, items_view, members_view};
 ghost use Rattle.oim_meta.specs.Members.{any_item, if_there, no_object_or};
-ghost use Rattle.oim_meta.specs.Faults.{is_csv, has_no_report, has_bad_prefix, has_bad_namespaces, has_no_text, is_no_texts as not_texts, is_no_text as not_text, has_bad_taxonomy, is_no_empty_list as not_empty_list, info_at as at_info, is_unsupported};
+ghost use Rattle.oim_meta.specs.Faults.{is_csv, has_no_report, has_bad_prefix, has_bad_namespaces, has_no_text, is_no_texts as not_texts};
+ghost use Rattle.oim_meta.specs.Faults.{is_no_text as not_text, has_bad_taxonomy, is_no_empty_list as not_empty_list, info_at as at_info, is_unsupported};
 
 use crate::lookup::text_at;
 use crate::members::{MemberTest, any_member, is_no_object_or_any};
@@ -22,7 +23,7 @@ fn is_csv_type(info: &Value) -> bool
     }
 }
 
-/// Whether the document information is missing, or its type of document is another.
+/// Whether the document information is missing, or its document type is another.
 #[tactic(auto, unfolding(crate::specs::Faults::has_no_report))]
 pub(crate) fn no_report(report: &Value) -> bool
     ensures { result ≡ has_no_report (view report.now) }

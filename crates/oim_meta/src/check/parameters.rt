@@ -42,7 +42,7 @@ impl MemberTest for BadTableParameters {
     }
 }
 
-/// A parameter that the parameters file gives too.
+/// A parameter that is also in the parameters file.
 #[derive(Drop)]
 struct Given<'a> {
     given: &'a Parameters,

@@ -43,8 +43,8 @@ fn goes_on_badly(path: &[u8]) -> bool
     false
 }
 
-/// Whether a path is relative and plain: no character in it that a URL would read, and no empty
-/// segment, `.` or `..`.
+/// Whether a path is relative and plain: it has no character with a meaning in URLs, and no segment that is
+/// empty, `.` or `..`.
 #[tactic(auto, unfolding(crate::specs::PlainPath::is_plain_path))]
 pub(crate) fn is_plain_path(path: &str) -> bool
     ensures { result ≡ plain_path path.now }

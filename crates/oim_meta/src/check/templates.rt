@@ -30,7 +30,7 @@ impl<'a> MemberTest for LacksTemplate<'a> {
     }
 }
 
-/// Whether some table names a template that is not there.
+/// Whether some table names an unknown template.
 #[tactic(auto, unfolding(crate::specs::Faults::has_unknown_template))]
 pub(crate) fn unknown_template(report: &Value) -> bool
     ensures { result ≡ has_unknown_template (view report.now) }

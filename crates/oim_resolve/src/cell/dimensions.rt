@@ -1,10 +1,11 @@
-//! All that the levels of a cell write: its dimensions and its decimals, and the fact of them.
+//! What the levels of a cell write, its dimensions and its decimals, and the fact that they give.
 
 ghost use Rattle.std.specs.Prelude.{◌≡◌, ◌<◌, ◌⊎◌, [], length, map, IfOk, Ok};
 ghost use Rattle.std.specs.Option.{option_map};
 ghost use Rattle.oim_cells.specs.Cells.{seen_meaning};
 ghost use Rattle.oim_resolve.specs.Facts.{concept_kind, fact_meaning, fact_of, rest_faults, stated};
 ghost use Rattle.oim_resolve.specs.Faults.{least, unless};
+ghost use Rattle.oim_resolve.specs.Order.{IsAscending};
 ghost use Rattle.oim_resolve.specs.ProgramCell.{cell_at, held};
 ghost use Rattle.oim_resolve.specs.ProgramValues.{seen_stated};
 ghost use Rattle.oim_resolve.specs.ProgramDimensions.{AreMet, dimension_read, dimensions_of, entries_in};
@@ -30,7 +31,7 @@ use std::alloc::{AllocError, Global};
 #[derive(Drop)]
 pub(crate) struct CellDimensions<'a> {
     place: Place<'a>,
-    /// The groups that the row names, the first first.
+    /// The groups that the row names, in the order of `propertiesFrom`.
     groups: Vec<&'a Level>,
     entries: Entries<'a>,
     ghost all: { AreMet place groups.items entries },
@@ -39,17 +40,13 @@ pub(crate) struct CellDimensions<'a> {
 /// The dimensions of a fact, each with its name.
 type Dimensions = Items<(Text, Option<Text>)>;
 
-/// The fact of an identifier, with what its dimensions, its decimals and its cell give.
+/// The fact of this identifier, from what its dimensions, its decimals and its cell give.
 fn fact_with(id: Text, given: ((Dimensions, Option<i32>), Option<Text>)) -> Fact
+    requires { IsAscending (map (λ d. d.0) given.0.0) }
     ensures { result ≡ record { id = id; value = given.1; decimals = given.0.1; dimensions = given.0.0 } }
 {
     let ((dimensions, decimals), value) = given;
-    Fact {
-        id,
-        value,
-        decimals,
-        dimensions,
-    }
+    Fact::new(id, value, decimals, dimensions)
 }
 
 /// References to the dimensions of a column.
@@ -198,7 +195,7 @@ impl<'a> CellDimensions<'a> {
         Ok(fact_with(id, given))
     }
 
-    /// The fact of a cell that says something, and whose concept has this kind; or the least fault of
+    /// The fact of a cell that says something and whose concept has this kind, or the least fault of
     /// its dimensions, decimals and value.
     pub(crate) fn fact_of(
         alloc: Global,

@@ -34,7 +34,8 @@ pub(crate) struct PlannedCell<'a> {
     ghost all: { length columns.now ≡ length (columns_of place.report.now place.table) },
 }
 
-/// Of two dimensions of one name the first where it is the column's own, or an earlier group's.
+/// Of two dimensions of one name the first, if the column itself or an earlier group writes it, else
+/// the second.
 fn over<'a>(
     first: Option<&'a PlannedDimension<'a>>,
     second: Option<&'a PlannedDimension<'a>>,
@@ -76,7 +77,7 @@ impl<'a> PlannedCell<'a> {
         }
     }
 
-    /// Whether a group cell says something, and names no group of its column.
+    /// Whether the row's cell at a place says something, and names no group of its column.
     fn names_no_group(&self, i: usize) -> bool
         requires { i < length (columns_of self.now.place.report.now self.now.place.table) }
         ensures { result ≡ names_no_group (cell_at self.now.place) i }
@@ -88,7 +89,7 @@ impl<'a> PlannedCell<'a> {
         }
     }
 
-    /// Whether a group cell has no meaning.
+    /// Whether a group cell begins like a special value and is not one.
     fn has_unknown_group(&self) -> bool
         ensures { result ≡ list_any (λ i. is_unknown (meaning_at (cell_at self.now.place) i)) (column (cell_at self.now.place)).from }
     {
@@ -104,7 +105,7 @@ impl<'a> PlannedCell<'a> {
         false
     }
 
-    /// Whether a group cell names no group.
+    /// Whether a group cell says something, and names no group of its column.
     fn has_bad_group(&self) -> bool
         ensures { result ≡ list_any (names_no_group (cell_at self.now.place)) (column (cell_at self.now.place)).from }
     {

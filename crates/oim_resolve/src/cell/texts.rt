@@ -87,7 +87,7 @@ impl<'a> Place<'a> {
         reference.parameter
     }
 
-    /// What the row gives for a dimension that is no literal.
+    /// What the row gives for a dimension that is not a literal.
     pub(crate) fn row_meaning(&self, dimension: &PlannedDimension<'a>) -> CellMeaning<'a>
         ensures { seen_meaning result ≡ row_meaning (cell_at self.now) (seen_planned dimension.now) }
     {
@@ -119,7 +119,7 @@ fn not_empty(text: &str) -> Option<&str>
     if text.is_empty() { None } else { Some(text) }
 }
 
-/// The side of a duration that a reference asks for, the whole where it asks for none.
+/// The side of a duration that a reference asks for: the whole, if it names no side.
 /// (xBRL-CSV 1.0, period suffixes)
 pub fn side_of(written: &Written) -> Side
     ensures { result ≡ side_of written.now }

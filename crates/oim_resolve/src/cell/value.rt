@@ -32,7 +32,7 @@ fn places(accuracy: Option<Accuracy>) -> Option<i32>
     }
 }
 
-/// How exact a cell itself says that its number is.
+/// The accuracy that the suffix of a numeral states.
 pub(crate) fn suffix_of(reading: Result<FactValue<'_>, CellFault>) -> Option<Accuracy>
     ensures { result ≡ accuracy_in (seen_reading reading.entry) }
 {
@@ -62,8 +62,8 @@ pub(crate) fn text_of(
 }
 
 impl CellValue<'_> {
-    /// The decimals of the fact: those that its cell states, else those of its properties, or what is
-    /// wrong with these where they are looked at.
+    /// The decimals of the fact: those that its cell states, else those that its properties state, or
+    /// what is wrong with these. They are not read where the cell has a suffix.
     pub(crate) fn decimals(
         &self,
         suffix: Option<Accuracy>,

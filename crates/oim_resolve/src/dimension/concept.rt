@@ -43,8 +43,13 @@ pub(crate) fn is_numeric(kind: Kind) -> bool
     matches!(&kind, Kind::Number(_))
 }
 
-/// The kind of the concept that a value names, or the value's least fault: `UnknownSpecial`,
-/// `NoConcept`, `BadReference` or `UnknownName`. (xBRL-CSV 1.0, the concept of a fact)
+/// The kind of the concept that a value names, or the value's least fault. (xBRL-CSV 1.0, the concept
+/// of a fact)
+///
+/// - `UnknownSpecial`: it begins with a single `#` and is not a special value;
+/// - `NoConcept`: nothing is given;
+/// - `BadReference`: it is nil or empty;
+/// - `UnknownName`: it does not name a concept of the types table.
 pub fn read_concept(report: &Report, value: CellMeaning<'_>) -> Result<Kind, CellFault>
     ensures { result ≡ concept_read report.now (seen_meaning value.entry) }
 {

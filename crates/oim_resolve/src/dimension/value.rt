@@ -84,11 +84,14 @@ fn read_text(
     }
 }
 
-/// What a dimension that is not dropped gives a fact, or the least fault of its value:
-/// `UnknownSpecial`; `BadReference` where it is nil or empty and the dimension is not typed;
-/// `BadValue` where an entity, a unit, a language or an explicit member is not well-formed; `BadPeriod`;
-/// `NotDuration` where a side is asked of an instant. A pure unit gives nothing. Fails where memory
-/// is short. (xBRL-CSV 1.0, dimensions)
+/// What a dimension that is not dropped gives a fact, or the least fault of its value. A pure unit
+/// gives nothing. The outer error comes only if memory runs out. (xBRL-CSV 1.0, dimensions)
+///
+/// - `UnknownSpecial`: it begins with a single `#` and is not a special value;
+/// - `BadReference`: it is nil or empty, and the dimension is not typed;
+/// - `BadValue`: an entity, a unit, a language or an explicit member is not well-formed;
+/// - `BadPeriod`: a period is not well-formed;
+/// - `NotDuration`: the start or the end of an instant is asked for.
 pub fn read_value(
     alloc: Global,
     report: &Report,

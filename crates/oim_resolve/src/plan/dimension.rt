@@ -13,8 +13,8 @@ use oim_meta::{Report, Side, Written};
 use oim_names::Text;
 use std::alloc::{AllocError, Global};
 
-/// A dimension that a level writes, with all of it that no row changes. Without a literal and a
-/// reference it is the number of the row.
+/// A dimension that a level writes, with what is the same for all rows. It is a literal, a reference,
+/// or, with neither, the number of the row.
 #[derive(Drop)]
 pub(crate) struct PlannedDimension<'a> {
     /// Its bytes are shared by all facts that have it.

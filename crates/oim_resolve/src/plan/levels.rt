@@ -86,7 +86,7 @@ fn put_names<'a>(names: &mut Vec<&'a str>, level: &'a Level) -> Result<(), Alloc
     Ok(())
 }
 
-/// The names that the levels write, in byte order, each once. Fails where memory is short.
+/// The names that the levels write, in byte order, each once. It fails only if memory runs out.
 pub fn names<'a>(alloc: Global, levels: &[&'a Level]) -> Result<Vec<&'a str>, AllocError>
     ensures { IfOk result (λ v. held v.items ≡ names (reverse (held levels.now))) }
 {

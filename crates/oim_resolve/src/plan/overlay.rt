@@ -8,8 +8,8 @@ use crate::plan::dimension::PlannedDimension;
 use std::alloc::AllocError;
 use std::cmp::Ordering;
 
-/// Puts an entry in its place in byte order. Of two of one name the first stays where it is the
-/// column's own, or a group's.
+/// Puts an entry in its place in byte order. Of two entries of one name the first stays, if the column
+/// itself or a group writes it.
 fn put_entry<'a>(
     entries: &mut Vec<&'a PlannedDimension<'a>>,
     entry: &'a PlannedDimension<'a>,

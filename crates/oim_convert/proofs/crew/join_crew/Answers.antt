@@ -1,6 +1,6 @@
 use Rattle.std.proofs.Common.{arith, cond, subst}
 use Rattle.oim_convert.specs.Shifts.{IsShift, IsStarted}
-use Rattle.oim_convert.proofs.Zips.{all-first, all-more}
+use Rattle.oim_convert.proofs.LongerLists.{all-first, all-more}
 use Rattle.oim_convert.proofs.crew.join_crew.Goals as goal
 
 pub loop-handle-preserved : goal.loop-handle-preserved

@@ -1,7 +1,7 @@
 use Rattle.std.proofs.Common.{arith, subst, sym, ap, ◌∙◌, All, vec_len, vec_capacity}
 use Rattle.oim_convert.specs.Shifts.{IsShift, IsStarted, IsStation}
-use Rattle.oim_convert.proofs.Crews.{all_stopped_more, none_may}
-use Rattle.oim_convert.proofs.Zips.{all-first, all-more}
+use Rattle.oim_convert.proofs.StoppedWorkers.{all_stopped_more, none_may}
+use Rattle.oim_convert.proofs.LongerLists.{all-first, all-more}
 use Rattle.oim_convert.proofs.crew.start_each.Goals as goal
 use Rattle.oim_convert.proofs.crew.start_each.Goals.{in-Ok, in-Err}
 

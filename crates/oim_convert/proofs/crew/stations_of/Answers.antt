@@ -1,7 +1,7 @@
 use Rattle.std.proofs.Common.{◌≡◌, arith}
 use Rattle.oim_convert.specs.Claims.{Drawer, fresh}
 use Rattle.oim_convert.specs.Shifts.{IsStation}
-use Rattle.oim_convert.proofs.Zips.{all-first, all-more}
+use Rattle.oim_convert.proofs.LongerLists.{all-first, all-more}
 use Rattle.oim_convert.proofs.crew.stations_of.Goals as goal
 
 pub loop-seat-preserved : goal.loop-seat-preserved

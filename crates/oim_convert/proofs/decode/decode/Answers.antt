@@ -6,7 +6,7 @@ use Rattle.oim_ring.specs.declared.item.Item.TheVariants as items
 use Rattle.oim_rows.specs.Streams.{table_stream}
 use Rattle.oim_convert.specs.Files.{IsFileOf}
 use Rattle.oim_convert.specs.Histories.{IsDecoded, IsGiven, facts_in}
-use Rattle.oim_convert.proofs.Sent.{file_decoded, if_some_both, no_file_decoded}
+use Rattle.oim_convert.proofs.SentFacts.{file_decoded, if_some_both, no_file_decoded}
 use Rattle.oim_convert.proofs.decode.decode.Goals as goal
 use Rattle.oim_convert.proofs.decode.decode.Goals.{in-None, in-Some}
 
@@ -17,7 +17,11 @@ returns-clause-history g c =
     let Kept : ClosedView → Type 0 = λ closed. (file : Option (List ℕ)) → IsFileOf told c.args.job.reader file → IsDecoded table (table_stream report table limit file) closed.sent in
     if_some_both c.close_waiting.result (λ closed. closed.sent ≡ feed.sent ++ items.Ending e ∷ []) (λ _. blocks_only feed.sent ≡ true) Kept
     (λ closed sent only. elim c.match-reader.branch [
-      | in-None w ↦ λ file is. no_file_decoded told file report table limit feed.sent closed.sent e (subst (λ r. IsFileOf told r file) w.in-None.is is) (ap (λ f. f.sent) w.feed-is ∙ c.requires.fresh) (w.ending-is ∙ w.without_file-ending.ensures limit) only sent
+      | in-None w ↦ λ file is. no_file_decoded told file report table limit feed.sent closed.sent e (subst (λ r.
+          IsFileOf told r file) w.in-None.is is) (ap (λ f. f.sent) w.feed-is ∙ c.requires.fresh) (w.ending-is ∙ w.without_file-ending.ensures limit) only sent
       | in-Some w ↦ λ file is. file_decoded told w.in-Some.reader file report table limit feed.sent closed.sent e (subst (λ r. IsFileOf told r file) w.in-Some.is is)
-          (subst (λ x. IfSome (told w.in-Some.reader) (λ bytes. IsGiven table (table_stream report table limit (Some bytes)) (facts_in feed.sent) x)) (sym w.ending-is) (subst (λ x. IfSome (told w.in-Some.reader) (λ bytes. IsGiven table (table_stream report table limit (Some bytes)) (facts_in x) w.send_file-ending.result)) (sym (ap (λ f. f.sent) w.feed-is)) w.send_file-ending.ensures.given)) only sent
+          (subst (λ x. IfSome (told w.in-Some.reader) (λ bytes. IsGiven table (table_stream report table limit (Some bytes)) (facts_in feed.sent) x))
+          (sym w.ending-is) (subst (λ x. IfSome (told w.in-Some.reader) (λ bytes.
+          IsGiven table (table_stream report table limit (Some bytes)) (facts_in x) w.send_file-ending.result))
+          (sym (ap (λ f. f.sent) w.feed-is)) w.send_file-ending.ensures.given)) only sent
     ]) c.close_waiting.ensures.sent c.close_waiting.ensures.blocks

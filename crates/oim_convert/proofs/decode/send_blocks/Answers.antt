@@ -1,7 +1,7 @@
 use Rattle.std.proofs.Common.{ap, refl, ◌∙◌}
 use Rattle.std.proofs.lemmas.Option.{IfSome_then}
 use Rattle.oim_convert.specs.Histories.{facts_in}
-use Rattle.oim_convert.proofs.Sent.{block_given, block_sent, end_given, fault_given, reading_begins}
+use Rattle.oim_convert.proofs.SentFacts.{block_given, block_sent, end_given, fault_given, reading_begins}
 use Rattle.oim_convert.proofs.decode.send_blocks.Goals as goal
 
 pub loop-init : goal.loop-init
@@ -19,7 +19,8 @@ loop-preserved g c =
       table = c.next_block.ensures.same.0 ∙ c.loop.invariant.table;
       ring = c.put_waiting.ensures.ring ∙ c.loop.invariant.ring;
       reading = IfSome_then c.args.blocks.now.left c.loop.invariant.reading (λ whole r.
-          block_given c.args.blocks.now.table whole (facts_in c.loop.feed.sent) c.loop.blocks.pending c.next_block.new.self.pending c.next_block.new.self.left c.loop.blocks.left block (facts_in c.put_waiting.new.feed.sent) r gives
+          block_given c.args.blocks.now.table whole (facts_in c.loop.feed.sent) c.loop.blocks.pending c.next_block.new.self.pending
+          c.next_block.new.self.left c.loop.blocks.left block (facts_in c.put_waiting.new.feed.sent) r gives
           (block_sent c.loop.feed.sent c.put_waiting.new.feed.sent block c.put_waiting.ensures.sent));
     }
 

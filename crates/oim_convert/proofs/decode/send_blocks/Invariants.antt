@@ -1,6 +1,6 @@
 use Rattle.std.proofs.Common.{◌≡◌, IfSome}
 use Rattle.oim_convert.specs.Histories.{facts_in}
-use Rattle.oim_convert.proofs.Sent.{IsReading}
+use Rattle.oim_convert.proofs.SentFacts.{IsReading}
 use Rattle.oim_convert.proofs.decode.send_blocks.Given as goal
 
 abbrev pub invariant-loop : goal.invariant-loop

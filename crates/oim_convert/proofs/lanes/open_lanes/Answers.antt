@@ -4,8 +4,8 @@ use Rattle.std.specs.Vec.Iter.{into_iter_items}
 use Rattle.oim_ring.specs.Ends.{DrainView}
 use Rattle.oim_convert.specs.Jobs.{Each, IsLane, IsOpened}
 use Rattle.oim_convert.specs.declared.job.Job.{Job}
-use Rattle.oim_convert.proofs.Settled.{each_more}
-use Rattle.oim_convert.proofs.Opened.{get_last, lanes_more, readers_more}
+use Rattle.oim_convert.proofs.SlotsAndLists.{each_more}
+use Rattle.oim_convert.proofs.OpeningLanes.{get_last, lanes_more, readers_more}
 use Rattle.oim_convert.proofs.lanes.open_lanes.Goals as goal
 
 pub loop-reader-preserved : goal.loop-reader-preserved
@@ -22,8 +22,11 @@ loop-reader-preserved g c =
     let here : IsLane (jobs ++ job ∷ []) (0 + length drains) drain =
     record { job = job; planned = subst (λ (n : ℕ). slice_get (jobs ++ job ∷ []) n ≡ Some job) same (get_last jobs job); ring = c.in_ok-feed.ensures.one_ring; fresh = c.in_ok-feed.ensures.drain } in
     let lanes = each_more (IsLane (jobs ++ job ∷ [])) 0 drains drain (lanes_more jobs job 0 drains r.2) here in (
-      ap (λ l. map (λ j. j.reader) l ++ into_iter_items c.next.new.self) pushed ∙ (readers_more (λ j. j.reader) jobs job c.in-Some.reader (into_iter_items c.next.new.self) (into_iter_items c.loop-reader.reader-iterator) c.in-Some.ensures.steps.0 refl ∙ r.0),
+      ap (λ l. map (λ j. j.reader) l ++ into_iter_items c.next.new.self) pushed
+          ∙ (readers_more (λ j. j.reader) jobs job c.in-Some.reader (into_iter_items c.next.new.self) (into_iter_items c.loop-reader.reader-iterator)
+          c.in-Some.ensures.steps.0 refl ∙ r.0),
       subst (λ (l : List (Job g.row.R.Denot)). Each IsOpened 0 l) (sym pushed) (each_more IsOpened 0 jobs job r.1 opened),
-      subst (λ (p : List (Job g.row.R.Denot)). Each (IsLane p) 0 c.push-in-loop-reader.new.self.items) (sym pushed) (subst (λ (l : List DrainView). Each (IsLane (jobs ++ job ∷ [])) 0 l) (sym drained) lanes),
+      subst (λ (p : List (Job g.row.R.Denot)). Each (IsLane p) 0 c.push-in-loop-reader.new.self.items) (sym pushed) (subst (λ (l : List DrainView).
+          Each (IsLane (jobs ++ job ∷ [])) 0 l) (sym drained) lanes),
       omega (arith, ap length pushed, ap length drained, length-append jobs (job ∷ []), length-append drains (drain ∷ []), r.3),
     )

@@ -3,7 +3,7 @@ use Rattle.std.proofs.Common.{ap, sym, ◌∙◌, subst}
 use Rattle.oim_json.specs.Sinks.{sink_at}
 use Rattle.oim_ring.specs.Ends.{DrainView}
 use Rattle.oim_merge.specs.Merging.{EndEach, Merges, rings_of, taken_of}
-use Rattle.oim_convert.proofs.Written.{written_back}
+use Rattle.oim_convert.proofs.WrittenBack.{written_back}
 use Rattle.oim_convert.proofs.scope.merge_all.Goals as goal
 
 pub returns : goal.returns

@@ -1,5 +1,5 @@
 use Rattle.std.proofs.Common.{rules, arith, ap}
-use Rattle.oim_convert.proofs.Shares.{cuts}
+use Rattle.oim_convert.proofs.ViewShares.{cuts}
 use Rattle.oim_convert.proofs.seats.deal.Goals as goal
 
 pub split_seat-one-requires : goal.split_seat-one-requires

@@ -1,5 +1,5 @@
 use Rattle.std.proofs.Common.{rules, ap, ◌∙◌}
-use Rattle.oim_convert.proofs.Shares.{sheds, gathers}
+use Rattle.oim_convert.proofs.ViewShares.{sheds, gathers}
 use Rattle.oim_convert.proofs.seats.gather.Goals as goal
 
 pub split_seat-rested-requires : goal.split_seat-rested-requires

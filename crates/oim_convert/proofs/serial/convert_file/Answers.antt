@@ -5,8 +5,8 @@ use Rattle.oim_json.specs.Sinks.{sink_at}
 use Rattle.oim_ring.specs.declared.item.Ending.TheVariants.{Refused}
 use Rattle.oim_rows.specs.Streams.{table_stream}
 use Rattle.oim_convert.specs.Steps.{ReadsTable}
-use Rattle.oim_convert.proofs.Sent.{unopened_given}
-use Rattle.oim_convert.proofs.Tables.{given_nothing}
+use Rattle.oim_convert.proofs.SentFacts.{unopened_given}
+use Rattle.oim_convert.proofs.SerialTables.{given_nothing}
 use Rattle.oim_convert.proofs.serial.convert_file.Goals as goal
 
 pub returns-in-Ok-clause-reads : goal.returns-in-Ok-clause-reads
@@ -21,4 +21,5 @@ returns-in-Err-clause-reads g c =
     let a = sink_at (g.W.Sink.mark c.args.sink.now) (g.W.Sink.told c.args.sink.now) in
     let table = c.args.table in let report = c.args.report.now in let limit = c.args.limits.rows in
     IfSome_then (g.R.Read.remaining c.args.reader) c.in-Err.ensures.fault (λ bytes bad.
-    given_nothing c.args.layout table c.args.wanted a c.args.any.now (table_stream report table limit (Some bytes)) (Refused c.in-Err.fault) (unopened_given report table limit bytes [] c.in-Err.fault bad refl))
+    given_nothing c.args.layout table c.args.wanted a c.args.any.now (table_stream report table limit (Some bytes)) (Refused c.in-Err.fault)
+    (unopened_given report table limit bytes [] c.in-Err.fault bad refl))

@@ -2,8 +2,8 @@ use Rattle.std.specs.Prelude.{◌≡◌, [], false, length}
 use Rattle.std.proofs.Common.{◌∙◌, ap, refl, subst, sym, arith}
 use Rattle.std.specs.Vec.Iter.{into_iter_items}
 use Rattle.oim_json.specs.Sinks.{sink_at}
-use Rattle.oim_convert.proofs.Going.{nothing_left}
-use Rattle.oim_convert.proofs.Tables.{HasRead, files_begin, files_end, next_broke, next_read, wanted_so}
+use Rattle.oim_convert.proofs.TableFiles.{nothing_left}
+use Rattle.oim_convert.proofs.SerialTables.{HasRead, files_begin, files_end, next_broke, next_read, wanted_so}
 use Rattle.oim_convert.proofs.serial.convert_tables.Goals as goal
 
 pub loop-reader-init : goal.loop-reader-init
@@ -30,7 +30,8 @@ returns-in-Err-clause-reads g c = λ files are.
     let left = into_iter_items c.next.new.self in
     let is = wanted_so c.is_empty-wanted.result c.loop-reader.faults.len faults c.loop-reader.faults.ok.0 c.is_empty-wanted.ensures in
     let h = subst (λ xs. HasRead c.args.layout told report limit c.loop-reader.table first now c.loop-reader.any faults xs files) c.in-Some.ensures.steps.0 (c.loop-reader.invariant.read files are) in
-    next_broke c.args.layout told report limit files c.loop-reader.table first now new c.loop-reader.any c.convert_table.new.any c.is_empty-wanted.result faults c.in-Some.reader left is c.in-Err.fault h c.in-Err.ensures.reads
+    next_broke c.args.layout told report limit files c.loop-reader.table first now new c.loop-reader.any c.convert_table.new.any
+    c.is_empty-wanted.result faults c.in-Some.reader left is c.in-Err.fault h c.in-Err.ensures.reads
 
 pub loop-reader-preserved : goal.loop-reader-preserved
 loop-reader-preserved g c =
@@ -57,6 +58,7 @@ returns-clause-reads g c = λ files are.
     let told = g.R.Read.remaining in let report = c.args.report.now in let limit = c.args.limits.rows in
     let first = sink_at (g.W.Sink.mark c.args.sink.now) (g.W.Sink.told c.args.sink.now) in
     let now = sink_at (g.W.Sink.mark c.loop-reader.sink) (g.W.Sink.told c.loop-reader.sink) in
-    let over : into_iter_items c.loop-reader.reader-iterator ≡ [] = nothing_left (into_iter_items c.loop-reader.reader-iterator) (sym c.loop-reader.reader-iterator.rest.ok.0 ∙ c.in-None.ensures.steps.0) in
+    let over : into_iter_items c.loop-reader.reader-iterator ≡ [] =
+    nothing_left (into_iter_items c.loop-reader.reader-iterator) (sym c.loop-reader.reader-iterator.rest.ok.0 ∙ c.in-None.ensures.steps.0) in
     let h = subst (λ xs. HasRead c.args.layout told report limit c.loop-reader.table first now c.loop-reader.any c.loop-reader.faults.items xs files) over (c.loop-reader.invariant.read files are) in
     files_end c.args.layout told report limit files c.loop-reader.table first now c.loop-reader.any c.loop-reader.faults.items h

@@ -3,7 +3,7 @@ use Rattle.std.specs.Prelude.{List, ℕ, Option, vec_len, vec_capacity}
 use Rattle.std.specs.Vec.Iter.{into_iter_items}
 use Rattle.oim_json.specs.Sinks.{sink_at}
 use Rattle.oim_convert.specs.Files.{AreFilesOf}
-use Rattle.oim_convert.proofs.Tables.{HasRead}
+use Rattle.oim_convert.proofs.SerialTables.{HasRead}
 use Rattle.oim_convert.proofs.serial.convert_tables.Given as goal
 
 abbrev pub invariant-loop-reader : goal.invariant-loop-reader
@@ -13,5 +13,6 @@ invariant-loop-reader g l = record {
   count : vec_len l.faults ≤ l.table;
   room : length l.report.tables ≤ vec_capacity l.faults;
   read : (files : List (Option (List ℕ))) → AreFilesOf g.R.Read.remaining l.fn.readers.items files
-      → HasRead l.layout g.R.Read.remaining l.report l.limits.rows l.table (sink_at (g.W.Sink.mark l.fn.sink) (g.W.Sink.told l.fn.sink)) (sink_at (g.W.Sink.mark l.sink) (g.W.Sink.told l.sink)) l.any l.faults.items (into_iter_items l.reader-iterator) files;
+      → HasRead l.layout g.R.Read.remaining l.report l.limits.rows l.table (sink_at (g.W.Sink.mark l.fn.sink) (g.W.Sink.told l.fn.sink))
+      (sink_at (g.W.Sink.mark l.sink) (g.W.Sink.told l.sink)) l.any l.faults.items (into_iter_items l.reader-iterator) files;
 }

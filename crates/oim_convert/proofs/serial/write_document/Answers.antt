@@ -2,7 +2,7 @@ use Rattle.std.proofs.Common.{subst, sym, ◌∙◌}
 use Rattle.std.specs.Prelude.{false, true}
 use Rattle.oim_json.specs.Sinks.{Broke, Wrote, sink_at}
 use Rattle.oim_convert.specs.Answer.{streams}
-use Rattle.oim_convert.proofs.Tables.{all_written, head_broke, tables_broke, tables_refused, tail_broke, wanted_so}
+use Rattle.oim_convert.proofs.SerialTables.{all_written, head_broke, tables_broke, tables_refused, tail_broke, wanted_so}
 use Rattle.oim_convert.proofs.serial.write_document.Goals as goal
 
 pub returns-in-Err-clause-converts : goal.returns-in-Err-clause-converts
@@ -59,4 +59,5 @@ returns-clause-converts g c = λ files are.
     let read = c.in_default-convert_tables.ensures.reads files are in
     let e = sink_at (g.W.Sink.mark c.write_all_of-2.new.sink) (g.W.Sink.told c.write_all_of-2.new.sink) in
     let none = wanted_so true faults.len faults.items faults.ok.0 (sym c.if-not-is_empty.false ∙ c.is_empty.ensures) in
-    tail_broke c.args.layout report ss a b d read.0 faults.items wrote read.1 none e c.in-Err-write_all_of.fault (subst (λ t. Broke d e t c.in-Err-write_all_of.fault) c.tail.ensures c.in-Err-write_all_of.ensures)
+    tail_broke c.args.layout report ss a b d read.0 faults.items wrote read.1 none e c.in-Err-write_all_of.fault (subst (λ t.
+    Broke d e t c.in-Err-write_all_of.fault) c.tail.ensures c.in-Err-write_all_of.ensures)

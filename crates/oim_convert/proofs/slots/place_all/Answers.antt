@@ -1,12 +1,12 @@
 use Rattle.std.specs.Prelude.{◌≡◌, [], ◌++◌, map}
 use Rattle.std.specs.Vec.Iter.{into_iter_items}
 use Rattle.std.proofs.Common.{arith, ap, sym, ◌∙◌, append-nil}
-use Rattle.oim_convert.specs.Jobs.{Gives, placed, tokens_of}
+use Rattle.oim_convert.specs.Jobs.{Gives, placed, receipts_of}
 use Rattle.oim_convert.specs.Shifts.{IsShift}
-use Rattle.oim_convert.proofs.Cover.{placed_append}
-use Rattle.oim_convert.proofs.Settled.{map_one}
-use Rattle.oim_convert.proofs.Going.{nothing_left}
-use Rattle.oim_convert.proofs.Zips.{all-first}
+use Rattle.oim_convert.proofs.ReceiptCover.{placed_append}
+use Rattle.oim_convert.proofs.SlotsAndLists.{map_one}
+use Rattle.oim_convert.proofs.TableFiles.{nothing_left}
+use Rattle.oim_convert.proofs.LongerLists.{all-first}
 use Rattle.oim_convert.proofs.slots.place_all.Goals as goal
 
 pub loop-shift-preserved : goal.loop-shift-preserved
@@ -22,8 +22,8 @@ loop-shift-preserved g c =
       left = (all-first (IsShift gives c.args.claims.now) _ _ _ step.0 old.left).1;
       slots = c.place_shift.ensures.slots;
       placed =
-          ap (λ l. placed (tokens_of rest) l) c.place_shift.ensures.placed
-          ∙ (sym (placed_append shift.done.items (tokens_of rest) before) ∙ (sym (ap (λ l. placed (tokens_of l) before) step.0) ∙ old.placed));
+          ap (λ l. placed (receipts_of rest) l) c.place_shift.ensures.placed
+          ∙ (sym (placed_append shift.done.items (receipts_of rest) before) ∙ (sym (ap (λ l. placed (receipts_of l) before) step.0) ∙ old.placed));
       seats =
           ap (λ l. l ++ map (λ s. s.seat) rest) pushed.items
           ∙ (sym (map_one (λ s. s.seat) c.loop-shift.seats.items shift rest (into_iter_items c.loop-shift.shift-iterator) c.place_shift.result step.0 c.place_shift.ensures.seat) ∙ old.seats);
@@ -35,7 +35,7 @@ pub returns-clause-placed : goal.returns-clause-placed
 returns-clause-placed g c =
     let left = into_iter_items c.loop-shift.shift-iterator in
     let over : left ≡ [] = nothing_left left (sym c.loop-shift.shift-iterator.rest.ok.0 ∙ c.in-None.ensures.steps.0) in
-    sym (ap (λ l. placed (tokens_of l) c.loop-shift.slots) over) ∙ c.loop-shift.invariant.placed
+    sym (ap (λ l. placed (receipts_of l) c.loop-shift.slots) over) ∙ c.loop-shift.invariant.placed
 
 pub returns-clause-seats : goal.returns-clause-seats
 returns-clause-seats g c =

@@ -3,9 +3,9 @@ use Rattle.std.specs.Vec.Iter.{into_iter_items}
 use Rattle.oim_convert.specs.Jobs.{EachSlot, Fulfills, placed}
 use Rattle.oim_convert.proofs.slots.place_shift.Given as goal
 
-abbrev pub invariant-loop-token : goal.invariant-loop-token
-invariant-loop-token g l = record {
-  left : All (Fulfills g.R.Read.remaining l.report l.limits.rows l.served l.claims.items) (into_iter_items l.token-iterator);
+abbrev pub invariant-loop-receipt : goal.invariant-loop-receipt
+invariant-loop-receipt g l = record {
+  left : All (Fulfills g.R.Read.remaining l.report l.limits.rows l.served l.claims.items) (into_iter_items l.receipt-iterator);
   slots : EachSlot g.R.Read.remaining l.report l.limits.rows l.served l.claims.items l.slots;
-  placed : placed (into_iter_items l.token-iterator) l.slots ≡ placed l.fn.shift.done.items l.fn.slots;
+  placed : placed (into_iter_items l.receipt-iterator) l.slots ≡ placed l.fn.shift.done.items l.fn.slots;
 }

@@ -6,12 +6,12 @@ use Rattle.std.specs.Vec.Iter.{into_iter_items}
 use Rattle.oim_ring.specs.declared.item.Item.{Item}
 use Rattle.oim_convert.specs.Jobs.{Each, IsEnded, IsKept, IsSentOf, IsTable}
 use Rattle.oim_convert.specs.declared.job.Job.{Job}
-use Rattle.oim_convert.proofs.Settled.{slot_kept, slot_read, each_first, each_more, map_one}
+use Rattle.oim_convert.proofs.SlotsAndLists.{slot_kept, slot_read, each_first, each_more, map_one}
 use Rattle.oim_convert.proofs.slots.settle_all.Given as given
 use Rattle.oim_convert.proofs.slots.settle_all.Goals as goal
 use Rattle.oim_convert.proofs.slots.settle_all.Goals.{After-settled-in-loop-drain-1}
 
--- the token in the slot is of the table
+-- the token in the slot is that of the table
 token_is : (g : given.Over) (c : After-settled-in-loop-drain-1 g)
     → IsSentOf g.R.Read.remaining c.args.report.now c.args.limits.rows c.args.served c.args.claims.now.items (length c.loop-drain.settled.items) c.in_ok-closed.closed
 token_is g c =
@@ -19,14 +19,17 @@ token_is g c =
     let at : c.len-at.result ≡ length c.loop-drain.settled.items = c.len-at.ensures ∙ c.loop-drain.settled.ok.0 in
     let steps = c.in-Some.ensures.steps.1 in
     let lt : c.len-at.result < length c.loop-drain.slots = omega arith in
-    let here = r.4 c.len-at.result c.in_ok-closed.closed (slot_read c.loop-drain.slots c.len-at.result c.index-slots-at.result c.in_ok-closed.closed lt (sym c.take.ensures.value ∙ c.in_ok-closed.was)) in
+    let here = r.4 c.len-at.result c.in_ok-closed.closed (slot_read c.loop-drain.slots c.len-at.result c.index-slots-at.result c.in_ok-closed.closed
+    lt (sym c.take.ensures.value ∙ c.in_ok-closed.was)) in
     subst (λ (n : ℕ). IsSentOf g.R.Read.remaining c.args.report.now c.args.limits.rows c.args.served c.args.claims.now.items n c.in_ok-closed.closed) at here
 
--- the drain is of the table
+-- the drain is that of the table
 drain_is : (g : given.Over) (c : After-settled-in-loop-drain-1 g)
-    → IsEnded c.args.claims.now.items (length c.loop-drain.settled.items) c.in-Some.drain × Each (IsEnded c.args.claims.now.items) (suc (length c.loop-drain.settled.items)) (into_iter_items c.next.new.self)
+    → IsEnded c.args.claims.now.items (length c.loop-drain.settled.items) c.in-Some.drain
+    × Each (IsEnded c.args.claims.now.items) (suc (length c.loop-drain.settled.items)) (into_iter_items c.next.new.self)
 drain_is g c =
-    each_first (IsEnded c.args.claims.now.items) (length c.loop-drain.settled.items) c.in-Some.drain (into_iter_items c.next.new.self) (into_iter_items c.loop-drain.drain-iterator) c.in-Some.ensures.steps.0
+    each_first (IsEnded c.args.claims.now.items) (length c.loop-drain.settled.items) c.in-Some.drain (into_iter_items c.next.new.self)
+    (into_iter_items c.loop-drain.drain-iterator) c.in-Some.ensures.steps.0
     c.loop-drain.invariant.3
 
 pub settle-requires-clause-one_ring : goal.settle-requires-clause-one_ring
@@ -52,7 +55,8 @@ loop-drain-preserved g c =
     let zero_more : length done ≡ 0 + length done = omega arith in (
       omega arith,
       (let e = length-set c.loop-drain.slots c.len-at.result c.take.new.self in omega arith),
-      r.2 ∙ (map_one (λ d. d.taken) done c.in-Some.drain (into_iter_items c.next.new.self) _ c.settle.result steps.0 c.settle.ensures.taken ∙ ap (λ l. l ++ map (λ d. d.taken) (into_iter_items c.next.new.self)) (sym pushed)),
+      r.2 ∙ (map_one (λ d. d.taken) done c.in-Some.drain (into_iter_items c.next.new.self) _ c.settle.result steps.0 c.settle.ensures.taken
+          ∙ ap (λ l. l ++ map (λ d. d.taken) (into_iter_items c.next.new.self)) (sym pushed)),
       subst (λ (n : ℕ). Each (IsEnded plan) n (into_iter_items c.next.new.self)) (sym len) d.1,
       (λ t closed e. r.4 t closed (slot_kept c.loop-drain.slots c.len-at.result t closed (rw (← c.take.ensures.after) e))),
       subst (λ (l : List (List Item)). Each (IsTable told report limit served plan) 0 l) (sym pushed)
@@ -68,7 +72,7 @@ if_none : {A : Type 0} (o : Option A) (P : Type 0) → P → IfNone o P
 if_none (Some x) P p = tt
 if_none None P p = p
 
--- the place at which the loop ends has no token
+-- the slot at which the loop ends has no token
 pub returns-in_err-closed-clause-lost : goal.returns-in_err-closed-clause-lost
 returns-in_err-closed-clause-lost g c =
     let r = c.loop-drain.invariant in

@@ -1,6 +1,6 @@
 use Rattle.std.proofs.Common.{arith, ap, ◌∙◌, subst, length, length-append, slice_get, ◌≡◌, ◌∷◌, [], Some}
 use Rattle.oim_convert.specs.Shifts.{IsServed}
-use Rattle.oim_convert.proofs.Zips.{zip-push}
+use Rattle.oim_convert.proofs.LongerLists.{zip-push}
 use Rattle.oim_convert.proofs.worker.work.Goals as goal
 
 pub loop-number-preserved : goal.loop-number-preserved
@@ -14,6 +14,13 @@ loop-number-preserved g c =
     record {
       mine = ap (λ d. d.claims) after ∙ old.mine;
       served = zip-push (IsServed gives now.items) _ _ _ _ c.in-Some.number c.serve.result numbers pushed.items old.served (c.in-Some.item, here, c.serve.ensures);
-      count = omega (arith, ap length numbers, ap length pushed.items, length-append c.loop-number.seat.numbers (c.in-Some.number ∷ []), length-append c.loop-number.done.items (c.serve.result ∷ []), old.count);
+      count = omega (
+        arith,
+        ap length numbers,
+        ap length pushed.items,
+        length-append c.loop-number.seat.numbers (c.in-Some.number ∷ []),
+        length-append c.loop-number.done.items (c.serve.result ∷ []),
+        old.count,
+      );
       room = omega (arith, pushed.capacity, old.room);
     }

@@ -51,7 +51,8 @@ make_variant-requires-clause-places c =
     let a = c.args.at.now in
     let P : ReportValue → ℕ × Option ℕ → Type 0 = λ r g. g.0 < length (columns_of r a.table) in
     subst (λ (r : ReportValue). All (P r) c.as_slice-groups.result.now) (sym c.requires.report)
-    (subst (All (P a.report.now)) (sym (c.as_slice-groups.ensures.value ∙ c.requires.column.groups)) (all_places (λ i. i < length (columns_of a.report.now a.table)) (source_of_column a.header.now) _ c.requires.column.from))
+    (subst (All (P a.report.now)) (sym (c.as_slice-groups.ensures.value ∙ c.requires.column.groups))
+    (all_places (λ i. i < length (columns_of a.report.now a.table)) (source_of_column a.header.now) _ c.requires.column.from))
 
 pub returns-clause-range : goal.returns-clause-range
 returns-clause-range c =

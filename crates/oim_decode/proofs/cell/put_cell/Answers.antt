@@ -12,7 +12,8 @@ use Rattle.oim_decode.proofs.cell.put_cell.Goals as goal
 pub returns-then-is_absent-clause-cell : goal.returns-then-is_absent-clause-cell
 returns-then-is_absent-clause-cell c =
     let a = c.args.at.now in
-    (absent_is (cell_under a.report.now a.table a.header.now a.number (fields_of a.record.now) c.args.column.now.column) (ap is_absent (sym c.value_in-value.ensures) ∙ sym c.is_absent.ensures ∙ c.if-is_absent.true), refl)
+    let cell = cell_under a.report.now a.table a.header.now a.number (fields_of a.record.now) c.args.column.now.column in
+    (absent_is cell (ap is_absent (sym c.value_in-value.ensures) ∙ sym c.is_absent.ensures ∙ c.if-is_absent.true), refl)
 
 pub returns-then-is_unknown-clause-cell : goal.returns-then-is_unknown-clause-cell
 returns-then-is_unknown-clause-cell c =
@@ -27,9 +28,11 @@ returns-in-Err-clause-cell c =
     let a = c.args.at.now in
     let w = fields_of a.record.now in
     let cell = cell_under a.report.now a.table a.header.now a.number w c.args.column.now.column in
-    let first = first_is a.report.now a.table a.header.now a.number w c.args.column.now.column c.requires.column.from (ap is_unknown (sym c.value_in-value.ensures) ∙ sym c.is_unknown.ensures ∙ c.if-is_unknown.false)
+    let known = ap is_unknown (sym c.value_in-value.ensures) ∙ sym c.is_unknown.ensures ∙ c.if-is_unknown.false in
+    let says = ap is_absent (sym c.value_in-value.ensures) ∙ sym c.is_absent.ensures ∙ c.if-is_absent.false in
+    let first = first_is a.report.now a.table a.header.now a.number w c.args.column.now.column c.requires.column.from known
     ∙ ap (groups_wrong a.report.now a.table w) (sym c.requires.column.groups) in
-    elim c.in-Err.ensures.fault [ inl m ↦ inl m | inr g ↦ inr (first_err cell c.in-Err.fault (ap is_absent (sym c.value_in-value.ensures) ∙ sym c.is_absent.ensures ∙ c.if-is_absent.false) (first ∙ g)) ]
+    elim c.in-Err.ensures.fault [ inl m ↦ inl m | inr g ↦ inr (first_err cell c.in-Err.fault says (first ∙ g)) ]
 
 pub put_fact-requires-clause-variant : goal.put_fact-requires-clause-variant
 put_fact-requires-clause-variant c =
@@ -49,16 +52,20 @@ returns-in-Ok-put_fact-clause-cell c =
     let a = c.args.at.now in
     let w = fields_of a.record.now in
     let cell = cell_under a.report.now a.table a.header.now a.number w c.args.column.now.column in
-    let first = first_is a.report.now a.table a.header.now a.number w c.args.column.now.column c.requires.column.from (ap is_unknown (sym c.value_in-value.ensures) ∙ sym c.is_unknown.ensures ∙ c.if-is_unknown.false)
+    let known = ap is_unknown (sym c.value_in-value.ensures) ∙ sym c.is_unknown.ensures ∙ c.if-is_unknown.false in
+    let says = ap is_absent (sym c.value_in-value.ensures) ∙ sym c.is_absent.ensures ∙ c.if-is_absent.false in
+    let first = first_is a.report.now a.table a.header.now a.number w c.args.column.now.column c.requires.column.from known
     ∙ ap (groups_wrong a.report.now a.table w) (sym c.requires.column.groups) in
-    let given = c.in-Ok-put_fact.ensures in
-    (good cell (ap is_absent (sym c.value_in-value.ensures) ∙ sym c.is_absent.ensures ∙ c.if-is_absent.false) (first ∙ c.in-Ok.ensures.good) given.0 given.1, given.2)
+    let given = c.in-Ok-put_fact.ensures.fact in
+    (good cell says (first ∙ c.in-Ok.ensures.good) given.0 given.1, given.2)
 
 pub returns-in-Err-put_fact-clause-cell : goal.returns-in-Err-put_fact-clause-cell
 returns-in-Err-put_fact-clause-cell c =
     let a = c.args.at.now in
     let w = fields_of a.record.now in
     let cell = cell_under a.report.now a.table a.header.now a.number w c.args.column.now.column in
-    let first = first_is a.report.now a.table a.header.now a.number w c.args.column.now.column c.requires.column.from (ap is_unknown (sym c.value_in-value.ensures) ∙ sym c.is_unknown.ensures ∙ c.if-is_unknown.false)
+    let known = ap is_unknown (sym c.value_in-value.ensures) ∙ sym c.is_unknown.ensures ∙ c.if-is_unknown.false in
+    let says = ap is_absent (sym c.value_in-value.ensures) ∙ sym c.is_absent.ensures ∙ c.if-is_absent.false in
+    let first = first_is a.report.now a.table a.header.now a.number w c.args.column.now.column c.requires.column.from known
     ∙ ap (groups_wrong a.report.now a.table w) (sym c.requires.column.groups) in
-    fault_of_fact cell c.in-Err-put_fact.fault (ap is_absent (sym c.value_in-value.ensures) ∙ sym c.is_absent.ensures ∙ c.if-is_absent.false) (first ∙ c.in-Ok.ensures.good) c.in-Err-put_fact.ensures
+    fault_of_fact cell c.in-Err-put_fact.fault says (first ∙ c.in-Ok.ensures.good) c.in-Err-put_fact.ensures.fact

@@ -10,8 +10,8 @@ use Rattle.oim_decode.proofs.FactLaws.{rest_found, text_found}
 use Rattle.oim_decode.proofs.PutRowLaws.{placed, decimals_in}
 use Rattle.oim_decode.proofs.cell.put_fact.Goals as goal
 
-pub returns-in-Err : goal.returns-in-Err
-returns-in-Err c =
+pub returns-in-Err-clause-fact : goal.returns-in-Err-clause-fact
+returns-in-Err-clause-fact c =
     let a = c.args.at.now in
     inr (inl (kind_err (cell_under a.report.now a.table a.header.now a.number (fields_of a.record.now) c.args.column) c.in-Err.fault (sym c.concept_in.ensures ∙ c.in-Err.is)))
 
@@ -25,27 +25,29 @@ put-requires-3-clause-decimals c = λ i e.
     let a = c.args.at.now in
     decimals_in a.report.now a.table a.header.now a.number (fields_of a.record.now) c.args.column c.args.decimals.now _ c.args.variant.now.decimals i c.requires.variant.decimals e
 
-pub returns-in-Some : goal.returns-in-Some
-returns-in-Some c =
+pub returns-in-Some-clause-fact : goal.returns-in-Some-clause-fact
+returns-in-Some-clause-fact c =
     let a = c.args.at.now in
     let w = fields_of a.record.now in
     let cell = cell_under a.report.now a.table a.header.now a.number w c.args.column in
     let ok = kind_ok cell c.in-Ok.kind (sym c.concept_in.ensures ∙ c.in-Ok.is) in
-    let rest = rest_found a.report.now a.table a.header.now a.number w c.args.column c.args.slots.now c.args.decimals.now c.args.variant.now c.requires.variant c.requires.row c.requires.from c.requires.fresh c.requires.fresh_decimals
-    c.in-Ok.kind (seen_meaning c.args.value) c.requires.value in
+    let rest = rest_found a.report.now a.table a.header.now a.number w c.args.column c.args.slots.now c.args.decimals.now c.args.variant.now
+    c.requires.variant c.requires.row c.requires.from c.requires.fresh c.requires.fresh_decimals c.in-Ok.kind (seen_meaning c.args.value) c.requires.value in
     inr (inr (ok.0, subst (λ (k : Kind). least (rest_faults cell k) ≡ Some c.in-Some.fault) ok.1 (sym rest ∙ sym c.in_ok-found.ensures.fault ∙ c.in-Some.is)))
 
-pub returns-in-None : goal.returns-in-None
-returns-in-None c =
+pub returns-in-None-clause-fact : goal.returns-in-None-clause-fact
+returns-in-None-clause-fact c =
     let a = c.args.at.now in
     let w = fields_of a.record.now in
     let cell = cell_under a.report.now a.table a.header.now a.number w c.args.column in
     let ok = kind_ok cell c.in-Ok.kind (sym c.concept_in.ensures ∙ c.in-Ok.is) in
-    let rest = rest_found a.report.now a.table a.header.now a.number w c.args.column c.args.slots.now c.args.decimals.now c.args.variant.now c.requires.variant c.requires.row c.requires.from c.requires.fresh c.requires.fresh_decimals
-    c.in-Ok.kind (seen_meaning c.args.value) c.requires.value in (
+    let rest = rest_found a.report.now a.table a.header.now a.number w c.args.column c.args.slots.now c.args.decimals.now c.args.variant.now
+    c.requires.variant c.requires.row c.requires.from c.requires.fresh c.requires.fresh_decimals c.in-Ok.kind (seen_meaning c.args.value) c.requires.value in (
       ok.0,
       subst (λ (k : Kind). least (rest_faults cell k) ≡ None) ok.1 (sym rest ∙ sym c.in_ok-found.ensures.fault ∙ c.in-None.is),
-      text_found a.report.now a.table a.header.now a.number w c.args.column c.args.slots.now c.args.decimals.now c.args.variant.now c.requires.variant c.requires.row c.requires.from c.requires.fresh c.requires.fresh_decimals
-          c.in-Ok.kind (seen_meaning c.args.value) c.args.out.now.items c.put.new.out.items c.put-2.new.out.items c.put-3.new.out.items c.args.start.now c.args.tail.now ok.1 c.requires.value c.requires.start c.requires.tail
+      text_found a.report.now a.table a.header.now a.number w c.args.column c.args.slots.now c.args.decimals.now c.args.variant.now
+          c.requires.variant c.requires.row c.requires.from c.requires.fresh c.requires.fresh_decimals
+          c.in-Ok.kind (seen_meaning c.args.value) c.args.out.now.items c.put.new.out.items c.put-2.new.out.items c.put-3.new.out.items
+          c.args.start.now c.args.tail.now ok.1 c.requires.value c.requires.start c.requires.tail
           c.in_ok-put.ensures c.in_ok-put-2.ensures (c.in_ok-found.ensures.text c.in-None.is),
     )

@@ -5,6 +5,6 @@ use Rattle.oim_decode.proofs.cells.put_cells.Given as goal
 
 abbrev pub invariant-loop-i : goal.invariant-loop-i
 invariant-loop-i l = record {
-  facts : HasFacts l.at.report.now l.at.table l.at.header.now l.at.number (fields_of l.at.record.now) l.i l.base l.fn.out.items l.out.items l.fn.ends.items l.ends.items;
+  facts : HasFacts l.at.report.now l.at.table l.at.header.now l.at.number (fields_of l.at.record.now) l.i l.fn.out.items l.out.items l.fn.ends.items l.ends.items;
   kept : IsKept l.at.report.now l.at.table l.at.header.now l.at.number (fields_of l.at.record.now) l.kept;
 }

@@ -26,13 +26,16 @@ returns-clause-variant c =
     record {
       entries = c.in_ok-entries.ensures.entries ∙ ap (λ (xs : List (Bor Level)). written_entries (reverse (held xs))) c.as_slice.ensures.value ∙ ap written_entries under;
       slots = have_slots_grow r t h c.entries_of.new.slots.items c.concept_of.new.slots.items c.in_ok-concept.ensures.grown c.in_ok-entries.entries.items c.in_ok-entries.ensures.slots;
-      concept = c.in_ok-concept.ensures.concept ∙ ap (λ (xs : List (Bor Level)). option_map (λ (x : Written). (codes "concept", x)) (written (reverse (held xs)) (codes "concept"))) c.as_slice-2.ensures.value
+      concept = c.in_ok-concept.ensures.concept
+          ∙ ap (λ (xs : List (Bor Level)). option_map (λ (x : Written). (codes "concept", x)) (written (reverse (held xs)) (codes "concept"))) c.as_slice-2.ensures.value
           ∙ ap (λ (ls : List Level). option_map (λ (x : Written). (codes "concept", x)) (written ls (codes "concept"))) under;
       concept_slot = c.in_ok-concept.ensures.slot;
       decimals = subst (λ (ls : List Level). IsDecimals r t h (map (λ (d : DecimalsView). d.source) c.decimals_of.new.slots.items) (written_decimals ls) c.in_ok-stated.stated)
           (ap (λ (xs : List (Bor Level)). reverse (held xs)) c.as_slice-3.ensures.value ∙ under) c.in_ok-stated.ensures.decimals;
       runs = subst (λ (es : List EntryView). AreKindRuns es c.in_ok-runs.runs) c.as_slice-4.ensures.value c.in_ok-runs.ensures;
-      groups = λ row same. ap (groups_wrong r t row) (sym c.requires.groups) ∙ same_groups r t row (fields_of c.args.at.now.record.now) c.args.groups.now (ap (group_texts row) c.requires.groups ∙ same ∙ c.in_ok-texts.ensures) ∙ c.requires.good;
+      groups = λ row same. ap (groups_wrong r t row) (sym c.requires.groups)
+          ∙ same_groups r t row (fields_of c.args.at.now.record.now) c.args.groups.now
+          (ap (group_texts row) c.requires.groups ∙ same ∙ c.in_ok-texts.ensures) ∙ c.requires.good;
     }
 
 pub returns-clause-grown : goal.returns-clause-grown

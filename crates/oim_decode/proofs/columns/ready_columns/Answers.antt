@@ -1,4 +1,4 @@
-use Rattle.std.proofs.Common.{None, get_or, refl, sym, ap, ◌∙◌}
+use Rattle.std.proofs.Common.{List, Option, None, get_or, refl, sym, ap, ◌∙◌}
 use Rattle.std.specs.List.{slice_get}
 use Rattle.std.specs.Option.{option_map}
 use Rattle.oim_decode.specs.Facts.{IsFactColumn, fact_column}
@@ -16,6 +16,7 @@ loop-cell-preserved c =
     let y = c.in_ok-column_under.field-0 in
     let is = c.in_ok-push.ensures.items in
     record {
-      columns = one_column (option_map (λ (x : FactColumn). x.column)) (fact_column r t) xs c.push.new.self.items y h i None (get_or h i None) c.loop-cell-test.true refl is c.loop-cell.invariant.columns c.in_ok-column_under.ensures.column;
-      ready = λ j x e. pushed (IsFactColumn r t h) xs y c.loop-cell.invariant.ready c.in_ok-column_under.ensures.ready j x (ap (λ zs. slice_get zs j) (sym is) ∙ e);
+      columns = one_column (option_map (λ (x : FactColumn). x.column)) (fact_column r t) xs c.push.new.self.items y h i None (get_or h i None)
+          c.loop-cell-test.true refl is c.loop-cell.invariant.columns c.in_ok-column_under.ensures.column;
+      ready = λ j x e. pushed (IsFactColumn r t h) xs y c.loop-cell.invariant.ready c.in_ok-column_under.ensures.ready j x (ap (λ zs. slice_get zs j) (sym {A = List (Option FactColumn)} is) ∙ e);
     }

@@ -13,7 +13,8 @@ loop-i-preserved c =
     let x = c.index_mut.result.now in
     let y = c.refresh.new.self in
     let a = c.args.at.now in
-    let len : length xs ≡ length c.args.slots.now.items = sym (length-map xs (λ (d : DecimalsView). d.source)) ∙ ap length c.loop-i.invariant.same ∙ length-map c.args.slots.now.items (λ (d : DecimalsView). d.source) in
+    let len : length xs ≡ length c.args.slots.now.items =
+    sym (length-map xs (λ (d : DecimalsView). d.source)) ∙ ap length c.loop-i.invariant.same ∙ length-map c.args.slots.now.items (λ (d : DecimalsView). d.source) in
     let b : i < length xs = omega (arith, c.args.slots.now.ok.0) in
     let is : x ≡ get_or xs i x = c.index_mut.ensures.value in
     let done = c.in_ok-refresh.ensures.row in

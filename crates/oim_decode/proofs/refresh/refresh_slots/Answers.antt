@@ -21,7 +21,8 @@ loop-i-preserved c =
     let source : y.source ≡ x.source = ap (λ (s : SlotView). s.source) done in
     let of_report : IsOfReport a.report.now x = subst (IsOfReport a.report.now) (sym is) (c.loop-i.invariant.reports i x b) in
     let report : y.report ≡ a.report.now = ap (λ (s : SlotView). s.report) done ∙ of_report in
-    let fresh : IsFresh a.report.now a.number (fields_of a.record.now) y = record { report = report; meaning = ap (λ (s : SlotView). s.meaning) done ∙ ap (λ s. source_meaning s a.number (fields_of a.record.now)) (sym source) } in
+    let fresh : IsFresh a.report.now a.number (fields_of a.record.now) y =
+    record { report = report; meaning = ap (λ (s : SlotView). s.meaning) done ∙ ap (λ s. source_meaning s a.number (fields_of a.record.now)) (sym source) } in
     record {
       same = set_map wanted_of xs i x y b is (ap wanted_of done) ∙ c.loop-i.invariant.same;
       reports = set_all (IsOfReport a.report.now) xs i y c.loop-i.invariant.reports report;

@@ -11,5 +11,6 @@ returns c =
     record {
       fresh = slots.fresh;
       decimals = decimals.fresh;
-      variants = λ i d b. still_variant a.report.now a.table a.header.now k.slots.items c.refresh_slots.new.slots.items k.decimals.items c.refresh_decimals.new.slots.items (get_or k.variants.items i d) slots.same decimals.same (c.requires.variants i d b);
+      variants = λ i d b. still_variant a.report.now a.table a.header.now k.slots.items c.refresh_slots.new.slots.items
+          k.decimals.items c.refresh_decimals.new.slots.items (get_or k.variants.items i d) slots.same decimals.same (c.requires.variants i d b);
     }

@@ -10,9 +10,12 @@ pub loop-fact-preserved : goal.loop-fact-preserved
 loop-fact-preserved c =
     let fs = c.args.facts.now in
     let within : c.loop-fact.fact-index < length fs = omega (arith, c.loop-fact-test.true, ap length c.as_slice-fact-items.ensures) in
-    let written = written_one fs c.loop-fact.fact-index c.fact-item.result c.loop-fact.bytes.items c.push.new.self.items c.push_member.new.out.items within (c.fact-item.is ∙ ap (λ t. get_or t c.loop-fact.fact-index c.fact-item.result) c.as_slice-fact-items.ensures) c.loop-fact.invariant.texts c.in_ok-push.ensures.items c.in_ok-push_member.ensures in
+    let item = c.fact-item.is ∙ ap (λ t. get_or t c.loop-fact.fact-index c.fact-item.result) c.as_slice-fact-items.ensures in
+    let written = written_one fs c.loop-fact.fact-index c.fact-item.result c.loop-fact.bytes.items c.push.new.self.items c.push_member.new.out.items
+    within item c.loop-fact.invariant.texts c.in_ok-push.ensures.items c.in_ok-push_member.ensures in
     let end : c.len-in-loop-fact.result ≡ 0 + length (behind_commas (take (c.loop-fact.fact-index + 1) fs)) = omega (arith, c.len-in-loop-fact.ensures, ap length written) in
     record {
       texts = written;
-      ends = noted_one fs c.loop-fact.fact-index 0 c.len-in-loop-fact.result c.fact-item.result c.loop-fact.ends.items c.push-in-loop-fact.new.self.items within c.loop-fact.invariant.ends end c.in_ok-push-2.ensures.items;
+      ends = noted_one fs c.loop-fact.fact-index 0 c.len-in-loop-fact.result c.fact-item.result c.loop-fact.ends.items c.push-in-loop-fact.new.self.items
+          within c.loop-fact.invariant.ends end c.in_ok-push-2.ensures.items;
     }

@@ -15,7 +15,8 @@ returns-in-Err g c =
     let first = sink_at (g.W.Sink.mark c.args.sink.now) (g.W.Sink.told c.args.sink.now) in
     let now = sink_at (g.W.Sink.mark c.loop-i.sink) (g.W.Sink.told c.loop-i.sink) in
     let new = sink_at (g.W.Sink.mark c.put_line.new.sink) (g.W.Sink.told c.put_line.new.sink) in
-    line_broke c.args.any c.args.block.now c.loop-i.i c.loop-i.has_any c.text.result.now c.loop-i.invariant.has c.text.ensures first now new c.loop-i.chunk c.put_line.new.chunk c.loop-i.invariant.put c.in-Err.fault c.in-Err.ensures
+    line_broke c.args.any c.args.block.now c.loop-i.i c.loop-i.has_any c.text.result.now c.loop-i.invariant.has c.text.ensures
+    first now new c.loop-i.chunk c.put_line.new.chunk c.loop-i.invariant.put c.in-Err.fault c.in-Err.ensures
 
 pub loop-i-preserved : goal.loop-i-preserved
 loop-i-preserved g c =
@@ -25,7 +26,8 @@ loop-i-preserved g c =
     let within : c.loop-i.i < length c.args.block.now = omega (arith, c.loop-i-test.true, c.count-i-end.ensures.count) in
     record {
       has = sym (has_one_more c.args.any c.args.block.now c.loop-i.i within);
-      put = line_put c.args.any c.args.block.now c.loop-i.i c.loop-i.has_any c.text.result.now c.loop-i.invariant.has c.text.ensures first now new c.loop-i.chunk c.put_line.new.chunk c.loop-i.invariant.put c.in-Ok.ensures;
+      put = line_put c.args.any c.args.block.now c.loop-i.i c.loop-i.has_any c.text.result.now c.loop-i.invariant.has c.text.ensures
+          first now new c.loop-i.chunk c.put_line.new.chunk c.loop-i.invariant.put c.in-Ok.ensures;
     }
 
 pub returns : goal.returns

@@ -1,6 +1,6 @@
 use Rattle.std.proofs.Common.{ℕ, List, refl, subst}
 use Rattle.oim_json.specs.Sinks.{Broke, Wrote, sink_at}
-use Rattle.oim_merge.proofs.Going.{head_alone}
+use Rattle.oim_merge.proofs.Writing.{head_alone}
 use Rattle.oim_merge.proofs.merging.begin.Goals as goal
 
 pub returns-in-Ok : goal.returns-in-Ok

@@ -1,6 +1,6 @@
 use Rattle.std.proofs.Common.{refl}
 use Rattle.oim_merge.specs.declared.progress.Standing.TheVariants as standings
-use Rattle.oim_merge.proofs.Going.{ended_as, next_closed}
+use Rattle.oim_merge.proofs.Writing.{ended_as, next_closed}
 use Rattle.oim_merge.proofs.merging.end_table.Goals as goal
 
 pub returns-in-Closed-clause-advances : goal.returns-in-Closed-clause-advances

@@ -9,7 +9,7 @@ use Rattle.oim_merge.specs.Histories.{all_of, document, refusals}
 use Rattle.oim_merge.specs.Merging.{EndsWith, taken_of}
 use Rattle.oim_merge.specs.Steps.{StandsAt}
 use Rattle.oim_merge.proofs.Drains.{FreshFrom, fresh_all, all_set, rings_set, fresh_set, ended_set}
-use Rattle.oim_merge.proofs.Going.{all_refusals}
+use Rattle.oim_merge.proofs.Writing.{all_refusals}
 use Rattle.oim_merge.proofs.merging.merge.Goals as goal
 
 pub loop-drain-init : goal.loop-drain-init
@@ -21,7 +21,8 @@ loop-drain-init g c =
       rings = refl;
       fresh = fresh;
       ended = λ k d lt. absurd (omega arith);
-      stands = subst (λ (is : List Item). StandsAt c.args.layout first now c.args.head.now is c.begin-progress.result.any c.begin-progress.result.standing) (sym none) (c.begin-progress.ensures c.args.layout);
+      stands = subst (λ (is : List Item). StandsAt c.args.layout first now c.args.head.now is c.begin-progress.result.any
+          c.begin-progress.result.standing) (sym none) (c.begin-progress.ensures c.args.layout);
       faults = c.requires.empty ∙ sym (ap refusals none);
       count = (let e = ap length c.requires.empty in let len = c.args.faults.now.ok.0 in omega (arith, e, len));
       room = c.requires.room;

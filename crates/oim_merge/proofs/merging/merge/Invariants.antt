@@ -14,7 +14,8 @@ invariant-loop-drain g l = record {
   rings : rings_of l.drains ≡ rings_of l.fn.drains;
   fresh : FreshFrom l.drains l.drain-index;
   ended : (k : ℕ) (d : DrainView) → k < l.drain-index → EndsOnce (get_or l.drains k d).taken;
-  stands : StandsAt l.layout (sink_at (g.W.Sink.mark l.fn.sink) (g.W.Sink.told l.fn.sink)) (sink_at (g.W.Sink.mark l.sink) (g.W.Sink.told l.sink)) l.head (all_of (taken_of l.drains)) l.progress.any l.progress.standing;
+  stands : StandsAt l.layout (sink_at (g.W.Sink.mark l.fn.sink) (g.W.Sink.told l.fn.sink)) (sink_at (g.W.Sink.mark l.sink) (g.W.Sink.told l.sink))
+      l.head (all_of (taken_of l.drains)) l.progress.any l.progress.standing;
   faults : l.faults.items ≡ refusals (all_of (taken_of l.drains));
   count : vec_len l.faults ≤ l.drain-index;
   room : length l.fn.drains ≤ vec_capacity l.faults;

@@ -5,7 +5,7 @@ use Rattle.oim_json.specs.Sinks.{sink_at}
 use Rattle.oim_merge.specs.Steps.{StandsAt}
 use Rattle.oim_merge.specs.declared.progress.Standing.TheVariants as standings
 use Rattle.oim_ring.specs.declared.item.Item.TheVariants as items
-use Rattle.oim_merge.proofs.Going.{over_stays, stands_as, block_written, block_broken}
+use Rattle.oim_merge.proofs.Writing.{over_stays, stands_as, block_written, block_broken}
 use Rattle.oim_merge.proofs.merging.write_block.Goals as goal
 
 pub returns-in-Ok : goal.returns-in-Ok

@@ -4,5 +4,5 @@ use Rattle.oim_meta.proofs.build.report.Goals as goal
 
 pub invariant_of-result : goal.invariant_of-result
 invariant_of-result c =
-    rw (c.in_ok-level.ensures, c.in_ok-list_from.ensures, c.in_ok-tables.ensures)
+    rw (c.in_ok-parts.ensures.level, c.in_ok-parts.ensures.templates, c.in_ok-parts.ensures.tables)
     (all_placed (view c.args.value.now) c.requires.templates c.requires.columns c.requires.order c.requires.identifiers)

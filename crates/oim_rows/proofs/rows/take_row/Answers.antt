@@ -1,6 +1,6 @@
 use Rattle.std.proofs.Common.{◌≡◌, ◌∙◌, List, Option, Result, Ok, Err, IfSome, ap, subst, sym}
 use Rattle.csv.specs.Records.{fields_of}
-use Rattle.oim_resolve.specs.declared.fact.Fact.{Fact}
+use Rattle.oim_resolve.specs.FactParts.{FactParts as Fact}
 use Rattle.oim_rows.specs.RowFacts.{row_fault}
 use Rattle.oim_rows.specs.Streams.{early_row_answer}
 use Rattle.oim_rows.specs.declared.fault.TableFault.{TableFault}

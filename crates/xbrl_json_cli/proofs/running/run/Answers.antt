@@ -12,7 +12,8 @@ use Rattle.xbrl_json_cli.proofs.Endings.{early_leaves, run_leaves, runs, short, 
 use Rattle.xbrl_json_cli.proofs.running.run.Goals as goal
 
 -- the paths as the settings have them
-named : (told : Option Files) (m m' t t' : List ℕ) (workers ring : ℕ) (layout : Layout) (old new : SinkView) (o : Outcome) → m ≡ m' → t ≡ t' → IfSome told (λ files. EndsOver files m t workers ring layout old new o)
+named : (told : Option Files) (m m' t t' : List ℕ) (workers ring : ℕ) (layout : Layout) (old new : SinkView) (o : Outcome) → m ≡ m' → t ≡ t'
+    → IfSome told (λ files. EndsOver files m t workers ring layout old new o)
     → IfSome told (λ files. EndsOver files m' t' workers ring layout old new o)
 named told m m' t t' workers ring layout old new o same_m same_t ends =
     subst (λ x. IfSome told (λ files. EndsOver files x t' workers ring layout old new o)) same_m (subst (λ x. IfSome told (λ files. EndsOver files m x workers ring layout old new o)) same_t ends)
@@ -44,7 +45,8 @@ returns-in-Err-find_tables-clause-ends g c =
     let layout = c.args.settings.now.layout in
     let sink = sink_at (g.W.Sink.mark c.args.sink.now) (g.W.Sink.told c.args.sink.now) in
     named told meta _ types _ workers ring layout sink sink c.in-Err-find_tables.outcome c.as_str-meta.ensures c.as_str-types.ensures
-    (short told c.folder_of-base.result.now meta types workers ring layout sink c.in-Err-find_tables.outcome c.in-Ok.report c.folder_of-base.ensures c.in-Ok.ensures.gives c.in-Err-find_tables.ensures.short)
+    (short told c.folder_of-base.result.now meta types workers ring layout sink c.in-Err-find_tables.outcome c.in-Ok.report c.folder_of-base.ensures
+    c.in-Ok.ensures.gives c.in-Err-find_tables.ensures.short)
 
 pub returns-in-Err-find_tables-clause-leaves : goal.returns-in-Err-find_tables-clause-leaves
 returns-in-Err-find_tables-clause-leaves g c =
@@ -66,7 +68,8 @@ returns-clause-ends g c =
     (runs g.R.Read.remaining told base meta types workers ring layout old new c.convert_report.result c.in-Ok.report c.in-Ok-find_tables.readers.items c.folder_of-base.ensures c.in-Ok.ensures.gives
     (subst (λ k. IfSome k (λ files. AreFilesOf g.R.Read.remaining c.in-Ok-find_tables.readers.items (table_files files base c.in-Ok.report))) c.in-Ok.ensures.same c.in-Ok-find_tables.ensures.finds)
     (λ files are.
-    subst (λ l. EndsAs layout (early_fault workers ring (length files) (length c.in-Ok.report.tables)) c.in-Ok.report (streams c.in-Ok.report l.rows files) old new c.convert_report.result) c.profile.ensures
+    subst (λ l. EndsAs layout (early_fault workers ring (length files) (length c.in-Ok.report.tables)) c.in-Ok.report
+    (streams c.in-Ok.report l.rows files) old new c.convert_report.result) c.profile.ensures
     (c.convert_report.ensures.ends files are)))
 
 pub returns-clause-leaves : goal.returns-clause-leaves

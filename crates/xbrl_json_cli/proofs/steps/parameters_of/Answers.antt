@@ -17,11 +17,13 @@ returns-in-Err-clause-gives g c =
 pub returns-in-Ok-read_parameters-clause-gives : goal.returns-in-Ok-read_parameters-clause-gives
 returns-in-Ok-read_parameters-clause-gives g c =
     at_path (g.F.Folder.files c.args.folder.now) c.args.base.now c.args.url.now c.as_str.result.now (Ok c.in-Ok-read_parameters.parameters) (search rules)
-    (reads_value g.R.Read.remaining c.in-Ok-opened.reader source.Parameters (λ bytes. parameters_result (grid bytes)) (g.F.Folder.files c.args.folder.now) c.as_str.result.now c.in-Ok-read_parameters.parameters
+    (reads_value g.R.Read.remaining c.in-Ok-opened.reader source.Parameters (λ bytes.
+    parameters_result (grid bytes)) (g.F.Folder.files c.args.folder.now) c.as_str.result.now c.in-Ok-read_parameters.parameters
     c.in-Ok-opened.ensures.gives c.in-Ok-read_parameters.ensures)
 
 pub returns-clause-gives : goal.returns-clause-gives
 returns-clause-gives g c =
     at_path (g.F.Folder.files c.args.folder.now) c.args.base.now c.args.url.now c.as_str.result.now (Err (outcome.Report source.Parameters c.in-Err-read_parameters.fault)) (search rules)
-    (reads_fault g.R.Read.remaining c.in-Ok-opened.reader source.Parameters (λ bytes. parameters_result (grid bytes)) (g.F.Folder.files c.args.folder.now) c.as_str.result.now c.in-Err-read_parameters.fault
+    (reads_fault g.R.Read.remaining c.in-Ok-opened.reader source.Parameters (λ bytes.
+    parameters_result (grid bytes)) (g.F.Folder.files c.args.folder.now) c.as_str.result.now c.in-Err-read_parameters.fault
     c.in-Ok-opened.ensures.gives c.in-Err-read_parameters.ensures)

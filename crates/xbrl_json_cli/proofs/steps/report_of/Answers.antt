@@ -38,5 +38,36 @@ returns-clause-gives g c =
     (subst (λ xs. IfSome told (λ files. HasRead files c.args.meta.now xs)) (sym c.as_slice-metadata.ensures.value) c.in-Ok.ensures.gives)
     (subst (λ k. IfSome k (λ files. HasTypes files c.args.types.now c.in-Ok-types_in.types)) c.in-Ok.ensures.same c.in-Ok-types_in.ensures.gives)
     c.in-Ok-url_in.ensures.gives
-    (subst (λ k. IfSome k (λ files. HasParameters files c.args.base.now c.in-Ok-url_in.url c.in-Ok-parameters_in.parameters)) (c.in-Ok-types_in.ensures.same ∙ c.in-Ok.ensures.same) c.in-Ok-parameters_in.ensures.gives)
+    (subst (λ k. IfSome k (λ files. HasParameters files c.args.base.now c.in-Ok-url_in.url c.in-Ok-parameters_in.parameters))
+    (c.in-Ok-types_in.ensures.same ∙ c.in-Ok.ensures.same) c.in-Ok-parameters_in.ensures.gives)
     c.report_in.ensures.gives
+
+pub returns-in-Err-clause-same : goal.returns-in-Err-clause-same
+returns-in-Err-clause-same g c = c.in-Err.ensures.same
+
+pub returns-in-Err-clause-early : goal.returns-in-Err-clause-early
+returns-in-Err-clause-early g c = c.in-Err.ensures.early
+
+pub returns-in-Err-types_in-clause-same : goal.returns-in-Err-types_in-clause-same
+returns-in-Err-types_in-clause-same g c = c.in-Err-types_in.ensures.same ∙ c.in-Ok.ensures.same
+
+pub returns-in-Err-types_in-clause-early : goal.returns-in-Err-types_in-clause-early
+returns-in-Err-types_in-clause-early g c = c.in-Err-types_in.ensures.early
+
+pub returns-in-Err-url_in-clause-same : goal.returns-in-Err-url_in-clause-same
+returns-in-Err-url_in-clause-same g c = c.in-Ok-types_in.ensures.same ∙ c.in-Ok.ensures.same
+
+pub returns-in-Err-url_in-clause-early : goal.returns-in-Err-url_in-clause-early
+returns-in-Err-url_in-clause-early g c = c.in-Err-url_in.ensures.early
+
+pub returns-in-Err-parameters_in-clause-same : goal.returns-in-Err-parameters_in-clause-same
+returns-in-Err-parameters_in-clause-same g c = c.in-Err-parameters_in.ensures.same ∙ (c.in-Ok-types_in.ensures.same ∙ c.in-Ok.ensures.same)
+
+pub returns-in-Err-parameters_in-clause-early : goal.returns-in-Err-parameters_in-clause-early
+returns-in-Err-parameters_in-clause-early g c = c.in-Err-parameters_in.ensures.early
+
+pub returns-clause-same : goal.returns-clause-same
+returns-clause-same g c = c.in-Ok-parameters_in.ensures.same ∙ (c.in-Ok-types_in.ensures.same ∙ c.in-Ok.ensures.same)
+
+pub returns-clause-early : goal.returns-clause-early
+returns-clause-early g c = c.report_in.ensures.early

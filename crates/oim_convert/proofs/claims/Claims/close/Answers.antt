@@ -1,8 +1,8 @@
 use Rattle.std.proofs.Common.{arith, ap, sym, ◌∙◌, cond, ◌++◌, length}
 use Rattle.std.specs.Option.{option_to_list}
 use Rattle.oim_convert.specs.Numbers.{times, once_below}
-use Rattle.oim_convert.proofs.Popped.{sum-pop, all-pop, sum-empty}
-use Rattle.oim_convert.proofs.Shares.{settles, times-append, times-flat_map}
+use Rattle.oim_convert.proofs.PoppedSeats.{sum-pop, all-pop, sum-empty}
+use Rattle.oim_convert.proofs.ViewShares.{settles, times-append, times-flat_map}
 use Rattle.oim_convert.proofs.claims.Claims.close.Goals as goal
 
 pub loop-seat-init : goal.loop-seat-init

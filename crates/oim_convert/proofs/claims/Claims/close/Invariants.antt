@@ -2,7 +2,7 @@ use Rattle.std.proofs.Common.{◌≡◌, ℕ, ◌+◌, ◌<◌, All, sum_by, cou
 use Rattle.oim_convert.specs.Numbers.{times}
 use Rattle.oim_convert.proofs.claims.Claims.close.Given as goal
 
--- what the seats so far have drawn and found, and what those that are left have, is what all have
+-- what the seats gathered so far have drawn and found, with what the others have, is what all seats have
 abbrev pub invariant-loop-seat : goal.invariant-loop-seat
 invariant-loop-seat g l = record {
   mine : All (λ seat. seat.claims ≡ l.fn.self) l.seats.items;

@@ -1,5 +1,5 @@
 use Rattle.std.proofs.Common.{rules, arith, ap, sym, ◌∙◌, length, cond, Some, slice_get}
-use Rattle.oim_convert.proofs.Keeps.{draws, on_top, same_item, drawn_one}
+use Rattle.oim_convert.proofs.ClaimSteps.{draws, on_top, same_item, drawn_one}
 use Rattle.oim_convert.proofs.claims.Claims.draw.Goals as goal
 
 pub fetch_add-number-requires : goal.fetch_add-number-requires

@@ -1,5 +1,5 @@
 use Rattle.std.proofs.Common.{arith, ap}
-use Rattle.oim_convert.proofs.Shares.{begins_with}
+use Rattle.oim_convert.proofs.ViewShares.{begins_with}
 use Rattle.oim_convert.proofs.claims.Claims.new.Goals as goal
 
 pub new-requires : goal.new-requires

@@ -1,6 +1,7 @@
 use Rattle.std.proofs.Common.{◌≡◌, ◌≤◌, ◌++◌, ◌∙◌, ap, length, arith, sym, ◌-◌, map}
 use Rattle.oim_json.specs.Blocks.{behind_commas, ends_from}
 use Rattle.oim_json.proofs.Blocks.{ends_length}
+use Rattle.oim_decode.specs.Pages.{PageText}
 use Rattle.oim_decode.proofs.Cuts.{drop_before, end_of_first, rest_ends, rest_texts}
 use Rattle.oim_decode.proofs.batch.Batch.from_place.Goals as goal
 
@@ -19,14 +20,15 @@ pub behind-requires : goal.behind-requires
 behind-requires c =
     omega (arith, c.requires.there, ap length c.self.view_is, ap length (c.as_slice-2.ensures.value ∙ c.self.invariant.1), ends_length 0 c.self.inside.facts.value)
 
-pub invariant_of-result : goal.invariant_of-result
-invariant_of-result c =
+pub invariant_of-result-2 : goal.invariant_of-result-2
+invariant_of-result-2 c =
     let fs = c.self.inside.facts.value in
     let there : c.args.count ≤ length fs = omega (arith, c.requires.there, ap length c.self.view_is) in
     let at = end_of_first c.args.count fs c.self.inside.ends.items c.index-start.result.now c.self.invariant.1 c.requires.some there c.index-start.ensures in
     let texts = rest_texts c.args.count c.index-start.result.now fs c.as_slice.result.now (c.as_slice.ensures.value ∙ c.self.invariant.0) at in
     let ends = rest_ends c.args.count c.index-start.result.now fs c.as_slice-2.result.now there (c.as_slice-2.ensures.value ∙ c.self.invariant.1) at in
-    let moved : c.extend_from_slice.new.self.items ≡ c.after.result.now = c.in_ok-extend_from_slice.ensures.items ∙ ap (λ t. t ++ c.after.result.now) (c.in_ok-reserve.ensures.items ∙ c.clear.ensures.items) in (
-      moved ∙ c.after.ensures ∙ texts ∙ ap behind_commas (sym c.rest.ensures),
+    let moved : c.put.new.self.items ≡ c.after.result.now =
+    c.in_ok-put.ensures.items ∙ ap (λ t. t ++ c.after.result.now) (c.in_ok-reserve.ensures.items ∙ c.of-bytes.ensures.items) in (
+      ap (λ (p : PageText). p.items) c.bytes-2.view_is ∙ moved ∙ c.after.ensures ∙ texts ∙ ap behind_commas (sym c.rest.ensures),
       c.in_ok-counted_from.ensures ∙ ap (map (λ end. end - c.index-start.result.now)) c.behind.ensures ∙ ends ∙ ap (ends_from 0) (sym c.rest.ensures),
     )

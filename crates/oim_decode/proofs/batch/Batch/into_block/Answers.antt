@@ -13,7 +13,7 @@ from_parts-requires-clause-texts c =
     let fs = c.self.inside.facts.value in
     let there : c.args.count ≤ length fs = omega (arith, c.requires.there, ap length c.self.view_is) in
     let at = end_of_first c.args.count fs c.self.inside.ends.items c.index.result.now c.self.invariant.1 c.requires.some there c.index.ensures in
-    c.truncate.ensures.items ∙ first_texts c.args.count c.index.result.now fs c.self.inside.bytes.items c.self.invariant.0 at ∙ ap behind_commas (sym c.first.ensures)
+    c.into_vec.ensures.items ∙ c.truncate.ensures.items ∙ first_texts c.args.count c.index.result.now fs c.self.inside.bytes.items c.self.invariant.0 at ∙ ap behind_commas (sym c.first.ensures)
 
 pub from_parts-requires-clause-ends : goal.from_parts-requires-clause-ends
 from_parts-requires-clause-ends c =

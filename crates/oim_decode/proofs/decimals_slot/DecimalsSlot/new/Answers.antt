@@ -10,4 +10,6 @@ use Rattle.oim_decode.proofs.decimals_slot.DecimalsSlot.new.Goals as goal
 pub returns : goal.returns
 returns c =
     let meant : Meaning → DecimalsView = λ m. record { source = seen_source c.args.source; meaning = m } in
-    ap meant (first_holds NoDecimals decimals_meaning Absent c.in_ok-empty_places.field-0.items (λ k e. ap meaning_of e.empty ∙ empty_meaning) c.in_ok-empty_places.ensures.empty c.in_ok-empty_places.ensures.some)
+    ap meant
+    (first_holds NoDecimals decimals_meaning Absent c.in_ok-empty_places.field-0.items (λ k e. ap meaning_of e.empty ∙ empty_meaning)
+    c.in_ok-empty_places.ensures.empty c.in_ok-empty_places.ensures.some)

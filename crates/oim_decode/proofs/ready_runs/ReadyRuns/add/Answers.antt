@@ -1,6 +1,6 @@
-use Rattle.std.proofs.Common.{◌++◌, ℕ, None, refl, sym, ap, ◌∙◌}
-use Rattle.std.specs.Global.{Vec}
+use Rattle.std.proofs.Common.{◌++◌, None, refl, sym, ap, ◌∙◌}
 use Rattle.oim_resolve.specs.Faults.{least_of}
+use Rattle.oim_decode.specs.Pages.{PageText}
 use Rattle.oim_decode.proofs.ReadyRunLaws.{dropped, literal_added, reference_added}
 use Rattle.oim_decode.proofs.ready_runs.ReadyRuns.add.Goals as goal
 
@@ -18,6 +18,6 @@ returns c = λ es p.
     let x = c.args.self.now in
     reference_added c.args.kind es c.args.entry.now x p (sym c.is_dropped.ensures ∙ c.if-is_dropped.false) (record { runs = c.push.new.self; rest = c.replace-alone.new.dest; fault = None })
     c.in-Some.slot (record { alone = c.replace-alone.result; named = c.in_ok-named.named; fault = x.fault; slot = c.in-Some.slot })
-    (sym c.slot.ensures ∙ c.in-Some.is) c.in_ok-push.ensures.items (ap (λ (v : Vec ℕ). v.items) c.replace-alone.ensures.value)
+    (sym c.slot.ensures ∙ c.in-Some.is) c.in_ok-push.ensures.items (ap (λ (p : PageText). p.items) c.replace-alone.ensures.value)
     (c.in_ok-named.ensures ∙ ap (λ t. t ++ c.text-2.result.now) c.as_slice.ensures.value ∙ ap (λ t. x.rest.items ++ t) c.text-2.ensures)
-    refl refl (ap (λ (v : Vec ℕ). v.items) c.replace-alone.ensures.after ∙ c.new.ensures.items) refl
+    refl refl (ap (λ (p : PageText). p.items) c.replace-alone.ensures.after ∙ c.new.ensures.items) refl

@@ -13,6 +13,7 @@ returns c =
     λ m. record { report = c.args.report.now; role = c.args.role; side = c.args.side; source = seen_source c.args.source; meaning = m }
     in
     ap meant (
-    first_holds (IsEmpty c.args.report.now c.args.role c.args.side) kept_meaning Absent c.in_ok-empty_places.field-0.items (λ k e. ap meaning_of e.empty ∙ empty_meaning) c.in_ok-empty_places.ensures.empty
+    first_holds (IsEmpty c.args.report.now c.args.role c.args.side) kept_meaning Absent c.in_ok-empty_places.field-0.items
+    (λ k e. ap meaning_of e.empty ∙ empty_meaning) c.in_ok-empty_places.ensures.empty
     c.in_ok-empty_places.ensures.some
     )

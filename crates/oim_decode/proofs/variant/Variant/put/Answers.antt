@@ -31,8 +31,9 @@ returns-clause-fault c =
     let suffix = c.suffix_of.ensures ∙ ap accuracy_in c.read_value-reading.ensures in
     let stated = c.in_ok-stated.ensures.fault ∙ ap (λ (a : Option Accuracy). decimals_wrong k v a (shown_stated c.args.decimals.now c.args.self.now.decimals)) suffix in
     let wrong = c.in_ok-wrong.ensures.fault ∙ ap (λ (x : Result ValueParts CellFault). least (faults_in x)) c.read_value-reading.ensures in
+    let written = decimals_wrong k v (accuracy_in (value_given c.args.report.now k v)) (shown_stated c.args.decimals.now c.args.self.now.decimals) in
     c.least_of-2.ensures ∙ ap (λ q. least_of q c.in_ok-wrong.wrong) (c.least_of.ensures ∙ ap (least_of c.in_ok-dimensions.dimensions) stated)
-    ∙ ap (λ q. least_of (least_of q (decimals_wrong k v (accuracy_in (value_given c.args.report.now k v)) (shown_stated c.args.decimals.now c.args.self.now.decimals))) c.in_ok-wrong.wrong) (c.in_ok-dimensions.ensures.fault ∙ runs.fault c.args.slots.now c.requires.placed)
+    ∙ ap (λ q. least_of (least_of q written) c.in_ok-wrong.wrong) (c.in_ok-dimensions.ensures.fault ∙ runs.fault c.args.slots.now c.requires.placed)
     ∙ ap (least_of _) wrong
 
 pub returns-clause-text : goal.returns-clause-text

@@ -13,4 +13,5 @@ returns-clause-text c = c.without_first.ensures ∙ ap (drop 1) (c.as_slice.ensu
 
 pub returns-clause-one_line : goal.returns-clause-one_line
 returns-clause-one_line c =
-    subst (Lacks 10) (sym (c.without_first.ensures ∙ ap (drop 1) (c.as_slice.ensures.value ∙ c.self.invariant.0 ∙ texts_joined c.self.inside.facts.value c.self.invariant.2))) (facts_line c.self.inside.facts.value)
+    let text = c.as_slice.ensures.value ∙ c.self.invariant.0 ∙ texts_joined c.self.inside.facts.value c.self.invariant.2 in
+    subst (Lacks 10) (sym (c.without_first.ensures ∙ ap (drop 1) text)) (facts_line c.self.inside.facts.value)

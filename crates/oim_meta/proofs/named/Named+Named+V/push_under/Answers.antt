@@ -22,7 +22,9 @@ returns-in-Some g c =
     let es = c.self.inside.entries.entries in
     OnOk-map c.push.result _ _ (λ pushed.
     let same : c.push.new.self ≡ c.index_mut.result.now ++ (c.args.name.now, c.args.value) ∷ [] = rw c.in_ok-name.ensures.ok at pushed in
-    rw (same, ← c.self.view_is) (under-found string_bytes c.args.group.now c.args.name.now c.args.value es c.in-Some.i c.index_mut.result.now c.in-Some.ensures.index c.in-Some.ensures.within c.index_mut.ensures.value)) c.push.ensures
+    rw (same, ← c.self.view_is)
+    (under-found string_bytes c.args.group.now c.args.name.now c.args.value es c.in-Some.i c.index_mut.result.now
+    c.in-Some.ensures.index c.in-Some.ensures.within c.index_mut.ensures.value)) c.push.ensures
 
 pub returns-in-None : goal.returns-in-None
 returns-in-None g c =

@@ -7,4 +7,5 @@ use Rattle.oim_meta.proofs.types.TypesClone.clone.Goals as goal
 pub returns : goal.returns
 returns c =
     let same : (v w : List (List ℕ × Kind)) → AllZip (λ p q. (q.0 ≡ p.0) × (q.1 ≡ p.1)) v w → w ≡ v = same-clones (λ (v w : Kind). w ≡ v) (λ v w e. e) in
-    record { cases = rw (← c.self.view_is) (same-clones (λ (v w : List (List ℕ × Kind)). AllZip (λ p q. (q.0 ≡ p.0) × (q.1 ≡ p.1)) v w) same c.self.inside.namespaces c.in_ok-clone.field-0 c.in_ok-clone.ensures.cases) }
+    let groups = λ (v w : List (List ℕ × Kind)). AllZip (λ p q. (q.0 ≡ p.0) × (q.1 ≡ p.1)) v w in
+    record { cases = rw (← c.self.view_is) (same-clones groups same c.self.inside.namespaces c.in_ok-clone.field-0 c.in_ok-clone.ensures.cases) }

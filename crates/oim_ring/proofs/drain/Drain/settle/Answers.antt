@@ -1,7 +1,7 @@
 use Rattle.std.proofs.Common.{◌≡◌, ◌∙◌, ap, false}
 use Rattle.oim_ring.specs.Items.{blocks_only}
 use Rattle.rtrb.specs.Ring.{received}
-use Rattle.oim_ring.proofs.Whole.{all_taken}
+use Rattle.oim_ring.proofs.TakenWhole.{all_taken}
 use Rattle.oim_ring.proofs.drain.Drain.settle.Goals as goal
 
 pub returns-clause-sent : goal.returns-clause-sent

@@ -10,9 +10,9 @@ pub returns : goal.returns
 returns c =
     let fields = fields_of c.args.row.now in
     let columns = range_with_len 0 (length c.self.inside.columns.now) in
-    let counted : length c.self.inside.columns.now ≡ length (columns_of c.self.inside.plan.report c.self.inside.table) = ap length c.self.invariant.all_columns in
+    let counted : length c.self.inside.columns.now ≡ length (columns_of c.self.inside.form.report c.self.inside.form.table) = ap length c.self.invariant.all_columns in
     let sources = c.as_slice.ensures.value ∙ c.self.invariant.sources_are in
-    let cells : c.in_ok-cells.cells ≡ map (cell_at c.self.inside.header.items fields) columns =
-    c.in_ok-cells.ensures ∙ ap (map (field_or_empty fields)) sources ∙ map-map (field_or_empty fields) (source_of_column c.self.inside.header.items) columns in
+    let cells : c.in_ok-cells.cells ≡ map (cell_at c.self.inside.form.header fields) columns =
+    c.in_ok-cells.ensures ∙ ap (map (field_or_empty fields)) sources ∙ map-map (field_or_empty fields) (source_of_column c.self.inside.form.header) columns in
     let id = c.new.ensures ∙ c.in_ok-id.ensures in
     rw (c.new-2.ensures, cells, counted, id, ← c.self.view_is) refl

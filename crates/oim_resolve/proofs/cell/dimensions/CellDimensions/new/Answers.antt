@@ -12,10 +12,11 @@ invariant_of-result c =
     let k = c.index-columns-place.result in
     let planned = c.args.cell.planned p.column k (subst (λ x. p.column < x) (sym c.args.cell.all) p.in_range.0.column) in
     let nothing = nothing_named (cell_at p) (sym (c.len.ensures ∙ ap (λ (x : Column). length x.from) c.column.ensures.column) ∙ c.if-len-eq0.true) in
+    let entries = ap (λ (x : PlannedColumn). map seen_keyed x.planned.items) c.index-columns-place.is ∙ planned.0 in
     record {
       all = (
         ap held c.new.ensures.items ∙ sym nothing,
-        seen_entries k.planned.items ∙ ap (λ (es : List Keyed). map (λ k. k.1.0) es) (ap (λ (x : PlannedColumn). map seen_keyed x.planned.items) c.index-columns-place.is ∙ planned.0) ∙ column_is (cell_at p) nothing,
+        seen_entries k.planned.items ∙ ap (λ (es : List Keyed). map (λ k. k.1.0) es) entries ∙ column_is (cell_at p) nothing,
       );
     }
 

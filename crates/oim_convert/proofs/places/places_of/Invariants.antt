@@ -1,9 +1,0 @@
-use Rattle.std.specs.Prelude.{◌≡◌, ◌≤◌, None, replicate, vec_capacity, vec_len}
-use Rattle.oim_convert.proofs.places.places_of.Given as goal
-
-abbrev pub invariant-loop-made : goal.invariant-loop-made
-invariant-loop-made g l = record {
-  made : l.slots.items ≡ replicate l._made None;
-  count : vec_len l.slots ≡ l._made;
-  room : l.tables ≤ vec_capacity l.slots;
-}

@@ -1,0 +1,9 @@
+use Rattle.std.specs.Prelude.{◌≡◌, ◌≤◌, None, replicate, vec_capacity, vec_len}
+use Rattle.oim_convert.proofs.returning.return_room.Given as goal
+
+abbrev pub invariant-loop-made : goal.invariant-loop-made
+invariant-loop-made g l = record {
+  made : l.slots.items ≡ replicate l._made None;
+  count : vec_len l.slots ≡ l._made;
+  room : l.tables ≤ vec_capacity l.slots;
+}

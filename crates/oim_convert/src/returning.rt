@@ -1,0 +1,88 @@
+//! The end of a conversion, where the workers' receipts go to their tables and the seats to their
+//! claims, and the room that is kept for it.
+
+ghost use Rattle.std.specs.Prelude.{◌≡◌, ◌⊎◌, None, true, length, map, All, Any, IfNone, IfOk, IfSome, vec_len};
+ghost use Rattle.std.specs.List.{list_all};
+ghost use Rattle.oim_convert.specs.Jobs.{Each, Gives, IsEnded, IsTable, tables_promised, receipts_of};
+ghost use Rattle.oim_convert.specs.Numbers.{EachOnceBelow};
+ghost use Rattle.oim_convert.specs.Preparing.{IsReturnRoom};
+ghost use Rattle.oim_convert.specs.Shifts.{IsShift};
+
+use crate::claims::Claims;
+use crate::crew::all_idle;
+use crate::job::{Job, Receipt};
+use crate::seat::Seat;
+use crate::slots::{place_all, settle_all};
+use crate::worker::Shift;
+use oim_meta::{Limits, Report};
+use oim_ring::{ClosedFeed, Drain, Drained};
+use std::alloc::{AllocError, Global};
+use std::io::Read;
+
+/// Room for the tokens of all tables, for the seats of all workers, and for the settled drains.
+#[derive(Drop)]
+pub(crate) struct ReturnRoom<R> {
+    pub(crate) slots: Vec<Option<ClosedFeed>>,
+    pub(crate) seats: Vec<Seat<Job<R>>>,
+    pub(crate) settled: Vec<Drained>,
+}
+
+/// Room for this many tables and workers. Fails if memory runs out.
+pub(crate) fn return_room<R: Drop>(
+    alloc: Global,
+    tables: usize,
+    workers: usize,
+) -> Result<ReturnRoom<R>, AllocError>
+    ensures { IfOk result (λ room. IsReturnRoom tables workers room) }
+{
+    let mut slots = Vec::with_capacity(alloc, tables)?;
+    for _made in 0..tables {
+        slots.push_reserved(None);
+    }
+    let seats = Vec::with_capacity(alloc, workers)?;
+    let settled = Vec::with_capacity(alloc, tables)?;
+    Ok(ReturnRoom {
+        slots,
+        seats,
+        settled,
+    })
+}
+
+/// Settles each drain with the token of its table, and closes the claims with the seats of all
+/// workers, which shows that there is one receipt for each table. `None` if the end of a ring was
+/// lost, or if no worker has drawn. Only the clauses use `report`, `limits` and `served`.
+pub(crate) fn finish<R: Read + Drop>(
+    report: &Report,
+    limits: Limits,
+    served: bool,
+    claims: Claims<Job<R>>,
+    shifts: Vec<Shift<Job<R>, Receipt>>,
+    drains: Vec<Drain>,
+    room: ReturnRoom<R>,
+) -> Option<Vec<Drained>>
+    requires shifts { All (IsShift (Gives R.remaining report.now limits.rows served) claims) shifts.items }
+    requires workers { vec_len shifts ≡ claims.workers }
+    requires drains { Each (IsEnded claims.items) 0 drains.items }
+    requires count { length drains.items ≡ length claims.items }
+    requires room { IsReturnRoom (length claims.items) claims.workers room }
+    ensures cover { IfSome result (λ all. EachOnceBelow (length claims.items) (tables_promised shifts.items)) }
+    ensures taken { IfSome result (λ all. all.items ≡ map (λ d. d.taken) drains.items) }
+    ensures tables { IfSome result (λ all. Each (IsTable R.remaining report.now limits.rows served claims.items) 0 all.items) }
+    ensures lost { IfNone result ((list_all (λ shift. shift.stopped) shifts.items ≡ true) ⊎ Any (λ receipt. receipt.closed ≡ None) (receipts_of shifts.items)) }
+{
+    // This does not happen: a worker that was started draws, since its flag is never set, and if none
+    // was started, one seat has drawn on this thread.
+    if all_idle(shifts.as_slice()) {
+        return None;
+    }
+    let ReturnRoom {
+        mut slots,
+        seats,
+        settled,
+    } = room;
+    let slots = slots.as_mut_slice();
+    let seats = place_all(report, limits, served, &claims, shifts, slots, seats);
+    let all = settle_all(report, limits, served, &claims, drains, slots, settled);
+    claims.close(seats);
+    all
+}
