@@ -31,11 +31,13 @@ pub decimal_lacks : (m : ℕ) (s : List ℕ) → 57 < m → IsDecimal s → Lack
 decimal_lacks m s h d =
     elim d [
       | inl i ↦ integer_lacks m s h i
-      | inr p ↦ let o = of_pointed p in lacks_unsigned m s h (subst (Lacks m) (sym o.2) (lacks-append m o.0 (46 ∷ o.1) (digits_lack m o.0 (inl h) o.3) (λ e. absurd (omega arith), digits_lack m o.1 (inl h) o.4)))
+      | inr p ↦ let o = of_pointed p in lacks_unsigned m s h
+          (subst (Lacks m) (sym o.2) (lacks-append m o.0 (46 ∷ o.1) (digits_lack m o.0 (inl h) o.3) (λ e. absurd (omega arith), digits_lack m o.1 (inl h) o.4)))
     ]
 
 -- what a double is made of
-pub of_double : {s : List ℕ} → IsDouble s → IsDecimal s ⊎ ((front : List ℕ) × (mark : ℕ) × (back : List ℕ) × (s ≡ front ++ mark ∷ back) × ((mark ≡ 101) ⊎ (mark ≡ 69)) × IsDecimal front × IsInteger back)
+pub of_double : {s : List ℕ} → IsDouble s
+    → IsDecimal s ⊎ ((front : List ℕ) × (mark : ℕ) × (back : List ℕ) × (s ≡ front ++ mark ∷ back) × ((mark ≡ 101) ⊎ (mark ≡ 69)) × IsDecimal front × IsInteger back)
 of_double (no_power s d) = inl d
 of_double (power f k b d m i) =
     inr (elim m [ inl e ↦ (f, 101, b, rw e (append_assoc f (codes "e") b), inl refl, d, i) | inr e ↦ (f, 69, b, rw e (append_assoc f (codes "E") b), inr refl, d, i) ])

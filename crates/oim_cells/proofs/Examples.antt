@@ -1,5 +1,5 @@
--- The definitions on special values, numerals and decimals that show each rule. The answers come from xBRL-CSV 1.0, from the lexical forms of
--- XML Schema Part 2 and from the Open Information Model 1.0.
+-- The definitions on special values, numerals and decimals that show each rule. The answers come from xBRL-CSV 1.0, the lexical forms of
+-- XML Schema Part 2 and the Open Information Model 1.0.
 use Rattle.std.proofs.Common.{◌≡◌, ℕ, List, [], ◌∷◌, Bool, true, false, refl, codes, Some, None, is_some, pos, negsuc, map}
 use Rattle.std.specs.List.{list_all, list_any}
 use Rattle.oim_cells.specs.declared.cells.Accuracy.TheVariants.{Infinite, Places}
@@ -26,7 +26,7 @@ plain : map meaning_of (codes "a#" ∷ codes " " ∷ codes "none" ∷ codes " #n
 unfolding meaning_of
 plain = refl
 
--- BLANKS: tab, LF, CR and space; neither vertical tab nor form feed, nor what stands beside them
+-- BLANKS: tab, line feed, carriage return and space, but not vertical tab, form feed or the characters beside the blanks
 blanks : (list_all is_blank (9 ∷ 10 ∷ 13 ∷ 32 ∷ []) ≡ true) × (list_any is_blank (0 ∷ 8 ∷ 11 ∷ 12 ∷ 14 ∷ 31 ∷ 33 ∷ 160 ∷ []) ≡ false)
 blanks = (refl, refl)
 
@@ -40,7 +40,7 @@ booleans = refl
 no_booleans : list_any is_boolean_text ([] ∷ codes "TRUE" ∷ codes "True" ∷ codes "t" ∷ codes "yes" ∷ codes "2" ∷ codes "10" ∷ codes "01" ∷ codes "+1" ∷ codes " true " ∷ codes "truefalse" ∷ []) ≡ false
 no_booleans = refl
 
--- NUMERALS of each kind without a suffix
+-- NUMERALS of each kind, without a suffix
 bare : NumberKind → List ℕ → Bool
 unfolding numeral_of
 bare kind text = is_some (numeral_of kind text)
@@ -65,14 +65,19 @@ doubles : list_all (bare Double) (codes "7" ∷ codes ".5" ∷ codes "1e2" ∷ c
 unfolding bare numeral_of accuracy_of
 doubles = refl
 
-no_doubles : list_any (bare Double) ([] ∷ codes "." ∷ codes "e2" ∷ codes "1e" ∷ codes "1e2e3" ∷ codes "1e2E3" ∷ codes "1E2E3" ∷ codes "1e2.5" ∷ codes "1E2.5" ∷ codes "1e+" ∷ codes "INF" ∷ codes "NaN" ∷ []) ≡ false
+no_doubles :
+    list_any (bare Double)
+    ([] ∷ codes "." ∷ codes "e2" ∷ codes "1e" ∷ codes "1e2e3" ∷ codes "1e2E3" ∷ codes "1E2E3" ∷ codes "1e2.5" ∷ codes "1E2.5" ∷ codes "1e+" ∷ codes "INF"
+    ∷ codes "NaN" ∷ [])
+    ≡ false
 unfolding bare numeral_of accuracy_of
 no_doubles = refl
 
--- NUMERALS with what they say of their accuracy
+-- NUMERALS with the accuracy that they state
 suffixed :
     map (numeral_of Decimal) (codes "1250.5d-2" ∷ codes "1dINF" ∷ codes "-0d+1" ∷ codes " 7 " ∷ codes " 7d0\t" ∷ [])
-    ≡ Some (codes "1250.5", Some (Places (negsuc 1))) ∷ Some (codes "1", Some Infinite) ∷ Some (codes "-0", Some (Places (pos 1))) ∷ Some (codes "7", None) ∷ Some (codes "7", Some (Places (pos 0))) ∷ []
+    ≡ Some (codes "1250.5", Some (Places (negsuc 1))) ∷ Some (codes "1", Some Infinite) ∷ Some (codes "-0", Some (Places (pos 1))) ∷ Some (codes "7", None)
+    ∷ Some (codes "7", Some (Places (pos 0))) ∷ []
 unfolding numeral_of accuracy_of
 suffixed = refl
 
@@ -80,7 +85,11 @@ other_suffixed : (numeral_of Integer (codes "12d3") ≡ Some (codes "12", Some (
 unfolding numeral_of accuracy_of
 other_suffixed = (refl, refl)
 
-badly_suffixed : list_any (bare Decimal) (codes "d3" ∷ codes "1d" ∷ codes "1d2d3" ∷ codes "1D2" ∷ codes "1 d2" ∷ codes "1d 2" ∷ codes "1dinf" ∷ codes "1d2.0" ∷ codes "1d2147483648" ∷ codes "1e2d3" ∷ []) ≡ false
+badly_suffixed :
+    list_any (bare Decimal)
+    (codes "d3" ∷ codes "1d" ∷ codes "1d2d3" ∷ codes "1D2" ∷ codes "1 d2" ∷ codes "1d 2" ∷ codes "1dinf" ∷ codes "1d2.0" ∷ codes "1d2147483648"
+    ∷ codes "1e2d3" ∷ [])
+    ≡ false
 unfolding bare numeral_of accuracy_of
 badly_suffixed = refl
 

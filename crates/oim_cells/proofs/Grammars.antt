@@ -1,5 +1,6 @@
 -- The tests of the grammars answer as the grammars do.
-use Rattle.std.proofs.Common.{◌≡◌, ◌⊎◌, inl, inr, ℕ, ◌+◌, ◌<◌, ◌==◌, ◌||◌, nat_lt, List, [], ◌∷◌, ◌++◌, refl, sym, ap, subst, ◌∙◌, arith, length, append_assoc, codes, true, None, Some, ℤ, pos, negsuc, FitsSigned}
+use Rattle.std.proofs.Common.{◌≡◌, ◌⊎◌, inl, inr, ℕ, ◌+◌, ◌<◌, ◌==◌, ◌||◌, nat_lt, List, [], ◌∷◌, ◌++◌, refl, sym, ap, subst, ◌∙◌, arith, length, append_assoc, codes}
+use Rattle.std.proofs.Common.{true, None, Some, ℤ, pos, negsuc, FitsSigned}
 use Rattle.std.specs.Bool.{Decides}
 use Rattle.std.specs.Int.{w32}
 use Rattle.std.specs.Str.{all_ascii_digits}
@@ -10,7 +11,8 @@ use Rattle.std.proofs.lemmas.List.{length-append}
 use Rattle.std.proofs.lemmas.Str.Parse.{IsNumeralModel, numerals_by_value, tells_all_ascii_digits}
 use Rattle.oim_cells.specs.declared.cells.NumberKind.{NumberKind}
 use Rattle.oim_cells.specs.declared.cells.NumberKind.TheVariants.{Integer, Decimal, Double}
-use Rattle.oim_cells.specs.Numeral.{IsInteger, IsDecimal, IsPointed, pointed, IsDouble, no_power, power, IsNumeralOf, is_digits, is_integer_text, without_point, is_decimal_text, parts_at, is_power_in, is_double_text, is_numeral_text, is_in_places}
+use Rattle.oim_cells.specs.Numeral.{IsInteger, IsDecimal, IsPointed, pointed, IsDouble, no_power, power, IsNumeralOf, is_digits, is_integer_text, without_point}
+use Rattle.oim_cells.specs.Numeral.{is_decimal_text, parts_at, is_power_in, is_double_text, is_numeral_text, is_in_places}
 use Rattle.oim_cells.proofs.Marks.{Lacks, digits_lack, of_pointed}
 use Rattle.oim_cells.proofs.Doubles.{decimal_lacks, of_double}
 

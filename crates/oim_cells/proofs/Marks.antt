@@ -7,7 +7,7 @@ use Rattle.std.specs.Str.Parse.{AllDigits, without_leading_sign}
 use Rattle.oim_cells.specs.Numeral.{IsInteger, IsDecimal, IsPointed, pointed}
 use Rattle.oim_cells.proofs.Digits.{digits_all}
 
--- the mark stands nowhere in the text
+-- the mark does not stand in the text
 abbrev pub Lacks : ℕ → List ℕ → Type 0
 Lacks m s = AllByRecursion (λ c. c ≢ m) s
 
@@ -62,13 +62,18 @@ decimal_whole x d e n = (
   λ h. inl ((integer_is x d e).1 h),
 )
 
-from_parts : (d b a : List ℕ) → d ≡ b ++ 46 ∷ a → Lacks 46 b → (before : List ℕ) × (after : List ℕ) × (d ≡ before ++ 46 ∷ after) × AllDigits 10 before × AllDigits 10 after × (0 < length before + length after) → (0 < length b + length a) × All (IsInRange 48 57) b × All (IsInRange 48 57) a
+from_parts : (d b a : List ℕ) → d ≡ b ++ 46 ∷ a → Lacks 46 b
+    → (before : List ℕ) × (after : List ℕ) × (d ≡ before ++ 46 ∷ after) × AllDigits 10 before × AllDigits 10 after × (0 < length before + length after)
+    → (0 < length b + length a) × All (IsInRange 48 57) b × All (IsInRange 48 57) a
 from_parts d b a f n o =
     let same = first_mark 46 o.0 o.1 b a (digits_lack 46 o.0 (inr (omega arith)) o.3) n (sym o.2 ∙ f) in
     (rw (same.0, same.1) at o.5, rw same.0 at ((digits_all o.0).0 o.3), rw same.1 at ((digits_all o.1).0 o.4))
 
 pub decimal_pointed : (x d b a : List ℕ) → d ≡ without_leading_sign x → d ≡ b ++ 46 ∷ a → Lacks 46 b → IsDecimal x ↔ ((0 < length b + length a) × All (IsInRange 48 57) b × All (IsInRange 48 57) a)
 decimal_pointed x d b a e f n = (
-  λ i. elim i [ inl k ↦ absurd (lacks_not 46 b a (subst (Lacks 46) f (digits_lack 46 d (inr (omega arith)) (subst (λ w. AllDigits 10 w) (sym e) k.1)))) | inr p ↦ from_parts d b a f n (of_pointed (subst IsPointed (sym e) p)) ],
+  λ i. elim i [
+    | inl k ↦ absurd (lacks_not 46 b a (subst (Lacks 46) f (digits_lack 46 d (inr (omega arith)) (subst (λ w. AllDigits 10 w) (sym e) k.1))))
+    | inr p ↦ from_parts d b a f n (of_pointed (subst IsPointed (sym e) p))
+  ],
   λ h. inr (subst IsPointed (append_assoc b (codes ".") a ∙ sym f ∙ e) (pointed b a ((digits_all b).1 h.1) ((digits_all a).1 h.2) h.0)),
 )

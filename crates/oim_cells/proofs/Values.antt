@@ -68,7 +68,7 @@ accuracy_to (places t i f) = accuracy_by t false true (not_infinite t i) (when_p
 pub accuracy_law : (t : List ℕ) (a : Accuracy) → (accuracy_of t ≡ Some a) ↔ IsDecimals t a
 accuracy_law t a = (accuracy_from t a, accuracy_to)
 
--- a text that is none says nothing
+-- a text that is not one states nothing
 pub no_accuracy : (t : List ℕ) → ((a : Accuracy) → IsDecimals t a → ⊥) → None ≡ accuracy_of t
 no_accuracy t n = same_answer None (accuracy_of t) (λ a. (λ e. absurd (cc), λ e. absurd (n a (accuracy_from t a e))))
 
@@ -116,7 +116,8 @@ unfolding numeral_of
 numeral_law kind text v a = (numeral_from kind (trimmed text) v a, numeral_to)
 
 -- an answer of a program that is one splitting and the only one
-pub numeral_seen : (kind : NumberKind) (text s : List ℕ) (o : Option (Bor (List ℕ) × Option Accuracy)) → s ≡ trimmed text → IfSome o (λ r. IsSplit kind s r.0.now r.1) → ((v : List ℕ) (a : Option Accuracy) → IsSplit kind s v a → IsSomeAnd o (λ r. (r.0.now ≡ v) × (r.1 ≡ a))) → option_map seen_numeral o ≡ numeral_of kind text
+pub numeral_seen : (kind : NumberKind) (text s : List ℕ) (o : Option (Bor (List ℕ) × Option Accuracy)) → s ≡ trimmed text → IfSome o (λ r. IsSplit kind s r.0.now r.1)
+    → ((v : List ℕ) (a : Option Accuracy) → IsSplit kind s v a → IsSomeAnd o (λ r. (r.0.now ≡ v) × (r.1 ≡ a))) → option_map seen_numeral o ≡ numeral_of kind text
 numeral_seen kind text s None e h k =
     same_answer None (numeral_of kind text)
     (λ x. (λ q. absurd (cc), λ q. absurd (k x.0 x.1 (subst (λ t. IsSplit kind t x.0 x.1) (sym e) ((numeral_law kind text x.0 x.1).0 q)))))

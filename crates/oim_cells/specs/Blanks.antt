@@ -1,4 +1,4 @@
--- The blanks round a numeral: the four characters that XML 1.0 fifth edition calls white space (space, tab, carriage return, line feed),
+-- Blanks: the four characters that XML 1.0 fifth edition calls white space (space, tab, carriage return, line feed),
 -- and a text without those at its ends.
 use Rattle.std.specs.Prelude.{ℕ, Bool, ◌==◌, ◌||◌, List, [], ◌∷◌, reverse, if◌then◌else◌}
 
@@ -6,7 +6,7 @@ use Rattle.std.specs.Prelude.{ℕ, Bool, ◌==◌, ◌||◌, List, [], ◌∷◌
 abbrev pub is_blank : ℕ → Bool
 is_blank c = (c == 32) || (c == 9) || (c == 13) || (c == 10)
 
--- the text without blanks in front, and without blanks behind
+-- the text without the blanks at its front, and without those at its end
 abbrev pub without_front : List ℕ → List ℕ
 without_front [] = []
 without_front (c ∷ cs) = if is_blank c then without_front cs else c ∷ cs
@@ -14,6 +14,6 @@ without_front (c ∷ cs) = if is_blank c then without_front cs else c ∷ cs
 abbrev pub without_back : List ℕ → List ℕ
 without_back s = reverse (without_front (reverse s))
 
--- and without both
+-- and without either
 abbrev pub trimmed : List ℕ → List ℕ
 trimmed s = without_back (without_front s)

@@ -1,5 +1,5 @@
--- What the text of a cell means (xBRL-CSV 1.0, special values), which numeral a text writes and how exact it says that the number is
--- (xBRL-CSV 1.0, the decimals suffix of a numeral; Open Information Model 1.0, decimals).
+-- What the text of a cell means (xBRL-CSV 1.0, special values), and which numeral and which accuracy a text states (xBRL-CSV 1.0, the
+-- decimals suffix of a numeral; Open Information Model 1.0, decimals).
 use Rattle.std.specs.Prelude.{◌≢◌, ℕ, List, [], ◌∷◌, ◌++◌, ◌||◌, ◌&&◌, nat_eq, drop, Option, Some, None, if◌then◌else◌, codes}
 use Rattle.std.specs.Borrow.{Bor}
 use Rattle.std.specs.List.{starts_with}
@@ -22,7 +22,7 @@ pub data Meaning : Type 0 where
   Text : List ℕ → Meaning
   Unknown : Meaning
 
--- what follows a single `#` that begins no special value
+-- what follows the `#` of a text that is neither a special value nor begins with two `#`
 abbrev pub IsOther : List ℕ → Type 0
 IsOther rest = (rest ≢ codes "none") × (rest ≢ codes "nil") × (rest ≢ codes "empty") × ((more : List ℕ) → rest ≢ codes "#" ++ more)
 
@@ -36,7 +36,7 @@ pub data Means : List ℕ → Meaning → Type 0 where
   other : (rest : List ℕ) → IsOther rest → Means (codes "#" ++ rest) Unknown
   plain : (first : ℕ) (rest : List ℕ) → first ≢ 35 → Means (first ∷ rest) (Text (first ∷ rest))
 
--- the same table as a function: the contract of `meaning` says that both agree
+-- the same table as a function; the contract of `meaning` says that they agree
 unfoldable pub meaning_of : List ℕ → Meaning
 meaning_of t =
     if bytes_eq t [] || bytes_eq t (codes "#none") then Absent
@@ -54,20 +54,20 @@ seen_meaning seen.Empty = Empty
 seen_meaning (seen.Text t) = Text t.now
 seen_meaning seen.Unknown = Unknown
 
--- what a text of decimals says, as a function: the contract of `decimals` says that it agrees with `IsDecimals`
+-- the accuracy that a text of decimals states, as a function; the contract of `decimals` says that it agrees with `IsDecimals`
 unfoldable pub accuracy_of : List ℕ → Option Accuracy
 accuracy_of t =
     if bytes_eq t (codes "INF") then Some Infinite
     else if is_integer_text t && is_in_places (signed_digits_value 10 t) then Some (Places (signed_digits_value 10 t))
     else None
 
--- a text and, where it has a `d`, the parts before and behind the first one. With no `d` the whole text is to be the numeral;
--- else the part before is, and the part behind says how exact it is
+-- the numeral of a text, by the parts before and behind its first `d`: the part before is the numeral, and the part behind states its
+-- accuracy. Without a `d` the whole text is the numeral
 abbrev pub numeral_at : NumberKind → List ℕ → Option (List ℕ × List ℕ) → Option (List ℕ × Option Accuracy)
 numeral_at kind t None = if is_numeral_text kind t then Some (t, None) else None
 numeral_at kind t (Some p) = if is_numeral_text kind p.0 then option_map (λ a. (p.0, Some a)) (accuracy_of p.1) else None
 
--- the numeral that a text writes between its outer blanks, and how exact the text says that it is, as a function: the contract of
+-- the numeral that a text writes between the blanks at its ends, and the accuracy that it states, as a function; the contract of
 -- `split_numeral` says that it agrees with `IsSplit`
 unfoldable pub numeral_of : NumberKind → List ℕ → Option (List ℕ × Option Accuracy)
 numeral_of kind text = let t = trimmed text in numeral_at kind t (parts_at 100 t)

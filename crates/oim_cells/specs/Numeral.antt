@@ -1,5 +1,5 @@
 -- Numerals of the three kinds (XML Schema Part 2, second edition: the lexical forms of integer, decimal and double without `INF` and `NaN`),
--- and the text that says how exact a number is (Open Information Model 1.0, decimals). Each grammar stands as a relation and as a test.
+-- and the text that states how exact a number is (Open Information Model 1.0, decimals). Each grammar stands as a relation and as a test.
 use Rattle.std.specs.Prelude.{◌≡◌, ◌⊎◌, ◌+◌, ◌<◌, ◌==◌, ◌&&◌, ◌||◌, nat_lt, if◌then◌else◌, ℕ, ℤ, pos, negsuc, Bool, false, List, [], ◌∷◌, ◌++◌, codes, Option, None, Some, length}
 use Rattle.std.specs.Prelude.{FitsSigned}
 use Rattle.std.specs.Int.{w32}
@@ -28,18 +28,18 @@ pub data IsDouble : List ℕ → Type 0 where
   no_power : (s : List ℕ) → IsDecimal s → IsDouble s
   power : (front mark back : List ℕ) → IsDecimal front → (mark ≡ codes "e") ⊎ (mark ≡ codes "E") → IsInteger back → IsDouble (front ++ mark ++ back)
 
--- a numeral of its kind
+-- a numeral of a kind
 abbrev pub IsNumeralOf : NumberKind → List ℕ → Type 0
 IsNumeralOf Integer = IsInteger
 IsNumeralOf Decimal = IsDecimal
 IsNumeralOf Double = IsDouble
 
--- a text of decimals: `INF`, or an integer in the range of 32 bits with a sign
+-- a text of decimals: `INF`, or an integer that fits a signed number of 32 bits
 pub data IsDecimals : List ℕ → Accuracy → Type 0 where
   infinite : IsDecimals (codes "INF") Infinite
   places : (s : List ℕ) → IsInteger s → FitsSigned w32 (signed_digits_value 10 s) → IsDecimals s (Places (signed_digits_value 10 s))
 
--- a text without outer blanks, as a numeral and what `d` and a text of decimals behind it say, or as a numeral alone
+-- a text without blanks at its ends: a numeral, `d` and a text of decimals, or a numeral alone
 pub data IsSplit : NumberKind → List ℕ → List ℕ → Option Accuracy → Type 0 where
   suffixed : (kind : NumberKind) (numeral decimals : List ℕ) (accuracy : Accuracy) → IsNumeralOf kind numeral → IsDecimals decimals accuracy
       → IsSplit kind (numeral ++ codes "d" ++ decimals) numeral (Some accuracy)
@@ -49,7 +49,7 @@ pub data IsSplit : NumberKind → List ℕ → List ℕ → Option Accuracy → 
 abbrev pub IsSplitOnce : NumberKind → List ℕ → Type 0
 IsSplitOnce kind s = (v w : List ℕ) (a b : Option Accuracy) → IsSplit kind s v a → IsSplit kind s w b → (v ≡ w) × (a ≡ b)
 
--- the same grammars as tests. One or more digits
+-- The same grammars as tests. First, one or more digits:
 abbrev pub is_digits : List ℕ → Bool
 is_digits s = nat_lt 0 (length s) && all_ascii_digits s
 
@@ -82,7 +82,7 @@ is_numeral_text Integer = is_integer_text
 is_numeral_text Decimal = is_decimal_text
 is_numeral_text Double = is_double_text
 
--- the range of 32 bits with a sign
+-- the number fits a signed number of 32 bits
 abbrev pub is_in_places : ℤ → Bool
 is_in_places (pos n) = nat_lt n 2_147_483_648
 is_in_places (negsuc n) = nat_lt n 2_147_483_648

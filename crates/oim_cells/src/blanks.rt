@@ -10,7 +10,7 @@ fn is_blank(byte: u8) -> bool
     matches!(byte, b' ' | b'\t' | b'\r' | b'\n')
 }
 
-/// What follows a blank that begins the text.
+/// What follows the blank at the front of a text. `None` where there is no blank in front.
 fn after_blank(text: &str) -> Option<&str>
     ensures { MatchOption result (without_front text.now ≡ text.now)
         (λ r. (without_front text.now ≡ without_front r.now) × (length r.now < length text.now)) }
@@ -21,7 +21,7 @@ fn after_blank(text: &str) -> Option<&str>
     }
 }
 
-/// What stands before a blank that ends the text.
+/// What stands before the blank at the end of a text. `None` where there is no blank at the end.
 fn before_blank(text: &str) -> Option<&str>
     ensures { MatchOption result (without_back text.now ≡ text.now)
         (λ r. (without_back text.now ≡ without_back r.now) × (length r.now < length text.now)) }
@@ -32,7 +32,7 @@ fn before_blank(text: &str) -> Option<&str>
     }
 }
 
-/// The text without blanks in front.
+/// The text without the blanks at its front.
 fn trim_front(text: &str) -> &str
     ensures { result.now ≡ without_front text.now }
 {
@@ -43,7 +43,7 @@ fn trim_front(text: &str) -> &str
     trimmed
 }
 
-/// The text without blanks behind.
+/// The text without the blanks at its end.
 fn trim_back(text: &str) -> &str
     ensures { result.now ≡ without_back text.now }
 {
@@ -54,9 +54,9 @@ fn trim_back(text: &str) -> &str
     trimmed
 }
 
-/// The text without the spaces, tabs, carriage returns and line feeds at its ends (XML 1.0 fifth edition, white space).
+/// The text without the spaces, tabs, carriage returns and line feeds at both ends (XML 1.0 fifth edition, white space).
 ///
-/// It takes any text and no memory, and the answer is a part of `text`.
+/// The answer is a part of `text`. It takes no memory.
 pub fn trimmed(text: &str) -> &str
     ensures { result.now ≡ without_blanks text.now }
 {

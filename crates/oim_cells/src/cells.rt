@@ -6,15 +6,15 @@ ghost use Rattle.oim_cells.specs.Cells.{Meaning, Means, meaning_of, seen_meaning
 /// What a text means as a cell, a parameter or a literal.
 #[derive(Clone, Copy, Debug)]
 pub enum CellMeaning<'a> {
-    /// Nothing is reported: the empty text, or `#none`.
+    /// Nothing is reported: the empty text or `#none`.
     Absent,
     /// A nil value: `#nil`.
     Nil,
     /// The empty text as a value: `#empty`.
     Empty,
-    /// A value as it is written, with the first of two leading `#` taken off.
+    /// A value: the text itself, or without its first `#` where it begins with two.
     Text(&'a str),
-    /// A text that begins with a single `#` and names no special value.
+    /// A text that begins with a single `#` and is not a special value.
     Unknown,
 }
 
@@ -23,9 +23,9 @@ pub enum CellMeaning<'a> {
 pub enum NumberKind {
     /// An optional sign and one or more digits.
     Integer,
-    /// An optional sign, digits with at most one point, at least one digit in all.
+    /// An optional sign and then digits with at most one point, at least one digit in all.
     Decimal,
-    /// A decimal, and optionally `e` or `E`, an optional sign and one or more digits.
+    /// A decimal, and then optionally `e` or `E`, an optional sign and one or more digits.
     Double,
 }
 
@@ -34,15 +34,15 @@ pub enum NumberKind {
 pub enum Accuracy {
     /// Exact: `INF`.
     Infinite,
-    /// To this number of decimal places, which may be below zero.
+    /// Exact to this number of decimal places, which may be negative.
     Places(i32),
 }
 
 /// The meaning of a text (xBRL-CSV 1.0, special values).
 ///
-/// The empty text and `#none` are `Absent`, `#nil` is `Nil`, `#empty` is `Empty`. A text that begins with `##` is `Text`
-/// without its first `#`, any other text that begins with `#` is `Unknown`, and all others are `Text` as they are.
-/// It takes any text and no memory.
+/// The empty text and `#none` are `Absent`, `#nil` is `Nil`, and `#empty` is `Empty`. A text that begins with `##` is `Text`
+/// without its first `#`. Any other text that begins with `#` is `Unknown`, and every other text is `Text` as it is. It takes
+/// no memory.
 pub fn meaning(text: &str) -> CellMeaning<'_>
     ensures means { (m : Meaning) → Means text.now m ↔ (m ≡ seen_meaning result) }
     ensures value { seen_meaning result ≡ meaning_of text.now }

@@ -1,14 +1,14 @@
 //! What the text of a cell, a parameter or a literal means in xBRL-CSV 1.0 and the Open Information Model 1.0.
 //!
-//! The crate promises, and proves:
+//! What is proved, for every text:
 //!
-//! - [`meaning`] tells the special values (`#none`, `#nil`, `#empty`, a doubled `#`) from plain text, each text in exactly one way.
-//! - [`split_numeral`] finds the numeral of a text and the decimals behind it, as in `1250.5d-2`, exactly where there is one.
+//! - [`meaning`] tells the special values (`#none`, `#nil`, `#empty`, a doubled `#`) from plain text. Each text has one meaning.
+//! - [`split_numeral`] gives the numeral of a text and the decimals behind it, as in `1250.5d-2`, exactly where the text has one.
 //!   No text is split in two ways.
-//! - [`decimals`] reads `INF` or a number of places, exactly where the text is one.
-//! - [`is_boolean`] tells the boolean values from all other texts, and [`trimmed`] takes the blanks off both ends of a text.
+//! - [`decimals`] gives `INF` or a number of places exactly where the text says so.
+//! - [`is_boolean`] is true exactly of the four boolean values, and [`trimmed`] takes the blanks off both ends of a text.
 //!
-//! No call takes memory, and none fails: a text that is not a numeral gives `None`.
+//! The calls take no memory and never fail.
 #![tactic(auto)]
 
 mod blanks;

@@ -1,4 +1,4 @@
-//! Numerals, and how accurate they say that they are.
+//! Numerals, and the accuracy that they state.
 
 ghost use Rattle.std.specs.Prelude.{◌≡◌, ◌↔◌, ◌+◌, ◌<◌, IsTrue, Some, length, List, ℕ, Option, IfSome, IsSomeAnd};
 ghost use Rattle.std.specs.Str.Parse.{without_leading_sign};
@@ -13,10 +13,10 @@ ghost use Rattle.oim_cells.specs.Numeral.{IsDecimals, IsInteger, IsDecimal, IsDo
 use crate::blanks;
 use crate::cells::{Accuracy, NumberKind};
 
-/// How exact a number is that states these decimals (Open Information Model 1.0, decimals).
+/// The accuracy that a text of decimals states (Open Information Model 1.0, decimals).
 ///
-/// `INF` is `Infinite`. An optional `+` or `-` and one or more digits, with a value from -2147483648 to 2147483647, are that
-/// number of `Places`; leading zeros do not count. All other texts give `None`. It takes no memory.
+/// `INF` gives `Infinite`. An optional `+` or `-` and one or more digits give that number of `Places`, if it is from
+/// -2147483648 to 2147483647. Leading zeros do not count. Any other text gives `None`. It takes no memory.
 pub fn decimals(text: &str) -> Option<Accuracy>
     ensures means { (a : Decimals) → (result ≡ Some a) ↔ IsDecimals text.now a }
     ensures value { result ≡ accuracy_of text.now }
@@ -58,7 +58,7 @@ fn is_integer(text: &str) -> bool
     !digits.is_empty() && are_digits(digits)
 }
 
-/// Whether the text is an optional sign and digits with at most one point, at least one digit in all.
+/// Whether the text is an optional sign and then digits with at most one point, at least one digit in all.
 fn is_decimal(text: &str) -> bool
     ensures { IsTrue result ↔ IsDecimal text.now }
 {
@@ -108,7 +108,7 @@ fn is_numeral(kind: NumberKind, text: &str) -> bool
     }
 }
 
-/// A text without outer blanks as a numeral and the decimals after it.
+/// The numeral and the accuracy of a text that has no blanks at its ends. `None` where it does not write a numeral.
 fn split(kind: NumberKind, text: &str) -> Option<(&str, Option<Accuracy>)>
     ensures numeral { IfSome result (λ r. IsSplit kind text.now r.0.now r.1) }
     ensures only { (v : List ℕ) (a : Option Decimals) → IsSplit kind text.now v a
@@ -128,12 +128,12 @@ fn split(kind: NumberKind, text: &str) -> Option<(&str, Option<Accuracy>)>
     Some((numeral, Some(accuracy)))
 }
 
-/// The numeral of this kind that a text writes, and how exact the text says that it is (xBRL-CSV 1.0, decimals suffix).
+/// The numeral that a text writes, and the accuracy that it states (xBRL-CSV 1.0, decimals suffix).
 ///
-/// Spaces, tabs, carriage returns and line feeds at both ends are passed over. If the rest is a numeral, the letter `d` and a
-/// text of decimals, as in `1250.5d-2`, the answer is the numeral and what [`decimals`] says of the text behind the `d`.
-/// Else, if the rest is a numeral, the answer is the rest and no accuracy. Else it is `None`. There is never more than one
-/// way to split a text. It takes no memory, and the numeral is a part of `text`.
+/// Spaces, tabs, carriage returns and line feeds at both ends are passed over. Where the rest is a numeral of this kind, the
+/// letter `d` and a text of decimals, as in `1250.5d-2`, the answer is the numeral and what [`decimals`] gives for the text
+/// behind the `d`. Where the rest is a numeral alone, the answer is the numeral and `None`. Any other text gives `None`. No
+/// text can be split in two ways. The numeral is a part of `text`. It takes no memory.
 pub fn split_numeral(kind: NumberKind, text: &str) -> Option<(&str, Option<Accuracy>)>
     ensures means { (v : List ℕ) (a : Option Decimals)
         → (option_map seen_numeral result ≡ Some (v, a)) ↔ IsSplit kind (trimmed text.now) v a }

@@ -6,7 +6,8 @@ use Rattle.std.proofs.lemmas.Str.{chars_past_char, chars-nil, is_utf8-from_IsUtf
 use Rattle.oim_names.specs.Names.{begins_and_goes_on}
 use lib.Utf8.{encode}
 
-pub goes_on : (first other : ℕ → Bool) (text rest : List ℕ) (c : ℕ) (b r : Bool) → IsUtf8 text → text ≡ encode c ++ rest → b ≡ first c → b ≡ true → r ≡ list_all other (chars rest) → r ≡ begins_and_goes_on first other (chars text)
+pub goes_on : (first other : ℕ → Bool) (text rest : List ℕ) (c : ℕ) (b r : Bool) → IsUtf8 text → text ≡ encode c ++ rest → b ≡ first c → b ≡ true
+    → r ≡ list_all other (chars rest) → r ≡ begins_and_goes_on first other (chars text)
 goes_on first other text rest c b r u e f t h =
     let k : begins_and_goes_on first other (chars text) ≡ begins_and_goes_on first other (c ∷ chars rest) = ap (begins_and_goes_on first other) (chars_past_char text rest c u e) in
     h ∙ ap (λ d. d && list_all other (chars rest)) (sym (sym f ∙ t)) ∙ sym k

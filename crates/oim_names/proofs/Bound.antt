@@ -116,7 +116,8 @@ other_uris : (es : Bindings) (u : List ℕ) → has_uri es u ≡ false → AllBy
 other_uris [] u h = tt
 other_uris (e ∷ es) u h = by (bytes_eq e.1 u) refl h (λ k. other_uris es u k)
   where
-    by : (b : Bool) → bytes_eq e.1 u ≡ b → (b || has_uri es u) ≡ false → (has_uri es u ≡ false → AllByRecursion (λ y. bytes_eq y u ≡ false) (values_of es)) → AllByRecursion (λ y. bytes_eq y u ≡ false) (values_of (e ∷ es))
+    by : (b : Bool) → bytes_eq e.1 u ≡ b → (b || has_uri es u) ≡ false → (has_uri es u ≡ false → AllByRecursion (λ y. bytes_eq y u ≡ false) (values_of es))
+        → AllByRecursion (λ y. bytes_eq y u ≡ false) (values_of (e ∷ es))
     by true q k r = absurd (cc)
     by false q k r = (q, r k)
 
@@ -159,7 +160,8 @@ placed (e ∷ es) p u s n =
     ap (λ n. insert (e ∷ es) n (p, u)) i ∙ sym (bound_here e es p u h s.0))
 
 -- what stands after a binding was put at its place, or was not
-pub kept : (b : Bool) (es new : Bindings) (p u : List ℕ) → IsNamespaces es → is_ncname p ≡ true → is_some (uri_of es p) ≡ false → has_uri es u ≡ false → new ≡ cond b (bound es p u) es → IsNamespaces new
+pub kept : (b : Bool) (es new : Bindings) (p u : List ℕ) → IsNamespaces es → is_ncname p ≡ true → is_some (uri_of es p) ≡ false → has_uri es u ≡ false
+    → new ≡ cond b (bound es p u) es → IsNamespaces new
 kept true es new p u are name n m e =
     rw e (bound_in_order es p u are.0 n, bound_own_uris es p u are.0 are.1 n m, all_bound (λ e. e.0) (λ prefix. is_ncname prefix ≡ true) es p u are.2 name)
 kept false es new p u are name n m e = rw e are

@@ -1,5 +1,6 @@
 -- The grammars of qualified names, and the functions.
-use Rattle.std.proofs.Common.{◌≡◌, ◌⊎◌, inl, inr, ℕ, zero, suc, ◌+◌, ◌<◌, ◌≤◌, List, [], ◌∷◌, ◌++◌, take, refl, sym, ap, subst, ◌∙◌, arith, length, get_or, append_assoc, codes, Some, None, Option, Bool, true, false, not, ◌==◌, ◌&&◌, cond}
+use Rattle.std.proofs.Common.{◌≡◌, ◌⊎◌, inl, inr, ℕ, zero, suc, ◌+◌, ◌<◌, ◌≤◌, List, [], ◌∷◌, ◌++◌, take, refl, sym, ap, subst, ◌∙◌, arith, length, get_or, append_assoc}
+use Rattle.std.proofs.Common.{codes, Some, None, Option, Bool, true, false, not, ◌==◌, ◌&&◌, cond}
 use Rattle.std.specs.List.{position_or_len, before_first, after_first}
 use Rattle.std.specs.Option.{option_map}
 use Rattle.std.specs.Str.{IsUtf8, is_utf8}
@@ -32,7 +33,7 @@ empty_is_not_solid = refl
 pub no_rest : (m : ℕ) (t : List ℕ) → length t ≤ position_or_len (λ c. c == m) t → after_first (λ c. c == m) t ≡ []
 no_rest m t h = drop_of_length-le t (omega (arith, h))
 
--- a text whose part after the mark isn't empty has the mark
+-- a text whose part after the mark is not empty has the mark
 pub has_mark : (m : ℕ) (t : List ℕ) → (after_first (λ c. c == m) t ≡ [] → ⊥) → t ≡ before_first (λ c. c == m) t ++ m ∷ after_first (λ c. c == m) t
 has_mark m t n = by (cases_lt (position_or_len p t) (length t))
   where
@@ -106,7 +107,8 @@ pub qname_sound : (b : Bindings) (t : List ℕ) (x : Name) → qname_of b t ≡ 
 unfolding qname_of
 qname_sound b t x e = by (is_ncname (prefix_of t)) (is_ncname (local_of t)) (uri_of b (prefix_of t)) refl refl refl e
   where
-    by : (n m : Bool) (o : Option (List ℕ)) → is_ncname (prefix_of t) ≡ n → is_ncname (local_of t) ≡ m → uri_of b (prefix_of t) ≡ o → cond (n && m) (option_map (λ uri. (uri, local_of t)) o) None ≡ Some x → IsQName b t x
+    by : (n m : Bool) (o : Option (List ℕ)) → is_ncname (prefix_of t) ≡ n → is_ncname (local_of t) ≡ m → uri_of b (prefix_of t) ≡ o
+        → cond (n && m) (option_map (λ uri. (uri, local_of t)) o) None ≡ Some x → IsQName b t x
     by true true (Some u) n m o r =
         let s : (u, local_of t) ≡ x = cc in
         let k = λ (e : local_of t ≡ []). (let w : true ≡ false = sym m ∙ ap is_ncname e ∙ empty_is_no_name in absurd (cc)) in

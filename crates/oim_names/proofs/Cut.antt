@@ -1,4 +1,4 @@
--- A text is cut at a mark, and what a name can't hold.
+-- Texts that are cut at a mark, and the marks that names cannot hold.
 use Rattle.std.proofs.Common.{◌≡◌, ◌≢◌, ℕ, suc, ◌+◌, ◌<◌, List, [], ◌∷◌, ◌++◌, take, drop, length-append, refl, sym, ap, subst, ◌∙◌, arith, length, get_or, Bool, true, false, not, ◌==◌, ◌&&◌}
 use Rattle.std.specs.List.{list_all, position_or_len, before_first, after_first}
 use Rattle.std.specs.Str.{chars, IsUtf8, is_utf8, NonePass, NoCharPasses}
@@ -32,7 +32,7 @@ before_mark m s t h = ap (λ n. take n (s ++ m ∷ t)) (place_of_mark m s t h) �
 pub after_mark : (m : ℕ) (s t : List ℕ) → Lacks m s → after_first (λ c. c == m) (s ++ m ∷ t) ≡ t
 after_mark m s t h = ap (λ n. drop (n + 1) (s ++ m ∷ t)) (place_of_mark m s t h) ∙ drop-append-add s (m ∷ t) 1
 
--- a name has characters of names alone
+-- each character of a name may stand in a name
 marks_differ : (m c : ℕ) → is_name_char m ≡ false → is_name_char c ≡ true → (c == m) ≡ false
 marks_differ m c f h = eqb_of c m (λ e. let k : is_name_char m ≡ true = ap is_name_char (sym e) ∙ h in absurd (cc))
 
@@ -56,7 +56,7 @@ name_passes m (c ∷ cs) f h = by (is_name_start c) refl h
     by true e k = (marks_differ m c f (starts_stand c e), none_pass m cs f k)
     by false e k = absurd (cc)
 
--- a name holds no mark that is no character of names
+-- a mark that may not stand in names is not in a name
 pub name_lacks : (m : ℕ) (s : List ℕ) → m < 128 → is_name_char m ≡ false → IsUtf8 s → is_ncname s ≡ true → Lacks m s
 unfolding is_ncname
 name_lacks m s l f u n =
@@ -64,7 +64,7 @@ name_lacks m s l f u n =
     let p : NoCharPasses (λ c. c == m) s = (chars s, encodes-chars s u, name_passes m (chars s) f begun) in
     lacks_by_index m s (λ i k. NoCharPasses-char m s i p l k)
 
--- a plain character is no point
+-- a plain character is not a point
 plain_differs : (c : ℕ) → is_plain_char c ≡ true → (c == 46) ≡ false
 unfolding is_plain_char
 plain_differs c h = by (is_name_char c) (c == 46) refl h
@@ -105,7 +105,7 @@ start_no_point : (c : ℕ) → is_name_start c ≡ true → (c == 46) ≡ false
 unfolding is_name_start
 start_no_point c h = eqb_of c 46 (λ e. let k : is_name_start 46 ≡ true = ap is_name_start (sym e) ∙ h in absurd cc)
 
--- an identifier holds no point, and a row identifier none
+-- neither an identifier nor a row identifier holds a point
 pub identifier_lacks_point : (text : List ℕ) → is_identifier text ≡ true → Lacks 46 text
 unfolding is_identifier
 identifier_lacks_point text h = text_lacks_point is_name_start text start_no_point h

@@ -1,5 +1,5 @@
 -- The definitions on worked cases. Their answers come from XML 1.0 fifth edition, Namespaces in XML 1.0, BCP 47 and xBRL-JSON 1.0.
-use Rattle.std.proofs.Common.{◌≡◌, ℕ, List, [], ◌∷◌, Bool, Some, None, true, false, refl, codes, map}
+use Rattle.std.proofs.Common.{◌≡◌, [], ◌∷◌, Some, None, true, false, refl, codes, map}
 use Rattle.std.specs.List.{list_all, list_any}
 use Rattle.std.specs.Str.{chars, is_utf8}
 use lib.Utf8.{encode}
@@ -46,7 +46,7 @@ ncnames : list_all is_ncname (codes "a" ∷ codes "a.b" ∷ codes "_-1" ∷ (0xC
 unfolding is_ncname is_name_char is_name_start chars is_utf8 encode
 ncnames = refl
 
--- nothing, a wrong first character, a colon, blanks, and bytes that are no UTF-8
+-- the empty text, a wrong first character, a colon, blanks, and bytes that are not UTF-8
 no_ncnames :
     list_any is_ncname
     ([] ∷ codes "1a" ∷ codes "-" ∷ codes ".a" ∷ codes "a:b" ∷ codes "a b" ∷ codes "a\t" ∷ codes "a\n" ∷ codes "a\r" ∷ (0xE2 ∷ 0x81 ∷ 0x80 ∷ [])
@@ -147,7 +147,7 @@ languages : map language_of (codes "e" ∷ codes "en-GB" ∷ codes "ABCDEFGH-123
 unfolding language_of
 languages = refl
 
--- a part of nine characters is too long, and an empty one too short
+-- a part of nine characters is too long, and an empty one is too short
 no_languages :
     map language_of ([] ∷ codes "en_GB" ∷ codes "e1" ∷ codes "en-" ∷ codes "-en" ∷ codes "en--x" ∷ codes "abcdefghi" ∷ codes "en-123456789" ∷ codes "en " ∷ [])
     ≡ None ∷ None ∷ None ∷ None ∷ None ∷ None ∷ None ∷ None ∷ None ∷ []

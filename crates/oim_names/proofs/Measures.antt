@@ -9,7 +9,8 @@ use Rattle.std.proofs.lemmas.Slice.Eq.{bytes_eq-Decides}
 use Rattle.oim_names.specs.Names.{is_name_start, is_name_char}
 use Rattle.oim_names.specs.Bindings.{Bindings}
 use Rattle.oim_names.specs.QName.{Name, Lacks, IsQName, qname_of}
-use Rattle.oim_names.specs.Unit.{IsProduct, measure, product, IsSide, bare, bracketed, IsUnit, whole, quotient, HasMeasures, IsPure, pure_name, is_bracketed, inside, is_side, above_of, below_of, is_unit, is_pure_name}
+use Rattle.oim_names.specs.Unit.{IsProduct, measure, product, IsSide, bare, bracketed, IsUnit, whole, quotient, HasMeasures, IsPure, pure_name, is_bracketed, inside}
+use Rattle.oim_names.specs.Unit.{is_side, above_of, below_of, is_unit, is_pure_name}
 use Rattle.oim_names.proofs.Cut.{before_mark, after_mark, name_lacks, front_is_text, rest_is_text}
 use Rattle.oim_names.proofs.Colons.{of_qname, has_mark, qname_value, qname_sound, qname_uncut}
 use Rattle.oim_names.proofs.Parentheses.{bracketed_is, inside_brackets, inside_other, inside_lacks}
@@ -19,7 +20,7 @@ lacks_joined : (m : ℕ) (s t : List ℕ) → Lacks m s → Lacks m t → Lacks 
 lacks_joined m [] t h k = k
 lacks_joined m (c ∷ s) t h k = (h.0, lacks_joined m s t h.1 k)
 
--- a mark that no QName holds
+-- a mark that cannot stand in a QName
 abbrev IsMark : ℕ → Type 0
 IsMark m = (m < 128) × (is_name_char m ≡ false) × ((58 == m) ≡ false)
 
@@ -47,7 +48,8 @@ product_lacks m k n (measure b t x q) u = qname_lacks m k q u
 product_lacks m k n (product b s t x more q r) u =
     let e = append_assoc s (codes "*") t in
     let v = subst IsUtf8 e u in
-    subst (Lacks m) (sym e) (lacks_joined m s (42 ∷ t) (qname_lacks m k q (front_is_text 42 (s ++ 42 ∷ t) s t (omega arith) v refl)) (n, product_lacks m k n r (rest_is_text 42 (s ++ 42 ∷ t) s t (omega arith) v refl)))
+    subst (Lacks m) (sym e) (lacks_joined m s (42 ∷ t) (qname_lacks m k q (front_is_text 42 (s ++ 42 ∷ t) s t (omega arith) v refl))
+    (n, product_lacks m k n r (rest_is_text 42 (s ++ 42 ∷ t) s t (omega arith) v refl)))
 
 abbrev is_measure : Bindings → List ℕ → Bool
 is_measure b text = is_some (qname_of b text)
@@ -91,7 +93,7 @@ product_sound b t h =
     let r = joined_product b (slice_split (λ c. c == 42) t) h (omega (arith, length-slice_split (λ c. c == 42) t)) in
     (r.0, subst (λ w. IsProduct b w r.0) (join_with_byte-slice_split 42 t) r.1)
 
--- sides
+-- the grammar of sides and its test
 side_of_product : (b : Bindings) (t : List ℕ) (ns : List Name) → IsProduct b (inside t) ns → IsSide b t ns
 side_of_product b t ns p = by (is_bracketed t) refl
   where
@@ -121,7 +123,7 @@ side_lacks : {b : Bindings} {t : List ℕ} {ns : List Name} → IsSide b t ns �
 side_lacks (bare b t ns p) u = product_lacks 47 slash refl p u
 side_lacks (bracketed b s ns p) u = (refl, lacks_joined 47 s (41 ∷ []) (product_lacks 47 slash refl p (middle_is_text s u)) (refl, tt))
 
--- units
+-- the grammar of units and its test
 empty_is_no_side : (b : Bindings) → is_side b [] ≡ false
 empty_is_no_side b = let e : is_some (qname_of b []) ≡ false = ap is_some (sym (qname_uncut b [] refl)) in rw e refl
 

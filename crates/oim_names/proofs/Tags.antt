@@ -12,7 +12,8 @@ use Rattle.oim_names.proofs.Cut.{eqb_of}
 use Rattle.oim_names.proofs.Truth.{and_true, two_true}
 
 -- what the code asks: of a text that is cut at its first `-`, and of one that has none
-pub tag_cut : (t f o : List ℕ) → position_or_len (λ c. c == 45) t < length t → f ≡ before_first (λ c. c == 45) t → o ≡ after_first (λ c. c == 45) t → (is_part is_letter f && list_all (is_part is_letter_or_digit) (slice_split (λ c. c == 45) o)) ≡ is_language t
+pub tag_cut : (t f o : List ℕ) → position_or_len (λ c. c == 45) t < length t → f ≡ before_first (λ c. c == 45) t → o ≡ after_first (λ c. c == 45) t
+    → (is_part is_letter f && list_all (is_part is_letter_or_digit) (slice_split (λ c. c == 45) o)) ≡ is_language t
 tag_cut t f o l e g =
     let s = slice_split_first (λ c. c == 45) t 0 l in
     rw (e, g) (sym (ap (begins_and_goes_on (is_part is_letter) (is_part is_letter_or_digit)) s))

@@ -12,7 +12,7 @@ use Rattle.oim_names.specs.Names.{is_ncname}
 abbrev pub Bindings : Type 0
 Bindings = List (List ℕ × List ℕ)
 
--- the prefixes rise in byte order, so none stands twice
+-- the prefixes rise strictly in byte order, so none stands twice
 abbrev pub AreInOrder : Bindings → Type 0
 AreInOrder b = IsStrictlySortedBy (slice_cmp nat_cmp) (keys_of b)
 
@@ -24,7 +24,7 @@ HaveOwnUris b = IsDistinct bytes_eq (values_of b)
 abbrev pub HaveNames : Bindings → Type 0
 HaveNames b = AllByRecursion (λ prefix. is_ncname prefix ≡ true) (keys_of b)
 
--- a list that a value of namespaces may be
+-- what holds of all namespaces
 abbrev pub IsNamespaces : Bindings → Type 0
 IsNamespaces b = AreInOrder b × HaveOwnUris b × HaveNames b
 
@@ -32,11 +32,11 @@ IsNamespaces b = AreInOrder b × HaveOwnUris b × HaveNames b
 abbrev pub uri_of : Bindings → List ℕ → Option (List ℕ)
 uri_of b prefix = value_at prefix b
 
--- one map extends another by a prefix: that one has the URI, any other what it had
+-- one map extends another by a prefix: this prefix has the URI, and every other prefix what it had
 abbrev pub Extends : Bindings → List ℕ → List ℕ → Bindings → Type 0
 Extends b prefix uri new = (other : List ℕ) → uri_of new other ≡ (if bytes_eq prefix other then Some uri else uri_of b other)
 
--- some prefix has the URI
+-- the URI is bound to some prefix
 abbrev pub has_uri : Bindings → List ℕ → Bool
 has_uri b uri = list_any (λ e. bytes_eq e.1 uri) b
 
@@ -44,6 +44,6 @@ has_uri b uri = list_any (λ e. bytes_eq e.1 uri) b
 abbrev pub is_before : List ℕ → List ℕ → Bool
 is_before a b = is_lt (slice_cmp nat_cmp a b)
 
--- the bindings with one more, at its place: those before it, the new one, those after it
+-- the bindings with one more at its place: those before it, the new one, those after it
 unfoldable pub bound : Bindings → List ℕ → List ℕ → Bindings
 bound b prefix uri = filter (λ e. is_before e.0 prefix) b ++ (prefix, uri) ∷ filter (λ e. is_before prefix e.0) b

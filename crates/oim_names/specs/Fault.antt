@@ -1,4 +1,4 @@
--- The numbers and the names of the faults of a binding; both are this project's own.
+-- The number and the name of each fault of a binding. Both are this project's own.
 use Rattle.std.specs.Prelude.{ℕ, List, codes}
 use Rattle.oim_names.specs.declared.namespaces.NameFault.{NameFault}
 use Rattle.oim_names.specs.declared.namespaces.NameFault.TheVariants.{BadPrefix, Repeated, Memory}

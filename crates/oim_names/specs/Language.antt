@@ -13,7 +13,7 @@ is_letter c = is_in_range 65 90 c || is_in_range 97 122 c
 abbrev pub is_letter_or_digit : ℕ → Bool
 is_letter_or_digit c = is_letter c || is_in_range 48 57 c
 
--- 1 to 8 characters of a kind
+-- a part: 1 to 8 characters of a kind
 abbrev pub is_part : (ℕ → Bool) → List ℕ → Bool
 is_part kind text = is_in_range 1 8 (length text) && list_all kind text
 
@@ -22,10 +22,10 @@ pub data IsLanguage : List ℕ → Type 0 where
   parts : (first : List ℕ) (others : List (List ℕ)) → is_part is_letter first ≡ true → list_all (is_part is_letter_or_digit) others ≡ true
       → IsLanguage (join_with_byte 45 (first ∷ others))
 
--- the same as a function: what stands between the `-`
+-- the same as a function of what stands between the `-`
 abbrev pub is_language : List ℕ → Bool
 is_language text = begins_and_goes_on (is_part is_letter) (is_part is_letter_or_digit) (slice_split (λ c. c == 45) text)
 
--- a language as it is written, with its letters in lower case
+-- a language as documents write it, in lower case; none where the text is not a tag
 unfoldable pub language_of : List ℕ → Option (List ℕ)
 language_of text = if is_language text then Some (str_to_ascii_lowercase text) else None

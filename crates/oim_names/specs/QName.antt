@@ -9,11 +9,11 @@ use Rattle.oim_names.specs.Names.{is_ncname, begins_and_goes_on}
 abbrev pub Name : Type 0
 Name = List ℕ × List ℕ
 
--- a URI and a local part, as a program holds them
+-- the same, as a program holds it
 abbrev pub seen_name : Bor (List ℕ) × Bor (List ℕ) → List ℕ × List ℕ
 seen_name p = (p.0.now, p.1.now)
 
--- the character stands nowhere in the text
+-- the character does not stand in the text
 abbrev pub Lacks : ℕ → List ℕ → Type 0
 Lacks mark text = AllByRecursion (λ c. (c == mark) ≡ false) text
 
@@ -22,7 +22,7 @@ pub data IsQName : Bindings → List ℕ → Name → Type 0 where
   qname : (names : Bindings) (prefix local uri : List ℕ) → is_ncname prefix ≡ true → is_ncname local ≡ true → uri_of names prefix ≡ Some uri
       → IsQName names (prefix ++ codes ":" ++ local) (uri, local)
 
--- neither space nor tab, CR or LF
+-- neither a space nor a tab, carriage return or line feed
 abbrev pub is_no_blank : ℕ → Bool
 is_no_blank c = not ((c == 32) || (c == 9) || (c == 13) || (c == 10))
 
@@ -35,7 +35,7 @@ pub data IsSQName : Bindings → List ℕ → Name → Type 0 where
   sqname : (names : Bindings) (prefix rest uri : List ℕ) → Lacks 58 prefix → is_solid rest ≡ true → uri_of names prefix ≡ Some uri
       → IsSQName names (prefix ++ codes ":" ++ rest) (uri, rest)
 
--- the one value that the relation has, or none where it has none
+-- the answer is the one value of the relation, or none where it has none
 abbrev pub IsOnly : {A : Type 0} → (A → Type 0) → Option A → Type 0
 IsOnly {A} P None = (x : A) → P x → ⊥
 IsOnly {A} P (Some y) = P y × ((x : A) → P x → x ≡ y)

@@ -1,4 +1,5 @@
--- Units, as texts (xBRL-JSON 1.0, unit): measures joined by `*`, and at most one `/`. No demand is made on the order of measures, nor on where parentheses stand.
+-- Units as texts (xBRL-JSON 1.0, unit): measures joined by `*`, and at most one `/`. Measures may stand in any order, and each side may stand
+-- in one pair of parentheses.
 use Rattle.std.specs.Prelude.{◌-◌, ℕ, List, [], ◌∷◌, ◌++◌, Option, Some, None, Bool, false, ◌&&◌, ◌||◌, ◌==◌, codes, is_some, if◌then◌else◌, length, take, drop, slice_index}
 use Rattle.std.specs.List.{list_all, slice_split, before_first, after_first}
 use Rattle.std.specs.Str.{bytes_eq}
@@ -24,7 +25,7 @@ pub data IsUnit : Bindings → List ℕ → List Name → List Name → Type 0 w
   quotient : (names : Bindings) (text text₂ : List ℕ) (above below : List Name) → IsSide names text above → IsSide names text₂ below
       → IsUnit names (text ++ codes "/" ++ text₂) above below
 
--- the text is a unit of some measures
+-- the text is a unit
 abbrev pub HasMeasures : Bindings → List ℕ → Type 0
 HasMeasures names text = (above : List Name) × (below : List Name) × IsUnit names text above below
 
@@ -32,18 +33,18 @@ HasMeasures names text = (above : List Name) × (below : List Name) × IsUnit na
 abbrev pub pure_name : Name
 pure_name = (codes "http://www.xbrl.org/2003/instance", codes "pure")
 
--- the text is a unit whose one measure is that
+-- the text is a unit whose one measure is this
 abbrev pub IsPure : Bindings → List ℕ → Type 0
 IsPure names text = IsUnit names text (pure_name ∷ []) []
 
--- The same as functions. Without one pair of parentheses that stands round the whole text:
+-- The same as functions. First, whether one pair of parentheses stands round the text, and the text without it:
 abbrev pub is_bracketed : List ℕ → Bool
 is_bracketed text = (slice_index text 0 == 40) && (slice_index text (length text - 1) == 41)
 
 abbrev pub inside : List ℕ → List ℕ
 inside text = if is_bracketed text then take (length text - 2) (drop 1 text) else text
 
--- a side: between the `*` stand QNames
+-- a side: what stands between the `*` are QNames
 abbrev pub is_side : Bindings → List ℕ → Bool
 is_side names text = list_all (λ measure. is_some (qname_of names measure)) (slice_split (λ c. c == 42) (inside text))
 
@@ -61,7 +62,7 @@ abbrev pub is_pure_name : Option Name → Bool
 is_pure_name None = false
 is_pure_name (Some name) = bytes_eq name.0 pure_name.0 && bytes_eq name.1 pure_name.1
 
--- the kind of a text that is a unit
+-- the kind of a unit, none where the text is not a unit
 unfoldable pub unit_of : Bindings → List ℕ → Option UnitKind
 unit_of names text =
     if is_unit names text

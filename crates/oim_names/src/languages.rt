@@ -8,18 +8,21 @@ ghost use Rattle.oim_names.specs.Language.{IsLanguage, is_letter as letter, is_l
 
 use std::alloc::{AllocError, Global};
 
+/// Whether a byte is an ASCII letter.
 fn is_letter(byte: u8) -> bool
     ensures { result ≡ letter byte }
 {
     matches!(byte, b'A'..=b'Z' | b'a'..=b'z')
 }
 
+/// Whether a byte is an ASCII letter or digit.
 fn is_letter_or_digit(byte: u8) -> bool
     ensures { result ≡ letter_or_digit byte }
 {
     is_letter(byte) || matches!(byte, b'0'..=b'9')
 }
 
+/// Whether a part of a tag may have this length.
 fn is_part_length(length: usize) -> bool
     ensures { result ≡ is_in_range 1 8 length }
 {
@@ -51,9 +54,10 @@ fn is_language(text: &str) -> bool
     }
 }
 
-/// A language as it is written: 1 to 8 letters of `A` to `Z` and `a` to `z`, then any number of groups of `-` and 1 to 8
-/// such letters or digits (BCP 47; xBRL-JSON 1.0, language), with its letters in lower case. None for any other text.
-/// Fails where memory runs out.
+/// A language tag in lower case, as documents write it (BCP 47; xBRL-JSON 1.0, language).
+///
+/// A tag is 1 to 8 letters `A` to `Z` or `a` to `z`, and then any number of parts, each a `-` and 1 to 8 such letters or
+/// digits. Any other text gives `None`. Fails with `AllocError` where memory runs out.
 pub fn language(alloc: Global, text: &str) -> Result<Option<String>, AllocError>
     ensures grammar { IfOk result (λ o. IsSome o ↔ IsLanguage text.now) }
     ensures value { IfOk result (λ o. option_map string_bytes o ≡ language_of text.now) }

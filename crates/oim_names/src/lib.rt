@@ -1,16 +1,16 @@
-//! Names in an Open Information Model report: identifiers, prefixes with their URIs, qualified names, units and
-//! languages. Also the text and list types that the other crates share.
+//! The names of an Open Information Model 1.0 report: identifiers, prefixes with their URIs, qualified names, units and
+//! languages. The crate also has the text and list types that the other crates share.
 //!
 //! What is proved:
 //!
-//! - `is_identifier`, `is_row_identifier` and `is_ncname` are true exactly of the texts whose characters lie in the sets
-//!   of XML 1.0 fifth edition.
-//! - `Namespaces` is a finite map from prefixes, which are names, to URIs, of which none stands twice. It is listed in
-//!   byte order of prefix. `add` answers each fault exactly where it is due, and a refusal changes nothing.
-//! - `qname`, `sqname`, `unit` and `language` give a value exactly where the text is in the grammar, and then the one value
-//!   that the grammar gives. They also equal short functions, which the crates above cite.
+//! - [`is_identifier`], [`is_row_identifier`] and [`is_ncname`] are true exactly of the texts whose characters lie in the
+//!   sets of XML 1.0 fifth edition.
+//! - [`Namespaces`] is a finite map from prefixes, which are NCNames, to URIs, of which none stands twice. It is listed in
+//!   byte order of prefix. `add` gives each fault exactly where it is due, and a call that fails changes nothing.
+//! - [`qname`], [`sqname`], [`unit`] and [`language`] give a value exactly where the grammar has the text, and then the
+//!   value of the grammar. They also equal short functions, which the contracts of the crates above cite.
 //!
-//! Apart from `add` and `language`, none of these calls takes memory.
+//! `add`, `language` and the calls that copy or grow a text, a list or namespaces take memory. The others take none.
 #![tactic(auto)]
 
 mod languages;

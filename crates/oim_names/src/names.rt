@@ -1,7 +1,8 @@
-//! Names by their characters: names without a colon, identifiers, row identifiers.
+//! Names by their characters: NCNames, identifiers and row identifiers.
 
 ghost use Rattle.std.specs.Prelude.{◌≡◌};
-ghost use Rattle.oim_names.specs.Names.{is_name_start as name_start, is_name_char as name_char, is_plain_char as plain_char, is_ncname as ncname, is_identifier as identifier, is_row_identifier as row_identifier};
+ghost use Rattle.oim_names.specs.Names.{is_name_start as name_start, is_name_char as name_char, is_plain_char as plain_char, is_ncname as ncname};
+ghost use Rattle.oim_names.specs.Names.{is_identifier as identifier, is_row_identifier as row_identifier};
 
 /// Whether a character may begin a name.
 #[tactic(auto, unfolding(crate::specs::Names::is_name_start))]
@@ -26,7 +27,7 @@ fn is_name_char(c: char) -> bool
         || matches!(c, '-' | '.' | '0'..='9' | '\u{B7}' | '\u{300}'..='\u{36F}' | '\u{203F}'..='\u{2040}')
 }
 
-/// Whether a character may stand in a name that has no point.
+/// Whether a character may stand in an identifier: it may stand in a name and is not a point.
 #[tactic(auto, unfolding(crate::specs::Names::is_plain_char))]
 fn is_plain_char(c: char) -> bool
     ensures { result ≡ plain_char c }
@@ -34,8 +35,9 @@ fn is_plain_char(c: char) -> bool
     is_name_char(c) && c != '.'
 }
 
-/// Whether a text is a name without a colon: a first character that may begin a name, and others that may stand in one
-/// (XML 1.0 fifth edition, section 2.3; Namespaces in XML 1.0, NCName). It takes no memory.
+/// Whether a text is an NCName, a name without a colon (Namespaces in XML 1.0, NCName; XML 1.0 fifth edition, section 2.3).
+///
+/// Its first character may begin a name, and the others may stand in one. It takes no memory.
 pub fn is_ncname(text: &str) -> bool
     ensures { result ≡ ncname text.now }
 {
@@ -46,8 +48,9 @@ pub fn is_ncname(text: &str) -> bool
     }
 }
 
-/// Whether a text is an identifier, as tables, templates, columns and parameters have them (xBRL-CSV 1.0): a name without
-/// a colon that has no `.` either. It takes no memory.
+/// Whether a text is an identifier, as tables, templates, columns and parameters have (xBRL-CSV 1.0, identifiers).
+///
+/// An identifier is an NCName without a point. It takes no memory.
 pub fn is_identifier(text: &str) -> bool
     ensures { result ≡ identifier text.now }
 {
@@ -58,8 +61,9 @@ pub fn is_identifier(text: &str) -> bool
     }
 }
 
-/// Whether a text is the identifier of a row (xBRL-CSV 1.0): one or more characters that may stand in a name, none of
-/// them `.`. It takes no memory.
+/// Whether a text is the identifier of a row (xBRL-CSV 1.0, row identifiers).
+///
+/// It is one or more characters that may stand in a name, none of them a point. It takes no memory.
 pub fn is_row_identifier(text: &str) -> bool
     ensures { result ≡ row_identifier text.now }
 {

@@ -10,20 +10,22 @@ use crate::is_ncname;
 use crate::text::{Items, Text, find};
 use std::alloc::{AllocError, Global};
 use std::marker::Model;
+use thiserror::Error;
 
 /// Why a prefix cannot be bound to a URI.
-#[derive(Clone, Copy, Debug, PartialEq, Eq)]
+#[derive(Clone, Copy, Debug, PartialEq, Eq, Error)]
+#[error("{}", self.sentence())]
 pub enum NameFault {
-    /// The prefix is not a name without a colon.
+    /// The prefix is not an NCName.
     BadPrefix,
-    /// The prefix or the URI is already there.
+    /// The prefix or the URI is already bound.
     Repeated,
     /// Memory ran out.
     Memory,
 }
 
 impl NameFault {
-    /// The fault's number: 60 for BadPrefix, 61 for Repeated, 62 for Memory.
+    /// The fault's number: 60 for `BadPrefix`, 61 for `Repeated`, 62 for `Memory`.
     pub fn number(&self) -> u32
         ensures { result ≡ number_of self.now }
     {
@@ -34,7 +36,7 @@ impl NameFault {
         }
     }
 
-    /// The fault's name, as it is written in the code.
+    /// The fault's name: `BadPrefix`, `Repeated` or `Memory`.
     pub fn name(&self) -> &'static str
         ensures { result.now ≡ name_of self.now }
     {
@@ -44,10 +46,21 @@ impl NameFault {
             NameFault::Memory => "Memory",
         }
     }
+
+    /// What is wrong, as a message for people.
+    fn sentence(&self) -> &'static str {
+        match self {
+            NameFault::BadPrefix => "the prefix is not a name without a colon",
+            NameFault::Repeated => "the prefix or the URI is already bound",
+            NameFault::Memory => "memory ran out",
+        }
+    }
 }
 
-/// The namespaces of a report: prefixes with their URIs, each prefix and each URI once. A prefix is a name without a colon
-/// (XML 1.0; Namespaces in XML 1.0), and a URI is any text. A contract sees the list of them in byte order of prefix.
+/// The namespaces of a report: prefixes with their URIs (Open Information Model 1.0, namespaces).
+///
+/// No prefix and no URI stands twice. A prefix is an NCName (Namespaces in XML 1.0), and a URI is any text. Contracts see
+/// the list of prefixes with their URIs, in byte order of prefix.
 #[derive(Drop)]
 pub struct Namespaces {
     bindings: Items<(Text, Text)>,
@@ -75,7 +88,7 @@ impl Clone for Namespaces {
     }
 }
 
-/// How many prefixes stand before one in byte order.
+/// How many of the prefixes stand before `prefix` in byte order.
 fn place_of(bindings: &[(Text, Text)], prefix: &str) -> usize
     ensures { result ≡ prefix_len (λ e. is_before e.0 prefix.now) bindings.now }
 {
@@ -85,7 +98,7 @@ fn place_of(bindings: &[(Text, Text)], prefix: &str) -> usize
         .count()
 }
 
-/// Whether some prefix has the URI.
+/// Whether the URI is bound to some prefix.
 fn any_uri(bindings: &[(Text, Text)], uri: &str) -> bool
     ensures { result ≡ uri_in bindings.now uri.now }
 {
@@ -93,7 +106,7 @@ fn any_uri(bindings: &[(Text, Text)], uri: &str) -> bool
 }
 
 impl Namespaces {
-    /// No prefixes at all. It takes no memory; the allocator is kept for `add`.
+    /// Makes namespaces without any prefix. It takes no memory; the allocator is kept for `add`.
     pub fn new(alloc: Global) -> Self
         ensures { result ≡ [] }
     {
@@ -103,8 +116,9 @@ impl Namespaces {
         }
     }
 
-    /// The namespaces of a list of names with their URIs. The names rise strictly in byte order, and no URI stands twice.
-    /// It takes no memory.
+    /// Makes namespaces of a list of prefixes with their URIs. It takes no memory; the allocator is kept for `add`.
+    ///
+    /// Each prefix must be an NCName. The prefixes must rise strictly in byte order, and no URI may stand twice.
     pub fn from_bindings(alloc: Global, bindings: Items<(Text, Text)>) -> Self
         requires { IsNamespaces bindings }
         ensures { result ≡ bindings }
@@ -112,8 +126,9 @@ impl Namespaces {
         Namespaces { bindings, alloc }
     }
 
-    /// How many prefixes there are. They are names without a colon and rise strictly in byte order, and no URI stands
-    /// twice. It takes no memory.
+    /// How many prefixes there are. It takes no memory.
+    ///
+    /// They are NCNames and rise strictly in byte order, and no URI stands twice.
     pub fn len(&self) -> usize
         ensures count { result ≡ length self.now }
         ensures in_order { AreInOrder self.now }
@@ -123,7 +138,7 @@ impl Namespaces {
         self.bindings.len()
     }
 
-    /// The URI of a prefix, None where the prefix is not bound. It takes no memory.
+    /// The URI of a prefix, or `None` where the prefix is not bound. It takes no memory.
     pub fn uri(&self, prefix: &str) -> Option<&str>
         ensures { option_map (λ u. u.now) result ≡ uri_of self.now prefix.now }
     {
@@ -133,7 +148,7 @@ impl Namespaces {
         }
     }
 
-    /// The prefix and the URI at a place, counted from 0, in byte order of prefix. It takes no memory.
+    /// The prefix and the URI at place `i`, counted from 0 in byte order of prefix. It takes no memory.
     pub fn at(&self, i: usize) -> (&str, &str)
         requires { i < length self.now }
         ensures { slice_get self.now i ≡ Some (result.0.now, result.1.now) }
@@ -142,8 +157,10 @@ impl Namespaces {
         (binding.0.as_str(), binding.1.as_str())
     }
 
-    /// Binds a prefix to a URI. BadPrefix where the prefix is not a name without a colon, else Repeated where the
-    /// prefix or the URI is already there, else Memory where memory runs out. A refusal changes nothing.
+    /// Binds a prefix to a URI.
+    ///
+    /// Fails with `BadPrefix` where the prefix is not an NCName, else with `Repeated` where the prefix or the URI is
+    /// already bound, else with `Memory` where memory runs out. A call that fails changes nothing.
     pub fn add(&mut self, prefix: &str, uri: &str) -> Result<(), NameFault>
         ensures bad_prefix { (result ≡ Err NameFault.BadPrefix) ↔ (ncname prefix.now ≡ false) }
         ensures repeated { (result ≡ Err NameFault.Repeated)

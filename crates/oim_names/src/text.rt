@@ -1,4 +1,4 @@
-//! Texts and lists, which contracts see as the list of their bytes and the list of their items.
+//! Texts and lists. Contracts see a text as its bytes, and a list as its items.
 
 ghost use Rattle.std.specs.Prelude.{◌≡◌, ◌++◌, ◌∷◌, [], ◌<◌, ◌≤◌, length, Some, IfOk, is_ok, if◌then◌else◌, slice_get};
 ghost use Rattle.std.specs.List.{insert as inserted};
@@ -10,14 +10,14 @@ use std::alloc::{AllocError, AllocFailed, Global};
 use std::marker::Model;
 use std::sync::ArcStr;
 
-/// Where a text lies: held alone, or shared with its copies.
+/// Where the bytes of a text lie: in a string of its own, or shared with its copies.
 #[derive(Drop)]
 enum Body {
     Alone(String),
     Shared(ArcStr),
 }
 
-/// A text. A contract sees its bytes.
+/// A text. Contracts see its bytes.
 #[derive(Drop)]
 pub struct Text {
     body: Body,
@@ -33,7 +33,7 @@ impl Model for Text {
 }
 
 impl Text {
-    /// The same text, without a copy.
+    /// Makes a text of a string, without a copy.
     pub fn new(string: String) -> Text
         ensures { result ≡ string_bytes string }
     {
@@ -42,14 +42,14 @@ impl Text {
         }
     }
 
-    /// A copy of a text. Fails where memory runs out.
+    /// Copies a text. Fails with `AllocError` where memory runs out.
     pub fn from_str(alloc: Global, text: &str) -> Result<Text, AllocError>
         ensures { IfOk result (λ t. t ≡ text.now) }
     {
         Ok(Text::new(String::from_str(alloc, text)?))
     }
 
-    /// The same text, whose clones take no more memory. Fails where memory runs out.
+    /// Shares the text, so that its clones take no more memory. Fails with `AllocError` where memory runs out.
     pub fn share(self) -> Result<Text, AllocError>
         ensures { IfOk result (λ t. t ≡ self) }
     {
@@ -63,7 +63,7 @@ impl Text {
         }
     }
 
-    /// The text, lent.
+    /// Lends the text.
     pub fn as_str(&self) -> &str
         ensures { result.now ≡ self.now }
     {
@@ -89,7 +89,7 @@ impl Clone for Text {
     }
 }
 
-/// A list. A contract sees its items.
+/// A list. Contracts see its items.
 #[derive(Clone, Drop)]
 pub struct Items<T> {
     items: Vec<T>,
@@ -104,7 +104,7 @@ impl<T> Model for Items<T> {
 }
 
 impl<T> Items<T> {
-    /// The empty list. It takes no memory.
+    /// Makes an empty list. It takes no memory; the allocator is kept for `push` and `insert`.
     pub fn new(alloc: Global) -> Items<T>
         ensures { result ≡ [] }
     {
@@ -113,29 +113,32 @@ impl<T> Items<T> {
         }
     }
 
-    /// The same list, without a copy.
+    /// Makes a list of a vector, without a copy.
     pub fn from_vec(items: Vec<T>) -> Items<T>
         ensures { result ≡ items.items }
     {
         Items { items }
     }
 
-    /// The same list, without a copy.
+    /// Gives the items as a vector, without a copy.
     pub fn into_vec(self) -> Vec<T>
         ensures { result.items ≡ self }
     {
         self.items
     }
 
-    /// Appends an item, which comes back where memory runs out.
+    /// Appends an item.
+    ///
+    /// Where memory runs out the list is unchanged, and the item comes back in the error.
     pub fn push(&mut self, item: T) -> Result<(), AllocFailed<T>>
         ensures { self.new ≡ (if is_ok result then self.old ++ item ∷ [] else self.old) }
     {
         self.items.push(item)
     }
 
-    /// Puts an item at a place, counted from 0; those from there on stand one place later. The item comes back where
-    /// memory runs out.
+    /// Inserts an item at `place`, counted from 0, before the item that stands there or at the end.
+    ///
+    /// Where memory runs out the list is unchanged, and the item comes back in the error.
     pub fn insert(&mut self, place: usize, item: T) -> Result<(), AllocFailed<T>>
         requires { place ≤ length self.old }
         ensures { self.new ≡ (if is_ok result then inserted self.old place item else self.old) }
@@ -150,7 +153,7 @@ impl<T> Items<T> {
         self.items.len()
     }
 
-    /// The item at a place, counted from 0.
+    /// The item at place `i`, counted from 0.
     pub fn get(&self, i: usize) -> &T
         requires { i < length self.now }
         ensures { slice_get self.now i ≡ Some result.now }
@@ -158,7 +161,7 @@ impl<T> Items<T> {
         &self.items[i]
     }
 
-    /// The items, lent.
+    /// Lends the items.
     pub fn as_slice(&self) -> &[T]
         ensures { result.now ≡ self.now }
     {
@@ -166,7 +169,9 @@ impl<T> Items<T> {
     }
 }
 
-/// The value beside a name, the first where the name stands twice. None where it is not there. It takes no memory.
+/// The value of a name in a list of names with values, or `None` where the name is not there.
+///
+/// Where the name stands more than once it is the first value. It takes no memory.
 pub fn find<'a, V>(entries: &'a [(Text, V)], name: &str) -> Option<&'a V>
     ensures { option_map (λ v. v.now) result ≡ value_at name.now entries.now }
 {

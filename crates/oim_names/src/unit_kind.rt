@@ -1,10 +1,10 @@
-//! What a unit is: pure, or written.
+//! The two kinds of units.
 
-/// What a unit is.
+/// The kind of a unit (xBRL-JSON 1.0, unit).
 #[derive(Clone, Copy, Debug, PartialEq, Eq)]
 pub enum UnitKind {
-    /// The one measure `pure` of `http://www.xbrl.org/2003/instance`.
+    /// The unit of pure numbers: its one measure is `pure` of `http://www.xbrl.org/2003/instance`.
     Pure,
-    /// Any other unit, which is written as it stands.
+    /// Any other unit. A document writes it as it stands.
     Written,
 }

@@ -1,4 +1,4 @@
-//! Units.
+//! Units of numeric facts.
 
 ghost use Rattle.std.specs.Prelude.{◌≡◌, ◌↔◌, Some, IsSome, is_some};
 ghost use Rattle.oim_names.specs.QName.{qname_of};
@@ -6,7 +6,7 @@ ghost use Rattle.oim_names.specs.Unit.{HasMeasures, IsPure, inside as text_insid
 
 use crate::{Namespaces, UnitKind, qname};
 
-/// The text without a pair of parentheses around it.
+/// The text without the one pair of parentheses around it, if it has them.
 fn inside(text: &str) -> &str
     ensures { result.now ≡ text_inside text.now }
 {
@@ -26,7 +26,7 @@ fn is_measure(names: &Namespaces, text: &str) -> bool
     qname(names, text).is_some()
 }
 
-/// Whether a text is QNames joined by `*`, bare or in one pair of parentheses.
+/// Whether a text is a side: QNames joined by `*`, bare or in one pair of parentheses.
 fn is_side(names: &Namespaces, text: &str) -> bool
     ensures { result ≡ side_in names.now text.now }
 {
@@ -55,9 +55,11 @@ fn is_pure(names: &Namespaces, text: &str) -> bool
     }
 }
 
-/// The kind of a unit: one side or two with `/` between them, where a side is QNames joined by `*`, bare or in one pair
-/// of parentheses (xBRL-JSON 1.0, unit). It is Pure where its one measure is `pure` of
-/// `http://www.xbrl.org/2003/instance`, and else Written. None for any other text. It takes no memory.
+/// The kind of a unit (xBRL-JSON 1.0, unit).
+///
+/// A unit is one side, or two sides with `/` between them. A side is one or more QNames joined by `*`, bare or in one pair
+/// of parentheses. The unit is `Pure` where its one measure is `pure` of `http://www.xbrl.org/2003/instance`, and
+/// `Written` otherwise. A text that is not a unit gives `None`. It takes no memory.
 pub fn unit(names: &Namespaces, text: &str) -> Option<UnitKind>
     ensures grammar { IsSome result ↔ HasMeasures names.now text.now }
     ensures pure { (result ≡ Some UnitKind.Pure) ↔ IsPure names.now text.now }

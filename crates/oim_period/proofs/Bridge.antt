@@ -51,9 +51,13 @@ date_exists y m d low hy hm hd =
     let ey : to_z w16 y ≡ pos y = widened16 y (omega arith) in
     let em : to_z w8 m ≡ pos m = widened8 m (omega arith) in
     let ed : to_z w8 d ≡ pos d = widened8 d (omega arith) in
-    rw (ey, em, ed) (λ h. ((low, hy), (omega (arith, ints), omega (arith, ints)), (omega (arith, ints), omega (arith, ints))), λ h. ((omega (arith, ints), omega (arith, ints)), (omega (arith, ints), omega (arith, ints)), (omega (arith, ints), omega (arith, ints))))
+    rw (ey, em, ed) (
+      λ h. ((low, hy), (omega (arith, ints), omega (arith, ints)), (omega (arith, ints), omega (arith, ints))),
+      λ h. ((omega (arith, ints), omega (arith, ints)), (omega (arith, ints), omega (arith, ints)), (omega (arith, ints), omega (arith, ints))),
+    )
 
-pub since_min_at : (y m d : ℕ) (year : ℤ) (month day r : ℕ) → IsDate y m d → m ≤ 99 → d ≤ 99 → year ≡ to_z w16 y → pos month ≡ to_z w8 m → pos day ≡ to_z w8 d → days_from_civil year month day +ℤ pos 4_371_587 ≡ pos r → r ≡ 3_652_425 + day_number y m d
+pub since_min_at : (y m d : ℕ) (year : ℤ) (month day r : ℕ) → IsDate y m d → m ≤ 99 → d ≤ 99 → year ≡ to_z w16 y → pos month ≡ to_z w8 m → pos day ≡ to_z w8 d
+    → days_from_civil year month day +ℤ pos 4_371_587 ≡ pos r → r ≡ 3_652_425 + day_number y m d
 since_min_at y m d year month day r h hm hd ey em ed e =
     let y_is : year ≡ pos y = ey ∙ widened16 y (omega arith) in
     let m_is : pos month ≡ pos m = em ∙ widened8 m (omega arith) in
@@ -73,8 +77,20 @@ date_of_is (negsuc n) m d day r e =
     absurd (omega (arith, signed_arith, e, days_from_civil-day_count (negsuc n) m d, day_count-year_one, day_count-lt_year (negsuc n) m d (pos 1) 1 1 r (omega arith) (omega (arith, signed_arith))))
 date_of_is (pos zero) m d day r e =
     absurd (omega (arith, signed_arith, e, days_from_civil-day_count (pos 0) m d, day_count-year_one, day_count-lt_year (pos 0) m d (pos 1) 1 1 r (omega arith) (omega (arith, signed_arith))))
-date_of_is (pos (suc y)) m d day r e =
-    (suc y, refl, ((omega arith, omega (arith, signed_arith, r.0)), r.1, r.2), omega (arith, signed_arith, e, r.1, r.2, days_from_civil-day_count (pos (suc y)) m d, day_count-day_number (suc y) m d (omega arith) (omega (arith, r.1)) (omega (arith, r.2))))
+date_of_is (pos (suc y)) m d day r e = (
+  suc y,
+  refl,
+  ((omega arith, omega (arith, signed_arith, r.0)), r.1, r.2),
+  omega (
+    arith,
+    signed_arith,
+    e,
+    r.1,
+    r.2,
+    days_from_civil-day_count (pos (suc y)) m d,
+    day_count-day_number (suc y) m d (omega arith) (omega (arith, r.1)) (omega (arith, r.2)),
+  ),
+)
 
 -- a small number that was cast from a signed type
 pub cast16 : (z : ℤ) (n : ℕ) → z ≡ pos n → n < 32768 → unsigned_abs (to_z w16 (of_z w16 z)) ≡ n

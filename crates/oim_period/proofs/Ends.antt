@@ -5,7 +5,8 @@ use Rattle.std.proofs.Math.Seq.{get_or-append_seam, take-append_seam}
 use Rattle.oim_period.specs.Calendar.{seconds_at, midnight, day_limit, day_number}
 use Rattle.oim_period.specs.Digits.{date_text, clock_text}
 use Rattle.oim_period.specs.Periods.{Reading, instant, duration}
-use Rattle.oim_period.specs.Table.{IsWrittenMoment, written, IsDay, date, IsTime, clock, IsMoment, date_time, IsDays, in_year, range, year, month, quarter, half, week_of_one_digit, week, day, IsDuration, days, moments, Means, moment, span, at_start, at_end}
+use Rattle.oim_period.specs.Table.{IsWrittenMoment, written, IsDay, date, IsTime, clock, IsMoment, date_time, IsDays, in_year, range, year, month, quarter, half}
+use Rattle.oim_period.specs.Table.{week_of_one_digit, week, day, IsDuration, days, moments, Means, moment, span, at_start, at_end}
 use Rattle.oim_period.proofs.Bridge.{day_number-bound}
 use Rattle.oim_period.proofs.Split.{parts_of}
 use Rattle.oim_period.proofs.Written.{length-date, length-time}
@@ -18,7 +19,8 @@ seam : (s t : List ℕ) (n a : ℕ) → length s ≡ n → get_or ((s ++ (a ∷ 
 seam s t n a l =
     rw (append_assoc s (a ∷ []) t) (ap (λ i. get_or (s ++ a ∷ t) i 0) (sym l) ∙ get_or-append_seam s a t 0)
 
-pub of_moment : {x : List ℕ} {k : ℕ} → IsMoment x k → (n : ℕ) × (s : ℕ) × IsDay (take 10 x) n × IsTime (drop 11 x) s × (length x ≡ 19) × (get_or x 10 0 ≡ 84) × (seconds_at n s < midnight day_limit) × (k ≡ seconds_at n s)
+pub of_moment : {x : List ℕ} {k : ℕ} → IsMoment x k → (n : ℕ) × (s : ℕ) × IsDay (take 10 x) n × IsTime (drop 11 x) s × (length x ≡ 19) × (get_or x 10 0 ≡ 84)
+    × (seconds_at n s < midnight day_limit) × (k ≡ seconds_at n s)
 of_moment (date_time t t₂ n s d h b) =
     let p = parts_of t (codes "T") t₂ _ 10 refl (length-date d) in
     (n, s, rw (p.0) at d, rw (p.1) at h, simp length-append (omega (arith, length-date d, length-time h)), seam t t₂ 10 84 (length-date d), b, refl)
@@ -98,7 +100,8 @@ of_end (span t s z d) w e = absurd (omega (arith, last-duration d, ap last e, la
 of_end (at_start t s z d) w e = absurd (omega (arith, ap last e, last-append w (codes "@end") (omega arith), last-append t (codes "@start") (omega arith)))
 of_end (at_end t s z d) w e = let same : t ≡ w = same_front t w (codes "@end") e in (s, z, rw same at d, refl)
 
-pub of_plain : {x : List ℕ} {r : Reading} → Means x r → ((w : List ℕ) → x ≡ w ++ codes "@start" → ⊥) → ((w : List ℕ) → x ≡ w ++ codes "@end" → ⊥) → ((k : ℕ) × IsMoment x k × (r ≡ instant k)) ⊎ ((s : ℕ) × (e : ℕ) × IsDuration x s e × (r ≡ duration s e))
+pub of_plain : {x : List ℕ} {r : Reading} → Means x r → ((w : List ℕ) → x ≡ w ++ codes "@start" → ⊥) → ((w : List ℕ) → x ≡ w ++ codes "@end" → ⊥)
+    → ((k : ℕ) × IsMoment x k × (r ≡ instant k)) ⊎ ((s : ℕ) × (e : ℕ) × IsDuration x s e × (r ≡ duration s e))
 of_plain (moment t k m) no_start no_end = inl (k, m, refl)
 of_plain (span t s z d) no_start no_end = inr (s, z, d, refl)
 of_plain (at_start t s z d) no_start no_end = absurd (no_start t refl)

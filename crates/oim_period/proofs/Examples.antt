@@ -1,11 +1,12 @@
--- Texts of periods and what each means, in the written form. The answers come from the Gregorian calendar and ISO 8601; most years are
--- early ones, whose days are soon counted.
+-- Texts of periods and what each means, in the written form. The answers come from the Gregorian calendar and ISO 8601. Most years are
+-- early ones, because their days are counted fast.
 use Rattle.std.proofs.Common.{◌≡◌, ℕ, Bool, true, false, refl, List, [], ◌∷◌, Option, Some, None, is_some, option_map, codes, map}
 use Rattle.std.specs.List.{list_all, list_any}
 use Rattle.oim_period.specs.Calendar.{days_of_years, days_of_months, day_number, is_date, is_week, is_clock, day_limit, days_in_year, days_in_month}
 use Rattle.oim_period.specs.Dates.{is_date_text}
 use Rattle.oim_period.specs.Digits.{one_at, two_at, four_at}
-use Rattle.oim_period.specs.Periods.{instant, duration, found, first_some, moment_by, moment_of, days_by, days_of, whole_days, in_order, pair_of, duration_of, without, period_of, start_of, end_of, first_number, year_of, month_of, date_in_year, day_text, moment_text, period_text}
+use Rattle.oim_period.specs.Periods.{instant, duration, found, first_some, moment_by, moment_of, days_by, days_of, whole_days, in_order, pair_of, duration_of, without}
+use Rattle.oim_period.specs.Periods.{period_of, start_of, end_of, first_number, year_of, month_of, date_in_year, day_text, moment_text, period_text}
 
 -- the written form of what a text means
 unfoldable written : List ℕ → Option (List ℕ)
@@ -44,17 +45,22 @@ limit : days_of_years 9999 ≡ day_limit
 unfolding days_of_years
 limit = refl
 
--- WRITTEN DATES, up to the last day that there is
+-- WRITTEN DATES, up to the last day of the year 9999
 written_dates : list_all is_date_text (codes "2024-02-29" ∷ codes "0001-01-01" ∷ codes "9999-12-31" ∷ codes "2000-02-29" ∷ []) ≡ true
 unfolding is_date is_date_text two_at four_at
 written_dates = refl
 
--- another day than the calendar's, a time zone, too few or too many digits, blanks, other marks, a form of a period
-no_written_dates : list_any is_date_text ([] ∷ codes "2023-02-29" ∷ codes "1900-02-29" ∷ codes "2024-13-01" ∷ codes "2024-00-01" ∷ codes "2024-04-31" ∷ codes "0000-01-01" ∷ codes "2024-02-29Z" ∷ codes "24-2-29" ∷ codes "-2024-02-29" ∷ codes "12024-02-29" ∷ codes " 2024-02-29" ∷ codes "2024/02/29" ∷ codes "2024-02" ∷ codes "2024-02-29T00:00:00" ∷ codes "202:-02-29" ∷ []) ≡ false
+-- days that the calendar does not have, a time zone, too few or too many digits, blanks, other marks, and a form of a period
+no_written_dates :
+    list_any is_date_text
+    ([] ∷ codes "2023-02-29" ∷ codes "1900-02-29" ∷ codes "2024-13-01" ∷ codes "2024-00-01" ∷ codes "2024-04-31" ∷ codes "0000-01-01" ∷ codes "2024-02-29Z"
+    ∷ codes "24-2-29" ∷ codes "-2024-02-29" ∷ codes "12024-02-29" ∷ codes " 2024-02-29" ∷ codes "2024/02/29" ∷ codes "2024-02" ∷ codes "2024-02-29T00:00:00"
+    ∷ codes "202:-02-29" ∷ [])
+    ≡ false
 unfolding is_date is_date_text two_at four_at
 no_written_dates = refl
 
--- THE SIDES of a duration; an instant has none
+-- THE SIDES of a duration; an instant has neither
 starts : (start_of (duration 1 2) ≡ Some (instant 1)) × (start_of (instant 1) ≡ None)
 unfolding start_of
 starts = (refl, refl)
@@ -75,7 +81,8 @@ years_to_half_years :
     × (written (codes "0005Q4") ≡ Some (codes "0005-10-01T00:00:00/0006-01-01T00:00:00"))
     × (written (codes "0005H1") ≡ Some (codes "0005-01-01T00:00:00/0005-07-01T00:00:00"))
     × (written (codes "0005H2") ≡ Some (codes "0005-07-01T00:00:00/0006-01-01T00:00:00"))
-unfolding written days_of_years days_of_months day_number is_date is_week is_clock one_at two_at four_at found first_some moment_by moment_of days_by days_of whole_days in_order pair_of duration_of without period_of first_number year_of month_of date_in_year day_text moment_text period_text
+unfolding written days_of_years days_of_months day_number is_date is_week is_clock one_at two_at four_at found first_some moment_by moment_of days_by days_of
+    whole_days in_order pair_of duration_of without period_of first_number year_of month_of date_in_year day_text moment_text period_text
 years_to_half_years = (refl, refl, refl, refl, refl, refl, refl, refl, refl)
 
 -- weeks: 4 January lies in the first, and a long year has 53; the year 4 begins with a Thursday
@@ -90,7 +97,8 @@ weeks :
     × (written (codes "0005W52") ≡ Some (codes "0005-12-26T00:00:00/0006-01-02T00:00:00"))
     × (written (codes "0004W53") ≡ Some (codes "0004-12-27T00:00:00/0005-01-03T00:00:00"))
     × (written (codes "2020W53") ≡ Some (codes "2020-12-28T00:00:00/2021-01-04T00:00:00"))
-unfolding written days_of_years days_of_months day_number is_date is_week is_clock one_at two_at four_at found first_some moment_by moment_of days_by days_of whole_days in_order pair_of duration_of without period_of first_number year_of month_of date_in_year day_text moment_text period_text
+unfolding written days_of_years days_of_months day_number is_date is_week is_clock one_at two_at four_at found first_some moment_by moment_of days_by days_of
+    whole_days in_order pair_of duration_of without period_of first_number year_of month_of date_in_year day_text moment_text period_text
 weeks = (refl, refl, refl, refl, refl, refl, refl, refl, refl, refl)
 
 -- days and ranges of days, of which one day is the shortest
@@ -100,7 +108,8 @@ days :
     × (written (codes "0005-06-30..0005-06-30") ≡ Some (codes "0005-06-30T00:00:00/0005-07-01T00:00:00"))
     × (written (codes "0004-12-31..0005-01-01") ≡ Some (codes "0004-12-31T00:00:00/0005-01-02T00:00:00"))
     × (written (codes "2021-01-01..2021-12-31") ≡ Some (codes "2021-01-01T00:00:00/2022-01-01T00:00:00"))
-unfolding written days_of_years days_of_months day_number is_date is_week is_clock one_at two_at four_at found first_some moment_by moment_of days_by days_of whole_days in_order pair_of duration_of without period_of first_number year_of month_of date_in_year day_text moment_text period_text
+unfolding written days_of_years days_of_months day_number is_date is_week is_clock one_at two_at four_at found first_some moment_by moment_of days_by days_of
+    whole_days in_order pair_of duration_of without period_of first_number year_of month_of date_in_year day_text moment_text period_text
 days = (refl, refl, refl, refl, refl)
 
 -- moments, and durations between two
@@ -110,7 +119,8 @@ moments :
     × (written (codes "0005-12-31T24:00:00") ≡ Some (codes "0006-01-01T00:00:00"))
     × (written (codes "0005-03-31T12:30:05/0005-03-31T12:30:06") ≡ Some (codes "0005-03-31T12:30:05/0005-03-31T12:30:06"))
     × (written (codes "0005-03-31T12:30:05/0005-12-31T24:00:00") ≡ Some (codes "0005-03-31T12:30:05/0006-01-01T00:00:00"))
-unfolding written days_of_years days_of_months day_number is_date is_week is_clock one_at two_at four_at found first_some moment_by moment_of days_by days_of whole_days in_order pair_of duration_of without period_of first_number year_of month_of date_in_year day_text moment_text period_text
+unfolding written days_of_years days_of_months day_number is_date is_week is_clock one_at two_at four_at found first_some moment_by moment_of days_by days_of
+    whole_days in_order pair_of duration_of without period_of first_number year_of month_of date_in_year day_text moment_text period_text
 moments = (refl, refl, refl, refl, refl)
 
 -- the sides of a duration
@@ -124,38 +134,64 @@ sides :
     × (written (codes "0005-06-30..0005-07-01@end") ≡ Some (codes "0005-07-02T00:00:00"))
     × (written (codes "0005-03-31T12:30:05/0005-03-31T12:30:06@start") ≡ Some (codes "0005-03-31T12:30:05"))
     × (written (codes "0005-03-31T12:30:05/0005-03-31T12:30:06@end") ≡ Some (codes "0005-03-31T12:30:06"))
-unfolding written days_of_years days_of_months day_number is_date is_week is_clock one_at two_at four_at found first_some moment_by moment_of days_by days_of whole_days in_order pair_of duration_of without period_of first_number year_of month_of date_in_year day_text moment_text period_text
+unfolding written days_of_years days_of_months day_number is_date is_week is_clock one_at two_at four_at found first_some moment_by moment_of days_by days_of
+    whole_days in_order pair_of duration_of without period_of first_number year_of month_of date_in_year day_text moment_text period_text
 sides = (refl, refl, refl, refl, refl, refl, refl, refl, refl)
 
--- the last times that there are
+-- the last moments that a text may name
 last_times :
     (written (codes "9998") ≡ Some (codes "9998-01-01T00:00:00/9999-01-01T00:00:00"))
     × (written (codes "9999-12-30") ≡ Some (codes "9999-12-30T00:00:00/9999-12-31T00:00:00"))
     × (written (codes "9999-12-31T23:59:59") ≡ Some (codes "9999-12-31T23:59:59"))
-unfolding written days_of_years days_of_months day_number is_date is_week is_clock one_at two_at four_at found first_some moment_by moment_of days_by days_of whole_days in_order pair_of duration_of without period_of first_number year_of month_of date_in_year day_text moment_text period_text
+unfolding written days_of_years days_of_months day_number is_date is_week is_clock one_at two_at four_at found first_some moment_by moment_of days_by days_of
+    whole_days in_order pair_of duration_of without period_of first_number year_of month_of date_in_year day_text moment_text period_text
 last_times = (refl, refl, refl)
 
--- a number past its limit, or too small
-no_whole_days : list_any means_something (codes "0000" ∷ codes "0005-00" ∷ codes "0005-13" ∷ codes "0005Q0" ∷ codes "0005Q5" ∷ codes "0005H0" ∷ codes "0005H3" ∷ codes "0005W0" ∷ codes "0005W00" ∷ codes "0003W53" ∷ codes "0005W53" ∷ codes "2021W53" ∷ codes "0003-02-29" ∷ codes "0005-06-00" ∷ codes "0005-04-31" ∷ []) ≡ false
-unfolding means_something days_of_years days_of_months day_number is_date is_week is_clock one_at two_at four_at found first_some moment_by moment_of days_by days_of whole_days in_order pair_of duration_of without period_of
+-- numbers that are too large or too small
+no_whole_days :
+    list_any means_something
+    (codes "0000" ∷ codes "0005-00" ∷ codes "0005-13" ∷ codes "0005Q0" ∷ codes "0005Q5" ∷ codes "0005H0" ∷ codes "0005H3" ∷ codes "0005W0" ∷ codes "0005W00"
+    ∷ codes "0003W53" ∷ codes "0005W53" ∷ codes "2021W53" ∷ codes "0003-02-29" ∷ codes "0005-06-00" ∷ codes "0005-04-31" ∷ [])
+    ≡ false
+unfolding means_something days_of_years days_of_months day_number is_date is_week is_clock one_at two_at four_at found first_some moment_by moment_of days_by
+    days_of whole_days in_order pair_of duration_of without period_of
 no_whole_days = refl
 
--- a range or a pair in the wrong order, and clocks that there are not
-no_ranges_and_moments : list_any means_something (codes "0005-06-30..0005-06-29" ∷ codes "0003-02-29..0003-03-01" ∷ codes "0003-02-28..0003-02-29" ∷ codes "0005-12-31T23:59:60" ∷ codes "0005-12-31T23:60:00" ∷ codes "0005-12-31T24:00:01" ∷ codes "0005-12-31T25:00:00" ∷ codes "0003-02-29T00:00:00" ∷ codes "0005-01-01T00:00:00/0005-01-01T00:00:00" ∷ codes "0005-01-01T00:00:01/0005-01-01T00:00:00" ∷ []) ≡ false
-unfolding means_something days_of_years days_of_months day_number is_date is_week is_clock one_at two_at four_at found first_some moment_by moment_of days_by days_of whole_days in_order pair_of duration_of without period_of
+-- ranges and pairs in the wrong order, and times that clocks do not show
+no_ranges_and_moments :
+    list_any means_something
+    (codes "0005-06-30..0005-06-29" ∷ codes "0003-02-29..0003-03-01" ∷ codes "0003-02-28..0003-02-29" ∷ codes "0005-12-31T23:59:60" ∷ codes "0005-12-31T23:60:00"
+    ∷ codes "0005-12-31T24:00:01" ∷ codes "0005-12-31T25:00:00" ∷ codes "0003-02-29T00:00:00" ∷ codes "0005-01-01T00:00:00/0005-01-01T00:00:00"
+    ∷ codes "0005-01-01T00:00:01/0005-01-01T00:00:00" ∷ [])
+    ≡ false
+unfolding means_something days_of_years days_of_months day_number is_date is_week is_clock one_at two_at four_at found first_some moment_by moment_of days_by
+    days_of whole_days in_order pair_of duration_of without period_of
 no_ranges_and_moments = refl
 
 -- a side of an instant, of a side or of nothing
-no_sides : list_any means_something (codes "0005-12-31T00:00:00@end" ∷ codes "0005-12-31T00:00:00@start" ∷ codes "0005@start@end" ∷ codes "@start" ∷ codes "@end" ∷ codes "0005@" ∷ codes "0005@Start" ∷ codes "0000@end" ∷ []) ≡ false
-unfolding means_something days_of_years days_of_months day_number is_date is_week is_clock one_at two_at four_at found first_some moment_by moment_of days_by days_of whole_days in_order pair_of duration_of without period_of
+no_sides :
+    list_any means_something
+    (codes "0005-12-31T00:00:00@end" ∷ codes "0005-12-31T00:00:00@start" ∷ codes "0005@start@end" ∷ codes "@start" ∷ codes "@end" ∷ codes "0005@"
+    ∷ codes "0005@Start" ∷ codes "0000@end" ∷ [])
+    ≡ false
+unfolding means_something days_of_years days_of_months day_number is_date is_week is_clock one_at two_at four_at found first_some moment_by moment_of days_by
+    days_of whole_days in_order pair_of duration_of without period_of
 no_sides = refl
 
--- another form: small letters, blanks, too few or too many digits, other marks
-no_forms : list_any means_something ([] ∷ codes "5" ∷ codes "005" ∷ codes "00005" ∷ codes "0005-1" ∷ codes "0005-1-1" ∷ codes "0005Q" ∷ codes "0005Q01" ∷ codes "0005q1" ∷ codes "0005h1" ∷ codes "0005w1" ∷ codes "0005W" ∷ codes "0005W001" ∷ codes "0005-01-01t00:00:00" ∷ codes "0005-01-01 00:00:00" ∷ codes "0005-01-01T00:00" ∷ codes "0005-01-01T00:00:00Z" ∷ codes " 0005" ∷ codes "0005 " ∷ codes "0005/01" ∷ codes "0005-01-01.0005-01-02" ∷ codes "0005-01-01/0005-01-02" ∷ codes "0005-01-01T00:00:00-0005-01-02T00:00:00" ∷ codes "00:5" ∷ codes "000/" ∷ []) ≡ false
-unfolding means_something days_of_years days_of_months day_number is_date is_week is_clock one_at two_at four_at found first_some moment_by moment_of days_by days_of whole_days in_order pair_of duration_of without period_of
+-- other forms: small letters, blanks, too few or too many digits, other marks
+no_forms :
+    list_any means_something
+    ([] ∷ codes "5" ∷ codes "005" ∷ codes "00005" ∷ codes "0005-1" ∷ codes "0005-1-1" ∷ codes "0005Q" ∷ codes "0005Q01" ∷ codes "0005q1" ∷ codes "0005h1"
+    ∷ codes "0005w1" ∷ codes "0005W" ∷ codes "0005W001" ∷ codes "0005-01-01t00:00:00" ∷ codes "0005-01-01 00:00:00" ∷ codes "0005-01-01T00:00"
+    ∷ codes "0005-01-01T00:00:00Z" ∷ codes " 0005" ∷ codes "0005 " ∷ codes "0005/01" ∷ codes "0005-01-01.0005-01-02" ∷ codes "0005-01-01/0005-01-02"
+    ∷ codes "0005-01-01T00:00:00-0005-01-02T00:00:00" ∷ codes "00:5" ∷ codes "000/" ∷ [])
+    ≡ false
+unfolding means_something days_of_years days_of_months day_number is_date is_week is_clock one_at two_at four_at found first_some moment_by moment_of days_by
+    days_of whole_days in_order pair_of duration_of without period_of
 no_forms = refl
 
--- an end after the last time that there is
+-- an end after the last moment that a text may name
 after_the_last_time : list_any means_something (codes "9999" ∷ codes "9999-12" ∷ codes "9999-12-31" ∷ codes "9999W52" ∷ codes "9999-12-31T24:00:00" ∷ []) ≡ false
-unfolding means_something days_of_years days_of_months day_number is_date is_week is_clock one_at two_at four_at found first_some moment_by moment_of days_by days_of whole_days in_order pair_of duration_of without period_of
+unfolding means_something days_of_years days_of_months day_number is_date is_week is_clock one_at two_at four_at found first_some moment_by moment_of days_by
+    days_of whole_days in_order pair_of duration_of without period_of
 after_the_last_time = refl

@@ -58,7 +58,7 @@ pub only_from : {A : Type 0} (P : A → Type 0) (o : Option A) → IfSome o P �
 only_from P None h k = λ x p. let e = k x p in absurd (cc)
 only_from P (Some y) h k = (h, λ x p. let e = k x p in cc)
 
--- where the relation has nothing there is no answer
+-- where the relation has nothing, nothing is answered
 pub none_from : {A : Type 0} (P : A → Type 0) (o : Option A) → IfSome o P → ((x : A) → P x → ⊥) → o ≡ None
 none_from P None h k = refl
 none_from P (Some x) h k = absurd (k x h)
@@ -78,7 +78,8 @@ pub two_back : (s : List ℕ) (i n : ℕ) → get_or s i 0 ≡ digit (n / 10) �
 unfolding two_at
 two_back s i n e f = omega (arith, e, f)
 
-pub four_back : (s : List ℕ) (i n : ℕ) → get_or s i 0 ≡ digit (n / 100 / 10) → get_or s (i + 1) 0 ≡ digit (n / 100 % 10) → get_or s (i + 2) 0 ≡ digit (n % 100 / 10) → get_or s (i + 2 + 1) 0 ≡ digit (n % 100 % 10) → four_at i s ≡ n
+pub four_back : (s : List ℕ) (i n : ℕ) → get_or s i 0 ≡ digit (n / 100 / 10) → get_or s (i + 1) 0 ≡ digit (n / 100 % 10) → get_or s (i + 2) 0 ≡ digit (n % 100 / 10)
+    → get_or s (i + 2 + 1) 0 ≡ digit (n % 100 % 10) → four_at i s ≡ n
 unfolding four_at
 four_back s i n e f g h =
     omega (arith, two_back s i (n / 100) e f, two_back s (i + 2) (n % 100) g h)
@@ -124,7 +125,8 @@ week_decides y n = (to, from)
         ((year_decides y).0 l.0, (le_decides 1 n).0 l.1, (le_decides (day_number y 1 1) (week_start y n + 3)).0 k.1, (Decides-ltb (week_start y n + 3) (day_number (y + 1) 1 1)).0 h.1)
 
     from : IsWeek y n → (is_year y && nat_le 1 n && nat_le (day_number y 1 1) (week_start y n + 3) && nat_lt (week_start y n + 3) (day_number (y + 1) 1 1)) ≡ true
-    from h = both_yes _ _ (both_yes _ _ (both_yes _ _ ((year_decides y).1 h.0) ((le_decides 1 n).1 h.1)) ((le_decides (day_number y 1 1) (week_start y n + 3)).1 h.2)) ((Decides-ltb (week_start y n + 3) (day_number (y + 1) 1 1)).1 h.3)
+    from h = both_yes _ _ (both_yes _ _ (both_yes _ _ ((year_decides y).1 h.0) ((le_decides 1 n).1 h.1)) ((le_decides (day_number y 1 1) (week_start y n + 3)).1 h.2))
+        ((Decides-ltb (week_start y n + 3) (day_number (y + 1) 1 1)).1 h.3)
 
 pub clock_decides : (hour minute second : ℕ) → Decides (is_clock hour minute second) (IsClock hour minute second)
 unfolding is_clock

@@ -6,7 +6,8 @@ use Rattle.oim_period.specs.Digits.{one, two, four, date_text, one_at, two_at, f
 use Rattle.oim_period.specs.Periods.{days_by, days_of}
 use Rattle.oim_period.specs.Table.{year, month, quarter, half, week_of_one_digit, week, day, date, IsDays, in_year, range}
 use Rattle.oim_period.specs.Reads.{IsOnly}
-use Rattle.oim_period.proofs.Found.{found_tells, first_tells, none_tells, hit, skip, only_from, one_back, two_back, four_back, le_decides, range_decides, year_decides, both, both_yes, date_decides, week_decides}
+use Rattle.oim_period.proofs.Found.{found_tells, first_tells, none_tells, hit, skip, only_from, one_back, two_back, four_back, le_decides, range_decides, year_decides}
+use Rattle.oim_period.proofs.Found.{both, both_yes, date_decides, week_decides}
 
 -- the days of a text, as a pair
 abbrev pub Named : List ℕ → ℕ × ℕ → Type 0
@@ -47,7 +48,8 @@ of_day t y m d e v =
     let h = (date_decides y m d).0 v in
     rw e (in_year y _ _ _ h.0 (day y m d h))
 
-of_range : (t : List ℕ) (y m d y₂ m₂ d₂ : ℕ) → t ≡ date_text y m d ++ codes ".." ++ date_text y₂ m₂ d₂ → (is_date y m d && is_date y₂ m₂ d₂ && nat_le (day_number y m d) (day_number y₂ m₂ d₂)) ≡ true → Named t (day_number y m d, day_number y₂ m₂ d₂ + 1)
+of_range : (t : List ℕ) (y m d y₂ m₂ d₂ : ℕ) → t ≡ date_text y m d ++ codes ".." ++ date_text y₂ m₂ d₂
+    → (is_date y m d && is_date y₂ m₂ d₂ && nat_le (day_number y m d) (day_number y₂ m₂ d₂)) ≡ true → Named t (day_number y m d, day_number y₂ m₂ d₂ + 1)
 of_range t y m d y₂ m₂ d₂ e v =
     let h = both (is_date y m d && is_date y₂ m₂ d₂) _ v in
     let k = both (is_date y m d) _ h.0 in
@@ -136,7 +138,8 @@ by_day n y₂ m₂ d₂ y m d h =
     (skip t _ _ _ _ _ (λ e. absurd (omega (arith, clash e)))
     (hit t _ _ _ _ refl ((date_decides y m d).1 h)))))))
 
-by_range : (n y₂ m₂ d₂ y m d : ℕ) → IsDate y m d → IsDate y₂ m₂ d₂ → day_number y m d ≤ day_number y₂ m₂ d₂ → days_by (date_text y m d ++ codes ".." ++ date_text y₂ m₂ d₂) y n m d y₂ m₂ d₂ ≡ Some (day_number y m d, day_number y₂ m₂ d₂ + 1)
+by_range : (n y₂ m₂ d₂ y m d : ℕ) → IsDate y m d → IsDate y₂ m₂ d₂ → day_number y m d ≤ day_number y₂ m₂ d₂
+    → days_by (date_text y m d ++ codes ".." ++ date_text y₂ m₂ d₂) y n m d y₂ m₂ d₂ ≡ Some (day_number y m d, day_number y₂ m₂ d₂ + 1)
 unfolding days_by
 by_range n y₂ m₂ d₂ y m d h k o =
     let t = date_text y m d ++ codes ".." ++ date_text y₂ m₂ d₂ in

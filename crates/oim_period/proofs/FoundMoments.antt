@@ -16,7 +16,8 @@ is_right y m d hour minute second = is_date y m d && is_clock hour minute second
 at_of : ℕ → ℕ → ℕ → ℕ → ℕ → ℕ → ℕ
 at_of y m d hour minute second = seconds_at (day_number y m d) (3600 * hour + 60 * minute + second)
 
-of_moment : (t : List ℕ) (y m d hour minute second : ℕ) → t ≡ date_text y m d ++ codes "T" ++ clock_text hour minute second → is_right y m d hour minute second ≡ true → IsMoment t (at_of y m d hour minute second)
+of_moment : (t : List ℕ) (y m d hour minute second : ℕ) → t ≡ date_text y m d ++ codes "T" ++ clock_text hour minute second → is_right y m d hour minute second ≡ true
+    → IsMoment t (at_of y m d hour minute second)
 unfolding is_right at_of
 of_moment t y m d hour minute second e v =
     let at = seconds_at (day_number y m d) (3600 * hour + 60 * minute + second) in
@@ -28,7 +29,8 @@ pub moment_tells : (t : List ℕ) → IfSome (moment_of t) (IsMoment t)
 unfolding moment_of moment_by is_right at_of
 moment_tells t = found_tells (IsMoment t) t _ _ _ (of_moment t (four_at 0 t) (two_at 5 t) (two_at 8 t) (two_at 11 t) (two_at 14 t) (two_at 17 t))
 
-by_moment : (y m d hour minute second : ℕ) → IsDate y m d → IsClock hour minute second → at_of y m d hour minute second < midnight day_limit → moment_by (date_text y m d ++ codes "T" ++ clock_text hour minute second) y m d hour minute second ≡ Some (at_of y m d hour minute second)
+by_moment : (y m d hour minute second : ℕ) → IsDate y m d → IsClock hour minute second → at_of y m d hour minute second < midnight day_limit
+    → moment_by (date_text y m d ++ codes "T" ++ clock_text hour minute second) y m d hour minute second ≡ Some (at_of y m d hour minute second)
 unfolding moment_by at_of
 by_moment y m d hour minute second h k b =
     let at = seconds_at (day_number y m d) (3600 * hour + 60 * minute + second) in

@@ -4,13 +4,15 @@ use Rattle.oim_period.specs.Calendar.{day_limit}
 use Rattle.oim_period.specs.declared.days.Days.{Days}
 use Rattle.oim_period.specs.Reads.{IsRead, IsOnly}
 
--- the relation has these days alone, and they are answered where they end in time
-pub read_by : (P : ℕ → ℕ → Type 0) (o : Option Days) (f a : ℕ) → P f a → ((f₂ a₂ : ℕ) → P f₂ a₂ → (f₂ ≡ f) × (a₂ ≡ a)) → (IsSome o ↔ (a < day_limit)) → IfSome o (λ d. (d.first ≡ f) × (d.after ≡ a)) → IsRead P o
+-- the relation has these days alone, and they are answered where the day after them is in the years that a text may name
+pub read_by : (P : ℕ → ℕ → Type 0) (o : Option Days) (f a : ℕ) → P f a → ((f₂ a₂ : ℕ) → P f₂ a₂ → (f₂ ≡ f) × (a₂ ≡ a)) → (IsSome o ↔ (a < day_limit))
+    → IfSome o (λ d. (d.first ≡ f) × (d.after ≡ a)) → IsRead P o
 read_by P None f a p u e v = λ f₂ a₂ q. let s = u f₂ a₂ q in let out : a < day_limit → false ≡ true = e.1 in grind arith
 read_by P (Some d) f a p u e v = (rw (v.0, v.1) p, λ f₂ a₂ q. let s = u f₂ a₂ q in (s.0 ∙ sym v.0, s.1 ∙ sym v.1))
 
 -- the same where the relation has them under a condition
-pub read_when : (P : ℕ → ℕ → Type 0) (o : Option Days) (f a : ℕ) (when : Type 0) → (when → P f a) → ((f₂ a₂ : ℕ) → P f₂ a₂ → when × (f₂ ≡ f) × (a₂ ≡ a)) → (IsSome o ↔ (when × (a < day_limit))) → IfSome o (λ d. (d.first ≡ f) × (d.after ≡ a)) → IsRead P o
+pub read_when : (P : ℕ → ℕ → Type 0) (o : Option Days) (f a : ℕ) (when : Type 0) → (when → P f a) → ((f₂ a₂ : ℕ) → P f₂ a₂ → when × (f₂ ≡ f) × (a₂ ≡ a))
+    → (IsSome o ↔ (when × (a < day_limit))) → IfSome o (λ d. (d.first ≡ f) × (d.after ≡ a)) → IsRead P o
 read_when P None f a when p u e v =
     λ f₂ a₂ q. let s = u f₂ a₂ q in let out : a < day_limit → false ≡ true = λ h. e.1 (s.0, h) in grind arith
 read_when P (Some d) f a when p u e v =

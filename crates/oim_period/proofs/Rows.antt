@@ -17,7 +17,8 @@ of_year (week_of_one_digit y n r w) e = absurd (omega (arith, clash e))
 of_year (week y n r w) e = absurd (omega (arith, clash e))
 of_year (day y m d r) e = absurd (omega (arith, clash e))
 
-pub of_month : {y : ℕ} {x : List ℕ} {f a : ℕ} → InYear y x f a → (u v : ℕ) → x ≡ 45 ∷ u ∷ v ∷ [] → (m : ℕ) × IsInRange 1 12 m × (u ≡ 48 + m / 10) × (v ≡ 48 + m % 10) × (f ≡ month_start y m) × (a ≡ month_start y (m + 1))
+pub of_month : {y : ℕ} {x : List ℕ} {f a : ℕ} → InYear y x f a → (u v : ℕ) → x ≡ 45 ∷ u ∷ v ∷ []
+    → (m : ℕ) × IsInRange 1 12 m × (u ≡ 48 + m / 10) × (v ≡ 48 + m % 10) × (f ≡ month_start y m) × (a ≡ month_start y (m + 1))
 of_month (year y) u v e = absurd (omega (arith, clash e))
 of_month (month y m r) u v e = (m, r, cc, cc, refl, refl)
 of_month (quarter y q r) u v e = absurd (omega (arith, clash e))
@@ -26,7 +27,8 @@ of_month (week_of_one_digit y n r w) u v e = absurd (omega (arith, clash e))
 of_month (week y n r w) u v e = absurd (omega (arith, clash e))
 of_month (day y m d r) u v e = absurd (omega (arith, clash e))
 
-pub of_quarter : {y : ℕ} {x : List ℕ} {f a : ℕ} → InYear y x f a → (u : ℕ) → x ≡ 81 ∷ u ∷ [] → (q : ℕ) × IsInRange 1 4 q × (u ≡ 48 + q) × (f ≡ month_start y (3 * q - 2)) × (a ≡ month_start y (3 * q + 1))
+pub of_quarter : {y : ℕ} {x : List ℕ} {f a : ℕ} → InYear y x f a → (u : ℕ) → x ≡ 81 ∷ u ∷ []
+    → (q : ℕ) × IsInRange 1 4 q × (u ≡ 48 + q) × (f ≡ month_start y (3 * q - 2)) × (a ≡ month_start y (3 * q + 1))
 of_quarter (year y) u e = absurd (omega (arith, clash e))
 of_quarter (month y m r) u e = absurd (omega (arith, clash e))
 of_quarter (quarter y q r) u e = (q, r, cc, refl, refl)
@@ -53,7 +55,8 @@ of_week_digit (week_of_one_digit y n r w) u e = (n, r, w, cc, refl, refl)
 of_week_digit (week y n r w) u e = absurd (omega (arith, clash e))
 of_week_digit (day y m d r) u e = absurd (omega (arith, clash e))
 
-pub of_week : {y : ℕ} {x : List ℕ} {f a : ℕ} → InYear y x f a → (u v : ℕ) → x ≡ 87 ∷ u ∷ v ∷ [] → (n : ℕ) × (n ≤ 99) × IsWeek y n × (u ≡ 48 + n / 10) × (v ≡ 48 + n % 10) × (f ≡ week_start y n) × (a ≡ week_start y n + 7)
+pub of_week : {y : ℕ} {x : List ℕ} {f a : ℕ} → InYear y x f a → (u v : ℕ) → x ≡ 87 ∷ u ∷ v ∷ []
+    → (n : ℕ) × (n ≤ 99) × IsWeek y n × (u ≡ 48 + n / 10) × (v ≡ 48 + n % 10) × (f ≡ week_start y n) × (a ≡ week_start y n + 7)
 of_week (year y) u v e = absurd (omega (arith, clash e))
 of_week (month y m r) u v e = absurd (omega (arith, clash e))
 of_week (quarter y q r) u v e = absurd (omega (arith, clash e))
@@ -62,7 +65,8 @@ of_week (week_of_one_digit y n r w) u v e = absurd (omega (arith, clash e))
 of_week (week y n r w) u v e = (n, r, w, cc, cc, refl, refl)
 of_week (day y m d r) u v e = absurd (omega (arith, clash e))
 
-pub of_day : {y : ℕ} {x : List ℕ} {f a : ℕ} → InYear y x f a → (u v s t : ℕ) → x ≡ 45 ∷ u ∷ v ∷ 45 ∷ s ∷ t ∷ [] → (m : ℕ) × (d : ℕ) × IsDate y m d × (u ≡ 48 + m / 10) × (v ≡ 48 + m % 10) × (s ≡ 48 + d / 10) × (t ≡ 48 + d % 10) × (f ≡ day_number y m d) × (a ≡ day_number y m d + 1)
+pub of_day : {y : ℕ} {x : List ℕ} {f a : ℕ} → InYear y x f a → (u v s t : ℕ) → x ≡ 45 ∷ u ∷ v ∷ 45 ∷ s ∷ t ∷ []
+    → (m : ℕ) × (d : ℕ) × IsDate y m d × (u ≡ 48 + m / 10) × (v ≡ 48 + m % 10) × (s ≡ 48 + d / 10) × (t ≡ 48 + d % 10) × (f ≡ day_number y m d) × (a ≡ day_number y m d + 1)
 of_day (year y) u v s t e = absurd (omega (arith, clash e))
 of_day (month y m r) u v s t e = absurd (omega (arith, clash e))
 of_day (quarter y q r) u v s t e = absurd (omega (arith, clash e))

@@ -13,7 +13,15 @@ use borrow.Author.Differences.{up, down}
 
 pub next_january : (y : ℕ) → 1 ≤ y → day_number y 13 1 ≡ day_number (y + 1) 1 1
 next_january y h =
-    omega (arith, day_count-day_number y 13 1 h (omega arith) (omega arith), day_count-day_number (y + 1) 1 1 (omega arith) (omega arith) (omega arith), day_count-next_year (pos y) (pos (y + 1)) (omega (arith, signed_arith)) (omega (arith, signed_arith)), day_count-last_of_year (pos y), day_count-next_month (pos y) 12 (omega arith), day_count-day (pos y) 12 31 1 (omega arith) (omega arith))
+    omega (
+      arith,
+      day_count-day_number y 13 1 h (omega arith) (omega arith),
+      day_count-day_number (y + 1) 1 1 (omega arith) (omega arith) (omega arith),
+      day_count-next_year (pos y) (pos (y + 1)) (omega (arith, signed_arith)) (omega (arith, signed_arith)),
+      day_count-last_of_year (pos y),
+      day_count-next_month (pos y) 12 (omega arith),
+      day_count-day (pos y) 12 31 1 (omega arith) (omega arith),
+    )
 
 pub last_year_end : day_number 9999 13 1 ≡ 3_652_059
 last_year_end =
@@ -33,7 +41,12 @@ year_start y low high =
 pub new_year_bound : (y : ℕ) → 1 ≤ y → y ≤ 9999 → day_number (y + 1) 1 1 ≤ 3_652_059
 new_year_bound y low high =
     let b = day_count-year_bounds (pos y) (omega (arith, ints), omega (arith, ints)) in
-    omega (arith, b.1, day_count-next_year (pos y) (pos (y + 1)) (omega (arith, signed_arith)) (omega (arith, signed_arith)), day_count-day_number (y + 1) 1 1 (omega arith) (omega arith) (omega arith))
+    omega (
+      arith,
+      b.1,
+      day_count-next_year (pos y) (pos (y + 1)) (omega (arith, signed_arith)) (omega (arith, signed_arith)),
+      day_count-day_number (y + 1) 1 1 (omega arith) (omega arith) (omega arith),
+    )
 
 -- the ISO year has a week exactly where the week's Thursday lies in the year
 pub week_exists : (y n : ℕ) → 1 ≤ y → y ≤ 9999 → n ≤ 99 → (IsIsoWeekDate (to_z w16 y) (to_z w8 n) Monday → IsWeek y n) × (IsWeek y n → IsIsoWeekDate (to_z w16 y) (to_z w8 n) Monday)
@@ -52,7 +65,8 @@ week_exists y n low high hn =
       λ h. ((omega (arith, ints), omega (arith, ints)), (omega (arith, ints), omega (arith, signed_arith)), (omega (arith, signed_arith), omega (arith, signed_arith))),
     )
 
-pub week_number : (y n : ℕ) (year : ℤ) (week r : ℕ) → 1 ≤ y → y ≤ 9999 → n ≤ 99 → 1 ≤ n → year ≡ to_z w16 y → pos week ≡ to_z w8 n → days_from_iso year week Monday +ℤ pos 4_371_587 ≡ pos r → r ≡ 3_652_425 + week_start y n
+pub week_number : (y n : ℕ) (year : ℤ) (week r : ℕ) → 1 ≤ y → y ≤ 9999 → n ≤ 99 → 1 ≤ n → year ≡ to_z w16 y → pos week ≡ to_z w8 n
+    → days_from_iso year week Monday +ℤ pos 4_371_587 ≡ pos r → r ≡ 3_652_425 + week_start y n
 unfolding days_from_iso
 week_number y n year week r low high hn pn ey en e =
     let y_is : year ≡ pos y = ey ∙ widened16 y (omega arith) in

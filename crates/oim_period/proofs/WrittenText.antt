@@ -115,7 +115,8 @@ unfolding days_of_years
 in_years zero day h = absurd (omega arith)
 in_years (suc n) day h = by (nat_lt day (days_of_years n)) refl (in_years n day)
   where
-    by : (b : Bool) → nat_lt day (days_of_years n) ≡ b → (day < days_of_years n → (y : ℕ) × (1 ≤ y) × (y ≤ n) × (days_of_years (y - 1) ≤ day) × (day < days_of_years y)) → (y : ℕ) × (1 ≤ y) × (y ≤ suc n) × (days_of_years (y - 1) ≤ day) × (day < days_of_years y)
+    by : (b : Bool) → nat_lt day (days_of_years n) ≡ b → (day < days_of_years n → (y : ℕ) × (1 ≤ y) × (y ≤ n) × (days_of_years (y - 1) ≤ day) × (day < days_of_years y))
+        → (y : ℕ) × (1 ≤ y) × (y ≤ suc n) × (days_of_years (y - 1) ≤ day) × (day < days_of_years y)
     by true e next =
         let less : day < days_of_years n = grind (arith, nat_tests) in
         let r = next less in
@@ -130,7 +131,9 @@ unfolding days_of_months
 in_months z zero day h = absurd (omega arith)
 in_months z (suc n) day h = by (nat_lt day (days_of_months z n)) refl (in_months z n day)
   where
-    by : (b : Bool) → nat_lt day (days_of_months z n) ≡ b → (day < days_of_months z n → (m : ℕ) × (1 ≤ m) × (m ≤ n) × (days_of_months z (m - 1) ≤ day) × (day < days_of_months z m)) → (m : ℕ) × (1 ≤ m) × (m ≤ suc n) × (days_of_months z (m - 1) ≤ day) × (day < days_of_months z m)
+    by : (b : Bool) → nat_lt day (days_of_months z n) ≡ b
+        → (day < days_of_months z n → (m : ℕ) × (1 ≤ m) × (m ≤ n) × (days_of_months z (m - 1) ≤ day) × (day < days_of_months z m))
+        → (m : ℕ) × (1 ≤ m) × (m ≤ suc n) × (days_of_months z (m - 1) ≤ day) × (day < days_of_months z m)
     by true e next =
         let less : day < days_of_months z n = grind (arith, nat_tests) in
         let r = next less in

@@ -1,16 +1,16 @@
 -- The Gregorian calendar from the year 1 on, and the weeks of a year (ISO 8601). Days are counted by adding the lengths of years and
--- months from 1 January of the year 1, which is day 0 and a Monday. Each fact stands beside the test of it.
+-- months from 1 January of the year 1, which is day 0 and a Monday. Each statement stands beside its test.
 use Rattle.std.specs.Prelude.{◌≡◌, ℕ, zero, suc, ◌+◌, ◌-◌, ◌*◌, ◌%◌, ◌<◌, ◌≤◌, Bool, not, ◌&&◌, ◌||◌, ◌==◌, if◌then◌else◌, ◌⊎◌, nat_le, nat_lt}
 use Rattle.std.specs.Int.{IsInRange, is_in_range}
 
--- every fourth year, but of the centuries only every fourth
+-- leap years: every fourth year, but of the centuries only every fourth
 abbrev pub is_leap_year : ℕ → Bool
 is_leap_year y = (y % 4 == 0) && (not (y % 100 == 0) || (y % 400 == 0))
 
 abbrev pub days_in_year : ℕ → ℕ
 days_in_year y = if is_leap_year y then 366 else 365
 
--- thirty days have September, April, June and November
+-- April, June, September and November have 30 days
 abbrev pub days_in_month : ℕ → ℕ → ℕ
 days_in_month y m =
     if m == 2 then (if is_leap_year y then 29 else 28)
@@ -34,7 +34,7 @@ day_number y m d = days_of_years (y - 1) + days_of_months y (m - 1) + (d - 1)
 abbrev pub month_start : ℕ → ℕ → ℕ
 month_start y m = day_number y m 1
 
--- how many days the years 1 to 9999 have
+-- the number of days in the years 1 to 9999
 abbrev pub day_limit : ℕ
 day_limit = 3_652_059
 
@@ -67,7 +67,7 @@ IsWeek y n = IsYear y × (1 ≤ n) × (day_number y 1 1 ≤ week_start y n + 3) 
 unfoldable pub is_week : ℕ → ℕ → Bool
 is_week y n = is_year y && nat_le 1 n && nat_le (day_number y 1 1) (week_start y n + 3) && nat_lt (week_start y n + 3) (day_number (y + 1) 1 1)
 
--- a clock shows this, or it is the midnight that ends the day
+-- a time that a clock shows, or the midnight that ends the day
 abbrev pub IsClock : ℕ → ℕ → ℕ → Type 0
 IsClock hour minute second =
     ((hour ≤ 23) × (minute ≤ 59) × (second ≤ 59)) ⊎ ((hour ≡ 24) × (minute ≡ 0) × (second ≡ 0))

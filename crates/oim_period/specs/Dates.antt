@@ -1,4 +1,4 @@
--- Written dates (ISO 8601, extended format, of the Gregorian calendar; XML Schema Part 2, second edition: date, without time zone), as a
+-- Written dates (ISO 8601, extended format, in the Gregorian calendar; XML Schema Part 2, second edition: date without a time zone), as a
 -- table and as a test.
 use Rattle.std.specs.Prelude.{ℕ, Bool, ◌&&◌, List}
 use Rattle.std.specs.Str.{bytes_eq}

@@ -1,4 +1,4 @@
--- Numbers, dates and times in decimal digits of a fixed count (ISO 8601, extended format), and the numbers that stand at places of a text.
+-- Numbers, dates and times in a fixed number of decimal digits (ISO 8601, extended format), and the numbers that stand at places of a text.
 use Rattle.std.specs.Prelude.{ℕ, ◌+◌, ◌-◌, ◌*◌, ◌/◌, ◌%◌, List, [], ◌∷◌, ◌++◌, codes, get_or}
 
 -- the character of a digit
@@ -22,7 +22,7 @@ date_text y m d = four y ++ codes "-" ++ two m ++ codes "-" ++ two d
 abbrev pub clock_text : ℕ → ℕ → ℕ → List ℕ
 clock_text hour minute second = two hour ++ codes ":" ++ two minute ++ codes ":" ++ two second
 
--- the number of one, two or four digits that begins at a place of a text
+-- the number of one, two or four digits that begins at a place in a text
 unfoldable pub one_at : ℕ → List ℕ → ℕ
 one_at n text = get_or text n 0 - 48
 

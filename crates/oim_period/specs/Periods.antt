@@ -1,7 +1,8 @@
 -- The period that a text means, and the text of a period (Open Information Model 1.0; xBRL-CSV 1.0, the short forms of periods).
--- A period is told by its moments, and a moment by its seconds since the year 1 began. Each form of a text is found so: the numbers
--- that stand at its places are taken, written in the form again, and the outcome must be the text itself.
-use Rattle.std.specs.Prelude.{ℕ, zero, suc, ◌+◌, ◌-◌, ◌*◌, ◌/◌, ◌%◌, Bool, true, ◌&&◌, nat_le, nat_lt, if◌then◌else◌, List, [], ◌∷◌, ◌++◌, length, take, drop, codes, Option, None, Some, option_map, option_and_then, bytes_eq}
+-- A period is told by its moments, and a moment by its seconds since the year 1 began. A form of a text is found by taking the numbers
+-- that stand at its places and writing them in the form again: the outcome must be the text itself.
+use Rattle.std.specs.Prelude.{ℕ, zero, suc, ◌+◌, ◌-◌, ◌*◌, ◌/◌, ◌%◌, Bool, true, ◌&&◌, nat_le, nat_lt, if◌then◌else◌, List, [], ◌∷◌, ◌++◌, length, take, drop, codes}
+use Rattle.std.specs.Prelude.{Option, None, Some, option_map, option_and_then, bytes_eq}
 use Rattle.std.specs.Int.{is_in_range}
 use Rattle.oim_period.specs.Calendar.{days_of_years, days_of_months, is_year, is_date, is_week, is_clock, day_number, day_limit, month_start, week_start, midnight, seconds_at}
 use Rattle.oim_period.specs.Digits.{one, two, four, date_text, clock_text, one_at, two_at, four_at}
@@ -15,7 +16,7 @@ pub data Reading : Type 0 where
 unfoldable pub found : {A : Type 0} → List ℕ → List ℕ → Bool → A → Option A
 found text written right value = if bytes_eq text written && right then Some value else None
 
--- the first that is there
+-- the first value that is there
 unfoldable pub first_some : {A : Type 0} → List (Option A) → Option A
 first_some [] = None
 first_some (None ∷ rest) = first_some rest
@@ -42,13 +43,14 @@ days_by text y n m d y₂ m₂ d₂ =
     ∷ found text (four y ++ codes "W" ++ one n) (nat_le n 9 && is_week y n) (week_start y n, week_start y n + 7)
     ∷ found text (four y ++ codes "W" ++ two m) (nat_le m 99 && is_week y m) (week_start y m, week_start y m + 7)
     ∷ found text (date_text y m d) (is_date y m d) (day_number y m d, day_number y m d + 1)
-    ∷ found text (date_text y m d ++ codes ".." ++ date_text y₂ m₂ d₂) (is_date y m d && is_date y₂ m₂ d₂ && nat_le (day_number y m d) (day_number y₂ m₂ d₂)) (day_number y m d, day_number y₂ m₂ d₂ + 1)
+    ∷ found text (date_text y m d ++ codes ".." ++ date_text y₂ m₂ d₂) (is_date y m d && is_date y₂ m₂ d₂ && nat_le (day_number y m d) (day_number y₂ m₂ d₂))
+    (day_number y m d, day_number y₂ m₂ d₂ + 1)
     ∷ [])
 
 unfoldable pub days_of : List ℕ → Option (ℕ × ℕ)
 days_of text = days_by text (four_at 0 text) (one_at 5 text) (two_at 5 text) (two_at 8 text) (four_at 12 text) (two_at 17 text) (two_at 20 text)
 
--- whole days, from midnight to midnight, that end in time
+-- whole days, from midnight to midnight, where the last midnight is in the years that a text may name
 unfoldable pub whole_days : Option (ℕ × ℕ) → Option (ℕ × ℕ)
 whole_days None = None
 whole_days (Some e) = if nat_lt e.1 day_limit then Some (midnight e.0, midnight e.1) else None
@@ -69,11 +71,11 @@ pair_of text =
 unfoldable pub duration_of : List ℕ → Option (ℕ × ℕ)
 duration_of text = first_some (whole_days (days_of text) ∷ pair_of text ∷ [])
 
--- a text without the mark at its end
+-- a text without a mark at its end; none where it does not end so
 unfoldable pub without : List ℕ → List ℕ → Option (List ℕ)
 without mark text = let front = take (length text - length mark) text in found text (front ++ mark) true front
 
--- the period that a text means
+-- the period that a text means; none where it means none
 unfoldable pub period_of : List ℕ → Option Reading
 period_of text =
     first_some (
@@ -83,7 +85,7 @@ period_of text =
     ∷ option_map (λ e. instant e.1) (option_and_then duration_of (without (codes "@end") text))
     ∷ [])
 
--- the sides of a duration; an instant has none
+-- the start and the end of a duration; an instant has neither
 unfoldable pub start_of : Reading → Option Reading
 start_of (instant at) = None
 start_of (duration start end) = Some (instant start)

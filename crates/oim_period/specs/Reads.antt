@@ -9,12 +9,12 @@ use Rattle.oim_period.specs.declared.period.Span.{Span}
 use Rattle.oim_period.specs.declared.period.Period.{Period}
 use Rattle.oim_period.specs.declared.period.Period.TheVariants.{Instant, Duration}
 
--- the days that the relation has, or none where it has none that end in time
+-- the answer is the one pair of days that the relation has, or none where the day after them is not in the years that a text may name
 abbrev pub IsRead : (ℕ → ℕ → Type 0) → Option Days → Type 0
 IsRead P None = (first after : ℕ) → P first after → day_limit ≤ after
 IsRead P (Some d) = P d.first d.after × ((first after : ℕ) → P first after → (first ≡ d.first) × (after ≡ d.after))
 
--- the one value that the relation has, or none where it has none
+-- the answer is the one value of the relation, or none where it has none
 abbrev pub IsOnly : {A : Type 0} → (A → Type 0) → Option A → Type 0
 IsOnly {A} P None = (x : A) → P x → ⊥
 IsOnly {A} P (Some y) = P y × ((x : A) → P x → x ≡ y)
@@ -23,7 +23,7 @@ IsOnly {A} P (Some y) = P y × ((x : A) → P x → x ≡ y)
 abbrev pub seconds_of : Moment → ℕ
 seconds_of m = seconds_at m.day m.second
 
--- a time, by the seconds at which it starts and ends
+-- a duration, by the seconds at which it starts and ends
 abbrev pub ends_of : Span → ℕ × ℕ
 ends_of s = (seconds_of s.start, seconds_of s.end)
 

@@ -6,7 +6,7 @@ use Rattle.oim_period.specs.Calendar.{IsYear, IsDate, IsWeek, IsClock, day_numbe
 use Rattle.oim_period.specs.Digits.{one, two, four, date_text, clock_text}
 use Rattle.oim_period.specs.Periods.{Reading, instant, duration}
 
--- the calendar's date of a day
+-- the date of a day
 abbrev pub IsDateOf : ℕ → ℤ → ℕ → ℕ → Type 0
 IsDateOf day year m d = (y : ℕ) × (year ≡ pos y) × IsDate y m d × (day_number y m d ≡ day)
 
@@ -33,12 +33,12 @@ pub data IsMoment : List ℕ → ℕ → Type 0 where
   date_time : (text text₂ : List ℕ) (day second : ℕ) → IsDay text day → IsTime text₂ second → seconds_at day second < midnight day_limit
       → IsMoment (text ++ codes "T" ++ text₂) (seconds_at day second)
 
--- the text names days, from the first to the one before `after`
+-- the text names the days from `first` to the one before `after`
 pub data IsDays : List ℕ → ℕ → ℕ → Type 0 where
   in_year : (y : ℕ) (tail : List ℕ) (first after : ℕ) → IsYear y → InYear y tail first after → IsDays (four y ++ tail) first after
   range : (text text₂ : List ℕ) (first last : ℕ) → IsDay text first → IsDay text₂ last → first ≤ last → IsDays (text ++ codes ".." ++ text₂) first (last + 1)
 
--- the text names a time from one moment to a later one
+-- the text names the duration from one moment to a later one
 pub data IsDuration : List ℕ → ℕ → ℕ → Type 0 where
   days : (text : List ℕ) (first after : ℕ) → IsDays text first after → after < day_limit → IsDuration text (midnight first) (midnight after)
   moments : (text text₂ : List ℕ) (start end : ℕ) → IsMoment text start → IsMoment text₂ end → start < end → IsDuration (text ++ codes "/" ++ text₂) start end

@@ -3,7 +3,7 @@
 ghost use Rattle.std.specs.Prelude.{◌<◌};
 ghost use Rattle.oim_period.specs.Calendar.{day_limit};
 
-/// Days, from the first up to the one before `after`.
+/// The days from `first` up to the one before `after`, numbered from 0001-01-01 as day 0.
 #[derive(Clone, Copy, Debug, PartialEq, Eq)]
 pub struct Days {
     pub first: u32,

@@ -17,14 +17,14 @@ fn midnight(day: u32) -> Moment
     Moment { day, second: 0 }
 }
 
-/// The seconds since the first day began.
+/// The seconds from the begin of the first day to the moment.
 fn seconds(moment: Moment) -> u64
     ensures { result ≡ seconds_of moment }
 {
     86_400 * moment.day as u64 + moment.second as u64
 }
 
-/// The moment that a date and a time name.
+/// The moment that a text of a date and a time names. `None` for any other text.
 pub fn moment(text: &[u8]) -> Option<Moment>
     ensures { IsOnly (IsMoment text.now) (option_map seconds_of result) }
 {
@@ -42,7 +42,7 @@ pub fn moment(text: &[u8]) -> Option<Moment>
     }
 }
 
-/// The time between two written moments.
+/// The duration between two written moments. `None` where the first is not before the second.
 fn between(text: &[u8]) -> Option<Span>
     requires { length text.now ≡ 39 }
     ensures { IsOnly (λ e. IsDuration text.now e.0 e.1) (option_map ends_of result) }
@@ -59,7 +59,7 @@ fn between(text: &[u8]) -> Option<Span>
     }
 }
 
-/// The time that a text names.
+/// The duration that a text names. `None` where it names none.
 pub fn duration(text: &[u8]) -> Option<Span>
     ensures { IsOnly (λ e. IsDuration text.now e.0 e.1) (option_map ends_of result) }
 {

@@ -1,4 +1,4 @@
-//! The parts of a text: dates, times of day, whole days.
+//! The parts of a period's text: dates, times of day and whole days.
 
 ghost use Rattle.std.specs.Prelude.{◌≡◌, ℕ, ◌↔◌, ◌+◌, ◌*◌, ◌/◌, ◌%◌, ◌<◌, ◌≤◌, [], ◌∷◌, ◌++◌, codes, Some, IsSome, IfSome, length};
 ghost use Rattle.std.specs.Int.{IsInRange};
@@ -11,7 +11,7 @@ use crate::calendar;
 use crate::days::Days;
 use crate::short_form::{self, two_digits};
 
-/// The year that four digits write.
+/// The year from 1 to 9999 that four digits write. `None` for any other bytes.
 fn year(thousands: u8, hundreds: u8, tens: u8, units: u8) -> Option<u16>
     ensures exact { (n : ℕ) → (result ≡ Some n)
         ↔ (IsYear n
@@ -27,7 +27,7 @@ fn year(thousands: u8, hundreds: u8, tens: u8, units: u8) -> Option<u16>
     Some(number)
 }
 
-/// The day that a written date names.
+/// The number of the day that a written date names. `None` for any other text.
 pub fn date(text: &[u8]) -> Option<u32>
     ensures exact { IsOnly (IsDay text.now) result }
     ensures bound { IfSome result (λ n. n < day_limit) }
@@ -43,7 +43,7 @@ pub fn date(text: &[u8]) -> Option<u32>
     }
 }
 
-/// The second of the day that a written time names, where 86,400 is the next midnight.
+/// The second of the day that a written time names, where 86,400 is the next midnight. `None` for any other text.
 pub fn time(text: &[u8]) -> Option<u32>
     ensures exact { IsOnly (IsTime text.now) result }
     ensures bound { IfSome result (λ n. n ≤ 86_400) }
@@ -59,7 +59,7 @@ pub fn time(text: &[u8]) -> Option<u32>
     }
 }
 
-/// The second of the day, where 24:00:00 is the next midnight.
+/// The second of the day, where 24:00:00 is the next midnight. `None` where clocks do not show these numbers.
 fn second_of_day(hour: u8, minute: u8, second: u8) -> Option<u32>
     ensures exists { IsSome result ↔ IsClock hour minute second }
     ensures value { IfSome result (λ n. n ≡ 3600 * hour + 60 * minute + second) }
@@ -74,7 +74,7 @@ fn second_of_day(hour: u8, minute: u8, second: u8) -> Option<u32>
     }
 }
 
-/// The days that a text names.
+/// The days that a text names. `None` where it names none.
 pub fn days(text: &[u8]) -> Option<Days>
     ensures { IsRead (IsDays text.now) result }
 {
@@ -90,7 +90,7 @@ pub fn days(text: &[u8]) -> Option<Days>
     }
 }
 
-/// The days from one date to another.
+/// The days from one written date to another. `None` where the second is before the first.
 fn range(text: &[u8]) -> Option<Days>
     requires { length text.now ≡ 22 }
     ensures { IsRead (IsDays text.now) result }

@@ -1,4 +1,4 @@
-//! Reading a period.
+//! How a period is read from a text.
 
 ghost use Rattle.std.specs.Prelude.{◌≡◌, ℕ, ◌↔◌, ◌+◌, ◌*◌, ◌<◌, ◌≤◌, Some, IsSome, IfSome, length, option_map};
 ghost use Rattle.oim_period.specs.Periods.{period_of};
@@ -8,11 +8,11 @@ ghost use Rattle.oim_period.specs.Table.{Means};
 use crate::moments;
 use crate::period::Period;
 
-/// The period that a text means, in any of its ten forms, or `None` where the text means none (xBRL-CSV 1.0, the short forms of periods).
+/// The period that a text means, in any of its ten forms (xBRL-CSV 1.0, the short forms of periods).
 ///
-/// A duration of whole days starts at the midnight with which its first day begins and ends at the midnight after its last. `24:00:00` is
-/// the next midnight. Letters are capitals, and there are no surrounding spaces. A text that names a moment after 9999-12-31T23:59:59 means
-/// no period.
+/// A duration of whole days starts at the midnight with which its first day begins, and ends at the midnight after its last day.
+/// `24:00:00` is the next midnight. Letters are capitals, and spaces around the text are not allowed. `None` where the text does
+/// not mean a period, as where it names a moment after 9999-12-31T23:59:59. It takes no memory.
 pub fn read(text: &str) -> Option<Period>
     ensures exact { IsOnly (Means text.now) (option_map reading_of result) }
     ensures value { option_map reading_of result ≡ period_of text.now }

@@ -10,7 +10,7 @@ use crate::calendar;
 use crate::period::{Moment, Period};
 use std::alloc::{AllocError, Global};
 
-/// How many bytes the written form of a duration has.
+/// The number of bytes in the written form of a duration.
 const LONGEST: usize = 39;
 
 /// Adds the two digits of a number from 0 to 99.
@@ -80,9 +80,10 @@ fn push_moment(text: &mut String, moment: Moment) -> Result<(), AllocError>
 }
 
 impl Period {
-    /// The written form: `yyyy-mm-ddThh:mm:ss`, or two of them with `/` between (Open Information Model 1.0, the period core dimension).
+    /// The written form of the period (Open Information Model 1.0, the period core dimension).
     ///
-    /// Reading it gives the period again. `AllocError` where memory runs out.
+    /// It is `yyyy-mm-ddThh:mm:ss`, or two of these with `/` between them. Reading it gives the period again. Fails with
+    /// `AllocError` where memory runs out.
     pub fn text(&self, alloc: Global) -> Result<String, AllocError>
         ensures written { IfOk result (λ t. IsWritten (string_bytes t) (reading_of self.now)) }
         ensures value { IfOk result (λ t. string_bytes t ≡ period_text (reading_of self.now)) }
@@ -103,7 +104,7 @@ impl Period {
         }
     }
 
-    /// The instant at which a duration starts, or `None` for an instant (xBRL-CSV 1.0, `@start`).
+    /// The instant at which a duration starts (xBRL-CSV 1.0, `@start`). `None` for an instant. It takes no memory.
     #[tactic(auto, unfolding(crate::specs::Periods::start_of))]
     pub fn start_instant(&self) -> Option<Period>
         ensures { option_map reading_of result ≡ start_of (reading_of self.now) }
@@ -114,7 +115,7 @@ impl Period {
         }
     }
 
-    /// The instant at which a duration ends, or `None` for an instant (xBRL-CSV 1.0, `@end`).
+    /// The instant at which a duration ends (xBRL-CSV 1.0, `@end`). `None` for an instant. It takes no memory.
     #[tactic(auto, unfolding(crate::specs::Periods::end_of))]
     pub fn end_instant(&self) -> Option<Period>
         ensures { option_map reading_of result ≡ end_of (reading_of self.now) }

@@ -7,8 +7,8 @@ use crate::parts;
 
 /// Whether a text is a date: `yyyy-mm-dd`, a day of the Gregorian calendar in the years 0001 to 9999 (ISO 8601, extended format).
 ///
-/// A time zone, a sign, blanks and another count of digits make it none. `9999-12-31` is a date, though it means no period. It takes
-/// any text and no memory.
+/// A text with a time zone, a sign, blanks or another number of digits is not a date. `9999-12-31` is a date, although [`read`](crate::read)
+/// gives `None` for it. It takes no memory.
 pub fn is_date(text: &str) -> bool
     ensures means { IsTrue result ↔ IsDateText text.now }
     ensures value { result ≡ is_date_text text.now }

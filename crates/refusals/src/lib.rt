@@ -1,7 +1,7 @@
-//! Tests of calls that run out of memory: each call is made with no memory left, then with a little more,
-//! and so on until it has enough. So its first allocation is refused, then its second, and so on.
+//! Tests of calls that run out of memory.
 //!
-//! The crate is above the others, and has only these tests and what they need.
+//! Each call is made without any memory left, then with a little more, and so on until it has enough. So its first
+//! allocation is refused, then its second, and so on. The crate has only these tests and what they need.
 #![tactic(auto)]
 
 mod scarcity;

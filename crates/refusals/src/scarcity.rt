@@ -1,8 +1,8 @@
-//! Taking all memory, and giving it back a little at a time.
+//! How a test takes all memory, and gives it back a little at a time.
 
 use std::alloc::Global;
 
-/// A number of bytes that is enough for most calls.
+/// As many bytes as most calls need.
 pub const ROOM: usize = 65_536;
 
 /// The largest number of bytes that a call may be given.
@@ -34,7 +34,7 @@ struct Hoard {
     _blocks: Vec<Vec<u8>>,
 }
 
-/// Takes all memory, in ever smaller blocks. `None` if the list of them cannot be made.
+/// Takes all memory, in ever smaller blocks. `None` where the list of the blocks cannot be made.
 fn take_all(alloc: Global) -> Option<Hoard> {
     let mut blocks = Vec::with_capacity(alloc, 1 << 20).ok()?;
     for shift in (4..47usize).rev() {
@@ -50,9 +50,11 @@ fn take_all(alloc: Global) -> Option<Hoard> {
     Some(Hoard { _blocks: blocks })
 }
 
-/// How often a call is refused memory before it has enough, with 16 more bytes each time, up to `room`
-/// bytes, which is at most 1,048,576. `None` if it never has enough, or answers something else before. It
-/// takes all memory meanwhile, so it is for a process that does nothing else.
+/// How often a call is refused memory before it has enough.
+///
+/// It has 16 more bytes each time, up to `room` bytes, of which at most 1,048,576 count. `None` where it never has
+/// enough, or answers something else before. Meanwhile all memory of the process is taken, so the process must do
+/// nothing else.
 pub fn refusals<C: Call>(alloc: Global, room: usize, call: &mut C) -> Option<u32> {
     let room = room.min(MOST);
     // The system's first large block is outside its heap, and a second one inside.

@@ -1,17 +1,18 @@
-//! A value that only contracts see, and that no code ever held.
+//! Values that only contracts see, and the data that tells them.
 
 ghost use Rattle.std.specs.Prelude.{◌≡◌};
 ghost use Rattle.std.specs.Borrow.{ftrue};
 
 use std::marker::{Model, PhantomData};
 
-/// What a value tells: a value of `T`, as contracts see it.
+/// Data that tells a value of `T` to contracts. No code computes the value.
 pub trait Tells<T> {
     ghost told: { Self → T };
 }
 
-/// A value of `T` as contracts see it. It has no bytes and owns nothing, so it is dropped, sent and shared for every `T`;
-/// the clauses of the calls that make it tie `value`.
+/// A value of `T` that only contracts see, by the name `value`.
+///
+/// It has no bytes and owns nothing, so it may be dropped, sent and shared whatever `T` is.
 pub struct Told<T> {
     marker: PhantomData<T>,
     pub ghost value: { T },
@@ -21,6 +22,7 @@ impl<T> Model for Told<T> {
     ghost also_owns = { λ _. ftrue };
 }
 
+/// Tells the value that it lends.
 #[derive(Drop)]
 struct Itself<'a, T> {
     value: &'a T,
@@ -30,6 +32,7 @@ impl<T> Tells<T> for Itself<'_, T> {
     ghost told = { λ a. a.value.now };
 }
 
+/// Tells what a `Told` remembers.
 #[derive(Drop)]
 struct Once<'a, T> {
     told: &'a Told<T>,
@@ -40,7 +43,7 @@ impl<T> Tells<T> for Once<'_, T> {
 }
 
 impl<T> Told<T> {
-    /// The value of what is lent, as it is now.
+    /// Remembers what `value` is now. It copies nothing.
     #[inline(always)]
     pub fn seen(value: &T) -> Told<T>
         ensures { result.value ≡ value.now }
@@ -48,7 +51,7 @@ impl<T> Told<T> {
         Told::of(&Itself { value })
     }
 
-    /// The same value once more.
+    /// Remembers the same value once more.
     #[inline(always)]
     pub fn again(&self) -> Told<T>
         ensures { result.value ≡ self.now.value }
@@ -56,7 +59,7 @@ impl<T> Told<T> {
         Told::of(&Once { told: self })
     }
 
-    /// What a note tells. No code runs for it.
+    /// Remembers the value that `note` tells. No code of the note runs.
     #[inline(always)]
     pub fn of<N: Tells<T>>(note: &N) -> Told<T>
         ensures { result.value ≡ N.told note.now }

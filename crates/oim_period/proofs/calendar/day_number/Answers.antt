@@ -8,7 +8,8 @@ exists c = (date_exists c.args.year c.args.month c.args.day c.requires.year_in.0
 
 counted : (c : goal.After-days_since_min) → c.days_since_min.result ≡ 3_652_425 + day_number c.args.year c.args.month c.args.day
 counted c =
-    since_min_at c.args.year c.args.month c.args.day _ _ _ _ (exists c) c.requires.month_in c.requires.day_in c.in-Ok.ensures.value.0 c.in-Ok.ensures.value.1 c.in-Ok.ensures.value.2 (rw c.to_plain.ensures at c.days_since_min.ensures.value)
+    since_min_at c.args.year c.args.month c.args.day _ _ _ _ (exists c) c.requires.month_in c.requires.day_in
+    c.in-Ok.ensures.value.0 c.in-Ok.ensures.value.1 c.in-Ok.ensures.value.2 (rw c.to_plain.ensures at c.days_since_min.ensures.value)
 
 pub overflow_sub-result : goal.overflow_sub-result
 overflow_sub-result c = omega (arith, counted c)

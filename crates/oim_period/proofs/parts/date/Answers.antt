@@ -13,7 +13,11 @@ returns-in_err-day-in-45-clause-exact c =
     let s = c.args.text.now in
     let p : List ℕ = get_or s 0 0 ∷ get_or s 1 0 ∷ get_or s 2 0 ∷ get_or s 3 0 ∷ 45 ∷ get_or s 5 0 ∷ get_or s 6 0 ∷ 45 ∷ get_or s 8 0 ∷ get_or s 9 0 ∷ [] in
     let e : s ≡ p = text_from_reads s p (omega arith) (refl, (refl, (refl, (refl, (omega arith, (refl, (refl, (omega arith, (refl, (refl, tt)))))))))) in
-    rw c.from_residual-in_err-day-in-45.ensures (λ k w. let i = of_date w _ _ _ _ _ _ _ _ e in let most = month_length-most i.0 i.1 in let n = (c.in_err-day-in-45.ensures.exact i.2).1 (omega arith, i.7, i.8) in absurd (cc))
+    rw c.from_residual-in_err-day-in-45.ensures (λ k w.
+    let i = of_date w _ _ _ _ _ _ _ _ e in
+    let most = month_length-most i.0 i.1 in
+    let n = (c.in_err-day-in-45.ensures.exact i.2).1 (omega arith, i.7, i.8) in
+    absurd (cc))
 
 pub returns-in_ok-day-in-45-clause-exact : goal.returns-in_ok-day-in-45-clause-exact
 returns-in_ok-day-in-45-clause-exact c =

@@ -10,26 +10,30 @@ use Rattle.oim_period.proofs.reader.read.Goals as goal
 
 pub returns-in_err-span-clause-exact : goal.returns-in_err-span-clause-exact
 returns-in_err-span-clause-exact c =
-    let whole : c.as_bytes-bytes.result.now ≡ c.in-Some.whole.now ++ codes "@start" = strip_suffix_is Decides-eqb c.as_bytes-bytes.result.now (codes "@start") (Some c.in-Some.whole) c.in-Some.ensures.cases in
+    let whole : c.as_bytes-bytes.result.now ≡ c.in-Some.whole.now ++ codes "@start" =
+    strip_suffix_is Decides-eqb c.as_bytes-bytes.result.now (codes "@start") (Some c.in-Some.whole) c.in-Some.ensures.cases in
     let e = sym c.as_bytes-bytes.ensures.value ∙ whole in
     rw c.from_residual.ensures (λ r m. let i = of_start m _ e in c.in_err-span.ensures (i.0, i.1) i.2)
 
 pub returns-in-Some-clause-exact : goal.returns-in-Some-clause-exact
 returns-in-Some-clause-exact c =
-    let whole : c.as_bytes-bytes.result.now ≡ c.in-Some.whole.now ++ codes "@start" = strip_suffix_is Decides-eqb c.as_bytes-bytes.result.now (codes "@start") (Some c.in-Some.whole) c.in-Some.ensures.cases in
+    let whole : c.as_bytes-bytes.result.now ≡ c.in-Some.whole.now ++ codes "@start" =
+    strip_suffix_is Decides-eqb c.as_bytes-bytes.result.now (codes "@start") (Some c.in-Some.whole) c.in-Some.ensures.cases in
     let e = sym c.as_bytes-bytes.ensures.value ∙ whole in
     let h = c.in_ok-span.ensures in
     (rw e (at_start c.in-Some.whole.now _ _ h.0), λ r m. let i = of_start m _ e in i.3 ∙ ap (λ p. instant p.0) (h.1 (i.0, i.1) i.2))
 
 pub returns-in_err-span-2-clause-exact : goal.returns-in_err-span-2-clause-exact
 returns-in_err-span-2-clause-exact c =
-    let whole : c.as_bytes-bytes.result.now ≡ c.in-Some-strip_suffix.whole.now ++ codes "@end" = strip_suffix_is Decides-eqb c.as_bytes-bytes.result.now (codes "@end") (Some c.in-Some-strip_suffix.whole) c.in-Some-strip_suffix.ensures.cases in
+    let whole : c.as_bytes-bytes.result.now ≡ c.in-Some-strip_suffix.whole.now ++ codes "@end" =
+    strip_suffix_is Decides-eqb c.as_bytes-bytes.result.now (codes "@end") (Some c.in-Some-strip_suffix.whole) c.in-Some-strip_suffix.ensures.cases in
     let e = sym c.as_bytes-bytes.ensures.value ∙ whole in
     rw c.from_residual-in_err-span-2.ensures (λ r m. let i = of_end m _ e in c.in_err-span-2.ensures (i.0, i.1) i.2)
 
 pub returns-in-Some-strip_suffix-clause-exact : goal.returns-in-Some-strip_suffix-clause-exact
 returns-in-Some-strip_suffix-clause-exact c =
-    let whole : c.as_bytes-bytes.result.now ≡ c.in-Some-strip_suffix.whole.now ++ codes "@end" = strip_suffix_is Decides-eqb c.as_bytes-bytes.result.now (codes "@end") (Some c.in-Some-strip_suffix.whole) c.in-Some-strip_suffix.ensures.cases in
+    let whole : c.as_bytes-bytes.result.now ≡ c.in-Some-strip_suffix.whole.now ++ codes "@end" =
+    strip_suffix_is Decides-eqb c.as_bytes-bytes.result.now (codes "@end") (Some c.in-Some-strip_suffix.whole) c.in-Some-strip_suffix.ensures.cases in
     let e = sym c.as_bytes-bytes.ensures.value ∙ whole in
     let h = c.in_ok-span-2.ensures in
     (rw e (at_end c.in-Some-strip_suffix.whole.now _ _ h.0), λ r m. let i = of_end m _ e in i.3 ∙ ap (λ p. instant p.1) (h.1 (i.0, i.1) i.2))

@@ -13,5 +13,7 @@ returns-in-empty c =
 pub returns-in-45-2 : goal.returns-in-45-2
 returns-in-45-2 c =
     let s = c.args.tail.now in
-    let e : s ≡ 45 ∷ get_or s 1 0 ∷ get_or s 2 0 ∷ 45 ∷ get_or s 4 0 ∷ get_or s 5 0 ∷ [] = text_from_reads s (45 ∷ get_or s 1 0 ∷ get_or s 2 0 ∷ 45 ∷ get_or s 4 0 ∷ get_or s 5 0 ∷ []) (omega arith) (omega arith, (refl, (refl, (omega arith, (refl, (refl, tt)))))) in
+    let e : s ≡ 45 ∷ get_or s 1 0 ∷ get_or s 2 0 ∷ 45 ∷ get_or s 4 0 ∷ get_or s 5 0 ∷ [] =
+    text_from_reads s (45 ∷ get_or s 1 0 ∷ get_or s 2 0 ∷ 45 ∷ get_or s 4 0 ∷ get_or s 5 0 ∷ []) (omega arith)
+    (omega arith, (refl, (refl, (omega arith, (refl, (refl, tt)))))) in
     rw e c.month_and_day.ensures
