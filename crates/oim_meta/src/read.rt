@@ -1,6 +1,6 @@
 //! Reading a metadata: its first fault, or the report that it says.
 
-ghost use Rattle.std.specs.Prelude.{◌≡◌, ◌⊎◌, codes, false, if◌then◌else◌, option_map, Some, None, Ok, Err, IfOk, OnOk, IfErr};
+ghost use Rattle.std.specs.Prelude.{◌≡◌, ◌⊎◌, codes, false, if◌then◌else◌, Some, None, Ok, Err, IfOk, OnOk, IfErr};
 ghost use Rattle.serde_json.specs.Find.{get};
 ghost use Rattle.serde_json.specs.View.{view};
 ghost use Rattle.oim_meta.specs.declared.fault.MetaFault.TheVariants.{Memory};

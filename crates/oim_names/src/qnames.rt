@@ -1,6 +1,6 @@
 //! Qualified names: QNames and SQNames.
 
-ghost use Rattle.std.specs.Prelude.{◌≡◌, List, ℕ, option_map};
+ghost use Rattle.std.specs.Prelude.{◌≡◌, option_map};
 ghost use Rattle.oim_names.specs.QName.{Name, IsQName, IsSQName, IsOnly, is_no_blank as no_blank, is_solid as solid, seen_name, qname_of, sqname_of};
 
 use crate::{Namespaces, is_ncname};

@@ -1,6 +1,6 @@
 //! Days of the calendar, counted from 1 January of the year 1.
 
-ghost use Rattle.std.specs.Prelude.{◌≡◌, ℕ, ◌↔◌, ◌+◌, ◌*◌, ◌<◌, ◌≤◌, IsSome, IfSome};
+ghost use Rattle.std.specs.Prelude.{◌≡◌, ◌↔◌, ◌<◌, ◌≤◌, IsSome, IfSome};
 ghost use Rattle.std.specs.Int.{IsInRange};
 ghost use Rattle.oim_period.specs.Calendar.{IsDate, IsYear, IsWeek, day_number as number_of_day, week_start as monday_of_week, day_limit, month_start as first_of_month};
 ghost use Rattle.oim_period.specs.Table.{IsDateOf};

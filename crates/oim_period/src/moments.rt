@@ -1,8 +1,8 @@
 //! Moments, and durations between them.
 
-ghost use Rattle.std.specs.Prelude.{◌≡◌, ℕ, ◌↔◌, ◌+◌, ◌*◌, ◌<◌, ◌≤◌, Some, IsSome, IfSome, length, option_map};
+ghost use Rattle.std.specs.Prelude.{◌≡◌, ◌<◌, length, option_map};
 ghost use Rattle.oim_period.specs.Calendar.{day_limit, midnight as midnight_of};
-ghost use Rattle.oim_period.specs.Table.{IsMoment, IsDays, IsDuration};
+ghost use Rattle.oim_period.specs.Table.{IsMoment, IsDuration};
 ghost use Rattle.oim_period.specs.Reads.{IsOnly, seconds_of, ends_of};
 
 use crate::calendar::DAY_LIMIT;

@@ -1,8 +1,7 @@
 //! The parts of a period's text: dates, times of day and whole days.
 
-ghost use Rattle.std.specs.Prelude.{◌≡◌, ℕ, ◌↔◌, ◌+◌, ◌*◌, ◌/◌, ◌%◌, ◌<◌, ◌≤◌, [], ◌∷◌, ◌++◌, codes, Some, IsSome, IfSome, length};
-ghost use Rattle.std.specs.Int.{IsInRange};
-ghost use Rattle.oim_period.specs.Calendar.{IsDate, IsYear, IsClock, day_limit};
+ghost use Rattle.std.specs.Prelude.{◌≡◌, ℕ, ◌↔◌, ◌+◌, ◌*◌, ◌/◌, ◌%◌, ◌<◌, ◌≤◌, Some, IsSome, IfSome, length};
+ghost use Rattle.oim_period.specs.Calendar.{IsYear, IsClock, day_limit};
 ghost use Rattle.oim_period.specs.Digits.{digit};
 ghost use Rattle.oim_period.specs.Table.{IsDay, IsTime, IsDays};
 ghost use Rattle.oim_period.specs.Reads.{IsRead, IsOnly};

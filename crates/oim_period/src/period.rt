@@ -1,6 +1,6 @@
 //! Periods, and the moments that they are made of.
 
-ghost use Rattle.std.specs.Prelude.{ℕ, ◌<◌};
+ghost use Rattle.std.specs.Prelude.{◌<◌};
 ghost use Rattle.oim_period.specs.Calendar.{day_limit, seconds_at};
 
 /// A moment of the years 0001 to 9999, to the second.

@@ -1,6 +1,6 @@
 //! How a period is read from a text.
 
-ghost use Rattle.std.specs.Prelude.{◌≡◌, ℕ, ◌↔◌, ◌+◌, ◌*◌, ◌<◌, ◌≤◌, Some, IsSome, IfSome, length, option_map};
+ghost use Rattle.std.specs.Prelude.{◌≡◌, option_map};
 ghost use Rattle.oim_period.specs.Periods.{period_of};
 ghost use Rattle.oim_period.specs.Reads.{IsOnly, reading_of};
 ghost use Rattle.oim_period.specs.Table.{Means};

@@ -1,7 +1,7 @@
 //! The written form of a period, and its sides.
 
-ghost use Rattle.std.specs.Prelude.{◌≡◌, ℕ, ◌+◌, ◌*◌, ◌<◌, ◌≤◌, List, [], ◌∷◌, ◌++◌, IfOk, OnOk, string_bytes, option_map};
-ghost use Rattle.oim_period.specs.Digits.{two, four, date_text, clock_text};
+ghost use Rattle.std.specs.Prelude.{◌≡◌, ℕ, ◌<◌, ◌≤◌, List, [], ◌∷◌, ◌++◌, IfOk, OnOk, string_bytes, option_map};
+ghost use Rattle.oim_period.specs.Digits.{two, date_text, clock_text};
 ghost use Rattle.oim_period.specs.Table.{IsWritten, IsWrittenMoment, Means};
 ghost use Rattle.oim_period.specs.Reads.{seconds_of, reading_of};
 ghost use Rattle.oim_period.specs.Periods.{start_of, end_of, period_text};

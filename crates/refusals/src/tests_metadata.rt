@@ -2,7 +2,7 @@
 
 use crate::{Answer, Call, ROOM, refusals};
 use oim_meta::{
-    Limits, MetaFault, Parameters, Report, parameter_url, read_parameters, read_report, read_types,
+    Limits, MetaFault, Report, parameter_url, read_parameters, read_report, read_types,
 };
 use std::alloc::Global;
 use std::test::Fail;

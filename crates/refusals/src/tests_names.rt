@@ -1,8 +1,8 @@
-//! Namespaces and texts while memory runs out, `add` with ample memory, and what its faults print.
+//! Namespaces and texts while memory runs out, and `add` with ample memory.
 
 use crate::{Answer, Call, ROOM, refusals};
 use oim_names::{NameFault, Namespaces, Text};
-use std::alloc::{AllocError, Global};
+use std::alloc::Global;
 use std::test::Fail;
 
 /// The prefixes of the tests, bound out of order.
@@ -41,33 +41,6 @@ fn are_bound(alloc: Global) -> Result<bool, NameFault> {
 #[test]
 fn prefixes_are_bound(rt: HostRuntime) {
     assert!(rt; are_bound(rt.alloc()) == Ok(true));
-}
-
-/// Whether a fault prints these words.
-fn prints(alloc: Global, fault: NameFault, words: &str) -> Result<bool, AllocError> {
-    let printed = format!(in alloc; "{fault}")?;
-    Ok(printed.as_str() == words)
-}
-
-#[test]
-fn a_fault_prints_a_sentence(rt: HostRuntime) -> Result<(), Fail> {
-    let alloc = rt.alloc();
-    assert!(rt;
-        prints(
-            alloc,
-            NameFault::BadPrefix,
-            "the prefix is not a name without a colon"
-        )?
-    );
-    assert!(rt;
-        prints(
-            alloc,
-            NameFault::Repeated,
-            "the prefix or the URI is already bound"
-        )?
-    );
-    assert!(rt; prints(alloc, NameFault::Memory, "memory ran out")?);
-    Ok(())
 }
 
 /// Binds one more prefix.

@@ -1,7 +1,5 @@
 //! The rows of a table, their cells and their texts while memory runs out.
 
-ghost use Rattle.std.specs.Prelude.{◌<◌, length};
-
 use crate::tests_metadata::report;
 use crate::{Answer, Call, ROOM, refusals};
 use oim_json::{block_of, head, member_of};

@@ -1,7 +1,6 @@
 //! Building what a level writes.
 
 ghost use Rattle.std.specs.Prelude.{◌≡◌, IfOk, option_map};
-ghost use Rattle.serde_json.specs.Find.{get};
 ghost use Rattle.serde_json.specs.View.{view};
 ghost use Rattle.oim_meta.specs.Decimals.{decimals_of};
 ghost use Rattle.oim_meta.specs.Value.{named_dimension, named_level, level_of, nothing_written};

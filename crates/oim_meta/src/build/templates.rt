@@ -1,8 +1,8 @@
 //! Building templates and their columns.
 
-ghost use Rattle.std.specs.Prelude.{◌≡◌, IfOk, option_map, codes};
+ghost use Rattle.std.specs.Prelude.{◌≡◌, IfOk};
 ghost use Rattle.serde_json.specs.View.{view, members_view};
-ghost use Rattle.oim_meta.specs.Members.{section, map_members};
+ghost use Rattle.oim_meta.specs.Members.{map_members};
 ghost use Rattle.oim_meta.specs.Value.{kind_of as kind_in, column_level as level_in, groups_of as groups_in, sources_of as sources_in, column_of, columns_of, row_id_of, template_of};
 
 use crate::build::levels::{level, no_level};
