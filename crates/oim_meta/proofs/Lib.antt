@@ -20,3 +20,4 @@ mod Examples
 mod ExamplesFaults
 mod ExamplesFiles
 pub mod LeastFault
+pub mod TextLaws

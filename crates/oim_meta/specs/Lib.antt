@@ -23,6 +23,7 @@ pub mod Faults
 pub mod Levels
 pub mod Prefixes
 pub mod BadDimensions
+pub mod Writes
 pub mod BadDecimals
 pub mod BadParameters
 pub mod Counts

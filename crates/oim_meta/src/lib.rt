@@ -7,6 +7,8 @@
 //! - `parameter_url`, `read_parameters` and `read_types` answer a value exactly where there is no fault,
 //!   and else the first fault; that of a parameters file or types table is the fault of its earliest
 //!   bad record;
+//! - a dimension's text has a fault exactly where it writes no value, and else it writes the one value that
+//!   the report has (`a_text_writes_one_value`, `specs/Writes.antt`);
 //! - the readers of a `Report` give its parts, and `clone_report` an equal report;
 //! - the parts of any `Report` are in byte order of name, and its tables, templates and columns have
 //!   identifiers (`stands_in_order`, `specs/InOrder.antt`);
@@ -37,6 +39,7 @@ mod read;
 mod readers;
 mod records;
 mod report;
+mod text_laws;
 mod type_words;
 mod types;
 mod written;
@@ -51,4 +54,5 @@ pub use parameters::{Parameters, read_parameters};
 pub use read::{parameter_url, read_report};
 pub use records::{ReadFault, Records};
 pub use report::Report;
+pub use text_laws::a_text_writes_one_value;
 pub use types::{Types, read_types};

@@ -1,0 +1,32 @@
+-- What a text of the metadata writes as the value of a dimension (xBRL-CSV 1.0: literals, parameter references and row numbers; its
+-- special values), as a relation. A text that writes no value is a fault.
+use Rattle.std.specs.Prelude.{◌≡◌, ℕ, List, ◌++◌, codes, nat_eq, true, false, Option, Some}
+use Rattle.std.specs.List.{starts_with}
+use Rattle.oim_names.specs.Names.{is_identifier}
+use Rattle.oim_cells.specs.Cells.{Meaning, meaning_of}
+use Rattle.oim_cells.specs.Cells as meaning
+use Rattle.oim_meta.specs.declared.kind.Kind.{Kind}
+use Rattle.oim_meta.specs.declared.kind.Kind.TheVariants.{Typed}
+use Rattle.oim_meta.specs.declared.data.Side.TheVariants.{Whole, Start, End}
+use Rattle.oim_meta.specs.declared.data.Written.{Written}
+use Rattle.oim_meta.specs.declared.data.Written.TheVariants.{Absent, Nil, Empty, Text}
+use Rattle.oim_meta.specs.Written.{named}
+
+-- a literal by its meaning, for a dimension of this kind; nil and empty are values of typed dimensions only
+pub data IsLiteral : Option Kind → Meaning → Written → Type 0 where
+  absent : (kind : Option Kind) → IsLiteral kind meaning.Absent Absent
+  nil : IsLiteral (Some Typed) meaning.Nil Nil
+  empty : IsLiteral (Some Typed) meaning.Empty Empty
+  text : (kind : Option Kind) (t : List ℕ) → IsLiteral kind (meaning.Text t) (Text t)
+
+-- the text writes the value at this key: a literal, a literal that begins with a dollar sign, which is doubled, or a reference, which has
+-- a side at the key period only. A reference names the number of the row, a column or a parameter
+pub data Writes : Option Kind → List ℕ → List ℕ → Written → Type 0 where
+  literal : (kind : Option Kind) (key t : List ℕ) (value : Written) → starts_with nat_eq t (codes "$") ≡ false → IsLiteral kind (meaning_of t) value
+      → Writes kind key t value
+  doubled : (kind : Option Kind) (key rest : List ℕ) → Writes kind key (codes "$$" ++ rest) (Text (codes "$" ++ rest))
+  reference : (kind : Option Kind) (key name : List ℕ) → is_identifier name ≡ true → Writes kind key (codes "$" ++ name) (named name Whole)
+  at_start : (kind : Option Kind) (name : List ℕ) → is_identifier name ≡ true
+      → Writes kind (codes "period") (codes "$" ++ name ++ codes "@start") (named name Start)
+  at_end : (kind : Option Kind) (name : List ℕ) → is_identifier name ≡ true
+      → Writes kind (codes "period") (codes "$" ++ name ++ codes "@end") (named name End)
