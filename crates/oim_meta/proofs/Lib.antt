@@ -21,3 +21,4 @@ mod ExamplesFaults
 mod ExamplesFiles
 pub mod LeastFault
 pub mod TextLaws
+pub mod ShapeLaws

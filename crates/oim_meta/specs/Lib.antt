@@ -20,6 +20,7 @@ pub mod Decimals
 pub mod FaultNames
 pub mod PlainPath
 pub mod Faults
+pub mod Shapes
 pub mod Levels
 pub mod Prefixes
 pub mod BadDimensions

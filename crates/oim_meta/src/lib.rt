@@ -9,6 +9,8 @@
 //!   bad record;
 //! - a dimension's text has a fault exactly where it writes no value, and else it writes the one value that
 //!   the report has (`a_text_writes_one_value`, `specs/Writes.antt`);
+//! - a metadata has a fault of its document type, taxonomy, extensions or shape exactly where a part is not
+//!   what `specs/Shapes.antt` says it is (`faults_of_shape_are_parts_without_it`);
 //! - the readers of a `Report` give its parts, and `clone_report` an equal report;
 //! - the parts of any `Report` are in byte order of name, and its tables, templates and columns have
 //!   identifiers (`stands_in_order`, `specs/InOrder.antt`);
@@ -39,6 +41,7 @@ mod read;
 mod readers;
 mod records;
 mod report;
+mod shape_laws;
 mod text_laws;
 mod type_words;
 mod types;
@@ -54,5 +57,6 @@ pub use parameters::{Parameters, read_parameters};
 pub use read::{parameter_url, read_report};
 pub use records::{ReadFault, Records};
 pub use report::Report;
+pub use shape_laws::faults_of_shape_are_parts_without_it;
 pub use text_laws::a_text_writes_one_value;
 pub use types::{Types, read_types};
