@@ -3,6 +3,7 @@ use Rattle.std.proofs.Common.{◌≡◌, ℕ, List, [], ◌∷◌, Some, None, t
 use Rattle.serde_json.specs.Data.{Data, boolean, number, unsigned, negative, string, array, object, no_items, item, Members, no_members, member}
 use Rattle.oim_cells.specs.Cells.{meaning_of, accuracy_of}
 use Rattle.oim_cells.specs.declared.cells.Accuracy.TheVariants.{Infinite, Places}
+use Rattle.oim_meta.specs.declared.data.Column.{Column}
 use Rattle.oim_meta.specs.declared.data.ColumnKind.TheVariants.{Fact, Groups, Comment, Plain}
 use Rattle.oim_meta.specs.declared.data.Level.{Level}
 use Rattle.oim_meta.specs.declared.data.Side.TheVariants.{Whole, Start, End}
@@ -129,6 +130,12 @@ template :
     }
 unfolding template_of column_of level_of no_level
 template = refl
+
+-- the columns of a template take groups from its own columns
+groups_taken :
+    map (λ (c : Column). c.from) (template_of (codes "p") (one (codes "columns") (object columns))).columns ≡ (2 ∷ 1 ∷ []) ∷ [] ∷ [] ∷ []
+unfolding template_of column_of columns takes groups
+groups_taken = refl
 
 empty_template : template_of (codes "p") (one (codes "columns") nothing) ≡ record { id = codes "p"; columns = []; row_id_column = None; level = no_level }
 unfolding template_of level_of no_level
