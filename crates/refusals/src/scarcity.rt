@@ -50,6 +50,20 @@ fn take_all(alloc: Global) -> Option<Hoard> {
     Some(Hoard { _blocks: blocks })
 }
 
+/// How many bytes of the stack a call may use.
+const DEEPEST: usize = 1 << 18;
+
+/// Writes the bytes of the stack that a call may use, and gives one of them, which is 0 or 1. The stack cannot grow once
+/// all memory is taken, but it keeps what it has.
+#[inline(never)]
+fn reach_down(place: usize) -> u8 {
+    let mut bytes = [0u8; DEEPEST];
+    for (at, byte) in bytes.iter_mut().enumerate() {
+        *byte = (at % 2) as u8;
+    }
+    bytes[place % DEEPEST]
+}
+
 /// How often a call is refused memory before it has enough.
 ///
 /// It has 16 more bytes each time, up to `room` bytes, of which at most 1,048,576 count. `None` where it never has
@@ -60,6 +74,9 @@ pub fn refusals<C: Call>(alloc: Global, room: usize, call: &mut C) -> Option<u32
     // The system's first large block is outside its heap, and a second one inside.
     drop(Vec::<u8>::with_capacity(alloc, room).ok()?);
     let mut filler = Vec::<u8>::with_capacity(alloc, room).ok()?;
+    if reach_down(room) > 1 {
+        return None;
+    }
     let _hoard = take_all(alloc)?;
     let mut refused = 0u32;
     for step in 0..room / STEP {
