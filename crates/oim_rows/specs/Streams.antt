@@ -42,9 +42,13 @@ stream_of report table limit (r ∷ rows) = under (header_fault report table r)
     under (Some e) = ending (Some e)
     under None = stream_from (reading_of report table limit r) 1 [] rows
 
--- the stream of a table whose file has these bytes, or that has no file: then it is empty, and a fault unless the table is optional
+-- the stream of a table that has no file: it is empty, and a fault unless the table is optional
+abbrev pub no_file : ReportValue → ℕ → Stream
+no_file report table = ending (if (table_of report table).is_optional then None else Some (file_fault table kind.NoFile))
+
+-- the stream of a table whose file has these bytes, or that has no file
 abbrev pub table_stream : ReportValue → ℕ → ℕ → Option (List ℕ) → Stream
-table_stream report table limit None = ending (if (table_of report table).is_optional then None else Some (file_fault table kind.NoFile))
+table_stream report table limit None = no_file report table
 table_stream report table limit (Some bytes) = stream_of report table limit (grid bytes)
 
 -- the reader failed, or memory ran out

@@ -2,11 +2,14 @@
 -- xBRL-CSV 1.0, table files: row n is the nth record after the header.
 use Rattle.std.specs.Prelude.{List, [], ◌∷◌, ◌++◌, ◌≡◌, ℕ, ◌+◌, zero, suc, Option, Some, None, MatchOption, Result, Ok, Err, length, map, take, unwrap_or}
 use Rattle.csv.specs.Records.{field_at}
-use Rattle.oim_meta.specs.Grid.{Field, Record}
+use Rattle.oim_meta.specs.Grid.{Field, Record, grid}
+use Rattle.oim_meta.specs.ReportValue.{ReportValue}
 use Rattle.oim_resolve.specs.FactParts.{FactParts as Fact}
+use Rattle.oim_rows.specs.Header.{file_fault, header_fault}
 use Rattle.oim_rows.specs.RowFacts.{Reading, id_place_of, row_result}
-use Rattle.oim_rows.specs.Streams.{Stream}
+use Rattle.oim_rows.specs.Streams.{Stream, ending, no_file, reading_of}
 use Rattle.oim_rows.specs.declared.fault.TableFault.{TableFault}
+use Rattle.oim_rows.specs.declared.fault.TableKind.TheVariants as kind
 
 -- the row at a place
 abbrev pub row_at : {A : Type 0} → List A → ℕ → Option A
@@ -31,3 +34,13 @@ Gives g earlier rows m answer = (r : Record) × (row_at rows m ≡ Some r) × (r
 pub record IsStreamOf (g : Reading) (earlier rows : List Record) (s : Stream) : Type 0 where
   pub good : (m : ℕ) (facts : List Fact) → row_at s.rows m ≡ Some facts → Gives g earlier rows m (Ok facts)
   pub end : MatchOption s.fault (length s.rows ≡ length rows) (λ e. Gives g earlier rows (length s.rows) (Err e))
+
+-- the stream of a table whose file has these records: only the fault of its header, or that of its rows
+abbrev pub IsFileStream : ReportValue → ℕ → ℕ → List Record → Stream → Type 0
+IsFileStream report table limit [] s = s ≡ ending (Some (file_fault table kind.NoHeader))
+IsFileStream report table limit (r ∷ rows) s = MatchOption (header_fault report table r) (IsStreamOf (reading_of report table limit r) [] rows s) (λ e. s ≡ ending (Some e))
+
+-- the stream of a table whose file has these bytes, or that has no file
+abbrev pub IsTableStream : ReportValue → ℕ → ℕ → Option (List ℕ) → Stream → Type 0
+IsTableStream report table limit None s = s ≡ no_file report table
+IsTableStream report table limit (Some bytes) s = IsFileStream report table limit (grid bytes) s

@@ -1,11 +1,12 @@
 //! Laws over the definitions that the contracts cite.
 
-ghost use Rattle.std.specs.Prelude.{List, []};
+ghost use Rattle.std.specs.Prelude.{◌≡◌, ◌↔◌, List, ℕ, Option, []};
 ghost use Rattle.oim_meta.specs.Grid.{Record};
+ghost use Rattle.oim_meta.specs.ReportValue.{ReportValue};
 ghost use Rattle.oim_rows.specs.Identifiers.{FactIdsDiffer};
 ghost use Rattle.oim_rows.specs.RowFacts.{Reading};
-ghost use Rattle.oim_rows.specs.Streams.{stream_from};
-ghost use Rattle.oim_rows.specs.WholeTable.{IsStreamOf};
+ghost use Rattle.oim_rows.specs.Streams.{Stream, stream_from, table_stream};
+ghost use Rattle.oim_rows.specs.WholeTable.{IsStreamOf, IsTableStream};
 
 use oim_meta::Report;
 
@@ -13,6 +14,14 @@ use oim_meta::Report;
 /// the first bad one, and that row's fault.
 pub fn stream_is_of_all_rows()
     ensures { (g : Reading) (rows : List Record) → IsStreamOf g [] rows (stream_from g 1 [] rows) }
+{}
+
+/// The stream of a table is the one stream that says this of its file: the fault of its header, or the
+/// facts of each row before the first bad one and that row's fault. So each contract that names the
+/// stream speaks of all rows at once.
+pub fn table_stream_is_of_all_rows()
+    ensures { (report : ReportValue) (table limit : ℕ) (file : Option (List ℕ)) (s : Stream)
+        → (IsTableStream report table limit file s ↔ (s ≡ table_stream report table limit file)) }
 {}
 
 /// No two facts of a report have one identifier, whatever files its tables have: the facts of all its

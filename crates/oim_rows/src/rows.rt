@@ -6,6 +6,7 @@ ghost use Rattle.oim_meta.specs.Grid.{grid};
 ghost use Rattle.oim_rows.specs.Header.{file_header_fault};
 ghost use Rattle.oim_rows.specs.RowFacts.{id_place_of, ids_after, row_result};
 ghost use Rattle.oim_rows.specs.Streams.{GivesNext, IsOutside, OrNoMemory, answer_of, early_row_answer, row_answer, kept_answer, stream_from, stream_of};
+ghost use Rattle.oim_rows.specs.WholeTable.{IsTableStream};
 
 use crate::decoder::Decoder;
 use crate::fault::{TableFault, TableKind, fault_of_read, whole_fault};
@@ -125,6 +126,8 @@ impl<'a, R: Read + Drop> Rows<'a, R> {
         ensures start { IfOk result (λ rows. (rows.table ≡ table) × (rows.limit ≡ limits.rows) × (rows.given ≡ 0) × (rows.answered ≡ None)) }
         ensures stream { IfSome (R.remaining reader) (λ bytes. IfOk result (λ rows. rows.left ≡ Some (stream_of report.now table limits.rows (grid bytes)))) }
         ensures header { IfSome (R.remaining reader) (λ bytes. IfOk result (λ _. file_header_fault report.now table (grid bytes) ≡ None)) }
+        // Said of all rows at once.
+        ensures whole { IfSome (R.remaining reader) (λ bytes. IfOk result (λ rows. IfSome rows.left (IsTableStream report.now table limits.rows (Some bytes)))) }
 
         // Its fault, unless the reader failed or memory ran out.
         ensures fault { IfSome (R.remaining reader) (λ bytes. IfErr result (λ e. IsOutside table e ⊎ (file_header_fault report.now table (grid bytes) ≡ Some e))) }
