@@ -6,11 +6,13 @@ use Rattle.oim_meta.specs.ReportValue.{ReportValue}
 use Rattle.oim_meta.specs.declared.data.Column.{Column}
 use Rattle.oim_meta.specs.declared.data.ColumnKind.TheVariants as content
 use Rattle.std.specs.Str.{chars, is_utf8}
+use Rattle.csv.specs.Machine.{next_record}
+use Rattle.csv.specs.Reading.{records_from, strip_bom}
 use Rattle.csv.specs.Records.{field_at}
 use Rattle.oim_names.specs.Names.{is_ncname, is_name_char, is_name_start, is_plain_char, is_row_identifier}
 use Rattle.oim_names.specs.QName.{qname_of}
 use Rattle.oim_cells.specs.Cells.{meaning_of}
-use Rattle.oim_meta.specs.Grid.{Record}
+use Rattle.oim_meta.specs.Grid.{Record, records_left}
 use Rattle.oim_meta.specs.declared.data.Written.TheVariants as written
 use Rattle.oim_meta.specs.declared.kind.Kind.TheVariants as type
 use Rattle.oim_resolve.specs.Facts.{cell_result, fact_of, rest_faults}
@@ -20,10 +22,12 @@ use Rattle.oim_rows.specs.FaultNames.{name_of, number_of}
 use Rattle.oim_meta.specs.declared.records.ReadFault.TheVariants as read
 use Rattle.oim_rows.specs.Header.{fault_at, file_fault, file_header_fault, header_fault, header_of, is_column, names_row_id}
 use Rattle.oim_rows.specs.Identifiers.{facts_of, facts_of_tables}
+use Rattle.oim_rows.specs.Progressing.{answered_of, left_of}
 use Rattle.oim_rows.specs.RowFacts.{Reading, cell_at, facts_from, holds_facts, id_kind, is_fact_column, row_fault, row_id_text, row_result, source_of_column}
-use Rattle.oim_rows.specs.Streams.{early_header_fault, early_row_answer, ending, fault_of_read, stream_from, stream_of, table_stream}
+use Rattle.oim_rows.specs.Streams.{answer_of, early_header_fault, early_row_answer, ending, fault_of_read, kept_answer, row_answer, stream_from, stream_of, table_stream}
 use Rattle.oim_rows.specs.WholeTable.{ids_of, row_after, row_at}
 use Rattle.oim_rows.specs.declared.fault.TableKind.TheVariants as kind
+use Rattle.oim_rows.specs.declared.rows.Progress.TheVariants as progress
 
 abbrev columns : List Column
 columns =
@@ -197,3 +201,31 @@ facts_of_two_tables = refl
 facts_of_a_stream : facts_of (record { rows = (note (codes "a") (codes "x") ∷ []) ∷ [] ∷ (note (codes "b") (codes "y") ∷ []) ∷ []; fault = None })
     ≡ note (codes "a") (codes "x") ∷ note (codes "b") (codes "y") ∷ []
 facts_of_a_stream = refl
+
+-- two tables with files, each with its own header: the facts of both, each under its table's identifier
+abbrev two : ReportValue
+two = record (report false) {
+  tables = record { id = codes "t1"; url = codes "t1.csv"; is_optional = false; template = 0; parameters = [] } ∷ record { id = codes "t2"; url = codes "t2.csv"; is_optional = false; template = 0; parameters = [] } ∷ [];
+}
+
+facts_of_two_files : map (λ (f : Fact). f.id) (facts_of_tables two 9 0 (Some (codes "cash,k\nx,a") ∷ Some (codes "k,cash\na,y\nb,z\n") ∷ []))
+    ≡ codes "t1.a.cash" ∷ codes "t2.a.cash" ∷ codes "t2.b.cash" ∷ []
+unfolding stream_from cell_result rest_faults fact_of meaning_of chars is_row_identifier is_plain_char is_ncname is_name_char is_name_start qname_of field_at is_utf8 lib.Utf8.encode records_left records_from strip_bom next_record
+facts_of_two_files = refl
+
+-- ANSWERS: after a row comes what is left; after the end or a fault the same comes again
+answers_of_rows : (row_answer (Ok []) ≡ Ok (Some [])) × (row_answer (Err (file_fault 0 kind.Read)) ≡ Err (file_fault 0 kind.Read))
+answers_of_rows = (refl, refl)
+
+kept_answers : (kept_answer (Ok (Some [])) ≡ None) × (kept_answer (Ok None) ≡ Some None) × (kept_answer (Err (file_fault 0 kind.Read)) ≡ Some (Some (file_fault 0 kind.Read)))
+kept_answers = (refl, refl, refl)
+
+answers_again : (answer_of None ≡ Ok None) × (answer_of (Some (file_fault 0 kind.Read)) ≡ Err (file_fault 0 kind.Read))
+answers_again = (refl, refl)
+
+progress_answers : (answered_of progress.Reading ≡ None) × (answered_of progress.Ended ≡ Some None) × (answered_of (progress.Failed (file_fault 0 kind.Read)) ≡ Some (Some (file_fault 0 kind.Read)))
+progress_answers = (refl, refl, refl)
+
+progress_left : (left_of progress.Reading reading 1 [] (Some []) ≡ Some (ending None)) × (left_of progress.Reading reading 1 [] None ≡ None) × (left_of progress.Ended reading 1 [] (Some []) ≡ None)
+unfolding stream_from
+progress_left = (refl, refl, refl)

@@ -1,7 +1,7 @@
 -- The cells of which a row is resolved.
-use Rattle.std.proofs.Common.{◌≡◌, ◌<◌, ℕ, zero, suc, List, [], ◌∷◌, arith, false, length, refl, true}
+use Rattle.std.proofs.Common.{◌≡◌, ◌<◌, ℕ, zero, suc, List, [], ◌∷◌, arith, length, refl, true}
 use Rattle.std.specs.Prelude.{slice_index_or}
-use Rattle.oim_meta.specs.Readers.{column_of, columns_of, no_column}
+use Rattle.oim_meta.specs.Readers.{columns_of, no_column}
 use Rattle.oim_meta.specs.ReportValue.{ReportValue}
 use Rattle.oim_meta.specs.declared.data.Column.{Column}
 use Rattle.oim_meta.specs.declared.data.ColumnKind.{ColumnKind}

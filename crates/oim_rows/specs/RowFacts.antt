@@ -1,7 +1,7 @@
 -- The facts of one row of a table, or its first fault.
 -- xBRL-CSV 1.0, table files: a row has a cell for each column of the header; the row identifier is the text of the template's column for it.
 use Rattle.std.specs.Prelude.{⊤, ◌≡◌, List, [], ◌∷◌, ◌++◌, ℕ, ◌+◌, Bool, true, false, not, ◌==◌, nat_lt, if◌then◌else◌, Option, Some, None, option_map, map, length, Result, Ok, Err, codes, decimal, unwrap_or, slice_get}
-use Rattle.std.specs.List.{list_any, position_from, range_with_len}
+use Rattle.std.specs.List.{enumerate_from, list_any, position_from, range_with_len}
 use Rattle.std.specs.Option.{option_map_or}
 use Rattle.std.specs.Str.{bytes_eq, is_utf8}
 use Rattle.csv.specs.Records.{field_at}
@@ -17,7 +17,7 @@ use Rattle.oim_resolve.specs.Facts.{cell_result}
 use Rattle.oim_resolve.specs.declared.fact.CellFault.{CellFault}
 use Rattle.oim_resolve.specs.FactParts.{FactParts as Fact}
 use Rattle.oim_resolve.specs.declared.fact.Row.{Row}
-use Rattle.oim_rows.specs.Header.{Header, first_of, fault_at, is_column, is_empty, or_else}
+use Rattle.oim_rows.specs.Header.{Header, first_of, fault_at, is_column, is_empty}
 use Rattle.oim_rows.specs.declared.fault.TableFault.{TableFault}
 use Rattle.oim_rows.specs.declared.fault.TableKind.{TableKind}
 use Rattle.oim_rows.specs.declared.fault.TableKind.TheVariants as kind
@@ -127,10 +127,14 @@ in_front (Ok None) r = r
 in_front (Ok (Some f)) (Ok fs) = Ok (f ∷ fs)
 in_front (Ok (Some f)) (Err e) = Err e
 
--- the facts of a row in header order, from place p on, or the fault of the first cell that has one
+-- the facts of all answers, or the first fault
+abbrev pub all_or_first : List (Result (Option Fact) TableFault) → Result (List Fact) TableFault
+all_or_first [] = Ok []
+all_or_first (answer ∷ answers) = in_front answer (all_or_first answers)
+
+-- the facts of a row in header order, where the header's first place is p, or the fault of the first cell that has one
 abbrev pub facts_from : ReportValue → ℕ → Row → ℕ → Header → Result (List Fact) TableFault
-facts_from report table row p [] = Ok []
-facts_from report table row p (o ∷ h) = in_front (fact_at report table row p o) (facts_from report table row (p + 1) h)
+facts_from report table row p h = all_or_first (map (λ cell. fact_at report table row cell.0 cell.1) (enumerate_from p h))
 
 abbrev pub checked : Option TableFault → Result (List Fact) TableFault → Result (List Fact) TableFault
 checked (Some e) r = Err e
