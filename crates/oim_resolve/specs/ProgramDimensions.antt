@@ -63,5 +63,7 @@ abbrev pub entries_in : Entries → List PlannedDimension
 entries_in (entries.Column k) = k.now.planned.items
 entries_in (entries.Grouped ps) = held ps.items
 
-abbrev pub AreMet : Place → List (Bor Level) → Entries → Type 0
-AreMet p gs es = (held gs ≡ named_groups (cell_at p)) × (map seen_planned (entries_in es) ≡ row_entries (cell_at p))
+-- the groups are those that the row names, and the entries are what the levels write with them
+pub record AreMet (p : Place) (gs : List (Bor Level)) (es : Entries) : Type 0 where
+  pub groups_are : held gs ≡ named_groups (cell_at p)
+  pub entries_are : map seen_planned (entries_in es) ≡ row_entries (cell_at p)

@@ -5,5 +5,6 @@ use Rattle.oim_resolve.specs.declared.fact.Row.{Row}
 use Rattle.oim_resolve.specs.Cell.{IsCell, cell_of}
 
 -- the places are in range, and the text is the row number in decimal digits
-abbrev pub IsPlace : ReportValue → ℕ → Row → ℕ → List ℕ → Type 0
-IsPlace r t w c number = IsCell (cell_of r t w c) × (number ≡ decimal w.number)
+pub record IsPlace (r : ReportValue) (t : ℕ) (w : Row) (c : ℕ) (number : List ℕ) : Type 0 where
+  pub cell : IsCell (cell_of r t w c)
+  pub digits : number ≡ decimal w.number

@@ -125,12 +125,17 @@ seen_group g = (g.name.now, (g.level.now, map seen_keyed g.planned.items))
 abbrev pub group_in : ReportValue → ℕ → List ℕ × Level → Grouped
 group_in r t g = (g.0, (g.1, planned_level r t g.1))
 
--- each column is planned, with its groups
-abbrev pub ArePlanned : ReportValue → ℕ → List PlannedColumn → Type 0
-ArePlanned r t cs =
-    (k : ℕ) (d : PlannedColumn) → k < length cs
-    → (map seen_keyed (slice_index_or cs k d).planned.items ≡ planned_column r t k)
-    × (map seen_group (slice_index_or cs k d).groups.items ≡ map (group_in r t) (column_of r t k).groups)
+-- the column at place k is planned, with its groups
+pub record IsPlanned (r : ReportValue) (t k : ℕ) (c : PlannedColumn) : Type 0 where
+  pub dimensions_are : map seen_keyed c.planned.items ≡ planned_column r t k
+  pub groups_are : map seen_group c.groups.items ≡ map (group_in r t) (column_of r t k).groups
 
-abbrev pub IsPlan : ReportValue → ℕ → List PlannedColumn → Type 0
-IsPlan r t cs = (t < length r.tables) × (length cs ≡ length (columns_of r t)) × ArePlanned r t cs
+-- each column is planned
+abbrev pub ArePlanned : ReportValue → ℕ → List PlannedColumn → Type 0
+ArePlanned r t cs = (k : ℕ) (d : PlannedColumn) → k < length cs → IsPlanned r t k (slice_index_or cs k d)
+
+-- the place is that of a table, and all its columns are planned
+pub record IsPlan (r : ReportValue) (t : ℕ) (cs : List PlannedColumn) : Type 0 where
+  pub in_range : t < length r.tables
+  pub all_columns : length cs ≡ length (columns_of r t)
+  pub are_planned : ArePlanned r t cs

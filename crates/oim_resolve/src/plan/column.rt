@@ -1,8 +1,8 @@
 //! A column, made ready for the rows.
 
 ghost use Rattle.std.specs.Prelude.{◌≡◌, ◌<◌, map, length, IfOk};
-ghost use Rattle.oim_meta.specs.Readers.{columns_of, column_of};
-ghost use Rattle.oim_resolve.specs.ProgramPlan.{group_in, planned_column, planned_levels, seen_group, seen_keyed};
+ghost use Rattle.oim_meta.specs.Readers.{columns_of};
+ghost use Rattle.oim_resolve.specs.ProgramPlan.{IsPlanned, planned_column, planned_levels, seen_keyed};
 
 use crate::plan::dimension::{PlannedDimension, plan_dimension};
 use crate::plan::group::{PlannedGroup, plan_groups};
@@ -75,8 +75,7 @@ pub(crate) fn plan_column(
 ) -> Result<PlannedColumn<'_>, AllocError>
     requires table { table < length report.now.tables }
     requires column { column < length (columns_of report.now table) }
-    ensures { IfOk result (λ k. (map seen_keyed k.planned.items ≡ planned_column report.now table column)
-        × (map seen_group k.groups.items ≡ map (group_in report.now table) (column_of report.now table column).groups)) }
+    ensures { IfOk result (λ k. IsPlanned report.now table column k) }
 {
     let planned = plan_dimensions(alloc, report, table, column)?;
     let groups = plan_groups(alloc, report, table, report.column(table, column))?;

@@ -10,14 +10,14 @@ pub invariant_of-result : goal.invariant_of-result
 invariant_of-result c =
     let p = c.args.cell.place in
     let k = c.index-columns-place.result in
-    let planned = c.args.cell.planned p.column k (subst (λ x. p.column < x) (sym c.args.cell.all) p.in_range.0.column) in
+    let planned = c.args.cell.planned p.column k (subst (λ x. p.column < x) (sym c.args.cell.all) p.in_range.cell.column) in
     let nothing = nothing_named (cell_at p) (sym (c.len.ensures ∙ ap (λ (x : Column). length x.from) c.column.ensures.column) ∙ c.if-len-eq0.true) in
-    let entries = ap (λ (x : PlannedColumn). map seen_keyed x.planned.items) c.index-columns-place.is ∙ planned.0 in
+    let entries = ap (λ (x : PlannedColumn). map seen_keyed x.planned.items) c.index-columns-place.is ∙ planned.dimensions_are in
     record {
-      all = (
-        ap held c.new.ensures.items ∙ sym nothing,
-        seen_entries k.planned.items ∙ ap (λ (es : List Keyed). map (λ k. k.1.0) es) entries ∙ column_is (cell_at p) nothing,
-      );
+      all = record {
+        groups_are = ap held c.new.ensures.items ∙ sym nothing;
+        entries_are = seen_entries k.planned.items ∙ ap (λ (es : List Keyed). map (λ k. k.1.0) es) entries ∙ column_is (cell_at p) nothing;
+      };
     }
 
 pub invariant_of-result-2 : goal.invariant_of-result-2
@@ -25,8 +25,8 @@ invariant_of-result-2 c =
     let p = c.args.cell.place in
     let planned = held c.in_ok-groups.planned.items in
     record {
-      all = (
-        c.in_ok-groups.ensures.0,
-        seen_entries planned ∙ ap (λ (es : List Keyed). map (λ k. k.1.0) es) c.in_ok-groups.ensures.1 ∙ row_map_is (cell_at p),
-      );
+      all = record {
+        groups_are = c.in_ok-groups.ensures.0;
+        entries_are = seen_entries planned ∙ ap (λ (es : List Keyed). map (λ k. k.1.0) es) c.in_ok-groups.ensures.1 ∙ row_map_is (cell_at p);
+      };
     }

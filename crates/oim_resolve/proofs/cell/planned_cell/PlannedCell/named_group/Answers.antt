@@ -15,6 +15,6 @@ returns-in-Text c =
     let i = c.args.i in
     let planned = c.args.self.now.planned i c.index-columns-i.result (subst (λ x. i < x) (sym c.args.self.now.all) c.requires) in
     let found = c.find_group.ensures ∙ ap (λ xs. value_at n (map seen_group xs)) c.as_slice.ensures.value
-    ∙ ap (value_at n) planned.1 ∙ group_found r t n (column_of r t i).groups
+    ∙ ap (value_at n) planned.groups_are ∙ group_found r t n (column_of r t i).groups
     ∙ ap (λ v. option_map (λ l. (l, planned_level r t l)) (group_named (column_of r t i) v)) c.in-Text.ensures in
     record { group = found; level = level_named c.find_group.result _ (planned_level r t) found }
