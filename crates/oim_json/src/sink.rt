@@ -47,6 +47,8 @@ impl<W: Write> Sink for Marked<W> {
 
     ghost mark = { λ s. s.mark };
 
+    /// Asks the writer once, offers it all the bytes and answers what it answered, also where a write has
+    /// failed before. How often a writer is asked stands in no clause: a test counts it.
     fn write_some(&mut self, bytes: &[u8]) -> io::Result<usize> {
         let answer = self.writer.write(bytes);
         match &answer {

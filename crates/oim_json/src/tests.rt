@@ -2,7 +2,9 @@
 
 ghost use Rattle.std.specs.Prelude.{◌≡◌, IfOk};
 
-use crate::{Layout, Marked, Member, TAIL, block_of, member_of, tail, write_members};
+use crate::{
+    Layout, Marked, Member, Sink, TAIL, block_of, member_of, tail, write_all_of, write_members,
+};
 use oim_names::{Items, Text};
 use oim_resolve::Fact;
 use std::alloc::{AllocError, Global};
@@ -104,5 +106,44 @@ fn writes_lines_a_chunk_at_a_time(rt: HostRuntime) -> Result<(), Fail> {
     assert!(rt; writer.taken.as_slice() == expected.as_slice());
     assert!(rt; expected.len() > 8192);
     assert!(rt; writer.calls == 2);
+    Ok(())
+}
+
+/// A writer that answers in turn: an error, nothing taken, two bytes taken, and from then on all taken. It
+/// remembers how many bytes it was offered each time.
+#[derive(Drop)]
+struct Moody {
+    offered: Vec<usize>,
+}
+
+impl Write for Moody {
+    fn write(&mut self, bytes: &[u8]) -> io::Result<usize> {
+        self.offered.push(bytes.len())?;
+        match self.offered.len() {
+            1 => Err(io::Error::from(io::ErrorKind::Other)),
+            2 => Ok(0),
+            3 => Ok(bytes.len().min(2)),
+            _ => Ok(bytes.len()),
+        }
+    }
+
+    fn flush(&mut self) -> io::Result<()> {
+        Ok(())
+    }
+}
+
+#[test]
+fn asks_its_writer_once(rt: HostRuntime) -> Result<(), Fail> {
+    let mut writer = Moody {
+        offered: Vec::new(rt.alloc()),
+    };
+    let mut sink = Marked::new(&mut writer);
+    assert!(rt; sink.write_some(b"abcde").is_err());
+    assert!(rt; sink.write_some(b"abcde").ok() == Some(0));
+    assert!(rt; sink.write_some(b"abcde").ok() == Some(2));
+    assert!(rt; sink.write_some(b"abcde").ok() == Some(5));
+    assert!(rt; write_all_of(&mut sink, b"").is_ok());
+    assert!(rt; write_all_of(&mut sink, b"abc").is_ok());
+    assert!(rt; writer.offered.as_slice() == [5, 5, 5, 5, 3].as_slice());
     Ok(())
 }
