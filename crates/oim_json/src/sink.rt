@@ -61,7 +61,7 @@ impl<W: Write> Sink for Marked<W> {
 }
 
 /// Writes all the bytes. If a write answers an error (`Failed`) or takes nothing (`Zero`), a beginning
-/// of them is written.
+/// of them is written. No bytes are Ok without a write, also where a write has failed before.
 pub fn write_all_of<W: Sink>(sink: &mut W, bytes: &[u8]) -> Result<(), WriteFault>
     ensures { WritesAll (W.mark sink.old) (W.mark sink.new) (W.told sink.old) (W.told sink.new) result bytes.now }
 {
