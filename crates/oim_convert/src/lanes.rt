@@ -1,6 +1,6 @@
 //! One ring for each table.
 
-ghost use Rattle.std.specs.Prelude.{◌≡◌, ◌≤◌, length, IfOk, map};
+ghost use Rattle.std.specs.Prelude.{◌≡◌, ◌≤◌, All, length, IfOk, map};
 ghost use Rattle.oim_convert.specs.Jobs.{Each, IsLane, IsOpened};
 ghost use Rattle.oim_convert.specs.Limits.{IsRingSize};
 
@@ -22,6 +22,7 @@ pub(crate) fn open_lanes<R: Drop>(
     ensures jobs { IfOk result (λ r. Each IsOpened 0 r.0.items) }
     ensures drains { IfOk result (λ r. Each (IsLane r.0.items) 0 r.1.items) }
     ensures count { IfOk result (λ r. length r.1.items ≡ length r.0.items) }
+    ensures sizes { IfOk result (λ r. All (λ job. job.feed.size ≡ size) r.0.items) }
 {
     let mut lanes = Lanes::new(alloc, size.saturating_mul(FULL_RINGS))?;
     let mut jobs = Vec::new(alloc);

@@ -1,6 +1,6 @@
 //! The conversion on threads.
 
-ghost use Rattle.std.specs.Prelude.{◌≡◌, ◌⊎◌, ◌≤◌, ◌<◌, ℕ, List, [], Option, None, IfOk, IfNone, length, map, replicate, vec_capacity};
+ghost use Rattle.std.specs.Prelude.{◌≡◌, ◌⊎◌, ◌≤◌, ◌<◌, ℕ, List, [], Option, None, All, IfOk, IfNone, length, map, replicate, vec_capacity};
 ghost use Rattle.oim_convert.specs.Answer.{IsAnswer, streams};
 ghost use Rattle.oim_convert.specs.Files.{AreFilesOf};
 ghost use Rattle.oim_convert.specs.Histories.{AreUnserved};
@@ -67,6 +67,8 @@ fn prepare<R: Read + Drop, T: Wait>(
     ensures ready { IfOk result (λ ready. IsReady ready) }
     ensures head { IfOk result (λ ready. ready.unmerged.head.items ≡ head_text report.now) }
     ensures layout { IfOk result (λ ready. ready.unmerged.layout ≡ layout) }
+    ensures seats { IfOk result (λ ready. ready.crew.claims.workers ≡ workers) }
+    ensures rings { IfOk result (λ ready. All (λ job. job.feed.size ≡ size) ready.crew.claims.items) }
 {
     let (jobs, drains) = open_lanes(alloc, readers, size)?;
     let room = return_room(alloc, jobs.len(), workers)?;
