@@ -1,5 +1,6 @@
 -- The fact of a cell, from what is kept of its column.
-use Rattle.std.proofs.Common.{◌≡◌, ◌<◌, ℕ, zero, suc, Bool, true, false, ◌||◌, List, [], ◌∷◌, ◌++◌, length, map, codes, Option, Some, None, Ok, Err, refl, sym, ap, ◌∙◌, arith, append_assoc, inl, inr, ◌⊎◌}
+use Rattle.std.proofs.Common.{◌≡◌, ◌<◌, ℕ, zero, suc, Bool, true, false, ◌||◌, List, [], ◌∷◌, ◌++◌, length, map}
+use Rattle.std.proofs.Common.{codes, Option, Some, None, Ok, Err, refl, sym, ap, ◌∙◌, arith, append_assoc, inl, inr, ◌⊎◌}
 use Rattle.std.specs.List.{All, flat_map, list_any}
 use Rattle.std.specs.Option.{option_to_list}
 use Rattle.std.proofs.lemmas.Grind.{flat_map-append}
@@ -11,7 +12,8 @@ use Rattle.oim_meta.specs.Readers.{column_of, columns_of, table_of}
 use Rattle.oim_meta.specs.ReportValue.{ReportValue}
 use Rattle.oim_meta.specs.declared.kind.Kind.{Kind}
 use Rattle.oim_resolve.specs.Cell.{Cell, column, meaning_at}
-use Rattle.oim_resolve.specs.Facts.{cell_result, cell_and_group_faults, concept_faults, concept_kind, rest_faults, fact_of, fact_meaning, fact_value, fact_decimals, given, is_absent, is_unknown, names_no_group}
+use Rattle.oim_resolve.specs.Facts.{cell_result, cell_and_group_faults, concept_faults, concept_kind, rest_faults, fact_of, fact_meaning}
+use Rattle.oim_resolve.specs.Facts.{fact_value, fact_decimals, given, is_absent, is_unknown, names_no_group}
 use Rattle.oim_resolve.specs.FactValues.{text_in}
 use Rattle.oim_resolve.specs.Faults.{least, fault_if}
 use Rattle.oim_resolve.specs.Written.{levels, group_named}

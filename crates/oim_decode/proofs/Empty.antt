@@ -1,5 +1,6 @@
 -- The empty text gives nothing, in any role.
-use Rattle.std.proofs.Common.{◌≡◌, [], None, Err, false, refl, sym, ap, ◌∙◌}
+use Rattle.std.proofs.Common.{◌≡◌, ℕ, Bool, true, cond, List, [], ◌∷◌, ◌++◌, Option, Some, None, Err, false, refl, sym, ap, ◌∙◌}
+use Rattle.std.specs.Option.{option_map}
 use Rattle.std.specs.String.{string_bytes}
 use Rattle.oim_cells.specs.Cells.{meaning_of, Absent}
 use Rattle.oim_meta.specs.ReportValue.{ReportValue}
@@ -15,7 +16,7 @@ use Rattle.oim_decode.specs.declared.answer.Answer.{Answer}
 use Rattle.oim_decode.specs.declared.kept.Kept.{Kept}
 use Rattle.oim_decode.specs.declared.kept_decimals.KeptDecimals.{KeptDecimals}
 use Rattle.oim_decode.specs.Answers.{piece_in}
-use Rattle.oim_decode.specs.Kept.{IsKept, kept_meaning}
+use Rattle.oim_decode.specs.Kept.{IsKept, kept_meaning, with_comma}
 use Rattle.oim_decode.specs.KeptDecimals.{AreDecimals, decimals_meaning}
 use Rattle.oim_decode.specs.Slots.{piece_given, concept_given, decimals_stated}
 use Rattle.oim_decode.proofs.Texts.{empty_meaning}
@@ -43,9 +44,17 @@ empty_is_kept r o s k text answer concept =
     let means : kept_meaning k ≡ Absent = ap meaning_of text ∙ empty_meaning in
     record {
       fault = ap (λ (a : Answer). a.fault) answer ∙ absent_faults r o s ∙ ap (λ v. least (value_faults_of r o s v)) (sym means);
-      piece = ap (λ (a : Answer). piece_in a k.piece.items) answer ∙ absent_piece r o s ∙ ap (piece_given r o s) (sym means);
+      piece = ap (λ (a : Answer). piece_in a k.piece.items) answer ∙ ap (option_map with_comma) (absent_piece r o s ∙ ap (piece_given r o s) (sym means));
       concept = λ _. concept ∙ ap (concept_given r) (sym means);
     }
+
+-- a comma is put behind a piece
+by_written : (b : Bool) (p : List ℕ) → cond b (Some (p ++ 44 ∷ [])) None ≡ option_map with_comma (cond b (Some p) None)
+by_written true p = refl
+by_written false p = refl
+
+pub comma_behind : (a : Answer) (p q : List ℕ) (o : Option (List ℕ)) → q ≡ p ++ 44 ∷ [] → piece_in a p ≡ o → piece_in a q ≡ option_map with_comma o
+comma_behind a p q o more is = ap (piece_in a) more ∙ by_written a.is_written p ∙ ap (option_map with_comma) is
 
 -- and it states no decimals
 absent_decimals : [] ≡ decimals_stated Absent

@@ -83,18 +83,19 @@ module _ (r : ReportValue) (t : ℕ) (h : Header) (n : ℕ) (w : Record) (c : �
         ∙ ap (decimals_wrong k (fact_meaning cell) (accuracy_in (value_given r k (fact_meaning cell)))) stated_is)
         (ap (value_wrong r k) e)
 
-    pub text_found : (k : Kind) (a : Meaning) (out x y z start tail : List ℕ) → k ≡ concept_kind cell → a ≡ fact_meaning cell → start ≡ start_text cell → tail ≡ tail_text r t c
-        → x ≡ out ++ start → y ≡ x ++ tail
-        → z ≡ y ++ rest_text (decimals_given k a (accuracy_in (value_given r k a)) (shown_stated ds v.decimals)) (cut (shown_pieces ss k v.entries.items)) (text_in (value_given r k a))
+    pub text_found : (k : Kind) (a : Meaning) (out x z start tail : List ℕ) → k ≡ concept_kind cell → a ≡ fact_meaning cell → start ≡ start_text cell → tail ≡ tail_text r t c
+        → x ≡ out ++ start
+        → z ≡ x ++ (tail ++ rest_text (decimals_given k a (accuracy_in (value_given r k a)) (shown_stated ds v.decimals)) (cut (shown_pieces ss k v.entries.items)) (text_in (value_given r k a)))
         → z ≡ out ++ (codes "," ++ member_text (fact_of cell))
-    text_found k a out x y z start tail ek ea es et ex ey ez =
-        let front : y ≡ out ++ (start_text cell ++ tail_text r t c) =
-        ey ∙ ap (λ q. q ++ tail) (ex ∙ ap (λ q. out ++ q) es) ∙ ap (λ q. (out ++ start_text cell) ++ q) et ∙ append_assoc out (start_text cell) (tail_text r t c) in
+    text_found k a out x z start tail ek ea es et ex ez =
+        let front : x ++ tail ≡ out ++ (start_text cell ++ tail_text r t c) =
+        ap (λ q. q ++ tail) (ex ∙ ap (λ q. out ++ q) es) ∙ ap (λ q. (out ++ start_text cell) ++ q) et ∙ append_assoc out (start_text cell) (tail_text r t c) in
         let last : Kind → Meaning → Stated → List ℕ =
         λ k a s. rest_text (decimals_given k a (accuracy_in (value_given r k a)) s) (cut (shown_pieces ss k v.entries.items)) (text_in (value_given r k a)) in
         let all : last k a (shown_stated ds v.decimals) ≡ last (concept_kind cell) (fact_meaning cell) (stated cell) =
         ap (λ q. last q a (shown_stated ds v.decimals)) ek ∙ ap (λ q. last (concept_kind cell) q (shown_stated ds v.decimals)) ea ∙ ap (last (concept_kind cell) (fact_meaning cell)) stated_is in
-        ez ∙ ap (λ q. y ++ q) all ∙ ap (λ q. q ++ last (concept_kind cell) (fact_meaning cell) (stated cell)) front
+        ez ∙ sym (append_assoc x tail (last k a (shown_stated ds v.decimals))) ∙ ap (λ q. (x ++ tail) ++ q) all
+        ∙ ap (λ q. q ++ last (concept_kind cell) (fact_meaning cell) (stated cell)) front
         ∙ append_assoc out (start_text cell ++ tail_text r t c) (last (concept_kind cell) (fact_meaning cell) (stated cell))
         ∙ ap (λ q. out ++ q)
         (fact_text cell (shown_pieces ss (concept_kind cell) v.entries.items)

@@ -13,7 +13,8 @@ use Rattle.oim_resolve.specs.declared.fact.CellFault.{CellFault}
 use Rattle.oim_resolve.specs.declared.role.Role.{Role}
 use Rattle.oim_resolve.specs.declared.role.Role.TheVariants as role
 use Rattle.oim_resolve.specs.Cell.{Cell}
-use Rattle.oim_resolve.specs.Facts.{role_of, is_dropped, value_faults_of, entry_given, dimension_faults, dimension_entry, named_entry, rest_faults, decimals_faults, fact_value, fact_of, id_of, concept_kind, fact_decimals}
+use Rattle.oim_resolve.specs.Facts.{role_of, is_dropped, value_faults_of, entry_given, dimension_faults, dimension_entry, named_entry}
+use Rattle.oim_resolve.specs.Facts.{rest_faults, decimals_faults, fact_value, fact_of, id_of, concept_kind, fact_decimals}
 use Rattle.oim_resolve.specs.FactValues.{faults_in, text_in}
 use Rattle.oim_resolve.specs.Faults.{least, least_of}
 use Rattle.oim_resolve.specs.Values.{value, side_of}

@@ -26,7 +26,8 @@ use Rattle.oim_rows.specs.Header.{Header}
 use Rattle.oim_rows.specs.RowFacts.{cell_at, field_or_empty, source_of_column}
 use Rattle.oim_decode.specs.ReadyTable.{IsFresh, IsFreshDecimals}
 use Rattle.oim_decode.specs.Pieces.{given_fault, given_piece, written_fault, written_pieces}
-use Rattle.oim_decode.specs.Ready.{EntryView, HasSlot, IsPlaced, IsSlotOf, IsDecimals, Wanted, WrittenPlaces, place_named, settled_meaning, settled_stated, shown, shown_fault, shown_pieces, shown_stated, source_written, source_decimals, wanted_of, written_of}
+use Rattle.oim_decode.specs.Ready.{EntryView, HasSlot, IsPlaced, IsSlotOf, IsDecimals, Wanted, WrittenPlaces, place_named, settled_meaning}
+use Rattle.oim_decode.specs.Ready.{settled_stated, shown, shown_fault, shown_pieces, shown_stated, source_written, source_decimals, wanted_of, written_of}
 use Rattle.oim_decode.specs.Rows.{cell_under}
 use Rattle.oim_decode.specs.Slots.{SlotView, DecimalsView, Source, RowNumber, Named, cell_or_parameter, source_meaning}
 

@@ -42,10 +42,12 @@ pub cut_pieces : (ds : List (List ℕ × Option (List ℕ))) → cut (pieces ds)
 cut_pieces [] = refl
 cut_pieces (d ∷ ds) = ap cut (pieces_joined d ds) ∙ cut-last (joined (map dimension_text (d ∷ ds))) 44
 
--- the object of dimensions, put in place
-pub dimensions_put : (old a j b x z w : List ℕ) → x ≡ old ++ a → z ≡ x ++ j → w ≡ z ++ b → w ≡ old ++ ((a ++ j) ++ b)
-dimensions_put old a j b x z w ex ez ew = ew ∙ ap (λ t. t ++ b) (ez ∙ ap (λ t. t ++ j) ex ∙ append_assoc old a j) ∙ append_assoc old (a ++ j) b
+-- a value in its quotes, put together
+pub value_put : (old e x y z : List ℕ) → x ≡ old ++ codes "},\"value\":\"" → y ≡ x ++ e → z ≡ y ++ codes "\"}"
+    → z ≡ old ++ ((codes "},\"value\":" ++ (codes "\"" ++ e ++ codes "\"")) ++ codes "}")
+value_put old e x y z ex ey ez = ez ∙ ap (λ t. t ++ codes "\"}") (ey ∙ ap (λ t. t ++ e) ex) ∙ simp append_assoc
 
--- what follows the identifier, put together
-pub rest_put : (old a A j B v z x y u w : List ℕ) → x ≡ old ++ a → y ≡ x ++ ((A ++ j) ++ B) → u ≡ y ++ v → w ≡ u ++ z → w ≡ old ++ (((((a ++ A) ++ j) ++ B) ++ v) ++ z)
-rest_put old a A j B v z x y u w ex ey eu ew = ew ∙ ap (λ t. t ++ z) (eu ∙ ap (λ t. t ++ v) (ey ∙ ap (λ t. t ++ ((A ++ j) ++ B)) ex)) ∙ simp append_assoc
+-- what follows the row's identifier, put together
+pub rest_put : (old lead a A j B v z x y w : List ℕ) → x ≡ old ++ ((lead ++ a) ++ A) → y ≡ x ++ j → w ≡ y ++ ((B ++ v) ++ z)
+    → w ≡ old ++ (lead ++ (((((a ++ A) ++ j) ++ B) ++ v) ++ z))
+rest_put old lead a A j B v z x y w ex ey ew = ew ∙ ap (λ t. t ++ ((B ++ v) ++ z)) (ey ∙ ap (λ t. t ++ j) ex) ∙ simp append_assoc

@@ -20,6 +20,7 @@ module _ (r : ReportValue) (t : ℕ) (h : Header) (xs ys : List SlotView) (g : G
     concept = p.concept;
     concept_slot = concept_grows r t h xs ys g v.concept p.concept_slot;
     decimals = decimals_grow r t h ds es f (written_decimals (levels_under r t h v.column v.texts.items)) v.decimals p.decimals;
+    lead = p.lead;
     runs = p.runs;
     groups = p.groups;
   }
@@ -37,6 +38,7 @@ still_variant r t h ss ss' ds ds' v e d p = record {
   concept = p.concept;
   concept_slot = subst (λ (ws : List Wanted). ConceptHasSlot r t h ws v.concept) (sym e) p.concept_slot;
   decimals = subst (λ (qs : List Source). IsDecimals r t h qs (written_decimals (levels_under r t h v.column v.texts.items)) v.decimals) (sym d) p.decimals;
+  lead = p.lead;
   runs = p.runs;
   groups = p.groups;
 }

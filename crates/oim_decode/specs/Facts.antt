@@ -38,7 +38,6 @@ pub record IsFactColumn (r : ReportValue) (t : ℕ) (h : Header) (c : FactColumn
   pub from : All (λ i. i < length (columns_of r t)) (column_of r t c.column).from
   pub place : c.place ≡ source_of_column h c.column
   pub groups : c.groups.items ≡ group_places r t h c.column
-  pub tail : c.tail.items ≡ tail_text r t c.column
 
 -- the fault of the cells of groups
 abbrev pub groups_wrong : ReportValue → ℕ → Record → List (ℕ × Option ℕ) → Option CellFault

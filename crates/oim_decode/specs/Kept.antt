@@ -1,7 +1,7 @@
 -- The texts that a reference had, each kept with its answer.
-use Rattle.std.specs.Prelude.{◌≡◌, ℕ, List, []}
+use Rattle.std.specs.Prelude.{◌≡◌, ◌++◌, ℕ, List, [], codes}
 use Rattle.std.specs.List.{All, slice_get}
-use Rattle.std.specs.Option.{option_map_or}
+use Rattle.std.specs.Option.{option_map, option_map_or}
 use Rattle.std.specs.String.{string_bytes}
 use Rattle.oim_cells.specs.Cells.{Meaning, meaning_of}
 use Rattle.oim_cells.specs.Cells as m
@@ -18,10 +18,14 @@ use Rattle.oim_decode.specs.Slots.{piece_given, concept_given}
 abbrev pub kept_meaning : Kept → Meaning
 kept_meaning k = meaning_of (string_bytes k.text)
 
+-- a piece with a comma behind it
+abbrev pub with_comma : List ℕ → List ℕ
+with_comma p = p ++ codes ","
+
 -- what is kept of a text is what the text gives in the role
 pub record IsKept (report : ReportValue) (role : Role) (side : Side) (k : Kept) : Type 0 where
   pub fault : k.answer.fault ≡ least (value_faults_of report role side (kept_meaning k))
-  pub piece : piece_in k.answer k.piece.items ≡ piece_given report role side (kept_meaning k)
+  pub piece : piece_in k.answer k.piece.items ≡ option_map with_comma (piece_given report role side (kept_meaning k))
   pub concept : role ≡ Concept → k.concept ≡ concept_given report (kept_meaning k)
 
 -- and the text is empty

@@ -134,10 +134,12 @@ kind_or (Some f) k = Err f
 unfoldable pub kind_given : ReportValue → Meaning → Result Kind CellFault
 kind_given r v = kind_or (least (concept_faults_of r v)) (text_kind r v)
 
--- decimals that are written: what they state where rows say nothing of them, and the place of the slot of a reference whose meaning they give
+-- decimals that are written: what they state where rows say nothing of them, the place of the slot of a reference whose meaning
+-- they give, and the text of a fact that comes before them
 pub record WrittenPlaces : Type 0 where
   pub settled : Stated
   pub slot : Option ℕ
+  pub lead : List ℕ
 
 -- written decimals, whose slot is there where they have one
 pub record IsDecimals (r : ReportValue) (t : ℕ) (h : Header) (ds : List Source) (o : Option WrittenDecimals) (p : WrittenPlaces) : Type 0 where

@@ -27,6 +27,14 @@ cut xs = take (length xs - 1) xs
 abbrev pub cut_behind : ℕ → List ℕ → List ℕ
 cut_behind n xs = if nat_lt n (length xs) then cut xs else xs
 
+-- what a fact has before its dimensions: the text up to its decimals, and these
+abbrev pub opening_text : List ℕ → Option ℤ → List ℕ
+opening_text lead d = lead ++ decimals_text d ++ codes "\"dimensions\":{"
+
+-- and behind them
+abbrev pub value_end : Option (List ℕ) → List ℕ
+value_end v = codes "},\"value\":" ++ value_text v ++ codes "}"
+
 -- what follows the identifier of a fact and its colon and brace: decimals, dimensions and value
 unfoldable pub rest_text : Option ℤ → List ℕ → Option (List ℕ) → List ℕ
 rest_text d dimensions v = decimals_text d ++ codes "\"dimensions\":{" ++ dimensions ++ codes "},\"value\":" ++ value_text v ++ codes "}"

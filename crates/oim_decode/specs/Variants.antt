@@ -8,7 +8,7 @@ use Rattle.oim_resolve.specs.Written.{written, written_decimals}
 use Rattle.oim_rows.specs.Header.{Header}
 use Rattle.oim_decode.specs.declared.variant.Variant.{Variant}
 use Rattle.oim_decode.specs.declared.ready_table.ReadyTable.{ReadyTable}
-use Rattle.oim_decode.specs.Facts.{groups_wrong}
+use Rattle.oim_decode.specs.Facts.{groups_wrong, tail_text}
 use Rattle.oim_decode.specs.ReadyTable.{IsFresh, IsFreshDecimals, IsOfReport}
 use Rattle.oim_decode.specs.Pieces.{written_entries}
 use Rattle.oim_decode.specs.Ready.{HasSlot, IsDecimals, ConceptHasSlot, wanted_of, written_of}
@@ -23,6 +23,7 @@ pub record IsVariant (r : ReportValue) (t : ℕ) (h : Header) (ss : List SlotVie
   pub concept : option_map written_of v.concept ≡ option_map (λ x. (codes "concept", x)) (written (levels_under r t h v.column v.texts.items) (codes "concept"))
   pub concept_slot : ConceptHasSlot r t h (map wanted_of ss) v.concept
   pub decimals : IsDecimals r t h (map (λ (d : DecimalsView). d.source) ds) (written_decimals (levels_under r t h v.column v.texts.items)) v.decimals
+  pub lead : v.decimals.lead ≡ tail_text r t v.column
   pub runs : AreKindRuns v.entries.items v.runs
   pub groups : (row : Record) → group_texts row (group_places r t h v.column) ≡ v.texts.items → groups_wrong r t row (group_places r t h v.column) ≡ None
 

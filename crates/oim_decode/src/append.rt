@@ -25,12 +25,18 @@ fn stands_for_itself(byte: u8) -> bool
     byte >= 32 && byte != b'"' && byte != b'\\'
 }
 
-/// Whether each byte of a text stands for itself.
+/// Whether each byte of a text stands for itself. It looks at all of them, so that many are tested at
+/// once.
 #[inline]
 fn needs_no_escape(text: &str) -> bool
     ensures { result ≡ list_all is_unescaped text.now }
 {
-    text.as_bytes().iter().all(|byte| stands_for_itself(*byte))
+    let bytes = text.as_bytes();
+    let mut all = true;
+    for i in 0..bytes.len() {
+        all &= stands_for_itself(bytes[i]);
+    }
+    all
 }
 
 /// Appends a text, escaped. Fails where memory is short; what was there stays at the front.
@@ -44,20 +50,6 @@ pub(crate) fn put_escaped(out: &mut Page, text: &str) -> Result<(), AllocError>
     } else {
         put_runs(out, text.as_bytes())
     }
-}
-
-/// Appends a text in quotes of which each byte stands for itself. Fails where memory is short; what
-/// was there stays at the front.
-#[inline]
-pub(crate) fn put_plain(out: &mut Page, text: &str) -> Result<(), AllocError>
-    requires { list_all is_unescaped text.now ≡ true }
-    ensures quoted { OnOk result (out.new.items ≡ out.old.items ++ quoted text.now) }
-    ensures stays { IsPrefix out.old.items out.new.items }
-{
-    out.push(b'"')?;
-    put(out, text.as_bytes())?;
-    out.push(b'"')?;
-    Ok(())
 }
 
 /// Appends a text in quotes, escaped. Fails where memory is short; what was there stays at the

@@ -9,7 +9,7 @@ use crate::page::Page;
 use crate::remember::{first, none, rest, then};
 use crate::row_fault::RowFault;
 use crate::row_writer::RowWriter;
-use csv::StringRecord;
+use crate::text_record::TextRecord;
 use oim_json::Block;
 use oim_names::Items;
 use oim_resolve::Fact;
@@ -44,7 +44,7 @@ impl Model for Batch {
 struct RowNote<'a, 'b> {
     writer: &'b RowWriter<'a>,
     number: u32,
-    row: &'b StringRecord,
+    row: &'b TextRecord,
 }
 
 impl Tells<Items<Fact>> for RowNote<'_, '_> {
@@ -80,7 +80,7 @@ impl Batch {
         writer: &mut RowWriter<'_>,
         number: u32,
         id: &str,
-        row: &StringRecord,
+        row: &TextRecord,
     ) -> Result<(), RowFault>
         requires id { id.now ≡ row_id_text (id_place_of (reading_up_to number writer.old)) number (fields_of row.now) }
         requires long { length (fields_of row.now) ≡ length writer.old.header }
@@ -140,8 +140,7 @@ impl Batch {
         ensures { IfOk result (λ b. b ≡ drop count self.now) }
     {
         let start = self.ends[count - 1];
-        let mut bytes = Page::of(room);
-        bytes.reserve(self.bytes.len())?;
+        let mut bytes = Page::within(room, self.bytes.len())?;
         bytes.put(after(self.bytes.as_slice(), start))?;
         Ok(Batch {
             bytes,

@@ -12,7 +12,7 @@ ghost use Rattle.oim_resolve.specs.Facts.{is_absent as says_nothing};
 ghost use Rattle.oim_resolve.specs.Facts.{is_unknown as has_no_meaning};
 ghost use Rattle.std.specs.Prelude.{slice_index_or};
 ghost use Rattle.oim_decode.specs.declared.variant.Variant.{Variant};
-ghost use Rattle.oim_decode.specs.Facts.{GivesCell, GivesFact, IsFactColumn, groups_wrong, start_text, tail_text};
+ghost use Rattle.oim_decode.specs.Facts.{GivesCell, GivesFact, IsFactColumn, groups_wrong, start_text};
 ghost use Rattle.oim_decode.specs.ReadyTable.{IsFresh, IsFreshDecimals};
 ghost use Rattle.oim_decode.specs.Ready.{kind_given};
 ghost use Rattle.oim_decode.specs.Rows.{cell_under, is_unknown_in, names_none_in};
@@ -104,7 +104,6 @@ fn put_fact<'a>(
     slots: &[Slot<'a>],
     decimals: &[DecimalsSlot<'a>],
     start: &[u8],
-    tail: &[u8],
     out: &mut Page,
 ) -> Result<(), CellFault>
     requires variant { IsVariant (at.now).report.now (at.now).table (at.now).header.now slots.now decimals.now variant.now }
@@ -114,7 +113,6 @@ fn put_fact<'a>(
     requires fresh_decimals { All (IsFreshDecimals (at.now).number (fields_of (at.now).record.now)) decimals.now }
     requires value { seen_meaning value ≡ fact_meaning (cell_under (at.now).report.now (at.now).table (at.now).header.now (at.now).number (fields_of (at.now).record.now) column) }
     requires start { start.now ≡ start_text (cell_under (at.now).report.now (at.now).table (at.now).header.now (at.now).number (fields_of (at.now).record.now) column) }
-    requires tail { tail.now ≡ tail_text (at.now).report.now (at.now).table column }
     ensures fact { GivesFact (cell_under (at.now).report.now (at.now).table (at.now).header.now (at.now).number (fields_of (at.now).record.now) column) out.old.items out.new.items result }
     ensures front { IsPrefix out.old.items out.new.items }
 {
@@ -123,7 +121,6 @@ fn put_fact<'a>(
         Err(fault) => return Err(fault),
     };
     put(out, start)?;
-    put(out, tail)?;
     let found = variant.put(at.report, kind, value, slots, decimals, out)?;
     match found {
         Some(fault) => Err(fault),
@@ -220,7 +217,6 @@ pub(crate) fn put_cell<'a>(
     let variant = &kept.variants[place];
     let slots = kept.slots.as_slice();
     let decimals = kept.decimals.as_slice();
-    let tail = column.tail.as_slice();
     match put_fact(
         variant,
         column.column,
@@ -229,7 +225,6 @@ pub(crate) fn put_cell<'a>(
         slots,
         decimals,
         start,
-        tail,
         out,
     ) {
         Ok(()) => Ok(Some(place)),

@@ -11,6 +11,7 @@ ghost use Rattle.oim_decode.specs.Rows.{group_texts, group_places, levels_under}
 ghost use Rattle.oim_decode.specs.declared.variant.Variant.{Variant};
 ghost use Rattle.oim_decode.specs.Variants.{IsVariant, IsOfRow, IsKept};
 
+use crate::columns::tail_of;
 use crate::compile::{concept_of, decimals_of, entries_of, levels_of, texts_of};
 use crate::decimals_slot::DecimalsSlot;
 use crate::ready_runs::KindRuns;
@@ -67,7 +68,8 @@ fn variant<'a>(
     let levels = levels_in(alloc, report, column, groups, at)?;
     let entries = entries_of(alloc, report, levels.as_slice(), at, slots)?;
     let concept = concept_of(alloc, report, levels.as_slice(), at, slots)?;
-    let stated = decimals_of(alloc, report, levels.as_slice(), at, decimals)?;
+    let tail = tail_of(alloc, report, at.table, column)?;
+    let stated = decimals_of(alloc, report, levels.as_slice(), tail, at, decimals)?;
     let texts = texts_of(alloc, groups, at)?;
     let runs = KindRuns::of(alloc, entries.as_slice())?;
     Ok(Variant {

@@ -31,7 +31,12 @@ fn group_places_of(
 
 /// The text of a fact from the dot before its column's identifier to the brace of its object.
 #[tactic(auto, using(std::proofs::lemmas::Grind::common_steps))]
-fn tail_of(alloc: Global, report: &Report, table: usize, column: usize) -> Result<Page, AllocError>
+pub(crate) fn tail_of(
+    alloc: Global,
+    report: &Report,
+    table: usize,
+    column: usize,
+) -> Result<Page, AllocError>
     requires table { table < length report.now.tables }
     requires column { column < length (columns_of report.now table) }
     ensures { IfOk result (λ v. v.items ≡ tail_text report.now table column) }
@@ -57,12 +62,10 @@ pub(crate) fn ready_column(
     ensures column { IfOk result (λ c. c.column ≡ column) }
 {
     let groups = group_places_of(alloc, header, report.column(table, column).from.as_slice())?;
-    let tail = tail_of(alloc, report, table, column)?;
     Ok(FactColumn {
         column,
         place: place_in(header, column),
         groups,
-        tail,
     })
 }
 

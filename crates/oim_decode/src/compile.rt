@@ -14,6 +14,7 @@ ghost use Rattle.oim_decode.specs.Ready.{HasSlot, IsDecimals, ConceptHasSlot, wa
 ghost use Rattle.oim_decode.specs.Rows.{group_texts, levels_by, group_in};
 
 use crate::decimals_slot::DecimalsSlot;
+use crate::page::Page;
 use crate::ready::ReadyEntry;
 use crate::ready_decimals::ReadyDecimals;
 use crate::row_at::RowAt;
@@ -150,12 +151,14 @@ fn decimals_ready<'a>(
     alloc: Global,
     report: &'a Report,
     written: &WrittenDecimals,
+    lead: Page,
     at: &RowAt<'_>,
     slots: &mut Vec<DecimalsSlot<'a>>,
 ) -> Result<ReadyDecimals<'a>, AllocError>
     requires report { report.now ≡ (at.now).report.now }
     requires fresh { All (IsFreshDecimals (at.now).number (fields_of (at.now).record.now)) slots.old.items }
     ensures decimals { IfOk result (λ d. IsDecimals report.now (at.now).table (at.now).header.now (map (λ s. s.source) slots.new.items) (Some written.now) d) }
+    ensures lead { IfOk result (λ d. d.lead ≡ lead.items) }
     ensures fresh { OnOk result (All (IsFreshDecimals (at.now).number (fields_of (at.now).record.now)) slots.new.items) }
     ensures grown { OnOk result (Grows slots.old.items slots.new.items) }
 {
@@ -163,26 +166,29 @@ fn decimals_ready<'a>(
         Some(source) => Some(decimals_slot_for(alloc, source, at, slots)?),
         None => None,
     };
-    ReadyDecimals::new(alloc, settled_stated(report, at.table, written), slot)
+    let settled = settled_stated(report, at.table, written);
+    ReadyDecimals::new(alloc, settled, slot, lead)
 }
 
-/// The decimals that levels write.
+/// The decimals that levels write, behind a text.
 pub(crate) fn decimals_of<'a>(
     alloc: Global,
     report: &'a Report,
     levels: &[&'a Level],
+    lead: Page,
     at: &RowAt<'_>,
     slots: &mut Vec<DecimalsSlot<'a>>,
 ) -> Result<ReadyDecimals<'a>, AllocError>
     requires report { report.now ≡ (at.now).report.now }
     requires fresh { All (IsFreshDecimals (at.now).number (fields_of (at.now).record.now)) slots.old.items }
     ensures decimals { IfOk result (λ d. IsDecimals report.now (at.now).table (at.now).header.now (map (λ s. s.source) slots.new.items) (written_decimals (reverse (held levels.now))) d) }
+    ensures lead { IfOk result (λ d. d.lead ≡ lead.items) }
     ensures fresh { OnOk result (All (IsFreshDecimals (at.now).number (fields_of (at.now).record.now)) slots.new.items) }
     ensures grown { OnOk result (Grows slots.old.items slots.new.items) }
 {
     match levels::written_decimals(levels) {
-        Some(written) => decimals_ready(alloc, report, written, at, slots),
-        None => ReadyDecimals::new(alloc, Stated::Read(CellMeaning::Absent), None),
+        Some(written) => decimals_ready(alloc, report, written, lead, at, slots),
+        None => ReadyDecimals::new(alloc, Stated::Read(CellMeaning::Absent), None, lead),
     }
 }
 

@@ -14,7 +14,7 @@ ghost use Rattle.oim_decode.specs.Slots.{DecimalsView, source_meaning, decimals_
 use crate::kept_decimals::KeptDecimals;
 use crate::place::{PLACES, place_for};
 use crate::source::SourceOf;
-use csv::StringRecord;
+use crate::text_record::TextRecord;
 use oim_resolve::CellFault;
 use std::alloc::{AllocError, Global};
 use std::marker::Model;
@@ -82,7 +82,7 @@ impl<'a> DecimalsSlot<'a> {
         &mut self,
         number: u32,
         digits: &str,
-        row: &StringRecord,
+        row: &TextRecord,
     ) -> Result<(), AllocError>
         requires { digits.now ≡ decimal number }
         ensures row { OnOk result (self.new ≡ record self.old { meaning = source_meaning self.old.source number (fields_of row.now) }) }

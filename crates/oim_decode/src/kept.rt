@@ -16,7 +16,7 @@ use std::alloc::{AllocError, Global};
 pub(crate) struct Kept {
     pub(crate) text: String,
     pub(crate) answer: Answer,
-    /// Where the answer is written, its JSON text.
+    /// Where the answer is written, its JSON text with a comma behind it.
     pub(crate) piece: Page,
     /// What it gives as a concept. It is read in that role alone.
     pub(crate) concept: Result<Kind, CellFault>,
@@ -65,6 +65,7 @@ impl Kept {
         self.forget();
         let value = meaning(text);
         let answer = answer_of(alloc, report, role, side, value, &mut self.piece)?;
+        self.piece.push(b',')?;
         self.text.push_str(text)?;
         self.answer = answer;
         if let Role::Concept = role {

@@ -1,6 +1,6 @@
 //! A text that grows, in room that is filled ahead of it.
 
-ghost use Rattle.std.specs.Prelude.{◌≡◌, ◌+◌, ◌<◌, ◌≤◌, ◌++◌, ◌∷◌, [], OnOk, if◌then◌else◌, is_ok, length, take};
+ghost use Rattle.std.specs.Prelude.{◌≡◌, ◌+◌, ◌<◌, ◌≤◌, ◌++◌, ◌∷◌, [], IfOk, OnOk, if◌then◌else◌, is_ok, length, take};
 
 use std::alloc::{AllocError, Global};
 use std::marker::Model;
@@ -41,7 +41,14 @@ fn make_room(room: &mut Vec<u8>, len: usize, more: usize) -> Result<(), AllocErr
     grow(room, len, more)
 }
 
-/// The same, where the room is too small. All of the new capacity is filled.
+/// How many bytes more the room has at least, where it grows.
+const LEAST: usize = 64;
+
+/// How many bytes are filled beyond those that are needed at once.
+const AHEAD: usize = 1024;
+
+/// The same, where the room is too small. Of the new capacity only a little more is filled than is
+/// needed.
 #[cold]
 #[inline(never)]
 fn grow(room: &mut Vec<u8>, len: usize, more: usize) -> Result<(), AllocError>
@@ -52,9 +59,11 @@ fn grow(room: &mut Vec<u8>, len: usize, more: usize) -> Result<(), AllocError>
     ensures ready { OnOk result (len + more ≤ length room.new.items) }
 {
     let filled = room.len();
-    room.reserve(more - (filled - len))?;
+    let missing = more - (filled - len);
+    room.reserve(if missing < LEAST { LEAST } else { missing })?;
+    let wanted = len.saturating_add(more).saturating_add(AHEAD);
     let all = room.capacity();
-    room.resize(all, 0)
+    room.resize(if wanted < all { wanted } else { all }, 0)
 }
 
 impl Page {
@@ -68,11 +77,14 @@ impl Page {
         }
     }
 
-    /// The empty text, in the memory of `room`.
-    pub(crate) fn of(room: Vec<u8>) -> Page
-        ensures items { result.items ≡ [] }
+    /// The empty text, in the memory of `room`, which has room for `len` bytes then. Fails where memory
+    /// is short.
+    pub(crate) fn within(room: Vec<u8>, len: usize) -> Result<Page, AllocError>
+        ensures items { IfOk result (λ p. p.items ≡ []) }
     {
-        Page { room, len: 0 }
+        let mut room = room;
+        room.reserve(len.saturating_sub(room.len()))?;
+        Ok(Page { room, len: 0 })
     }
 
     /// How many bytes the text has.
@@ -106,14 +118,6 @@ impl Page {
         if len < self.len {
             self.len = len;
         }
-    }
-
-    /// Makes room for `more` bytes. Fails where memory is short.
-    #[inline(always)]
-    pub(crate) fn reserve(&mut self, more: usize) -> Result<(), AllocError>
-        ensures items { self.new.items ≡ self.old.items }
-    {
-        make_room(&mut self.room, self.len, more)
     }
 
     /// Appends bytes. Fails where memory is short, and then appends nothing.

@@ -1,6 +1,6 @@
 //! The decimals of a fact.
 
-ghost use Rattle.std.specs.Prelude.{◌≡◌, ◌++◌, ◌<◌, [], length, IfOk, OnOk, None, Some, is_none, if◌then◌else◌, ℕ};
+ghost use Rattle.std.specs.Prelude.{◌≡◌, ◌++◌, ◌<◌, [], codes, length, IfOk, OnOk, None, Some, is_none, is_ok, if◌then◌else◌, ℕ};
 ghost use Rattle.std.specs.Option.{option_map, option_and_then};
 ghost use mathlib.Core.List.{IsPrefix};
 ghost use Rattle.oim_cells.specs.Cells.{seen_meaning};
@@ -9,7 +9,8 @@ ghost use Rattle.oim_resolve.specs.Facts.{decimals_given, places, stated_accurac
 ghost use Rattle.oim_resolve.specs.Faults.{least};
 ghost use Rattle.oim_decode.specs.Answers.{seen_stated};
 ghost use Rattle.oim_decode.specs.Ready.{shown_stated};
-ghost use Rattle.oim_decode.specs.Rest.{decimals_wrong};
+ghost use Rattle.oim_decode.specs.Rest.{decimals_wrong, opening_text};
+ghost use Rattle.oim_resolve.specs.Values.{Read};
 
 use crate::append::put;
 use crate::decimals::{put_places, put_stated};
@@ -22,32 +23,46 @@ use oim_resolve::CellFault;
 use std::alloc::{AllocError, Global};
 use std::marker::Model;
 
-/// The decimals that levels write: what they state where rows say nothing of them, with its text and
-/// its fault, and the place of the slot of a reference whose meaning rows give. A contract sees what
-/// is stated, and the place.
+/// The text of a column's facts from the dot before its identifier up to its dimensions, with the
+/// decimals that levels write: what they state where rows say nothing of them, with its fault, and the
+/// place of the slot of a reference whose meaning rows give. A contract sees what is stated, the place,
+/// and the text before the decimals.
 #[derive(Drop)]
 pub(crate) struct ReadyDecimals<'a> {
     settled: Stated<'a>,
     slot: Option<usize>,
     fault: Option<CellFault>,
-    text: Page,
+    /// The text before the decimals.
+    lead: Page,
+    /// All of it, with what is stated where rows say nothing, and without decimals.
+    stated: Page,
+    bare: Page,
 }
 
 impl<'a> Model for ReadyDecimals<'a> {
-    ghost use Rattle.std.specs.Prelude.{◌≡◌};
+    ghost use Rattle.std.specs.Prelude.{◌≡◌, None};
     ghost use Rattle.std.specs.Option.{option_and_then};
-    ghost use Rattle.oim_json.specs.JsonText.{decimals_text};
     ghost use Rattle.oim_resolve.specs.Facts.{places, stated_accuracy, stated_faults};
     ghost use Rattle.oim_resolve.specs.Faults.{least};
     ghost use Rattle.oim_decode.specs.Answers.{seen_stated};
     ghost use Rattle.oim_decode.specs.Ready.{WrittenPlaces};
+    ghost use Rattle.oim_decode.specs.Rest.{opening_text};
 
     ghost Value = { WrittenPlaces };
 
-    ghost view = { λ a. record { settled = seen_stated a.settled; slot = a.slot } };
+    ghost view = { λ a. record { settled = seen_stated a.settled; slot = a.slot; lead = a.lead.items } };
 
     ghost invariant = { λ a. (a.fault ≡ least (stated_faults (seen_stated a.settled)))
-        × (a.text.items ≡ decimals_text (option_and_then places (stated_accuracy (seen_stated a.settled)))) };
+        × (a.stated.items ≡ opening_text a.lead.items (option_and_then places (stated_accuracy (seen_stated a.settled))))
+        × (a.bare.items ≡ opening_text a.lead.items None) };
+}
+
+/// The beginning of the object of dimensions.
+#[inline(always)]
+fn put_brace(out: &mut Page) -> Result<(), AllocError>
+    ensures { out.new.items ≡ (if is_ok result then out.old.items ++ codes "\"dimensions\":{" else out.old.items) }
+{
+    put(out, b"\"dimensions\":{")
 }
 
 /// Appends the decimals of an accuracy: none where it is infinite.
@@ -76,27 +91,79 @@ fn put_settled(stated: Stated<'_>, out: &mut Page) -> Result<Option<CellFault>, 
     }
 }
 
+/// A text, what is stated, and the beginning of the object of dimensions, with the fault.
+fn stated_of(
+    alloc: Global,
+    lead: &[u8],
+    stated: Stated<'_>,
+) -> Result<(Page, Option<CellFault>), AllocError>
+    ensures text { IfOk result (λ p. p.0.items ≡ opening_text lead.now (option_and_then places (stated_accuracy (seen_stated stated.entry)))) }
+    ensures fault { IfOk result (λ p. p.1 ≡ least (stated_faults (seen_stated stated.entry))) }
+{
+    let mut text = Page::new(alloc);
+    put(&mut text, lead)?;
+    let fault = put_settled(stated, &mut text)?;
+    put_brace(&mut text)?;
+    Ok((text, fault))
+}
+
+/// A text and the beginning of the object of dimensions.
 #[tactic(auto, unfolding(oim_json::specs::JsonText::decimals_text))]
+fn bare_of(alloc: Global, lead: &[u8]) -> Result<Page, AllocError>
+    ensures { IfOk result (λ t. t.items ≡ opening_text lead.now None) }
+{
+    let mut text = Page::new(alloc);
+    put(&mut text, lead)?;
+    put_brace(&mut text)?;
+    Ok(text)
+}
+
 impl<'a> ReadyDecimals<'a> {
-    /// Decimals that state this where rows say nothing of them, with the place of their slot.
+    /// Decimals that state this where rows say nothing of them, with the place of their slot and the
+    /// text before them.
     pub(crate) fn new(
         alloc: Global,
         settled: Stated<'a>,
         slot: Option<usize>,
+        lead: Page,
     ) -> Result<ReadyDecimals<'a>, AllocError>
-        ensures { IfOk result (λ d. d ≡ record { settled = seen_stated settled.entry; slot = slot }) }
+        ensures { IfOk result (λ d. d ≡ record { settled = seen_stated settled.entry; slot = slot; lead = lead.items }) }
     {
-        let mut text = Page::new(alloc);
-        let fault = put_settled(settled, &mut text)?;
+        let (stated, fault) = stated_of(alloc, lead.as_slice(), settled)?;
+        let bare = bare_of(alloc, lead.as_slice())?;
         Ok(ReadyDecimals {
             settled,
             slot,
             fault,
-            text,
+            lead,
+            stated,
+            bare,
         })
     }
 
-    /// Appends what is stated, or answers its fault.
+    /// Appends the text up to the dimensions with the decimals that an accuracy states.
+    #[inline]
+    fn put_exact(&self, accuracy: Accuracy, out: &mut Page) -> Result<(), AllocError>
+        ensures text { OnOk result (out.new.items ≡ out.old.items ++ opening_text (self.now).lead (places accuracy)) }
+        ensures front { IsPrefix out.old.items out.new.items }
+    {
+        put(out, self.lead.as_slice())?;
+        put_accuracy(accuracy, out)?;
+        put_brace(out)
+    }
+
+    /// The same with the decimals that a reference states.
+    #[inline]
+    fn put_slot(&self, slot: &DecimalsSlot<'_>, out: &mut Page) -> Result<(), AllocError>
+        ensures text { OnOk result (out.new.items ≡ out.old.items ++ opening_text (self.now).lead (option_and_then places (stated_accuracy (Read (slot.now).meaning)))) }
+        ensures front { IsPrefix out.old.items out.new.items }
+    {
+        put(out, self.lead.as_slice())?;
+        put(out, slot.text())?;
+        put_brace(out)
+    }
+
+    /// The same with what is stated, or answers its fault.
     #[inline]
     fn put_stated(
         &self,
@@ -106,11 +173,11 @@ impl<'a> ReadyDecimals<'a> {
         requires { (i : ℕ) → (self.now).slot ≡ Some i → i < length slots.now }
         ensures fault { IfOk result (λ f. f ≡ least (stated_faults (shown_stated slots.now self.now))) }
         ensures text { IfOk result (λ f. f ≡ None → out.new.items ≡ out.old.items
-            ++ decimals_text (option_and_then places (stated_accuracy (shown_stated slots.now self.now)))) }
+            ++ opening_text (self.now).lead (option_and_then places (stated_accuracy (shown_stated slots.now self.now)))) }
         ensures front { IsPrefix out.old.items out.new.items }
     {
         let Some(i) = self.slot else {
-            put(out, self.text.as_slice())?;
+            put(out, self.stated.as_slice())?;
             return Ok(self.fault);
         };
         let slot = &slots[i];
@@ -118,12 +185,12 @@ impl<'a> ReadyDecimals<'a> {
         if fault.is_some() {
             return Ok(fault);
         }
-        put(out, slot.text())?;
+        self.put_slot(slot, out)?;
         Ok(fault)
     }
 
-    /// Appends the decimals of a fact: those that the suffix of its cell states, else those that are
-    /// written. Answers their fault, where they are looked at.
+    /// Appends the text of a fact up to its dimensions with its decimals: those that the suffix of its
+    /// cell states, else those that are written. Answers their fault, where they are looked at.
     #[inline]
     pub(crate) fn put(
         &self,
@@ -136,14 +203,15 @@ impl<'a> ReadyDecimals<'a> {
         requires slot { (i : ℕ) → (self.now).slot ≡ Some i → i < length slots.now }
         ensures fault { IfOk result (λ f. f ≡ decimals_wrong kind (seen_meaning value.entry) suffix (shown_stated slots.now self.now)) }
         ensures text { IfOk result (λ f. f ≡ None → out.new.items ≡ out.old.items
-            ++ decimals_text (decimals_given kind (seen_meaning value.entry) suffix (shown_stated slots.now self.now))) }
+            ++ opening_text (self.now).lead (decimals_given kind (seen_meaning value.entry) suffix (shown_stated slots.now self.now))) }
         ensures front { IsPrefix out.old.items out.new.items }
     {
         if !matches!(&kind, Kind::Number(_)) || matches!(&value, CellMeaning::Nil) {
+            put(out, self.bare.as_slice())?;
             return Ok(None);
         }
         if let Some(accuracy) = suffix {
-            put_accuracy(accuracy, out)?;
+            self.put_exact(accuracy, out)?;
             return Ok(None);
         }
         self.put_stated(slots, out)

@@ -66,7 +66,6 @@ fn put_slot(
     };
     put(out, named)?;
     put(out, piece)?;
-    out.push(b',')?;
     Ok(fault)
 }
 

@@ -7,7 +7,7 @@ ghost use Rattle.oim_meta.specs.Readers.{columns_of};
 ghost use Rattle.oim_rows.specs.RowFacts.{field_or_empty};
 ghost use Rattle.oim_decode.specs.Rows.{IsRowAt, is_unknown_in, names_none_in};
 
-use csv::StringRecord;
+use crate::text_record::TextRecord;
 use oim_cells::{CellMeaning, meaning};
 use oim_meta::Report;
 use oim_names::find;
@@ -20,7 +20,7 @@ pub(crate) struct RowAt<'r> {
     pub(crate) header: &'r [Option<usize>],
     pub(crate) number: u32,
     pub(crate) digits: &'r str,
-    pub(crate) record: &'r StringRecord,
+    pub(crate) record: &'r TextRecord,
     ghost in_range: { IsRowAt report.now table number digits.now },
 }
 

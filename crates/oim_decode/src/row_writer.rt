@@ -19,7 +19,7 @@ use crate::refresh::refresh_table;
 use crate::row_at::RowAt;
 use crate::row_fault::RowFault;
 use crate::start::{lead_of, read_start};
-use csv::StringRecord;
+use crate::text_record::TextRecord;
 use itoa::Buffer;
 use oim_meta::Report;
 use std::alloc::{AllocError, Global};
@@ -103,7 +103,7 @@ impl<'a> RowWriter<'a> {
         alloc: Global,
         number: u32,
         id: &str,
-        row: &StringRecord,
+        row: &TextRecord,
         out: &mut Page,
         ends: &mut Vec<usize>,
     ) -> Result<(), RowFault>

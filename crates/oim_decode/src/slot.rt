@@ -9,13 +9,13 @@ ghost use Rattle.oim_resolve.specs.declared.role.Role.TheVariants as role;
 ghost use Rattle.oim_resolve.specs.Facts.{value_faults_of};
 ghost use Rattle.oim_resolve.specs.Faults.{least};
 ghost use Rattle.oim_decode.specs.Answers.{seen_source};
-ghost use Rattle.oim_decode.specs.Kept.{IsKept, IsEmpty, kept_meaning};
+ghost use Rattle.oim_decode.specs.Kept.{IsKept, IsEmpty, kept_meaning, with_comma};
 ghost use Rattle.oim_decode.specs.Slots.{SlotView, source_meaning, piece_given, concept_given};
 
 use crate::kept::Kept;
 use crate::place::{PLACES, place_for};
 use crate::source::SourceOf;
-use csv::StringRecord;
+use crate::text_record::TextRecord;
 use oim_meta::{Kind, Report, Side};
 use oim_resolve::{CellFault, Role};
 use std::alloc::{AllocError, Global};
@@ -146,7 +146,7 @@ impl<'a> Slot<'a> {
         alloc: Global,
         number: u32,
         digits: &str,
-        row: &StringRecord,
+        row: &TextRecord,
     ) -> Result<(), AllocError>
         requires { digits.now ≡ decimal number }
         ensures row { OnOk result (self.new ≡ record self.old { meaning = source_meaning self.old.source number (fields_of row.now) }) }
@@ -188,10 +188,10 @@ impl<'a> Slot<'a> {
         self.at_hand().answer.fault
     }
 
-    /// What it gives a fact, as JSON: nothing, null or a text in quotes.
+    /// What it gives a fact, as JSON: nothing, or null or a text in quotes with a comma behind it.
     #[inline(always)]
     pub(crate) fn piece(&self) -> Option<&[u8]>
-        ensures { option_map (λ p. p.now) result ≡ piece_given self.now.report self.now.role self.now.side self.now.meaning }
+        ensures { option_map (λ p. p.now) result ≡ option_map with_comma (piece_given self.now.report self.now.role self.now.side self.now.meaning) }
     {
         let kept = self.at_hand();
         if kept.answer.is_written {

@@ -8,7 +8,7 @@ ghost use Rattle.oim_rows.specs.RowFacts.{field_or_empty};
 ghost use Rattle.oim_decode.specs.Answers.{seen_source};
 ghost use Rattle.oim_decode.specs.Slots.{source_meaning};
 
-use csv::StringRecord;
+use crate::text_record::TextRecord;
 
 /// What a reference names whose meaning each row gives.
 #[derive(Clone, Copy)]
@@ -47,7 +47,7 @@ impl<'a> SourceOf<'a> {
     /// The text of the reference in a row, whose number has these digits: empty where nothing is
     /// given.
     #[inline(always)]
-    pub(crate) fn text_in<'r>(self, number: u32, digits: &'r str, row: &'r StringRecord) -> &'r str
+    pub(crate) fn text_in<'r>(self, number: u32, digits: &'r str, row: &'r TextRecord) -> &'r str
     where
         'a: 'r,
         requires { digits.now ≡ decimal number }
@@ -71,7 +71,7 @@ impl<'a> SourceOf<'a> {
 
 /// The text of a row's cell, empty where the row has no such place.
 #[inline(always)]
-fn cell_in(place: usize, row: &StringRecord) -> &str
+fn cell_in(place: usize, row: &TextRecord) -> &str
     ensures { result.now ≡ field_or_empty (fields_of row.now) (Some place) }
 {
     match row.get(place) {

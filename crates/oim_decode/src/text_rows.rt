@@ -11,8 +11,10 @@ ghost use Rattle.oim_decode.specs.RowTexts.{AddsFacts, writing_of};
 
 use crate::batch::Batch;
 use crate::row_fault::RowFault;
+use crate::row_id::{id_place, keep_id, read_id};
 use crate::row_writer::RowWriter;
-use csv::{ByteRecord, StringRecord};
+use crate::text_record::TextRecord;
+use csv::ByteRecord;
 use oim_meta::{Records, Report};
 use oim_rows::{RowForm, RowIds, TableFault, TableKind, fault_of_read, whole_fault};
 use std::alloc::Global;
@@ -29,6 +31,8 @@ pub(crate) struct TextRows<'a, R: Read> {
     writer: RowWriter<'a>,
     records: Records<R>,
     row: ByteRecord,
+    // the place in the header of the row identifier
+    id_place: Option<usize>,
     // the identifier of the row at hand
     id: String,
     ids: RowIds,
@@ -37,6 +41,7 @@ pub(crate) struct TextRows<'a, R: Read> {
 
 impl<'a, R: Read> Model for TextRows<'a, R> {
     ghost use Rattle.std.specs.Prelude.{◌≡◌, ◌≤◌, ◌<◌, ◌^◌, ◌-◌, ◌+◌, option_map};
+    ghost use Rattle.oim_rows.specs.RowFacts.{id_place_of};
     ghost use Rattle.oim_rows.specs.Streams.{stream_from};
     ghost use Rattle.oim_decode.specs.Blocks.{RowsUnread};
     ghost use Rattle.oim_decode.specs.RowTexts.{writing_of};
@@ -45,7 +50,7 @@ impl<'a, R: Read> Model for TextRows<'a, R> {
 
     ghost view = { λ a. record { reading = a.form; given = a.given; left = option_map (stream_from a.form (a.given + 1) a.ids) a.records } };
 
-    ghost invariant = { λ a. (a.writer ≡ writing_of a.form) × (a.given ≤ a.form.limit) × (a.form.limit < 2 ^ 32 - 1) };
+    ghost invariant = { λ a. (a.writer ≡ writing_of a.form) × (a.id_place ≡ id_place_of a.form) × (a.given ≤ a.form.limit) × (a.form.limit < 2 ^ 32 - 1) };
 }
 
 impl<'a, R: Read + Drop> TextRows<'a, R> {
@@ -76,12 +81,14 @@ impl<'a, R: Read + Drop> TextRows<'a, R> {
         let Ok(writer) = RowWriter::new(alloc, report, table, form.header()) else {
             return Err(whole_fault(table, TableKind::Memory));
         };
+        let id_place = id_place(report, table, form.header());
         Ok(TextRows {
             alloc,
             form,
             writer,
             records,
             row,
+            id_place,
             id: String::new(alloc),
             ids: RowIds::new(alloc),
             given: 0,
@@ -120,11 +127,12 @@ impl<R: Read> TextRows<'_, R> {
         if let Some(fault) = self.form.fault_of_row(number, &self.ids, &self.row) {
             return Err(fault);
         }
-        let row = into_text(mem::replace(&mut self.row, ByteRecord::new(self.alloc)));
+        let row = TextRecord::new(mem::replace(&mut self.row, ByteRecord::new(self.alloc)));
         let added = add_row(
             self.alloc,
             &self.form,
             &mut self.writer,
+            self.id_place,
             number,
             &row,
             &mut self.id,
@@ -142,35 +150,26 @@ impl<R: Read> TextRows<'_, R> {
     }
 }
 
-/// A record whose fields are all text, as such.
-fn into_text(row: ByteRecord) -> StringRecord
-    requires { IsTextRecord (fields_of row) }
-    ensures { fields_of result ≡ fields_of row }
-{
-    match StringRecord::from_byte_record(row) {
-        Ok(text) => text,
-        Err(_) => unreachable!(),
-    }
-}
-
 /// Adds the facts of row `number` to a batch. Apart from its cells the row has no fault.
 fn add_row(
     alloc: Global,
     form: &RowForm<'_>,
     writer: &mut RowWriter<'_>,
+    place: Option<usize>,
     number: u32,
-    row: &StringRecord,
+    row: &TextRecord,
     id: &mut String,
     ids: &mut RowIds,
     batch: &mut Batch,
 ) -> Result<(), TableFault>
     requires row { row_fault form.now number ids.old (fields_of row.now) ≡ None }
     requires writer { writer.old ≡ writing_of form.now }
+    requires place { place ≡ id_place_of form.now }
     ensures facts { AddsFacts (form.now).table (row_result form.now number ids.old (fields_of row.now)) batch.old batch.new result }
     ensures ids { OnOk result (ids.new ≡ ids_after (id_place_of form.now) ids.old (fields_of row.now)) }
     ensures same { writer.new ≡ writer.old }
 {
-    if form.read_id(number, row, id).is_err() || form.keep_id(alloc, row, ids).is_err() {
+    if read_id(place, number, row, id).is_err() || keep_id(alloc, place, row, ids).is_err() {
         return Err(whole_fault(form.table(), TableKind::Memory));
     }
     match batch.push_row(alloc, writer, number, id.as_str(), row) {

@@ -1,16 +1,17 @@
 //! The value of a fact.
 
-ghost use Rattle.std.specs.Prelude.{◌≡◌, ◌++◌, true, IfOk, IfSome, None};
-ghost use Rattle.std.specs.List.{list_all};
+ghost use Rattle.std.specs.Prelude.{◌≡◌, ◌++◌, true, IfOk, IfSome, OnOk, None};
+ghost use Rattle.std.specs.List.{flat_map, list_all};
 ghost use mathlib.Core.List.{IsPrefix};
 ghost use Rattle.oim_cells.specs.Cells.{seen_meaning};
-ghost use Rattle.oim_json.specs.JsonText.{is_unescaped, value_text};
+ghost use Rattle.oim_json.specs.JsonText.{escaped_byte, is_unescaped};
 ghost use Rattle.oim_resolve.specs.FactValues.{accuracy_in, faults_in, text_in, value_given};
 ghost use Rattle.oim_resolve.specs.Facts.{is_numeric};
 ghost use Rattle.oim_resolve.specs.Faults.{least};
 ghost use Rattle.oim_resolve.specs.ProgramValues.{seen_reading};
+ghost use Rattle.oim_decode.specs.Rest.{value_end};
 
-use crate::append::{put, put_plain, put_quoted};
+use crate::append::{put, put_escaped};
 use crate::numeral::split;
 use crate::page::Page;
 use oim_cells::{Accuracy, CellMeaning};
@@ -50,8 +51,22 @@ pub(crate) fn suffix_of(reading: Result<FactValue<'_>, CellFault>) -> Option<Acc
     }
 }
 
-/// Appends the value of a fact whose concept has this kind, or answers its fault.
-#[tactic(auto, unfolding(oim_json::specs::JsonText::value_text))]
+/// Appends what stands in the quotes of a value. That of a number needs no escape.
+#[inline(always)]
+fn put_inside(kind: Kind, text: &str, out: &mut Page) -> Result<(), AllocError>
+    requires { is_numeric kind ≡ true → list_all is_unescaped text.now ≡ true }
+    ensures text { OnOk result (out.new.items ≡ out.old.items ++ flat_map escaped_byte text.now) }
+    ensures front { IsPrefix out.old.items out.new.items }
+{
+    if matches!(&kind, Kind::Number(_)) {
+        put(out, text.as_bytes())
+    } else {
+        put_escaped(out, text)
+    }
+}
+
+/// Appends the end of a fact whose concept has this kind, from behind its dimensions, or answers the
+/// fault of its value.
 #[inline]
 pub(crate) fn put_value(
     kind: Kind,
@@ -60,7 +75,7 @@ pub(crate) fn put_value(
 ) -> Result<Option<CellFault>, AllocError>
     requires { is_numeric kind ≡ true → IfSome (text_in (seen_reading reading)) (λ t. list_all is_unescaped t ≡ true) }
     ensures fault { IfOk result (λ f. f ≡ least (faults_in (seen_reading reading.entry))) }
-    ensures text { IfOk result (λ f. f ≡ None → out.new.items ≡ out.old.items ++ value_text (text_in (seen_reading reading.entry))) }
+    ensures text { IfOk result (λ f. f ≡ None → out.new.items ≡ out.old.items ++ value_end (text_in (seen_reading reading.entry))) }
     ensures front { IsPrefix out.old.items out.new.items }
 {
     match reading {
@@ -70,13 +85,11 @@ pub(crate) fn put_value(
                 ..
             },
         ) => {
-            if matches!(&kind, Kind::Number(_)) {
-                put_plain(out, text)?;
-            } else {
-                put_quoted(out, text)?;
-            }
+            put(out, b"},\"value\":\"")?;
+            put_inside(kind, text, out)?;
+            put(out, b"\"}")?;
         }
-        Ok(FactValue { text: None, .. }) => put(out, b"null")?,
+        Ok(FactValue { text: None, .. }) => put(out, b"},\"value\":null}")?,
         Err(fault) => return Ok(Some(fault)),
     }
     Ok(None)

@@ -12,7 +12,6 @@ ghost use Rattle.oim_decode.specs.Ready.{IsPlaced, shown_fault, shown_pieces, sh
 ghost use Rattle.oim_decode.specs.ReadyRuns.{AreKindRuns, runs_fault, runs_text};
 ghost use Rattle.oim_decode.specs.Rest.{decimals_wrong, value_wrong, cut, cut_behind, rest_text};
 
-use crate::append::put;
 use crate::decimals_slot::DecimalsSlot;
 use crate::least::least_of;
 use crate::page::Page;
@@ -39,6 +38,7 @@ pub(crate) struct Variant<'a> {
     /// The same for each kind of concept, as they are written.
     pub(crate) runs: KindRuns,
     pub(crate) concept: Option<ReadyEntry<'a>>,
+    /// The decimals, with the text before them and behind them.
     pub(crate) decimals: ReadyDecimals<'a>,
 }
 
@@ -71,29 +71,9 @@ fn put_joined(
     Ok(fault)
 }
 
-/// Appends the object of dimensions and what stands before the value, or answers the dimensions' least
-/// fault.
-#[inline]
-fn put_dimensions(
-    runs: &ReadyRuns,
-    slots: &[Slot<'_>],
-    out: &mut Page,
-) -> Result<Option<CellFault>, AllocError>
-    requires { All (λ x. x.slot < length slots.now) (runs.now).runs.items }
-    ensures fault { IfOk result (λ f. f ≡ runs_fault slots.now runs.now) }
-    ensures text { IfOk result (λ f. f ≡ None → out.new.items ≡ out.old.items
-        ++ (codes "\"dimensions\":{" ++ cut (runs_text slots.now runs.now) ++ codes "},\"value\":")) }
-    ensures front { IsPrefix out.old.items out.new.items }
-{
-    put(out, b"\"dimensions\":{")?;
-    let fault = put_joined(runs, slots, out)?;
-    put(out, b"},\"value\":")?;
-    Ok(fault)
-}
-
 impl<'a> Variant<'a> {
-    /// Appends what follows the identifier of a fact, or answers the least fault of dimensions, decimals
-    /// and value. The slots have the meanings of the row.
+    /// Appends a fact from the dot before its column's identifier, or answers the least fault of
+    /// dimensions, decimals and value. The slots have the meanings of the row.
     pub(crate) fn put(
         &self,
         report: &Report,
@@ -110,18 +90,17 @@ impl<'a> Variant<'a> {
             (least_of (shown_fault slots.now kind (self.now).entries.items) (decimals_wrong kind (seen_meaning value.entry) (accuracy_in (value_given report.now kind (seen_meaning value.entry))) (shown_stated decimals.now (self.now).decimals)))
             (value_wrong report.now kind (seen_meaning value.entry))) }
         ensures text { IfOk result (λ f. f ≡ None → out.new.items ≡ out.old.items
-            ++ rest_text (decimals_given kind (seen_meaning value.entry) (accuracy_in (value_given report.now kind (seen_meaning value.entry))) (shown_stated decimals.now (self.now).decimals))
+            ++ ((self.now).decimals.lead ++ rest_text (decimals_given kind (seen_meaning value.entry) (accuracy_in (value_given report.now kind (seen_meaning value.entry))) (shown_stated decimals.now (self.now).decimals))
             (cut (shown_pieces slots.now kind (self.now).entries.items))
-            (text_in (value_given report.now kind (seen_meaning value.entry)))) }
+            (text_in (value_given report.now kind (seen_meaning value.entry))))) }
         ensures front { IsPrefix out.old.items out.new.items }
     {
         let reading = read_value(report, kind, value);
         let stated = self
             .decimals
             .put(kind, value, suffix_of(reading), decimals, out)?;
-        let dimensions = put_dimensions(self.runs.get(kind), slots, out)?;
+        let dimensions = put_joined(self.runs.get(kind), slots, out)?;
         let wrong = put_value(kind, reading, out)?;
-        out.push(b'}')?;
         Ok(least_of(least_of(dimensions, stated), wrong))
     }
 }

@@ -1,9 +1,10 @@
-use Rattle.std.proofs.Common.{◌≡◌, Some, None, get_or, sym, subst, ◌∙◌, inl, inr}
+use Rattle.std.proofs.Common.{◌≡◌, Some, None, get_or, sym, ap, subst, ◌∙◌, inl, inr}
 use Rattle.csv.specs.Records.{fields_of}
 use Rattle.oim_cells.specs.Cells.{seen_meaning}
 use Rattle.oim_meta.specs.declared.kind.Kind.{Kind}
 use Rattle.oim_resolve.specs.Facts.{rest_faults}
 use Rattle.oim_resolve.specs.Faults.{least}
+use Rattle.oim_decode.specs.Facts.{tail_text}
 use Rattle.oim_decode.specs.Rows.{cell_under}
 use Rattle.oim_decode.proofs.CellLaws.{kind_ok, kind_err}
 use Rattle.oim_decode.proofs.FactLaws.{rest_found, text_found}
@@ -15,13 +16,13 @@ returns-in-Err-clause-fact c =
     let a = c.args.at.now in
     inr (inl (kind_err (cell_under a.report.now a.table a.header.now a.number (fields_of a.record.now) c.args.column) c.in-Err.fault (sym c.concept_in.ensures ∙ c.in-Err.is)))
 
-pub put-requires-3-clause-placed : goal.put-requires-3-clause-placed
-put-requires-3-clause-placed c = λ k d b.
+pub put-requires-2-clause-placed : goal.put-requires-2-clause-placed
+put-requires-2-clause-placed c = λ k d b.
     let a = c.args.at.now in
     placed a.report.now a.table a.header.now a.number (fields_of a.record.now) c.args.column c.args.slots.now (get_or c.args.variant.now.entries.items k d) (c.requires.variant.slots k d b)
 
-pub put-requires-3-clause-decimals : goal.put-requires-3-clause-decimals
-put-requires-3-clause-decimals c = λ i e.
+pub put-requires-2-clause-decimals : goal.put-requires-2-clause-decimals
+put-requires-2-clause-decimals c = λ i e.
     let a = c.args.at.now in
     decimals_in a.report.now a.table a.header.now a.number (fields_of a.record.now) c.args.column c.args.decimals.now _ c.args.variant.now.decimals i c.requires.variant.decimals e
 
@@ -47,7 +48,8 @@ returns-in-None-clause-fact c =
       subst (λ (k : Kind). least (rest_faults cell k) ≡ None) ok.1 (sym rest ∙ sym c.in_ok-found.ensures.fault ∙ c.in-None.is),
       text_found a.report.now a.table a.header.now a.number w c.args.column c.args.slots.now c.args.decimals.now c.args.variant.now
           c.requires.variant c.requires.row c.requires.from c.requires.fresh c.requires.fresh_decimals
-          c.in-Ok.kind (seen_meaning c.args.value) c.args.out.now.items c.put.new.out.items c.put-2.new.out.items c.put-3.new.out.items
-          c.args.start.now c.args.tail.now ok.1 c.requires.value c.requires.start c.requires.tail
-          c.in_ok-put.ensures c.in_ok-put-2.ensures (c.in_ok-found.ensures.text c.in-None.is),
+          c.in-Ok.kind (seen_meaning c.args.value) c.args.out.now.items c.put.new.out.items c.put-2.new.out.items
+          c.args.start.now c.args.variant.now.decimals.lead ok.1 c.requires.value c.requires.start
+          (c.requires.variant.lead ∙ ap (tail_text a.report.now a.table) c.requires.row.0)
+          c.in_ok-put.ensures (c.in_ok-found.ensures.text c.in-None.is),
     )

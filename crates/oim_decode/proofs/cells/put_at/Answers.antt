@@ -18,7 +18,8 @@ pub returns-in-Some-clause-step : goal.returns-in-Some-clause-step
 returns-in-Some-clause-step c =
     let a = c.args.at.now in
     let col : fact_column a.report.now a.table (get_or a.header.now c.args.place None) ≡ Some c.in-Some.column.column =
-    column_at a.report.now a.table a.header.now a.number (fields_of a.record.now) c.args.columns.now c.args.place c.index-columns-place.result c.requires.columns c.requires.place c.index-columns-place.is
+    column_at a.report.now a.table a.header.now a.number (fields_of a.record.now) c.args.columns.now c.args.place
+    c.index-columns-place.result c.requires.columns c.requires.place c.index-columns-place.is
     ∙ ap (option_map (λ (y : FactColumn). y.column)) c.in-Some.is in
     c.put_step.ensures.step (get_or a.header.now c.args.place None) col
 
@@ -26,7 +27,8 @@ pub returns-in-Some-clause-fault : goal.returns-in-Some-clause-fault
 returns-in-Some-clause-fault c =
     let a = c.args.at.now in
     let col : fact_column a.report.now a.table (get_or a.header.now c.args.place None) ≡ Some c.in-Some.column.column =
-    column_at a.report.now a.table a.header.now a.number (fields_of a.record.now) c.args.columns.now c.args.place c.index-columns-place.result c.requires.columns c.requires.place c.index-columns-place.is
+    column_at a.report.now a.table a.header.now a.number (fields_of a.record.now) c.args.columns.now c.args.place
+    c.index-columns-place.result c.requires.columns c.requires.place c.index-columns-place.is
     ∙ ap (option_map (λ (y : FactColumn). y.column)) c.in-Some.is in
     c.put_step.ensures.fault (get_or a.header.now c.args.place None) col
 
@@ -34,7 +36,8 @@ pub returns-in-None-clause-step : goal.returns-in-None-clause-step
 returns-in-None-clause-step c =
     let a = c.args.at.now in
     let col : fact_column a.report.now a.table (get_or a.header.now c.args.place None) ≡ None =
-    column_at a.report.now a.table a.header.now a.number (fields_of a.record.now) c.args.columns.now c.args.place c.index-columns-place.result c.requires.columns c.requires.place c.index-columns-place.is
+    column_at a.report.now a.table a.header.now a.number (fields_of a.record.now) c.args.columns.now c.args.place
+    c.index-columns-place.result c.requires.columns c.requires.place c.index-columns-place.is
     ∙ ap (option_map (λ (y : FactColumn). y.column)) c.in-None.is in
     record {
       fact = None;

@@ -32,6 +32,7 @@ returns-clause-variant c =
       concept_slot = c.in_ok-concept.ensures.slot;
       decimals = subst (λ (ls : List Level). IsDecimals r t h (map (λ (d : DecimalsView). d.source) c.decimals_of.new.slots.items) (written_decimals ls) c.in_ok-stated.stated)
           (ap (λ (xs : List (Bor Level)). reverse (held xs)) c.as_slice-3.ensures.value ∙ under) c.in_ok-stated.ensures.decimals;
+      lead = c.in_ok-stated.ensures.lead ∙ c.in_ok-tail.ensures;
       runs = subst (λ (es : List EntryView). AreKindRuns es c.in_ok-runs.runs) c.as_slice-4.ensures.value c.in_ok-runs.ensures;
       groups = λ row same. ap (groups_wrong r t row) (sym c.requires.groups)
           ∙ same_groups r t row (fields_of c.args.at.now.record.now) c.args.groups.now

@@ -28,7 +28,7 @@ invariant_of-result-2 c =
     let texts = rest_texts c.args.count c.index-start.result.now fs c.as_slice.result.now (c.as_slice.ensures.value ∙ c.self.invariant.0) at in
     let ends = rest_ends c.args.count c.index-start.result.now fs c.as_slice-2.result.now there (c.as_slice-2.ensures.value ∙ c.self.invariant.1) at in
     let moved : c.put.new.self.items ≡ c.after.result.now =
-    c.in_ok-put.ensures.items ∙ ap (λ t. t ++ c.after.result.now) (c.in_ok-reserve.ensures.items ∙ c.of-bytes.ensures.items) in (
-      ap (λ (p : PageText). p.items) c.bytes-2.view_is ∙ moved ∙ c.after.ensures ∙ texts ∙ ap behind_commas (sym c.rest.ensures),
+    c.in_ok-put.ensures.items ∙ ap (λ t. t ++ c.after.result.now) c.in_ok-bytes.ensures.items in (
+      ap (λ (p : PageText). p.items) c.bytes.view_is ∙ moved ∙ c.after.ensures ∙ texts ∙ ap behind_commas (sym c.rest.ensures),
       c.in_ok-counted_from.ensures ∙ ap (map (λ end. end - c.index-start.result.now)) c.behind.ensures ∙ ends ∙ ap (ends_from 0) (sym c.rest.ensures),
     )

@@ -21,7 +21,7 @@ returns-in-Some-clause-next g c =
 pub returns-in-Ok-clause-next : goal.returns-in-Ok-clause-next
 returns-in-Ok-clause-next g c =
     let a = c.self.inside in
-    let text : fields_of c.into_text-row.result ≡ fields_of c.read.new.row = c.into_text-row.ensures ∙ ap fields_of c.replace.ensures.value in
+    let text : fields_of c.new-row.result ≡ fields_of c.read.new.row = ap fields_of (c.new-row.ensures ∙ c.replace.ensures.value) in
     rw (← c.self.view_is)
     (adds_row (a.given + 1) a.form a.ids c.add_row-added.new.ids c.args.batch.now c.add_row-added.new.batch a.records c.read.new.self
     (fields_of c.read.new.row) (rw c.in-Ok-true.field-0-test at c.in-Ok-true.ensures)
@@ -30,7 +30,7 @@ returns-in-Ok-clause-next g c =
 pub returns-in-Err-added-clause-next : goal.returns-in-Err-added-clause-next
 returns-in-Err-added-clause-next g c =
     let a = c.self.inside in
-    let text : fields_of c.into_text-row.result ≡ fields_of c.read.new.row = c.into_text-row.ensures ∙ ap fields_of c.replace.ensures.value in
+    let text : fields_of c.new-row.result ≡ fields_of c.read.new.row = ap fields_of (c.new-row.ensures ∙ c.replace.ensures.value) in
     let facts = rw text at c.in-Err-added.ensures.facts in
     rw (← c.self.view_is)
     (adds_fault (a.given + 1) a.form a.ids c.args.batch.now c.add_row-added.new.batch a.records c.read.new.self

@@ -9,14 +9,14 @@ use Rattle.oim_resolve.specs.FactValues.{ValueParts, accuracy_in, faults_in, tex
 use Rattle.oim_resolve.specs.Faults.{least, least_of}
 use Rattle.oim_resolve.specs.declared.fact.CellFault.{CellFault}
 use Rattle.oim_decode.specs.Ready.{shown_pieces, shown_stated}
-use Rattle.oim_decode.specs.Rest.{cut, rest_text, decimals_wrong}
+use Rattle.oim_decode.specs.Rest.{cut, rest_text, decimals_wrong, value_end}
 use Rattle.oim_decode.proofs.TextCuts.{rest_put}
 use Rattle.oim_decode.proofs.ReadyLaws.{neither}
 use Rattle.oim_decode.proofs.PlainNumerals.{given_is_plain}
 use Rattle.oim_decode.proofs.variant.Variant.put.Goals as goal
 
-pub put_dimensions-requires : goal.put_dimensions-requires
-put_dimensions-requires c = (c.get.ensures c.args.self.now.entries.items c.requires.runs).slots c.args.slots.now c.requires.placed
+pub put_joined-requires : goal.put_joined-requires
+put_joined-requires c = (c.get.ensures c.args.self.now.entries.items c.requires.runs).slots c.args.slots.now c.requires.placed
 
 pub put_value-requires : goal.put_value-requires
 put_value-requires c = λ number.
@@ -45,12 +45,11 @@ returns-clause-text c = λ none.
     let runs = c.get.ensures c.args.self.now.entries.items c.requires.runs in
     let both = neither c.least_of.result c.in_ok-wrong.wrong (sym c.least_of-2.ensures ∙ none) in
     let two = neither c.in_ok-dimensions.dimensions c.in_ok-stated.stated (sym c.least_of.ensures ∙ both.0) in
-    let written = subst (λ (p : List ℕ). c.put_dimensions.new.out.items ≡ c.put.new.out.items ++ ((codes "\"dimensions\":{" ++ cut p) ++ codes "},\"value\":"))
-    (runs.text c.args.slots.now c.requires.placed) (c.in_ok-dimensions.ensures.text two.0) in
-    rest_put c.args.out.now.items (decimals_text (decimals_given k v (accuracy_in reading) (shown_stated c.args.decimals.now c.args.self.now.decimals))) (codes "\"dimensions\":{")
-    (cut (shown_pieces c.args.slots.now k c.args.self.now.entries.items)) (codes "},\"value\":") (value_text (text_in reading)) (codes "}") _ _ _ _
-    (subst (λ (a : Option Accuracy). c.put.new.out.items ≡ c.args.out.now.items ++ decimals_text (decimals_given k v a (shown_stated c.args.decimals.now c.args.self.now.decimals)))
+    let lead = c.args.self.now.decimals.lead in
+    let given : Option Accuracy → List ℕ = λ a. decimals_text (decimals_given k v a (shown_stated c.args.decimals.now c.args.self.now.decimals)) in
+    rest_put c.args.out.now.items lead (given (accuracy_in reading)) (codes "\"dimensions\":{")
+    (cut (shown_pieces c.args.slots.now k c.args.self.now.entries.items)) (codes "},\"value\":") (value_text (text_in reading)) (codes "}") _ _ _
+    (subst (λ (a : Option Accuracy). c.put.new.out.items ≡ c.args.out.now.items ++ ((lead ++ given a) ++ codes "\"dimensions\":{"))
     (c.suffix_of.ensures ∙ ap accuracy_in c.read_value-reading.ensures) (c.in_ok-stated.ensures.text two.1))
-    written
-    (subst (λ (x : Result ValueParts CellFault). c.put_value.new.out.items ≡ c.put_dimensions.new.out.items ++ value_text (text_in x)) c.read_value-reading.ensures (c.in_ok-wrong.ensures.text both.1))
-    c.in_ok-push.ensures.items
+    (subst (λ (p : List ℕ). c.put_joined.new.out.items ≡ c.put.new.out.items ++ cut p) (runs.text c.args.slots.now c.requires.placed) (c.in_ok-dimensions.ensures.text two.0))
+    (subst (λ (x : Result ValueParts CellFault). c.put_value.new.out.items ≡ c.put_joined.new.out.items ++ value_end (text_in x)) c.read_value-reading.ensures (c.in_ok-wrong.ensures.text both.1))

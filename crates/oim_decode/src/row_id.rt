@@ -1,0 +1,83 @@
+//! The identifiers of a table's rows.
+
+ghost use Rattle.std.specs.Prelude.{◌≡◌, ◌<◌, OnOk, length};
+ghost use Rattle.std.specs.String.{string_bytes};
+ghost use Rattle.csv.specs.Records.{fields_of};
+ghost use Rattle.oim_meta.specs.Readers.{template_of};
+ghost use Rattle.oim_rows.specs.RowFacts.{IsNewId, ids_after, row_id_place, row_id_text};
+
+use crate::sources::place_in;
+use crate::text_record::TextRecord;
+use itoa::Buffer;
+use oim_meta::Report;
+use oim_rows::RowIds;
+use std::alloc::{AllocError, Global};
+
+/// The place in a header of a table's row identifier, where its template has a column for it.
+pub(crate) fn id_place(report: &Report, table: usize, header: &[Option<usize>]) -> Option<usize>
+    requires { table < length report.now.tables }
+    ensures { result ≡ row_id_place (template_of report.now table).row_id_column header.now }
+{
+    match report.row_id_column(table) {
+        Some(column) => place_in(header, column),
+        None => None,
+    }
+}
+
+ghost use Rattle.std.specs.Prelude.{[], unwrap_or};
+ghost use Rattle.csv.specs.Records.{field_at};
+
+/// The text of a cell, or the empty text where there is none.
+fn text_or_empty(row: &TextRecord, place: usize) -> &str
+    ensures { result.now ≡ unwrap_or (field_at (fields_of row.now) place) [] }
+{
+    match row.get(place) {
+        Some(cell) => cell,
+        None => "",
+    }
+}
+
+ghost use Rattle.std.specs.Prelude.{◌++◌, codes, decimal, Some};
+
+/// Appends the identifier of a row of a table that has no column for it: `r_` and the row's number.
+fn push_number(id: &mut String, number: u32) -> Result<(), AllocError>
+    ensures { OnOk result (string_bytes id.new ≡ string_bytes id.old ++ (codes "r_" ++ decimal number)) }
+{
+    let mut buffer = Buffer::new();
+    id.push_str("r_")?;
+    id.push_str(buffer.format(number))
+}
+
+/// Puts the identifier of row `number` in place of what `id` holds, where the header has it at this place.
+/// Fails where memory is short.
+pub(crate) fn read_id(
+    place: Option<usize>,
+    number: u32,
+    row: &TextRecord,
+    id: &mut String,
+) -> Result<(), AllocError>
+    ensures { OnOk result (string_bytes id.new ≡ row_id_text place number (fields_of row.now)) }
+{
+    id.clear();
+    match place {
+        Some(place) => id.push_str(text_or_empty(row, place)),
+        None => push_number(id, number),
+    }
+}
+
+/// Adds the identifier of a row to those before it, where the header has it at this place. Fails where
+/// memory is short.
+pub(crate) fn keep_id(
+    alloc: Global,
+    place: Option<usize>,
+    row: &TextRecord,
+    ids: &mut RowIds,
+) -> Result<(), AllocError>
+    requires { IsNewId place ids.old (fields_of row.now) }
+    ensures { OnOk result (ids.new ≡ ids_after place ids.old (fields_of row.now)) }
+{
+    if let Some(place) = place {
+        ids.push(String::from_str(alloc, text_or_empty(row, place))?)?;
+    }
+    Ok(())
+}
