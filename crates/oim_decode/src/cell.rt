@@ -4,7 +4,7 @@ ghost use Rattle.std.specs.Prelude.{◌≡◌, ◌<◌, ◌⊎◌, ℕ, List, So
 ghost use Rattle.std.specs.List.{All, list_any};
 ghost use mathlib.Core.List.{IsPrefix};
 ghost use Rattle.csv.specs.Records.{fields_of};
-ghost use Rattle.oim_cells.specs.Cells.{seen_meaning};
+ghost use Rattle.oim_cells.specs.Cells.{meaning_of, seen_meaning};
 ghost use Rattle.oim_meta.specs.Readers.{column_of, columns_of};
 ghost use Rattle.oim_resolve.specs.Facts.{fact_meaning, given};
 ghost use Rattle.oim_resolve.specs.declared.fact.CellFault.TheVariants.{Memory};
@@ -142,13 +142,25 @@ fn is_unknown(value: CellMeaning<'_>) -> bool
     matches!(&value, CellMeaning::Unknown)
 }
 
+/// What a text means. Most texts mean themselves, as their first byte shows.
+#[inline(always)]
+fn quick_meaning(text: &str) -> CellMeaning<'_>
+    ensures { seen_meaning result ≡ meaning_of text.now }
+{
+    let bytes = text.as_bytes();
+    if bytes.len() > 0 && bytes[0] != b'#' {
+        return CellMeaning::Text(text);
+    }
+    meaning(text)
+}
+
 /// What the cell of a column means in a row.
 #[inline(always)]
 fn value_in<'r>(at: &RowAt<'r>, column: &FactColumn) -> CellMeaning<'r>
     requires { IsFactColumn (at.now).report.now (at.now).table (at.now).header.now column.now }
     ensures { seen_meaning result ≡ fact_meaning (cell_under (at.now).report.now (at.now).table (at.now).header.now (at.now).number (fields_of (at.now).record.now) (column.now).column) }
 {
-    meaning(at.text_at(column.place))
+    quick_meaning(at.text_at(column.place))
 }
 
 /// The place of the variant of a column in a row, made where it is not kept yet; or the fault of its

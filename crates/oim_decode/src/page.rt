@@ -42,7 +42,7 @@ fn make_room(room: &mut Vec<u8>, len: usize, more: usize) -> Result<(), AllocErr
 }
 
 /// How many bytes more the room has at least, where it grows.
-const LEAST: usize = 64;
+const LEAST: usize = 128;
 
 /// How many bytes are filled beyond those that are needed at once.
 const AHEAD: usize = 1024;

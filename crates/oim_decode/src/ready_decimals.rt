@@ -1,4 +1,4 @@
-//! The decimals of a fact.
+//! The text of a fact up to its dimensions, with its decimals.
 
 ghost use Rattle.std.specs.Prelude.{◌≡◌, ◌++◌, ◌<◌, [], codes, length, IfOk, OnOk, None, Some, is_none, is_ok, if◌then◌else◌, ℕ};
 ghost use Rattle.std.specs.Option.{option_map, option_and_then};

@@ -10,5 +10,5 @@ returns c =
     let a = c.args.at.now in
     let w = fields_of a.record.now in
     let k = c.args.column.now in
-    c.meaning.ensures.value ∙ ap meaning_of (c.text_at.ensures ∙ ap (field_or_empty w) c.requires.place)
+    c.quick_meaning.ensures ∙ ap meaning_of (c.text_at.ensures ∙ ap (field_or_empty w) c.requires.place)
     ∙ sym (meaning_is a.report.now a.table a.header.now a.number w k.column k.column c.requires.range)
