@@ -25,8 +25,8 @@ fn stands_for_itself(byte: u8) -> bool
     byte >= 32 && byte != b'"' && byte != b'\\'
 }
 
-/// Whether each byte of a text stands for itself. It looks at all of them, so that many are tested at
-/// once.
+/// Whether each byte of a text stands for itself. All of them are looked at, so that the compiler can
+/// test many at once.
 #[inline]
 fn needs_no_escape(text: &str) -> bool
     ensures { result ≡ list_all is_unescaped text.now }

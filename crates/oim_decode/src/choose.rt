@@ -138,7 +138,7 @@ fn scan(
     None
 }
 
-/// The same, which is mostly at `guess`.
+/// The place of the variant of a column in the row, if it is kept. The one at `guess` is tried first.
 #[inline]
 pub(crate) fn find_variant(
     variants: &[Variant<'_>],

@@ -7,6 +7,10 @@
 //!
 //! No fact lies in memory as a value: a row's cells are written as text, and the list of the facts is remembered for
 //! contracts alone.
+//!
+//! Two words are used all through. A *slot* is a reference of the metadata to a cell of the row, together with what the
+//! cell's text gives a fact; it is read once for each row. A *variant* is a column of facts under one choice of property
+//! groups. All of its text that is the same in each row is kept ready, in pieces between its slots.
 #![tactic(auto)]
 
 mod answer;

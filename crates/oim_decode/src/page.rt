@@ -41,14 +41,13 @@ fn make_room(room: &mut Vec<u8>, len: usize, more: usize) -> Result<(), AllocErr
     grow(room, len, more)
 }
 
-/// How many bytes more the room has at least, where it grows.
+/// By how many bytes the room grows at least.
 const LEAST: usize = 128;
 
 /// How many bytes are filled beyond those that are needed at once.
 const AHEAD: usize = 1024;
 
-/// The same, where the room is too small. Of the new capacity only a little more is filled than is
-/// needed.
+/// The same, where the room is too small. Only a little more of it is filled than is needed at once.
 #[cold]
 #[inline(never)]
 fn grow(room: &mut Vec<u8>, len: usize, more: usize) -> Result<(), AllocError>
@@ -77,8 +76,7 @@ impl Page {
         }
     }
 
-    /// The empty text, in the memory of `room`, which has room for `len` bytes then. Fails where memory
-    /// is short.
+    /// The empty text in the memory of `room`, with room for `len` bytes. Fails where memory is short.
     pub(crate) fn within(room: Vec<u8>, len: usize) -> Result<Page, AllocError>
         ensures items { IfOk result (λ p. p.items ≡ []) }
     {

@@ -1,11 +1,11 @@
-//! Some place for a text among those that are kept.
+//! At which place a text is kept.
 
 ghost use Rattle.std.specs.Prelude.{◌<◌};
 
 /// How many texts are kept.
 pub(crate) const PLACES: usize = 32;
 
-/// Some place for a text, below `places`. No answer depends on which place it is.
+/// The place of a text, below `places`. Any place would do: no answer depends on it.
 #[inline(always)]
 pub(crate) fn place_for(text: &[u8], places: usize) -> usize
     requires { 0 < places }

@@ -24,9 +24,8 @@ use std::alloc::{AllocError, Global};
 use std::marker::Model;
 
 /// The text of a column's facts from the dot before its identifier up to its dimensions, with the
-/// decimals that levels write: what they state where rows say nothing of them, with its fault, and the
-/// place of the slot of a reference whose meaning rows give. A contract sees what is stated, the place,
-/// and the text before the decimals.
+/// decimals that levels write. These have a settled value with its fault, or a slot where they refer to
+/// a cell. A contract sees what is settled, the place of the slot, and the text before the decimals.
 #[derive(Drop)]
 pub(crate) struct ReadyDecimals<'a> {
     settled: Stated<'a>,
@@ -34,7 +33,7 @@ pub(crate) struct ReadyDecimals<'a> {
     fault: Option<CellFault>,
     /// The text before the decimals.
     lead: Page,
-    /// All of it, with what is stated where rows say nothing, and without decimals.
+    /// The whole text with the settled decimals, and without any.
     stated: Page,
     bare: Page,
 }

@@ -48,7 +48,7 @@ fn push_number(id: &mut String, number: u32) -> Result<(), AllocError>
     id.push_str(buffer.format(number))
 }
 
-/// Puts the identifier of row `number` in place of what `id` holds, where the header has it at this place.
+/// Puts the identifier of row `number` in place of what `id` holds. `place` is where the header has it.
 /// Fails where memory is short.
 pub(crate) fn read_id(
     place: Option<usize>,
@@ -65,8 +65,8 @@ pub(crate) fn read_id(
     }
 }
 
-/// Adds the identifier of a row to those before it, where the header has it at this place. Fails where
-/// memory is short.
+/// Adds the identifier of a row to those before it. `place` is where the header has it; without a place
+/// nothing is added. Fails where memory is short.
 pub(crate) fn keep_id(
     alloc: Global,
     place: Option<usize>,

@@ -8,8 +8,8 @@ ghost use Rattle.oim_rows.specs.RowFacts.{IsTextRecord};
 use csv::ByteRecord;
 use std::marker::Model;
 
-/// A record whose fields are all text. Unlike a `StringRecord` it is made without a test: the caller has
-/// made it.
+/// A record whose fields are all text. Unlike a `StringRecord` it is made without a test, since the
+/// fields of a row were tested when its faults were looked for.
 #[derive(Drop)]
 pub(crate) struct TextRecord {
     fields: ByteRecord,

@@ -51,7 +51,7 @@ pub(crate) fn suffix_of(reading: Result<FactValue<'_>, CellFault>) -> Option<Acc
     }
 }
 
-/// Appends what stands in the quotes of a value. That of a number needs no escape.
+/// Appends what stands between the quotes of a value. A number needs no escape.
 #[inline(always)]
 fn put_inside(kind: Kind, text: &str, out: &mut Page) -> Result<(), AllocError>
     requires { is_numeric kind ≡ true → list_all is_unescaped text.now ≡ true }
@@ -65,8 +65,8 @@ fn put_inside(kind: Kind, text: &str, out: &mut Page) -> Result<(), AllocError>
     }
 }
 
-/// Appends the end of a fact whose concept has this kind, from behind its dimensions, or answers the
-/// fault of its value.
+/// Appends the end of a fact from the brace that closes its dimensions, or answers the fault of its
+/// value. `kind` is that of its concept.
 #[inline]
 pub(crate) fn put_value(
     kind: Kind,
