@@ -71,7 +71,7 @@ pub(crate) fn levels_of<'a>(
     Ok(levels)
 }
 
-/// Puts the dimension of a name, where some level writes it.
+/// Puts the dimension of a name, where some level writes it. `value` is room for its value.
 fn push_entry<'a>(
     alloc: Global,
     report: &'a Report,
@@ -79,6 +79,7 @@ fn push_entry<'a>(
     name: &'a str,
     at: &RowAt<'_>,
     slots: &mut Vec<Slot<'a>>,
+    value: &mut Page,
     entries: &mut Vec<ReadyEntry<'a>>,
 ) -> Result<(), AllocError>
     requires report { report.now ≡ (at.now).report.now }
@@ -91,7 +92,7 @@ fn push_entry<'a>(
 {
     match levels::written(levels, name) {
         Some(written) => {
-            let entry = ReadyEntry::new(alloc, report, name, written, at, slots)?;
+            let entry = ReadyEntry::new(alloc, report, name, written, at, slots, value)?;
             entries.push(entry)?;
             Ok(())
         }
@@ -115,9 +116,19 @@ pub(crate) fn entries_of<'a>(
     ensures grown { OnOk result (Grows slots.old.items slots.new.items) }
 {
     let names = levels::names(alloc, levels)?;
-    let mut entries = Vec::new(alloc);
+    let mut entries = Vec::with_capacity(alloc, names.len())?;
+    let mut value = Page::new(alloc);
     for i in 0..names.len() {
-        push_entry(alloc, report, levels, names[i], at, slots, &mut entries)?;
+        push_entry(
+            alloc,
+            report,
+            levels,
+            names[i],
+            at,
+            slots,
+            &mut value,
+            &mut entries,
+        )?;
     }
     Ok(entries)
 }
@@ -139,7 +150,8 @@ pub(crate) fn concept_of<'a>(
 {
     match levels::written(levels, "concept") {
         Some(written) => {
-            let entry = ReadyEntry::new(alloc, report, "concept", written, at, slots)?;
+            let mut value = Page::new(alloc);
+            let entry = ReadyEntry::new(alloc, report, "concept", written, at, slots, &mut value)?;
             Ok(Some(entry))
         }
         None => Ok(None),

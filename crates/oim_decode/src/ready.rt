@@ -117,6 +117,7 @@ fn kept_text(
 
 impl<'a> ReadyEntry<'a> {
     /// A dimension with this meaning where rows say nothing of it, and with the place of its slot.
+    /// What `value` holds gives way to its value.
     fn of(
         alloc: Global,
         report: &'a Report,
@@ -124,13 +125,14 @@ impl<'a> ReadyEntry<'a> {
         written: &'a Written,
         settled: CellMeaning<'a>,
         slot: Option<usize>,
+        value: &mut Page,
     ) -> Result<ReadyEntry<'a>, AllocError>
         ensures { IfOk result (λ e. e ≡ record { report = report.now; name = name.now; written = written.now; settled = seen_meaning settled.entry; slot = slot }) }
     {
         let role = Role::of(report, name);
         let side = side_of(written);
-        let mut value = Page::new(alloc);
-        let answer = answer_of(alloc, report, role, side, settled, &mut value)?;
+        value.clear();
+        let answer = answer_of(alloc, report, role, side, settled, value)?;
         let text = kept_text(alloc, name, slot, answer.is_written, value.as_slice())?;
         Ok(ReadyEntry {
             report,
@@ -145,7 +147,8 @@ impl<'a> ReadyEntry<'a> {
         })
     }
 
-    /// A dimension that is written, with its slot, made where there is none yet.
+    /// A dimension that is written, with its slot, made where there is none yet. What `value` holds
+    /// gives way to its value.
     pub(crate) fn new(
         alloc: Global,
         report: &'a Report,
@@ -153,6 +156,7 @@ impl<'a> ReadyEntry<'a> {
         written: &'a Written,
         at: &RowAt<'_>,
         slots: &mut Vec<Slot<'a>>,
+        value: &mut Page,
     ) -> Result<ReadyEntry<'a>, AllocError>
         requires report { report.now ≡ (at.now).report.now }
         requires fresh { All (IsFresh report.now (at.now).number (fields_of (at.now).record.now)) slots.old.items }
@@ -169,7 +173,7 @@ impl<'a> ReadyEntry<'a> {
             None => None,
         };
         let settled = settled_meaning(report, at.table, written);
-        ReadyEntry::of(alloc, report, name, written, settled, slot)
+        ReadyEntry::of(alloc, report, name, written, settled, slot, value)
     }
 }
 
