@@ -95,7 +95,7 @@ fn concept_in<'a>(
 
 /// Appends the fact of a cell that says something, behind a comma, or answers the fault of its concept,
 /// else of its other dimensions, its decimals and its value. After a fault a beginning of the text is left.
-#[inline]
+#[inline(always)]
 fn put_fact<'a>(
     variant: &Variant<'a>,
     column: usize,

@@ -121,6 +121,7 @@ fn is_of_row(
 }
 
 /// The place of the variant of a column in the row, if it is kept.
+#[inline(never)]
 fn scan(
     variants: &[Variant<'_>],
     column: usize,
@@ -157,6 +158,8 @@ pub(crate) fn find_variant(
 }
 
 /// Makes the variant of a column in a row with whose groups nothing is wrong, and answers its place.
+#[cold]
+#[inline(never)]
 pub(crate) fn make_variant<'a>(
     alloc: Global,
     report: &'a Report,

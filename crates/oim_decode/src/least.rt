@@ -6,7 +6,7 @@ ghost use Rattle.oim_resolve.specs.Faults.{least_of};
 use oim_resolve::CellFault;
 
 /// Of two faults that may be there, the one with the lesser number.
-#[inline]
+#[inline(always)]
 pub(crate) fn least_of(first: Option<CellFault>, second: Option<CellFault>) -> Option<CellFault>
     ensures { result ≡ least_of first second }
 {

@@ -163,7 +163,7 @@ impl<'a> ReadyDecimals<'a> {
     }
 
     /// The same with what is stated, or answers its fault.
-    #[inline]
+    #[inline(always)]
     fn put_stated(
         &self,
         slots: &[DecimalsSlot<'_>],
@@ -190,7 +190,7 @@ impl<'a> ReadyDecimals<'a> {
 
     /// Appends the text of a fact up to its dimensions with its decimals: those that the suffix of its
     /// cell states, else those that are written. Answers their fault, where they are looked at.
-    #[inline]
+    #[inline(always)]
     pub(crate) fn put(
         &self,
         kind: Kind,

@@ -86,7 +86,7 @@ impl Run {
 
 impl ReadyRuns {
     /// Appends the dimensions, each with a comma behind it, or answers their least fault.
-    #[inline]
+    #[inline(always)]
     pub(crate) fn put(
         &self,
         slots: &[Slot<'_>],

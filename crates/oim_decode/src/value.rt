@@ -67,7 +67,7 @@ fn put_inside(kind: Kind, text: &str, out: &mut Page) -> Result<(), AllocError>
 
 /// Appends the end of a fact from the brace that closes its dimensions, or answers the fault of its
 /// value. `kind` is that of its concept.
-#[inline]
+#[inline(always)]
 pub(crate) fn put_value(
     kind: Kind,
     reading: Result<FactValue<'_>, CellFault>,

@@ -74,6 +74,7 @@ fn put_joined(
 impl<'a> Variant<'a> {
     /// Appends a fact from the dot before its column's identifier, or answers the least fault of
     /// dimensions, decimals and value. The slots have the meanings of the row.
+    #[inline(always)]
     pub(crate) fn put(
         &self,
         report: &Report,
