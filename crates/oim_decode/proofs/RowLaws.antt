@@ -8,7 +8,10 @@ use Rattle.oim_rows.specs.Streams.{OrNoMemory, Stream, IsOutside, stream_from}
 use Rattle.oim_rows.proofs.StreamLaws.{gives_end, gives_fault, gives_row}
 use Rattle.oim_rows.specs.declared.fault.TableFault.{TableFault}
 use Rattle.oim_decode.specs.Blocks.{AddsRow}
-use Rattle.oim_decode.specs.RowTexts.{AddsFacts, Writing, facts_in, row_facts, writing_of}
+use Rattle.oim_decode.specs.Facts.{IsRowFault}
+use Rattle.oim_decode.specs.RowTexts.{AddsFacts, IsAnswer, Writing, facts_in, row_facts, writing_of}
+use Rattle.oim_decode.specs.declared.row_fault.RowFault.{RowFault}
+use Rattle.oim_decode.specs.declared.row_fault.RowFault.TheVariants as row_fault_of
 
 pub known : {A : Type 0} (o : Option A) → IfSome o (λ _. Unit {0})
 known None = tt
@@ -17,6 +20,17 @@ known (Some x) = tt
 -- apart from its cells a row has no fault
 pub row_answer : (g : Reading) (w : Writing) (n : ℕ) (ids : List Field) (r : Record) → row_fault g n ids r ≡ None → w ≡ writing_of g → row_result g n ids r ≡ row_facts w n r
 row_answer g w n ids r none is = ap (λ o. checked o (facts_from g.report g.table (row_of g n r) 0 g.header)) none ∙ ap (λ x. row_facts x n r) (sym is)
+
+-- a row's fault is its answer
+pub fault_answer : (w : Writing) (n : ℕ) (r : Record) (f : RowFault) → IsRowFault w.report w.table w.header n r f → IsAnswer (row_facts w n r) (Err f)
+fault_answer w n r row_fault_of.Memory fault = tt
+fault_answer w n r (row_fault_of.Cell e) fault = fault
+
+-- facts that are a row's are those of its answer
+pub row_added : (table : ℕ) (answer texts : Result (List Fact) TableFault) (before after : List Fact) → answer ≡ texts → texts ≡ Ok (facts_in texts) → after ≡ before ++ facts_in texts
+    → AddsFacts table answer before after (Ok tt)
+row_added table answer texts before after same given added =
+    (same ∙ given ∙ ap (λ a. Ok (facts_in a)) (sym same), added ∙ ap (λ a. before ++ facts_in a) (sym same))
 
 -- what a read record adds
 pub adds_end : (table n : ℕ) (g : Reading) (ids : List Field) (before : List Fact) (old new : Option (List Record)) (r : Record) (after : Option Stream) → TakesRecord old false r new

@@ -4,14 +4,14 @@ ghost use Rattle.std.specs.Prelude.{◌≡◌, ◌⊎◌, ◌<◌, IfOk, IfErr, 
 ghost use Rattle.std.specs.String.{string_bytes};
 ghost use Rattle.csv.specs.Records.{fields_of};
 ghost use Rattle.oim_rows.specs.Header.{file_header_fault};
-ghost use Rattle.oim_rows.specs.RowFacts.{IsNewId, id_place_of, ids_after, row_fault, row_id_place, row_id_text};
+ghost use Rattle.oim_rows.specs.RowFacts.{id_place_of, row_fault, row_id_place};
 ghost use Rattle.oim_rows.specs.Streams.{IsOutside, TakesHeader};
 
 use crate::cells::{first_not_text, text_at};
 use crate::fault::{TableFault, TableKind, fault_at_place, fault_of_whole_row};
 use crate::header::{read_header, source_of};
 use crate::ids::RowIds;
-use csv::{ByteRecord, StringRecord};
+use csv::ByteRecord;
 use itoa::Buffer;
 use oim_meta::{Records, Report};
 use std::alloc::{AllocError, Global};
@@ -134,52 +134,6 @@ impl<'a> RowForm<'a> {
         let place = self.id_place?;
         let kind = ids.fault_of(text_at(row, Some(place)))?;
         Some(fault_at_place(self.table, number, place, kind))
-    }
-
-    /// Puts the identifier of row `number` in place of what `id` holds. Fails where memory is short.
-    pub fn read_id(
-        &self,
-        number: u32,
-        row: &StringRecord,
-        id: &mut String,
-    ) -> Result<(), AllocError>
-        ensures { OnOk result (string_bytes id.new ≡ row_id_text (id_place_of self.now) number (fields_of row.now)) }
-    {
-        id.clear();
-        match self.id_place {
-            Some(place) => id.push_str(text_or_empty(row, place)),
-            None => push_number(id, number),
-        }
-    }
-
-    /// Adds the identifier of a row to those before it, where the table has a column for them. Fails
-    /// where memory is short.
-    pub fn keep_id(
-        &self,
-        alloc: Global,
-        row: &StringRecord,
-        ids: &mut RowIds,
-    ) -> Result<(), AllocError>
-        requires { IsNewId (id_place_of self.now) ids.old (fields_of row.now) }
-        ensures { OnOk result (ids.new ≡ ids_after (id_place_of self.now) ids.old (fields_of row.now)) }
-    {
-        if let Some(place) = self.id_place {
-            ids.push(String::from_str(alloc, text_or_empty(row, place))?)?;
-        }
-        Ok(())
-    }
-}
-
-ghost use Rattle.std.specs.Prelude.{[], unwrap_or};
-ghost use Rattle.csv.specs.Records.{field_at};
-
-/// The text of a cell, or the empty text where there is none.
-fn text_or_empty(row: &StringRecord, place: usize) -> &str
-    ensures { result.now ≡ unwrap_or (field_at (fields_of row.now) place) [] }
-{
-    match row.get(place) {
-        Some(cell) => cell,
-        None => "",
     }
 }
 
