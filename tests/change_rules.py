@@ -12,7 +12,7 @@ of a case. For each change it copies the definitions that rest on it and the wor
 the repository, and asks the checker about the cases. Many changes are checked in one run, so one takes seconds or less.
 
 Each change is one of these:
-- not well-formed: the changed definition is no definition (it says nothing);
+- not well-formed: the change does not make a definition (it says nothing);
 - showed: a worked case is refused;
 - not noticed: every case still holds. It is listed, and wants a case, or means the same as before.
 A change with which the checker does not end in time is listed too.
@@ -21,8 +21,8 @@ Definitions of relations and records (`Type 0`, `data`, `record`) are left out: 
 the same meaning is a clause. A file whose cases fail in an unchanged copy can't be tried so, and is named.
 
 The crates below have to be proved with their work kept (`rt check` and `rt lib` in each), since it is copied. --only takes one file
-of specs/ by its name, --name one definition, --every N each Nth change (from the one at --begin, else the first), --batch so many
-changes in a run (40), --minutes for a run (10); --list lists the changes and checks nothing, --all prints what came of each. RT names another command for `rt`. The copy stands in TMPDIR and goes at the end.
+of specs/ by its name, --name one definition, --every N each Nth change (from the one at --begin, else the first), --batch how many
+changes a run checks (40), --minutes for a run (10); --list lists the changes and checks nothing, --all prints what came of each. RT names another command for `rt`. The copy stands in TMPDIR and goes at the end.
 The status is 0 where every change that is a definition showed, else 1. Python 3.9 or later.
 """
 import argparse
