@@ -4,9 +4,9 @@
     tests/own_reading.py PROGRAM
 
 The reports have what a converter that keeps answers may get wrong: references with more texts than are kept, in an order in
-which they come again; property groups in two columns; the number of the row as a reference; decimals by reference and by
-suffix; a row of 300 facts; texts with a character to escape at each place of 41. Each is converted with several numbers of
-workers and sizes of the ring. The last line counts. Python 3.9 or later is needed.
+which they come again; property groups in two columns, also with more than a thousand choices of them; the number of the row
+as a reference; decimals by reference and by suffix; a row of 300 facts; texts with a character to escape at each place of 41.
+Each is converted with several numbers of workers and sizes of the ring. The last line counts. Python 3.9 or later is needed.
 """
 import csv
 import json
@@ -131,6 +131,29 @@ class Notes:
         yield "note", None, {**DIMENSIONS, "concept": "eg:Note", "eg:Customer": row["customer"]}, row["note"]
 
 
+class Groups:
+    """Two columns of 40 property groups each: a row for each of the 1,600 choices."""
+
+    name = "groups"
+    template = {
+        "columns": {
+            "kind": {"propertyGroups": {f"k{i}": {"dimensions": {"eg:Kind": f"kind {i}"}} for i in range(40)}},
+            "channel": {"propertyGroups": {f"c{i}": {"dimensions": {"eg:Channel": f"channel {i}"}} for i in range(40)}},
+            "a": {"dimensions": {"concept": "eg:Amount"}, "propertiesFrom": ["kind", "channel"]},
+        }
+    }
+
+    @staticmethod
+    def rows():
+        for i in range(1600):
+            yield {"kind": f"k{i // 40}", "channel": f"c{i % 40}", "a": str(i)}
+
+    @staticmethod
+    def facts(number, row):
+        dimensions = {"eg:Kind": f"kind {row['kind'][1:]}", "eg:Channel": f"channel {row['channel'][1:]}"}
+        yield "a", None, {**DIMENSIONS, "concept": "eg:Amount", **dimensions}, row["a"]
+
+
 def write(folder, tables):
     """The report's files."""
     info = {"documentType": "https://xbrl.org/2021/xbrl-csv", "namespaces": NAMESPACES, "taxonomy": TAXONOMY}
@@ -160,7 +183,7 @@ def document(tables):
 
 def main(program):
     well = bad = 0
-    for tables in ([Sales], [Wide], [Notes], [Sales, Wide, Notes]):
+    for tables in ([Groups], [Sales], [Wide], [Notes], [Sales, Wide, Notes]):
         with tempfile.TemporaryDirectory() as name:
             folder = Path(name)
             write(folder, tables)

@@ -122,6 +122,18 @@ def words_of_the_command_line(folder):
     case("a whole run", status == 0 and len(facts(out)) == 1 and err == "", status, out, err)
 
 
+def bad_rows(folder):
+    """Each fault of a row at the first row and far down: it is told as what it is, behind the facts of the rows before it."""
+    report(folder, {"t1": {}})
+    for row, column, kind, number in ((b"1,2", 0, "Ragged", 26), (b"\xff", 1, "NotUtf8", 27), (b"x", 1, "BadNumber", 40), (b"#x", 1, "UnknownSpecial", 31)):
+        for before in (0, 1500):
+            (folder / "t1.csv").write_bytes(b"cash\n" + b"1\n" * before + row + b"\n1\n")
+            for workers in ("1", "4"):
+                status, out, err = run([*WORDS, "--workers", workers], folder)
+                line = TABLE_FAULT.format("t1", before + 1, column, kind, number)
+                case(f"{kind} behind {before} rows, {workers} workers", (status, err) == (1, line) and out.count(b'"t1.r_') == before, status, err)
+
+
 def layouts(folder):
     """Documents without facts, in lines."""
     for name, tables, file, ends in [
@@ -343,7 +355,8 @@ def a_fact_a_line(folder):
 
 def main():
     examples()
-    for part in (words_of_the_command_line, layouts, files_that_are_not_read, a_table_that_may_not_be_read, few_descriptors, a_named_pipe, a_fact_a_line, outputs, progress):
+    parts = words_of_the_command_line, layouts, bad_rows, files_that_are_not_read, a_table_that_may_not_be_read, few_descriptors, a_named_pipe, a_fact_a_line, outputs, progress
+    for part in parts:
         with tempfile.TemporaryDirectory() as folder:
             part(Path(folder))
     print(f"over the real system: {count - len(failed)} as they must be, {len(failed)} not")

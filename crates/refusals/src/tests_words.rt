@@ -2,6 +2,8 @@
 
 use oim_meta::MetaFault;
 use oim_names::NameFault;
+use oim_resolve::CellFault;
+use oim_rows::{TableFault, TableKind};
 use std::alloc::{AllocError, Global};
 use std::fmt::Display;
 use std::test::Fail;
@@ -97,6 +99,123 @@ const METADATA: [(MetaFault, &str); 17] = [
 #[test]
 fn faults_of_metadata_print_sentences(rt: HostRuntime) -> Result<(), Fail> {
     for (fault, words) in METADATA.iter() {
+        assert!(rt; prints(rt.alloc(), fault, words)?);
+    }
+    Ok(())
+}
+
+/// What each fault of a table prints, apart from those of its cells.
+const TABLES: [(TableKind, &str); 14] = [
+    (
+        TableKind::NoFile,
+        "a table that is not optional has no file",
+    ),
+    (TableKind::Read, "the reader failed"),
+    (TableKind::NoHeader, "the file has no record at all"),
+    (
+        TableKind::UnknownHeader,
+        "a header cell does not name a column of the template",
+    ),
+    (
+        TableKind::RepeatedHeader,
+        "a column stands twice in the header",
+    ),
+    (
+        TableKind::NoRowIdColumn,
+        "the column of row identifiers is not in the header",
+    ),
+    (
+        TableKind::Ragged,
+        "a record has another length than the header",
+    ),
+    (TableKind::NotUtf8, "a cell is not UTF-8"),
+    (
+        TableKind::TooManyRows,
+        "the table has more rows than the limit",
+    ),
+    (
+        TableKind::MissingRowId,
+        "the cell of the row identifier is empty",
+    ),
+    (
+        TableKind::BadRowId,
+        "the cell of the row identifier is not well-formed",
+    ),
+    (
+        TableKind::RepeatedRowId,
+        "an earlier row of the table has the same row identifier",
+    ),
+    (TableKind::Memory, "memory ran out"),
+    (TableKind::NoThread, "no worker could be started"),
+];
+
+#[test]
+fn faults_of_tables_print_sentences(rt: HostRuntime) -> Result<(), Fail> {
+    for (kind, words) in TABLES.iter() {
+        assert!(rt; prints(rt.alloc(), kind, words)?);
+    }
+    let fault = TableFault {
+        table: 1,
+        row: 2,
+        column: 3,
+        kind: TableKind::Cell(CellFault::BadNumber),
+    };
+    assert!(rt;
+        prints(
+            rt.alloc(),
+            &fault,
+            "table 1, row 2, column 3: the cell of a number is not a numeral"
+        )?
+    );
+    Ok(())
+}
+
+/// What each fault of a cell prints.
+const CELLS: [(CellFault, &str); 12] = [
+    (
+        CellFault::UnknownSpecial,
+        "a text begins with # and is not a special value",
+    ),
+    (
+        CellFault::UnknownGroup,
+        "a cell names no property group of its column",
+    ),
+    (CellFault::NoConcept, "no concept is given"),
+    (
+        CellFault::UnknownName,
+        "the types table has no concept of this name",
+    ),
+    (
+        CellFault::BadReference,
+        "a dimension that is not typed is nil or empty",
+    ),
+    (
+        CellFault::BadValue,
+        "an entity, unit, language or explicit member is not well-formed",
+    ),
+    (CellFault::BadPeriod, "a period is not well-formed"),
+    (
+        CellFault::NotDuration,
+        "the start or end of an instant is asked for",
+    ),
+    (
+        CellFault::BadDecimals,
+        "decimals are neither an integer nor INF",
+    ),
+    (
+        CellFault::BadNumber,
+        "the cell of a number is not a numeral",
+    ),
+    (CellFault::Memory, "memory ran out"),
+    (
+        CellFault::BadFactValue,
+        "the cell of a boolean, date or name is not well-formed",
+    ),
+];
+
+#[test]
+fn faults_of_cells_print_sentences(rt: HostRuntime) -> Result<(), Fail> {
+    for (fault, words) in CELLS.iter() {
         assert!(rt; prints(rt.alloc(), fault, words)?);
     }
     Ok(())
