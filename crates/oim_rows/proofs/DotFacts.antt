@@ -1,5 +1,6 @@
 -- Texts without dots, and lists whose items differ.
-use Rattle.std.proofs.Common.{◌≡◌, ◌++◌, ◌∷◌, [], ◌==◌, ◌||◌, ◌<◌, ◌≤◌, ◌^◌, ◌∙◌, append_assoc, ℕ, zero, suc, List, Some, Bool, true, false, map, codes, decimal, refl, sym, ap, slice_get, arith, bytes_eq}
+use Rattle.std.proofs.Common.{◌≡◌, ◌++◌, ◌∷◌, [], ◌==◌, ◌||◌, ◌<◌, ◌≤◌, ◌^◌, ◌∙◌, append_assoc, ℕ, zero, suc}
+use Rattle.std.proofs.Common.{List, Some, Bool, true, false, map, codes, decimal, refl, sym, ap, slice_get, arith, bytes_eq}
 use Rattle.std.specs.List.{AllByRecursion, IsDistinct, list_any}
 use Rattle.std.proofs.lemmas.Bool.{eq-eqb, eqb-true, false_from_ne_true}
 use Rattle.std.proofs.lemmas.Fmt.{decimal_is_IsNumeral}
@@ -79,7 +80,8 @@ all_mapped f P [] a = tt
 all_mapped f P (x ∷ xs) a = (a.0, all_mapped f P xs a.1)
 
 -- columns with one identifier stand at one place
-id_at : (t : List ℕ) (columns : List Column) (i : ℕ) (x : Column) → AllByRecursion (λ k. bytes_eq t k ≡ false) (map (λ (c : Column). c.id) columns) → slice_get columns i ≡ Some x → bytes_eq t x.id ≡ false
+id_at : (t : List ℕ) (columns : List Column) (i : ℕ) (x : Column) → AllByRecursion (λ k. bytes_eq t k ≡ false) (map (λ (c : Column). c.id) columns) → slice_get columns i ≡ Some x
+    → bytes_eq t x.id ≡ false
 id_at t [] i x h at = cc at
 id_at t (c ∷ cs) zero x h at = let same : c ≡ x = cc in rw (← same) h.0
 id_at t (c ∷ cs) (suc i) x h at = id_at t cs i x h.1 at

@@ -106,7 +106,8 @@ row_id_faults = refl
 abbrev note : List ℕ → List ℕ → Fact
 note id text = record { id = codes "t1." ++ id ++ codes ".cash"; value = Some text; decimals = None; dimensions = (codes "concept", Some (codes "eg:Note")) ∷ [] }
 
-row_results : row_result reading 1 [] (line (codes "x") (codes "a")) ∷ row_result reading 1 [] (line [] (codes "a")) ∷ row_result reading 1 [] (line (codes "#foo") (codes "a")) ∷ row_result reading 1 [] (line (codes "#foo") []) ∷ []
+row_results : row_result reading 1 [] (line (codes "x") (codes "a")) ∷ row_result reading 1 [] (line [] (codes "a")) ∷ row_result reading 1 [] (line (codes "#foo") (codes "a"))
+    ∷ row_result reading 1 [] (line (codes "#foo") []) ∷ []
     ≡ Ok (note (codes "a") (codes "x") ∷ []) ∷ Ok [] ∷ Err (fault_at 0 1 1 (kind.Cell cell.UnknownSpecial)) ∷ Err (fault_at 0 1 2 kind.MissingRowId) ∷ []
 unfolding stream_from cell_result rest_faults fact_of meaning_of chars is_row_identifier is_plain_char is_ncname is_name_char is_name_start qname_of field_at is_utf8 lib.Utf8.encode
 row_results = refl
@@ -133,14 +134,17 @@ stream_to_the_limit = refl
 -- THE FAULTS by number and name: a cell's fault has its own. And the places of a fault
 fault_numbers :
     map number_of
-    (kind.NoFile ∷ kind.Read ∷ kind.NoHeader ∷ kind.UnknownHeader ∷ kind.RepeatedHeader ∷ kind.NoRowIdColumn ∷ kind.Ragged ∷ kind.NotUtf8 ∷ kind.MissingRowId ∷ kind.BadRowId ∷ kind.RepeatedRowId ∷ kind.TooManyRows ∷ kind.Memory ∷ kind.NoThread ∷ [])
+    (kind.NoFile ∷ kind.Read ∷ kind.NoHeader ∷ kind.UnknownHeader ∷ kind.RepeatedHeader ∷ kind.NoRowIdColumn ∷ kind.Ragged ∷ kind.NotUtf8 ∷ kind.MissingRowId ∷ kind.BadRowId
+    ∷ kind.RepeatedRowId ∷ kind.TooManyRows ∷ kind.Memory ∷ kind.NoThread ∷ [])
     ≡ 20 ∷ 21 ∷ 22 ∷ 23 ∷ 24 ∷ 25 ∷ 26 ∷ 27 ∷ 28 ∷ 29 ∷ 30 ∷ 41 ∷ 42 ∷ 43 ∷ []
 fault_numbers = refl
 
 fault_names :
     map name_of
-    (kind.NoFile ∷ kind.Read ∷ kind.NoHeader ∷ kind.UnknownHeader ∷ kind.RepeatedHeader ∷ kind.NoRowIdColumn ∷ kind.Ragged ∷ kind.NotUtf8 ∷ kind.MissingRowId ∷ kind.BadRowId ∷ kind.RepeatedRowId ∷ kind.TooManyRows ∷ kind.Memory ∷ kind.NoThread ∷ [])
-    ≡ codes "NoFile" ∷ codes "Read" ∷ codes "NoHeader" ∷ codes "UnknownHeader" ∷ codes "RepeatedHeader" ∷ codes "NoRowIdColumn" ∷ codes "Ragged" ∷ codes "NotUtf8" ∷ codes "MissingRowId" ∷ codes "BadRowId" ∷ codes "RepeatedRowId" ∷ codes "TooManyRows" ∷ codes "Memory" ∷ codes "NoThread" ∷ []
+    (kind.NoFile ∷ kind.Read ∷ kind.NoHeader ∷ kind.UnknownHeader ∷ kind.RepeatedHeader ∷ kind.NoRowIdColumn ∷ kind.Ragged ∷ kind.NotUtf8 ∷ kind.MissingRowId ∷ kind.BadRowId
+    ∷ kind.RepeatedRowId ∷ kind.TooManyRows ∷ kind.Memory ∷ kind.NoThread ∷ [])
+    ≡ codes "NoFile" ∷ codes "Read" ∷ codes "NoHeader" ∷ codes "UnknownHeader" ∷ codes "RepeatedHeader" ∷ codes "NoRowIdColumn" ∷ codes "Ragged" ∷ codes "NotUtf8"
+    ∷ codes "MissingRowId" ∷ codes "BadRowId" ∷ codes "RepeatedRowId" ∷ codes "TooManyRows" ∷ codes "Memory" ∷ codes "NoThread" ∷ []
 fault_names = refl
 
 cell_faults : (map number_of (kind.Cell cell.UnknownSpecial ∷ kind.Cell cell.BadFactValue ∷ []) ≡ 31 ∷ 44 ∷ []) × (name_of (kind.Cell cell.BadFactValue) ≡ codes "BadFactValue")
@@ -166,7 +170,8 @@ past_the_columns : is_fact_column columns 2 ≡ false
 past_the_columns = refl
 
 -- the fault of a cell stands at its place in the header, from 1: here behind an empty header cell
-place_of_a_cell : facts_from (report false) 0 (record { number = 4; id = codes "a"; cells = codes "#foo" ∷ codes "a" ∷ [] }) 0 (None ∷ Some 1 ∷ Some 0 ∷ []) ≡ Err (fault_at 0 4 3 (kind.Cell cell.UnknownSpecial))
+place_of_a_cell : facts_from (report false) 0 (record { number = 4; id = codes "a"; cells = codes "#foo" ∷ codes "a" ∷ [] }) 0 (None ∷ Some 1 ∷ Some 0
+    ∷ []) ≡ Err (fault_at 0 4 3 (kind.Cell cell.UnknownSpecial))
 unfolding cell_result rest_faults fact_of meaning_of chars
 place_of_a_cell = refl
 
@@ -205,7 +210,8 @@ facts_of_a_stream = refl
 -- two tables with files, each with its own header: the facts of both, each under its table's identifier
 abbrev two : ReportValue
 two = record (report false) {
-  tables = record { id = codes "t1"; url = codes "t1.csv"; is_optional = false; template = 0; parameters = [] } ∷ record { id = codes "t2"; url = codes "t2.csv"; is_optional = false; template = 0; parameters = [] } ∷ [];
+  tables = record { id = codes "t1"; url = codes "t1.csv"; is_optional = false; template = 0; parameters = [] }
+      ∷ record { id = codes "t2"; url = codes "t2.csv"; is_optional = false; template = 0; parameters = [] } ∷ [];
 }
 
 facts_of_two_files : map (λ (f : Fact). f.id) (facts_of_tables two 9 0 (Some (codes "cash,k\nx,a") ∷ Some (codes "k,cash\na,y\nb,z\n") ∷ []))

@@ -1,5 +1,6 @@
 -- The identifiers of a report's facts differ.
-use Rattle.std.proofs.Common.{◌≡◌, ◌++◌, ◌∷◌, [], ◌==◌, ◌<◌, ◌≤◌, ◌+◌, ◌^◌, ◌⊎◌, ℕ, List, Option, Some, None, Bool, true, false, not, Result, Ok, Err, map, codes, decimal, refl, sym, inl, inr, slice_get, slice_index_or, arith, length, bytes_eq, unwrap_or, option_map, nat_lt, le_refl, ◌∙◌, ◌≢◌, if◌then◌else◌, zero, suc, Less, nat_cmp}
+use Rattle.std.proofs.Common.{◌≡◌, ◌++◌, ◌∷◌, [], ◌==◌, ◌<◌, ◌≤◌, ◌+◌, ◌^◌, ◌⊎◌, ℕ, List, Option, Some, None, Bool, true, false, not, Result, Ok, Err}
+use Rattle.std.proofs.Common.{map, codes, decimal, refl, sym, inl, inr, slice_get, slice_index_or, arith, length, bytes_eq, unwrap_or, option_map, nat_lt, le_refl, ◌∙◌, ◌≢◌, if◌then◌else◌, zero, suc, Less, nat_cmp}
 use Rattle.std.proofs.lemmas.List.{append_cancel_left, map-append}
 use Rattle.std.proofs.lemmas.Bool.{eq-eqb, ltb-false}
 use Rattle.std.proofs.lemmas.Bool.Decides.{eqb_tells}
@@ -29,11 +30,13 @@ use Rattle.oim_resolve.specs.declared.fact.Row.{Row}
 use Rattle.oim_rows.specs.Header.{Header, header_fault, header_of, is_column, is_empty, is_unknown, file_fault, names_row_id, or_else, repeat_from, repeats, fault_at}
 use Rattle.oim_resolve.proofs.FactFacts as resolved
 use Rattle.oim_rows.specs.Identifiers.{HaveOwnIds, facts_of, facts_of_tables}
-use Rattle.oim_rows.specs.RowFacts.{Reading, at_place, checked, fact_at, facts_from, holds_facts, id_fault, id_kind, id_place_of, ids_after, is_fact_column, limit_fault, ragged_fault, row_fault, row_id_text, text_fault, row_of, row_result}
+use Rattle.oim_rows.specs.RowFacts.{Reading, at_place, checked, fact_at, facts_from, holds_facts, id_fault, id_kind, id_place_of}
+use Rattle.oim_rows.specs.RowFacts.{ids_after, is_fact_column, limit_fault, ragged_fault, row_fault, row_id_text, text_fault, row_of, row_result}
 use Rattle.oim_rows.specs.Streams.{Stream, reading_of, row_in_front, stream_from, stream_of, table_stream}
 use Rattle.oim_rows.specs.declared.fault.TableFault.{TableFault}
 use Rattle.oim_rows.specs.declared.fault.TableKind.TheVariants as kind
-use Rattle.oim_rows.proofs.DotFacts.{HasDistinctColumns, HasNoDot, fact_id, all_append, all_mapped, all_weaker, any_front, any_grown, any_last, bytes_apart, bytes_same, column_at, differing, ids_apart, tables_apart, numbered-no_dot, or_true}
+use Rattle.oim_rows.proofs.DotFacts.{HasDistinctColumns, HasNoDot, fact_id, all_append, all_mapped, all_weaker, any_front, any_grown}
+use Rattle.oim_rows.proofs.DotFacts.{any_last, bytes_apart, bytes_same, column_at, differing, ids_apart, tables_apart, numbered-no_dot, or_true}
 
 -- A HEADER WITHOUT A REPEATED COLUMN
 
@@ -120,7 +123,11 @@ row_facts report table distinct row plain p n front (o ∷ h) none fs e =
         let nowhere : list_any (is_column c) h ≡ false = repeat_head n front c h (rw ok at none) in
         let here : list_any (is_column c) (o ∷ h) ≡ true = rw (ok, eq-eqb c c refl) refl in (
           ((c, it.0, here, it.1, it.2), all_weaker (IsFactUnder (table_of report table).id row.id columns h) (IsFactUnder (table_of report table).id row.id columns (o ∷ h)) later gs more.0),
-          (all_mapped (λ (g : Fact). g.id) (λ k. bytes_eq f.id k ≡ false) gs (all_weaker (IsFactUnder (table_of report table).id row.id columns h) (λ g. bytes_eq f.id g.id ≡ false) (apart c it.0 f it.1 it.2 nowhere) gs more.0), more.1),
+          (
+            all_mapped (λ (g : Fact). g.id) (λ k. bytes_eq f.id k ≡ false) gs (all_weaker (IsFactUnder (table_of report table).id row.id columns h) (λ g. bytes_eq f.id g.id
+                ≡ false) (apart c it.0 f it.1 it.2 nowhere) gs more.0),
+            more.1,
+          ),
         )
 
     by : (a : Result (Option Fact) TableFault) → fact_at report table row p o ≡ a → (b : Result (List Fact) TableFault) → facts_from report table row (p + 1) h ≡ b
@@ -327,18 +334,21 @@ tables_dotless : (report : ReportValue) → HaveIdentifiers report.templates rep
 unfolding HaveIdentifiers
 tables_dotless report h i =
     each_at (λ (t : Table). HasNoDot t.id) report.tables no_table
-    (all_weaker (λ (t : Table). is_identifier t.id ≡ true) (λ (t : Table). HasNoDot t.id) (λ t good. identifier_lacks_point t.id good) report.tables (unmapped (λ (t : Table). t.id) (λ name. is_identifier name ≡ true) report.tables h.0)) tt i
+    (all_weaker (λ (t : Table). is_identifier t.id ≡ true) (λ (t : Table). HasNoDot t.id) (λ t good. identifier_lacks_point t.id good) report.tables (unmapped (λ (t : Table). t.id)
+    (λ name. is_identifier name ≡ true) report.tables h.0)) tt i
 
 tables_apart_by_name : (report : ReportValue) → PartsRise report.level report.templates report.tables → IsDistinct bytes_eq (map (λ (t : Table). t.id) report.tables)
 unfolding PartsRise
 tables_apart_by_name report h = names_apart (map (λ (t : Table). t.id) report.tables) h.1
 
-other_table : (name : List ℕ) (tables : List Table) (j : ℕ) (d : Table) → AllByRecursion (λ y. bytes_eq name y ≡ false) (map (λ (t : Table). t.id) tables) → j < length tables → bytes_eq name (slice_index_or tables j d).id ≡ false
+other_table : (name : List ℕ) (tables : List Table) (j : ℕ) (d : Table) → AllByRecursion (λ y. bytes_eq name y ≡ false) (map (λ (t : Table). t.id) tables) → j < length tables
+    → bytes_eq name (slice_index_or tables j d).id ≡ false
 other_table name [] j d all within = absurd (omega arith)
 other_table name (t ∷ ts) zero d all within = all.0
 other_table name (t ∷ ts) (suc j) d all within = other_table name ts j d all.1 (omega arith)
 
-tables_differ : (tables : List Table) → IsDistinct bytes_eq (map (λ (t : Table). t.id) tables) → (i j : ℕ) (d : Table) → i < j → j < length tables → bytes_eq (slice_index_or tables i d).id (slice_index_or tables j d).id ≡ false
+tables_differ : (tables : List Table) → IsDistinct bytes_eq (map (λ (t : Table). t.id) tables) → (i j : ℕ) (d : Table) → i < j → j < length tables
+    → bytes_eq (slice_index_or tables i d).id (slice_index_or tables j d).id ≡ false
 unfolding IsDistinct
 tables_differ [] h i j d low within = absurd (omega arith)
 tables_differ (t ∷ ts) h zero zero d low within = absurd (omega arith)
@@ -364,7 +374,8 @@ report_ids_differ report rise good limit i [] small within = (tt, tt)
 report_ids_differ report rise good limit i (file ∷ files) small within =
     let more = report_ids_differ report rise good limit (i + 1) files small (omega arith) in
     let these = table_facts_are report i limit file small (columns_apart report rise i) in (
-      all_append (IsFactFrom report i) facts others (all_weaker Here (IsFactFrom report i) (λ f h. (i, le_refl i, omega arith, h)) facts these.0) (all_weaker Later (IsFactFrom report i) later others more.0),
+      all_append (IsFactFrom report i) facts others (all_weaker Here (IsFactFrom report i) (λ f h. (i, le_refl i, omega arith, h)) facts these.0) (all_weaker Later
+          (IsFactFrom report i) later others more.0),
       joined Here Later differ facts others these.0 more.0 these.1 more.1,
     )
   where

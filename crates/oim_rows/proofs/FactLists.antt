@@ -20,7 +20,8 @@ after_these-none (Err e) = refl
 pub after_these-pass : (fs : List Fact) (o : Result (Option Fact) TableFault) (r : Result (List Fact) TableFault) → o ≡ Ok None → after_these fs (in_front o r) ≡ after_these fs r
 after_these-pass fs o r e = rw e refl
 
-pub after_these-fact : (fs : List Fact) (f : Fact) (o : Result (Option Fact) TableFault) (r : Result (List Fact) TableFault) → o ≡ Ok (Some f) → after_these fs (in_front o r) ≡ after_these (fs ++ f ∷ []) r
+pub after_these-fact : (fs : List Fact) (f : Fact) (o : Result (Option Fact) TableFault) (r : Result (List Fact) TableFault) → o ≡ Ok (Some f)
+    → after_these fs (in_front o r) ≡ after_these (fs ++ f ∷ []) r
 after_these-fact fs f o (Ok more) e = rw e (ap (λ (t : List Fact). Ok t) (sym (append_assoc fs (f ∷ []) more)))
 after_these-fact fs f o (Err x) e = rw e refl
 

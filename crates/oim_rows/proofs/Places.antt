@@ -34,7 +34,8 @@ field_at-none (f ∷ fs) zero e = cc e
 field_at-none (f ∷ fs) (suc i) e = let more : length fs ≤ i = field_at-none fs i e in omega arith
 
 -- the search goes on past a field that fails the test, and stops at one that passes
-pub position_from-next : (t : List ℕ → Bool) (xs : List (List ℕ)) (i : ℕ) (x : List ℕ) → field_at xs i ≡ Some x → t x ≡ false → position_from t i (drop i xs) ≡ position_from t (i + 1) (drop (i + 1) xs)
+pub position_from-next : (t : List ℕ → Bool) (xs : List (List ℕ)) (i : ℕ) (x : List ℕ) → field_at xs i ≡ Some x → t x ≡ false
+    → position_from t i (drop i xs) ≡ position_from t (i + 1) (drop (i + 1) xs)
 position_from-next t xs i x at fails = rw (drop-field_at xs i x at, fails) refl
 
 pub position_from-here : (t : List ℕ → Bool) (xs : List (List ℕ)) (i : ℕ) (x : List ℕ) → field_at xs i ≡ Some x → t x ≡ true → position_from t i (drop i xs) ≡ Some i

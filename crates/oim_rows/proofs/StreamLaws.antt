@@ -89,7 +89,8 @@ gives_answer n g ids ids2 old new r (Ok true) result took early row kept = by re
         faulty (Ok fs) x (inr e) = cc e
         faulty (Err y) x (inr e) = inr (cc e)
 
-pub takes_header : (report : ReportValue) (table : ℕ) (old new : Option (List Record)) (r : Record) (h : Header) → TakesRecord old true r new → header_fault report table r ≡ None → h ≡ header_of (columns_of report table) r
+pub takes_header : (report : ReportValue) (table : ℕ) (old new : Option (List Record)) (r : Record) (h : Header) → TakesRecord old true r new → header_fault report table r ≡ None
+    → h ≡ header_of (columns_of report table) r
     → TakesHeader report table old h new
 takes_header report table None new r h took none e = tt
 takes_header report table (Some []) new r h took none e = cc took.0
@@ -120,7 +121,8 @@ pub header_refused : (report : ReportValue) (table : ℕ) (old new : Option (Lis
     → (found ≡ Ok true → (x ≡ file_fault table kind.Memory) ⊎ (header_fault report table r ≡ Some x))
     → IsOutside table x ⊎ IfSome old (λ rs. file_header_fault report table rs ≡ Some x)
 header_refused report table old new r (Err f) x took early late = inl (subst (λ y. IsOutside table y) (sym (cc early)) (outside table f))
-header_refused report table old new r (Ok false) x took early late = inr (subst (λ y. IfSome old (λ rs. file_header_fault report table rs ≡ Some y)) (sym (cc early)) (no_header report table old new r took))
+header_refused report table old new r (Ok false) x took early late = inr (subst (λ y. IfSome old (λ rs. file_header_fault report table rs
+    ≡ Some y)) (sym (cc early)) (no_header report table old new r took))
 header_refused report table old new r (Ok true) x took early late = by (late refl)
   where
     by : ((x ≡ file_fault table kind.Memory) ⊎ (header_fault report table r ≡ Some x)) → IsOutside table x ⊎ IfSome old (λ rs. file_header_fault report table rs ≡ Some x)

@@ -17,7 +17,8 @@ ids_of-more None earlier r = refl
 ids_of-more (Some p) earlier r = sym (map-append (λ (q : Record). unwrap_or (field_at q p) []) earlier (r ∷ []))
 
 -- a row after the first is one of the rows after it
-gives_later : (g : Reading) (earlier rows : List Record) (r : Record) (m : ℕ) (answer : Result (List Fact) TableFault) → Gives g (earlier ++ r ∷ []) rows m answer → Gives g earlier (r ∷ rows) (suc m) answer
+gives_later : (g : Reading) (earlier rows : List Record) (r : Record) (m : ℕ) (answer : Result (List Fact) TableFault) → Gives g (earlier ++ r ∷ []) rows m answer
+    → Gives g earlier (r ∷ rows) (suc m) answer
 gives_later g earlier rows r m answer h = (h.0, h.1, rw (append_assoc earlier (r ∷ []) (take m rows)) at h.2)
 
 gives_first : (g : Reading) (earlier rows : List Record) (r : Record) (answer : Result (List Fact) TableFault) → row_after g earlier r ≡ answer → Gives g earlier (r ∷ rows) zero answer
@@ -77,7 +78,8 @@ stream_after-end g earlier = refl
 first_gives : (g : Reading) (earlier rows : List Record) (r : Record) (answer : Result (List Fact) TableFault) → Gives g earlier (r ∷ rows) zero answer → row_after g earlier r ≡ answer
 first_gives g earlier rows r answer (x, at, is) = let same : r ≡ x = cc in rw (append-nil earlier, ← same) at is
 
-rest_gives : (g : Reading) (earlier rows : List Record) (r : Record) (m : ℕ) (answer : Result (List Fact) TableFault) → Gives g earlier (r ∷ rows) (suc m) answer → Gives g (earlier ++ r ∷ []) rows m answer
+rest_gives : (g : Reading) (earlier rows : List Record) (r : Record) (m : ℕ) (answer : Result (List Fact) TableFault) → Gives g earlier (r ∷ rows) (suc m) answer
+    → Gives g (earlier ++ r ∷ []) rows m answer
 rest_gives g earlier rows r m answer (x, at, is) = (x, at, subst (λ before. row_after g before x ≡ answer) (sym (append_assoc earlier (r ∷ []) (take m rows))) is)
 
 rest_end : (g : Reading) (earlier rows : List Record) (r : Record) (first : List Fact) (more : List (List Fact)) (o : Option TableFault)
