@@ -77,7 +77,7 @@ pub(crate) fn keep_id(
     ensures { OnOk result (ids.new ≡ ids_after place ids.old (fields_of row.now)) }
 {
     if let Some(place) = place {
-        ids.push(String::from_str(alloc, text_or_empty(row, place))?)?;
+        ids.push(alloc, text_or_empty(row, place))?;
     }
     Ok(())
 }

@@ -205,7 +205,7 @@ impl Decoder<'_> {
         ensures { OnOk result (ids.new ≡ ids_after (id_place_of self.now) ids.old (fields_of row.now)) }
     {
         if let Some(place) = self.form.id_place() {
-            ids.push(String::from_str(alloc, text_at(row, Some(place)))?)?;
+            ids.push(alloc, text_at(row, Some(place)))?;
         }
         Ok(())
     }

@@ -17,6 +17,7 @@ mod form;
 mod header;
 mod ids;
 mod laws;
+mod row_id;
 mod rows;
 
 pub use fault::{TableFault, TableKind, fault_of_read, whole_fault};
