@@ -1,5 +1,5 @@
 -- What the conversion on one thread does.
-use Rattle.std.specs.Prelude.{⊤, ◌≡◌, ◌<◌, ℕ, List, [], ◌∷◌, Result, Ok, Err}
+use Rattle.std.specs.Prelude.{⊤, ◌≡◌, ◌<◌, ◌≤◌, ℕ, List, [], ◌∷◌, Result, Ok, Err, length}
 use Rattle.oim_json.specs.JsonText.{head_text}
 use Rattle.oim_json.specs.Sinks.{SinkView, Broke, Unwritten, mark_of}
 use Rattle.oim_json.specs.declared.layout.Layout.{Layout}
@@ -71,3 +71,14 @@ IsOfTables tables (Err fault.Memory) = ⊤
 IsOfTables tables (Err fault.BadWorkers) = ⊤
 IsOfTables tables (Err fault.BadSize) = ⊤
 IsOfTables tables (Err fault.Lost) = ⊤
+
+-- there are at most this many faults of tables
+abbrev pub AreFew : ℕ → Result (Unit {0}) ConvertFault → Type 0
+AreFew most (Ok u) = ⊤
+AreFew most (Err (fault.Tables faults)) = length faults.items ≤ most
+AreFew most (Err (fault.Write w)) = ⊤
+AreFew most (Err fault.WrongReaders) = ⊤
+AreFew most (Err fault.Memory) = ⊤
+AreFew most (Err fault.BadWorkers) = ⊤
+AreFew most (Err fault.BadSize) = ⊤
+AreFew most (Err fault.Lost) = ⊤

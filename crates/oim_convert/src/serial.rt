@@ -1,6 +1,6 @@
 //! The conversion on one thread.
 
-ghost use Rattle.std.specs.Prelude.{◌≡◌, ◌≢◌, ◌↔◌, ◌≤◌, ◌<◌, ◌+◌, ◌++◌, ℕ, List, [], ◌∷◌, Option, Some, Err, IfSome, length, vec_len, vec_capacity};
+ghost use Rattle.std.specs.Prelude.{◌≡◌, ◌≢◌, ◌↔◌, ◌≤◌, ◌<◌, ◌+◌, ◌++◌, ℕ, List, [], ◌∷◌, Option, Some, Err, IfSome, OnOk, length, vec_len, vec_capacity};
 ghost use Rattle.oim_json.specs.JsonText.{head_text};
 ghost use Rattle.oim_json.specs.Sinks.{sink_at};
 ghost use Rattle.oim_merge.specs.Histories.{refusals};
@@ -8,7 +8,7 @@ ghost use Rattle.oim_ring.specs.declared.item.Item.TheVariants as items;
 ghost use Rattle.oim_rows.specs.Streams.{table_stream};
 ghost use Rattle.oim_convert.specs.Answer.{streams};
 ghost use Rattle.oim_convert.specs.Files.{IsFileOf, AreFilesOf};
-ghost use Rattle.oim_convert.specs.Serial.{Converts, HasBegun, IsOfTables, Leaves};
+ghost use Rattle.oim_convert.specs.Serial.{AreFew, Converts, HasBegun, IsOfTables, Leaves};
 ghost use Rattle.oim_convert.specs.Steps.{Marks, ReadsTable, ReadsTables, WritesFacts};
 ghost use Rattle.oim_convert.specs.declared.fault.ConvertFault.TheVariants as fault;
 
@@ -157,6 +157,7 @@ fn convert_tables<R: Read + Drop, W: Sink>(
     ensures reads { (files : List (Option (List ℕ))) → AreFilesOf R.remaining readers.items files
         → ReadsTables layout (sink_at (W.mark sink.old) (W.told sink.old)) (sink_at (W.mark sink.new) (W.told sink.new)) (streams report.now limits.rows files) faults.new.items result }
     ensures marked { Marks (W.mark sink.old) (W.mark sink.new) result }
+    ensures few { OnOk result (length faults.new.items ≤ length readers.items) }
 {
     let mut any = false;
     let mut table = 0;
@@ -194,6 +195,7 @@ fn write_document<R: Read + Drop, W: Sink>(
         → Converts layout report.now (streams report.now limits.rows files) (sink_at (W.mark sink.old) (W.told sink.old)) (sink_at (W.mark sink.new) (W.told sink.new)) result }
     ensures leaves { Leaves (sink_at (W.mark sink.old) (W.told sink.old)) (sink_at (W.mark sink.new) (W.told sink.new)) result }
     ensures begun { HasBegun result }
+    ensures few { AreFew (length readers.items) result }
 {
     if let Err(fault) = write_all_of(sink, head) {
         return Err(ConvertFault::Write(fault));
@@ -238,6 +240,7 @@ pub fn convert_serial<R: Read + Drop, W: Sink>(
     // What holds for all readers.
     ensures readers { (result ≡ Err fault.WrongReaders) ↔ (length readers.items ≢ length report.now.tables) }
     ensures leaves { Leaves (sink_at (W.mark sink.old) (W.told sink.old)) (sink_at (W.mark sink.new) (W.told sink.new)) result }
+    ensures few { AreFew (length report.now.tables) result }
 {
     if readers.len() != report.tables() {
         return Err(ConvertFault::WrongReaders);
