@@ -3,6 +3,7 @@ mod Endings
 mod FolderFacts
 mod Names
 mod Threads
+mod OneThread
 mod MetadataFacts
 mod StepFacts
 mod Examples

@@ -58,7 +58,7 @@ not_cut h all cut =
     let parts : AreDefined (refusals cut.before ++ refusals last) = subst (λ (l : List TableFault). AreDefined l) (all_refusals cut.before last) ends in
     (defined_both (refusals cut.before) (refusals last) parts).1.0 cut.outer
 
-uncut : (hs : List (List Item)) → AreDefined (refusals (all_of hs)) → AreUncut hs
+pub uncut : (hs : List (List Item)) → AreDefined (refusals (all_of hs)) → AreUncut hs
 uncut [] all = tt
 uncut (h ∷ hs) all =
     let both = defined_both (refusals h) (refusals (all_of hs)) (subst (λ (l : List TableFault). AreDefined l) (all_refusals h (all_of hs)) all) in
@@ -138,7 +138,7 @@ roomy layout report tables room old new (Err f) same writes = tt
 -- WHAT AN OUTCOME LEAVES BEHIND
 
 module _ (layout : Layout) (report : ReportValue) (tables : ℕ) (old new : SinkView) (names : List (List ℕ)) where
-  no_names : (faults : List TableFault) → with_names names faults ≡ [] → faults ≡ []
+  pub no_names : (faults : List TableFault) → with_names names faults ≡ [] → faults ≡ []
   no_names [] none = refl
   no_names (e ∷ faults) none = absurd (cc)
 

@@ -1,20 +1,22 @@
 //! Converting a report whose tables are given by readers, or whose files are all given by their bytes.
 
-ghost use Rattle.std.specs.Prelude.{◌≡◌, ◌≤◌, ◌<◌, ℕ, List, [], ◌∷◌, Option, Some, None, IfOk, is_err, if◌then◌else◌, length, slice_set, vec_capacity};
+ghost use Rattle.std.specs.Prelude.{◌≡◌, ◌≤◌, ◌<◌, ℕ, List, [], ◌∷◌, Option, Some, None, IfOk, is_err, true, ◌==◌, if◌then◌else◌, length, slice_set, vec_capacity};
 ghost use Rattle.oim_convert.specs.Answer.{streams};
 ghost use Rattle.oim_convert.specs.Files.{AreFilesOf};
 ghost use Rattle.oim_convert.specs.Runs.{early_fault};
+ghost use Rattle.oim_convert.specs.Serial.{AreFew};
+ghost use Rattle.oim_convert.specs.declared.fault.ConvertFault.TheVariants as convert_faults;
 ghost use Rattle.oim_json.specs.Sinks.{sink_at};
 ghost use Rattle.oim_json.specs.declared.layout.Layout.TheVariants as layouts;
 ghost use Rattle.oim_json.specs.declared.mark.WriteFault.TheVariants as writes;
-ghost use Rattle.xbrl_json_cli.specs.Naming.{outcome_by, with_names};
+ghost use Rattle.xbrl_json_cli.specs.Naming.{outcome_alone, outcome_by, with_names};
 ghost use Rattle.xbrl_json_cli.specs.declared.outcome.Outcome.TheVariants as outcomes;
 ghost use Rattle.xbrl_json_cli.specs.Conversion.{Buffered, Ends, Reads, flushed, profile, texts};
 ghost use Rattle.xbrl_json_cli.specs.Outcomes.{EndsAs, Leaves, name_in, table_ids};
 
 use crate::held::{METADATA, TABLE, TYPES};
 use crate::outcome::{Outcome, Source};
-use oim_convert::{ConvertFault, Run, convert};
+use oim_convert::{ConvertFault, LARGEST_RING, Run, convert, convert_serial};
 use oim_json::{Layout, Marked, Sink, WriteFault};
 use oim_merge::MergeEnd;
 use oim_meta::{Limits, Parameters, Report, read_report, read_types};
@@ -112,9 +114,39 @@ fn ending(
     }
 }
 
+/// The outcome of a conversion on one thread with this answer, where the tables have these names.
+fn ending_alone(
+    alloc: Global,
+    names: Vec<Text>,
+    room: Vec<(Text, TableFault)>,
+    answer: Result<(), ConvertFault>,
+) -> Outcome
+    requires empty { room.items ≡ [] }
+    requires room { AreFew (vec_capacity room) answer }
+    ensures { result ≡ outcome_alone names.items answer }
+{
+    match answer {
+        Ok(()) => Outcome::Done,
+        Err(ConvertFault::Tables(faults)) => {
+            Outcome::Tables(named(alloc, names, faults.as_slice(), room))
+        }
+        Err(ConvertFault::Write(fault)) => Outcome::Output(fault),
+        Err(fault) => Outcome::Run(fault),
+    }
+}
+
+/// Whether a conversion works on one thread: it has one worker, and no fault of its settings is due.
+fn is_alone(workers: usize, ring: usize) -> bool
+    ensures { result ≡ true → (readers tables : ℕ)
+        → early_fault workers ring readers tables ≡ (if readers == tables then None else Some convert_faults.WrongReaders) }
+{
+    workers == 1 && ring >= 1 && ring <= LARGEST_RING
+}
+
 /// Converts a report, given a reader of each table's file in table order, or `None` for a table without
 /// a file (xBRL-CSV 1.0). Writes its document in xBRL-JSON 1.0 to the sink, in the given layout, with
-/// `workers` workers and rings of `ring` blocks. `limits.rows` is at most 4,294,967,294.
+/// `workers` workers and rings of `ring` blocks, or with one worker on the caller's thread alone.
+/// `limits.rows` is at most 4,294,967,294.
 ///
 /// The answer is how the conversion ended. It is the same for every number of workers, ring size and
 /// schedule, apart from failed reads and running out of memory or threads. The names that the outcome
@@ -144,6 +176,10 @@ pub fn convert_report<R: Read + Drop + Send, T: Threads + Wait + Sync, W: Sink>(
     let Ok(room) = Vec::with_capacity(alloc, report.tables()) else {
         return Outcome::Run(ConvertFault::Memory);
     };
+    if is_alone(workers, ring) {
+        let answer = convert_serial(alloc, report, readers, limits, layout, sink);
+        return ending_alone(alloc, names, room, answer);
+    }
     let answer = convert(
         rt, alloc, report, readers, workers, ring, limits, layout, sink,
     );
