@@ -9,6 +9,7 @@ pub mod FieldFacts
 pub mod EntryFacts
 pub mod ParameterFacts
 pub mod TypeFacts
+pub mod TypesKept
 pub mod WholeFileLaws
 pub mod KindLaws
 pub mod Unrepeated

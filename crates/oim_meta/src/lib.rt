@@ -44,6 +44,7 @@ mod report;
 mod shape_laws;
 mod text_laws;
 mod type_words;
+mod typed_name;
 mod types;
 mod written;
 
@@ -59,4 +60,5 @@ pub use records::{ReadFault, Records};
 pub use report::Report;
 pub use shape_laws::faults_of_shape_are_parts_without_it;
 pub use text_laws::a_text_writes_one_value;
+pub use typed_name::TypedName;
 pub use types::{Types, read_types};
