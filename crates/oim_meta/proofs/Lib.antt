@@ -20,6 +20,8 @@ pub mod OwnUris
 mod Examples
 mod ExamplesFaults
 mod ExamplesFiles
+mod ExamplesShapes
 pub mod LeastFault
 pub mod TextLaws
 pub mod ShapeLaws
+pub mod PartLaws
