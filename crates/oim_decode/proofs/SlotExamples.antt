@@ -14,9 +14,11 @@ use Rattle.oim_cells.specs.Cells.{Absent, Nil, Empty, Text, meaning_of, accuracy
 use Rattle.oim_cells.specs.declared.cells.NumberKind.TheVariants as number
 use Rattle.oim_meta.specs.Grid.{Record}
 use Rattle.oim_meta.specs.ReportValue.{ReportValue}
+use Rattle.oim_meta.specs.Types.{TypesValue}
 use Rattle.oim_meta.specs.declared.data.Side.TheVariants as side
 use Rattle.oim_meta.specs.declared.kind.Kind.{Kind}
 use Rattle.oim_meta.specs.declared.kind.Kind.TheVariants as kind
+use Rattle.oim_meta.specs.declared.typed_name.TypedName.{TypedName}
 use Rattle.oim_resolve.specs.declared.fact.CellFault.TheVariants as fault
 use Rattle.oim_resolve.specs.declared.role.Role.TheVariants as role
 use Rattle.oim_json.specs.JsonText.{escaped_byte, quoted, value_text, decimals_text}
@@ -55,12 +57,13 @@ row_number = ap Text (decimal_digit 7 (omega arith))
 abbrev names : Bindings
 names = (codes "eg", codes "http://example.com/eg") ∷ (codes "xbrli", codes "http://www.xbrl.org/2003/instance") ∷ []
 
-abbrev types : List (List ℕ × List (List ℕ × Kind))
-types = (
-  codes "http://example.com/eg",
-  (codes "Branch", kind.Typed) ∷ (codes "Cash", kind.Number number.Integer) ∷ (codes "Due", kind.Date)
-      ∷ (codes "Open", kind.Boolean) ∷ (codes "Rule", kind.Name) ∷ [],
-) ∷ []
+abbrev known : List ℕ → Kind → TypedName
+known local k = record { uri = codes "http://example.com/eg"; local = local; kind = k }
+
+abbrev types : TypesValue
+types =
+    known (codes "Branch") kind.Typed ∷ known (codes "Cash") (kind.Number number.Integer) ∷ known (codes "Due") kind.Date
+    ∷ known (codes "Open") kind.Boolean ∷ known (codes "Rule") kind.Name ∷ []
 
 abbrev report : ReportValue
 report = record {

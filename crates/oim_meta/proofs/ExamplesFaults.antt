@@ -14,6 +14,7 @@ use Rattle.oim_meta.specs.declared.fault.MetaFault.{MetaFault}
 use Rattle.oim_meta.specs.declared.fault.MetaFault.TheVariants.{NotReport, BadNamespaces, BadTaxonomy, Unsupported, BadIdentifier, BadTemplate, ColumnKinds}
 use Rattle.oim_meta.specs.declared.fault.MetaFault.TheVariants.{UnknownTemplate, UnknownColumn, BadDimension, BadDecimals, BadParameter, TooLarge, Syntax, BadTypes, Memory, Read}
 use Rattle.oim_meta.specs.declared.kind.Kind.{Kind}
+use Rattle.oim_meta.specs.declared.typed_name.TypedName.{TypedName}
 use Rattle.oim_meta.specs.declared.kind.Kind.TheVariants.{Number, Text, Boolean, Date, Name, Other, Explicit, Typed}
 use Rattle.oim_meta.specs.Types.{TypesValue}
 use Rattle.oim_meta.specs.Written.{strip_front, strip_back}
@@ -230,8 +231,11 @@ unknown_columns = refl
 abbrev prefixes : Bindings
 prefixes = (codes "p", codes "u") ∷ []
 
+abbrev typed : List ℕ → Kind → TypedName
+typed local k = record { uri = codes "u"; local = local; kind = k }
+
 abbrev types : TypesValue
-types = (codes "u", (codes "E", Explicit) ∷ (codes "N", Number Integer) ∷ (codes "O", Other) ∷ (codes "T", Typed) ∷ (codes "X", Text) ∷ []) ∷ []
+types = typed (codes "E") Explicit ∷ typed (codes "N") (Number Integer) ∷ typed (codes "O") Other ∷ typed (codes "T") Typed ∷ typed (codes "X") Text ∷ []
 
 -- only the name of an explicit or typed dimension names a dimension (XBRL Dimensions 1.0)
 abbrev no_dimension_kinds : List (Option Kind)

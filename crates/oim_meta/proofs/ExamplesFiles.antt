@@ -20,6 +20,7 @@ use Rattle.oim_meta.specs.ParametersFile.{parameters_file, parameters_result}
 use Rattle.oim_names.specs.Lookup.{value_at}
 use Rattle.oim_meta.specs.TypeWords.{Words, plain_words, wider_words, words_chosen, words_in}
 use Rattle.oim_meta.specs.TypesFile.{types_file, types_result}
+use Rattle.oim_meta.specs.Named.{value_under}
 use Rattle.oim_meta.specs.Types.{kind_in}
 use Rattle.oim_meta.specs.Reading.{after_mark, first_url_fault}
 use Rattle.oim_meta.specs.Faults.{has_no_report}
@@ -28,6 +29,7 @@ use Rattle.oim_meta.specs.PlainPath.{is_plain_path}
 use Rattle.oim_meta.specs.declared.fault.MetaFault.TheVariants.{Syntax, NotReport, BadNamespaces, BadTaxonomy, Unsupported, BadIdentifier, BadTemplate, ColumnKinds, UnknownTemplate}
 use Rattle.oim_meta.specs.declared.fault.MetaFault.TheVariants.{UnknownColumn, BadDimension, BadDecimals, BadParameter, BadTypes, TooLarge, Memory, Read}
 use Rattle.oim_meta.specs.declared.kind.Kind.{Kind}
+use Rattle.oim_meta.specs.declared.typed_name.TypedName.{TypedName}
 use Rattle.oim_meta.specs.declared.kind.Kind.TheVariants.{Number, Text, Boolean, Date, Name, Other, Explicit, Typed}
 
 -- RECORDS (RFC 4180), after a byte-order mark: a quoted field with a quote, and a line without a character
@@ -94,6 +96,10 @@ namespace_name_type = codes "namespace" ∷ codes "name" ∷ codes "type" ∷ []
 abbrev typed : List ℕ → List ℕ → List ℕ → Record
 typed uri name word = uri ∷ name ∷ word ∷ []
 
+-- a record as contracts see it
+abbrev known : List ℕ → List ℕ → Kind → TypedName
+known uri name k = record { uri = uri; local = name; kind = k }
+
 -- the words under `type`, and those under `type2`
 abbrev kinds_by : Words → List (List ℕ) → List (Option Kind)
 kinds_by words ws = map (λ w. value_at w words) ws
@@ -128,7 +134,7 @@ abbrev open_boolean : List Record
 open_boolean = typed (codes "u") (codes "Open") (codes "boolean") ∷ typed (codes "u") (codes "Cash") (codes "integer") ∷ []
 
 new_word_under_each_header :
-    (types_result (namespace_name_type2 ∷ open_boolean) ≡ Ok ((codes "u", (codes "Open", Boolean) ∷ (codes "Cash", Number Integer) ∷ []) ∷ []))
+    (types_result (namespace_name_type2 ∷ open_boolean) ≡ Ok (known (codes "u") (codes "Open") Boolean ∷ known (codes "u") (codes "Cash") (Number Integer) ∷ []))
     × (types_result (namespace_name_type ∷ open_boolean) ≡ Err BadTypes)
 unfolding all_of is_ncname is_name_char is_name_start chars is_utf8 encode
 new_word_under_each_header = (refl, refl)
@@ -137,14 +143,20 @@ new_word_under_each_header = (refl, refl)
 types :
     (types_result (namespace_name_type ∷ []) ≡ Ok [])
     × (types_result (namespace_name_type ∷ typed (codes "u") (codes "a") (codes "text") ∷ typed [] (codes "a") (codes "typed") ∷ typed (codes "u") (codes "b.c") (codes "other") ∷ [])
-    ≡ Ok ((codes "u", (codes "a", Text) ∷ (codes "b.c", Other) ∷ []) ∷ ([], (codes "a", Typed) ∷ []) ∷ []))
+    ≡ Ok (known (codes "u") (codes "a") Text ∷ known [] (codes "a") Typed ∷ known (codes "u") (codes "b.c") Other ∷ []))
 unfolding all_of is_ncname is_name_char is_name_start chars is_utf8 encode
 types = (refl, refl)
 
 kinds_found :
-    map (kind_in ((codes "u", (codes "a", Text) ∷ (codes "b", Other) ∷ []) ∷ (codes "v", (codes "a", Typed) ∷ []) ∷ []) (codes "v"))
+    map (kind_in (known (codes "u") (codes "a") Text ∷ known (codes "u") (codes "b") Other ∷ known (codes "v") (codes "a") Typed ∷ []) (codes "v"))
     (codes "a" ∷ codes "b" ∷ codes "v" ∷ []) ≡ Some Typed ∷ None ∷ None ∷ []
 kinds_found = refl
+
+-- the same, of the groups by which the kinds are looked up
+kinds_under :
+    map (value_under ((codes "u", (codes "a", Text) ∷ (codes "b", Other) ∷ []) ∷ (codes "v", (codes "a", Typed) ∷ []) ∷ []) (codes "v"))
+    (codes "a" ∷ codes "b" ∷ codes "v" ∷ []) ≡ Some Typed ∷ None ∷ None ∷ []
+kinds_under = refl
 
 -- a name of a namespace has the kind of its first record
 abbrev three_types : List Record
@@ -179,7 +191,7 @@ bad_types = refl
 
 -- 1,048,576 records are accepted; one more is too many, whatever it holds
 types_limit :
-    (all_of (types_file plain_words) 1_048_575 [] (typed (codes "u") (codes "a") (codes "text") ∷ []) ≡ Ok ((codes "u", (codes "a", Text) ∷ []) ∷ []))
+    (all_of (types_file plain_words) 1_048_575 [] (typed (codes "u") (codes "a") (codes "text") ∷ []) ≡ Ok (known (codes "u") (codes "a") Text ∷ []))
     × (all_of (types_file plain_words) 1_048_576 [] ([] ∷ []) ≡ Err TooLarge)
 unfolding all_of is_ncname is_name_char is_name_start chars is_utf8 encode
 types_limit = (refl, refl)

@@ -1,76 +1,21 @@
 -- The types of a table say of a name just what its records say.
-use Rattle.std.proofs.Common.{◌≡◌, ◌∙◌, ◌+◌, ℕ, List, [], ◌∷◌, ◌++◌, Option, Some, None, Ok, Err, Bool, true, false, ◌&&◌, if◌then◌else◌, refl, sym, ap, nat_le}
-use Rattle.std.proofs.lemmas.Slice.Eq.{bytes_eq-Decides}
-use Rattle.std.proofs.lemmas.Cmp.{nat_list_eq_equiv}
+use Rattle.std.proofs.Common.{◌≡◌, ◌∙◌, ◌+◌, ℕ, List, [], ◌∷◌, Option, Some, None, Ok, Err, Bool, true, false, ◌&&◌, refl, sym, ap, nat_le}
 use Rattle.std.specs.Option.{is_none, ok_or, option_and_then, option_or}
-use Rattle.std.specs.Str.{bytes_eq}
 use Rattle.oim_names.specs.Lookup.{value_at}
 use Rattle.oim_names.specs.Names.{is_ncname}
 use Rattle.oim_meta.specs.CsvFiles.{all_of, three_texts, unless_bad}
 use Rattle.oim_meta.specs.Grid.{Field, Record}
-use Rattle.oim_meta.specs.Named.{pushed_under}
 use Rattle.oim_meta.specs.Types.{TypesValue, kind_in}
 use Rattle.oim_meta.specs.TypeWords.{Words}
 use Rattle.oim_meta.specs.TypesFile.{most_types, type_after, types_file, with_kind, with_type}
 use Rattle.oim_meta.specs.WholeFile.{kind_by, kind_said}
 use Rattle.oim_meta.specs.declared.fault.MetaFault.TheVariants as fault
 use Rattle.oim_meta.specs.declared.kind.Kind.{Kind}
-
--- one more entry is found if no earlier one has its name
-value-pushed : {V : Type 0} (name key : List ℕ) (v : V) (es : List (List ℕ × V)) → value_at name (es ++ (key, v) ∷ []) ≡ option_or (value_at name es) (if bytes_eq key name then Some v else None)
-value-pushed name key v [] = refl
-value-pushed {V} name key v (e ∷ es) = by (bytes_eq e.0 name) refl (value-pushed name key v es)
-  where
-    by : (b : Bool) → bytes_eq e.0 name ≡ b → value_at name (es ++ (key, v) ∷ []) ≡ option_or (value_at name es) (if bytes_eq key name then Some v else None)
-        → value_at name ((e ∷ es) ++ (key, v) ∷ []) ≡ option_or (value_at name (e ∷ es)) (if bytes_eq key name then Some v else None)
-    by true h more = rw h refl
-    by false h more = rw h more
-
-or-none : {A : Type 0} (o : Option A) → option_or o None ≡ o
-or-none None = refl
-or-none (Some x) = refl
+use Rattle.oim_meta.proofs.TypesKept.{or-none, said-more}
 
 or-assoc : {A : Type 0} (a b c : Option A) → option_or (option_or a b) c ≡ option_or a (option_or b c)
 or-assoc None b c = refl
 or-assoc (Some x) b c = refl
-
-same-bytes : (a b : List ℕ) → bytes_eq a b ≡ true → a ≡ b
-same-bytes a b e = (bytes_eq-Decides a b).0 e
-
--- a text that is equal to one and not to the other
-apart-bytes : (e u v : List ℕ) → bytes_eq e u ≡ false → bytes_eq e v ≡ true → bytes_eq u v ≡ false
-apart-bytes e u v unlike like = by (bytes_eq u v) refl
-  where
-    by : (b : Bool) → bytes_eq u v ≡ b → bytes_eq u v ≡ false
-    by true h = let eu : e ≡ u = same-bytes e v like ∙ sym (same-bytes u v h) in
-        let wrong : bytes_eq u u ≡ false = rw eu at unlike in
-        let right : bytes_eq u u ≡ true = nat_list_eq_equiv.refl u in
-        cc (wrong, right)
-    by false h = h
-
--- the kinds after one more name
-said-more : (types : TypesValue) (u l uri local : List ℕ) (k : Kind)
-    → kind_in (pushed_under types u l k) uri local ≡ option_or (kind_in types uri local) (if bytes_eq u uri && bytes_eq l local then Some k else None)
-said-more [] u l uri local k = by (bytes_eq u uri) refl
-  where
-    by : (b : Bool) → bytes_eq u uri ≡ b → kind_in (pushed_under [] u l k) uri local ≡ (if bytes_eq u uri && bytes_eq l local then Some k else None)
-    by true h = rw h refl
-    by false h = rw h refl
-said-more (e ∷ es) u l uri local k = by (bytes_eq e.0 u) (bytes_eq e.0 uri) refl refl (said-more es u l uri local k)
-  where
-    by : (a b : Bool) → bytes_eq e.0 u ≡ a → bytes_eq e.0 uri ≡ b
-        → kind_in (pushed_under es u l k) uri local ≡ option_or (kind_in es uri local) (if bytes_eq u uri && bytes_eq l local then Some k else None)
-        → kind_in (pushed_under (e ∷ es) u l k) uri local ≡ option_or (kind_in (e ∷ es) uri local) (if bytes_eq u uri && bytes_eq l local then Some k else None)
-    by true true h i more =
-        let same : bytes_eq u uri ≡ true = rw (same-bytes e.0 u h) at i in
-        rw (h, i, same) (value-pushed local l k e.1)
-    by true false h i more =
-        let apart : bytes_eq u uri ≡ false = rw (same-bytes e.0 u h) at i in
-        rw (h, i, apart) (sym (or-none (kind_in es uri local)))
-    by false true h i more =
-        let apart : bytes_eq u uri ≡ false = apart-bytes e.0 u uri h i in
-        rw (h, i, apart) (sym (or-none (value_at local e.1)))
-    by false false h i more = rw (h, i) more
 
 -- what one more record says
 said-after : (words : Words) (types after : TypesValue) (r : Record) (uri local : List ℕ) → type_after words types r ≡ Some after
@@ -80,7 +25,7 @@ said-after words types after r uri local e = of (three_texts r) refl
     word : (p : Field × Field × Field) (o : Option Kind) → value_at p.2 words ≡ o → option_and_then (λ k. Some (with_kind types p.0 p.1 k)) o ≡ Some after
         → kind_in after uri local ≡ option_or (kind_in types uri local) (kind_by words uri local p)
     word p None h e2 = cc e2
-    word p (Some k) h e2 = let same : pushed_under types p.0 p.1 k ≡ after = cc e2 in rw (← same, h) (said-more types p.0 p.1 uri local k)
+    word p (Some k) h e2 = let same : with_kind types p.0 p.1 k ≡ after = cc e2 in rw (← same, h) (said-more types p.0 p.1 uri local k)
 
     good : (p : Field × Field × Field) (b : Bool) → (is_ncname p.1 && is_none (kind_in types p.0 p.1)) ≡ b → with_type words types p ≡ Some after
         → kind_in after uri local ≡ option_or (kind_in types uri local) (kind_by words uri local p)

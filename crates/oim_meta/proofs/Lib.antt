@@ -9,6 +9,7 @@ pub mod FieldFacts
 pub mod EntryFacts
 pub mod ParameterFacts
 pub mod TypeFacts
+pub mod TypesKept
 pub mod WholeFileLaws
 pub mod KindLaws
 pub mod Unrepeated
@@ -19,6 +20,8 @@ pub mod OwnUris
 mod Examples
 mod ExamplesFaults
 mod ExamplesFiles
+mod ExamplesShapes
 pub mod LeastFault
 pub mod TextLaws
 pub mod ShapeLaws
+pub mod PartLaws

@@ -1,13 +1,14 @@
 -- Values by name: looking one up, adding one, and adding one to a group.
-use Rattle.std.proofs.Common.{◌≡◌, ◌<◌, ◌+◌, ℕ, zero, suc, List, [], ◌∷◌, ◌++◌, Option, Some, None, Bool, true, false, nat_lt, if◌then◌else◌, refl, ap, arith, length, slice_get}
+use Rattle.std.proofs.Common.{◌≡◌, ◌<◌, ◌+◌, ℕ, zero, suc, List, [], ◌∷◌, ◌++◌, Option, Some, None, Bool, true, false, ◌&&◌, nat_lt, if◌then◌else◌, refl, sym, ◌∙◌, ap, arith, length, slice_get}
 use Rattle.std.proofs.lemmas.Cmp.{nat_list_eq_equiv}
+use Rattle.std.proofs.lemmas.Slice.Eq.{bytes_eq-Decides}
 use Rattle.std.specs.List.{AllZip, position, position_or_len}
 use Rattle.std.specs.Option.{is_some, option_and_then}
 use Rattle.std.specs.Map.{keys_of, lookup, values_of}
 use Rattle.std.specs.Str.{bytes_eq}
 use Rattle.indexmap.specs.IndexMap.{set_value_at}
 use Rattle.oim_names.specs.Lookup.{value_at}
-use Rattle.oim_meta.specs.Named.{pushed_under, renamed}
+use Rattle.oim_meta.specs.Named.{ExtendsUnder, renamed, value_under}
 
 -- a look-up by bytes is one in the entries that a contract sees
 pub lookup-renamed : {K V : Type 0} (bytes : K → List ℕ) (name : List ℕ) (entries : List (K × V)) → lookup (λ k. bytes_eq name (bytes k)) entries ≡ value_at name (renamed bytes entries)
@@ -54,37 +55,90 @@ at-place n len i e = by (nat_lt n len) refl
     by true h = let found : Some i ≡ Some n = rw h at e in cc found
     by false h = let none : Some i ≡ None = rw h at e in cc none
 
+pub same-bytes : (a b : List ℕ) → bytes_eq a b ≡ true → a ≡ b
+same-bytes a b e = (bytes_eq-Decides a b).0 e
+
+-- a text that is equal to one and not to the other
+apart-bytes : (e u v : List ℕ) → bytes_eq e u ≡ false → bytes_eq e v ≡ true → bytes_eq u v ≡ false
+apart-bytes e u v unlike like = by (bytes_eq u v) refl
+  where
+    by : (b : Bool) → bytes_eq u v ≡ b → bytes_eq u v ≡ false
+    by true h =
+        let eu : e ≡ u = same-bytes e v like ∙ sym (same-bytes u v h) in
+        let wrong : bytes_eq u u ≡ false = rw eu at unlike in
+        let right : bytes_eq u u ≡ true = nat_list_eq_equiv.refl u in
+        cc (wrong, right)
+    by false h = h
+
+-- looking up after one more entry with a new name
+value-extended : {V : Type 0} (name : List ℕ) (v : V) (es : List (List ℕ × V)) (n : List ℕ) → value_at name es ≡ None
+    → value_at n (es ++ (name, v) ∷ []) ≡ (if bytes_eq name n then Some v else value_at n es)
+value-extended name v [] n none = refl
+value-extended {V} name v (e ∷ es) n none = by (bytes_eq e.0 name) (bytes_eq e.0 n) refl refl (value-extended name v es n)
+  where
+    by : (a b : Bool) → bytes_eq e.0 name ≡ a → bytes_eq e.0 n ≡ b
+        → (value_at name es ≡ None → value_at n (es ++ (name, v) ∷ []) ≡ (if bytes_eq name n then Some v else value_at n es))
+        → value_at n ((e ∷ es) ++ (name, v) ∷ []) ≡ (if bytes_eq name n then Some v else value_at n (e ∷ es))
+    by true b h i more = let some : Some e.1 ≡ None = rw h at none in cc some
+    by false true h i more = let apart : bytes_eq name n ≡ false = apart-bytes e.0 name n h i in rw (i, apart) refl
+    by false false h i more = rw i (more (rw h at none))
+
+-- one more entry in the group at a place
 under-first : {K V : Type 0} (bytes : K → List ℕ) (group name : List ℕ) (v : V) (es : List (K × List (List ℕ × V))) (i : ℕ) (old : List (List ℕ × V))
-    → FirstAt (λ k. bytes_eq group (bytes k)) es i → slice_get (values_of es) i ≡ Some old → renamed bytes (set_value_at es i (old ++ (name, v) ∷ [])) ≡ pushed_under (renamed bytes es) group name v
+    → FirstAt (λ k. bytes_eq group (bytes k)) es i → slice_get (values_of es) i ≡ Some old → value_at name old ≡ None
+    → ExtendsUnder (renamed bytes es) group name v (renamed bytes (set_value_at es i (old ++ (name, v) ∷ [])))
 unfolding FirstAt
-under-first bytes group name v [] i old f at = absurd f
-under-first bytes group name v (e ∷ es) zero old f at =
-    let same : e.1 ≡ old = cc at in
-    rw (← same, ← nat_list_eq_equiv.symm group (bytes e.0), f) refl
-under-first {K} {V} bytes group name v (e ∷ es) (suc i) old f at =
-    rw (← nat_list_eq_equiv.symm group (bytes e.0), f.0) (ap (λ (l : List (List ℕ × List (List ℕ × V))). (bytes e.0, e.1) ∷ l) (under-first bytes group name v es i old f.1 at))
+under-first bytes group name v [] i old f at none = absurd f
+under-first {K} {V} bytes group name v (e ∷ es) zero old f at none = λ g n. by g n (bytes_eq (bytes e.0) g) refl
+  where
+    same : e.1 ≡ old
+    same = cc at
+
+    by : (g n : List ℕ) (b : Bool) → bytes_eq (bytes e.0) g ≡ b
+        → value_under ((bytes e.0, old ++ (name, v) ∷ []) ∷ renamed bytes es) g n
+        ≡ (if bytes_eq group g && bytes_eq name n then Some v else value_under ((bytes e.0, e.1) ∷ renamed bytes es) g n)
+    by g n true h =
+        let here : bytes_eq group g ≡ true = rw (same-bytes group (bytes e.0) f) h in
+        rw (h, here, same) (value-extended name v old n none)
+    by g n false h =
+        let apart : bytes_eq group g ≡ false = rw (same-bytes group (bytes e.0) f) h in
+        rw (h, apart) refl
+under-first {K} {V} bytes group name v (e ∷ es) (suc i) old f at none = λ g n. by g n (bytes_eq (bytes e.0) g) refl (under-first bytes group name v es i old f.1 at none g n)
+  where
+    unlike : bytes_eq (bytes e.0) group ≡ false
+    unlike = rw (nat_list_eq_equiv.symm (bytes e.0) group) f.0
+
+    by : (g n : List ℕ) (b : Bool) → bytes_eq (bytes e.0) g ≡ b
+        → value_under (renamed bytes (set_value_at es i (old ++ (name, v) ∷ []))) g n
+        ≡ (if bytes_eq group g && bytes_eq name n then Some v else value_under (renamed bytes es) g n)
+        → value_under ((bytes e.0, e.1) ∷ renamed bytes (set_value_at es i (old ++ (name, v) ∷ []))) g n
+        ≡ (if bytes_eq group g && bytes_eq name n then Some v else value_under ((bytes e.0, e.1) ∷ renamed bytes es) g n)
+    by g n true h more =
+        let apart : bytes_eq group g ≡ false = apart-bytes (bytes e.0) group g unlike h in
+        rw (h, apart) refl
+    by g n false h more = rw h more
 
 -- one more entry in a group that is there
 pub under-found : {K V : Type 0} (bytes : K → List ℕ) (group name : List ℕ) (v : V) (es : List (K × List (List ℕ × V))) (i : ℕ) (old : List (List ℕ × V))
-    → Some i ≡ position (λ k. bytes_eq group (bytes k)) (keys_of es) → i < length es → slice_get (values_of es) i ≡ Some old
-    → renamed bytes (set_value_at es i (old ++ (name, v) ∷ [])) ≡ pushed_under (renamed bytes es) group name v
-under-found {K} bytes group name v es i old found within at =
+    → Some i ≡ position (λ k. bytes_eq group (bytes k)) (keys_of es) → i < length es → slice_get (values_of es) i ≡ Some old → value_at name old ≡ None
+    → ExtendsUnder (renamed bytes es) group name v (renamed bytes (set_value_at es i (old ++ (name, v) ∷ [])))
+under-found {K} bytes group name v es i old found within at none =
     let test : K → Bool = λ k. bytes_eq group (bytes k) in
-    under-first bytes group name v es i old (first-at test es i (at-place (position_or_len test (keys_of es)) (length (keys_of es)) i found) within) at
+    under-first bytes group name v es i old (first-at test es i (at-place (position_or_len test (keys_of es)) (length (keys_of es)) i found) within) at none
 
 -- one more entry in a new group
-pub under-new : {V : Type 0} (group name : List ℕ) (v : V) (es : List (List ℕ × List (List ℕ × V))) → value_at group es ≡ None → es ++ (group, (name, v) ∷ []) ∷ [] ≡ pushed_under es group name v
-under-new group name v [] none = refl
-under-new {V} group name v (e ∷ es) none = by (bytes_eq e.0 group) refl (under-new group name v es)
+pub under-new : {V : Type 0} (group name : List ℕ) (v : V) (es new : List (List ℕ × List (List ℕ × V))) → value_at group es ≡ None
+    → new ≡ es ++ (group, (name, v) ∷ []) ∷ [] → ExtendsUnder es group name v new
+under-new {V} group name v es new none e = λ g n. rw (e, value-extended group ((name, v) ∷ []) es g none) (by g n (bytes_eq group g) refl)
   where
-    by : (b : Bool) → bytes_eq e.0 group ≡ b → (value_at group es ≡ None → es ++ (group, (name, v) ∷ []) ∷ [] ≡ pushed_under es group name v)
-        → (e ∷ es) ++ (group, (name, v) ∷ []) ∷ [] ≡ pushed_under (e ∷ es) group name v
-    by true h more = let some : Some e.1 ≡ None = rw h at none in cc some
-    by false h more = rw h (ap (λ (l : List (List ℕ × List (List ℕ × V))). e ∷ l) (more (rw h at none)))
+    by : (g n : List ℕ) (b : Bool) → bytes_eq group g ≡ b
+        → option_and_then (value_at n) (if b then Some ((name, v) ∷ []) else value_at g es) ≡ (if b && bytes_eq name n then Some v else value_under es g n)
+    by g n true h = let absent : value_at g es ≡ None = rw (← same-bytes group g h) none in rw absent refl
+    by g n false h = refl
 
 -- a name that is not under a group is not among its entries
 pub lacks-under : {V : Type 0} (group name : List ℕ) (es : List (List ℕ × List (List ℕ × V))) (old : List (List ℕ × V))
-    → option_and_then (value_at name) (value_at group es) ≡ None → value_at group es ≡ Some old
+    → value_under es group name ≡ None → value_at group es ≡ Some old
     → value_at name old ≡ None
 lacks-under group name es old none there = rw there at none
 

@@ -13,10 +13,10 @@ use Rattle.oim_meta.specs.Shapes.{AllMembers, AllItems, IsText, IsFlag, IsObject
 use Rattle.oim_meta.specs.Shapes.{MayHaveDimensions, IsGroup, IsColumn, IsTemplate, IsTable, HasShape, Refutes}
 use Rattle.oim_meta.proofs.Unrepeated.{left, right}
 
-either : {P Q : Type 0} (a b : Bool) → Refutes a P → Refutes b Q → Refutes (a || b) (P × Q)
+pub either : {P Q : Type 0} (a b : Bool) → Refutes a P → Refutes b Q → Refutes (a || b) (P × Q)
 either a b r s = (λ h. (r.0 (left a b h), s.0 (right a b h)), λ p. rw (r.1 p.0, s.1 p.1) refl)
 
-three : {P Q R : Type 0} (a b c : Bool) → Refutes a P → Refutes b Q → Refutes c R → Refutes (a || b || c) (P × Q × R)
+pub three : {P Q R : Type 0} (a b c : Bool) → Refutes a P → Refutes b Q → Refutes c R → Refutes (a || b || c) (P × Q × R)
 three a b c r s t = (
   λ h. let m = left (a || b) c h in (r.0 (left a b m), s.0 (right a b m), t.0 (right (a || b) c h)),
   λ p. rw (r.1 p.0, s.1 p.1, t.1 p.2) refl,
@@ -34,15 +34,15 @@ five a b c d e p q r s t = (
 )
 
 -- of a part that may be there, and of one that must be there
-optional : {A : Type 0} (p : A → Bool) (P : A → Type 0) → ((x : A) → Refutes (p x) (P x)) → (o : Option A) → Refutes (unwrap_or (option_map p o) false) (IfSome o P)
+pub optional : {A : Type 0} (p : A → Bool) (P : A → Type 0) → ((x : A) → Refutes (p x) (P x)) → (o : Option A) → Refutes (unwrap_or (option_map p o) false) (IfSome o P)
 optional p P r None = (λ h. tt, λ h. refl)
 optional p P r (Some x) = r x
 
-needed : {A : Type 0} (p : A → Bool) (P : A → Type 0) → ((x : A) → Refutes (p x) (P x)) → (o : Option A) → Refutes (unwrap_or (option_map p o) true) (IsSomeAnd o P)
+pub needed : {A : Type 0} (p : A → Bool) (P : A → Type 0) → ((x : A) → Refutes (p x) (P x)) → (o : Option A) → Refutes (unwrap_or (option_map p o) true) (IsSomeAnd o P)
 needed p P r None = (λ h. absurd cc, λ h. absurd h)
 needed p P r (Some x) = r x
 
-members : (p : List ℕ → Data → Bool) (P : List ℕ → Data → Type 0) → ((k : List ℕ) (d : Data) → Refutes (p k d) (P k d))
+pub members : (p : List ℕ → Data → Bool) (P : List ℕ → Data → Type 0) → ((k : List ℕ) (d : Data) → Refutes (p k d) (P k d))
     → (ms : Members) → Refutes (any_member p ms) (AllMembers P ms)
 members p P r no_members = (λ h. tt, λ h. refl)
 members p P r (member k d ms) = either (p k d) (any_member p ms) (r k d) (members p P r ms)
@@ -59,17 +59,17 @@ list_of : (p : Data → Bool) (P : Data → Type 0) → ((d : Data) → Refutes 
 list_of p P r d = needed (any_item p) (AllItems P) (items p P r) (as_array d)
 
 -- the kinds of values
-isnt : (b : Bool) → Refutes (not b) (b ≡ true)
+pub isnt : (b : Bool) → Refutes (not b) (b ≡ true)
 isnt true = (λ h. refl, λ h. refl)
 isnt false = (λ h. absurd cc, λ h. absurd cc)
 
-text : (d : Data) → Refutes (is_no_text d) (IsText d)
+pub text : (d : Data) → Refutes (is_no_text d) (IsText d)
 text d = isnt (is_some (as_str d))
 
 an_object : (d : Data) → Refutes (is_no_object d) (IsObject d)
 an_object d = isnt (is_some (as_object d))
 
-absent : {A : Type 0} (o : Option A) → Refutes (is_none o) (IsSome o)
+pub absent : {A : Type 0} (o : Option A) → Refutes (is_none o) (IsSome o)
 absent None = (λ h. absurd cc, λ h. absurd cc)
 absent (Some x) = (λ h. refl, λ h. refl)
 

@@ -1,11 +1,14 @@
--- The shapes of a metadata and its parts (xBRL-CSV 1.0: documentInfo, table templates, columns, property groups and tables), as what each
--- part is. A part that does not have its shape is a fault.
-use Rattle.std.specs.Prelude.{◌≡◌, ◌≢◌, ◌↔◌, ℕ, List, [], IfSome, IsSome, IsSomeAnd, Bool, true, false, codes, ⊤}
+-- The shapes of a metadata and its parts (xBRL-CSV 1.0: documentInfo, namespaces, table templates, columns, property groups and tables), as
+-- what each part is. A part that does not have its shape is a fault.
+use Rattle.std.specs.Prelude.{◌≡◌, ◌≢◌, ◌↔◌, ℕ, List, [], Option, Some, IfSome, IsSome, IsSomeAnd, Bool, true, false, codes, ⊤, option_and_then}
 use Rattle.serde_json.specs.Data.{Data, Items, no_items, item, Members, no_members, member}
 use Rattle.serde_json.specs.Find.{get, as_array, as_bool, as_object, as_str}
-use Rattle.oim_meta.specs.Members.{text_at}
-use Rattle.oim_meta.specs.Faults.{info_at}
+use Rattle.oim_names.specs.Names.{is_identifier, is_ncname}
+use Rattle.oim_meta.specs.Members.{section, text_at, text_of}
+use Rattle.oim_meta.specs.Faults.{info_at, template_name}
 use Rattle.oim_meta.specs.PlainPath.{is_plain_path}
+use Rattle.oim_meta.specs.declared.data.ColumnKind.{ColumnKind}
+use Rattle.oim_meta.specs.declared.data.ColumnKind.TheVariants.{Fact, Groups, Comment}
 
 abbrev pub AllMembers : (List ℕ → Data → Type 0) → Members → Type 0
 AllMembers P no_members = ⊤
@@ -35,6 +38,18 @@ IsListOf P d = IsSomeAnd (as_array d) (AllItems P)
 abbrev pub IsCsvDocument : Data → Type 0
 IsCsvDocument d = IsSomeAnd (get (codes "documentInfo") d) (λ i. IsSomeAnd (text_at (codes "documentType") i) (λ t. t ≡ codes "https://xbrl.org/2021/xbrl-csv"))
 
+-- a prefix is an NCName, and its URI a text
+abbrev pub IsPrefix : List ℕ → Data → Type 0
+IsPrefix prefix uri = (is_ncname prefix ≡ true) × IsText uri
+
+-- two prefixes with the same URI are the same
+abbrev pub HaveOwnUris : Members → Type 0
+HaveOwnUris ms = AllMembers (λ p u. AllMembers (λ q v. text_of u ≡ text_of v → p ≡ q) ms) ms
+
+-- in documentInfo: namespaces is an object of prefixes if it is there, and no URI has two of them
+abbrev pub HasNamespaces : Data → Type 0
+HasNamespaces i = IfSome (get (codes "namespaces") i) (λ d. IsSomeAnd (as_object d) (λ ms. AllMembers IsPrefix ms × HaveOwnUris ms))
+
 -- in documentInfo: taxonomy is a list of texts, and baseURL is a text if it is there
 abbrev pub HasTaxonomy : Data → Type 0
 HasTaxonomy i = IsSomeAnd (get (codes "taxonomy") i) (IsListOf IsText) × IfSome (get (codes "baseURL") i) IsText
@@ -42,6 +57,19 @@ HasTaxonomy i = IsSomeAnd (get (codes "taxonomy") i) (IsListOf IsText) × IfSome
 -- extends and links are empty if they are there
 abbrev pub StandsAlone : Data → Type 0
 StandsAlone d = IfSome (info_at (codes "extends") d) (IsListOf (λ _. ⊥)) × IfSome (get (codes "links") d) (IsObjectOf (λ _ _. ⊥))
+
+-- each column of each template
+abbrev pub AllColumns : (List ℕ → Data → Type 0) → Data → Type 0
+AllColumns P d = AllMembers (λ _ t. AllMembers P (section (codes "columns") t)) (section (codes "tableTemplates") d)
+
+-- a key that is an identifier
+abbrev pub HasIdentifier : List ℕ → Data → Type 0
+HasIdentifier key _ = is_identifier key ≡ true
+
+-- the keys of templates, tables and columns are identifiers
+abbrev pub HasIdentifiers : Data → Type 0
+HasIdentifiers d =
+    AllMembers HasIdentifier (section (codes "tableTemplates") d) × AllMembers HasIdentifier (section (codes "tables") d) × AllColumns HasIdentifier d
 
 -- dimensions is an object if it is there
 abbrev pub MayHaveDimensions : Data → Type 0
@@ -73,6 +101,29 @@ IsTable _ t =
 abbrev pub HasShape : Data → Type 0
 HasShape d =
     MayHaveDimensions d × IfSome (get (codes "tableTemplates") d) (IsObjectOf IsTemplate) × IfSome (get (codes "tables") d) (IsObjectOf IsTable)
+
+-- comment of a column is true
+abbrev pub IsComment : Data → Type 0
+IsComment c = option_and_then as_bool (get (codes "comment") c) ≡ Some true
+
+-- a column is of one kind: a fact column if it has dimensions, a property group column if it has property groups, and a comment column if it is
+-- a comment
+abbrev pub IsOfOneKind : List ℕ → Data → Type 0
+IsOfOneKind _ c =
+    (kind : ColumnKind) × (IsSome (get (codes "dimensions") c) → kind ≡ Fact) × (IsSome (get (codes "propertyGroups") c) → kind ≡ Groups)
+    × (IsComment c → kind ≡ Comment)
+
+-- each column is of one kind
+abbrev pub HasColumnKinds : Data → Type 0
+HasColumnKinds = AllColumns IsOfOneKind
+
+-- a table names one of these templates, by its own name if it names none
+abbrev pub HasTemplate : Option Data → List ℕ → Data → Type 0
+HasTemplate templates id t = IsSomeAnd templates (λ ts. IsSome (get (template_name id t) ts))
+
+-- each table has a template
+abbrev pub HasTemplates : Data → Type 0
+HasTemplates d = AllMembers (HasTemplate (get (codes "tableTemplates") d)) (section (codes "tables") d)
 
 -- a test passes exactly where this does not hold
 abbrev pub Refutes : Bool → Type 0 → Type 0

@@ -1,12 +1,21 @@
--- The types of concepts and dimensions: the names of each namespace, each with its kind.
-use Rattle.std.specs.Prelude.{ℕ, List, Option}
-use Rattle.std.specs.Option.{option_and_then}
-use Rattle.oim_names.specs.Lookup.{value_at}
+-- The types of concepts and dimensions: the records of the types table, in file order.
+use Rattle.std.specs.Prelude.{◌≡◌, ℕ, List, Bool, ◌&&◌, Option, option_map, find}
+use Rattle.std.specs.Str.{bytes_eq}
+use Rattle.oim_meta.specs.Named.{Grouped, value_under}
 use Rattle.oim_meta.specs.declared.kind.Kind.{Kind}
+use Rattle.oim_meta.specs.declared.typed_name.TypedName.{TypedName}
 
 abbrev pub TypesValue : Type 0
-TypesValue = List (List ℕ × List (List ℕ × Kind))
+TypesValue = List TypedName
 
--- the kind of the concept or dimension of a URI and a local part
+-- a record is of this URI and local part
+abbrev pub is_of : List ℕ → List ℕ → TypedName → Bool
+is_of uri local name = bytes_eq name.uri uri && bytes_eq name.local local
+
+-- the kind of the concept or dimension of a URI and a local part: that of its record
 abbrev pub kind_in : TypesValue → List ℕ → List ℕ → Option Kind
-kind_in types uri local = option_and_then (value_at local) (value_at uri types)
+kind_in types uri local = option_map (λ (name : TypedName). name.kind) (find (is_of uri local) types)
+
+-- kinds by local part, by URI: a look-up gives what the records say
+abbrev pub GivesKinds : Grouped Kind → TypesValue → Type 0
+GivesKinds groups types = (uri local : List ℕ) → value_under groups uri local ≡ kind_in types uri local

@@ -1,11 +1,10 @@
 -- The types table, a CSV file (RFC 4180) with a record for each concept and dimension: its namespace, its name and its
 -- type. It takes the place of the taxonomy (XBRL 2.1, XBRL Dimensions 1.0).
-use Rattle.std.specs.Prelude.{ℕ, List, [], ◌&&◌, Option, Some, None, is_none, if◌then◌else◌, Result}
+use Rattle.std.specs.Prelude.{ℕ, List, [], ◌∷◌, ◌++◌, ◌&&◌, Option, Some, None, is_none, if◌then◌else◌, Result}
 use Rattle.std.specs.Option.{option_and_then, option_map}
 use Rattle.oim_names.specs.Lookup.{value_at}
 use Rattle.oim_names.specs.Names.{is_ncname}
 use Rattle.oim_meta.specs.CsvFiles.{EntryFile, file_result, three_texts}
-use Rattle.oim_meta.specs.Named.{pushed_under}
 use Rattle.oim_meta.specs.Grid.{Field, Record}
 use Rattle.oim_meta.specs.Types.{TypesValue, kind_in}
 use Rattle.oim_meta.specs.TypeWords.{Words, words_chosen}
@@ -13,9 +12,9 @@ use Rattle.oim_meta.specs.declared.fault.MetaFault.{MetaFault}
 use Rattle.oim_meta.specs.declared.fault.MetaFault.TheVariants as fault
 use Rattle.oim_meta.specs.declared.kind.Kind.{Kind}
 
--- the types with one more name, the last of its namespace; a new namespace is the last
+-- the types with one more record, the last
 abbrev pub with_kind : TypesValue → List ℕ → List ℕ → Kind → TypesValue
-with_kind types uri local k = pushed_under types uri local k
+with_kind types uri local k = types ++ record { uri = uri; local = local; kind = k } ∷ []
 
 -- a name is an NCName that no earlier record has in its namespace, and its type is one of the words
 abbrev pub with_type : Words → TypesValue → Field × Field × Field → Option TypesValue

@@ -9,8 +9,9 @@
 //!   bad record;
 //! - a dimension's text has a fault exactly where it writes no value, and else it writes the one value that
 //!   the report has (`a_text_writes_one_value`, `specs/Writes.antt`);
-//! - a metadata has a fault of its document type, taxonomy, extensions or shape exactly where a part is not
-//!   what `specs/Shapes.antt` says it is (`faults_of_shape_are_parts_without_it`);
+//! - a metadata has a fault of its document type, namespaces, taxonomy, extensions, identifiers, shape, kinds of
+//!   columns or templates exactly where a part is not what `specs/Shapes.antt` says it is
+//!   (`faults_of_shape_are_parts_without_it`);
 //! - the readers of a `Report` give its parts, and `clone_report` an equal report;
 //! - the parts of any `Report` are in byte order of name, and its tables, templates and columns have
 //!   identifiers (`stands_in_order`, `specs/InOrder.antt`);
@@ -44,6 +45,7 @@ mod report;
 mod shape_laws;
 mod text_laws;
 mod type_words;
+mod typed_name;
 mod types;
 mod written;
 
@@ -59,4 +61,5 @@ pub use records::{ReadFault, Records};
 pub use report::Report;
 pub use shape_laws::faults_of_shape_are_parts_without_it;
 pub use text_laws::a_text_writes_one_value;
+pub use typed_name::TypedName;
 pub use types::{Types, read_types};

@@ -1,9 +1,9 @@
 //! Values by name, found without a search through all of them.
 
 ghost use Rattle.std.specs.Prelude.{◌≡◌, ◌++◌, ◌∷◌, [], OnOk, None};
-ghost use Rattle.std.specs.Option.{option_and_then, option_map};
+ghost use Rattle.std.specs.Option.{option_map};
 ghost use Rattle.std.specs.String.{string_bytes};
-ghost use Rattle.oim_meta.specs.Named.{pushed_under};
+ghost use Rattle.oim_meta.specs.Named.{ExtendsUnder, value_under};
 ghost use Rattle.oim_names.specs.Lookup.{value_at};
 
 use indexmap::IndexMap;
@@ -87,7 +87,7 @@ impl<V> Named<Named<V>> {
         self.push(String::from_str(alloc, group)?, values)
     }
 
-    /// Adds a value under a name in a group, as the last of that group.
+    /// Adds a value under a name in a group.
     pub(crate) fn push_under(
         &mut self,
         alloc: Global,
@@ -97,8 +97,8 @@ impl<V> Named<Named<V>> {
     ) -> Result<(), AllocError>
     where
         V: Drop,
-        requires { option_and_then (value_at name.now) (value_at group.now self.old) ≡ None }
-        ensures { OnOk result (self.new ≡ pushed_under self.old group.now name.now value) }
+        requires { value_under self.old group.now name.now ≡ None }
+        ensures { OnOk result (ExtendsUnder self.old group.now name.now value self.new) }
     {
         let name = String::from_str(alloc, name)?;
         match self.entries.get_index_of(group) {

@@ -74,13 +74,13 @@ fn check_levels(
     report: &Value,
     parameters: &Parameters,
     types: &Types,
-    limits: &Limits,
+    limits: Limits,
 ) -> Result<Namespaces, MetaFault>
     requires { if_there has_bad_namespaces (get (codes "documentInfo") (view report.now)) ≡ false }
     ensures names { IfOk result (λ names. names ≡ prefixes_of (view report.now)) }
-    ensures sound { OnOk result (late_fault limits.now parameters.now types.now (view report.now) ≡ None) }
+    ensures sound { OnOk result (late_fault limits parameters.now types.now (view report.now) ≡ None) }
     ensures fault { IfErr result (λ fault. (fault ≡ Memory)
-        ⊎ (late_fault limits.now parameters.now types.now (view report.now) ≡ Some fault)) }
+        ⊎ (late_fault limits parameters.now types.now (view report.now) ≡ Some fault)) }
 {
     let names = prefixes(alloc, report)?;
     refuse(
@@ -99,15 +99,15 @@ fn check(
     report: &Value,
     parameters: &Parameters,
     types: &Types,
-    limits: &Limits,
+    limits: Limits,
 ) -> Result<Namespaces, MetaFault>
     ensures names { IfOk result (λ names. names ≡ prefixes_of (view report.now)) }
     ensures templates { OnOk result (has_unknown_template (view report.now) ≡ false) }
     ensures columns { OnOk result (has_unknown_column (view report.now) ≡ false) }
     ensures identifiers { OnOk result (has_bad_identifier (view report.now) ≡ false) }
-    ensures sound { OnOk result (first_fault limits.now parameters.now types.now (view report.now) ≡ None) }
+    ensures sound { OnOk result (first_fault limits parameters.now types.now (view report.now) ≡ None) }
     ensures fault { IfErr result (λ fault. (fault ≡ Memory)
-        ⊎ (first_fault limits.now parameters.now types.now (view report.now) ≡ Some fault)) }
+        ⊎ (first_fault limits parameters.now types.now (view report.now) ≡ Some fault)) }
 {
     refuse(no_report(report), MetaFault::NotReport)?;
     refuse(bad_namespaces_in(report), MetaFault::BadNamespaces)?;
@@ -127,13 +127,13 @@ fn report_in(
     value: &Value,
     parameters: Parameters,
     types: Types,
-    limits: &Limits,
+    limits: Limits,
 ) -> Result<Report, MetaFault>
     requires { IsInOrder (view value.now) }
-    ensures sound { OnOk result (first_fault limits.now parameters types (view value.now) ≡ None) }
+    ensures sound { OnOk result (first_fault limits parameters types (view value.now) ≡ None) }
     ensures value { IfOk result (λ r. r ≡ report_of parameters types (view value.now)) }
     ensures fault { IfErr result (λ fault. (fault ≡ Memory)
-        ⊎ (first_fault limits.now parameters types (view value.now) ≡ Some fault)) }
+        ⊎ (first_fault limits parameters types (view value.now) ≡ Some fault)) }
 {
     let namespaces = check(alloc, value, &parameters, &types, limits)?;
     Ok(build::report(alloc, value, namespaces, parameters, types)?)
@@ -151,10 +151,10 @@ pub fn read_report(
     bytes: &[u8],
     parameters: Parameters,
     types: Types,
-    limits: &Limits,
+    limits: Limits,
 ) -> Result<Report, MetaFault>
-    ensures value { IfOk result (SaysReport limits.now parameters types bytes.now) }
-    ensures fault { IfErr result (IsFault limits.now parameters types bytes.now) }
+    ensures value { IfOk result (SaysReport limits parameters types bytes.now) }
+    ensures fault { IfErr result (IsFault limits parameters types bytes.now) }
 {
     if bytes.len() > limits.metadata {
         return Err(MetaFault::TooLarge);
@@ -179,13 +179,9 @@ fn check_url(report: &Value) -> Result<(), MetaFault>
 ///
 /// `TooLarge` for the bytes, `Syntax`, `NotReport`, or `BadParameter` if the name is not a text or not a
 /// plain path; no other fault is looked for. `Memory` if memory runs out.
-pub fn parameter_url(
-    alloc: Global,
-    bytes: &[u8],
-    limits: &Limits,
-) -> Result<Option<Text>, MetaFault>
-    ensures value { IfOk result (SaysUrl limits.now bytes.now) }
-    ensures fault { IfErr result (IsUrlFault limits.now bytes.now) }
+pub fn parameter_url(alloc: Global, bytes: &[u8], limits: Limits) -> Result<Option<Text>, MetaFault>
+    ensures value { IfOk result (SaysUrl limits bytes.now) }
+    ensures fault { IfErr result (IsUrlFault limits bytes.now) }
 {
     if bytes.len() > limits.metadata {
         return Err(MetaFault::TooLarge);

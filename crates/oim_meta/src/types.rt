@@ -1,6 +1,6 @@
 //! The types of concepts and dimensions, and the types table.
 
-ghost use Rattle.std.specs.Prelude.{◌≡◌, [], IfSome, None, OnOk};
+ghost use Rattle.std.specs.Prelude.{◌≡◌, [], IfOk, IfSome, None};
 ghost use Rattle.oim_meta.specs.CsvFiles.{OrOutside};
 ghost use Rattle.oim_meta.specs.Grid.{grid};
 ghost use Rattle.oim_meta.specs.Types.{kind_in};
@@ -12,26 +12,30 @@ use crate::fields::texts_of_three;
 use crate::kind::Kind;
 use crate::named::Named;
 use crate::type_words::TypeWords;
+use crate::typed_name::TypedName;
 use csv::ByteRecord;
-use oim_names::is_ncname;
+use oim_names::{Items, is_ncname};
 use std::alloc::{AllocError, Global};
 use std::io::Read;
 use std::marker::Model;
+use told::{Tells, Told};
 
 /// The types of concepts and dimensions, which take the place of the taxonomy (XBRL 2.1, XBRL Dimensions 1.0).
-/// A contract sees the namespaces in the order of their first records, each with its names and their
-/// kinds in file order.
+/// A contract sees the records of the types table, in file order.
 #[derive(Drop)]
 pub struct Types {
     namespaces: Named<Named<Kind>>,
+    records: Told<Items<TypedName>>,
 }
 
 impl Model for Types {
-    ghost use Rattle.oim_meta.specs.Types.{TypesValue};
+    ghost use Rattle.oim_meta.specs.Types.{GivesKinds, TypesValue};
 
     ghost Value = { TypesValue };
 
-    ghost view = { λ t. t.namespaces };
+    ghost view = { λ t. t.records.value };
+
+    ghost invariant = { λ t. GivesKinds t.namespaces t.records.value };
 }
 
 impl Clone for Types {
@@ -40,8 +44,22 @@ impl Clone for Types {
     fn clone(&self) -> Result<Types, AllocError> {
         Ok(Types {
             namespaces: self.namespaces.clone()?,
+            records: self.records.again(),
         })
     }
+}
+
+/// The records of some types, and one more.
+#[derive(Drop)]
+struct OneMore<'a> {
+    before: &'a Told<Items<TypedName>>,
+    uri: &'a str,
+    local: &'a str,
+    kind: Kind,
+}
+
+impl Tells<Items<TypedName>> for OneMore<'_> {
+    ghost told = { λ t. with_kind t.before.now.value t.uri.now t.local.now t.kind };
 }
 
 impl Types {
@@ -61,15 +79,30 @@ impl Types {
     {
         Types {
             namespaces: Named::new(alloc),
+            records: Told::seen(&Items::new(alloc)),
         }
     }
 
-    /// Adds a name to its namespace.
-    fn add(&mut self, alloc: Global, uri: &str, local: &str, kind: Kind) -> Result<(), AllocError>
-        requires { kind_in self.old uri.now local.now ≡ None }
-        ensures { OnOk result (self.new ≡ with_kind self.old uri.now local.now kind) }
+    /// The same types and one more, the last.
+    fn with(self, alloc: Global, uri: &str, local: &str, kind: Kind) -> Result<Types, AllocError>
+        requires { kind_in self uri.now local.now ≡ None }
+        ensures { IfOk result (λ more. more ≡ with_kind self uri.now local.now kind) }
     {
-        self.namespaces.push_under(alloc, uri, local, kind)
+        let Types {
+            mut namespaces,
+            records,
+        } = self;
+        namespaces.push_under(alloc, uri, local, kind)?;
+        let before = &records;
+        Ok(Types {
+            namespaces,
+            records: Told::of(&OneMore {
+                before,
+                uri,
+                local,
+                kind,
+            }),
+        })
     }
 }
 
@@ -123,9 +156,7 @@ impl Entries for TypeWords {
         let Some(kind) = self.kind_of(word) else {
             return Ok(None);
         };
-        let mut types = so_far;
-        types.add(alloc, uri, local, kind)?;
-        Ok(Some(types))
+        Ok(Some(so_far.with(alloc, uri, local, kind)?))
     }
 }
 

@@ -19,6 +19,7 @@ use Rattle.oim_period.specs.Digits.{one_at, two_at, four_at}
 use Rattle.oim_period.specs.Periods.{start_of, end_of, found, first_some, moment_by, moment_of, days_by, days_of, whole_days, in_order, pair_of}
 use Rattle.oim_period.specs.Periods.{duration_of, without, period_of, first_number, year_of, month_of, date_in_year, day_text, moment_text, period_text}
 use Rattle.oim_meta.specs.ReportValue.{ReportValue}
+use Rattle.oim_meta.specs.Types.{TypesValue}
 use Rattle.oim_meta.specs.declared.data.Column.{Column}
 use Rattle.oim_meta.specs.declared.data.ColumnKind.TheVariants as column
 use Rattle.oim_meta.specs.declared.data.Level.{Level}
@@ -31,6 +32,7 @@ use Rattle.oim_meta.specs.declared.data.WrittenDecimals.{WrittenDecimals}
 use Rattle.oim_meta.specs.declared.data.WrittenDecimals.TheVariants as d
 use Rattle.oim_meta.specs.declared.kind.Kind.{Kind}
 use Rattle.oim_meta.specs.declared.kind.Kind.TheVariants as kind
+use Rattle.oim_meta.specs.declared.typed_name.TypedName.{TypedName}
 use Rattle.oim_resolve.specs.declared.fact.Row.{Row}
 use Rattle.oim_resolve.specs.FactParts.{FactParts as Fact}
 use Rattle.oim_resolve.specs.declared.fact.CellFault.{CellFault}
@@ -68,12 +70,15 @@ names =
     ∷ (codes "xbrli", codes "http://www.xbrl.org/2003/instance")
     ∷ []
 
-abbrev types : List (List ℕ × List (List ℕ × Kind))
-types = (
-  codes "http://example.com/eg",
-  (codes "Blob", kind.Other) ∷ (codes "Branch", kind.Typed) ∷ (codes "Cash", kind.Number number.Integer) ∷ (codes "Due", kind.Date) ∷ (codes "Mass", kind.Number number.Double)
-      ∷ (codes "Note", kind.Text) ∷ (codes "Open", kind.Boolean) ∷ (codes "Rate", kind.Number number.Decimal) ∷ (codes "Region", kind.Explicit) ∷ (codes "Rule", kind.Name) ∷ [],
-) ∷ []
+abbrev known : List ℕ → Kind → TypedName
+known local k = record { uri = codes "http://example.com/eg"; local = local; kind = k }
+
+abbrev types : TypesValue
+types =
+    known (codes "Blob") kind.Other ∷ known (codes "Branch") kind.Typed ∷ known (codes "Cash") (kind.Number number.Integer)
+    ∷ known (codes "Due") kind.Date ∷ known (codes "Mass") (kind.Number number.Double) ∷ known (codes "Note") kind.Text
+    ∷ known (codes "Open") kind.Boolean ∷ known (codes "Rate") (kind.Number number.Decimal) ∷ known (codes "Region") kind.Explicit
+    ∷ known (codes "Rule") kind.Name ∷ []
 
 -- a text, and a reference
 abbrev text : List ℕ → Written

@@ -3,7 +3,6 @@
 mod decimals;
 mod dimensions;
 mod entries;
-mod identifier;
 mod place;
 mod planned_cell;
 mod texts;

@@ -39,7 +39,7 @@ abbrev report : Bool → ReportValue
 report optional = record {
   info = record { base_url = None; taxonomy = [] };
   namespaces = (codes "eg", codes "http://example.com/eg") ∷ [];
-  types = (codes "http://example.com/eg", (codes "Note", type.Text) ∷ []) ∷ [];
+  types = record { uri = codes "http://example.com/eg"; local = codes "Note"; kind = type.Text } ∷ [];
   level = no_level;
   templates = record { id = codes "m"; columns = columns; row_id_column = Some 1; level = no_level } ∷ [];
   tables = record { id = codes "t1"; url = codes "t1.csv"; is_optional = optional; template = 0; parameters = [] } ∷ [];

@@ -38,7 +38,7 @@ pub(crate) fn report(alloc: Global) -> Result<Box<Report>, MetaFault> {
     let types = read_types(alloc, TYPES.as_bytes())?;
     let parameters = read_parameters(alloc, b"name,value\ne,2\n".as_slice())?;
     let bytes = METADATA.as_bytes();
-    let report = read_report(alloc, bytes, parameters, types, &Limits::profile())?;
+    let report = read_report(alloc, bytes, parameters, types, Limits::profile())?;
     Box::new(alloc, report).map_err(|_| MetaFault::Memory)
 }
 
@@ -48,7 +48,7 @@ struct ReadsUrl;
 
 impl Call for ReadsUrl {
     fn make(&mut self, alloc: Global) -> Answer {
-        match parameter_url(alloc, METADATA.as_bytes(), &Limits::profile()) {
+        match parameter_url(alloc, METADATA.as_bytes(), Limits::profile()) {
             Ok(Some(url)) if url.as_str() == "parameters.csv" => Answer::Enough,
             Ok(_) => Answer::Wrong,
             Err(fault) => of_fault(fault),

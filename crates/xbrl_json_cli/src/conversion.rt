@@ -34,9 +34,9 @@ pub fn read_texts(
     alloc: Global,
     metadata: &[u8],
     types: &[u8],
-    limits: &Limits,
+    limits: Limits,
 ) -> Result<Report, Outcome>
-    ensures { Reads limits.now metadata.now types.now result }
+    ensures { Reads limits metadata.now types.now result }
 {
     let types = match read_types(alloc, types) {
         Ok(types) => types,
@@ -207,7 +207,7 @@ pub fn convert_texts<R: Read + Drop + Send, T: Threads + Wait + Sync, W: Sink>(
     ensures { (files : List (Option (List ℕ))) → AreFilesOf R.remaining tables.items files
         → Ends (texts workers ring layout limits metadata.now types.now files) (sink_at (W.mark sink.old) (W.told sink.old)) (sink_at (W.mark sink.new) (W.told sink.new)) result }
 {
-    let report = match read_texts(alloc, metadata, types, &limits) {
+    let report = match read_texts(alloc, metadata, types, limits) {
         Ok(report) => report,
         Err(outcome) => return outcome,
     };

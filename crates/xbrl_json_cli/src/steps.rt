@@ -176,7 +176,7 @@ fn url_in(alloc: Global, metadata: &[u8]) -> Result<Option<Text>, Outcome>
     ensures gives { Takes (looking (url_result profile metadata.now) ∷ []) (λ u. url_result profile metadata.now ≡ Ok u) result }
     ensures early { IfErr result IsEarly }
 {
-    match parameter_url(alloc, metadata, &Limits::profile()) {
+    match parameter_url(alloc, metadata, Limits::profile()) {
         Ok(url) => Ok(url),
         Err(fault) => Err(Outcome::Report(Source::Report, fault)),
     }
@@ -192,7 +192,7 @@ fn report_in(
     ensures gives { Takes (looking (report_result profile parameters types metadata.now) ∷ []) (λ r. report_result profile parameters types metadata.now ≡ Ok r) result }
     ensures early { IfErr result IsEarly }
 {
-    match read_report(alloc, metadata, parameters, types, &Limits::profile()) {
+    match read_report(alloc, metadata, parameters, types, Limits::profile()) {
         Ok(report) => Ok(report),
         Err(fault) => Err(Outcome::Report(Source::Report, fault)),
     }

@@ -132,7 +132,7 @@ pub(crate) fn report_from(alloc: Global, metadata: &str) -> Result<Box<Report>, 
         metadata.as_bytes(),
         parameters,
         types,
-        &Limits::profile(),
+        Limits::profile(),
     )?;
     Ok(Box::new(alloc, report)?)
 }

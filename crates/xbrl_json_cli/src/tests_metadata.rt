@@ -22,7 +22,7 @@ fn fault_within(alloc: Global, text: &str, tables: usize) -> Result<Option<MetaF
         text.as_bytes(),
         Parameters::none(alloc),
         types,
-        &limits,
+        limits,
     )
     .err())
 }
@@ -208,7 +208,7 @@ fn each_proper_prefix(rt: HostRuntime) -> Result<(), Fail> {
             text,
             Parameters::none(rt.alloc()),
             types,
-            &Limits::profile(),
+            Limits::profile(),
         );
         assert_eq!(rt; answer.err(), Some(MetaFault::Syntax));
     }
@@ -224,18 +224,18 @@ fn names_of_parameters_files(rt: HostRuntime) -> Result<(), Fail> {
         "\"tables\"",
         "\"parameterURL\":\"a/p.csv\",\"tables\"",
     )?;
-    let Some(url) = parameter_url(alloc, text.as_bytes(), &limits)? else {
+    let Some(url) = parameter_url(alloc, text.as_bytes(), limits)? else {
         return Err(Fail::new("no name"));
     };
     assert!(rt; url.as_str() == "a/p.csv");
-    assert!(rt; parameter_url(alloc, BASE.as_bytes(), &limits)?.is_none());
+    assert!(rt; parameter_url(alloc, BASE.as_bytes(), limits)?.is_none());
     let text = changed(
         alloc,
         "\"tables\"",
         "\"parameterURL\":\"a/./p.csv\",\"tables\"",
     )?;
     assert_eq!(rt;
-        parameter_url(alloc, text.as_bytes(), &limits).err(),
+        parameter_url(alloc, text.as_bytes(), limits).err(),
         Some(MetaFault::BadParameter)
     );
     Ok(())

@@ -44,8 +44,8 @@ impl MemberTest for TooManyColumns {
 
 /// Whether there are more tables, or more columns in a template, than the limits.
 #[tactic(auto, unfolding(crate::specs::Counts::has_too_many))]
-pub(crate) fn too_many(limits: &Limits, report: &Value) -> bool
-    ensures { result ≡ has_too_many limits.now (view report.now) }
+pub(crate) fn too_many(limits: Limits, report: &Value) -> bool
+    ensures { result ≡ has_too_many limits (view report.now) }
 {
     count_at(report, "tables") > limits.tables
         || any_member_at(

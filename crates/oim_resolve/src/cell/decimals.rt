@@ -1,15 +1,11 @@
 //! The decimals that the properties of a cell state.
 
 ghost use Rattle.std.specs.Prelude.{◌≡◌};
-ghost use Rattle.std.specs.Option.{option_map};
-ghost use Rattle.oim_resolve.specs.Facts.{stated_by, stated_read};
-ghost use Rattle.oim_resolve.specs.ProgramCell.{cell_at};
+ghost use Rattle.oim_resolve.specs.Facts.{stated_read};
 ghost use Rattle.oim_resolve.specs.ProgramValues.{seen_stated};
 
-use crate::cell::place::Place;
 use crate::fact::CellFault;
 use oim_cells::{Accuracy, CellMeaning, decimals};
-use oim_meta::WrittenDecimals;
 
 /// What written decimals give.
 #[derive(Clone, Copy)]
@@ -32,20 +28,6 @@ impl Stated<'_> {
                 Some(accuracy) => Ok(Some(accuracy)),
                 None => Err(CellFault::BadDecimals),
             },
-        }
-    }
-}
-
-impl<'a> Place<'a> {
-    /// What the row gives for written decimals.
-    pub(crate) fn stated(&self, written: Option<&'a WrittenDecimals>) -> Stated<'a>
-        ensures { seen_stated result ≡ stated_by (cell_at self.now) (option_map (λ w. w.now) written.entry) }
-    {
-        match written {
-            Some(WrittenDecimals::Fixed(accuracy)) => Stated::Fixed(*accuracy),
-            Some(WrittenDecimals::RowNumber) => Stated::Read(CellMeaning::Text(self.number)),
-            Some(WrittenDecimals::Named(name)) => Stated::Read(self.referred(name.as_str())),
-            Some(WrittenDecimals::Absent) | None => Stated::Read(CellMeaning::Absent),
         }
     }
 }

@@ -1,4 +1,4 @@
-use Rattle.std.proofs.Common.{◌≡◌, ◌∙◌, ◌++◌, ◌∷◌, [], sym}
+use Rattle.std.proofs.Common.{◌≡◌, ◌∙◌, ◌++◌, ◌∷◌, [], refl, sym}
 use Rattle.std.specs.String.{string_bytes}
 use Rattle.indexmap.proofs.MapLemmas.{OnOk-map}
 use Rattle.oim_meta.specs.Named.{renamed}
@@ -20,15 +20,19 @@ push_group-requires g c =
 pub returns-in-Some : goal.returns-in-Some
 returns-in-Some g c =
     let es = c.self.inside.entries.entries in
+    let given = rw (← c.self.view_is) at c.requires in
+    let there = sym (lookup-renamed string_bytes c.args.group.now es) ∙ sym c.in-Some.ensures.value ∙ c.index_mut.ensures.value in
     OnOk-map c.push.result _ _ (λ pushed.
     let same : c.push.new.self ≡ c.index_mut.result.now ++ (c.args.name.now, c.args.value) ∷ [] = rw c.in_ok-name.ensures.ok at pushed in
     rw (same, ← c.self.view_is)
     (under-found string_bytes c.args.group.now c.args.name.now c.args.value es c.in-Some.i c.index_mut.result.now
-    c.in-Some.ensures.index c.in-Some.ensures.within c.index_mut.ensures.value)) c.push.ensures
+    c.in-Some.ensures.index c.in-Some.ensures.within c.index_mut.ensures.value
+    (lacks-under c.args.group.now c.args.name.now (renamed string_bytes es) c.index_mut.result.now given there))) c.push.ensures
 
 pub returns-in-None : goal.returns-in-None
 returns-in-None g c =
     let es = c.self.inside.entries.entries in
     let none = sym (lookup-renamed string_bytes c.args.group.now es) ∙ none-found _ c.in-None.ensures.found in
     OnOk-map c.push_group.result _ _ (λ pushed.
-    pushed ∙ rw (c.in_ok-name.ensures.ok, ← c.self.view_is) (under-new c.args.group.now c.args.name.now c.args.value (renamed string_bytes es) none)) c.push_group.ensures
+    let made = pushed ∙ rw (c.in_ok-name.ensures.ok, ← c.self.view_is) refl in
+    rw (← c.self.view_is) (under-new c.args.group.now c.args.name.now c.args.value (renamed string_bytes es) c.push_group.new.self none made)) c.push_group.ensures
