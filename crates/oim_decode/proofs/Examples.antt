@@ -31,7 +31,8 @@ ended = refl
 abbrev failed : TableFault
 failed = file_fault 0 kind.Read
 
-left_then : (left_of progress.Reading (Some (ending None)) ≡ Some (ending None)) × (left_of (progress.Failed failed) None ≡ Some (ending (Some failed)))
+left_then : (left_of progress.Reading (Some (record { rows = (a ∷ []) ∷ []; fault = None })) ≡ Some (record { rows = (a ∷ []) ∷ []; fault = None }))
+    × (left_of (progress.Failed failed) None ≡ Some (ending (Some failed)))
 left_then = (refl, refl)
 
 answered : map answered_of (progress.Reading ∷ progress.Ended ∷ progress.Failed failed ∷ []) ≡ None ∷ Some None ∷ Some (Some failed) ∷ []
