@@ -1,8 +1,8 @@
 -- The fact of a cell, from what is kept of its column.
 use Rattle.std.proofs.Common.{◌≡◌, ◌<◌, ℕ, zero, suc, Bool, true, false, ◌||◌, List, [], ◌∷◌, ◌++◌, length, map}
-use Rattle.std.proofs.Common.{codes, Option, Some, None, Ok, Err, refl, sym, ap, ◌∙◌, arith, append_assoc, inl, inr, ◌⊎◌}
+use Rattle.std.proofs.Common.{codes, Option, Some, None, Result, Ok, Err, IfSome, if◌then◌else◌, refl, sym, ap, ◌∙◌, arith, append_assoc, inl, inr, ◌⊎◌}
 use Rattle.std.specs.List.{All, flat_map, list_any}
-use Rattle.std.specs.Option.{option_to_list}
+use Rattle.std.specs.Option.{option_map, option_to_list}
 use Rattle.std.proofs.lemmas.Grind.{flat_map-append}
 use Rattle.oim_cells.specs.Cells.{Meaning, meaning_of}
 use Rattle.oim_cells.specs.Cells as m
@@ -21,7 +21,8 @@ use Rattle.oim_resolve.specs.declared.fact.CellFault.{CellFault}
 use Rattle.oim_resolve.specs.declared.fact.CellFault.TheVariants.{UnknownSpecial, UnknownGroup, NoConcept, Memory}
 use Rattle.oim_rows.specs.Header.{Header}
 use Rattle.oim_rows.specs.RowFacts.{source_of_column, field_or_empty}
-use Rattle.oim_decode.specs.Facts.{start_text, tail_text, groups_wrong}
+use Rattle.oim_decode.specs.Facts.{first_answer, start_text, step_answer, tail_text, groups_wrong}
+use Rattle.oim_decode.specs.declared.row_fault.RowFault.{RowFault}
 use Rattle.oim_decode.specs.Pieces.{pieces}
 use Rattle.oim_decode.specs.Ready.{kind_or, kind_given}
 use Rattle.oim_decode.specs.Rest.{cut, rest_text}
@@ -164,3 +165,46 @@ pub fault_of_fact : (c : Cell) (g : CellFault) → is_absent (fact_meaning c) �
 fault_of_fact c g a e (inl m) = inl m
 fault_of_fact c g a e (inr (inl s)) = inr (second_err c g a e s)
 fault_of_fact c g a e (inr (inr q)) = inr (third_err c g a e q.0 q.1)
+
+-- THE FIRST STEP, which takes no memory
+
+pub first_absent : (c : Cell) → is_absent (fact_meaning c) ≡ true → IfSome (first_answer c) (λ a. ◌≡◌ {A = Result (Option ℕ) CellFault} (Ok None) a)
+first_absent c e = rw e refl
+
+pub first_fault : (c : Cell) (g : CellFault) → is_absent (fact_meaning c) ≡ false → least (cell_and_group_faults c) ≡ Some g
+    → IfSome (first_answer c) (λ a. ◌≡◌ {A = Result (Option ℕ) CellFault} (Err g) a)
+first_fault c g e a = rw (e, a) refl
+
+pub first_of_groups : (c : Cell) (g : CellFault) {o : Option CellFault} → is_absent (fact_meaning c) ≡ false → least (cell_and_group_faults c) ≡ o
+    → IfSome o (λ f. ◌≡◌ {A = Result ℕ CellFault} (Err g) (Err f)) → IfSome (first_answer c) (λ a. ◌≡◌ {A = Result (Option ℕ) CellFault} (Err g) a)
+first_of_groups c g {o = None} e a h = rw (e, a) tt
+first_of_groups c g {o = Some f} e a h = rw (e, a) (ap (λ x. Err x) (cc h))
+
+pub no_first : (c : Cell) (r : Result (Option ℕ) CellFault) → is_absent (fact_meaning c) ≡ false → least (cell_and_group_faults c) ≡ None → IfSome (first_answer c) (λ a. r ≡ a)
+no_first c r e a = rw (e, a) tt
+
+-- what a cell answers early its row answers early
+pub early_step : (t n p : ℕ) (c : Cell) (r : Result (Option ℕ) CellFault) (s : Result (Unit {0}) RowFault) → IfSome (first_answer c) (λ a. r ≡ a) → s ≡ step_answer t n p r
+    → IfSome (first_answer c) (λ a. s ≡ step_answer t n p a)
+early_step t n p c r s early is = by (first_answer c) early
+  where
+    by : (o : Option (Result (Option ℕ) CellFault)) → IfSome o (λ a. r ≡ a) → IfSome o (λ a. s ≡ step_answer t n p a)
+    by None h = tt
+    by (Some a) h = is ∙ ap (step_answer t n p) h
+
+-- and that is never a refusal of memory
+pub no_early_refusal : (t n p : ℕ) (c : Cell) (s : Result (Unit {0}) RowFault) → IfSome (first_answer c) (λ a. ◌≡◌ {A = Result (Option ℕ) CellFault} (Err Memory) a)
+    → IfSome (first_answer c) (λ a. s ≡ step_answer t n p a)
+no_early_refusal t n p c s =
+    by (is_absent (fact_meaning c)) (is_unknown (fact_meaning c) || list_any (λ i. is_unknown (meaning_at c i)) (column c).from) (list_any (names_no_group c) (column c).from)
+  where
+    first : Bool → Bool → Bool → Option (Result (Option ℕ) CellFault)
+    first absent unknown bad = if absent then Some (Ok None) else option_map Err (least (fault_if UnknownSpecial unknown ++ fault_if UnknownGroup bad))
+
+    by : (absent unknown bad : Bool) → IfSome (first absent unknown bad) (λ a. ◌≡◌ {A = Result (Option ℕ) CellFault} (Err Memory) a)
+        → IfSome (first absent unknown bad) (λ a. s ≡ step_answer t n p a)
+    by true unknown bad h = absurd (cc h)
+    by false true true h = absurd (cc h)
+    by false true false h = absurd (cc h)
+    by false false true h = absurd (cc h)
+    by false false false h = tt

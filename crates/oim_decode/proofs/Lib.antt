@@ -7,8 +7,6 @@ pub mod Empty
 pub mod Places
 pub mod Numerals
 pub mod PlainNumerals
-mod Examples
-mod SlotExamples
 pub mod PieceLaws
 pub mod ReadyLaws
 pub mod ReadyRunLaws
@@ -22,5 +20,8 @@ pub mod FactLaws
 pub mod Refreshed
 pub mod StepLaws
 pub mod LoopLaws
-mod RowExamples
-mod RunExamples
+mod Examples
+mod ExamplesFacts
+mod ExamplesRows
+mod ExamplesRuns
+mod ExamplesSlots

@@ -1,6 +1,7 @@
 -- What a reader of a table's blocks answers: the table's facts in order, block after block, and then its end or its first fault.
 use Rattle.std.specs.Prelude.{⊤, ◌≡◌, ◌⊎◌, Bool, true, false, List, [], ◌++◌, ℕ, suc, Option, Some, None, Result, Ok, Err}
 use Rattle.std.specs.List.{flat_map}
+use Rattle.std.specs.Option.{is_some}
 use mathlib.Core.List.{IsPrefix}
 use Rattle.oim_resolve.specs.FactParts.{FactParts as Fact}
 use Rattle.oim_rows.specs.Header.{file_fault}
@@ -58,6 +59,11 @@ abbrev pub AddsRow : ℕ → Stream → List Fact → List Fact → Result Bool 
 AddsRow table s before after (Ok true) left = (facts : List Fact) × (after ≡ before ++ facts) × GivesNext table s (Ok (Some facts)) left
 AddsRow table s before after (Ok false) left = (after ≡ before) × GivesNext table s (Ok None) left
 AddsRow table s before after (Err e) left = (after ≡ before) × GivesNext table s (Err e) left
+
+-- an answer for a row, without its facts: whether there is one, or the fault
+abbrev pub has_row : Result (Option (List Fact)) TableFault → Result Bool TableFault
+has_row (Ok facts) = Ok (is_some facts)
+has_row (Err e) = Err e
 
 -- these rows of a stream were read, and another is left: the rest of it, or only a fault where the reader failed or memory was refused
 abbrev pub ReadsRows : ℕ → Stream → List (List Fact) → Option Stream → Type 0

@@ -8,13 +8,14 @@ use Rattle.oim_meta.specs.Grid.{Record}
 use Rattle.oim_meta.specs.Readers.{column_of, columns_of, table_of}
 use Rattle.oim_meta.specs.ReportValue.{ReportValue}
 use Rattle.oim_resolve.specs.Cell.{Cell}
-use Rattle.oim_resolve.specs.Facts.{cell_result, concept_faults, concept_kind, fact_of, rest_faults}
+use Rattle.oim_resolve.specs.Facts.{cell_and_group_faults, cell_result, concept_faults, concept_kind, fact_meaning, fact_of, is_absent, rest_faults}
 use Rattle.oim_resolve.specs.Faults.{fault_if, least}
 use Rattle.oim_resolve.specs.declared.fact.CellFault.{CellFault}
 use Rattle.oim_resolve.specs.declared.fact.CellFault.TheVariants.{UnknownSpecial, UnknownGroup, Memory}
-use Rattle.oim_rows.specs.Header.{Header}
+use Rattle.oim_rows.specs.Header.{Header, fault_at}
 use Rattle.oim_rows.specs.RowFacts.{source_of_column, facts_from, is_fact_column}
 use Rattle.oim_rows.specs.declared.fault.TableFault.{TableFault}
+use Rattle.oim_rows.specs.declared.fault.TableKind.TheVariants as kind
 use Rattle.oim_resolve.specs.FactParts.{FactParts as Fact}
 use Rattle.oim_decode.specs.declared.row_fault.RowFault.{RowFault}
 use Rattle.oim_decode.specs.declared.row_fault.RowFault.TheVariants as row_fault
@@ -42,6 +43,10 @@ pub record IsFactColumn (r : ReportValue) (t : ℕ) (h : Header) (c : FactColumn
 -- the fault of the cells of groups
 abbrev pub groups_wrong : ReportValue → ℕ → Record → List (ℕ × Option ℕ) → Option CellFault
 groups_wrong r t row gs = least (fault_if UnknownSpecial (list_any (is_unknown_in row) gs) ++ fault_if UnknownGroup (list_any (names_none_in r t row) gs))
+
+-- the answer that the first step of a cell has, if any: no fact where it says nothing, else the least fault of it and of its cells of groups
+abbrev pub first_answer : Cell → Option (Result (Option ℕ) CellFault)
+first_answer c = if is_absent (fact_meaning c) then Some (Ok None) else option_map Err (least (cell_and_group_faults c))
 
 -- a cell has no fault in its last two steps, and its text was appended behind a comma; or a fault, but for memory
 abbrev pub GivesFact : Cell → List ℕ → List ℕ → Result (Unit {0}) CellFault → Type 0
@@ -101,6 +106,11 @@ pub record GivesStep (answer : Result (Option Fact) TableFault) (old new : List 
   pub fact : Option Fact
   pub is : answer ≡ Ok fact
   pub text : new ≡ old ++ fact_text fact
+
+-- the answer of a cell under place p of the header, from 1
+abbrev pub step_answer : ℕ → ℕ → ℕ → Result (Option ℕ) CellFault → Result (Unit {0}) RowFault
+step_answer t n p (Ok o) = Ok tt
+step_answer t n p (Err f) = Err (row_fault.Cell (fault_at t n p (kind.Cell f)))
 
 -- the fault of a header cell, but for memory
 abbrev pub IsStepFault : Result (Option Fact) TableFault → RowFault → Type 0

@@ -32,6 +32,11 @@ abbrev pub facts_in : Result (List Fact) TableFault → List Fact
 facts_in (Ok facts) = facts
 facts_in (Err e) = []
 
+-- why a row gives no facts, as a fault of its table
+abbrev pub table_fault : ℕ → RowFault → TableFault
+table_fault table (refusal.Cell e) = e
+table_fault table refusal.Memory = file_fault table kind.Memory
+
 -- facts were written: they are the answer. A fault is the answer, unless memory was refused
 abbrev pub IsAnswer : Result (List Fact) TableFault → Result (Unit {0}) RowFault → Type 0
 IsAnswer answer (Ok u) = answer ≡ Ok (facts_in answer)

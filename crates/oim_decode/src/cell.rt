@@ -1,6 +1,6 @@
 //! The text of the fact of one cell.
 
-ghost use Rattle.std.specs.Prelude.{◌≡◌, ◌<◌, ◌⊎◌, ℕ, List, Some, None, true, false, codes, length, IfErr, IfOk, OnOk};
+ghost use Rattle.std.specs.Prelude.{◌≡◌, ◌<◌, ◌⊎◌, ℕ, List, Some, None, true, false, codes, length, IfErr, IfOk, IfSome, OnOk, Err};
 ghost use Rattle.std.specs.List.{All, list_any};
 ghost use mathlib.Core.List.{IsPrefix};
 ghost use Rattle.csv.specs.Records.{fields_of};
@@ -12,7 +12,7 @@ ghost use Rattle.oim_resolve.specs.Facts.{is_absent as says_nothing};
 ghost use Rattle.oim_resolve.specs.Facts.{is_unknown as has_no_meaning};
 ghost use Rattle.std.specs.Prelude.{slice_index_or};
 ghost use Rattle.oim_decode.specs.declared.variant.Variant.{Variant};
-ghost use Rattle.oim_decode.specs.Facts.{GivesCell, GivesFact, IsFactColumn, groups_wrong, start_text};
+ghost use Rattle.oim_decode.specs.Facts.{GivesCell, GivesFact, IsFactColumn, first_answer, groups_wrong, start_text};
 ghost use Rattle.oim_decode.specs.ReadyTable.{IsFresh, IsFreshDecimals};
 ghost use Rattle.oim_decode.specs.Ready.{kind_given};
 ghost use Rattle.oim_decode.specs.Rows.{cell_under, is_unknown_in, names_none_in};
@@ -85,7 +85,8 @@ fn concept_in<'a>(
     requires row { IsOfRow (at.now).report.now (at.now).table (at.now).header.now (fields_of (at.now).record.now) column variant.now }
     requires from { All (λ i. i < length (columns_of (at.now).report.now (at.now).table)) (column_of (at.now).report.now (at.now).table column).from }
     requires fresh { All (IsFresh (at.now).report.now (at.now).number (fields_of (at.now).record.now)) slots.now }
-    ensures { result ≡ kind_given (at.now).report.now (given (cell_under (at.now).report.now (at.now).table (at.now).header.now (at.now).number (fields_of (at.now).record.now) column) (codes "concept")) }
+    ensures { result ≡ kind_given (at.now).report.now
+        (given (cell_under (at.now).report.now (at.now).table (at.now).header.now (at.now).number (fields_of (at.now).record.now) column) (codes "concept")) }
 {
     match &variant.concept {
         Some(entry) => entry.concept(slots),
@@ -178,6 +179,7 @@ fn choose_in<'a>(
     requires kept { IsKept (at.now).report.now (at.now).table (at.now).header.now (at.now).number (fields_of (at.now).record.now) kept.old }
     ensures good { IfOk result (λ _. groups_wrong (at.now).report.now (at.now).table (fields_of (at.now).record.now) (column.now).groups.items ≡ None) }
     ensures fault { IfErr result (λ f. (f ≡ Memory) ⊎ (groups_wrong (at.now).report.now (at.now).table (fields_of (at.now).record.now) (column.now).groups.items ≡ Some f)) }
+    ensures early { IfSome (groups_wrong (at.now).report.now (at.now).table (fields_of (at.now).record.now) (column.now).groups.items) (λ f. result ≡ Err f) }
     ensures range { IfOk result (λ i. i < length kept.new.variants.items) }
     ensures variant { IfOk result (λ i. (v : Variant) → v ≡ slice_index_or kept.new.variants.items i v
         → IsOfRow (at.now).report.now (at.now).table (at.now).header.now (fields_of (at.now).record.now) (column.now).column v) }
@@ -211,7 +213,10 @@ pub(crate) fn put_cell<'a>(
     requires column { IsFactColumn (at.now).report.now (at.now).table (at.now).header.now column.now }
     requires start { start.now ≡ start_text (cell_under (at.now).report.now (at.now).table (at.now).header.now (at.now).number (fields_of (at.now).record.now) (column.now).column) }
     requires kept { IsKept (at.now).report.now (at.now).table (at.now).header.now (at.now).number (fields_of (at.now).record.now) kept.old }
-    ensures cell { GivesCell (cell_under (at.now).report.now (at.now).table (at.now).header.now (at.now).number (fields_of (at.now).record.now) (column.now).column) out.old.items out.new.items result }
+    ensures cell { GivesCell (cell_under (at.now).report.now (at.now).table (at.now).header.now (at.now).number (fields_of (at.now).record.now) (column.now).column)
+        out.old.items out.new.items result }
+    ensures early { IfSome (first_answer (cell_under (at.now).report.now (at.now).table (at.now).header.now (at.now).number (fields_of (at.now).record.now) (column.now).column))
+        (λ answer. result ≡ answer) }
     ensures kept { OnOk result (IsKept (at.now).report.now (at.now).table (at.now).header.now (at.now).number (fields_of (at.now).record.now) kept.new) }
     ensures front { IsPrefix out.old.items out.new.items }
 {

@@ -37,9 +37,9 @@ fn fault_in_row(table: usize, row: u32, place: usize, fault: CellFault) -> Table
     }
 }
 
-ghost use Rattle.std.specs.Prelude.{Ok, IfOk, Option};
+ghost use Rattle.std.specs.Prelude.{Ok, IfOk, IfSome, Option};
 ghost use Rattle.oim_rows.specs.RowFacts.{fact_at};
-ghost use Rattle.oim_decode.specs.Facts.{GivesStep, IsStepFault, fact_column};
+ghost use Rattle.oim_decode.specs.Facts.{GivesStep, IsStepFault, fact_column, first_answer, step_answer};
 ghost use Rattle.oim_decode.specs.Rows.{row_under};
 ghost use Rattle.std.specs.Option.{option_map};
 
@@ -73,9 +73,13 @@ fn put_step<'a>(
     requires start { start.now ≡ start_text (cell_under (at.now).report.now (at.now).table (at.now).header.now (at.now).number (fields_of (at.now).record.now) 0) }
     requires kept { IsKept (at.now).report.now (at.now).table (at.now).header.now (at.now).number (fields_of (at.now).record.now) kept.old }
     ensures step { (o : Option ℕ) → fact_column (at.now).report.now (at.now).table o ≡ Some (column.now).column
-        → IfOk result (λ _. GivesStep (fact_at (at.now).report.now (at.now).table (row_under (at.now).report.now (at.now).table (at.now).header.now (at.now).number (fields_of (at.now).record.now)) place o) out.old.items out.new.items) }
+        → IfOk result (λ _. GivesStep (fact_at (at.now).report.now (at.now).table
+        (row_under (at.now).report.now (at.now).table (at.now).header.now (at.now).number (fields_of (at.now).record.now)) place o) out.old.items out.new.items) }
     ensures fault { (o : Option ℕ) → fact_column (at.now).report.now (at.now).table o ≡ Some (column.now).column
-        → IfErr result (IsStepFault (fact_at (at.now).report.now (at.now).table (row_under (at.now).report.now (at.now).table (at.now).header.now (at.now).number (fields_of (at.now).record.now)) place o)) }
+        → IfErr result (IsStepFault (fact_at (at.now).report.now (at.now).table
+        (row_under (at.now).report.now (at.now).table (at.now).header.now (at.now).number (fields_of (at.now).record.now)) place o)) }
+    ensures early { IfSome (first_answer (cell_under (at.now).report.now (at.now).table (at.now).header.now (at.now).number (fields_of (at.now).record.now) (column.now).column))
+        (λ answer. result ≡ step_answer (at.now).table (at.now).number (place + 1) answer) }
     ensures kept { OnOk result (IsKept (at.now).report.now (at.now).table (at.now).header.now (at.now).number (fields_of (at.now).record.now) kept.new) }
     ensures front { IsPrefix out.old.items out.new.items }
 {
@@ -110,9 +114,11 @@ fn put_at<'a>(
     requires place { place < length columns.now }
     requires start { start.now ≡ start_text (cell_under (at.now).report.now (at.now).table (at.now).header.now (at.now).number (fields_of (at.now).record.now) 0) }
     requires kept { IsKept (at.now).report.now (at.now).table (at.now).header.now (at.now).number (fields_of (at.now).record.now) kept.old }
-    ensures step { IfOk result (λ _. GivesStep (fact_at (at.now).report.now (at.now).table (row_under (at.now).report.now (at.now).table (at.now).header.now (at.now).number (fields_of (at.now).record.now)) place
+    ensures step { IfOk result (λ _. GivesStep (fact_at (at.now).report.now (at.now).table
+        (row_under (at.now).report.now (at.now).table (at.now).header.now (at.now).number (fields_of (at.now).record.now)) place
         (slice_index_or (at.now).header.now place None)) out.old.items out.new.items) }
-    ensures fault { IfErr result (IsStepFault (fact_at (at.now).report.now (at.now).table (row_under (at.now).report.now (at.now).table (at.now).header.now (at.now).number (fields_of (at.now).record.now)) place
+    ensures fault { IfErr result (IsStepFault (fact_at (at.now).report.now (at.now).table
+        (row_under (at.now).report.now (at.now).table (at.now).header.now (at.now).number (fields_of (at.now).record.now)) place
         (slice_index_or (at.now).header.now place None))) }
     ensures kept { OnOk result (IsKept (at.now).report.now (at.now).table (at.now).header.now (at.now).number (fields_of (at.now).record.now) kept.new) }
     ensures front { IsPrefix out.old.items out.new.items }
@@ -153,7 +159,8 @@ pub(crate) fn put_cells<'a>(
     requires columns { AreFactColumns (at.now).report.now (at.now).table (at.now).header.now columns.now }
     requires start { start.now ≡ start_text (cell_under (at.now).report.now (at.now).table (at.now).header.now (at.now).number (fields_of (at.now).record.now) 0) }
     requires kept { IsKept (at.now).report.now (at.now).table (at.now).header.now (at.now).number (fields_of (at.now).record.now) kept.old }
-    ensures facts { IfOk result (λ _. GivesFacts (at.now).report.now (at.now).table (at.now).header.now (at.now).number (fields_of (at.now).record.now) out.old.items out.new.items ends.old.items ends.new.items) }
+    ensures facts { IfOk result (λ _. GivesFacts (at.now).report.now (at.now).table (at.now).header.now (at.now).number (fields_of (at.now).record.now)
+        out.old.items out.new.items ends.old.items ends.new.items) }
     ensures front { IsPrefix out.old.items out.new.items × IsPrefix ends.old.items ends.new.items }
     ensures fault { IfErr result (IsRowFault (at.now).report.now (at.now).table (at.now).header.now (at.now).number (fields_of (at.now).record.now)) }
     ensures kept { OnOk result (IsKept (at.now).report.now (at.now).table (at.now).header.now (at.now).number (fields_of (at.now).record.now) kept.new) }

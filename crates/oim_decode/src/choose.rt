@@ -129,7 +129,8 @@ fn scan(
     at: &RowAt<'_>,
 ) -> Option<usize>
     requires { groups.now ≡ group_places (at.now).report.now (at.now).table (at.now).header.now column }
-    ensures { (i : ℕ) → result ≡ Some i → (v : Variant) × (slice_get variants.now i ≡ Some v) × IsOfRow (at.now).report.now (at.now).table (at.now).header.now (fields_of (at.now).record.now) column v }
+    ensures { (i : ℕ) → result ≡ Some i
+        → (v : Variant) × (slice_get variants.now i ≡ Some v) × IsOfRow (at.now).report.now (at.now).table (at.now).header.now (fields_of (at.now).record.now) column v }
 {
     for i in 0..variants.len() {
         if is_of_row(&variants[i], column, groups, at) {
@@ -149,7 +150,8 @@ pub(crate) fn find_variant(
     guess: usize,
 ) -> Option<usize>
     requires { groups.now ≡ group_places (at.now).report.now (at.now).table (at.now).header.now column }
-    ensures { (i : ℕ) → result ≡ Some i → (v : Variant) × (slice_get variants.now i ≡ Some v) × IsOfRow (at.now).report.now (at.now).table (at.now).header.now (fields_of (at.now).record.now) column v }
+    ensures { (i : ℕ) → result ≡ Some i
+        → (v : Variant) × (slice_get variants.now i ≡ Some v) × IsOfRow (at.now).report.now (at.now).table (at.now).header.now (fields_of (at.now).record.now) column v }
 {
     if guess < variants.len() && is_of_row(&variants[guess], column, groups, at) {
         return Some(guess);

@@ -1,6 +1,6 @@
 //! A row of a table, as its cells are read.
 
-ghost use Rattle.std.specs.Prelude.{◌≡◌, ◌<◌, length, false, Some};
+ghost use Rattle.std.specs.Prelude.{◌≡◌, ◌<◌, length, false};
 ghost use Rattle.std.specs.List.{list_any};
 ghost use Rattle.csv.specs.Records.{fields_of};
 ghost use Rattle.oim_meta.specs.Readers.{columns_of};
@@ -31,13 +31,7 @@ impl<'r> RowAt<'r> {
         ensures { result.now ≡ field_or_empty (fields_of (self.now).record.now) place }
     {
         let record = self.record;
-        match place {
-            Some(i) => match record.get(i) {
-                Some(text) => text,
-                None => "",
-            },
-            None => "",
-        }
+        record.text_at(place)
     }
 
     /// Whether the cell at a place has no meaning.

@@ -8,9 +8,8 @@ ghost use Rattle.oim_rows.specs.RowFacts.{IsNewId, ids_after, row_id_place, row_
 
 use crate::sources::place_in;
 use crate::text_record::TextRecord;
-use itoa::Buffer;
 use oim_meta::Report;
-use oim_rows::RowIds;
+use oim_rows::{RowIds, push_row_number};
 use std::alloc::{AllocError, Global};
 
 /// The place in a header of a table's row identifier, where its template has a column for it.
@@ -22,30 +21,6 @@ pub(crate) fn id_place(report: &Report, table: usize, header: &[Option<usize>]) 
         Some(column) => place_in(header, column),
         None => None,
     }
-}
-
-ghost use Rattle.std.specs.Prelude.{[], unwrap_or};
-ghost use Rattle.csv.specs.Records.{field_at};
-
-/// The text of a cell, or the empty text where there is none.
-fn text_or_empty(row: &TextRecord, place: usize) -> &str
-    ensures { result.now ≡ unwrap_or (field_at (fields_of row.now) place) [] }
-{
-    match row.get(place) {
-        Some(cell) => cell,
-        None => "",
-    }
-}
-
-ghost use Rattle.std.specs.Prelude.{◌++◌, codes, decimal, Some};
-
-/// Appends the identifier of a row of a table that has no column for it: `r_` and the row's number.
-fn push_number(id: &mut String, number: u32) -> Result<(), AllocError>
-    ensures { OnOk result (string_bytes id.new ≡ string_bytes id.old ++ (codes "r_" ++ decimal number)) }
-{
-    let mut buffer = Buffer::new();
-    id.push_str("r_")?;
-    id.push_str(buffer.format(number))
 }
 
 /// Puts the identifier of row `number` in place of what `id` holds. `place` is where the header has it.
@@ -60,8 +35,8 @@ pub(crate) fn read_id(
 {
     id.clear();
     match place {
-        Some(place) => id.push_str(text_or_empty(row, place)),
-        None => push_number(id, number),
+        Some(place) => id.push_str(row.text_at(Some(place))),
+        None => push_row_number(id, number),
     }
 }
 
@@ -77,7 +52,7 @@ pub(crate) fn keep_id(
     ensures { OnOk result (ids.new ≡ ids_after place ids.old (fields_of row.now)) }
 {
     if let Some(place) = place {
-        ids.push(alloc, text_or_empty(row, place))?;
+        ids.push(alloc, row.text_at(Some(place)))?;
     }
     Ok(())
 }

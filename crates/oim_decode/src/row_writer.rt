@@ -163,7 +163,8 @@ fn write_row<'a>(
     requires columns { AreFactColumns (at.now).report.now (at.now).table (at.now).header.now columns.now }
     requires start { start.now ≡ start_text (cell_under (at.now).report.now (at.now).table (at.now).header.now (at.now).number (fields_of (at.now).record.now) 0) }
     requires ready { IsReady (at.now).report.now (at.now).table (at.now).header.now ready.old }
-    ensures facts { IfOk result (λ _. GivesFacts (at.now).report.now (at.now).table (at.now).header.now (at.now).number (fields_of (at.now).record.now) out.old.items out.new.items ends.old.items ends.new.items) }
+    ensures facts { IfOk result (λ _. GivesFacts (at.now).report.now (at.now).table (at.now).header.now (at.now).number (fields_of (at.now).record.now)
+        out.old.items out.new.items ends.old.items ends.new.items) }
     ensures front { IsPrefix out.old.items out.new.items × IsPrefix ends.old.items ends.new.items }
     ensures fault { IfErr result (IsRowFault (at.now).report.now (at.now).table (at.now).header.now (at.now).number (fields_of (at.now).record.now)) }
     ensures ready { OnOk result (IsReady (at.now).report.now (at.now).table (at.now).header.now ready.new) }

@@ -1,10 +1,9 @@
 //! What a reference names whose meaning each row of a table gives.
 
-ghost use Rattle.std.specs.Prelude.{◌≡◌, Some, decimal, true};
+ghost use Rattle.std.specs.Prelude.{◌≡◌, decimal, true};
 ghost use Rattle.std.specs.Option.{option_map};
 ghost use Rattle.csv.specs.Records.{fields_of};
 ghost use Rattle.oim_cells.specs.Cells.{meaning_of};
-ghost use Rattle.oim_rows.specs.RowFacts.{field_or_empty};
 ghost use Rattle.oim_decode.specs.Answers.{seen_source};
 ghost use Rattle.oim_decode.specs.Slots.{source_meaning};
 
@@ -56,7 +55,7 @@ impl<'a> SourceOf<'a> {
         match self {
             SourceOf::RowNumber => digits,
             SourceOf::Named(place, parameter) => {
-                let cell = cell_in(place, row);
+                let cell = row.text_at(Some(place));
                 if !cell.is_empty() {
                     return cell;
                 }
@@ -66,16 +65,5 @@ impl<'a> SourceOf<'a> {
                 }
             }
         }
-    }
-}
-
-/// The text of a row's cell, empty where the row has no such place.
-#[inline(always)]
-fn cell_in(place: usize, row: &TextRecord) -> &str
-    ensures { result.now ≡ field_or_empty (fields_of row.now) (Some place) }
-{
-    match row.get(place) {
-        Some(text) => text,
-        None => "",
     }
 }

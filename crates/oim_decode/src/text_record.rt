@@ -3,7 +3,7 @@
 ghost use Rattle.std.specs.Prelude.{◌≡◌};
 ghost use Rattle.std.specs.Option.{option_map};
 ghost use Rattle.csv.specs.Records.{field_at, fields_of};
-ghost use Rattle.oim_rows.specs.RowFacts.{IsTextRecord};
+ghost use Rattle.oim_rows.specs.RowFacts.{IsTextRecord, field_or_empty};
 
 use csv::ByteRecord;
 use std::marker::Model;
@@ -35,9 +35,23 @@ impl TextRecord {
         TextRecord { fields }
     }
 
+    /// The text at a place, or the empty text where there is none.
+    #[inline(always)]
+    pub(crate) fn text_at(&self, place: Option<usize>) -> &str
+        ensures { result.now ≡ field_or_empty (fields_of self.now) place }
+    {
+        match place {
+            Some(i) => match self.get(i) {
+                Some(text) => text,
+                None => "",
+            },
+            None => "",
+        }
+    }
+
     /// The field at a place.
     #[inline(always)]
-    pub(crate) fn get(&self, i: usize) -> Option<&str>
+    fn get(&self, i: usize) -> Option<&str>
         ensures { option_map (λ s. s.now) result ≡ field_at (fields_of self.now) i }
     {
         let field = self.fields.get(i)?;

@@ -1,13 +1,13 @@
 //! The rows of one table that are not read yet.
 
-ghost use Rattle.std.specs.Prelude.{◌≡◌, ◌⊎◌, ◌≤◌, ◌<◌, ◌+◌, [], IfErr, IfOk, IfSome, None, OnOk, Some, length, true};
+ghost use Rattle.std.specs.Prelude.{◌≡◌, ◌⊎◌, ◌≤◌, ◌<◌, ◌+◌, [], IfErr, IfOk, IfSome, None, OnOk, Some, length, option_map, true};
 ghost use Rattle.csv.specs.Records.{fields_of};
 ghost use Rattle.oim_meta.specs.Grid.{grid};
 ghost use Rattle.oim_rows.specs.Header.{file_header_fault};
 ghost use Rattle.oim_rows.specs.RowFacts.{IsTextRecord, id_place_of, ids_after, row_fault, row_result};
-ghost use Rattle.oim_rows.specs.Streams.{IsOutside, stream_of};
-ghost use Rattle.oim_decode.specs.Blocks.{AddsRow};
-ghost use Rattle.oim_decode.specs.RowTexts.{AddsFacts, writing_of};
+ghost use Rattle.oim_rows.specs.Streams.{IsOutside, early_row_answer, stream_of};
+ghost use Rattle.oim_decode.specs.Blocks.{AddsRow, has_row};
+ghost use Rattle.oim_decode.specs.RowTexts.{AddsFacts, table_fault as table_fault_of, writing_of};
 
 use crate::batch::Batch;
 use crate::row_fault::RowFault;
@@ -15,7 +15,7 @@ use crate::row_id::{id_place, keep_id, read_id};
 use crate::row_writer::RowWriter;
 use crate::text_record::TextRecord;
 use csv::ByteRecord;
-use oim_meta::{Records, Report};
+use oim_meta::{ReadFault, Records, Report};
 use oim_rows::{RowForm, RowIds, TableFault, TableKind, fault_of_read, whole_fault};
 use std::alloc::Global;
 use std::io::Read;
@@ -118,14 +118,10 @@ impl<R: Read> TextRows<'_, R> {
         ensures reading { self.new.reading ≡ self.old.reading }
         ensures counts { IfOk result (λ more. more ≡ true → (self.new.given ≡ self.old.given + 1) × (self.new.given ≤ self.new.reading.limit)) }
     {
-        match self.records.read(&mut self.row) {
-            Ok(true) => {}
-            Ok(false) => return Ok(false),
-            Err(fault) => return Err(fault_of_read(self.form.table(), fault)),
-        }
+        let found = self.records.read(&mut self.row);
         let number = self.given + 1;
-        if let Some(fault) = self.form.fault_of_row(number, &self.ids, &self.row) {
-            return Err(fault);
+        if let Some(answer) = early_answer(&self.form, number, &self.ids, found, &self.row) {
+            return answer;
         }
         let row = TextRecord::new(mem::replace(&mut self.row, ByteRecord::new(self.alloc)));
         let added = add_row(
@@ -147,6 +143,27 @@ impl<R: Read> TextRows<'_, R> {
             }
             Err(fault) => Err(fault),
         }
+    }
+}
+
+/// What the reader's answer for row `number` gives without memory: the reader's own fault, the end, or a
+/// fault of the row itself. None where the row's cells are to be read.
+fn early_answer(
+    form: &RowForm<'_>,
+    number: u32,
+    ids: &RowIds,
+    found: Result<bool, ReadFault>,
+    row: &ByteRecord,
+) -> Option<Result<bool, TableFault>>
+    ensures { result ≡ option_map has_row (early_row_answer form.now number ids.now found (fields_of row.now)) }
+{
+    match found {
+        Ok(true) => {
+            let fault = form.fault_of_row(number, ids, row)?;
+            Some(Err(fault))
+        }
+        Ok(false) => Some(Ok(false)),
+        Err(fault) => Some(Err(fault_of_read(form.table(), fault))),
     }
 }
 
@@ -174,7 +191,16 @@ fn add_row(
     }
     match batch.push_row(alloc, writer, number, id.as_str(), row) {
         Ok(()) => Ok(()),
-        Err(RowFault::Cell(fault)) => Err(fault),
-        Err(RowFault::Memory) => Err(whole_fault(form.table(), TableKind::Memory)),
+        Err(fault) => Err(table_fault(form.table(), fault)),
+    }
+}
+
+/// Why a row gives no facts, as a fault of its table.
+fn table_fault(table: usize, fault: RowFault) -> TableFault
+    ensures { result ≡ table_fault_of table fault }
+{
+    match fault {
+        RowFault::Cell(fault) => fault,
+        RowFault::Memory => whole_fault(table, TableKind::Memory),
     }
 }

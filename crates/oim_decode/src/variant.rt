@@ -88,10 +88,12 @@ impl<'a> Variant<'a> {
         requires runs { AreKindRuns (self.now).entries.items (self.now).runs }
         requires decimals { (i : ℕ) → (self.now).decimals.slot ≡ Some i → i < length decimals.now }
         ensures fault { IfOk result (λ f. f ≡ least_of
-            (least_of (shown_fault slots.now kind (self.now).entries.items) (decimals_wrong kind (seen_meaning value.entry) (accuracy_in (value_given report.now kind (seen_meaning value.entry))) (shown_stated decimals.now (self.now).decimals)))
+            (least_of (shown_fault slots.now kind (self.now).entries.items)
+            (decimals_wrong kind (seen_meaning value.entry) (accuracy_in (value_given report.now kind (seen_meaning value.entry))) (shown_stated decimals.now (self.now).decimals)))
             (value_wrong report.now kind (seen_meaning value.entry))) }
         ensures text { IfOk result (λ f. f ≡ None → out.new.items ≡ out.old.items
-            ++ ((self.now).decimals.lead ++ rest_text (decimals_given kind (seen_meaning value.entry) (accuracy_in (value_given report.now kind (seen_meaning value.entry))) (shown_stated decimals.now (self.now).decimals))
+            ++ ((self.now).decimals.lead
+            ++ rest_text (decimals_given kind (seen_meaning value.entry) (accuracy_in (value_given report.now kind (seen_meaning value.entry))) (shown_stated decimals.now (self.now).decimals))
             (cut (shown_pieces slots.now kind (self.now).entries.items))
             (text_in (value_given report.now kind (seen_meaning value.entry))))) }
         ensures front { IsPrefix out.old.items out.new.items }

@@ -216,7 +216,8 @@ two = record (report false) {
 
 facts_of_two_files : map (λ (f : Fact). f.id) (facts_of_tables two 9 0 (Some (codes "cash,k\nx,a") ∷ Some (codes "k,cash\na,y\nb,z\n") ∷ []))
     ≡ codes "t1.a.cash" ∷ codes "t2.a.cash" ∷ codes "t2.b.cash" ∷ []
-unfolding stream_from cell_result rest_faults fact_of meaning_of chars is_row_identifier is_plain_char is_ncname is_name_char is_name_start qname_of field_at is_utf8 lib.Utf8.encode records_left records_from strip_bom next_record
+unfolding stream_from cell_result rest_faults fact_of meaning_of chars is_row_identifier is_plain_char is_ncname is_name_char is_name_start qname_of field_at is_utf8 lib.Utf8.encode
+    records_left records_from strip_bom next_record
 facts_of_two_files = refl
 
 -- ANSWERS: after a row comes what is left; after the end or a fault the same comes again

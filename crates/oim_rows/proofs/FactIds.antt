@@ -1,6 +1,7 @@
 -- The identifiers of a report's facts differ.
 use Rattle.std.proofs.Common.{◌≡◌, ◌++◌, ◌∷◌, [], ◌==◌, ◌<◌, ◌≤◌, ◌+◌, ◌^◌, ◌⊎◌, ℕ, List, Option, Some, None, Bool, true, false, not, Result, Ok, Err}
-use Rattle.std.proofs.Common.{map, codes, decimal, refl, sym, inl, inr, slice_get, slice_index_or, arith, length, bytes_eq, unwrap_or, option_map, nat_lt, le_refl, ◌∙◌, ◌≢◌, if◌then◌else◌, zero, suc, Less, nat_cmp}
+use Rattle.std.proofs.Common.{map, codes, decimal, refl, sym, inl, inr, slice_get, slice_index_or, arith, length, bytes_eq, unwrap_or}
+use Rattle.std.proofs.Common.{option_map, nat_lt, le_refl, ◌∙◌, ◌≢◌, if◌then◌else◌, zero, suc, Less, nat_cmp}
 use Rattle.std.proofs.lemmas.List.{append_cancel_left, map-append}
 use Rattle.std.proofs.lemmas.Bool.{eq-eqb, ltb-false}
 use Rattle.std.proofs.lemmas.Bool.Decides.{eqb_tells}

@@ -41,7 +41,7 @@ gives_fault n g ids (Some []) new r x after h o = cc h.0
 gives_fault n g ids (Some (y ∷ rs)) new r x after h (inl o) = inl (inr (cc o))
 gives_fault n g ids (Some (y ∷ rs)) new r x after h (inr o) = inr (rw (← h.1, ← o) refl)
 
-outside : (table : ℕ) (f : ReadFault) → IsOutside table (fault_of_read table f)
+pub outside : (table : ℕ) (f : ReadFault) → IsOutside table (fault_of_read table f)
 outside table read.Read = inl refl
 outside table read.Memory = inr refl
 

@@ -1,6 +1,7 @@
 -- The facts of one row of a table, or its first fault.
 -- xBRL-CSV 1.0, table files: a row has a cell for each column of the header; the row identifier is the text of the template's column for it.
-use Rattle.std.specs.Prelude.{⊤, ◌≡◌, List, [], ◌∷◌, ◌++◌, ℕ, ◌+◌, Bool, true, false, not, ◌==◌, nat_lt, if◌then◌else◌, Option, Some, None, option_map, map, length, Result, Ok, Err, codes, decimal, unwrap_or, slice_get}
+use Rattle.std.specs.Prelude.{⊤, ◌≡◌, List, [], ◌∷◌, ◌++◌, ℕ, ◌+◌, Bool, true, false, not, ◌==◌, nat_lt, if◌then◌else◌}
+use Rattle.std.specs.Prelude.{Option, Some, None, option_map, map, length, Result, Ok, Err, codes, decimal, unwrap_or, slice_get}
 use Rattle.std.specs.List.{enumerate_from, list_any, position_from, range_with_len}
 use Rattle.std.specs.Option.{option_map_or}
 use Rattle.std.specs.Str.{bytes_eq, is_utf8}

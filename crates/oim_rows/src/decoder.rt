@@ -5,12 +5,13 @@ ghost use Rattle.std.specs.List.{range_with_len};
 ghost use Rattle.std.specs.String.{string_bytes};
 ghost use Rattle.csv.specs.Records.{fields_of};
 ghost use Rattle.oim_meta.specs.Readers.{columns_of};
-ghost use Rattle.oim_rows.specs.RowFacts.{IsNewId, IsTextRecord, fact_at, facts_from, field_or_empty, holds_facts, id_place_of, ids_after, is_fact_column, row_fault, row_id_text, row_of, row_result, source_of_column};
+ghost use Rattle.oim_rows.specs.RowFacts.{IsNewId, IsTextRecord, fact_at, facts_from, field_or_empty, holds_facts};
+ghost use Rattle.oim_rows.specs.RowFacts.{id_place_of, ids_after, is_fact_column, row_fault, row_id_text, row_of, row_result, source_of_column};
 ghost use Rattle.oim_rows.specs.Streams.{OrNoMemory};
 
 use crate::cells::text_at;
 use crate::fault::{TableFault, TableKind, fault_at_place, whole_fault};
-use crate::form::{RowForm, push_number};
+use crate::form::{RowForm, push_row_number};
 use crate::header::source_of;
 use crate::ids::RowIds;
 use csv::ByteRecord;
@@ -99,7 +100,7 @@ impl Decoder<'_> {
             Some(place) => String::from_str(alloc, text_at(row, Some(place))),
             None => {
                 let mut id = String::new(alloc);
-                push_number(&mut id, number)?;
+                push_row_number(&mut id, number)?;
                 Ok(id)
             }
         }

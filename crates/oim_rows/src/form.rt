@@ -140,7 +140,8 @@ impl<'a> RowForm<'a> {
 ghost use Rattle.std.specs.Prelude.{◌++◌, codes, decimal, Some};
 
 /// Appends the identifier of a row of a table that has no column for it: `r_` and the row's number.
-pub(crate) fn push_number(id: &mut String, number: u32) -> Result<(), AllocError>
+/// Fails where memory is short.
+pub fn push_row_number(id: &mut String, number: u32) -> Result<(), AllocError>
     ensures { OnOk result (string_bytes id.new ≡ string_bytes id.old ++ (codes "r_" ++ decimal number)) }
 {
     let mut buffer = Buffer::new();

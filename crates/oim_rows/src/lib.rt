@@ -21,7 +21,7 @@ mod row_id;
 mod rows;
 
 pub use fault::{TableFault, TableKind, fault_of_read, whole_fault};
-pub use form::RowForm;
+pub use form::{RowForm, push_row_number};
 pub use ids::RowIds;
 pub use laws::{fact_identifiers_differ, stream_is_of_all_rows, table_stream_is_of_all_rows};
 pub use rows::{RowFacts, Rows};

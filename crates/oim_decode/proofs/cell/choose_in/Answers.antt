@@ -1,9 +1,10 @@
-use Rattle.std.proofs.Common.{◌≡◌, ◌<◌, ℕ, length, sym, ap, subst, ◌∙◌, Option, List, refl}
+use Rattle.std.proofs.Common.{◌≡◌, ◌<◌, ℕ, length, sym, ap, subst, ◌∙◌, Option, Result, Ok, Err, IfSome, List, refl}
 use Rattle.std.specs.List.{All, slice_get}
 use Rattle.std.proofs.lemmas.Option.{slice_get_within, get_or_from_slice_get}
 use Rattle.csv.specs.Records.{fields_of}
 use Rattle.oim_meta.specs.Readers.{columns_of}
 use Rattle.oim_meta.specs.ReportValue.{ReportValue}
+use Rattle.oim_resolve.specs.declared.fact.CellFault.{CellFault}
 use Rattle.oim_rows.specs.RowFacts.{source_of_column}
 use Rattle.oim_decode.specs.Facts.{groups_wrong}
 use Rattle.oim_decode.specs.Variants.{IsOfRow, IsVariant}
@@ -25,6 +26,9 @@ returns-in-Some-clause-good c =
     ap (groups_wrong a.report.now a.table (fields_of a.record.now)) c.requires.column.groups
     ∙ no_group_wrong a.report.now a.table a.header.now k.slots.items k.decimals.items (fields_of a.record.now) c.args.column.now.column found.0
     (all_at (IsVariant a.report.now a.table a.header.now k.slots.items k.decimals.items) k.variants.items c.in-Some.place found.0 c.requires.kept.variants there) found.2
+
+pub returns-in-Some-clause-early : goal.returns-in-Some-clause-early
+returns-in-Some-clause-early c = subst (λ o. IfSome o (λ f. ◌≡◌ {A = Result ℕ CellFault} (Ok c.in-Some.place) (Err f))) (sym (returns-in-Some-clause-good c)) tt
 
 pub returns-in-Some-clause-range : goal.returns-in-Some-clause-range
 returns-in-Some-clause-range c =

@@ -1,4 +1,4 @@
-use Rattle.std.proofs.Common.{◌≡◌, ◌++◌, ℕ, List, Option, Some, None, rules, codes, sym, ap, ◌∙◌}
+use Rattle.std.proofs.Common.{◌≡◌, ◌++◌, ℕ, List, Option, Some, None, rules, sym, ap, ◌∙◌}
 use Rattle.std.specs.List.{flat_map}
 use Rattle.oim_json.specs.JsonText.{escaped_byte, quoted, value_text}
 use Rattle.oim_resolve.specs.FactValues.{text_in}

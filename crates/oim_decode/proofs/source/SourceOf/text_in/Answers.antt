@@ -9,4 +9,4 @@ returns-in-RowNumber c = rw (c.in-RowNumber.is, c.requires) (number_meaning c.ar
 pub returns-in-None : goal.returns-in-None
 returns-in-None c =
     rw (c.in-Named.is, c.in-None.is)
-    (nothing_named c.in-Named.place c.args.number (fields_of c.args.row.now) c.cell_in-cell.result.now c.cell_in-cell.ensures (sym c.is_empty.ensures ∙ c.if-not-is_empty.false))
+    (nothing_named c.in-Named.place c.args.number (fields_of c.args.row.now) c.text_at-cell.result.now c.text_at-cell.ensures (sym c.is_empty.ensures ∙ c.if-not-is_empty.false))

@@ -1,5 +1,5 @@
 -- Runs of dimensions and the start of a fact's text, executed on worked cases.
-use Rattle.std.proofs.Common.{◌≡◌, ◌∷◌, [], List, false, codes, Some, None, refl}
+use Rattle.std.proofs.Common.{◌≡◌, ◌∷◌, [], List, false, codes, map, Some, None, refl}
 use Rattle.oim_cells.specs.Cells.{Meaning}
 use Rattle.oim_cells.specs.Cells as m
 use Rattle.oim_json.specs.JsonText.{value_text, quoted, escaped_byte}
@@ -9,8 +9,9 @@ use Rattle.oim_meta.specs.declared.data.Side.TheVariants as side
 use Rattle.oim_resolve.specs.declared.fact.CellFault.TheVariants.{UnknownSpecial, BadReference, BadValue}
 use Rattle.oim_resolve.specs.declared.role.Role.TheVariants as role
 use Rattle.oim_decode.specs.Facts.{lead_text}
-use Rattle.oim_decode.specs.ReadyRuns.{behind_text, run_fault, run_text}
+use Rattle.oim_decode.specs.ReadyRuns.{behind_text, least_run_fault, run_fault, run_text, runs_fault, runs_text, slot_fault, slot_piece}
 use Rattle.oim_decode.specs.Slots.{Named, SlotView}
+use Rattle.oim_decode.specs.declared.ready_runs.ReadyRuns.{ReadyRuns}
 use Rattle.oim_decode.specs.declared.ready_runs.Run.{Run}
 
 -- a report of one table, whose identifier has a letter that JSON escapes
@@ -60,3 +61,27 @@ the_fault_of_a_reference x fault slot = rw (fault, slot) refl
 
 the_least_fault : (x : Run) → x.fault ≡ Some BadValue → x.slot ≡ 1 → run_fault (slots m.Unknown) x ≡ Some UnknownSpecial
 the_least_fault x fault slot = rw (fault, slot) refl
+
+-- what slots give and their faults, where there is one
+abbrev unit_slot : Meaning → SlotView
+unit_slot v = record { report = report; role = role.Unit; side = side.Whole; source = Named 0 None; meaning = v }
+
+slot_pieces : map slot_piece (Some (unit_slot m.Nil) ∷ Some (unit_slot m.Empty) ∷ Some (unit_slot m.Absent) ∷ None ∷ []) ≡ Some (codes "null") ∷ Some (codes "\"\"") ∷ None ∷ None ∷ []
+unfolding value_text quoted
+slot_pieces = refl
+
+slot_faults : map slot_fault (Some (unit_slot m.Nil) ∷ Some (unit_slot m.Unknown) ∷ Some (unit_slot m.Absent) ∷ None ∷ []) ≡ Some BadReference ∷ Some UnknownSpecial ∷ None ∷ None ∷ []
+slot_faults = refl
+
+-- the runs in order, and the literals behind them; the least of all their faults
+module _ (x y : Run) (runs : ReadyRuns) (are : runs.runs.items ≡ x ∷ y ∷ []) (at : x.slot ≡ 0) (none : y.slot ≡ 7)
+    (named : x.named.items ≡ codes "\"a\":") (alone : y.alone.items ≡ codes "\"b\":null,") where
+  two_runs : runs.rest.items ≡ codes "\"c\":\"z\"," → runs_text (slots (m.Text (codes "x"))) runs ≡ codes "\"a\":\"x\",\"b\":null,\"c\":\"z\","
+  unfolding value_text quoted escaped_byte
+  two_runs rest = rw (are, at, none, named, alone, rest) refl
+
+  faults_of_two_runs : x.fault ≡ None → y.fault ≡ Some BadValue → least_run_fault (slots m.Unknown) (x ∷ y ∷ []) ≡ Some UnknownSpecial
+  faults_of_two_runs first second = rw (at, none, first, second) refl
+
+  fault_of_the_rest : x.fault ≡ None → y.fault ≡ Some BadValue → runs.fault ≡ Some BadReference → runs_fault (slots m.Absent) runs ≡ Some BadReference
+  fault_of_the_rest first second rest = rw (are, at, none, first, second, rest) refl
