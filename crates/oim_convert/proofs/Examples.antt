@@ -1,14 +1,19 @@
 -- The definitions on small worked cases.
-use Rattle.std.specs.Prelude.{◌≡◌, ℕ, Bool, false, List, [], ◌∷◌, ◌++◌, Option, Some, None, Ok, Err}
+use Rattle.std.specs.Prelude.{◌≡◌, ℕ, Bool, true, false, List, [], ◌∷◌, ◌++◌, Option, Some, None, Ok, Err, map}
 use Rattle.std.proofs.Common.{arith, refl, codes, inl, inr}
+use Rattle.std.specs.List.{IsDistinct}
+use Rattle.atomic_table.specs.Seated.{TableId}
 use Rattle.oim_json.specs.Document.{members, tail_text, text_after}
 use Rattle.oim_json.specs.JsonText.{decimals_text, dimension_text, escaped_byte, member_text, quoted, value_text}
 use Rattle.oim_json.specs.Sinks.{SinkView}
 use Rattle.oim_json.specs.declared.layout.Layout.{Layout}
 use Rattle.oim_json.specs.declared.layout.Layout.TheVariants.{Compact, Lines}
+use Rattle.oim_json.specs.declared.mark.WriteFault.TheVariants as write
 use Rattle.oim_merge.specs.Histories.{all_of, document, facts_before, refusals}
 use Rattle.oim_merge.specs.declared.progress.MergeEnd.TheVariants as end
+use Rattle.oim_meta.specs.Readers.{no_level}
 use Rattle.oim_meta.specs.ReportValue.{ReportValue}
+use Rattle.oim_meta.specs.declared.data.Table.{Table}
 use Rattle.oim_resolve.specs.FactParts.{FactParts as Fact}
 use Rattle.oim_ring.specs.Ends.{ClosedView}
 use Rattle.oim_ring.specs.declared.item.Ending.TheVariants.{Closed, Refused}
@@ -17,8 +22,12 @@ use Rattle.oim_rows.specs.Header.{fault_at, file_fault}
 use Rattle.oim_rows.specs.Streams.{Stream}
 use Rattle.oim_rows.specs.declared.fault.TableFault.{TableFault}
 use Rattle.oim_rows.specs.declared.fault.TableKind.TheVariants as kind
-use Rattle.oim_convert.specs.Answer.{IsAnswer, histories_of}
+use Rattle.oim_convert.specs.Answer.{IsAnswer, histories_of, streams}
+use Rattle.oim_convert.specs.Claims.{Claiming, Drawer, Draws, fresh}
+use Rattle.oim_convert.specs.FaultNames.{name_of, number_of}
 use Rattle.oim_convert.specs.Histories.{AreUnserved, IsDecoded, IsStream}
+use Rattle.oim_convert.specs.Identifiers.{WriteOwnIds}
+use Rattle.oim_convert.specs.Numbers.{once_below, times}
 use Rattle.oim_convert.specs.Runs.{AreStreams, IsCut, early_fault}
 use Rattle.oim_convert.specs.Jobs.{Gives, placed}
 use Rattle.oim_convert.specs.Serial.{AreBelow, Leaves}
@@ -52,6 +61,21 @@ workers_come_first = refl
 
 size_comes_second : early_fault 1 65537 1 2 ≡ Some fault.BadSize
 size_comes_second = refl
+
+-- THE FAULTS' NUMBERS AND NAMES
+
+numbers : map number_of (fault.BadWorkers ∷ fault.BadSize ∷ fault.WrongReaders ∷ fault.Memory ∷ fault.Lost ∷ fault.Write write.Zero ∷ []) ≡ 50 ∷ 51 ∷ 52 ∷ 53 ∷ 54 ∷ 56 ∷ []
+numbers = refl
+
+names : map name_of (fault.BadWorkers ∷ fault.BadSize ∷ fault.WrongReaders ∷ fault.Memory ∷ fault.Lost ∷ fault.Write write.Zero ∷ [])
+    ≡ codes "BadWorkers" ∷ codes "BadSize" ∷ codes "WrongReaders" ∷ codes "Memory" ∷ codes "Lost" ∷ codes "Write" ∷ []
+names = refl
+
+tables_number : (faults : _) → number_of (fault.Tables faults) ≡ 55
+tables_number faults = refl
+
+tables_name : (faults : _) → name_of (fault.Tables faults) ≡ codes "Tables"
+tables_name faults = refl
 
 -- HISTORIES
 
@@ -115,6 +139,29 @@ unserved = (refl, (refl, tt))
 both : AreStreams (whole ∷ broken ∷ []) ((Block (first ∷ second ∷ []) ∷ Ending Closed ∷ []) ∷ (Block (third ∷ []) ∷ Ending (Refused ragged) ∷ []) ∷ [])
 both = (one_block, (refused_stream, tt))
 
+-- STREAMS: three tables without a file, the second of which is optional
+
+table_without_file : Bool → Table
+table_without_file is_optional = record { id = codes "t"; url = codes "t.csv"; is_optional = is_optional; template = 0; parameters = [] }
+
+three_tables : ReportValue
+three_tables = record {
+  info = record { base_url = None; taxonomy = [] };
+  namespaces = [];
+  types = [];
+  level = no_level;
+  templates = [];
+  tables = table_without_file false ∷ table_without_file true ∷ table_without_file false ∷ [];
+  parameters = [];
+}
+
+missing : ℕ → Stream
+missing i = record { rows = []; fault = Some (file_fault i kind.NoFile) }
+
+without_files : streams three_tables 10 (None ∷ None ∷ None ∷ []) ≡ missing 0 ∷ record { rows = []; fault = None } ∷ missing 2 ∷ []
+unfolding three_tables table_without_file missing
+without_files = refl
+
 -- ANSWERS: the second table of three is refused, and the fourth too
 
 late : TableFault
@@ -173,6 +220,18 @@ unserved_faults : refusals (all_of ((Ending (Refused (file_fault 0 kind.NoThread
     ∷ [])) ≡ file_fault 0 kind.NoThread ∷ file_fault 1 kind.NoThread ∷ []
 unserved_faults = refl
 
+-- IDENTIFIERS
+
+-- three facts before the refusal, each with an identifier of its own
+own_ids : WriteOwnIds (histories_of (whole ∷ broken ∷ whole ∷ []))
+unfolding IsDistinct whole broken first second third fact
+own_ids = ((refl, (refl, tt)), ((refl, tt), (tt, tt)))
+
+-- two tables with one fact
+repeated_id : WriteOwnIds (histories_of (whole ∷ one_row ∷ [])) → ⊥
+unfolding IsDistinct whole one_row first second fact
+repeated_id own = let e : true ≡ false = own.0.1.0 in cc
+
 -- answers that are never given
 module _ (l : Layout) (report : ReportValue) (old new : SinkView) where
   not_the_first_alone : IsAnswer l report (whole ∷ broken ∷ unread_header ∷ []) old new (ragged ∷ []) end.Refused → ⊥
@@ -182,7 +241,34 @@ module _ (l : Layout) (report : ReportValue) (old new : SinkView) where
   not_complete : IsAnswer l report (whole ∷ broken ∷ []) old new (ragged ∷ []) end.Complete → ⊥
   not_complete answer = let e = answer.1.0 in cc
 
+-- DRAWN NUMBERS
+
+drawn_twice : times 2 (2 ∷ 1 ∷ 2 ∷ []) ≡ 2
+drawn_twice = refl
+
+below_three : map (once_below 3) (0 ∷ 2 ∷ 3 ∷ 4 ∷ []) ≡ 1 ∷ 1 ∷ 0 ∷ 0 ∷ []
+below_three = refl
+
+-- claims of two items
+abbrev two_items : TableId → Claiming ℕ
+two_items id = record { id = id; items = 5 ∷ 6 ∷ []; workers = 3 }
+
+module _ (id : TableId) where
+  -- the seat gets the item at the place of its number
+  second_item : Draws (fresh (two_items id)) (Some (1, 6)) (record (fresh (two_items id)) { numbers = 1 ∷ [] })
+  second_item = (refl, refl, omega arith, refl)
+
+  another_item : (after : Drawer ℕ) → Draws (fresh (two_items id)) (Some (1, 5)) after → ⊥
+  another_item after draws = let e = draws.1 in cc
+
+  none_left : Draws (fresh (two_items id)) None (record (fresh (two_items id)) { finished = true })
+  none_left = refl
+
 -- WRITING
+
+-- all facts are wanted while no table is refused
+all_wanted : wanted_of true (first ∷ []) ≡ first ∷ []
+all_wanted = refl
 
 -- once a table is refused, no fact is wanted
 none_wanted : wanted_of false (first ∷ []) ≡ []

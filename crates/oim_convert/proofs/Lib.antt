@@ -17,4 +17,5 @@ pub mod RunHistories
 pub mod OwnFaults
 pub mod ReceiptCover
 pub mod FaultTables
+pub mod WrittenIds
 mod Examples

@@ -14,7 +14,8 @@ use Rattle.oim_resolve.specs.declared.fact.CellFault.{CellFault}
 use Rattle.oim_resolve.specs.FactParts.{FactParts as Fact}
 use Rattle.oim_resolve.specs.declared.fact.Row.{Row}
 use Rattle.oim_rows.specs.Header.{Header, fault_at, file_fault, header_fault, header_of, is_empty, is_unknown, names_row_id, or_else, repeat_from}
-use Rattle.oim_rows.specs.RowFacts.{Reading, at_place, checked, fact_at, facts_from, id_fault, id_kind, id_place_of, ids_after, in_front, is_fact_column, is_not_text, limit_fault, ragged_fault, row_fault, row_of, row_result, text_fault}
+use Rattle.oim_rows.specs.RowFacts.{Reading, at_place, checked, fact_at, facts_from, id_fault, id_kind, id_place_of, ids_after, in_front}
+use Rattle.oim_rows.specs.RowFacts.{is_fact_column, is_not_text, limit_fault, ragged_fault, row_fault, row_of, row_result, text_fault}
 use Rattle.oim_rows.specs.Streams.{Stream, reading_of, row_in_front, stream_from, stream_of, table_stream}
 use Rattle.oim_rows.specs.declared.fault.TableFault.{TableFault}
 use Rattle.oim_rows.specs.declared.fault.TableKind.{TableKind}

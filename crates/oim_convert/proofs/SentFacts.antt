@@ -33,11 +33,11 @@ block_sent old new facts e = ap facts_in e ∙ facts_push old facts
 
 -- ROWS
 
-rows_append : (xs ys : List (List Fact)) → row_after_row (xs ++ ys) ≡ row_after_row xs ++ row_after_row ys
+pub rows_append : (xs ys : List (List Fact)) → row_after_row (xs ++ ys) ≡ row_after_row xs ++ row_after_row ys
 rows_append [] ys = refl
 rows_append (x ∷ xs) ys = ap (λ l. x ++ l) (rows_append xs ys) ∙ sym (append_assoc x (row_after_row xs) (row_after_row ys))
 
-rows_are : (rows : List (List Fact)) → facts_of_rows rows ≡ row_after_row rows
+pub rows_are : (rows : List (List Fact)) → facts_of_rows rows ≡ row_after_row rows
 rows_are [] = refl
 rows_are (r ∷ rs) = ap (λ l. r ++ l) (rows_are rs)
 

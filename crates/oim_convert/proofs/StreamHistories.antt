@@ -1,6 +1,6 @@
 -- Histories that were not cut short, and the document of streams.
 use Rattle.std.specs.Prelude.{◌≡◌, ℕ, ◌+◌, true, List, [], ◌∷◌, ◌++◌}
-use Rattle.std.proofs.Common.{refl, sym, ap, ◌∙◌, subst, append_assoc, inl, inr}
+use Rattle.std.proofs.Common.{refl, sym, ap, ◌∙◌, subst, append_assoc, append-nil, inl, inr}
 use Rattle.oim_json.specs.Document.{text_after}
 use Rattle.oim_json.specs.JsonText.{head_text}
 use Rattle.oim_json.specs.Sinks.{SinkView}
@@ -18,8 +18,8 @@ use Rattle.oim_ring.specs.declared.item.Item.{Item}
 use Rattle.oim_ring.specs.declared.item.Item.TheVariants.{Block, Ending}
 use Rattle.oim_rows.specs.Streams.{Stream}
 use Rattle.oim_rows.specs.declared.fault.TableFault.{TableFault}
-use Rattle.oim_convert.specs.Answer.{IsAnswer, answer_text, ending_of, facts_of, histories_of}
-use Rattle.oim_convert.specs.Histories.{AreDecoded, IsGiven, IsHistory, IsStream, facts_in}
+use Rattle.oim_convert.specs.Answer.{IsAnswer, answer_text, ending_of, facts_of, histories_of, history_of}
+use Rattle.oim_convert.specs.Histories.{AreDecoded, IsDecoded, IsGiven, IsHistory, IsStream, facts_in}
 use Rattle.oim_convert.specs.Runs.{AreStreams}
 
 -- ONE HISTORY
@@ -106,3 +106,18 @@ open_streams i (s ∷ ss) (h ∷ hs) all none =
       open_given i s d.facts d.ending h d.given d.is (none_of_first (refusals (Ending d.ending ∷ [])) (refusals (all_of hs)) both),
       open_streams (i + 1) ss hs all.1 (none_of_second (refusals (Ending d.ending ∷ [])) (refusals (all_of hs)) both),
     )
+
+-- STREAMS AS HISTORIES
+
+-- a stream, read as a history, is that of a table that was decoded whole
+stream_decoded : (i : ℕ) (s : Stream) → IsDecoded i s (history_of s)
+stream_decoded i s = record {
+  facts = facts_of s;
+  ending = ending_of s.fault;
+  given = inl (refl, refl);
+  is = record { before = Block (facts_of s) ∷ []; blocks = refl; holds = append-nil (facts_of s); is = refl };
+}
+
+pub streams_decoded : (i : ℕ) (ss : List Stream) → AreDecoded i ss (histories_of ss)
+streams_decoded i [] = tt
+streams_decoded i (s ∷ ss) = (stream_decoded i s, streams_decoded (i + 1) ss)

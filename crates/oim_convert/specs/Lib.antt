@@ -11,5 +11,6 @@ pub mod Histories
 pub mod Shifts
 pub mod Jobs
 pub mod Runs
+pub mod Identifiers
 pub mod Preparing
 pub mod Working

@@ -29,6 +29,10 @@
 //! A run is answered only after its claims were closed with all their seats, so the workers gave one
 //! receipt for each table (`finish` in `src/returning.rt`).
 //!
+//! What is proved of the facts (`written_identifiers_differ`): whatever files the tables have, no two
+//! facts of the defined answer have one identifier, and no two of those that the histories of a run
+//! write, also where tables were cut short or none was served (`specs/Identifiers.antt`).
+//!
 //! What is proved of `Claims`, with which threads share out numbered items:
 //!
 //! - a draw gives a number and the item at its place, and no seat draws that number again
@@ -46,6 +50,7 @@ mod decode;
 mod fault;
 mod job;
 mod lanes;
+mod laws;
 mod limits;
 mod returning;
 mod run;
@@ -62,6 +67,7 @@ mod worker;
 
 pub use claims::Claims;
 pub use fault::ConvertFault;
+pub use laws::written_identifiers_differ;
 pub use limits::{LARGEST_RING, MOST_WORKERS};
 pub use oim_json::Layout;
 pub use run::Run;

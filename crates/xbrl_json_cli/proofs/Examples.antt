@@ -1,8 +1,10 @@
 -- The definitions on worked cases.
-use Rattle.std.proofs.Common.{◌≡◌, ◌++◌, ◌∷◌, [], ℕ, List, Some, None, Err, true, false, codes, inl, inr, map, refl, take, if◌then◌else◌}
+use Rattle.std.proofs.Common.{◌≡◌, ◌++◌, ◌∷◌, [], ℕ, List, Some, None, Ok, Err, true, false, codes, inl, inr, map, refl, take, if◌then◌else◌}
 use Rattle.std.specs.Fmt.{digits}
 use Rattle.std.specs.Borrow.{Bor}
-use Rattle.std.specs.Str.{bytes_eq}
+use Rattle.std.specs.Str.{bytes_eq, chars, is_utf8}
+use lib.Utf8.{encode}
+use Rattle.serde_json.specs.Data.{Data, Members, member, no_members, object, string}
 use Rattle.clap.proofs.OnLiterals.{clap_on_literals}
 use Rattle.clap.specs.Words.{Row, Text, fault_of, first_of, matches_of, one_of}
 use Rattle.clap.specs.declared.error.kind.ErrorKind.TheVariants as kind
@@ -14,23 +16,28 @@ use Rattle.oim_json.specs.declared.layout.Layout.{Layout}
 use Rattle.oim_json.specs.declared.mark.WriteFault.TheVariants as write
 use Rattle.oim_merge.specs.Merging.{Merges}
 use Rattle.oim_merge.specs.declared.progress.MergeEnd.TheVariants as end
+use Rattle.oim_meta.specs.BadParameters.{has_bad_parameter_url}
+use Rattle.oim_meta.specs.Faults.{has_no_report}
+use Rattle.oim_meta.specs.PlainPath.{is_plain_path}
 use Rattle.oim_meta.specs.Readers.{no_level}
 use Rattle.oim_meta.specs.ReportValue.{ReportValue}
 use Rattle.oim_meta.specs.declared.data.Table.{Table}
 use Rattle.oim_meta.specs.declared.fault.MetaFault.TheVariants as refused
+use Rattle.oim_meta.specs.declared.limits.Limits.{Limits}
 use Rattle.oim_resolve.specs.declared.fact.CellFault.TheVariants as cell
 use Rattle.oim_ring.specs.declared.item.Item.{Item}
 use Rattle.oim_rows.specs.Header.{fault_at}
 use Rattle.oim_rows.specs.declared.fault.TableFault.{TableFault}
 use Rattle.oim_rows.specs.declared.fault.TableKind.TheVariants as table
 use Rattle.xbrl_json_cli.specs.CommandLine.{AreLayouts, Words, command_line, is_given}
-use Rattle.xbrl_json_cli.specs.Conversion.{flushed}
-use Rattle.xbrl_json_cli.specs.Folders.{Files}
-use Rattle.xbrl_json_cli.specs.Lines.{line_of, status_of}
+use Rattle.xbrl_json_cli.specs.Conversion.{flushed, profile}
+use Rattle.xbrl_json_cli.specs.Folders.{Files, first_at}
+use Rattle.xbrl_json_cli.specs.Lines.{line_of, status_of, words_status}
+use Rattle.xbrl_json_cli.specs.Metadata.{json_of, read_as, url_in}
 use Rattle.xbrl_json_cli.specs.Naming.{outcome_at}
 use Rattle.xbrl_json_cli.specs.Outcomes.{AreDefined, Gives, Leaves, refused_tables, table_ids}
 use Rattle.xbrl_json_cli.specs.Runs.{range_fault, table_files}
-use Rattle.xbrl_json_cli.specs.Steps.{Stops, metadata_steps, no_memory, opening, parameters_steps, reading, step}
+use Rattle.xbrl_json_cli.specs.Steps.{Stops, looking, metadata_steps, no_memory, opening, parameters_steps, reading, step, types_steps, value_or}
 use Rattle.xbrl_json_cli.specs.declared.outcome.Source.TheVariants as source
 use Rattle.xbrl_json_cli.specs.declared.outcome.Outcome.TheVariants as outcome
 
@@ -119,6 +126,15 @@ sixty_five_workers : fault_of (command_line layouts) (codes "--workers" ∷ code
 unfolding clap_on_literals command_line
 sixty_five_workers = refl
 
+-- one worker is the least, as is a ring of one block
+one_worker : fault_of (command_line layouts) (codes "--workers" ∷ codes "1" ∷ codes "--ring" ∷ codes "1" ∷ least) ≡ []
+unfolding clap_on_literals command_line
+one_worker = refl
+
+without_workers : fault_of (command_line layouts) (codes "--workers" ∷ codes "0" ∷ least) ≡ kind.ValueValidation ∷ []
+unfolding clap_on_literals command_line
+without_workers = refl
+
 another_layout : fault_of (command_line layouts) (codes "--layout" ∷ codes "pretty" ∷ least) ≡ kind.InvalidValue ∷ []
 unfolding clap_on_literals command_line
 another_layout = refl
@@ -135,7 +151,55 @@ another_word : fault_of (command_line layouts) (codes "more.json" ∷ least) ≡
 unfolding clap_on_literals command_line
 another_word = refl
 
+-- ---- the limits
+
+limits : profile ≡ record { rows = 100_000_000; tables = 4_096; columns = 4_096; metadata = 67_108_864 }
+limits = refl
+
+-- ---- the metadata
+
+-- a report with these members
+abbrev csv_with : Members → Data
+csv_with members = object (member (codes "documentInfo") (object (member (codes "documentType") (string (codes "https://xbrl.org/2021/xbrl-csv")) no_members)) members)
+
+abbrev two_bytes : Limits
+two_bytes = record profile { metadata = 2 }
+
+-- a metadata of as many bytes as the limit is read, one of more is not
+metadata_at_the_limit : read_as {A = ℕ} two_bytes (λ _. Ok 0) (255 ∷ 255 ∷ []) ≡ Err refused.Syntax
+unfolding is_utf8 chars
+metadata_at_the_limit = refl
+
+metadata_past_the_limit : read_as {A = ℕ} two_bytes (λ _. Ok 0) (255 ∷ 255 ∷ 255 ∷ []) ≡ Err refused.TooLarge
+metadata_past_the_limit = refl
+
+-- a byte-order mark is passed over, and a text that is not UTF-8 is not JSON
+json_after_a_mark : json_of (239 ∷ 187 ∷ 191 ∷ codes "null") ≡ json_of (codes "null")
+unfolding is_utf8 chars encode
+json_after_a_mark = refl
+
+json_without_utf8 : json_of (255 ∷ []) ≡ None
+unfolding is_utf8 chars encode
+json_without_utf8 = refl
+
+named_file : url_in (csv_with (member (codes "parameterURL") (string (codes "p.csv")) no_members)) ≡ Ok (Some (codes "p.csv"))
+unfolding has_no_report has_bad_parameter_url is_plain_path
+named_file = refl
+
+no_named_file : url_in (csv_with no_members) ≡ Ok None
+unfolding has_no_report has_bad_parameter_url is_plain_path
+no_named_file = refl
+
+named_file_above : url_in (csv_with (member (codes "parameterURL") (string (codes "../p.csv")) no_members)) ≡ Err refused.BadParameter
+unfolding has_no_report has_bad_parameter_url is_plain_path
+named_file_above = refl
+
 -- ---- the files
+
+-- the first of two files with one path
+first_files : map (first_at ((word (codes "a"), word (codes "1")) ∷ (word (codes "b"), word (codes "2")) ∷ (word (codes "a"), word (codes "3")) ∷ []))
+    (codes "a" ∷ codes "b" ∷ codes "c" ∷ []) ≡ Some (codes "1") ∷ Some (codes "2") ∷ None ∷ []
+first_files = refl
 
 abbrev held : Files
 held path = if bytes_eq path (codes "f/m.json") then Some (codes "{")
@@ -152,6 +216,21 @@ missing_types = refl
 wrong_types : reading {A = ReportValue} source.Types (Err refused.BadTypes)
     ≡ step (Some (outcome.Report source.Types refused.BadTypes)) (outcome.Report source.Types refused.Read ∷ outcome.Report source.Types refused.Memory ∷ [])
 wrong_types = refl
+
+-- the types table is opened and read, and then the parameters file
+unread_types : map (λ s. s.refusals) (types_steps held (codes "f/types.csv"))
+    ≡ (no_memory ∷ []) ∷ (outcome.Report source.Types refused.Read ∷ outcome.Report source.Types refused.Memory ∷ []) ∷ []
+unread_types = refl
+
+unread_parameters : map (λ s. s.refusals) (parameters_steps held (codes "f/") (Some (codes "p.csv")))
+    ≡ (no_memory ∷ []) ∷ (outcome.Report source.Parameters refused.Read ∷ outcome.Report source.Parameters refused.Memory ∷ []) ∷ []
+unread_parameters = refl
+
+wrong_url : looking {A = ℕ} (Err refused.BadParameter) ≡ step (Some (outcome.Report source.Report refused.BadParameter)) (outcome.Report source.Report refused.Memory ∷ [])
+wrong_url = refl
+
+values : map (value_or []) (Ok (codes "p") ∷ Err refused.Syntax ∷ []) ≡ codes "p" ∷ [] ∷ []
+values = refl
 
 no_parameters : parameters_steps held (codes "f/") None ≡ []
 no_parameters = refl
@@ -236,8 +315,25 @@ failed_flush_of_refused_tables = refl
 failed_flush_of_nothing : flushed (outcome.CannotRead (codes "x.json")) ≡ outcome.CannotRead (codes "x.json")
 failed_flush_of_nothing = refl
 
-status_of_refused_tables : status_of (outcome.Tables two_refused) ≡ 1
-status_of_refused_tables = refl
+statuses : map status_of (outcome.Done ∷ outcome.Report source.Types refused.BadTypes ∷ outcome.Tables two_refused ∷ outcome.CannotRead (codes "x.json") ∷ outcome.CannotWrite (codes "o.json")
+    ∷ outcome.Run fault.Memory ∷ outcome.Output write.Zero ∷ []) ≡ 0 ∷ 1 ∷ 1 ∷ 3 ∷ 3 ∷ 3 ∷ 3 ∷ []
+statuses = refl
+
+statuses_of_words : map words_status (kind.DisplayHelp ∷ kind.DisplayVersion ∷ kind.OutOfMemory ∷ kind.UnknownArgument ∷ []) ≡ 0 ∷ 0 ∷ 3 ∷ 2 ∷ []
+statuses_of_words = refl
+
+lines_of_sources : map line_of (outcome.Report source.Report refused.UnknownTemplate ∷ outcome.Report source.Parameters refused.BadParameter ∷ outcome.Report source.Types refused.BadTypes ∷ [])
+    ≡ codes "xbrl-json: report: UnknownTemplate (9)\n" ∷ codes "xbrl-json: parameters: BadParameter (13)\n" ∷ codes "xbrl-json: types: BadTypes (14)\n" ∷ []
+unfolding digits
+lines_of_sources = refl
+
+lines_of_paths : map line_of (outcome.Done ∷ outcome.CannotRead (codes "t.csv") ∷ outcome.CannotWrite (codes "o.json") ∷ [])
+    ≡ [] ∷ codes "xbrl-json: cannot read t.csv\n" ∷ codes "xbrl-json: cannot write o.json\n" ∷ []
+lines_of_paths = refl
+
+lines_of_the_run : map line_of (outcome.Run fault.Memory ∷ outcome.Output write.Failed ∷ []) ≡ codes "xbrl-json: run: Memory (53)\n" ∷ codes "xbrl-json: output: Write (56)\n" ∷ []
+unfolding digits
+lines_of_the_run = refl
 
 line_of_each_refused_table : line_of (outcome.Tables two_refused)
     ≡ codes "xbrl-json: table t2, row 2, column 1: BadNumber (40)\nxbrl-json: table t3, row 0, column 1: UnknownHeader (23)\n"

@@ -1,0 +1,16 @@
+//! Laws over the definitions that the contracts cite.
+
+ghost use Rattle.oim_convert.specs.Identifiers.{AnswerIdsDiffer, RunIdsDiffer};
+
+use oim_meta::Report;
+use oim_rows::fact_identifiers_differ;
+
+/// Whatever files a report's tables have, no two facts of the document have one identifier: neither in
+/// the defined answer (`answer`) nor in what the histories of a run write (`runs`), also where tables
+/// were cut short or none was served.
+pub fn written_identifiers_differ(report: &Report)
+    ensures answer { AnswerIdsDiffer report.now }
+    ensures runs { RunIdsDiffer report.now }
+{
+    fact_identifiers_differ(report);
+}
