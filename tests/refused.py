@@ -143,7 +143,7 @@ def each_call_refused(folder, document, pool):
         calls = {name: int(number) for name, number in map(str.split, Path(path).read_text().splitlines())}
         calls["zero"] = calls["write"]
         few = ["read", "write", "zero", "open", "stat", "thread"]
-        kinds = ["memory", *few] if workers == "2" else few
+        kinds = few if workers == "3" else ["memory", *few]
         todo += [(f"{kind}:{n}{more}", kind, words) for kind in kinds for n in range(1, calls[kind] + 2) for more in ("", "+")]
     for (refuse, kind, words), seen in zip(todo, pool.map(lambda it: run(folder, it[0], it[2]), todo)):
         case(f"{refuse}, {words}", fault_of(seen, document, kind))
@@ -157,6 +157,13 @@ def some_threads_refused(folder, document, pool):
         lines = "".join(f"xbrl-json: table {it}, row 0, column 0: NoThread (43)\n" for it in TABLES)
         wanted = (0, document.whole, "") if mask != 15 else (1, document.whole[: document.head], lines)
         case(f"threads refused: {mask:04b}, ring {ring}", None if (status, out, err) == wanted else f"{status} {err} {out!r}")
+
+
+def one_worker_without_threads(folder, document, pool):
+    """One worker works on the program's own thread."""
+    for ring in ("1", "1024"):
+        seen = run(folder, "thread:1+", ["--workers", "1", "--ring", ring])
+        case(f"no threads, one worker, ring {ring}", None if seen == (0, document.whole, "") else seen)
 
 
 def cut_short(folder, document, pool):
@@ -209,7 +216,7 @@ def main():
         status, whole, err = run(folder)
         case("nothing refused", None if (status, err) == (0, "") and len(json.loads(whole)["facts"]) == 18 else (status, err))
         document = Document(whole)
-        for part in (each_call_refused, some_threads_refused, cut_short, each_open_refused_beside_an_output, a_first_write_that_fails):
+        for part in (each_call_refused, some_threads_refused, one_worker_without_threads, cut_short, each_open_refused_beside_an_output, a_first_write_that_fails):
             part(folder, document, pool)
     print(f"on a system that refuses: {count - len(failed)} as they must be, {len(failed)} not")
     sys.exit(1 if failed else 0)
