@@ -64,7 +64,7 @@ abbrev report : ReportValue
 report = record {
   info = record { base_url = None; taxonomy = [] };
   namespaces = (codes "eg", codes "http://example.com/eg") ∷ [];
-  types = (codes "http://example.com/eg", (codes "Note", kind.Text) ∷ []) ∷ [];
+  types = record { uri = codes "http://example.com/eg"; local = codes "Note"; kind = kind.Text } ∷ [];
   level = level (of_entity (codes "eg:C3") ∷ []);
   templates = record {
     id = codes "m";
