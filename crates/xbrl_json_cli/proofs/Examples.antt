@@ -106,6 +106,10 @@ full_layout : first_of (codes "layout") (given full) ≡ Some (codes "lines")
 unfolding clap_on_literals command_line
 full_layout = refl
 
+-- an option that is not among the rows at all
+no_progress : is_given None ≡ false
+no_progress = refl
+
 full_progress : is_given (first_of (codes "progress") (given full)) ≡ true
 unfolding clap_on_literals command_line
 full_progress = refl
@@ -121,6 +125,14 @@ full_taken = refl
 types_missing : fault_of (command_line layouts) (codes "m.json" ∷ []) ≡ kind.MissingRequiredArgument ∷ []
 unfolding clap_on_literals command_line
 types_missing = refl
+
+meta_missing : fault_of (command_line layouts) (codes "--types" ∷ codes "t.csv" ∷ []) ≡ kind.MissingRequiredArgument ∷ []
+unfolding clap_on_literals command_line
+meta_missing = refl
+
+name_of_the_program : (command_line layouts).top.name ≡ codes "xbrl-json"
+unfolding command_line
+name_of_the_program = refl
 
 sixty_five_workers : fault_of (command_line layouts) (codes "--workers" ∷ codes "65" ∷ least) ≡ kind.ValueValidation ∷ []
 unfolding clap_on_literals command_line
