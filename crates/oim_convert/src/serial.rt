@@ -57,9 +57,10 @@ fn write_blocks<R: Read + Drop, W: Sink>(
     ensures reads { IfSome blocks.old.left (λ s. ReadsTable layout table wanted (sink_at (W.mark sink.old) (W.told sink.old)) (sink_at (W.mark sink.new) (W.told sink.new)) any.old any.new s result) }
     ensures marked { Marks (W.mark sink.old) (W.mark sink.new) result }
 {
+    let mut room = Vec::new(alloc);
     // The bound is never reached: a table has fewer blocks.
     for _ in 0..u64::MAX {
-        match blocks.next_block(Vec::new(alloc)) {
+        match blocks.next_block(room) {
             Ok(Some(block)) => {
                 if wanted {
                     match write_block(&block, layout, sink, any) {
@@ -67,6 +68,7 @@ fn write_blocks<R: Read + Drop, W: Sink>(
                         Err(fault) => return Err(fault),
                     }
                 }
+                room = block.into_room();
             }
             Ok(None) => return Ok(Ending::Closed),
             Err(fault) => return Ok(Ending::Refused(fault)),
