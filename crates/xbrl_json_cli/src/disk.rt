@@ -1,7 +1,7 @@
 //! The files of the system. No contract says anything about them.
 
-use crate::folder::Folder;
 use crate::progress::{Progress, Watched};
+use oim_run::Folder;
 use std::io::{ErrorKind, Read};
 use std::rt::{Clock, Files};
 use std::{fs, io};

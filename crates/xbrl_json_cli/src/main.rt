@@ -4,22 +4,11 @@
 //! [--progress]` converts the report whose metadata file is META, to standard output or to the file
 //! given by `--out`. Without any words the program converts its built-in report to standard output.
 //!
-//! What is proved:
+//! What is proved of a run, its lines and its status is said by the crate `oim_run`. This crate is the
+//! edge: it opens the system's files, shows the progress, and prints. Of it is proved:
 //!
-//! - if `job` succeeds, the settings have the values that the words give, and the defaults for those
-//!   that they leave out, with 1 to 64 workers and a ring size of 1 to 65,536. Apart from running out
-//!   of memory, it fails for exactly the words that the definition of the command line refuses;
-//! - `run`, over any folder that tells its files honestly, ends as the files say. If the metadata, the
-//!   types table or the parameters file has a fault, the run ends with the first one, in the order in
-//!   which the files are read, and writes nothing. Otherwise it ends as the conversion of the report
-//!   does: with the whole document in the given layout, or with every refused table in table order,
-//!   each by its identifier with its first fault, and the unfinished document up to and including the
-//!   first of them. This holds for every number of workers, ring size and schedule of the threads;
-//! - `convert_texts` does the same for a report whose files are given by their bytes, and `convert_held`
-//!   for the built-in report;
-//! - `status` and `line` give the exit status and the lines on standard error of each outcome, with one
-//!   line for each refused table. A flush that fails after a document, whole or unfinished, is a failed
-//!   write.
+//! - the exit status is that of the outcome, or of the kind of fault that the words have;
+//! - a document is never written over the metadata or the types table (`convert_as`).
 //!
 //! Nothing is claimed about what the system's files hold, what its output takes, what it says about the
 //! arguments, or the line that `--progress` shows.
@@ -27,18 +16,11 @@
 
 ghost use Rattle.std.specs.Prelude.{◌≡◌};
 ghost use Rattle.clap.specs.Values.{kind_of};
-ghost use Rattle.xbrl_json_cli.specs.Lines.{status_of, words_status};
+ghost use Rattle.oim_run.specs.Lines.{status_of, words_status};
 
-mod conversion;
 mod disk;
-mod folder;
-mod held;
-mod outcome;
 mod output;
 mod progress;
-mod running;
-mod settings;
-mod steps;
 #[cfg(test)]
 mod tests;
 #[cfg(test)]
@@ -70,9 +52,8 @@ mod tests_threads;
 #[cfg(test)]
 mod tests_writers;
 
-use conversion::convert_to;
 use oim_convert::ConvertFault;
-use outcome::Outcome;
+use oim_run::{Outcome, convert_to, job, line, status};
 use output::convert_as;
 use std::alloc::Global;
 use std::io;
@@ -88,11 +69,11 @@ const UNSAID: &str = "xbrl-json: out of memory, and so the faults cannot be said
 fn told<H: Eprint>(rt: &H, alloc: Global, outcome: &Outcome) -> u8
     ensures { result ≡ status_of outcome.now }
 {
-    let _ = match outcome::line(alloc, outcome) {
-        Ok(line) => rt.eprint(line.as_str()),
+    let _ = match line(alloc, outcome) {
+        Ok(lines) => rt.eprint(lines.as_str()),
         Err(_) => rt.eprint(UNSAID),
     };
-    outcome::status(outcome)
+    status(outcome)
 }
 
 /// Prints what there is to say about words that are refused, or that ask for help or the version, and
@@ -118,7 +99,7 @@ fn started<T: Threads + Wait + Sync>(
     if words.is_empty() {
         return told(rt, alloc, &convert_to(threads, alloc, io::writer(rt)));
     }
-    match settings::job(alloc, words) {
+    match job(alloc, words) {
         Ok(settings) => told(rt, alloc, &convert_as(rt, threads, alloc, &settings)),
         Err(error) => explained(rt, &error),
     }

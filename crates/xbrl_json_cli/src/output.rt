@@ -1,46 +1,20 @@
 //! The output of a run: a file or standard output, written through a buffer.
 
 ghost use Rattle.std.specs.Prelude.{◌≡◌, ◌⊎◌, IfSome};
-ghost use Rattle.xbrl_json_cli.specs.CommandLine.{IsInput};
-ghost use Rattle.xbrl_json_cli.specs.Conversion.{Buffered};
-ghost use Rattle.xbrl_json_cli.specs.Runs.{EndsOver};
-ghost use Rattle.xbrl_json_cli.specs.Steps as spec;
-ghost use Rattle.xbrl_json_cli.specs.declared.outcome.Outcome.TheVariants as outcome;
+ghost use Rattle.oim_run.specs.CommandLine.{IsInput};
+ghost use Rattle.oim_run.specs.Steps as spec;
+ghost use Rattle.oim_run.specs.declared.outcome.Outcome.TheVariants as outcome;
 
-use crate::conversion::after_flush;
 use crate::disk::Disk;
-use crate::folder::Folder;
-use crate::outcome::Outcome;
 use crate::progress::{Counted, Progress};
-use crate::running::run;
-use crate::settings::Settings;
-use crate::steps::no_memory;
-use oim_json::Marked;
+use oim_convert::ConvertFault;
 use oim_names::Text;
+use oim_run::{Outcome, Settings, run_to};
 use std::alloc::Global;
-use std::io::{BufWriter, IsTerminal, Read, Write};
+use std::io::{IsTerminal, Write};
 use std::sync::Wait;
 use std::thread::Threads;
 use std::{fs, io};
-
-/// Runs over the files of a folder, writes the document to a writer through a buffer, and flushes it.
-/// The answer is how the run ended; a failed flush is a failed write.
-pub fn run_to<R: Read + Drop + Send, F: Folder<R>, T: Threads + Wait + Sync, W: Write + Drop>(
-    rt: &T,
-    alloc: Global,
-    settings: &Settings,
-    folder: &mut F,
-    to: W,
-) -> Outcome
-    ensures { IfSome (F.files folder.old) (λ files.
-        Buffered (EndsOver files settings.now.meta settings.now.types settings.now.workers settings.now.ring settings.now.layout) result) }
-{
-    let Ok(mut buffered) = BufWriter::with_capacity(alloc, 8192, to) else {
-        return no_memory();
-    };
-    let outcome = run(rt, alloc, settings, folder, &mut Marked::new(&mut buffered));
-    after_flush(outcome, buffered.flush())
-}
 
 /// The outcome of a run that cannot write its document to the file at this path.
 fn cannot_write(alloc: Global, path: &str) -> Outcome
@@ -48,7 +22,7 @@ fn cannot_write(alloc: Global, path: &str) -> Outcome
 {
     match Text::from_str(alloc, path) {
         Ok(path) => Outcome::CannotWrite(path),
-        Err(_) => no_memory(),
+        Err(_) => Outcome::Run(ConvertFault::Memory),
     }
 }
 

@@ -2,9 +2,6 @@
 
 ghost use Rattle.std.specs.Prelude.{◌≤◌};
 
-use crate::conversion::{convert_held, convert_texts};
-use crate::held::{METADATA, TABLE, TYPES};
-use crate::outcome::{Outcome, line, status};
 use crate::tests_ends::{Ends, is_serial_so};
 use crate::tests_writers::Narrow;
 use oim_convert::{ConvertFault, convert_serial};
@@ -13,6 +10,7 @@ use oim_meta::{Limits, Parameters, Report, read_report, read_types};
 use oim_names::{Items, Text};
 use oim_resolve::CellFault;
 use oim_rows::{Rows, TableFault, TableKind};
+use oim_run::{METADATA, Outcome, TABLE, TYPES, convert_held, convert_texts, line, status};
 use std::alloc::{AllocError, Global};
 use std::process::Abort;
 use std::sync::Wait;

@@ -1,10 +1,7 @@
 //! Runs and conversions to a writer whose flush fails.
 
-use crate::conversion::convert_to;
-use crate::folder::Texts;
-use crate::held::{METADATA, TYPES};
-use crate::output::run_to;
 use crate::tests_runs::{File, Said, says, settings_of};
+use oim_run::{METADATA, TYPES, Texts, convert_to, run_to};
 use std::io;
 use std::io::Write;
 use std::sync::Wait;

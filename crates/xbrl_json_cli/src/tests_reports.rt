@@ -1,10 +1,5 @@
 //! Reports on one thread whose readers fail, and runs with a parameters file.
 
-use crate::folder::Texts;
-use crate::held::{TABLE, TYPES};
-use crate::outcome::line;
-use crate::running::run;
-use crate::settings::job;
 use crate::tests::{Edits, THREE, document_of, edited};
 use crate::tests_cells::report_of;
 use crate::tests_ends::{Ends, is_serial_so, refused};
@@ -13,6 +8,7 @@ use oim_json::{Layout, Marked};
 use oim_meta::{Limits, Report};
 use oim_resolve::CellFault;
 use oim_rows::{TableFault, TableKind};
+use oim_run::{TABLE, TYPES, Texts, job, line, run};
 use std::alloc::{AllocError, Global};
 use std::io;
 use std::io::Read;

@@ -1,17 +1,14 @@
 //! Runs over files in memory, from the words to the document, the lines and the exit status.
 
-use crate::conversion::convert_held;
-use crate::folder::{Texts, folder_of};
-use crate::held::{METADATA, TABLE, TYPES};
-use crate::outcome::{Outcome, line, status};
-use crate::running::run;
-use crate::settings::{Settings, job};
 use crate::tests::{Edits, HEAD, THREE, document_of, edited};
 use crate::tests_sizes::{ORDER, of_each};
 use crate::tests_writers::Narrow;
 use oim_convert::ConvertFault;
 use oim_json::Marked;
 use oim_names::Text;
+use oim_run::{
+    METADATA, Outcome, Settings, TABLE, TYPES, Texts, convert_held, job, line, run, status,
+};
 use std::alloc::Global;
 use std::sync::Wait;
 use std::test::Fail;
@@ -488,17 +485,4 @@ fn a_run_without_memory(rt: HostRuntime) -> Result<(), Fail> {
     let said = says(rt.alloc(), &outcome, ("xbrl-json: run: Memory (53)\n", 3))?;
     assert!(rt; said);
     Ok(())
-}
-
-#[test]
-fn folders_of_paths(rt: HostRuntime) {
-    for (path, folder) in [
-        ("a", ""),
-        ("", ""),
-        ("/a", "/"),
-        ("b/c/a", "b/c/"),
-        ("b/", "b/"),
-    ] {
-        assert_eq!(rt; folder_of(path), folder);
-    }
 }

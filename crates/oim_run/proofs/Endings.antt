@@ -1,0 +1,232 @@
+-- How a run ends, from how its conversion ends.
+use Rattle.std.specs.Prelude.{◌≡◌, ◌⊎◌, Bool, true, false, if◌then◌else◌, ℕ, suc, List, [], ◌∷◌, ◌++◌, map, take, ◌+◌, ◌<◌, Option, Some, None, IfOk, IfSome, Result, Ok, Err, length, slice_index_or}
+use Rattle.std.proofs.Common.{refl, sym, ap, subst, ◌∙◌, inl, inr}
+use Rattle.std.proofs.lemmas.List.{length-append, map_more}
+use Rattle.std.specs.Io.KnownBytes.{Keeps}
+use Rattle.oim_convert.specs.Answer.{IsAnswer, streams}
+use Rattle.oim_convert.specs.Files.{AreFilesOf, IsFileOf}
+use Rattle.oim_convert.specs.Runs.{AnswersFault, AreHistories, AreStreams, AreUncut, Writes, early_fault}
+use Rattle.oim_convert.specs.declared.fault.ConvertFault.{ConvertFault}
+use Rattle.oim_convert.specs.declared.fault.ConvertFault.TheVariants as fault
+use Rattle.oim_convert.specs.declared.run.Run.{Run}
+use Rattle.oim_json.specs.Sinks.{SinkView, Unwritten}
+use Rattle.oim_json.specs.declared.layout.Layout.{Layout}
+use Rattle.oim_meta.specs.Readers.{no_table}
+use Rattle.oim_meta.specs.ReportValue.{ReportValue}
+use Rattle.oim_meta.specs.declared.data.Table.{Table}
+use Rattle.oim_meta.specs.declared.fault.MetaFault.{MetaFault}
+use Rattle.oim_rows.specs.Streams.{Stream}
+use Rattle.oim_run.proofs.Threads.{answered, in_range, left, never_lost}
+use Rattle.oim_run.proofs.StepFacts.{IsReport}
+use Rattle.oim_json.specs.declared.mark.Mark.TheVariants as «marks»
+use Rattle.oim_run.specs.Conversion.{Buffered, ConvertedTexts, Ends, SaysWith, Texts, flushed, profile}
+use Rattle.oim_run.specs.Folders.{Files, IsFolderOf}
+use Rattle.oim_run.specs.Naming.{outcome_by}
+use Rattle.oim_run.specs.Outcomes.{EndsAs, Leaves, table_ids}
+use Rattle.oim_run.specs.Runs.{EndsOver, range_fault, table_file, table_files}
+use Rattle.oim_run.specs.Steps.{IsEarly, no_memory}
+use Rattle.oim_run.specs.declared.outcome.Outcome.{Outcome}
+use Rattle.oim_run.specs.declared.outcome.Outcome.TheVariants as outcome
+use Rattle.oim_run.specs.declared.outcome.Source.{Source}
+use Rattle.oim_run.specs.declared.outcome.Source.TheVariants as source
+
+-- there are as many files as readers
+pub as_many : {R : Type 0} (told : R → Option (List ℕ)) (rs : List (Option R)) (fs : List (Option (List ℕ))) → AreFilesOf told rs fs → length rs ≡ length fs
+as_many told [] [] are = refl
+as_many told [] (f ∷ fs) are = absurd are
+as_many told (r ∷ rs) [] are = absurd are
+as_many told (r ∷ rs) (f ∷ fs) are = ap suc (as_many told rs fs are.1)
+
+keeps_same : (a : Option (List ℕ)) → Keeps a a
+keeps_same None = tt
+keeps_same (Some xs) = refl
+
+-- a conversion for which memory ran out while the names were made
+pub no_memory_ends : (layout : Layout) (early : Option ConvertFault) (report : ReportValue) (ss : List Stream) (sink : SinkView) → EndsAs layout early report ss sink sink (outcome.Run fault.Memory)
+no_memory_ends layout None report ss sink = (refl, keeps_same sink.told)
+no_memory_ends layout (Some f) report ss sink = (inr refl, (refl, keeps_same sink.told))
+
+pub converted : (layout : Layout) (workers ring readers limit : ℕ) (report : ReportValue) (files : List (Option (List ℕ))) (old new : SinkView)
+    (r : Result Run ConvertFault) (names : List (List ℕ)) (o : Outcome)
+    → names ≡ table_ids report → o ≡ outcome_by names r → readers ≡ length files
+    → IfOk r (λ run. AreHistories (streams report limit files) run.drains.items)
+    → IfOk r (λ run. AreUncut run.drains.items → AreStreams (streams report limit files) run.drains.items × IsAnswer layout report (streams report limit files) old new run.faults.items run.end)
+    → AnswersFault (early_fault workers ring readers (length report.tables)) r
+    → Writes layout report (length report.tables) old new r
+    → EndsAs layout (early_fault workers ring (length files) (length report.tables)) report (streams report limit files) old new o
+converted layout workers ring readers limit report files old new r names o named is many histories headline faults writes =
+    subst (λ n. EndsAs layout (early_fault workers ring n (length report.tables)) report (streams report limit files) old new o) many
+    (subst (EndsAs layout (early_fault workers ring readers (length report.tables)) report (streams report limit files) old new) (sym is)
+    (answered layout report limit files old new names named (early_fault workers ring readers (length report.tables)) r
+    (never_lost workers ring readers (length report.tables)) histories headline faults writes))
+
+-- a report that is given by texts
+no_report : (layout : Layout) (early : Option ConvertFault) (report : ReportValue) (ss : List Stream) (old new : SinkView) (s : Source)
+    (f : MetaFault) → EndsAs layout early report ss old new (outcome.Report s f) → ⊥
+no_report layout None report ss old new s f ends = ends
+no_report layout (Some g) report ss old new s f (inl is, none) = cc
+no_report layout (Some g) report ss old new s f (inr is, none) = cc
+
+unwritten : (layout : Layout) (early : Option ConvertFault) (report : ReportValue) (ss : List Stream) (old new : SinkView)
+    → EndsAs layout early report ss old new (outcome.Run fault.Memory) → Unwritten old new
+unwritten layout None report ss old new ends = ends
+unwritten layout (Some g) report ss old new ends = ends.1
+
+module _ (given : Texts) (old new : SinkView) (report : ReportValue) (says : SaysWith given.limits given.metadata given.types report) where
+  abbrev found : Option ConvertFault
+  found = early_fault given.workers given.ring (length given.files) (length report.tables)
+
+  abbrev said : List Stream
+  said = streams report given.limits.rows given.files
+
+  all_texts : (o : Outcome) → EndsAs given.layout found report said old new o → ConvertedTexts given old new o
+  all_texts o e = record { report = report; says = says; ends = e }
+
+  pub ends : (o : Outcome) → EndsAs given.layout found report said old new o → Ends given old new o
+  ends outcome.Done e = all_texts outcome.Done e
+  ends (outcome.Report source.Report f) e = absurd (no_report given.layout found report said old new source.Report f e)
+  ends (outcome.Report source.Types f) e = absurd (no_report given.layout found report said old new source.Types f e)
+  ends (outcome.Report source.Parameters f) e = absurd (no_report given.layout found report said old new source.Parameters f e)
+  ends (outcome.Tables named) e = all_texts (outcome.Tables named) e
+  ends (outcome.CannotRead p) e = all_texts (outcome.CannotRead p) e
+  ends (outcome.CannotWrite p) e = all_texts (outcome.CannotWrite p) e
+  ends (outcome.Output w) e = all_texts (outcome.Output w) e
+  ends (outcome.Run fault.Memory) e = unwritten given.layout found report said old new e
+  ends (outcome.Run fault.BadWorkers) e = all_texts (outcome.Run fault.BadWorkers) e
+  ends (outcome.Run fault.BadSize) e = all_texts (outcome.Run fault.BadSize) e
+  ends (outcome.Run fault.WrongReaders) e = all_texts (outcome.Run fault.WrongReaders) e
+  ends (outcome.Run fault.Lost) e = all_texts (outcome.Run fault.Lost) e
+  ends (outcome.Run (fault.Tables t)) e = all_texts (outcome.Run (fault.Tables t)) e
+  ends (outcome.Run (fault.Write w)) e = all_texts (outcome.Run (fault.Write w)) e
+
+-- a report whose tables each have a file or none
+run_ends : (layout : Layout) (workers ring : ℕ) (report : ReportValue) (files : List (Option (List ℕ))) (old new : SinkView) (o : Outcome) → length files ≡ length report.tables
+    → EndsAs layout (early_fault workers ring (length files) (length report.tables)) report (streams report profile.rows files) old new o
+    → EndsAs layout (range_fault workers ring) report (streams report profile.rows files) old new o
+run_ends layout workers ring report files old new o many =
+    subst (λ early. EndsAs layout early report (streams report profile.rows files) old new o) (in_range workers ring (length files) (length report.tables) many)
+
+length_map : {A B : Type 0} (f : A → B) (xs : List A) → length (map f xs) ≡ length xs
+length_map f [] = refl
+length_map f (x ∷ xs) = ap suc (length_map f xs)
+
+-- readers of the first tables, and of the next one
+files_more : {R : Type 0} (told : R → Option (List ℕ)) (rs : List (Option R)) (fs : List (Option (List ℕ))) (r : Option R) (f : Option (List ℕ))
+    → AreFilesOf told rs fs → IsFileOf told r f → AreFilesOf told (rs ++ r ∷ []) (fs ++ f ∷ [])
+files_more told [] [] r f are is = (is, tt)
+files_more told [] (g ∷ gs) r f are is = absurd are
+files_more told (s ∷ ss) [] r f are is = absurd are
+files_more told (s ∷ ss) (g ∷ gs) r f are is = (are.0, files_more told ss gs r f are.1 is)
+
+pub one_more : {R : Type 0} (told : R → Option (List ℕ)) (known : Option Files) (base path : List ℕ) (tables : List Table) (i : ℕ) (rs rs' : List (Option R)) (r : Option R)
+    → i < length tables → path ≡ base ++ (slice_index_or tables i no_table).url → rs' ≡ rs ++ r ∷ []
+    → IfSome known (λ at. AreFilesOf told rs (map (table_file at base) (take i tables)))
+    → IfSome known (λ at. IsFileOf told r (at path))
+    → IfSome known (λ at. AreFilesOf told rs' (map (table_file at base) (take (i + 1) tables)))
+one_more told None base path tables i rs rs' r l is more are opened = tt
+one_more told (Some at) base path tables i rs rs' r l is more are opened =
+    let opened' : IsFileOf told r (at (base ++ (slice_index_or tables i no_table).url)) = subst (λ p. IsFileOf told r (at p)) is opened in
+    let both = files_more told rs (map (table_file at base) (take i tables)) r (at (base ++ (slice_index_or tables i no_table).url)) are opened' in
+    let same : map (table_file at base) (take (i + 1) tables) ≡ map (table_file at base) (take i tables)
+    ++ table_file at base (slice_index_or tables i no_table) ∷ [] = map_more (table_file at base) tables i no_table l in
+    subst (λ xs. AreFilesOf told xs (map (table_file at base) (take (i + 1) tables))) (sym more)
+    (subst (λ fs. AreFilesOf told (rs ++ r ∷ []) fs) (sym same) both)
+
+pub one_longer : {A : Type 0} (xs ys : List A) (x : A) (n : ℕ) → ys ≡ xs ++ x ∷ [] → length xs ≡ n → length ys ≡ n + 1
+one_longer xs ys x n more is = ap length more ∙ length-append xs (x ∷ []) ∙ ap (λ k. k + 1) is
+
+-- a run that stops before the conversion
+pub stops : (known : Option Files) (base meta types : List ℕ) (workers ring : ℕ) (layout : Layout) (sink : SinkView) (o : Outcome) → IsFolderOf base meta
+    → IfSome known (λ files. IsReport files base meta types (Err o))
+    → IfSome known (λ files. EndsOver files meta types workers ring layout sink sink o)
+stops None base meta types workers ring layout sink o folder stop = tt
+stops (Some files) base meta types workers ring layout sink o folder stop =
+    record { base = base; folder = folder; ends = inl (stop, (refl, keeps_same sink.told)) }
+
+pub early_leaves : (range : Option ConvertFault) (sink : SinkView) (o : Outcome) → IsEarly o → Leaves range sink sink o
+early_leaves range sink outcome.Done early = absurd early
+early_leaves range sink (outcome.Report s f) early = (refl, keeps_same sink.told)
+early_leaves range sink (outcome.Tables named) early = absurd early
+early_leaves range sink (outcome.CannotRead path) early = (refl, keeps_same sink.told)
+early_leaves range sink (outcome.CannotWrite path) early = absurd early
+early_leaves range sink (outcome.Run f) early = inl (early, (refl, keeps_same sink.told))
+early_leaves range sink (outcome.Output w) early = absurd early
+
+-- a run whose tables are converted
+pub runs : {R : Type 0} (told : R → Option (List ℕ)) (known : Option Files) (base meta types : List ℕ) (workers ring : ℕ) (layout : Layout)
+    (old new : SinkView) (o : Outcome) (report : ReportValue) (readers : List (Option R)) → IsFolderOf base meta
+    → IfSome known (λ files. IsReport files base meta types (Ok report))
+    → IfSome known (λ files. AreFilesOf told readers (table_files files base report))
+    → ((files : List (Option (List ℕ))) → AreFilesOf told readers files
+    → EndsAs layout (early_fault workers ring (length files) (length report.tables)) report (streams report profile.rows files) old new o)
+    → IfSome known (λ files. EndsOver files meta types workers ring layout old new o)
+runs told None base meta types workers ring layout old new o report readers folder is are converts = tt
+runs told (Some files) base meta types workers ring layout old new o report readers folder is are converts =
+    let tables = table_files files base report in
+    record {
+      base = base;
+      folder = folder;
+      ends = inr (record {
+        report = report;
+        passed = is.0;
+        given = is.1;
+        ends = run_ends layout workers ring report tables old new o (length_map (table_file files base) report.tables) (converts tables are);
+      });
+    }
+
+-- a run for which memory ran out while the readers of its tables were made
+pub short : (known : Option Files) (base meta types : List ℕ) (workers ring : ℕ) (layout : Layout) (sink : SinkView) (o : Outcome) (report : ReportValue) → IsFolderOf base meta
+    → IfSome known (λ files. IsReport files base meta types (Ok report)) → o ≡ no_memory
+    → IfSome known (λ files. EndsOver files meta types workers ring layout sink sink o)
+short None base meta types workers ring layout sink o report folder is none = tt
+short (Some files) base meta types workers ring layout sink o report folder is none =
+    record {
+      base = base;
+      folder = folder;
+      ends = inr (record {
+        report = report;
+        passed = is.0;
+        given = is.1;
+        ends = subst (EndsAs layout (range_fault workers ring) report (streams report profile.rows (table_files files base report)) sink sink) (sym none)
+            (no_memory_ends layout (range_fault workers ring) report (streams report profile.rows (table_files files base report)) sink);
+      });
+    }
+
+-- what every outcome leaves behind
+pub converted_leaves : (layout : Layout) (workers ring readers : ℕ) (report : ReportValue) (old new : SinkView) (r : Result Run ConvertFault) (names : List (List ℕ)) (o : Outcome)
+    → o ≡ outcome_by names r → AnswersFault (early_fault workers ring readers (length report.tables)) r
+    → Writes layout report (length report.tables) old new r
+    → Leaves (early_fault workers ring readers (length report.tables)) old new o
+converted_leaves layout workers ring readers report old new r names o is faults writes =
+    let early = early_fault workers ring readers (length report.tables) in
+    subst (Leaves early old new) (sym is) (left layout report (length report.tables) old new names early r (never_lost workers ring readers (length report.tables)) faults writes)
+
+pub short_leaves : (range : Option ConvertFault) (sink : SinkView) (o : Outcome) → o ≡ no_memory → Leaves range sink sink o
+short_leaves range sink o none = subst (Leaves range sink sink) (sym none) (inl (refl, (refl, keeps_same sink.told)))
+
+pub run_leaves : (workers ring readers tables : ℕ) (old new : SinkView) (o : Outcome) → readers ≡ tables
+    → Leaves (early_fault workers ring readers tables) old new o → Leaves (range_fault workers ring) old new o
+run_leaves workers ring readers tables old new o many = subst (λ early. Leaves early old new o) (in_range workers ring readers tables many)
+
+-- THROUGH A BUFFER
+
+flushed_or : (failed : Bool) (ended o : Outcome) → o ≡ (if failed then flushed ended else ended) → (o ≡ ended) ⊎ (o ≡ flushed ended)
+flushed_or true ended o is = inr is
+flushed_or false ended o is = inl is
+
+pub behind : (ends : SinkView → SinkView → Outcome → Type 0) (before after : SinkView) (ended o : Outcome) (failed : Bool)
+    → before.mark ≡ «marks».Fine → ends before after ended → o ≡ (if failed then flushed ended else ended) → Buffered ends o
+behind ends before after ended o failed fine run is =
+    inr (record { ended = ended; before = before; after = after; fine = fine; run = run; last = flushed_or failed ended o is })
+
+pub behind_told : (known : Option Files) (meta types : List ℕ) (workers ring : ℕ) (layout : Layout) (before after : SinkView) (ended o : Outcome) (failed : Bool) → before.mark ≡ «marks».Fine
+    → IfSome known (λ files. EndsOver files meta types workers ring layout before after ended) → o ≡ (if failed then flushed ended else ended)
+    → IfSome known (λ files. Buffered (EndsOver files meta types workers ring layout) o)
+behind_told None meta types workers ring layout before after ended o failed fine run is = tt
+behind_told (Some files) meta types workers ring layout before after ended o failed fine run is =
+    behind (EndsOver files meta types workers ring layout) before after ended o failed fine run is
+
+pub no_buffer : (known : Option Files) (meta types : List ℕ) (workers ring : ℕ) (layout : Layout) (o : Outcome) → o ≡ no_memory
+    → IfSome known (λ files. Buffered (EndsOver files meta types workers ring layout) o)
+no_buffer None meta types workers ring layout o is = tt
+no_buffer (Some files) meta types workers ring layout o is = inl is

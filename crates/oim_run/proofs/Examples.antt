@@ -1,0 +1,383 @@
+-- The definitions on worked cases.
+use Rattle.std.proofs.Common.{◌≡◌, ◌++◌, ◌∷◌, [], ℕ, List, Some, None, Ok, Err, true, false, codes, inl, inr, map, refl, take, if◌then◌else◌}
+use Rattle.std.specs.Fmt.{digits}
+use Rattle.std.specs.Borrow.{Bor}
+use Rattle.std.specs.Str.{bytes_eq, chars, is_utf8}
+use lib.Utf8.{encode}
+use Rattle.serde_json.specs.Data.{Data, Members, member, no_members, object, string}
+use Rattle.clap.proofs.OnLiterals.{clap_on_literals}
+use Rattle.clap.specs.Words.{Row, Text, fault_of, first_of, matches_of, one_of}
+use Rattle.clap.specs.declared.error.kind.ErrorKind.TheVariants as kind
+use Rattle.oim_convert.specs.Runs.{AreHistories, IsOuter}
+use Rattle.oim_convert.specs.declared.fault.ConvertFault.TheVariants as fault
+use Rattle.oim_json.specs.JsonText.{head_text}
+use Rattle.oim_json.specs.Sinks.{SinkView}
+use Rattle.oim_json.specs.declared.layout.Layout.{Layout}
+use Rattle.oim_json.specs.declared.mark.WriteFault.TheVariants as write
+use Rattle.oim_merge.specs.Merging.{Merges}
+use Rattle.oim_merge.specs.declared.progress.MergeEnd.TheVariants as end
+use Rattle.oim_meta.specs.BadParameters.{has_bad_parameter_url}
+use Rattle.oim_meta.specs.Faults.{has_no_report}
+use Rattle.oim_meta.specs.PlainPath.{is_plain_path}
+use Rattle.oim_meta.specs.Readers.{no_level}
+use Rattle.oim_meta.specs.ReportValue.{ReportValue}
+use Rattle.oim_meta.specs.declared.data.Table.{Table}
+use Rattle.oim_meta.specs.declared.fault.MetaFault.TheVariants as refused
+use Rattle.oim_meta.specs.declared.limits.Limits.{Limits}
+use Rattle.oim_resolve.specs.declared.fact.CellFault.TheVariants as cell
+use Rattle.oim_ring.specs.declared.item.Item.{Item}
+use Rattle.oim_rows.specs.Header.{fault_at}
+use Rattle.oim_rows.specs.declared.fault.TableFault.{TableFault}
+use Rattle.oim_rows.specs.declared.fault.TableKind.TheVariants as table
+use Rattle.oim_run.specs.CommandLine.{AreLayouts, Words, command_line, is_given}
+use Rattle.oim_run.specs.Conversion.{flushed, profile}
+use Rattle.oim_run.specs.Folders.{Files, first_at}
+use Rattle.oim_run.specs.Lines.{line_of, status_of, words_status}
+use Rattle.oim_run.specs.Metadata.{json_of, read_as, url_in}
+use Rattle.oim_run.specs.Naming.{outcome_at}
+use Rattle.oim_run.specs.Outcomes.{AreDefined, Gives, Leaves, refused_tables, table_ids}
+use Rattle.oim_run.specs.Runs.{range_fault, table_files}
+use Rattle.oim_run.specs.Steps.{Stops, looking, metadata_steps, no_memory, opening, parameters_steps, reading, step, types_steps, value_or}
+use Rattle.oim_run.specs.declared.outcome.Source.TheVariants as source
+use Rattle.oim_run.specs.declared.outcome.Outcome.TheVariants as outcome
+
+-- ---- the command line
+
+-- the words of the layouts, wherever they are in memory
+abbrev word : Text → Bor Text
+word text = record { ref_ptr = (0, 0); now = text }
+
+abbrev layouts : Words
+layouts = record { ref_ptr = (0, 0); now = word (codes "compact") ∷ word (codes "lines") ∷ [] }
+
+words_of_the_layouts : AreLayouts layouts
+words_of_the_layouts = refl
+
+abbrev least : List Text
+least = codes "m.json" ∷ codes "--types" ∷ codes "t.csv" ∷ []
+
+abbrev full : List Text
+full = codes "--out" ∷ codes "o.json" ∷ codes "--workers" ∷ codes "64" ∷ codes "--ring=2" ∷ codes "--layout" ∷ codes "lines" ∷ codes "--progress" ∷ least
+
+abbrev given : List Text → List Row
+given words = matches_of (command_line layouts) words
+
+least_meta : first_of (codes "meta") (given least) ≡ Some (codes "m.json")
+unfolding clap_on_literals command_line
+least_meta = refl
+
+least_types : first_of (codes "types") (given least) ≡ Some (codes "t.csv")
+unfolding clap_on_literals command_line
+least_types = refl
+
+least_workers : one_of (codes "workers") (given least) ≡ Some (codes "4")
+unfolding clap_on_literals command_line
+least_workers = refl
+
+least_ring : one_of (codes "ring") (given least) ≡ Some (codes "1024")
+unfolding clap_on_literals command_line
+least_ring = refl
+
+least_out : first_of (codes "out") (given least) ≡ None
+unfolding clap_on_literals command_line
+least_out = refl
+
+least_layout : first_of (codes "layout") (given least) ≡ Some (codes "compact")
+unfolding clap_on_literals command_line
+least_layout = refl
+
+least_progress : is_given (first_of (codes "progress") (given least)) ≡ false
+unfolding clap_on_literals command_line
+least_progress = refl
+
+full_workers : one_of (codes "workers") (given full) ≡ Some (codes "64")
+unfolding clap_on_literals command_line
+full_workers = refl
+
+full_ring : one_of (codes "ring") (given full) ≡ Some (codes "2")
+unfolding clap_on_literals command_line
+full_ring = refl
+
+full_out : first_of (codes "out") (given full) ≡ Some (codes "o.json")
+unfolding clap_on_literals command_line
+full_out = refl
+
+full_layout : first_of (codes "layout") (given full) ≡ Some (codes "lines")
+unfolding clap_on_literals command_line
+full_layout = refl
+
+-- an option that is not among the rows at all
+no_progress : is_given None ≡ false
+no_progress = refl
+
+full_progress : is_given (first_of (codes "progress") (given full)) ≡ true
+unfolding clap_on_literals command_line
+full_progress = refl
+
+least_taken : fault_of (command_line layouts) least ≡ []
+unfolding clap_on_literals command_line
+least_taken = refl
+
+full_taken : fault_of (command_line layouts) full ≡ []
+unfolding clap_on_literals command_line
+full_taken = refl
+
+types_missing : fault_of (command_line layouts) (codes "m.json" ∷ []) ≡ kind.MissingRequiredArgument ∷ []
+unfolding clap_on_literals command_line
+types_missing = refl
+
+meta_missing : fault_of (command_line layouts) (codes "--types" ∷ codes "t.csv" ∷ []) ≡ kind.MissingRequiredArgument ∷ []
+unfolding clap_on_literals command_line
+meta_missing = refl
+
+name_of_the_program : (command_line layouts).top.name ≡ codes "xbrl-json"
+unfolding command_line
+name_of_the_program = refl
+
+sixty_five_workers : fault_of (command_line layouts) (codes "--workers" ∷ codes "65" ∷ least) ≡ kind.ValueValidation ∷ []
+unfolding clap_on_literals command_line
+sixty_five_workers = refl
+
+-- one worker is the least, as is a ring of one block
+one_worker : fault_of (command_line layouts) (codes "--workers" ∷ codes "1" ∷ codes "--ring" ∷ codes "1" ∷ least) ≡ []
+unfolding clap_on_literals command_line
+one_worker = refl
+
+without_workers : fault_of (command_line layouts) (codes "--workers" ∷ codes "0" ∷ least) ≡ kind.ValueValidation ∷ []
+unfolding clap_on_literals command_line
+without_workers = refl
+
+another_layout : fault_of (command_line layouts) (codes "--layout" ∷ codes "pretty" ∷ least) ≡ kind.InvalidValue ∷ []
+unfolding clap_on_literals command_line
+another_layout = refl
+
+help_wanted : fault_of (command_line layouts) (codes "--help" ∷ []) ≡ kind.DisplayHelp ∷ []
+unfolding clap_on_literals command_line
+help_wanted = refl
+
+version_wanted : fault_of (command_line layouts) (codes "--version" ∷ []) ≡ kind.DisplayVersion ∷ []
+unfolding clap_on_literals command_line
+version_wanted = refl
+
+another_word : fault_of (command_line layouts) (codes "more.json" ∷ least) ≡ kind.UnknownArgument ∷ []
+unfolding clap_on_literals command_line
+another_word = refl
+
+-- ---- the limits
+
+limits : profile ≡ record { rows = 100_000_000; tables = 4_096; columns = 4_096; metadata = 67_108_864 }
+limits = refl
+
+-- ---- the metadata
+
+-- a report with these members
+abbrev csv_with : Members → Data
+csv_with members = object (member (codes "documentInfo") (object (member (codes "documentType") (string (codes "https://xbrl.org/2021/xbrl-csv")) no_members)) members)
+
+abbrev two_bytes : Limits
+two_bytes = record profile { metadata = 2 }
+
+-- a metadata of as many bytes as the limit is read, one of more is not
+metadata_at_the_limit : read_as {A = ℕ} two_bytes (λ _. Ok 0) (255 ∷ 255 ∷ []) ≡ Err refused.Syntax
+unfolding is_utf8 chars
+metadata_at_the_limit = refl
+
+metadata_past_the_limit : read_as {A = ℕ} two_bytes (λ _. Ok 0) (255 ∷ 255 ∷ 255 ∷ []) ≡ Err refused.TooLarge
+metadata_past_the_limit = refl
+
+-- a byte-order mark is passed over, and a text that is not UTF-8 is not JSON
+json_after_a_mark : json_of (239 ∷ 187 ∷ 191 ∷ codes "null") ≡ json_of (codes "null")
+unfolding is_utf8 chars encode
+json_after_a_mark = refl
+
+json_without_utf8 : json_of (255 ∷ []) ≡ None
+unfolding is_utf8 chars encode
+json_without_utf8 = refl
+
+named_file : url_in (csv_with (member (codes "parameterURL") (string (codes "p.csv")) no_members)) ≡ Ok (Some (codes "p.csv"))
+unfolding has_no_report has_bad_parameter_url is_plain_path
+named_file = refl
+
+no_named_file : url_in (csv_with no_members) ≡ Ok None
+unfolding has_no_report has_bad_parameter_url is_plain_path
+no_named_file = refl
+
+named_file_above : url_in (csv_with (member (codes "parameterURL") (string (codes "../p.csv")) no_members)) ≡ Err refused.BadParameter
+unfolding has_no_report has_bad_parameter_url is_plain_path
+named_file_above = refl
+
+-- ---- the files
+
+-- the first of two files with one path
+first_files : map (first_at ((word (codes "a"), word (codes "1")) ∷ (word (codes "b"), word (codes "2")) ∷ (word (codes "a"), word (codes "3")) ∷ []))
+    (codes "a" ∷ codes "b" ∷ codes "c" ∷ []) ≡ Some (codes "1") ∷ Some (codes "2") ∷ None ∷ []
+first_files = refl
+
+abbrev held : Files
+held path = if bytes_eq path (codes "f/m.json") then Some (codes "{")
+    else if bytes_eq path (codes "f/t1.csv") then Some (codes "cash\n")
+    else if bytes_eq path (codes "f/types.csv") then Some (codes "name\n")
+    else None
+
+missing_metadata : map (λ s. s.fault) (metadata_steps held (codes "x.json")) ≡ Some (outcome.CannotRead (codes "x.json")) ∷ None ∷ []
+missing_metadata = refl
+
+missing_types : map (λ s. s.fault) (metadata_steps held (codes "f/m.json") ++ opening held (codes "x.csv") ∷ []) ≡ None ∷ None ∷ Some (outcome.CannotRead (codes "x.csv")) ∷ []
+missing_types = refl
+
+wrong_types : reading {A = ReportValue} source.Types (Err refused.BadTypes)
+    ≡ step (Some (outcome.Report source.Types refused.BadTypes)) (outcome.Report source.Types refused.Read ∷ outcome.Report source.Types refused.Memory ∷ [])
+wrong_types = refl
+
+-- the types table is opened and read, and then the parameters file
+unread_types : map (λ s. s.refusals) (types_steps held (codes "f/types.csv"))
+    ≡ (no_memory ∷ []) ∷ (outcome.Report source.Types refused.Read ∷ outcome.Report source.Types refused.Memory ∷ []) ∷ []
+unread_types = refl
+
+unread_parameters : map (λ s. s.refusals) (parameters_steps held (codes "f/") (Some (codes "p.csv")))
+    ≡ (no_memory ∷ []) ∷ (outcome.Report source.Parameters refused.Read ∷ outcome.Report source.Parameters refused.Memory ∷ []) ∷ []
+unread_parameters = refl
+
+wrong_url : looking {A = ℕ} (Err refused.BadParameter) ≡ step (Some (outcome.Report source.Report refused.BadParameter)) (outcome.Report source.Report refused.Memory ∷ [])
+wrong_url = refl
+
+values : map (value_or []) (Ok (codes "p") ∷ Err refused.Syntax ∷ []) ≡ codes "p" ∷ [] ∷ []
+values = refl
+
+no_parameters : parameters_steps held (codes "f/") None ≡ []
+no_parameters = refl
+
+missing_parameters : map (λ s. s.fault) (take 1 (parameters_steps held (codes "f/") (Some (codes "p.csv")))) ≡ Some (outcome.CannotRead (codes "f/p.csv")) ∷ []
+missing_parameters = refl
+
+unread_metadata : map (λ s. s.refusals) (metadata_steps held (codes "f/m.json")) ≡ (no_memory ∷ []) ∷ (outcome.Report source.Report refused.Read ∷ no_memory ∷ []) ∷ []
+unread_metadata = refl
+
+-- a run ends at the first file that is missing, or at a file that is there because memory runs out
+stops_at_the_second : Stops (opening held (codes "f/m.json") ∷ opening held (codes "x.csv") ∷ []) (outcome.CannotRead (codes "x.csv"))
+stops_at_the_second =
+    record { before = opening held (codes "f/m.json") ∷ []; here = opening held (codes "x.csv"); later = []; split = refl; passed = (refl, tt); ends = inl refl }
+
+stops_without_memory : Stops (opening held (codes "f/m.json") ∷ opening held (codes "x.csv") ∷ []) no_memory
+stops_without_memory = record { before = []; here = opening held (codes "f/m.json"); later = opening held (codes "x.csv") ∷ []; split = refl; passed = tt; ends = inr (inl refl) }
+
+abbrev first : Table
+first = record { id = codes "t1"; url = codes "t1.csv"; is_optional = false; template = 0; parameters = [] }
+
+abbrev report : ReportValue
+report = record {
+  info = record { base_url = None; taxonomy = [] };
+  namespaces = [];
+  types = [];
+  level = no_level;
+  templates = [];
+  tables = first ∷ record first { id = codes "t2"; url = codes "t2.csv" } ∷ record first { id = codes "t3"; url = codes "t3.csv" } ∷ [];
+  parameters = [];
+}
+
+files_of_the_tables : table_files held (codes "f/") report ≡ Some (codes "cash\n") ∷ None ∷ None ∷ []
+files_of_the_tables = refl
+
+-- ---- settings out of range
+
+no_workers : range_fault 0 0 ≡ Some fault.BadWorkers
+no_workers = refl
+
+workers_past_the_most : range_fault 65 1 ≡ Some fault.BadWorkers
+workers_past_the_most = refl
+
+most_workers : range_fault 64 1 ≡ None
+most_workers = refl
+
+no_ring : range_fault 1 0 ≡ Some fault.BadSize
+no_ring = refl
+
+largest_ring : range_fault 1 65536 ≡ None
+largest_ring = refl
+
+ring_past_the_largest : range_fault 1 65537 ≡ Some fault.BadSize
+ring_past_the_largest = refl
+
+-- ---- outcomes
+
+abbrev bad_number : TableFault
+bad_number = fault_at 1 2 1 (table.Cell cell.BadNumber)
+
+abbrev unknown_header : TableFault
+unknown_header = fault_at 2 0 1 table.UnknownHeader
+
+abbrev two_refused : List (List ℕ × TableFault)
+two_refused = (codes "t2", bad_number) ∷ (codes "t3", unknown_header) ∷ []
+
+refused_by_their_identifiers : refused_tables report (bad_number ∷ unknown_header ∷ []) ≡ two_refused
+refused_by_their_identifiers = refl
+
+complete : outcome_at (table_ids report) [] end.Complete ≡ outcome.Done
+complete = refl
+
+ends_with_two_refused : outcome_at (table_ids report) (bad_number ∷ unknown_header ∷ []) end.Refused ≡ outcome.Tables two_refused
+ends_with_two_refused = refl
+
+failed_flush : flushed outcome.Done ≡ outcome.Output write.Failed
+failed_flush = refl
+
+failed_flush_of_refused_tables : flushed (outcome.Tables two_refused) ≡ outcome.Output write.Failed
+failed_flush_of_refused_tables = refl
+
+failed_flush_of_nothing : flushed (outcome.CannotRead (codes "x.json")) ≡ outcome.CannotRead (codes "x.json")
+failed_flush_of_nothing = refl
+
+statuses : map status_of (outcome.Done ∷ outcome.Report source.Types refused.BadTypes ∷ outcome.Tables two_refused ∷ outcome.CannotRead (codes "x.json") ∷ outcome.CannotWrite (codes "o.json")
+    ∷ outcome.Run fault.Memory ∷ outcome.Output write.Zero ∷ []) ≡ 0 ∷ 1 ∷ 1 ∷ 3 ∷ 3 ∷ 3 ∷ 3 ∷ []
+statuses = refl
+
+statuses_of_words : map words_status (kind.DisplayHelp ∷ kind.DisplayVersion ∷ kind.OutOfMemory ∷ kind.UnknownArgument ∷ []) ≡ 0 ∷ 0 ∷ 3 ∷ 2 ∷ []
+statuses_of_words = refl
+
+lines_of_sources : map line_of (outcome.Report source.Report refused.UnknownTemplate ∷ outcome.Report source.Parameters refused.BadParameter ∷ outcome.Report source.Types refused.BadTypes ∷ [])
+    ≡ codes "xbrl-json: report: UnknownTemplate (9)\n" ∷ codes "xbrl-json: parameters: BadParameter (13)\n" ∷ codes "xbrl-json: types: BadTypes (14)\n" ∷ []
+unfolding digits
+lines_of_sources = refl
+
+lines_of_paths : map line_of (outcome.Done ∷ outcome.CannotRead (codes "t.csv") ∷ outcome.CannotWrite (codes "o.json") ∷ [])
+    ≡ [] ∷ codes "xbrl-json: cannot read t.csv\n" ∷ codes "xbrl-json: cannot write o.json\n" ∷ []
+lines_of_paths = refl
+
+lines_of_the_run : map line_of (outcome.Run fault.Memory ∷ outcome.Output write.Failed ∷ []) ≡ codes "xbrl-json: run: Memory (53)\n" ∷ codes "xbrl-json: output: Write (56)\n" ∷ []
+unfolding digits
+lines_of_the_run = refl
+
+line_of_each_refused_table : line_of (outcome.Tables two_refused)
+    ≡ codes "xbrl-json: table t2, row 2, column 1: BadNumber (40)\nxbrl-json: table t3, row 0, column 1: UnknownHeader (23)\n"
+unfolding digits
+line_of_each_refused_table = refl
+
+not_outer : IsOuter table.UnknownHeader → ⊥
+not_outer (inl e) = cc
+not_outer (inr (inl e)) = cc
+not_outer (inr (inr e)) = cc
+
+a_fault_of_the_table : AreDefined (unknown_header ∷ [])
+a_fault_of_the_table = (not_outer, tt)
+
+a_failed_read : AreDefined (fault_at 0 0 0 table.Read ∷ []) → ⊥
+a_failed_read defined = defined.0 (inl refl)
+
+module _ (layout : Layout) (old new : SinkView) where
+  done_in_range : Leaves None old old outcome.Done
+  done_in_range = (refl, refl)
+
+  not_done_out_of_range : Leaves (range_fault 65 1) old new outcome.Done → ⊥
+  not_done_out_of_range leaves = let e = leaves.0 in cc
+
+  no_tables_without_a_fault : Leaves None old new (outcome.Tables []) → ⊥
+  no_tables_without_a_fault leaves = leaves.2 refl
+
+  -- a report without tables has no fault of a table
+  no_fault_without_a_table : Gives layout report [] old new (unknown_header ∷ []) end.Refused → ⊥
+  no_fault_without_a_table given = by given.histories given.are given.merged
+    where
+      by : (hs : List (List Item)) → AreHistories [] hs → Merges layout old new (head_text report) hs (unknown_header ∷ []) end.Refused → ⊥
+      by [] are merged = let e = merged.0 in cc
+      by (h ∷ hs) (inl are) merged = are
+      by (h ∷ hs) (inr are) merged = are

@@ -1,0 +1,141 @@
+-- The end of a conversion on one thread, as an outcome.
+use Rattle.std.specs.Prelude.{◌≡◌, ◌≢◌, ◌↔◌, ℕ, ◌+◌, Bool, true, false, ◌==◌, if◌then◌else◌, List, [], ◌∷◌, Option, Some, None, Result, Ok, Err, length}
+use Rattle.std.proofs.Common.{refl, sym, ap, subst, inl, inr, append-nil, ◌∙◌}
+use Rattle.std.proofs.lemmas.Bool.{eq-eqb, eqb-true}
+use Rattle.oim_convert.proofs.RunHistories.{uncut_streams}
+use Rattle.oim_convert.proofs.StreamHistories.{streams_answer}
+use Rattle.oim_convert.specs.Answer.{IsAnswer, ending_of, histories_of, streams}
+use Rattle.oim_convert.specs.Histories.{AreDecoded}
+use Rattle.oim_convert.specs.Serial as serial
+use Rattle.oim_convert.specs.declared.fault.ConvertFault.{ConvertFault}
+use Rattle.oim_convert.specs.declared.fault.ConvertFault.TheVariants as fault
+use Rattle.oim_json.specs.Sinks.{SinkView}
+use Rattle.oim_json.specs.declared.layout.Layout.{Layout}
+use Rattle.oim_merge.specs.Histories.{all_of, refusals}
+use Rattle.oim_merge.specs.declared.progress.MergeEnd.{MergeEnd}
+use Rattle.oim_merge.specs.declared.progress.MergeEnd.TheVariants as end
+use Rattle.oim_meta.specs.ReportValue.{ReportValue}
+use Rattle.oim_ring.specs.declared.item.Item.TheVariants.{Block}
+use Rattle.oim_rows.specs.Streams.{Stream, facts_of}
+use Rattle.oim_rows.specs.declared.fault.TableFault.{TableFault}
+use Rattle.oim_run.proofs.Names.{names_are}
+use Rattle.oim_run.proofs.Threads.{no_names, uncut}
+use Rattle.oim_run.specs.Naming.{outcome_alone, with_names}
+use Rattle.oim_run.specs.Outcomes.{AreDefined, EndsAs, Gives, Leaves, Refuses, table_ids}
+use Rattle.oim_run.specs.declared.outcome.Outcome.{Outcome}
+use Rattle.oim_run.specs.declared.outcome.Outcome.TheVariants as outcome
+
+-- the fault of settings in range, for this many readers and tables
+abbrev pub early_alone : ℕ → ℕ → Option ConvertFault
+early_alone readers tables = if readers == tables then None else Some fault.WrongReaders
+
+-- streams are histories of tables that were decoded whole
+decoded_streams : (i : ℕ) (ss : List Stream) → AreDecoded i ss (histories_of ss)
+decoded_streams i [] = tt
+decoded_streams i (s ∷ ss) = (
+  record {
+    facts = facts_of s;
+    ending = ending_of s.fault;
+    given = inl (refl, refl);
+    is = record { before = Block (facts_of s) ∷ []; blocks = refl; holds = append-nil (facts_of s); is = refl };
+  },
+  decoded_streams (i + 1) ss,
+)
+
+abbrev Answer : Type 0
+Answer = Result (Unit {0}) ConvertFault
+
+-- the answer is WrongReaders exactly where there are not as many readers as tables
+abbrev AnswersReaders : ℕ → ℕ → Answer → Type 0
+AnswersReaders readers tables r = (r ≡ Err fault.WrongReaders) ↔ (readers ≢ tables)
+
+-- whether there are as many readers as tables
+module _ (readers tables : ℕ) (r : Answer) (told : AnswersReaders readers tables r) where
+  not_wrong : (readers == tables) ≡ true → r ≡ Err fault.WrongReaders → ⊥
+  not_wrong same wrong = told.0 wrong (eqb-true readers tables same)
+
+  is_wrong : (readers == tables) ≡ false → r ≡ Err fault.WrongReaders
+  is_wrong other = told.1 (λ same. let both : true ≡ false = sym (eq-eqb readers tables same) ∙ other in cc)
+
+  found_as : (b : Bool) → (readers == tables) ≡ b → early_alone readers tables ≡ (if b then None else Some fault.WrongReaders)
+  found_as b is = ap (λ (c : Bool). if c then None else Some fault.WrongReaders) is
+
+-- HOW IT ENDS
+
+module _ (layout : Layout) (report : ReportValue) (limit : ℕ) (files : List (Option (List ℕ))) (old new : SinkView) (names : List (List ℕ)) (named : names ≡ table_ids report) where
+  abbrev said : List Stream
+  said = streams report limit files
+
+  gives : (faults : List TableFault) (e : MergeEnd) → IsAnswer layout report said old new faults e → Gives layout report said old new faults e
+  gives faults e is = record { histories = histories_of said; are = inl (decoded_streams 0 said); merged = is; answer = λ _. is }
+
+  refuses : (faults : List TableFault) → serial.Refuses layout report said old new faults → Refuses layout report said old new (with_names names faults)
+  refuses faults r =
+      record {
+        faults = faults;
+        names = names_are report limit files r.histories names faults named (inl r.decoded) r.merged.0;
+        given = record {
+          histories = r.histories;
+          are = inl r.decoded;
+          merged = r.merged;
+          answer = λ all.
+              let defined = subst (λ (l : List TableFault). AreDefined l) r.merged.0 all in
+              streams_answer layout report said r.histories old new faults end.Refused (uncut_streams said r.histories (inl r.decoded) (uncut r.histories defined)) r.merged;
+        };
+      }
+
+  in_range : (r : Answer) → (r ≡ Err fault.WrongReaders → ⊥) → serial.Converts layout report said old new r → EndsAs layout None report said old new (outcome_alone names r)
+  in_range (Ok u) right is = gives [] end.Complete is
+  in_range (Err (fault.Tables faults)) right is = refuses faults.items is
+  in_range (Err (fault.Write w)) right is = let faults = refusals (all_of (histories_of said)) in (faults, gives faults (end.Write w) (refl, is))
+  in_range (Err fault.WrongReaders) right is = absurd (right refl)
+  in_range (Err fault.Memory) right is = is
+  in_range (Err fault.BadWorkers) right is = absurd is
+  in_range (Err fault.BadSize) right is = absurd is
+  in_range (Err fault.Lost) right is = absurd is
+
+  abbrev EndsBy : Option ConvertFault → Outcome → Type 0
+  EndsBy early o = EndsAs layout early report said old new o
+
+  ends_by : (readers tables : ℕ) (r : Answer) → AnswersReaders readers tables r → serial.Converts layout report said old new r
+      → (b : Bool) → (readers == tables) ≡ b → EndsBy (early_alone readers tables) (outcome_alone names r)
+  ends_by readers tables r told is true same =
+      subst (λ (e : Option ConvertFault). EndsBy e (outcome_alone names r)) (sym (found_as readers tables r told true same)) (in_range r (not_wrong readers tables r told same) is)
+  ends_by readers tables r told is false other =
+      let wrong = is_wrong readers tables r told other in
+      subst (λ (e : Option ConvertFault). EndsBy e (outcome_alone names r)) (sym (found_as readers tables r told false other))
+      (inl (ap (outcome_alone names) wrong), subst (serial.Converts layout report said old new) wrong is)
+
+  pub alone_ends : (readers tables : ℕ) (early : Option ConvertFault) (r : Answer) (o : Outcome) → early ≡ early_alone readers tables → o ≡ outcome_alone names r
+      → AnswersReaders readers tables r → serial.Converts layout report said old new r → EndsBy early o
+  alone_ends readers tables early r o found ending told is =
+      subst (λ (e : Option ConvertFault). EndsBy e o) (sym found)
+      (subst (EndsBy (early_alone readers tables)) (sym ending) (ends_by readers tables r told is (readers == tables) refl))
+
+-- WHAT IT LEAVES BEHIND
+
+module _ (layout : Layout) (report : ReportValue) (old new : SinkView) (names : List (List ℕ)) where
+  left_in_range : (r : Answer) → (r ≡ Err fault.WrongReaders → ⊥) → serial.Leaves old new r → Leaves None old new (outcome_alone names r)
+  left_in_range (Ok u) right is = (refl, is)
+  left_in_range (Err (fault.Tables faults)) right is = (refl, is.0, λ none. is.1 (no_names layout report 0 old new names faults.items none))
+  left_in_range (Err (fault.Write w)) right is = (refl, is)
+  left_in_range (Err fault.WrongReaders) right is = absurd (right refl)
+  left_in_range (Err fault.Memory) right is = inl (refl, is)
+  left_in_range (Err fault.BadWorkers) right is = absurd is
+  left_in_range (Err fault.BadSize) right is = absurd is
+  left_in_range (Err fault.Lost) right is = absurd is
+
+  left_by : (readers tables : ℕ) (r : Answer) → AnswersReaders readers tables r → serial.Leaves old new r
+      → (b : Bool) → (readers == tables) ≡ b → Leaves (early_alone readers tables) old new (outcome_alone names r)
+  left_by readers tables r told is true same =
+      subst (λ (e : Option ConvertFault). Leaves e old new (outcome_alone names r)) (sym (found_as readers tables r told true same)) (left_in_range r (not_wrong readers tables r told same) is)
+  left_by readers tables r told is false other =
+      let wrong = is_wrong readers tables r told other in
+      subst (λ (e : Option ConvertFault). Leaves e old new (outcome_alone names r)) (sym (found_as readers tables r told false other))
+      (subst (λ (o : Outcome). Leaves (Some fault.WrongReaders) old new o) (sym (ap (outcome_alone names) wrong)) (inr (inl (refl, subst (serial.Leaves old new) wrong is))))
+
+  pub alone_leaves : (readers tables : ℕ) (early : Option ConvertFault) (r : Answer) (o : Outcome) → early ≡ early_alone readers tables → o ≡ outcome_alone names r
+      → AnswersReaders readers tables r → serial.Leaves old new r → Leaves early old new o
+  alone_leaves readers tables early r o found ending told is =
+      subst (λ (e : Option ConvertFault). Leaves e old new o) (sym found)
+      (subst (Leaves (early_alone readers tables) old new) (sym ending) (left_by readers tables r told is (readers == tables) refl))

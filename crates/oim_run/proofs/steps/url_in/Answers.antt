@@ -1,0 +1,17 @@
+use Rattle.std.proofs.Common.{subst}
+use Rattle.oim_meta.specs.Reading.{IsUrlFault, SaysUrl}
+use Rattle.oim_run.specs.Conversion.{profile}
+use Rattle.oim_run.specs.Metadata.{url_result}
+use Rattle.oim_run.proofs.MetadataFacts.{says_url, url_fault}
+use Rattle.oim_run.proofs.StepFacts.{looks_fault, looks_value}
+use Rattle.oim_run.proofs.steps.url_in.Goals as goal
+
+pub returns-in-Ok-clause-gives : goal.returns-in-Ok-clause-gives
+returns-in-Ok-clause-gives c =
+    looks_value (url_result profile c.args.metadata.now) c.in-Ok.url (says_url profile c.args.metadata.now c.in-Ok.url
+    (subst (λ l. SaysUrl l c.args.metadata.now c.in-Ok.url) c.profile.ensures c.in-Ok.ensures.value))
+
+pub returns-in-Err-clause-gives : goal.returns-in-Err-clause-gives
+returns-in-Err-clause-gives c =
+    looks_fault (url_result profile c.args.metadata.now) c.in-Err.fault
+    (url_fault profile c.args.metadata.now c.in-Err.fault (subst (λ l. IsUrlFault l c.args.metadata.now c.in-Err.fault) c.profile.ensures c.in-Err.ensures.fault))

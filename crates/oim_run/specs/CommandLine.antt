@@ -1,0 +1,99 @@
+-- The command line, and the settings that its words give.
+use Rattle.std.specs.Prelude.{◌≡◌, ◌⊎◌, ℕ, Bool, true, false, List, [], ◌∷◌, Option, Some, None, Result, IfOk, codes, map}
+use Rattle.std.specs.Borrow.{Bor}
+use Rattle.std.specs.Str.{bytes_eq}
+use Rattle.std.specs.Str.Parse.{digits_value, without_leading_plus}
+use Rattle.clap.specs.Kinds.{FailsBy}
+use Rattle.clap.specs.Words.{App, Row, Rule, Text, fault_of, first_of, matches_of, new_app, new_rule, one_of, with_rule}
+use Rattle.clap.specs.Simple.{on_top}
+use Rattle.clap.specs.declared.error.Error.{Error}
+use Rattle.clap.specs.declared.builder.action.ArgAction.TheVariants.{Set, SetTrue}
+use Rattle.clap.specs.declared.builder.value_parser.ValueParser.TheVariants.{Names, Unsigned}
+use Rattle.oim_convert.specs.Limits.{most_workers}
+use Rattle.oim_json.specs.declared.layout.Layout.{Layout}
+use Rattle.oim_json.specs.declared.layout.Layout.TheVariants as layout
+use Rattle.oim_ring.specs.Limits.{largest_ring}
+use Rattle.oim_run.specs.declared.settings.Settings.{Settings}
+
+-- an argument that takes one value, and an option of this name
+abbrev pub one_value : Text → Rule
+one_value id = record (new_rule id) { action = Some Set; value_names = 1 }
+
+abbrev pub option : Text → Rule
+option id = record (one_value id) { long = Some id }
+
+-- an option whose value is a number from 1 to `most`
+abbrev pub number_option : Text → ℕ → Text → Rule
+number_option id most default =
+    record (option id) { parser = Some (Unsigned 1 most); defaults = default ∷ [] }
+
+-- the words that may be the value of an option
+abbrev pub Words : Type 0
+Words = Bor (List (Bor Text))
+
+-- an option whose value is one of the words
+abbrev pub word_option : Text → Words → Text → Rule
+word_option id words default =
+    record (option id) { parser = Some (Names words); defaults = default ∷ [] }
+
+-- an option of this name, without a value
+abbrev pub flag : Text → Rule
+flag id = record (new_rule id) { long = Some id; action = Some SetTrue }
+
+-- META --types FILE, without the program's name; or --help, or --version
+abbrev pub inputs : App
+inputs = with_rule
+    (with_rule (on_top (λ s. record s { no_binary_name = true; has_version = true }) (new_app (codes "xbrl-json")))
+    (record (one_value (codes "meta")) { required = true }))
+    (record (option (codes "types")) { required = true })
+
+-- the words of the layouts
+abbrev pub AreLayouts : Words → Type 0
+AreLayouts words = map (λ w. w.now) words.now ≡ codes "compact" ∷ codes "lines" ∷ []
+
+-- META --types FILE [--workers N] [--ring K] [--out FILE] [--layout WORD] [--progress]
+unfoldable pub command_line : Words → App
+command_line layouts = with_rule
+    (with_rule
+    (with_rule
+    (with_rule
+    (with_rule inputs
+    (number_option (codes "workers") most_workers (codes "4")))
+    (number_option (codes "ring") largest_ring (codes "1024")))
+    (option (codes "out")))
+    (word_option (codes "layout") layouts (codes "compact")))
+    (flag (codes "progress"))
+
+-- the option has a text, which is n in decimal digits
+abbrev pub IsNumberOf : Option Text → ℕ → Type 0
+IsNumberOf None n = ⊥
+IsNumberOf (Some text) n = n ≡ digits_value 10 (without_leading_plus text)
+
+-- the text is the word of the layout
+abbrev pub IsLayoutOf : Option Text → Layout → Type 0
+IsLayoutOf text layout.Compact = text ≡ Some (codes "compact")
+IsLayoutOf text layout.Lines = text ≡ Some (codes "lines")
+
+-- the flag is given, as its text says
+abbrev pub is_given : Option Text → Bool
+is_given None = false
+is_given (Some text) = bytes_eq text (codes "true")
+
+-- the settings are the values that the words give, and the defaults for those that they leave out
+abbrev pub HasSettings : List Row → Settings → Type 0
+HasSettings rows s = (first_of (codes "meta") rows ≡ Some s.meta)
+    × (first_of (codes "types") rows ≡ Some s.types)
+    × IsNumberOf (one_of (codes "workers") rows) s.workers
+    × IsNumberOf (one_of (codes "ring") rows) s.ring
+    × (first_of (codes "out") rows ≡ s.out)
+    × IsLayoutOf (first_of (codes "layout") rows) s.layout
+    × (s.progress ≡ is_given (first_of (codes "progress") rows))
+
+-- the answer to the words: the settings, or a refusal of one of the kinds that the command line gives
+pub record Answers (line : App) (words : List Text) (r : Result Settings Error) : Type 0 where
+  pub values : IfOk r (HasSettings (matches_of line words))
+  pub fails : FailsBy (fault_of line words) r
+
+-- the path of an input file that the settings name
+abbrev pub IsInput : Settings → List ℕ → Type 0
+IsInput s path = (path ≡ s.meta) ⊎ (path ≡ s.types)

@@ -1,0 +1,63 @@
+-- What the program says of each outcome: its exit status, and its lines on standard error.
+use Rattle.std.specs.Prelude.{ℕ, List, [], ◌∷◌, ◌++◌, codes}
+use Rattle.std.specs.Fmt.{decimal}
+use Rattle.clap.specs.declared.error.kind.ErrorKind.{ErrorKind}
+use Rattle.clap.specs.declared.error.kind.ErrorKind.TheVariants as kind
+use Rattle.oim_meta.specs.FaultNames.{fault_name, fault_number}
+use Rattle.oim_rows.specs.FaultNames as table_fault
+use Rattle.oim_convert.specs.FaultNames as convert_fault
+use Rattle.oim_rows.specs.declared.fault.TableFault.{TableFault}
+use Rattle.oim_run.specs.declared.outcome.Outcome.{Outcome}
+use Rattle.oim_run.specs.declared.outcome.Outcome.TheVariants as outcome
+use Rattle.oim_run.specs.declared.outcome.Source.{Source}
+use Rattle.oim_run.specs.declared.outcome.Source.TheVariants as source
+
+abbrev pub status_of : Outcome → ℕ
+status_of outcome.Done = 0
+status_of (outcome.Report s f) = 1
+status_of (outcome.Tables named) = 1
+status_of (outcome.CannotRead path) = 3
+status_of (outcome.CannotWrite path) = 3
+status_of (outcome.Run f) = 3
+status_of (outcome.Output f) = 3
+
+-- the exit status for words that the definition of the command line refuses with this kind; help and the version are not failures
+abbrev pub words_status : ErrorKind → ℕ
+words_status kind.DisplayHelp = 0
+words_status kind.DisplayVersion = 0
+words_status kind.OutOfMemory = 3
+words_status _ = 2
+
+abbrev pub source_name : Source → List ℕ
+source_name source.Report = codes "report"
+source_name source.Parameters = codes "parameters"
+source_name source.Types = codes "types"
+
+-- the line for a fault at a named place
+abbrev pub fault_text : List ℕ → List ℕ → ℕ → List ℕ
+fault_text place name number =
+    codes "xbrl-json: " ++ (place ++ (codes ": " ++ (name ++ (codes " (" ++ (decimal number ++ 41 ∷ 10 ∷ [])))))
+
+abbrev pub table_text : List ℕ → TableFault → List ℕ
+table_text id f =
+    fault_text (codes "table " ++ (id ++ (codes ", row " ++ (decimal f.row ++ (codes ", column " ++ decimal f.column)))))
+    (table_fault.name_of f.kind) (table_fault.number_of f.kind)
+
+-- the lines for refused tables, in order
+abbrev pub tables_text : List (List ℕ × TableFault) → List ℕ
+tables_text [] = []
+tables_text (named ∷ more) = table_text named.0 named.1 ++ tables_text more
+
+-- the line for a file that cannot be read or written
+abbrev pub path_text : List ℕ → List ℕ → List ℕ
+path_text what path = codes "xbrl-json: cannot " ++ (what ++ (codes " " ++ (path ++ 10 ∷ [])))
+
+-- the lines for an outcome: none for a whole document, and one for each refused table
+abbrev pub line_of : Outcome → List ℕ
+line_of outcome.Done = []
+line_of (outcome.Report s f) = fault_text (source_name s) (fault_name f) (fault_number f)
+line_of (outcome.Tables named) = tables_text named
+line_of (outcome.CannotRead path) = path_text (codes "read") path
+line_of (outcome.CannotWrite path) = path_text (codes "write") path
+line_of (outcome.Run f) = fault_text (codes "run") (convert_fault.name_of f) (convert_fault.number_of f)
+line_of (outcome.Output f) = codes "xbrl-json: output: Write (56)" ++ 10 ∷ []

@@ -1,0 +1,37 @@
+-- The names of refused tables, taken out of a list of names one after another.
+use Rattle.std.specs.Prelude.{ℕ, List, [], ◌∷◌, Result, Ok, Err, slice_set}
+use Rattle.oim_convert.specs.declared.fault.ConvertFault.{ConvertFault}
+use Rattle.oim_convert.specs.declared.fault.ConvertFault.TheVariants as fault
+use Rattle.oim_convert.specs.declared.run.Run.{Run}
+use Rattle.oim_merge.specs.declared.progress.MergeEnd.{MergeEnd}
+use Rattle.oim_merge.specs.declared.progress.MergeEnd.TheVariants as end
+use Rattle.oim_rows.specs.declared.fault.TableFault.{TableFault}
+use Rattle.oim_run.specs.Outcomes.{name_in}
+use Rattle.oim_run.specs.declared.outcome.Outcome.{Outcome}
+use Rattle.oim_run.specs.declared.outcome.Outcome.TheVariants as outcome
+
+-- each fault with the name at its table's place, which is taken out of the names
+abbrev pub with_names : List (List ℕ) → List TableFault → List (List ℕ × TableFault)
+with_names names [] = []
+with_names names (e ∷ faults) = (name_in names e.table, e) ∷ with_names (slice_set names e.table []) faults
+
+-- the outcome of a conversion with this answer, where the tables have these names
+abbrev pub outcome_at : List (List ℕ) → List TableFault → MergeEnd → Outcome
+outcome_at names faults end.Complete = outcome.Done
+outcome_at names faults end.Refused = outcome.Tables (with_names names faults)
+outcome_at names faults (end.Write w) = outcome.Output w
+
+abbrev pub outcome_by : List (List ℕ) → Result Run ConvertFault → Outcome
+outcome_by names (Ok run) = outcome_at names run.faults.items run.end
+outcome_by names (Err f) = outcome.Run f
+
+-- the same of a conversion on one thread
+abbrev pub outcome_alone : List (List ℕ) → Result (Unit {0}) ConvertFault → Outcome
+outcome_alone names (Ok u) = outcome.Done
+outcome_alone names (Err (fault.Tables faults)) = outcome.Tables (with_names names faults.items)
+outcome_alone names (Err (fault.Write w)) = outcome.Output w
+outcome_alone names (Err fault.BadWorkers) = outcome.Run fault.BadWorkers
+outcome_alone names (Err fault.BadSize) = outcome.Run fault.BadSize
+outcome_alone names (Err fault.WrongReaders) = outcome.Run fault.WrongReaders
+outcome_alone names (Err fault.Memory) = outcome.Run fault.Memory
+outcome_alone names (Err fault.Lost) = outcome.Run fault.Lost

@@ -1,0 +1,88 @@
+-- What the outcome of a conversion means, for every number of workers and every ring size.
+-- xBRL-CSV 1.0 (a report is the facts of its tables), xBRL-JSON 1.0 (the document).
+use Rattle.std.specs.Prelude.{⊤, ◌≡◌, ◌⊎◌, map, slice_index_or, length, ℕ, List, [], ◌∷◌, Option, Some, None}
+use Rattle.oim_convert.specs.Answer.{IsAnswer}
+use Rattle.oim_convert.specs.Runs.{AreHistories, IsLost, IsOuter}
+use Rattle.oim_convert.specs.declared.fault.ConvertFault.{ConvertFault}
+use Rattle.oim_convert.specs.declared.fault.ConvertFault.TheVariants as fault
+use Rattle.oim_json.specs.JsonText.{head_text}
+use Rattle.oim_json.specs.Sinks.{SinkView, Unwritten, mark_of}
+use Rattle.oim_json.specs.declared.layout.Layout.{Layout}
+use Rattle.oim_merge.specs.Merging.{Merges}
+use Rattle.oim_merge.specs.declared.progress.MergeEnd.{MergeEnd}
+use Rattle.oim_merge.specs.declared.progress.MergeEnd.TheVariants as end
+use Rattle.oim_meta.specs.Readers.{table_of}
+use Rattle.oim_meta.specs.ReportValue.{ReportValue}
+use Rattle.oim_ring.specs.declared.item.Item.{Item}
+use Rattle.oim_rows.specs.Streams.{Stream}
+use Rattle.oim_rows.specs.declared.fault.TableFault.{TableFault}
+use Rattle.oim_run.specs.declared.outcome.Outcome.{Outcome}
+use Rattle.oim_run.specs.declared.outcome.Outcome.TheVariants as outcome
+
+-- the identifiers of a report's tables, and the one at a place
+abbrev pub table_ids : ReportValue → List (List ℕ)
+table_ids report = map (λ t. t.id) report.tables
+
+abbrev pub name_in : List (List ℕ) → ℕ → List ℕ
+name_in names i = slice_index_or names i []
+
+-- faults, each with the name of its table
+abbrev pub named_by : (ℕ → List ℕ) → List TableFault → List (List ℕ × TableFault)
+named_by name faults = map (λ e. (name e.table, e)) faults
+
+-- the faults, each with the identifier of its table
+abbrev pub refused_tables : ReportValue → List TableFault → List (List ℕ × TableFault)
+refused_tables report faults = named_by (λ i. (table_of report i).id) faults
+
+-- no table ended because memory or threads ran out, or because a read failed
+abbrev pub AreDefined : List TableFault → Type 0
+AreDefined [] = ⊤
+AreDefined (e ∷ faults) = (¬ IsOuter e.kind) × AreDefined faults
+
+-- there are histories of these streams; the faults are theirs, in table order, and their document is written in this layout. If each fault
+-- is a table's own, that is the answer that the streams define
+pub record Gives (layout : Layout) (report : ReportValue) (ss : List Stream) (old new : SinkView) (faults : List TableFault) (e : MergeEnd) : Type 0 where
+  pub histories : List (List Item)
+  pub are : AreHistories ss histories
+  pub merged : Merges layout old new (head_text report) histories faults e
+  pub answer : AreDefined faults → IsAnswer layout report ss old new faults e
+
+-- the refused tables, and the unfinished document up to and including the first of them
+pub record Refuses (layout : Layout) (report : ReportValue) (ss : List Stream) (old new : SinkView) (named : List (List ℕ × TableFault)) : Type 0 where
+  pub faults : List TableFault
+  pub names : named ≡ refused_tables report faults
+  pub given : Gives layout report ss old new faults end.Refused
+
+-- a conversion that broke off: memory ran out, and nothing is written, or the end of a ring was lost
+abbrev pub Breaks : Layout → ReportValue → SinkView → SinkView → ConvertFault → Type 0
+Breaks layout report old new fault.Memory = Unwritten old new
+Breaks layout report old new fault.Lost = IsLost layout report (length report.tables) old new
+Breaks layout report old new f = ⊥
+
+-- how the conversion of a report with these streams, to a document in this layout, ended. With a fault that is found before anything is
+-- prepared, it answers that fault, or that memory ran out, and nothing is written. Otherwise Done means that no table is refused and the
+-- whole document is written, Tables has every refused table with its identifier, and Output means that a write failed and a beginning of
+-- the document is written
+abbrev pub EndsAs : Layout → Option ConvertFault → ReportValue → List Stream → SinkView → SinkView → Outcome → Type 0
+EndsAs layout (Some f) report ss old new o = ((o ≡ outcome.Run f) ⊎ (o ≡ outcome.Run fault.Memory)) × Unwritten old new
+EndsAs layout None report ss old new outcome.Done = Gives layout report ss old new [] end.Complete
+EndsAs layout None report ss old new (outcome.Tables named) = Refuses layout report ss old new named
+EndsAs layout None report ss old new (outcome.Output w) = (faults : List TableFault) × Gives layout report ss old new faults (end.Write w)
+EndsAs layout None report ss old new (outcome.Run f) = Breaks layout report old new f
+EndsAs layout None report ss old new o = ⊥
+
+-- a run that broke off, whatever the readers: memory ran out or the settings are out of range, and nothing is written; or the end of a ring
+-- was lost, and the settings are in range
+abbrev pub LeavesRun : Option ConvertFault → SinkView → SinkView → ConvertFault → Type 0
+LeavesRun range old new f = ((f ≡ fault.Memory) × Unwritten old new) ⊎ ((range ≡ Some f) × Unwritten old new) ⊎ ((f ≡ fault.Lost) × (range ≡ None))
+
+-- what an outcome leaves behind, whatever the files and their readers: nothing is written if a file has a fault; the sink has the mark of a
+-- failed write exactly if the outcome says so; and a conversion begins only with settings in range
+abbrev pub Leaves : Option ConvertFault → SinkView → SinkView → Outcome → Type 0
+Leaves range old new outcome.Done = (range ≡ None) × (new.mark ≡ old.mark)
+Leaves range old new (outcome.Report s f) = Unwritten old new
+Leaves range old new (outcome.Tables named) = (range ≡ None) × (new.mark ≡ old.mark) × (¬ (named ≡ []))
+Leaves range old new (outcome.CannotRead path) = Unwritten old new
+Leaves range old new (outcome.CannotWrite path) = ⊥
+Leaves range old new (outcome.Run f) = LeavesRun range old new f
+Leaves range old new (outcome.Output w) = (range ≡ None) × (new.mark ≡ mark_of w)

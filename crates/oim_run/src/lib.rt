@@ -1,0 +1,44 @@
+//! A run of `xbrl-json`: from the words of its command line and a folder of files to the document, the
+//! lines of its faults and its exit status.
+//!
+//! What is proved:
+//!
+//! - if `job` succeeds, the settings have the values that the words give, and the defaults for those
+//!   that they leave out, with 1 to 64 workers and a ring size of 1 to 65,536. Apart from running out
+//!   of memory, it fails for exactly the words that the definition of the command line refuses
+//!   (`specs/CommandLine.antt`);
+//! - `run`, over any folder that tells its files honestly, ends as the files say (`specs/Runs.antt`). If
+//!   the metadata, the types table or the parameters file has a fault, the run ends with the first one,
+//!   in the order in which the files are read, and writes nothing (`specs/Steps.antt`). Otherwise it
+//!   ends as the conversion of the report does: with the whole document in the given layout, or with
+//!   every refused table in table order, each by its identifier with its first fault, and the unfinished
+//!   document up to and including the first of them (`specs/Outcomes.antt`). This holds for every number
+//!   of workers, ring size and schedule of the threads;
+//! - `convert_report` says the same of a report whose tables are given by readers, `convert_texts` of
+//!   one whose files are given by their bytes, and `convert_held` of the built-in report
+//!   (`specs/Conversion.antt`);
+//! - `run_to` and `convert_to` say the same of a writer behind a buffer: a flush that fails after a
+//!   document, whole or unfinished, is a failed write;
+//! - `status` and `line` give the exit status and the lines on standard error of each outcome, with one
+//!   line for each refused table (`specs/Lines.antt`).
+//!
+//! What only tests show: what the writer behind the buffer holds, and that memory and threads, where
+//! they are given, are enough.
+#![tactic(auto)]
+
+mod buffered;
+mod conversion;
+mod folder;
+mod held;
+mod outcome;
+mod running;
+mod settings;
+mod steps;
+
+pub use buffered::{convert_to, run_to};
+pub use conversion::{convert_held, convert_report, convert_texts};
+pub use folder::{Folder, Texts};
+pub use held::{METADATA, TABLE, TYPES};
+pub use outcome::{Outcome, Source, line, status};
+pub use running::run;
+pub use settings::{Settings, job};

@@ -1,0 +1,288 @@
+//! The settings that the command line gives.
+
+ghost use Rattle.std.specs.Prelude.{◌≡◌, ◌≤◌, ◌↔◌, IfOk, IfSome, IsTrue, codes, false, map, option_map};
+ghost use Rattle.clap.specs.Kinds.{FailsBy};
+ghost use Rattle.clap.specs.Words.{app_of, fault_of, first_of, found_of, matches_of, one_of, rows_of, rule_of};
+ghost use Rattle.oim_convert.specs.Limits.{IsWorkerCount};
+ghost use Rattle.oim_ring.specs.Limits.{IsRingSize};
+ghost use Rattle.oim_run.specs.CommandLine as spec;
+ghost use Rattle.oim_run.specs.CommandLine.{Answers, AreLayouts, HasSettings, IsInput, IsLayoutOf, IsNumberOf, Words, command_line};
+
+use clap::builder::ValueParser;
+use clap::{Arg, ArgAction, ArgMatches, Command, Error};
+use oim_convert::{LARGEST_RING, MOST_WORKERS};
+use oim_json::Layout;
+use oim_names::Text;
+use std::alloc::{AllocError, Global};
+
+/// The words of the layouts.
+const LAYOUTS: &[&str] = &["compact", "lines"];
+
+/// The help of each argument.
+const META_HELP: &str = "The metadata file of the report";
+
+const TYPES_HELP: &str = "The types table: the type of each concept and dimension";
+
+const WORKERS_HELP: &str = "How many tables are read at once";
+
+const RING_HELP: &str =
+    "How many blocks of up to 256 facts may wait for one table; for all tables, about four times as many";
+
+const OUT_HELP: &str =
+    "The file of the document, which is emptied first [default: standard output]";
+
+const LAYOUT_HELP: &str = "The document on one line, or with a line for each fact";
+
+const PROGRESS_HELP: &str = "Show on standard error how much is read and written";
+
+/// The end of the help.
+const MORE_HELP: &str = r#"Example:
+  xbrl-json report/meta.json --types report/types.csv --out report.json
+
+The table files and the parameters file are at the paths that META names, relative to its folder.
+
+The types table is a CSV file with the header "namespace,name,type2" and one line for each concept
+and dimension of the taxonomy. The type of a concept is integer, decimal, double, text, boolean,
+date, qname or other, and that of a dimension is explicit or typed. With the header
+"namespace,name,type", a concept's type cannot be boolean, date or qname:
+  http://example.com/eg,Cash,integer
+
+Exit status:
+  0  the document is written
+  1  the report has a fault, which standard error names
+  2  the words of the command line are wrong
+  3  a file cannot be read or written, or memory ran out"#;
+
+/// The settings of a run.
+#[derive(Drop)]
+pub struct Settings {
+    /// The path of the metadata file.
+    pub meta: Text,
+    /// The path of the types table.
+    pub types: Text,
+    /// How many tables are read at once, 1 to 64.
+    pub workers: usize,
+    /// How many blocks of facts of one table may wait, 1 to 65,536.
+    pub ring: usize,
+    /// The path of the document, `None` for standard output.
+    pub out: Option<Text>,
+    /// Whether the document is on one line, or has a line for each fact.
+    pub layout: Layout,
+    /// Whether standard error shows how far the run is.
+    pub progress: bool,
+}
+
+impl Settings {
+    /// Whether this is the path of the metadata or of the types table.
+    pub fn reads(&self, path: &str) -> bool
+        ensures { IsTrue result ↔ IsInput self.now path.now }
+    {
+        self.meta.as_str() == path || self.types.as_str() == path
+    }
+}
+
+/// An argument with one value.
+fn one_value<'a>(alloc: Global, id: &'a str, value: &'a str, help: &'a str) -> Arg<'a>
+    ensures rule { rule_of result ≡ spec.one_value id.entry.now }
+    ensures local { result.global ≡ false }
+{
+    Arg::new(alloc, id)
+        .value_name(value)
+        .help(help)
+        .action(ArgAction::Set)
+}
+
+/// An option with one value.
+fn option<'a>(alloc: Global, name: &'a str, value: &'a str, help: &'a str) -> Arg<'a>
+    ensures rule { rule_of result ≡ spec.option name.entry.now }
+    ensures local { result.global ≡ false }
+{
+    one_value(alloc, name, value, help).long(name)
+}
+
+/// An option whose value is a number from 1 to `most`.
+fn number_option<'a>(
+    alloc: Global,
+    name: &'a str,
+    most: u64,
+    default: &'a str,
+    help: &'a str,
+) -> Arg<'a>
+    ensures rule { rule_of result ≡ spec.number_option name.entry.now most default.entry.now }
+    ensures local { result.global ≡ false }
+{
+    option(alloc, name, "N", help)
+        .value_parser(ValueParser::unsigned(1, most))
+        .default_value(default)
+}
+
+/// An option whose value is one of the words.
+fn word_option<'a>(
+    alloc: Global,
+    name: &'a str,
+    words: &'a [&'a str],
+    default: &'a str,
+    help: &'a str,
+) -> Arg<'a>
+    ensures rule { rule_of result ≡ spec.word_option name.entry.now words.entry default.entry.now }
+    ensures local { result.global ≡ false }
+{
+    option(alloc, name, "WORD", help)
+        .value_parser(ValueParser::Names(words))
+        .default_value(default)
+}
+
+/// An option without a value.
+fn flag<'a>(alloc: Global, name: &'a str, help: &'a str) -> Arg<'a>
+    ensures rule { rule_of result ≡ spec.flag name.entry.now }
+    ensures local { result.global ≡ false }
+{
+    Arg::new(alloc, name)
+        .long(name)
+        .help(help)
+        .action(ArgAction::SetTrue)
+}
+
+/// The program with the arguments for its two files. Fails if memory runs out.
+fn inputs<'a>(alloc: Global) -> Result<Command<'a>, AllocError>
+    ensures { IfOk result (λ c. app_of c ≡ spec.inputs) }
+{
+    let meta = one_value(alloc, "meta", "META", META_HELP).required(true);
+    let types = option(alloc, "types", "FILE", TYPES_HELP).required(true);
+    Command::new(alloc, "xbrl-json")
+        .about("Converts a report in xBRL-CSV to xBRL-JSON")
+        .version("0.1.0")
+        .after_help(MORE_HELP)
+        .no_binary_name(true)
+        .arg(meta)?
+        .arg(types)
+}
+
+/// The program's arguments, as `clap` reads them, where `layouts` are the words of the layouts. Fails if
+/// memory runs out.
+fn command<'a>(alloc: Global, layouts: &'a [&'a str]) -> Result<Command<'a>, AllocError>
+    ensures { IfOk result (λ c. app_of c ≡ command_line layouts.entry) }
+{
+    let workers = number_option(alloc, "workers", MOST_WORKERS as u64, "4", WORKERS_HELP);
+    let ring = number_option(alloc, "ring", LARGEST_RING as u64, "1024", RING_HELP);
+    let out = option(alloc, "out", "FILE", OUT_HELP);
+    let layout = word_option(alloc, "layout", layouts, "compact", LAYOUT_HELP);
+    let progress = flag(alloc, "progress", PROGRESS_HELP);
+    inputs(alloc)?
+        .arg(workers)?
+        .arg(ring)?
+        .arg(out)?
+        .arg(layout)?
+        .arg(progress)
+}
+
+/// The value that the argument `id` has.
+fn value_of<'a>(matches: &ArgMatches<'a>, id: &str) -> Option<&'a str>
+    ensures { option_map (λ s. s.now) result ≡ first_of id.now (rows_of (found_of matches.now)) }
+{
+    matches.get_str(id)
+}
+
+/// Whether the flag `id` is given.
+fn is_given(matches: &ArgMatches<'_>, id: &str) -> bool
+    ensures { result ≡ spec.is_given (first_of id.now (rows_of (found_of matches.now))) }
+{
+    match value_of(matches, id) {
+        Some(text) => text == "true",
+        None => false,
+    }
+}
+
+/// The number that the option `id` has, if it is between `least` and `most`.
+fn number_between(matches: &ArgMatches<'_>, id: &str, least: usize, most: usize) -> Option<usize>
+    ensures { IfSome result (λ n. (least ≤ n) × (n ≤ most)
+        × IsNumberOf (one_of id.now (rows_of (found_of matches.now))) n) }
+{
+    let n = matches.get_one::<usize>(id)?;
+    if least <= n && n <= most {
+        Some(n)
+    } else {
+        None
+    }
+}
+
+/// The layout that the option `layout` has.
+fn layout_in(matches: &ArgMatches<'_>) -> Option<Layout>
+    ensures { IfSome result (IsLayoutOf (first_of (codes "layout") (rows_of (found_of matches.now)))) }
+{
+    let word = value_of(matches, "layout")?;
+    if word == "compact" {
+        Some(Layout::Compact)
+    } else if word == "lines" {
+        Some(Layout::Lines)
+    } else {
+        None
+    }
+}
+
+/// The settings in the matches. A parse of `command` always has them. Fails if memory runs out.
+fn settings_in(alloc: Global, matches: &ArgMatches<'_>) -> Result<Option<Settings>, AllocError>
+    ensures values { IfOk result (λ o. IfSome o (HasSettings (rows_of (found_of matches.now)))) }
+    ensures workers { IfOk result (λ o. IfSome o (λ s. IsWorkerCount s.workers)) }
+    ensures ring { IfOk result (λ o. IfSome o (λ s. IsRingSize s.ring)) }
+{
+    let (Some(meta), Some(types), Some(workers), Some(ring), Some(layout)) = (
+        value_of(matches, "meta"),
+        value_of(matches, "types"),
+        number_between(matches, "workers", 1, MOST_WORKERS),
+        number_between(matches, "ring", 1, LARGEST_RING),
+        layout_in(matches),
+    ) else {
+        return Ok(None);
+    };
+    let out = match value_of(matches, "out") {
+        Some(path) => Some(Text::from_str(alloc, path)?),
+        None => None,
+    };
+    Ok(Some(Settings {
+        meta: Text::from_str(alloc, meta)?,
+        types: Text::from_str(alloc, types)?,
+        workers,
+        ring,
+        out,
+        layout,
+        progress: is_given(matches, "progress"),
+    }))
+}
+
+/// The settings that the words give, where the option `layout` has the words `layouts`.
+fn settings_by<'a>(
+    alloc: Global,
+    layouts: &'a [&'a str],
+    words: &'a [&'a str],
+) -> Result<Settings, Error>
+    ensures values { IfOk result (HasSettings (matches_of (command_line layouts.entry) (map (λ w. w.now) words.now))) }
+    ensures workers { IfOk result (λ s. IsWorkerCount s.workers) }
+    ensures ring { IfOk result (λ s. IsRingSize s.ring) }
+    ensures fails { FailsBy (fault_of (command_line layouts.entry) (map (λ w. w.now) words.now)) result }
+{
+    let matches = match command(alloc, layouts)?.try_get_matches_from(words) {
+        Ok(matches) => matches,
+        Err(error) => return Err(error),
+    };
+    match settings_in(alloc, &matches)? {
+        Some(settings) => Ok(settings),
+        // A parse that succeeds has every value, so this is never reached.
+        None => Err(Error::from(AllocError)),
+    }
+}
+
+/// Reads the words of the command line, without the program's name: `META --types FILE [--workers N]
+/// [--ring K] [--out FILE] [--layout compact|lines] [--progress]`, with 4 workers, rings of 1,024 blocks
+/// and the compact layout unless the words say otherwise. There are 1 to 64 workers, and a ring's size is
+/// 1 to 65,536 blocks.
+///
+/// Fails exactly if the definition of the command line refuses the words, with one of the kinds that it
+/// gives, if they ask for help or the version, or if memory runs out. The error has the text to show.
+pub fn job(alloc: Global, words: &[&str]) -> Result<Settings, Error>
+    ensures answers { (layouts : Words) × AreLayouts layouts × Answers (command_line layouts) (map (λ w. w.now) words.now) result }
+    ensures workers { IfOk result (λ s. IsWorkerCount s.workers) }
+    ensures ring { IfOk result (λ s. IsRingSize s.ring) }
+{
+    settings_by(alloc, LAYOUTS, words)
+}

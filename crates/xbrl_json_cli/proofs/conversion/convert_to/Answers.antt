@@ -1,5 +1,0 @@
-use Rattle.xbrl_json_cli.proofs.Endings.{behind}
-use Rattle.xbrl_json_cli.proofs.conversion.convert_to.Goals as goal
-
-pub returns : goal.returns
-returns g c = behind _ _ _ c.convert_held-outcome.result c.after_flush.result _ c.new.ensures.fine c.convert_held-outcome.ensures c.after_flush.ensures
