@@ -23,34 +23,6 @@ mod output;
 mod progress;
 #[cfg(test)]
 mod tests;
-#[cfg(test)]
-mod tests_cells;
-#[cfg(test)]
-mod tests_copies;
-#[cfg(test)]
-mod tests_ends;
-#[cfg(test)]
-mod tests_files;
-#[cfg(test)]
-mod tests_flush;
-#[cfg(test)]
-mod tests_metadata;
-#[cfg(test)]
-mod tests_readers;
-#[cfg(test)]
-mod tests_reports;
-#[cfg(test)]
-mod tests_rings;
-#[cfg(test)]
-mod tests_runs;
-#[cfg(test)]
-mod tests_sizes;
-#[cfg(test)]
-mod tests_starts;
-#[cfg(test)]
-mod tests_threads;
-#[cfg(test)]
-mod tests_writers;
 
 use oim_convert::ConvertFault;
 use oim_run::{Outcome, convert_to, job, line, status};

@@ -1,59 +1,17 @@
-//! Writers that take only a number of bytes, and conversions on threads to such a writer for each number.
+//! Conversions on threads to a writer that takes only a number of bytes, for each number.
 
-use crate::tests::{THREE, document_of};
-use crate::tests_cells::report_of;
-use crate::tests_ends::Ends;
-use crate::tests_threads::{ends_so, file_of, readers_of, report_with};
+use crate::tests::documents::{THREE, document_of, report_of};
+use crate::tests::ends::Ends;
+use crate::tests::narrow::Narrow;
+use crate::tests::threads::{ends_so, file_of, readers_of, report_with};
 use oim_json::WriteFault;
 use oim_meta::Report;
 use oim_resolve::CellFault;
 use oim_rows::{TableFault, TableKind};
 use std::alloc::{AllocError, Global};
-use std::io;
-use std::io::Write;
 use std::sync::Wait;
 use std::test::Fail;
 use std::thread::Threads;
-
-/// A writer that takes at most `most` bytes per call, and `room` bytes in all: after that it fails, or
-/// answers 0.
-#[derive(Drop)]
-pub(crate) struct Narrow {
-    pub(crate) taken: Vec<u8>,
-    pub(crate) most: usize,
-    pub(crate) room: usize,
-    pub(crate) fails: bool,
-}
-
-impl Narrow {
-    /// A writer that takes all bytes of a call, up to this many in all.
-    pub(crate) fn new(alloc: Global, room: usize, fails: bool) -> Narrow {
-        Narrow {
-            taken: Vec::new(alloc),
-            most: 65_536,
-            room,
-            fails,
-        }
-    }
-}
-
-impl Write for Narrow {
-    fn write(&mut self, bytes: &[u8]) -> io::Result<usize> {
-        if self.taken.len() >= self.room {
-            if self.fails {
-                return Err(io::Error::from(io::ErrorKind::Other));
-            }
-            return Ok(0);
-        }
-        let count = bytes.len().min(self.most).min(self.room - self.taken.len());
-        self.taken.extend_from_slice(&bytes[..count])?;
-        Ok(count)
-    }
-
-    fn flush(&mut self) -> io::Result<()> {
-        Ok(())
-    }
-}
 
 /// Three tables, of which the second and the third are refused.
 const FILES: &[&[u8]] = &[b"cash\n5\n", b"cash\n1\nx\n", b"nope\n1\n"];
@@ -127,7 +85,7 @@ fn other_room_of_three(
     way: Way,
 ) -> Result<Option<usize>, Fail> {
     let report = report_of(rt.alloc(), THREE)?;
-    let facts = "t1.r_1.cash - Cash EUR 5; t2.r_1.cash - Cash EUR 1";
+    let facts = "t1.r_1.cash Cash EUR 5; t2.r_1.cash Cash EUR 1";
     let whole = document_of(rt.alloc(), facts, "BadNumber")?;
     Ok(other_room(rt, &report, way, whole.as_bytes())?)
 }

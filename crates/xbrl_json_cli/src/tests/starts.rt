@@ -1,11 +1,10 @@
 //! Conversions of which some threads are not started or whose writer fails, and the claims from which
 //! threads draw tables.
 
-use crate::tests::{Edits, HEAD, THREE, document_of};
-use crate::tests_cells::report_of;
-use crate::tests_ends::{Ends, WHOLE, is_run_so, refused};
-use crate::tests_threads::{converts_alone, ends_so, file_of, readers_of};
-use crate::tests_writers::Narrow;
+use crate::tests::documents::{Edits, HEAD, THREE, document_of, report_of};
+use crate::tests::ends::{Ends, WHOLE, is_run_so, refused};
+use crate::tests::narrow::Narrow;
+use crate::tests::threads::{converts_alone, ends_so, file_of, readers_of};
 use oim_convert::{Claims, convert_with_starts};
 use oim_json::{Layout, Marked, WriteFault};
 use oim_meta::{Limits, Report};
@@ -110,7 +109,7 @@ fn ends(
 fn is_refused(rt: &(impl AllocGlobal + Threads + Wait + Sync), crew: Crew) -> Result<bool, Fail> {
     let alloc = rt.alloc();
     let report = report_of(alloc, THREE)?;
-    let facts = "t1.r_1.cash - Cash EUR 5; t2.r_1.cash - Cash EUR 1";
+    let facts = "t1.r_1.cash Cash EUR 5; t2.r_1.cash Cash EUR 1";
     let expected = document_of(alloc, facts, "BadNumber")?;
     Ok(ends(
         rt,

@@ -3,9 +3,8 @@
 
 ghost use Rattle.std.specs.Prelude.{◌≡◌, ◌<◌, ◌≤◌, [], length, vec_capacity, IfOk, IfSome};
 
-use crate::tests::{THREE, document_of};
-use crate::tests_cells::report_of;
-use crate::tests_ends::{Ends, is_merged_so, refused};
+use crate::tests::documents::{THREE, document_of, report_of};
+use crate::tests::ends::{Ends, is_merged_so, refused};
 use oim_json::{Block, Layout, Marked, Sink, WriteFault, block_of, head};
 use oim_merge::merge;
 use oim_meta::{Limits, Report};
@@ -393,7 +392,7 @@ fn is_merged(rt: &(impl Wait + AllocGlobal)) -> Result<bool, Fail> {
     let alloc = rt.alloc();
     let report = report_of(alloc, THREE)?;
     let head = head(alloc, &report)?;
-    let facts = "t1.r_1.cash - Cash EUR 5; t2.r_1.cash - Cash EUR 1";
+    let facts = "t1.r_1.cash Cash EUR 5; t2.r_1.cash Cash EUR 1";
     let expected = document_of(alloc, facts, "BadNumber")?;
     Ok(writes(rt, &report, head.as_slice(), expected.as_bytes()))
 }

@@ -1,20 +1,17 @@
-//! Reports on one thread whose readers fail, and runs with a parameters file.
+//! Reports on one thread whose readers fail.
 
-use crate::tests::{Edits, THREE, document_of, edited};
-use crate::tests_cells::report_of;
-use crate::tests_ends::{Ends, is_serial_so, refused};
+use crate::tests::documents::{THREE, document_of, report_of};
+use crate::tests::ends::{Ends, is_serial_so, refused};
 use oim_convert::convert_serial;
 use oim_json::{Layout, Marked};
 use oim_meta::{Limits, Report};
 use oim_resolve::CellFault;
 use oim_rows::{TableFault, TableKind};
-use oim_run::{TABLE, TYPES, Texts, job, line, run};
+use oim_run::TABLE;
 use std::alloc::{AllocError, Global};
 use std::io;
 use std::io::Read;
-use std::sync::Wait;
 use std::test::Fail;
-use std::thread::Threads;
 
 /// A reader that gives these bytes, at most `step` per call, and then fails or is at its end.
 #[derive(Clone, Copy)]
@@ -98,10 +95,10 @@ fn failed_read(table: usize) -> TableFault {
     }
 }
 
-const FIRST: &str = "t1.r_1.cash - Cash EUR 100; t1.r_1.note - Note - first";
+const FIRST: &str = "t1.r_1.cash Cash EUR 100; t1.r_1.note Note - first";
 
 const BOTH: &str =
-    "t1.r_1.cash - Cash EUR 100; t1.r_1.note - Note - first; t1.r_2.cash - Cash EUR 200; t1.r_2.note - Note - second";
+    "t1.r_1.cash Cash EUR 100; t1.r_1.note Note - first; t1.r_2.cash Cash EUR 200; t1.r_2.note Note - second";
 
 /// The facts of the rows that the held table's reader gave as a whole, if it failed at a place from the
 /// first number up to but not including the second.
@@ -160,7 +157,7 @@ fn is_cut_between(alloc: Global) -> Result<bool, Fail> {
         reader(b"cash\n1\n2".as_slice(), true),
         reader(b"nope\n".as_slice(), false),
     ];
-    let facts = "t1.r_1.cash - Cash EUR 5; t2.r_1.cash - Cash EUR 1";
+    let facts = "t1.r_1.cash Cash EUR 5; t2.r_1.cash Cash EUR 1";
     let faults = [
         failed_read(1),
         TableFault {
@@ -189,7 +186,7 @@ fn is_refused_before(alloc: Global) -> Result<bool, Fail> {
         column: 1,
         kind: TableKind::Cell(CellFault::BadNumber),
     };
-    let facts = "t1.r_1.cash - Cash EUR 1";
+    let facts = "t1.r_1.cash Cash EUR 1";
     is_refused(alloc, &report, tables.as_slice(), facts, &[fault])
 }
 
@@ -197,135 +194,5 @@ fn is_refused_before(alloc: Global) -> Result<bool, Fail> {
 fn a_fault_before_the_cut(rt: HostRuntime) -> Result<(), Fail> {
     let refused = is_refused_before(rt.alloc())?;
     assert!(rt; refused);
-    Ok(())
-}
-
-const BY_NAME: (&str, &str) = (r#""concept":"eg:Cash"}}"#, r#""concept":"$c"}},"c":{}"#);
-
-const BY_FILE: (&str, &str) = (r#""tables":"#, r#""parameterURL":"p.csv","tables":"#);
-
-const FROM_FILE: Edits<'static> = &[BY_NAME, BY_FILE];
-
-const FROM_BOTH: Edits<'static> = &[
-    BY_NAME,
-    BY_FILE,
-    (r#""tables":"#, r#""parameters":{"c":"eg:Mass"},"tables":"#),
-];
-
-const BAD_ENTITY: Edits<'static> = &[BY_FILE, (r#""eg:A1""#, r##""#nil""##)];
-
-const BAD_PATH: Edits<'static> = &[
-    (r#""taxonomy":"#, r#""taxonomies":"#),
-    (r#""tables":"#, r#""parameterURL":"/p.csv","tables":"#),
-];
-
-/// Edits of a metadata, the path and the text of a parameters file, and what a run in the folder `d/`
-/// prints. If it prints nothing, it writes the fact of the table.
-type WithFile<'a> = (Edits<'a>, &'a str, &'a str, &'a str);
-
-const PARAMETERS: &str = "name,value\nc,eg:Cash\n";
-
-const WITH_FILES: &[WithFile<'static>] = &[
-    (FROM_FILE, "d/p.csv", PARAMETERS, ""),
-    (
-        FROM_FILE,
-        "p.csv",
-        PARAMETERS,
-        "xbrl-json: cannot read d/p.csv\n",
-    ),
-    (
-        FROM_BOTH,
-        "d/p.csv",
-        PARAMETERS,
-        "xbrl-json: report: BadParameter (13)\n",
-    ),
-    (
-        BAD_ENTITY,
-        "d/p.csv",
-        "c,eg:Cash\n",
-        "xbrl-json: parameters: BadParameter (13)\n",
-    ),
-    (
-        BAD_PATH,
-        "d/p.csv",
-        PARAMETERS,
-        "xbrl-json: report: BadParameter (13)\n",
-    ),
-];
-
-/// Runs over these files to a writer, and gives the lines.
-fn run_line(
-    rt: &(impl AllocGlobal + Threads + Wait + Sync),
-    files: &[(&str, &[u8])],
-    document: &mut Vec<u8>,
-) -> Result<String, Fail> {
-    let alloc = rt.alloc();
-    let words = ["d/m.json", "--types", "t.csv"];
-    let Ok(settings) = job(alloc, words.as_slice()) else {
-        return Err(Fail::new("the words are refused"));
-    };
-    let sink = &mut Marked::new(document);
-    let outcome = run(rt, alloc, &settings, &mut Texts { files }, sink);
-    Ok(line(alloc, &outcome)?)
-}
-
-/// Whether a run over these files writes this document and prints this.
-fn runs_so(
-    rt: &(impl AllocGlobal + Threads + Wait + Sync),
-    files: &[(&str, &[u8])],
-    document: &str,
-    said: &str,
-) -> Result<bool, Fail> {
-    let mut written = Vec::new(rt.alloc());
-    let line = run_line(rt, files, &mut written)?;
-    Ok(line.as_str() == said && written.as_slice() == document.as_bytes())
-}
-
-/// Whether a run over this metadata and this parameters file writes this document and prints this.
-fn runs_with<'a>(
-    rt: &(impl AllocGlobal + Threads + Wait + Sync),
-    metadata: &'a str,
-    path: &'a str,
-    parameters: &'a str,
-    document: &str,
-    said: &str,
-) -> Result<bool, Fail> {
-    let files = [
-        ("d/m.json", metadata.as_bytes()),
-        ("t.csv", TYPES.as_bytes()),
-        (path, parameters.as_bytes()),
-        ("d/t1.csv", b"cash\n5\n".as_slice()),
-    ];
-    runs_so(rt, files.as_slice(), document, said)
-}
-
-/// Whether a run with a parameters file ends as expected.
-fn ends_with_file(
-    rt: &(impl AllocGlobal + Threads + Wait + Sync),
-    case: &WithFile<'_>,
-) -> Result<bool, Fail> {
-    let (edits, path, parameters, said) = *case;
-    let metadata = edited(rt.alloc(), edits)?;
-    let document = if said.is_empty() {
-        document_of(rt.alloc(), "t1.r_1.cash - Cash EUR 5", "")?
-    } else {
-        String::new(rt.alloc())
-    };
-    runs_with(
-        rt,
-        metadata.as_str(),
-        path,
-        parameters,
-        document.as_str(),
-        said,
-    )
-}
-
-#[test]
-fn parameters_of_a_file(rt: HostRuntime) -> Result<(), Fail> {
-    for case in WITH_FILES {
-        let ends = ends_with_file(&rt, case)?;
-        assert!(rt; ends, "for {} and {}", case.1, case.3);
-    }
     Ok(())
 }

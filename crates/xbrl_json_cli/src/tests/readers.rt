@@ -1,20 +1,17 @@
-//! Readers that never end, that are cut at any place, or that count how often they are read.
+//! Tables that never end, and each beginning of a table.
 
 ghost use Rattle.std.specs.Prelude.{◌≤◌};
 
-use crate::tests::{Edits, document_of};
-use crate::tests_cells::report_of;
-use crate::tests_ends::{Ends, is_run_so, is_serial_so, refused};
-use crate::tests_sizes::{numbers, of_each};
+use crate::tests::documents::{Edits, document_of, numbers, of_each, report_of};
+use crate::tests::ends::{Ends, is_run_so, is_serial_so, refused};
 use oim_convert::{ConvertFault, convert, convert_serial};
 use oim_json::{Layout, Marked};
 use oim_meta::{Limits, Report};
-use oim_rows::{Rows, TableFault, TableKind};
+use oim_rows::{TableFault, TableKind};
 use std::alloc::{AllocError, Global};
 use std::io;
 use std::io::Read;
 use std::sync::Wait;
-use std::sync::atomic::{AtomicUsize, Ordering};
 use std::test::Fail;
 use std::thread::Threads;
 
@@ -118,7 +115,7 @@ fn is_ended(rt: &(impl AllocGlobal + Threads + Wait + Sync)) -> Result<bool, Fai
     let alloc = rt.alloc();
     let report = report_of(alloc, &[])?;
     let numbers = numbers(alloc, 1_000)?;
-    let facts = of_each(alloc, numbers.as_str(), "t1.r_@.cash - Cash EUR 1", "; ")?;
+    let facts = of_each(alloc, numbers.as_str(), "t1.r_@.cash Cash EUR 1", "; ")?;
     let expected = document_of(alloc, facts.as_str(), "TooManyRows")?;
     let reader = Endless {
         bytes: b"cash\n".as_slice(),
@@ -199,68 +196,5 @@ fn other_length(rt: &(impl AllocGlobal + Threads + Wait + Sync)) -> Result<Optio
 fn each_beginning_of_a_table(rt: HostRuntime) -> Result<(), Fail> {
     let other = other_length(&rt)?;
     assert_eq!(rt; other, None);
-    Ok(())
-}
-
-/// A reader that counts how often it is read, and may fail at its end.
-#[derive(Drop)]
-struct Counted<'a> {
-    bytes: &'a [u8],
-    reads: &'a AtomicUsize,
-    fails: bool,
-}
-
-impl Read for Counted<'_> {
-    fn read(&mut self, buf: &mut [u8]) -> io::Result<usize> {
-        self.reads.fetch_add(1, Ordering::SeqCst);
-        if self.fails && self.bytes.is_empty() {
-            return Err(io::Error::from(io::ErrorKind::Other));
-        }
-        self.bytes.read(buf)
-    }
-}
-
-/// The number of rows before the end or a fault, which is at most three.
-fn rows_before_end<R: Read + Drop>(rows: &mut Rows<'_, R>) -> usize {
-    for count in 0..4usize {
-        match rows.next() {
-            Ok(Some(_)) => {}
-            Ok(None) | Err(_) => return count,
-        }
-    }
-    4
-}
-
-/// Whether a table gives this many rows, and nothing is read after that.
-fn stops_reading(alloc: Global, report: &Report, bytes: &[u8], fails: bool, count: usize) -> bool {
-    if report.tables() == 0 {
-        return false;
-    }
-    let reads = AtomicUsize::new(0);
-    let reader = Counted {
-        bytes,
-        reads: &reads,
-        fails,
-    };
-    let Ok(mut rows) = Rows::open(alloc, report, 0, reader, Limits::profile()) else {
-        return false;
-    };
-    let given = rows_before_end(&mut rows);
-    let before = reads.load(Ordering::SeqCst);
-    let more = rows_before_end(&mut rows);
-    given == count && more == 0 && before > 0 && reads.load(Ordering::SeqCst) == before
-}
-
-#[test]
-fn nothing_is_read_after_the_end(rt: HostRuntime) -> Result<(), Fail> {
-    let report = report_of(rt.alloc(), &[])?;
-    for (bytes, fails, count) in [
-        (b"cash\n1\n2\n".as_slice(), false, 2),
-        (b"cash\n1\nx\n2\n".as_slice(), false, 1),
-        (b"cash\n1\n2\n".as_slice(), true, 2),
-    ] {
-        let stops = stops_reading(rt.alloc(), &report, bytes, fails, count);
-        assert!(rt; stops, "behind {count} rows");
-    }
     Ok(())
 }

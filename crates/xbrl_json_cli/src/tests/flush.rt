@@ -1,6 +1,7 @@
 //! Runs and conversions to a writer whose flush fails.
 
-use crate::tests_runs::{File, Said, says, settings_of};
+use crate::tests::outcomes::{File, Said, says};
+use crate::tests::settings::{WORDS, settings_of};
 use oim_run::{METADATA, TYPES, Texts, convert_to, run_to};
 use std::io;
 use std::io::Write;
@@ -31,7 +32,7 @@ fn ends_unflushed(
     files: &[File<'_>],
     said: Said<'_>,
 ) -> Result<bool, Fail> {
-    let settings = settings_of(rt.alloc(), "m.json --types t.csv")?;
+    let settings = settings_of(rt.alloc(), WORDS)?;
     let folder = &mut Texts { files };
     let outcome = run_to(rt, rt.alloc(), &settings, folder, Unflushed);
     says(rt.alloc(), &outcome, said)

@@ -1,9 +1,8 @@
 //! The conversion on threads at run time: tables that are open at once, shared out among workers, and
 //! merged before they end.
 
-use crate::tests::{HEAD, document_of};
-use crate::tests_cells::report_of;
-use crate::tests_ends::{Ends, WHOLE, is_run_so};
+use crate::tests::documents::{HEAD, document_of, report_of};
+use crate::tests::ends::{Ends, WHOLE, is_run_so};
 use oim_convert::{convert, convert_serial};
 use oim_json::{Layout, Marked};
 use oim_meta::{Limits, Report};
@@ -89,7 +88,7 @@ pub(crate) fn report_with(alloc: Global, tables: usize) -> Result<Box<Report>, F
 fn document_with(alloc: Global, tables: usize) -> Result<String, AllocError> {
     let mut facts = String::new(alloc);
     for table in 1..=tables {
-        let fact = format!(in alloc; "t{table}.r_1.cash - Cash EUR 1; ")?;
+        let fact = format!(in alloc; "t{table}.r_1.cash Cash EUR 1; ")?;
         facts.push_str(fact.as_str())?;
     }
     document_of(alloc, facts.as_str(), "")

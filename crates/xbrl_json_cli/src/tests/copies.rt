@@ -1,8 +1,9 @@
-//! A copy of a report, compared with the report.
+//! Copies of reports and of types, compared with what they are copied from.
 
-use crate::tests::{Edits, GROUPS, THREE};
-use crate::tests_cells::report_of;
-use oim_meta::{Column, Report};
+use crate::tests::documents::{Edits, GROUPS, THREE, report_of};
+use oim_cells::NumberKind;
+use oim_meta::{Column, Kind, Report, read_types};
+use oim_run::TYPES;
 use std::test::Fail;
 
 /// Whether two columns have the same identifier and kind, and equally many dimensions and groups.
@@ -66,6 +67,23 @@ fn copies_of_reports(rt: HostRuntime) -> Result<(), Fail> {
         let report = report_of(rt.alloc(), edits)?;
         let copy = Box::new(rt.alloc(), report.clone_report()?)?;
         assert!(rt; are_same(&report, &copy));
+    }
+    Ok(())
+}
+
+#[test]
+fn copies_of_types(rt: HostRuntime) -> Result<(), Fail> {
+    let types = read_types(rt.alloc(), TYPES.as_bytes())?;
+    let copy = types.clone()?;
+    for (uri, name, kind) in [
+        ("http://example.com/eg", "Cash", Some(Kind::Number(NumberKind::Integer))),
+        ("http://example.com/eg", "Mass", Some(Kind::Number(NumberKind::Double))),
+        ("http://example.com/eg", "Branch", Some(Kind::Typed)),
+        ("http://example.com/eg", "cash", None),
+        ("http://example.com/e", "Cash", None),
+    ] {
+        assert_eq!(rt; types.kind_of(uri, name), kind, "of {name}");
+        assert_eq!(rt; copy.kind_of(uri, name), kind, "of the copy, of {name}");
     }
     Ok(())
 }

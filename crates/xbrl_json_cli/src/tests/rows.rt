@@ -1,0 +1,146 @@
+//! The rows of a table: what they answer after a fault, how often their reader is read, and readers that
+//! are too few or too many.
+
+use crate::tests::documents::{report_from, report_of};
+use oim_convert::{ConvertFault, convert_serial};
+use oim_json::{Layout, Marked};
+use oim_meta::{Limits, Report};
+use oim_resolve::CellFault;
+use oim_rows::{Rows, TableFault, TableKind};
+use oim_run::{METADATA, TABLE};
+use std::alloc::Global;
+use std::io;
+use std::io::Read;
+use std::sync::atomic::{AtomicUsize, Ordering};
+use std::test::Fail;
+
+fn gives_a_row(rows: &mut Rows<'_, &[u8]>) -> bool {
+    matches!(&rows.next(), Ok(Some(_)))
+}
+
+/// Whether the rows answer with this fault three times.
+fn keeps_to(rows: &mut Rows<'_, &[u8]>, fault: TableFault) -> bool {
+    for _ in 0..3 {
+        if rows.next().err() != Some(fault) {
+            return false;
+        }
+    }
+    true
+}
+
+/// Whether a table gives its first row, and then the same fault again and again.
+fn answers_again(alloc: Global, report: &Report, table: &[u8], fault: TableFault) -> bool {
+    if report.tables() == 0 {
+        return false;
+    }
+    match Rows::open(alloc, report, 0, table, Limits::profile()) {
+        Ok(mut rows) => gives_a_row(&mut rows) && keeps_to(&mut rows, fault),
+        Err(_) => false,
+    }
+}
+
+#[test]
+fn the_same_fault_again(rt: HostRuntime) -> Result<(), Fail> {
+    let report = report_from(rt.alloc(), METADATA)?;
+    let fault = TableFault {
+        table: 0,
+        row: 2,
+        column: 1,
+        kind: TableKind::Cell(CellFault::BadNumber),
+    };
+    let again = answers_again(rt.alloc(), &report, b"cash\n1\nx\n2\n".as_slice(), fault);
+    assert!(rt; again);
+    Ok(())
+}
+
+/// A reader that counts how often it is read, and may fail at its end.
+#[derive(Drop)]
+struct Counted<'a> {
+    bytes: &'a [u8],
+    reads: &'a AtomicUsize,
+    fails: bool,
+}
+
+impl Read for Counted<'_> {
+    fn read(&mut self, buf: &mut [u8]) -> io::Result<usize> {
+        self.reads.fetch_add(1, Ordering::SeqCst);
+        if self.fails && self.bytes.is_empty() {
+            return Err(io::Error::from(io::ErrorKind::Other));
+        }
+        self.bytes.read(buf)
+    }
+}
+
+/// The number of rows before the end or a fault, which is at most three.
+fn rows_before_end<R: Read + Drop>(rows: &mut Rows<'_, R>) -> usize {
+    for count in 0..4usize {
+        match rows.next() {
+            Ok(Some(_)) => {}
+            Ok(None) | Err(_) => return count,
+        }
+    }
+    4
+}
+
+/// Whether a table gives this many rows, and nothing is read after that.
+fn stops_reading(alloc: Global, report: &Report, bytes: &[u8], fails: bool, count: usize) -> bool {
+    if report.tables() == 0 {
+        return false;
+    }
+    let reads = AtomicUsize::new(0);
+    let reader = Counted {
+        bytes,
+        reads: &reads,
+        fails,
+    };
+    let Ok(mut rows) = Rows::open(alloc, report, 0, reader, Limits::profile()) else {
+        return false;
+    };
+    let given = rows_before_end(&mut rows);
+    let before = reads.load(Ordering::SeqCst);
+    let more = rows_before_end(&mut rows);
+    given == count && more == 0 && before > 0 && reads.load(Ordering::SeqCst) == before
+}
+
+#[test]
+fn nothing_is_read_after_the_end(rt: HostRuntime) -> Result<(), Fail> {
+    let report = report_of(rt.alloc(), &[])?;
+    for (bytes, fails, count) in [
+        (b"cash\n1\n2\n".as_slice(), false, 2),
+        (b"cash\n1\nx\n2\n".as_slice(), false, 1),
+        (b"cash\n1\n2\n".as_slice(), true, 2),
+    ] {
+        let stops = stops_reading(rt.alloc(), &report, bytes, fails, count);
+        assert!(rt; stops, "behind {count} rows");
+    }
+    Ok(())
+}
+
+fn readers<'a>(alloc: Global, tables: &[Option<&'a [u8]>]) -> Result<Vec<Option<&'a [u8]>>, Fail> {
+    let mut readers = Vec::new(alloc);
+    for table in tables {
+        readers.push(*table)?;
+    }
+    Ok(readers)
+}
+
+#[test]
+fn other_numbers_of_readers(rt: HostRuntime) -> Result<(), Fail> {
+    let alloc = rt.alloc();
+    let report = report_from(alloc, METADATA)?;
+    for tables in [[].as_slice(), [Some(TABLE.as_bytes()), None].as_slice()] {
+        let mut document = Vec::new(alloc);
+        let sink = &mut Marked::new(&mut document);
+        let answer = convert_serial(
+            alloc,
+            &report,
+            readers(alloc, tables)?,
+            Limits::profile(),
+            Layout::Compact,
+            sink,
+        );
+        assert!(rt; matches!(&answer, Err(ConvertFault::WrongReaders)));
+        assert!(rt; document.is_empty());
+    }
+    Ok(())
+}
