@@ -76,8 +76,16 @@ fn copies_of_types(rt: HostRuntime) -> Result<(), Fail> {
     let types = read_types(rt.alloc(), TYPES.as_bytes())?;
     let copy = types.clone()?;
     for (uri, name, kind) in [
-        ("http://example.com/eg", "Cash", Some(Kind::Number(NumberKind::Integer))),
-        ("http://example.com/eg", "Mass", Some(Kind::Number(NumberKind::Double))),
+        (
+            "http://example.com/eg",
+            "Cash",
+            Some(Kind::Number(NumberKind::Integer)),
+        ),
+        (
+            "http://example.com/eg",
+            "Mass",
+            Some(Kind::Number(NumberKind::Double)),
+        ),
         ("http://example.com/eg", "Branch", Some(Kind::Typed)),
         ("http://example.com/eg", "cash", None),
         ("http://example.com/e", "Cash", None),

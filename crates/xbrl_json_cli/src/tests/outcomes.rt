@@ -74,7 +74,13 @@ fn fills(
     let whole = document_of(rt.alloc(), facts, "")?;
     let written = whole.as_bytes();
     let settings = settings_of(rt.alloc(), WORDS)?;
-    ends(rt, &settings, room, &written[..room.min(written.len())], said)
+    ends(
+        rt,
+        &settings,
+        room,
+        &written[..room.min(written.len())],
+        said,
+    )
 }
 
 #[test]
