@@ -101,7 +101,7 @@ fn serial_held(
     narrow: &mut Narrow,
     ends: Ends<'_>,
 ) -> Result<bool, Fail> {
-    let tables = readers(alloc, [Some(TABLE.as_bytes())].as_slice())?;
+    let tables = vec![in alloc; Some(TABLE.as_bytes())]?;
     let sink = &mut Marked::new(narrow);
     let answer = convert_serial(
         alloc,
