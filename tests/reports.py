@@ -650,8 +650,8 @@ def words_and_paths(folder):
         out = out + (folder / path).read_bytes() if path else out
         case(f"the held report by {words}", (status, out, err), (0, text, ""))
         case(f"no other file by {words}", (folder / "o.json").exists(), path != "")
-    for path in ("b/m.json", "", "d/e.f"):
-        said = (1, b"", "xbrl-json: report: Read (17)\n") if path == "d/e.f" else (3, b"", f"xbrl-json: cannot read {path}\n")
+    for path in ("b/m.json", "", "d/e.f", "d/e.f/"):
+        said = (1, b"", "xbrl-json: report: Read (17)\n") if "e.f" in path else (3, b"", f"xbrl-json: cannot read {path}\n")
         case(f"a report at {path!r}", run(folder, [path, "--types", "t.csv"]), said)
 
 
@@ -702,6 +702,10 @@ def many_rows(folder):
         rows(number, WAYS)
     for number in (3, 255, 256, 257):
         rows(number, WAYS, "x\n1\n", f"t1, row {number + 1}, column 1: BadNumber (40)")
+    for number in (0, 1, 127, 128, 129):
+        write(folder, {"t1.csv": "cash,note\n" + "".join(f"{i},n\n" for i in range(1, number + 1)) + "1,#foo\n1,n\n"})
+        facts = [it for i in range(1, number + 1) for it in (cash(f"t1.r_{i}", i), f"t1.r_{i}.note - Note - n")]
+        converts(folder, f"{number} rows of two facts before half a row", facts, lines(f"t1, row {number + 1}, column 2: UnknownSpecial (31)"))
 
 
 def long_cells(folder):
