@@ -24,6 +24,13 @@ const RATE: Edits<'static> = &[
     ),
 ];
 
+const UNSPOKEN: Edits<'static> = &[(
+    r#""dimensions":{"entity""#,
+    r#""dimensions":{"language":"en_GB","entity""#,
+)];
+
+const UNCOUNTED: Edits<'static> = &[("iso4217:EUR", "euro")];
+
 const NAMED: Edits<'static> = &[
     (r#""concept":"eg:Cash"}}"#, r#""concept":"$c"}},"c":{}"#),
     (
@@ -87,6 +94,19 @@ const CASES: &[Case<'static>] = &[
         &["n", ""],
         0,
         r#"note {"dimensions":{"concept":"eg:Note","entity":"eg:A1","language":"en-gb","period":"@"},"value":"n"}"#,
+    ),
+    (
+        UNSPOKEN,
+        &["1", "n"],
+        0,
+        r#"cash {"dimensions":{"concept":"eg:Cash","entity":"eg:A1","period":"@","unit":"iso4217:EUR"},"value":"1"}"#,
+    ),
+    (UNSPOKEN, &["1", "n"], 1, "BadValue"),
+    (
+        UNCOUNTED,
+        &["1", "n"],
+        1,
+        r#"note {"dimensions":{"concept":"eg:Note","entity":"eg:A1","period":"@"},"value":"n"}"#,
     ),
     (
         GROUPS,
