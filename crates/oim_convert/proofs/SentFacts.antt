@@ -3,7 +3,7 @@ use Rattle.std.specs.Prelude.{◌≡◌, ◌⊎◌, ℕ, List, [], ◌∷◌, �
 use Rattle.std.proofs.Common.{refl, sym, ap, ◌∙◌, subst, append_assoc, append-nil, inl, inr}
 use Rattle.std.proofs.lemmas.Grind.{flat_map-append}
 use mathlib.Core.List.{IsPrefix}
-use Rattle.oim_decode.specs.Blocks.{AnswersFacts, GivesBlock, ReadsRows, facts_of_rows}
+use Rattle.oim_decode.specs.Blocks.{AnswersFacts, GivesBlock, ReadsRows}
 use Rattle.oim_meta.specs.Grid.{grid}
 use Rattle.oim_meta.specs.ReportValue.{ReportValue}
 use Rattle.oim_resolve.specs.FactParts.{FactParts as Fact}
@@ -13,10 +13,10 @@ use Rattle.oim_ring.specs.declared.item.Ending.TheVariants.{Closed, Refused}
 use Rattle.oim_ring.specs.declared.item.Item.{Item}
 use Rattle.oim_ring.specs.declared.item.Item.TheVariants.{Block, Ending}
 use Rattle.oim_rows.specs.Header.{file_fault, file_header_fault}
-use Rattle.oim_rows.specs.Streams.{IsOutside, Stream, ending, stream_of, table_stream}
+use Rattle.oim_rows.specs.Streams.{IsOutside, Stream, ending, facts_of, facts_of_rows, stream_of, table_stream}
 use Rattle.oim_rows.specs.declared.fault.TableFault.{TableFault}
 use Rattle.oim_rows.specs.declared.fault.TableKind.TheVariants as kind
-use Rattle.oim_convert.specs.Answer.{ending_of, facts_of, row_after_row}
+use Rattle.oim_convert.specs.Answer.{ending_of}
 use Rattle.oim_convert.specs.Files.{IsFileOf}
 use Rattle.oim_convert.specs.Histories.{IsDecoded, IsGiven, facts_in}
 use Rattle.oim_convert.proofs.TableFiles.{has_file, has_no_file, refused_header}
@@ -33,19 +33,14 @@ block_sent old new facts e = ap facts_in e ∙ facts_push old facts
 
 -- ROWS
 
-pub rows_append : (xs ys : List (List Fact)) → row_after_row (xs ++ ys) ≡ row_after_row xs ++ row_after_row ys
-rows_append [] ys = refl
-rows_append (x ∷ xs) ys = ap (λ l. x ++ l) (rows_append xs ys) ∙ sym (append_assoc x (row_after_row xs) (row_after_row ys))
-
-pub rows_are : (rows : List (List Fact)) → facts_of_rows rows ≡ row_after_row rows
-rows_are [] = refl
-rows_are (r ∷ rs) = ap (λ l. r ++ l) (rows_are rs)
+pub rows_append : (xs ys : List (List Fact)) → facts_of_rows (xs ++ ys) ≡ facts_of_rows xs ++ facts_of_rows ys
+rows_append xs ys = flat_map-append (λ (row : List Fact). row) xs ys
 
 -- the facts of the first rows are the first of the table
-first_facts : (whole : Stream) (rows : List (List Fact)) (given more : List Fact) → IsPrefix rows whole.rows → given ++ more ≡ row_after_row rows → IsPrefix given (facts_of whole)
+first_facts : (whole : Stream) (rows : List (List Fact)) (given more : List Fact) → IsPrefix rows whole.rows → given ++ more ≡ facts_of_rows rows → IsPrefix given (facts_of whole)
 first_facts whole rows given more (later, is) all = (
-  more ++ row_after_row later,
-  sym (append_assoc given more (row_after_row later)) ∙ (ap (λ l. l ++ row_after_row later) all ∙ (sym (rows_append rows later) ∙ ap row_after_row is)),
+  more ++ facts_of_rows later,
+  sym (append_assoc given more (facts_of_rows later)) ∙ (ap (λ l. l ++ facts_of_rows later) all ∙ (sym (rows_append rows later) ∙ ap facts_of_rows is)),
 )
 
 rows_before : (table : ℕ) (whole : Stream) (rows : List (List Fact)) (left : Option Stream) → ReadsRows table whole rows left → IsPrefix rows whole.rows
@@ -103,7 +98,7 @@ module _ (table : ℕ) (whole : Stream) (given before pending : List Fact) (afte
         rows = r.rows ++ gives.rows;
         reads = reads_on table whole s r.rows gives.rows after r.reads gives.reads;
         facts = before ++ facts_of_rows gives.rows;
-        holds = sym (append_assoc given before (facts_of_rows gives.rows)) ∙ (ap (λ l. l ++ facts_of_rows gives.rows) r.holds ∙ sym (flat_map-append (λ (row : List Fact). row) r.rows gives.rows));
+        holds = sym (append_assoc given before (facts_of_rows gives.rows)) ∙ (ap (λ l. l ++ facts_of_rows gives.rows) r.holds ∙ sym (rows_append r.rows gives.rows));
         answers = gives.answers;
       }
 
@@ -116,7 +111,7 @@ module _ (table : ℕ) (whole : Stream) (given before pending : List Fact) (afte
 
 -- the facts given are the first of the table
 pub so_far : (table : ℕ) (whole : Stream) (given pending : List Fact) (left : Option Stream) → IsReading table whole given pending left → IsPrefix given (facts_of whole)
-so_far table whole given pending left r = first_facts whole r.rows given pending (rows_before table whole r.rows left r.reads) (r.holds ∙ rows_are r.rows)
+so_far table whole given pending left r = first_facts whole r.rows given pending (rows_before table whole r.rows left r.reads) r.holds
 
 -- a table that ends before its stream does
 pub cut_short : (table : ℕ) (whole : Stream) (given pending : List Fact) (left : Option Stream) (e : Endings.Ending)
@@ -125,15 +120,15 @@ cut_short table whole given pending left e r is = inr (inr (record { some = so_f
 
 -- the reader failed, or memory ran out, after these rows
 outside_given : (table : ℕ) (whole : Stream) (rows : List (List Fact)) (given : List Fact) (e f : TableFault) → IsPrefix rows whole.rows
-    → IsOutside table e → f ≡ e → given ≡ row_after_row rows → IsGiven table whole given (Refused f)
+    → IsOutside table e → f ≡ e → given ≡ facts_of_rows rows → IsGiven table whole given (Refused f)
 outside_given table whole rows given e f some (inl unread) is all = inr (inl (record { rows = rows; some = some; holds = all; refused = ap (λ x. Refused x) (is ∙ unread) }))
 outside_given table whole rows given e f some (inr short) is all =
     inr (inr (record { some = first_facts whole rows given [] some (append-nil given ∙ all); refused = ap (λ x. Refused x) (is ∙ short) }))
 
 -- all facts read are given, and only an ending is left
 all_given : (table : ℕ) (whole : Stream) (rows : List (List Fact)) (given : List Fact) (o : Option TableFault)
-    → ReadsRows table whole rows (Some (ending o)) → given ≡ row_after_row rows → IsGiven table whole given (ending_of o)
-all_given table whole rows given o (inl (split, same)) all = inl (all ∙ sym (ap row_after_row (split ∙ append-nil rows)), ap ending_of (sym same))
+    → ReadsRows table whole rows (Some (ending o)) → given ≡ facts_of_rows rows → IsGiven table whole given (ending_of o)
+all_given table whole rows given o (inl (split, same)) all = inl (all ∙ sym (ap facts_of_rows (split ∙ append-nil rows)), ap ending_of (sym same))
 all_given table whole rows given None (inr (some, e, outside, only)) all = let no : None ≡ Some e = ap (λ (x : Stream). x.fault) only in absurd (cc no)
 all_given table whole rows given (Some f) (inr (some, e, outside, only)) all =
     let one : Some f ≡ Some e = ap (λ (x : Stream). x.fault) only in let same : f ≡ e = cc one in outside_given table whole rows given e f some outside same all
@@ -145,7 +140,7 @@ module _ (table : ℕ) (whole : Stream) (given before pending : List Fact) (left
   pub end_given : IfSome left (λ s. GivesBlock table before s (Ok None) pending after) → IsGiven table whole given Closed
   end_given gives =
       let h = has_read table whole given before pending after left (Ok None) r gives in
-      all_given table whole h.rows given None (subst (ReadsRows table whole h.rows) h.answers.2 h.reads) (nothing_waits given h.facts (facts_of_rows h.rows) h.holds h.answers.0 ∙ rows_are h.rows)
+      all_given table whole h.rows given None (subst (ReadsRows table whole h.rows) h.answers.2 h.reads) (nothing_waits given h.facts (facts_of_rows h.rows) h.holds h.answers.0)
 
   pub fault_given : (e : TableFault) → IfSome left (λ s. GivesBlock table before s (Err e) pending after) → IsGiven table whole given (Refused e)
   fault_given e gives = by h.answers.2
@@ -155,9 +150,9 @@ module _ (table : ℕ) (whole : Stream) (given before pending : List Fact) (left
 
       by : (h.facts ≡ []) ⊎ (e ≡ file_fault table kind.Memory) → IsGiven table whole given (Refused e)
       by (inl none) = all_given table whole h.rows given (Some e) (subst (ReadsRows table whole h.rows) h.answers.1 h.reads)
-          (nothing_waits given h.facts (facts_of_rows h.rows) h.holds none ∙ rows_are h.rows)
+          (nothing_waits given h.facts (facts_of_rows h.rows) h.holds none)
       by (inr short) =
-          inr (inr (record { some = first_facts whole h.rows given h.facts (rows_before table whole h.rows after h.reads) (h.holds ∙ rows_are h.rows); refused = ap (λ x. Refused x) short }))
+          inr (inr (record { some = first_facts whole h.rows given h.facts (rows_before table whole h.rows after h.reads) h.holds; refused = ap (λ x. Refused x) short }))
 
 -- FILES
 

@@ -20,10 +20,10 @@ use Rattle.oim_ring.specs.declared.item.Ending.TheVariants.{Closed, Refused}
 use Rattle.oim_ring.specs.declared.item.Item.{Item}
 use Rattle.oim_ring.specs.declared.item.Item.TheVariants.{Block, Ending}
 use Rattle.oim_rows.specs.Header.{file_fault}
-use Rattle.oim_rows.specs.Streams.{Stream, table_stream}
+use Rattle.oim_rows.specs.Streams.{Stream, facts_of, table_stream}
 use Rattle.oim_rows.specs.declared.fault.TableFault.{TableFault}
 use Rattle.oim_rows.specs.declared.fault.TableKind.TheVariants as kind
-use Rattle.oim_convert.specs.Answer.{IsAnswer, answer_text, ending_of, facts_of, histories_of, history_of, streams_from}
+use Rattle.oim_convert.specs.Answer.{IsAnswer, answer_text, ending_of, histories_of, history_of, streams_from}
 use Rattle.oim_convert.specs.Files.{IsFileOf, AreFilesOf}
 use Rattle.oim_convert.specs.Histories.{AreDecoded, IsDecoded, IsGiven}
 use Rattle.oim_convert.specs.Runs.{AreStreams}

@@ -16,9 +16,9 @@ use Rattle.oim_ring.specs.declared.item.Ending as Endings
 use Rattle.oim_ring.specs.declared.item.Ending.TheVariants.{Closed, Refused}
 use Rattle.oim_ring.specs.declared.item.Item.{Item}
 use Rattle.oim_ring.specs.declared.item.Item.TheVariants.{Block, Ending}
-use Rattle.oim_rows.specs.Streams.{Stream}
+use Rattle.oim_rows.specs.Streams.{Stream, facts_of}
 use Rattle.oim_rows.specs.declared.fault.TableFault.{TableFault}
-use Rattle.oim_convert.specs.Answer.{IsAnswer, answer_text, ending_of, facts_of, histories_of, history_of}
+use Rattle.oim_convert.specs.Answer.{IsAnswer, answer_text, ending_of, histories_of, history_of}
 use Rattle.oim_convert.specs.Histories.{AreDecoded, IsDecoded, IsGiven, IsHistory, IsStream, facts_in}
 use Rattle.oim_convert.specs.Runs.{AreStreams}
 

@@ -13,13 +13,13 @@ use Rattle.oim_ring.specs.declared.item.Ending.TheVariants.{Closed, Refused}
 use Rattle.oim_ring.specs.declared.item.Item.{Item}
 use Rattle.oim_ring.specs.declared.item.Item.TheVariants.{Ending}
 use Rattle.oim_rows.specs.Identifiers.{HaveOwnIds, facts_of_tables}
-use Rattle.oim_rows.specs.Streams.{Stream, table_stream}
+use Rattle.oim_rows.specs.Streams.{Stream, facts_of, facts_of_rows, table_stream}
 use Rattle.oim_rows.specs.declared.fault.TableFault.{TableFault}
-use Rattle.oim_convert.specs.Answer.{facts_of, histories_of, row_after_row, streams, streams_from}
+use Rattle.oim_convert.specs.Answer.{histories_of, streams, streams_from}
 use Rattle.oim_convert.specs.Histories.{AreDecoded, AreUnserved, IsGiven}
 use Rattle.oim_convert.specs.Identifiers.{WriteOwnIds}
 use Rattle.oim_convert.specs.Runs.{AreHistories}
-use Rattle.oim_convert.proofs.SentFacts.{rows_append, rows_are}
+use Rattle.oim_convert.proofs.SentFacts.{rows_append}
 use Rattle.oim_convert.proofs.StreamHistories.{facts_with, streams_decoded}
 
 -- THE FIRST FACTS OF A LIST
@@ -65,8 +65,8 @@ refused_table : (e : Endings.Ending) (x : TableFault) (items : List Item) (facts
 refused_table e x items facts all more is first =
     subst (λ (y : Endings.Ending). IsPrefix (facts ++ facts_before (Ending y ∷ items)) (all ++ more)) (sym is) (cut_in_table facts all more first)
 
-first_rows : (rows all : List (List Fact)) → IsPrefix rows all → IsPrefix (row_after_row rows) (row_after_row all)
-first_rows rows all (later, is) = (row_after_row later, sym (rows_append rows later) ∙ ap row_after_row is)
+first_rows : (rows all : List (List Fact)) → IsPrefix rows all → IsPrefix (facts_of_rows rows) (facts_of_rows all)
+first_rows rows all (later, is) = (facts_of_rows later, sym (rows_append rows later) ∙ ap facts_of_rows is)
 
 given_first : (table : ℕ) (s : Stream) (facts : List Fact) (e : Endings.Ending) (items : List Item) (more : List Fact) → IsGiven table s facts e → IsPrefix (facts_before items) more
     → IsPrefix (facts ++ facts_before (Ending e ∷ items)) (facts_of s ++ more)
@@ -88,8 +88,7 @@ decoded_first report limit i (file ∷ files) (h ∷ hs) all =
     let d = all.0 in
     let more = facts_of_tables report limit (i + 1) files in
     let first = given_first i s d.facts d.ending (all_of hs) more d.given (decoded_first report limit (i + 1) files hs all.1) in
-    subst (λ (fs : List Fact). IsPrefix fs (facts_of_tables report limit i (file ∷ files))) (sym (facts_with d.facts d.ending h (all_of hs) d.is))
-    (subst (λ (fs : List Fact). IsPrefix (d.facts ++ facts_before (Ending d.ending ∷ all_of hs)) (fs ++ more)) (sym (rows_are s.rows)) first)
+    subst (λ (fs : List Fact). IsPrefix fs (facts_of_tables report limit i (file ∷ files))) (sym (facts_with d.facts d.ending h (all_of hs) d.is)) first
 
 unserved_first : (i : ℕ) (ss : List Stream) (hs : List (List Item)) (all : List Fact) → AreUnserved i ss hs → IsPrefix (facts_before (all_of hs)) all
 unserved_first i [] [] all are = no_facts all

@@ -13,7 +13,7 @@ use Rattle.oim_ring.specs.declared.item.Ending as Endings
 use Rattle.oim_ring.specs.declared.item.Ending.TheVariants.{Closed, Refused}
 use Rattle.oim_ring.specs.declared.item.Item.{Item}
 use Rattle.oim_ring.specs.declared.item.Item.TheVariants.{Block, Ending}
-use Rattle.oim_rows.specs.Streams.{Stream, table_stream}
+use Rattle.oim_rows.specs.Streams.{Stream, facts_of, table_stream}
 use Rattle.oim_rows.specs.declared.fault.TableFault.{TableFault}
 
 -- the streams of tables, the first of which is table i
@@ -24,15 +24,6 @@ streams_from report limit i (f ∷ fs) = table_stream report i limit f ∷ strea
 -- the streams of a report's tables with these files
 abbrev pub streams : ReportValue → ℕ → List (Option (List ℕ)) → List Stream
 streams report limit files = streams_from report limit 0 files
-
--- the facts of all rows, row after row
-abbrev pub row_after_row : List (List Fact) → List Fact
-row_after_row [] = []
-row_after_row (r ∷ rs) = r ++ row_after_row rs
-
--- the facts of a table
-abbrev pub facts_of : Stream → List Fact
-facts_of s = row_after_row s.rows
 
 -- the ending of a table with this fault, or with none
 abbrev pub ending_of : Option TableFault → Endings.Ending

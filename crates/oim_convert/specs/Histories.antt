@@ -9,9 +9,9 @@ use Rattle.oim_ring.specs.declared.item.Ending.TheVariants.{Refused}
 use Rattle.oim_ring.specs.declared.item.Item.{Item}
 use Rattle.oim_ring.specs.declared.item.Item.TheVariants.{Block, Ending}
 use Rattle.oim_rows.specs.Header.{file_fault}
-use Rattle.oim_rows.specs.Streams.{Stream}
+use Rattle.oim_rows.specs.Streams.{Stream, facts_of, facts_of_rows}
 use Rattle.oim_rows.specs.declared.fault.TableKind.TheVariants as kind
-use Rattle.oim_convert.specs.Answer.{ending_of, facts_of, row_after_row}
+use Rattle.oim_convert.specs.Answer.{ending_of}
 
 -- the facts of blocks, in order
 abbrev pub facts_in : List Item → List Fact
@@ -38,7 +38,7 @@ IsWhole s facts ending = (facts ≡ facts_of s) × (ending ≡ ending_of s.fault
 pub record IsUnread (table : ℕ) (s : Stream) (facts : List Fact) (ending : Endings.Ending) : Type 0 where
   pub rows : List (List Fact)
   pub some : IsPrefix rows s.rows
-  pub holds : facts ≡ row_after_row rows
+  pub holds : facts ≡ facts_of_rows rows
   pub refused : ending ≡ Refused (file_fault table kind.Read)
 
 -- memory ran out: the facts are the first of the table

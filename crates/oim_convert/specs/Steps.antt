@@ -10,9 +10,9 @@ use Rattle.oim_resolve.specs.FactParts.{FactParts as Fact}
 use Rattle.oim_ring.specs.declared.item.Ending as Endings
 use Rattle.oim_ring.specs.declared.item.Ending.TheVariants.{Closed}
 use Rattle.oim_ring.specs.declared.item.Item.{Item}
-use Rattle.oim_rows.specs.Streams.{Stream}
+use Rattle.oim_rows.specs.Streams.{Stream, facts_of}
 use Rattle.oim_rows.specs.declared.fault.TableFault.{TableFault}
-use Rattle.oim_convert.specs.Answer.{facts_of, histories_of}
+use Rattle.oim_convert.specs.Answer.{histories_of}
 use Rattle.oim_convert.specs.Histories.{AreDecoded, IsGiven}
 
 -- the result of writing facts

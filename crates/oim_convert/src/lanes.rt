@@ -2,7 +2,7 @@
 
 ghost use Rattle.std.specs.Prelude.{◌≡◌, ◌≤◌, All, length, IfOk, map};
 ghost use Rattle.oim_convert.specs.Jobs.{Each, IsLane, IsOpened};
-ghost use Rattle.oim_convert.specs.Limits.{IsRingSize};
+ghost use Rattle.oim_ring.specs.Limits.{IsRingSize};
 
 use crate::job::Job;
 use oim_ring::{Drain, Lanes};

@@ -4,23 +4,25 @@ ghost use Rattle.std.specs.Prelude.{◌≡◌, ◌⊎◌, ◌≤◌, ◌<◌, �
 ghost use Rattle.oim_convert.specs.Answer.{IsAnswer, streams};
 ghost use Rattle.oim_convert.specs.Files.{AreFilesOf};
 ghost use Rattle.oim_convert.specs.Histories.{AreUnserved};
-ghost use Rattle.oim_convert.specs.Limits.{IsRingSize, IsWorkerCount};
+ghost use Rattle.oim_convert.specs.Limits.{IsWorkerCount};
 ghost use Rattle.oim_convert.specs.Preparing.{HasRun, HasTables, IsReady};
 ghost use Rattle.oim_convert.specs.Runs.{AnswersFault, AreHistories, AreStreams, AreThreaded, AreUncut, Writes, early_fault};
 ghost use Rattle.oim_json.specs.JsonText.{head_text};
 ghost use Rattle.oim_json.specs.Sinks.{sink_at};
+ghost use Rattle.oim_ring.specs.Limits.{IsRingSize};
 
 use crate::crew::{Crew, crew_of};
 use crate::fault::ConvertFault;
 use crate::job::{Job, Receipt};
 use crate::lanes::open_lanes;
-use crate::limits::{LARGEST_RING, MOST_WORKERS};
+use crate::limits::MOST_WORKERS;
 use crate::returning::{ReturnRoom, finish, return_room};
 use crate::run::Run;
 use crate::scope::{Unmerged, Worked, work_crew};
 use crate::server::Serving;
 use oim_json::{Layout, Sink, head};
 use oim_meta::{Limits, Report};
+use oim_ring::LARGEST_RING;
 use std::alloc::{AllocError, Global};
 use std::io::Read;
 use std::sync::Wait;

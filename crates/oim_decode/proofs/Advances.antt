@@ -3,10 +3,10 @@ use Rattle.std.proofs.Common.{◌≡◌, ℕ, List, [], ◌∷◌, ◌++◌, tru
 use Rattle.std.proofs.lemmas.Grind.{flat_map-append}
 use Rattle.oim_resolve.specs.FactParts.{FactParts as Fact}
 use Rattle.oim_rows.specs.Header.{file_fault}
-use Rattle.oim_rows.specs.Streams.{GivesNext, IsOutside, Stream, ending}
+use Rattle.oim_rows.specs.Streams.{GivesNext, IsOutside, Stream, ending, facts_of_rows}
 use Rattle.oim_rows.specs.declared.fault.TableFault.{TableFault}
 use Rattle.oim_rows.specs.declared.fault.TableKind.TheVariants as kind
-use Rattle.oim_decode.specs.Blocks.{AddsRow, GivesBlock, ReadsRows, facts_of_rows}
+use Rattle.oim_decode.specs.Blocks.{AddsRow, GivesBlock, ReadsRows}
 
 -- these rows were read, and with their facts these are pending
 abbrev pub HasRead : ℕ → Stream → List Fact → List Fact → Option Stream → Type 0

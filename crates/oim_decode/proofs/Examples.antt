@@ -9,7 +9,7 @@ use Rattle.oim_rows.specs.Streams.{ending}
 use Rattle.oim_rows.specs.declared.fault.TableFault.{TableFault}
 use Rattle.oim_rows.specs.declared.fault.TableKind.TheVariants as kind
 use Rattle.oim_decode.specs.Answers.{piece_in}
-use Rattle.oim_decode.specs.Blocks.{AnswersFacts, ReadsRows, answered_of, facts_of_rows, has_row, left_of, turns_left}
+use Rattle.oim_decode.specs.Blocks.{AnswersFacts, ReadsRows, answered_of, has_row, left_of, turns_left}
 use Rattle.oim_decode.specs.Digits.{begins_with_sign, takes_point}
 use Rattle.oim_decode.specs.declared.table.Progress.TheVariants as progress
 
@@ -20,9 +20,6 @@ abbrev b : Fact
 b = record { id = codes "b"; value = None; decimals = None; dimensions = [] }
 
 -- a row may have no facts
-rows_in_order : facts_of_rows ((a ∷ []) ∷ [] ∷ (b ∷ a ∷ []) ∷ []) ≡ a ∷ b ∷ a ∷ []
-rows_in_order = refl
-
 -- a settled table has nothing left but its ending
 ended : left_of progress.Ended (Some (record { rows = (a ∷ []) ∷ []; fault = None })) ≡ Some (ending None)
 ended = refl

@@ -1,12 +1,11 @@
 -- What a reader of a table's blocks answers: the table's facts in order, block after block, and then its end or its first fault.
 use Rattle.std.specs.Prelude.{⊤, ◌≡◌, ◌⊎◌, Bool, true, false, List, [], ◌++◌, ℕ, suc, Option, Some, None, Result, Ok, Err}
-use Rattle.std.specs.List.{flat_map}
 use Rattle.std.specs.Option.{is_some}
 use mathlib.Core.List.{IsPrefix}
 use Rattle.oim_resolve.specs.FactParts.{FactParts as Fact}
 use Rattle.oim_rows.specs.Header.{file_fault}
 use Rattle.oim_rows.specs.RowFacts.{Reading}
-use Rattle.oim_rows.specs.Streams.{GivesNext, IsOutside, Stream, ending}
+use Rattle.oim_rows.specs.Streams.{GivesNext, IsOutside, Stream, ending, facts_of_rows}
 use Rattle.oim_rows.specs.declared.fault.TableFault.{TableFault}
 use Rattle.oim_rows.specs.declared.fault.TableKind.TheVariants as kind
 use Rattle.oim_decode.specs.declared.table.Progress.{Progress}
@@ -49,10 +48,6 @@ blocks_left rows facts p = record {
   answered = answered_of p;
   left = left_of p rows.left;
 }
-
--- the facts of rows, in order
-abbrev pub facts_of_rows : List (List Fact) → List Fact
-facts_of_rows rows = flat_map (λ row. row) rows
 
 -- one more row was read, and its facts joined those that are pending; or none was, and these are the same
 abbrev pub AddsRow : ℕ → Stream → List Fact → List Fact → Result Bool TableFault → Option Stream → Type 0

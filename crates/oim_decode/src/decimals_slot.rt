@@ -70,7 +70,8 @@ impl<'a> DecimalsSlot<'a> {
 
     /// Whether it is a reference to this source.
     pub(crate) fn reads(&self, source: SourceOf<'_>) -> bool
-        ensures { result ≡ true → self.now.source ≡ seen_source source.entry }
+        ensures same { result ≡ true → self.now.source ≡ seen_source source.entry }
+        ensures all { self.now.source ≡ seen_source source.entry → result ≡ true }
     {
         self.source.is_same(source)
     }

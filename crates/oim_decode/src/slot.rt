@@ -66,7 +66,8 @@ fn places_in(role: Role) -> usize
 
 /// Whether two roles are the same.
 fn is_same_role(first: Role, second: Role) -> bool
-    ensures { result ≡ true → first ≡ second }
+    ensures same { result ≡ true → first ≡ second }
+    ensures all { first ≡ second → result ≡ true }
 {
     match first {
         Role::Concept => matches!(second, Role::Concept),
@@ -81,7 +82,8 @@ fn is_same_role(first: Role, second: Role) -> bool
 
 /// Whether two sides are the same.
 fn is_same_side(first: Side, second: Side) -> bool
-    ensures { result ≡ true → first ≡ second }
+    ensures same { result ≡ true → first ≡ second }
+    ensures all { first ≡ second → result ≡ true }
 {
     match first {
         Side::Whole => matches!(second, Side::Whole),
@@ -131,7 +133,8 @@ impl<'a> Slot<'a> {
 
     /// Whether it is a reference to this source, in this role and side.
     pub(crate) fn reads(&self, role: Role, side: Side, source: SourceOf<'_>) -> bool
-        ensures { result ≡ true → (self.now.role ≡ role) × (self.now.side ≡ side) × (self.now.source ≡ seen_source source.entry) }
+        ensures same { result ≡ true → (self.now.role ≡ role) × (self.now.side ≡ side) × (self.now.source ≡ seen_source source.entry) }
+        ensures all { (self.now.role ≡ role) × (self.now.side ≡ side) × (self.now.source ≡ seen_source source.entry) → result ≡ true }
     {
         is_same_role(self.role, role)
             && is_same_side(self.side, side)

@@ -20,7 +20,8 @@ pub(crate) enum SourceOf<'a> {
 
 /// Whether two texts that may be there are the same.
 fn is_same_text(first: Option<&str>, second: Option<&str>) -> bool
-    ensures { result ≡ true → option_map (λ t. t.now) first.entry ≡ option_map (λ t. t.now) second.entry }
+    ensures same { result ≡ true → option_map (λ t. t.now) first.entry ≡ option_map (λ t. t.now) second.entry }
+    ensures all { option_map (λ t. t.now) first.entry ≡ option_map (λ t. t.now) second.entry → result ≡ true }
 {
     match (first, second) {
         (Some(first), Some(second)) => first == second,
@@ -32,7 +33,8 @@ fn is_same_text(first: Option<&str>, second: Option<&str>) -> bool
 impl<'a> SourceOf<'a> {
     /// Whether both references name the same.
     pub(crate) fn is_same(self, other: SourceOf<'_>) -> bool
-        ensures { result ≡ true → seen_source self.entry ≡ seen_source other.entry }
+        ensures same { result ≡ true → seen_source self.entry ≡ seen_source other.entry }
+        ensures all { seen_source self.entry ≡ seen_source other.entry → result ≡ true }
     {
         match (self, other) {
             (SourceOf::RowNumber, SourceOf::RowNumber) => true,

@@ -3,7 +3,7 @@
 ghost use Rattle.std.specs.Prelude.{◌≡◌, ◌⊎◌, ◌≤◌, ◌<◌, ◌+◌, [], IfErr, IfOk, IfSome, None, Some, false, length, true};
 ghost use Rattle.oim_meta.specs.Grid.{grid};
 ghost use Rattle.oim_rows.specs.Header.{file_header_fault};
-ghost use Rattle.oim_rows.specs.Streams.{IsOutside, answer_of, stream_of};
+ghost use Rattle.oim_rows.specs.Streams.{IsOutside, answer_of, facts_of_rows, stream_of};
 ghost use Rattle.oim_decode.specs.Blocks.{GivesBlock, KeepsAnswer};
 
 use crate::batch::Batch;
@@ -85,7 +85,7 @@ impl<'a, R: Read + Drop> TableBlocks<'a, R> {
 
 ghost use Rattle.std.specs.Prelude.{◌++◌, IsSome, List};
 ghost use Rattle.oim_resolve.specs.FactParts.{FactParts as FactValue};
-ghost use Rattle.oim_decode.specs.Blocks.{ReadsRows, facts_of_rows};
+ghost use Rattle.oim_decode.specs.Blocks.{ReadsRows};
 
 impl<R: Read> TableBlocks<'_, R> {
     /// The next facts in header order and row by row, 1 to 256 of them, or None at the end. A block
@@ -149,21 +149,28 @@ impl<R: Read> TableBlocks<'_, R> {
     }
 }
 
-// Whether a row of so many cells is read before the facts that are there are given.
+// Whether a row of this many cells is read before the facts that are there are given: where there are
+// none, or where a block has room for one more of each cell.
 fn has_room(count: usize, width: usize) -> bool
     ensures some { result ≡ false → 1 ≤ count }
+    ensures full { result ≡ false → 256 < count + width }
     ensures most { result ≡ true → count ≤ 256 }
+    ensures room { result ≡ true → 1 ≤ count → count + width ≤ 256 }
 {
     count == 0 || (width <= MOST && count <= MOST - width)
 }
 
-// How many of these facts make the next block, where so many stood before the last row.
+// How many of these facts make the next block, where `whole` of them stood before the last row: all
+// where they fit, else those of the whole rows, else as many as fit.
 fn share(count: usize, whole: usize) -> usize
     requires some { 1 ≤ count }
     requires whole { whole ≤ 256 }
     ensures some { 1 ≤ result }
     ensures most { result ≤ 256 }
     ensures there { result ≤ count }
+    ensures all { count ≤ 256 → result ≡ count }
+    ensures rows { 256 < count → 1 ≤ whole → result ≡ whole }
+    ensures cut { 256 < count → whole ≡ 0 → result ≡ 256 }
 {
     if count <= MOST {
         return count;

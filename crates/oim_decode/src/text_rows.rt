@@ -98,7 +98,9 @@ impl<'a, R: Read + Drop> TextRows<'a, R> {
 
 impl<R: Read> TextRows<'_, R> {
     /// How many cells a row has, and so at most how many facts.
-    pub(crate) fn width(&self) -> usize {
+    pub(crate) fn width(&self) -> usize
+        ensures { result ≡ length (self.now).reading.header }
+    {
         self.form.header().len()
     }
 

@@ -31,7 +31,7 @@ mod waiting;
 pub use drain::{Drain, Drained};
 pub use feed::{CloseFault, ClosedFeed, Feed};
 pub use item::{Ending, Item};
-pub use opening::{Lanes, lane};
+pub use opening::{LARGEST_RING, Lanes, lane};
 
 #[cfg(test)]
 mod tests;

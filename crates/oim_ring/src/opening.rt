@@ -1,6 +1,7 @@
 //! Opening new rings.
 
-ghost use Rattle.std.specs.Prelude.{◌≡◌, ◌≤◌, [], IfOk};
+ghost use Rattle.std.specs.Prelude.{◌≡◌, [], IfOk};
+ghost use Rattle.oim_ring.specs.Limits.{IsRingSize};
 
 use crate::backlog::{Backlog, BacklogHandle};
 use crate::drain::Drain;
@@ -10,6 +11,9 @@ use crate::waiting::both_ends;
 use rtrb::RingBuffer;
 use std::alloc::{AllocError, Global};
 use std::sync::Arc;
+
+/// The largest size of a ring, in blocks.
+pub const LARGEST_RING: usize = 65_536;
 
 /// Opens the rings of one report, in table order. Once as many blocks wait in them together as may, a
 /// feed that waits for its turn is held back, apart from that of the table that the writer takes.
@@ -28,10 +32,10 @@ impl Lanes {
         })
     }
 
-    /// The two ends of the next table's ring, with room for `size` items, 1 to 65,536. Nothing was sent
-    /// or taken yet. Fails if memory runs out.
+    /// The two ends of the next table's ring, with room for `size` items, 1 to `LARGEST_RING`. Nothing
+    /// was sent or taken yet. Fails if memory runs out.
     pub fn open(&mut self, alloc: Global, size: usize) -> Result<(Feed, Drain), AllocError>
-        requires { (1 ≤ size) × (size ≤ 65536) }
+        requires { IsRingSize size }
         ensures feed { IfOk result (λ r. (r.0.size ≡ size) × (r.0.sent ≡ [])) }
         ensures drain { IfOk result (λ r. r.1.taken ≡ []) }
         ensures one_ring { IfOk result (λ r. r.1.ring ≡ r.0.ring) }
@@ -53,10 +57,10 @@ impl Lanes {
     }
 }
 
-/// The two ends of a new ring on its own, with room for `size` items, 1 to 65,536. Nothing was sent or
-/// taken yet. Fails if memory runs out.
+/// The two ends of a new ring on its own, with room for `size` items, 1 to `LARGEST_RING`. Nothing was
+/// sent or taken yet. Fails if memory runs out.
 pub fn lane(alloc: Global, size: usize) -> Result<(Feed, Drain), AllocError>
-    requires { (1 ≤ size) × (size ≤ 65536) }
+    requires { IsRingSize size }
     ensures feed { IfOk result (λ r. (r.0.size ≡ size) × (r.0.sent ≡ [])) }
     ensures drain { IfOk result (λ r. r.1.taken ≡ []) }
     ensures one_ring { IfOk result (λ r. r.1.ring ≡ r.0.ring) }

@@ -21,10 +21,10 @@ use Rattle.oim_resolve.specs.declared.fact.CellFault.TheVariants as cell
 use Rattle.oim_rows.specs.FaultNames.{name_of, number_of}
 use Rattle.oim_meta.specs.declared.records.ReadFault.TheVariants as read
 use Rattle.oim_rows.specs.Header.{fault_at, file_fault, file_header_fault, header_fault, header_of, is_column, names_row_id}
-use Rattle.oim_rows.specs.Identifiers.{facts_of, facts_of_tables}
+use Rattle.oim_rows.specs.Identifiers.{facts_of_tables}
 use Rattle.oim_rows.specs.Progressing.{answered_of, left_of}
 use Rattle.oim_rows.specs.RowFacts.{Reading, cell_at, facts_from, holds_facts, id_kind, is_fact_column, row_fault, row_id_text, row_result, source_of_column}
-use Rattle.oim_rows.specs.Streams.{answer_of, early_header_fault, early_row_answer, ending, fault_of_read, kept_answer, row_answer, stream_from, stream_of, table_stream}
+use Rattle.oim_rows.specs.Streams.{answer_of, early_header_fault, early_row_answer, ending, facts_of, fault_of_read, kept_answer, row_answer, stream_from, stream_of, table_stream}
 use Rattle.oim_rows.specs.WholeTable.{ids_of, row_after, row_at}
 use Rattle.oim_rows.specs.declared.fault.TableKind.TheVariants as kind
 use Rattle.oim_rows.specs.declared.rows.Progress.TheVariants as progress

@@ -30,10 +30,10 @@ use Rattle.oim_resolve.specs.FactParts.{FactParts as Fact}
 use Rattle.oim_resolve.specs.declared.fact.Row.{Row}
 use Rattle.oim_rows.specs.Header.{Header, header_fault, header_of, is_column, is_empty, is_unknown, file_fault, names_row_id, or_else, repeat_from, repeats, fault_at}
 use Rattle.oim_resolve.proofs.FactFacts as resolved
-use Rattle.oim_rows.specs.Identifiers.{HaveOwnIds, facts_of, facts_of_tables}
+use Rattle.oim_rows.specs.Identifiers.{HaveOwnIds, facts_of_tables}
 use Rattle.oim_rows.specs.RowFacts.{Reading, at_place, checked, fact_at, facts_from, holds_facts, id_fault, id_kind, id_place_of}
 use Rattle.oim_rows.specs.RowFacts.{ids_after, is_fact_column, limit_fault, ragged_fault, row_fault, row_id_text, text_fault, row_of, row_result}
-use Rattle.oim_rows.specs.Streams.{Stream, reading_of, row_in_front, stream_from, stream_of, table_stream}
+use Rattle.oim_rows.specs.Streams.{Stream, facts_of, reading_of, row_in_front, stream_from, stream_of, table_stream}
 use Rattle.oim_rows.specs.declared.fault.TableFault.{TableFault}
 use Rattle.oim_rows.specs.declared.fault.TableKind.TheVariants as kind
 use Rattle.oim_rows.proofs.DotFacts.{HasDistinctColumns, HasNoDot, fact_id, all_append, all_mapped, all_weaker, any_front, any_grown}

@@ -1,15 +1,11 @@
 -- The identifiers of a report's facts: those of table, row and column, joined by dots, so that no two facts of a report have one identifier.
 -- xBRL-CSV 1.0, the identifier of a fact.
 use Rattle.std.specs.Prelude.{◌<◌, ◌≤◌, ◌+◌, ◌^◌, ℕ, List, [], ◌∷◌, ◌++◌, Option, map, length}
-use Rattle.std.specs.List.{IsDistinct, flat_map}
+use Rattle.std.specs.List.{IsDistinct}
 use Rattle.std.specs.Str.{bytes_eq}
 use Rattle.oim_meta.specs.ReportValue.{ReportValue}
 use Rattle.oim_resolve.specs.FactParts.{FactParts as Fact}
-use Rattle.oim_rows.specs.Streams.{Stream, table_stream}
-
--- all facts of a stream
-abbrev pub facts_of : Stream → List Fact
-facts_of s = flat_map (λ row. row) s.rows
+use Rattle.oim_rows.specs.Streams.{facts_of, table_stream}
 
 -- all facts of the tables from place i on, each with its file
 abbrev pub facts_of_tables : ReportValue → ℕ → ℕ → List (Option (List ℕ)) → List Fact

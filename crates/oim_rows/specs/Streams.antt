@@ -1,6 +1,7 @@
 -- A table's stream: all its facts, row by row, up to its first fault.
 -- xBRL-CSV 1.0, table files: the first record is the header, row n is the nth record after it.
 use Rattle.std.specs.Prelude.{⊤, List, [], ◌∷◌, ◌≡◌, ◌⊎◌, ℕ, ◌+◌, Bool, true, false, if◌then◌else◌, Option, Some, None, option_map, Result, Ok, Err}
+use Rattle.std.specs.List.{flat_map}
 use Rattle.oim_meta.specs.Grid.{Field, Record, grid}
 use Rattle.oim_meta.specs.Readers.{columns_of, table_of}
 use Rattle.oim_meta.specs.ReportValue.{ReportValue}
@@ -16,6 +17,14 @@ use Rattle.oim_rows.specs.declared.fault.TableKind.TheVariants as kind
 pub record Stream : Type 0 where
   pub rows : List (List Fact)
   pub fault : Option TableFault
+
+-- the facts of rows, row after row
+abbrev pub facts_of_rows : List (List Fact) → List Fact
+facts_of_rows rows = flat_map (λ row. row) rows
+
+-- all facts of a stream
+abbrev pub facts_of : Stream → List Fact
+facts_of s = facts_of_rows s.rows
 
 abbrev pub ending : Option TableFault → Stream
 ending f = record { rows = []; fault = f }

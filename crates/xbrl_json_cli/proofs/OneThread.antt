@@ -4,7 +4,7 @@ use Rattle.std.proofs.Common.{refl, sym, ap, subst, inl, inr, append-nil, ◌∙
 use Rattle.std.proofs.lemmas.Bool.{eq-eqb, eqb-true}
 use Rattle.oim_convert.proofs.RunHistories.{uncut_streams}
 use Rattle.oim_convert.proofs.StreamHistories.{streams_answer}
-use Rattle.oim_convert.specs.Answer.{IsAnswer, ending_of, facts_of, histories_of, streams}
+use Rattle.oim_convert.specs.Answer.{IsAnswer, ending_of, histories_of, streams}
 use Rattle.oim_convert.specs.Histories.{AreDecoded}
 use Rattle.oim_convert.specs.Serial as serial
 use Rattle.oim_convert.specs.declared.fault.ConvertFault.{ConvertFault}
@@ -16,7 +16,7 @@ use Rattle.oim_merge.specs.declared.progress.MergeEnd.{MergeEnd}
 use Rattle.oim_merge.specs.declared.progress.MergeEnd.TheVariants as end
 use Rattle.oim_meta.specs.ReportValue.{ReportValue}
 use Rattle.oim_ring.specs.declared.item.Item.TheVariants.{Block}
-use Rattle.oim_rows.specs.Streams.{Stream}
+use Rattle.oim_rows.specs.Streams.{Stream, facts_of}
 use Rattle.oim_rows.specs.declared.fault.TableFault.{TableFault}
 use Rattle.xbrl_json_cli.proofs.Names.{names_are}
 use Rattle.xbrl_json_cli.proofs.Threads.{no_names, uncut}

@@ -3,7 +3,8 @@ use Rattle.std.specs.Prelude.{◌≡◌, ℕ, ◌≤◌, Bool, true, false, ◌|
 use Rattle.std.proofs.Common.{arith, refl, sym, ap, subst, inl, inr}
 use Rattle.std.proofs.lemmas.Bool.{eq-eqb}
 use Rattle.oim_convert.specs.Answer.{IsAnswer, streams}
-use Rattle.oim_convert.specs.Limits.{largest_ring, most_workers}
+use Rattle.oim_convert.specs.Limits.{most_workers}
+use Rattle.oim_ring.specs.Limits.{largest_ring}
 use Rattle.oim_convert.specs.Runs.{AnswersFault, AreHistories, AreStreams, AreUncut, IsCut, IsRun, Writes, early_fault}
 use Rattle.oim_convert.specs.declared.fault.ConvertFault.{ConvertFault}
 use Rattle.oim_convert.specs.declared.fault.ConvertFault.TheVariants as fault

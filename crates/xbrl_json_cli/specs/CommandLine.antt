@@ -9,9 +9,10 @@ use Rattle.clap.specs.Simple.{on_top}
 use Rattle.clap.specs.declared.error.Error.{Error}
 use Rattle.clap.specs.declared.builder.action.ArgAction.TheVariants.{Set, SetTrue}
 use Rattle.clap.specs.declared.builder.value_parser.ValueParser.TheVariants.{Names, Unsigned}
-use Rattle.oim_convert.specs.Limits.{largest_ring, most_workers}
+use Rattle.oim_convert.specs.Limits.{most_workers}
 use Rattle.oim_json.specs.declared.layout.Layout.{Layout}
 use Rattle.oim_json.specs.declared.layout.Layout.TheVariants as layout
+use Rattle.oim_ring.specs.Limits.{largest_ring}
 use Rattle.xbrl_json_cli.specs.declared.settings.Settings.{Settings}
 
 -- an argument that takes one value, and an option of this name

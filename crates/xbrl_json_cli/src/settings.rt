@@ -3,7 +3,8 @@
 ghost use Rattle.std.specs.Prelude.{◌≡◌, ◌≤◌, ◌↔◌, IfOk, IfSome, IsTrue, codes, false, map, option_map};
 ghost use Rattle.clap.specs.Kinds.{FailsBy};
 ghost use Rattle.clap.specs.Words.{app_of, fault_of, first_of, found_of, matches_of, one_of, rows_of, rule_of};
-ghost use Rattle.oim_convert.specs.Limits.{IsRingSize, IsWorkerCount};
+ghost use Rattle.oim_convert.specs.Limits.{IsWorkerCount};
+ghost use Rattle.oim_ring.specs.Limits.{IsRingSize};
 ghost use Rattle.xbrl_json_cli.specs.CommandLine as spec;
 ghost use Rattle.xbrl_json_cli.specs.CommandLine.{Answers, AreLayouts, HasSettings, IsInput, IsLayoutOf, IsNumberOf, Words, command_line};
 
