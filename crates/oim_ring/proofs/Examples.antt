@@ -12,7 +12,6 @@ use Rattle.oim_ring.specs.declared.item.Ending as Endings
 use Rattle.oim_ring.specs.declared.item.Ending.TheVariants.{Closed, Refused}
 use Rattle.oim_ring.specs.declared.item.Item.{Item}
 use Rattle.oim_ring.specs.declared.item.Item.TheVariants.{Block, Ending}
-use Rattle.oim_ring.proofs.TakenWhole.{once_ended}
 use Rattle.oim_resolve.specs.declared.fact.CellFault.TheVariants.{BadNumber}
 use Rattle.oim_rows.specs.declared.fault.TableFault.{TableFault}
 use Rattle.oim_rows.specs.declared.fault.TableKind.TheVariants as kind
@@ -48,11 +47,21 @@ empty_table = record { before = []; ending = Closed; only = refl; is = refl }
 refused_table : EndsOnce (block ∷ Ending (Refused bad_number) ∷ [])
 refused_table = record { before = block ∷ []; ending = Refused bad_number; only = refl; is = refl }
 
+-- a list without an ending
+no_items : (before : List Item) (last : Endings.Ending) → [] ≡ before ++ Ending last ∷ [] → ⊥
+no_items [] last is = cc
+no_items (item ∷ more) last is = cc
+
 nothing_has_not_ended : EndsOnce [] → ⊥
-nothing_has_not_ended once = let e = once_ended [] once in cc
+nothing_has_not_ended once = no_items once.before once.ending once.is
+
+one_block : (before : List Item) (last : Endings.Ending) → block ∷ [] ≡ before ++ Ending last ∷ [] → ⊥
+one_block [] last is = cc
+one_block (item ∷ []) last is = cc
+one_block (item ∷ other ∷ more) last is = cc
 
 blocks_have_not_ended : EndsOnce (block ∷ []) → ⊥
-blocks_have_not_ended once = let e = once_ended (block ∷ []) once in cc
+blocks_have_not_ended once = one_block once.before once.ending once.is
 
 -- a list that goes on after an ending
 goes_on : (before : List Item) (last : Endings.Ending) → blocks_only before ≡ true → Ending Closed ∷ block ∷ [] ≡ before ++ Ending last ∷ [] → ⊥
