@@ -19,3 +19,4 @@ pub mod ReceiptCover
 pub mod FaultTables
 pub mod WrittenIds
 mod Examples
+mod ExamplesPrepared

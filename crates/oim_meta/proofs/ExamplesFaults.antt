@@ -26,6 +26,7 @@ use Rattle.oim_meta.specs.BadDecimals.{is_decimals, has_bad_decimals}
 use Rattle.oim_meta.specs.BadParameters.{has_bad_parameter, has_bad_parameter_url}
 use Rattle.oim_meta.specs.Counts.{has_too_many}
 use Rattle.oim_meta.specs.FirstFault.{first_fault, has_fault, late_fault}
+use Rattle.oim_meta.specs.Reading.{has_url_fault}
 
 -- PATHS
 plain_paths : list_all is_plain_path (codes "t1.csv" ∷ codes "a/t1.csv" ∷ codes "a b" ∷ codes "..." ∷ codes "a../b" ∷ codes "~" ∷ []) ≡ true
@@ -418,3 +419,10 @@ in_order = (refl, refl, refl, refl)
 -- these are not faults of a metadata: its bytes are JSON, or a file beside it has the fault
 no_faults_of_metadata : list_any (has_fault (record { rows = 0; tables = 0; columns = 0; metadata = 0 }) [] [] nothing) (Syntax ∷ BadTypes ∷ Memory ∷ Read ∷ []) ≡ false
 no_faults_of_metadata = refl
+
+-- with the name of the parameters file only two faults are looked for, though this metadata has others
+no_faults_of_the_name :
+    list_any (has_url_fault (with_faults_after 1))
+    (Syntax ∷ BadNamespaces ∷ BadTaxonomy ∷ Unsupported ∷ BadIdentifier ∷ BadTemplate ∷ ColumnKinds ∷ UnknownTemplate ∷ UnknownColumn ∷ BadDimension ∷ BadDecimals
+    ∷ BadTypes ∷ TooLarge ∷ Memory ∷ Read ∷ []) ≡ false
+no_faults_of_the_name = refl

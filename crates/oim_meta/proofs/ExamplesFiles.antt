@@ -8,8 +8,9 @@ use Rattle.oim_cells.specs.declared.cells.NumberKind.TheVariants.{Integer, Decim
 use Rattle.oim_names.specs.Names.{is_name_start, is_name_char, is_plain_char, is_ncname, is_identifier}
 use Rattle.csv.specs.Machine.{next_record}
 use Rattle.csv.specs.Reading.{records_from, strip_bom}
+use Rattle.csv.specs.Records.{field_at}
 use Rattle.csv.specs.declared.error.ErrorKind.TheVariants as kind
-use Rattle.oim_meta.specs.CsvFiles.{EntryFile, all_of, fault_of_read, file_result}
+use Rattle.oim_meta.specs.CsvFiles.{EntryFile, all_of, fault_of_read, file_result, text_field}
 use Rattle.oim_meta.specs.ReadFaults.{fault_of_kind}
 use Rattle.oim_meta.specs.WholeFile.{kind_said, record_at}
 use Rattle.oim_meta.specs.declared.records.ReadFault.TheVariants as read
@@ -39,6 +40,11 @@ grids :
     ≡ (codes "a" ∷ (98 ∷ 34 ∷ 99 ∷ []) ∷ []) ∷ (codes "d" ∷ []) ∷ [])
 unfolding records_left records_from strip_bom next_record
 grids = (refl, refl)
+
+-- a field at a place: one that is UTF-8, one that is not, and none
+fields : map (text_field (codes "a" ∷ (255 ∷ []) ∷ [])) (0 ∷ 1 ∷ 2 ∷ []) ≡ Some (codes "a") ∷ None ∷ None ∷ []
+unfolding field_at is_utf8 chars encode
+fields = refl
 
 -- PARAMETERS
 abbrev name_value : Record
@@ -228,6 +234,22 @@ numbers = refl
 
 faults_of_readers : (map fault_of_read (read.Read ∷ read.Memory ∷ []) ≡ Read ∷ Memory ∷ []) × (fault_of_kind kind.OutOfMemory ≡ read.Memory)
 faults_of_readers = (refl, refl)
+
+-- every other error of the CSV reader is a failed read
+failed_reader : (e : _) → fault_of_kind (kind.Io e) ≡ read.Read
+failed_reader e = refl
+
+field_of_no_text : (p e : _) → fault_of_kind (kind.Utf8 p e) ≡ read.Read
+field_of_no_text p e = refl
+
+another_length : (p expected found : _) → fault_of_kind (kind.UnequalLengths p expected found) ≡ read.Read
+another_length p expected found = refl
+
+value_not_written : (t : _) → fault_of_kind (kind.Serialize t) ≡ read.Read
+value_not_written t = refl
+
+record_of_no_value : (p e : _) → fault_of_kind (kind.Deserialize p e) ≡ read.Read
+record_of_no_value p e = refl
 
 names :
     map fault_name (Syntax ∷ NotReport ∷ BadNamespaces ∷ BadTaxonomy ∷ Unsupported ∷ BadIdentifier ∷ BadTemplate ∷ ColumnKinds ∷ UnknownTemplate

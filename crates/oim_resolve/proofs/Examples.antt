@@ -40,6 +40,7 @@ use Rattle.oim_resolve.specs.declared.fact.CellFault.TheVariants as fault
 use Rattle.oim_resolve.specs.declared.role.Role.TheVariants as role
 use Rattle.oim_resolve.specs.Facts.{cell_result, early_result, rest_faults, fact_of, is_numeric, is_of_text, role_of, value_faults_of}
 use Rattle.oim_resolve.specs.Faults.{both, least_of, name_of, number_of}
+use Rattle.oim_resolve.specs.Order.{IsAscending, HasNamesInOrder}
 use Rattle.oim_resolve.specs.Values.{side_of}
 
 -- what is unfolded to compute with names, with periods and with cells that are written out
@@ -633,3 +634,30 @@ fault_names :
     ∷ codes "BadPeriod" ∷ codes "NotDuration" ∷ codes "BadDecimals" ∷ codes "BadNumber" ∷ codes "Memory" ∷ codes "BadFactValue" ∷ []
 unfolding all_faults
 fault_names = refl
+
+-- NAMES IN ORDER: by their bytes, so capital letters come before small ones and a name before a longer one that begins with it
+ascending : IsAscending (codes "Concept" ∷ codes "a" ∷ codes "ab" ∷ codes "b" ∷ [])
+ascending = ((refl, (refl, (refl, tt))), ((refl, (refl, tt)), ((refl, tt), (tt, tt))))
+
+no_names : IsAscending []
+no_names = tt
+
+descending : IsAscending (codes "b" ∷ codes "a" ∷ []) → ⊥
+descending names = let e = names.0.0 in cc
+
+name_twice : IsAscending (codes "a" ∷ codes "a" ∷ []) → ⊥
+name_twice names = let e = names.0.0 in cc
+
+-- each name is compared, with each after it
+last_is_less : IsAscending (codes "b" ∷ codes "c" ∷ codes "a" ∷ []) → ⊥
+last_is_less names = let e = names.1.0.0 in cc
+
+-- a fact's dimensions are in order by their names, whatever their values; a fault and no fact have none
+ordered_fact : HasNamesInOrder (cash (codes "x") (codes "1") (unit (codes "iso4217:EUR")))
+ordered_fact = ((refl, (refl, (refl, tt))), ((refl, (refl, tt)), ((refl, tt), (tt, tt))))
+
+unordered_fact : HasNamesInOrder (fact (codes "x") None None (unit (codes "a") ++ period (codes "b"))) → ⊥
+unordered_fact names = let e = names.0.0 in cc
+
+no_fact : HasNamesInOrder (Ok None) × HasNamesInOrder (Err fault.BadValue)
+no_fact = (tt, tt)
