@@ -55,13 +55,16 @@ count = 0
 
 
 def case(name, seen, wanted):
-    """Counts a case, which is a run's status, standard output and standard error, or a part of them."""
+    """Counts a case, which is what was seen of a run and what was wanted: tuples of a status, texts and the like."""
     global count
     count += 1
     if seen != wanted:
         failed.append(name)
-        at = next((f"they differ in part {i} from place {len(os.path.commonprefix([a, b]))}" for i, (a, b) in enumerate(zip(seen, wanted)) if a != b and i), "")
-        print(f"FAILED {name}: {at}\n  wanted {str(wanted)[-700:]}\n  found  {str(seen)[-700:]}")
+        print(f"FAILED {name}:")
+        for a, b in zip(seen, wanted):
+            at = len(os.path.commonprefix([a, b])) if isinstance(a, (str, bytes)) else 0
+            if a != b:
+                print(f"  from place {at}, wanted {b[max(at - 60, 0) : at + 200] if at else b!r:.300}\n  found {a[max(at - 60, 0) : at + 200] if at else a!r:.300}")
 
 
 def bytes_of(text):
@@ -649,7 +652,7 @@ def words_and_paths(folder):
         status, out, err = run(folder, words)
         out = out + (folder / path).read_bytes() if path else out
         case(f"the held report by {words}", (status, out, err), (0, text, ""))
-        case(f"no other file by {words}", (folder / "o.json").exists(), path != "")
+        case(f"no other file by {words}", ((folder / "o.json").exists(),), (path != "",))
     for path in ("b/m.json", "", "d/e.f", "d/e.f/"):
         said = (1, b"", "xbrl-json: report: Read (17)\n") if "e.f" in path else (3, b"", f"xbrl-json: cannot read {path}\n")
         case(f"a report at {path!r}", run(folder, [path, "--types", "t.csv"]), said)
