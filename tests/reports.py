@@ -667,7 +667,8 @@ def words_refused(folder):
         status, out, err = run(folder, words)
         case(f"the words {words}", (status, out, err[:7]), (2, b"", "error: "))
     status, out, err = run(folder, [*WORDS, "--help"])
-    case("words with --help", (status, b"[default: 4]" in out, b"[default: 1024]" in out, b"[default: standard output]" in out, b"[default: compact]" in out, err), (0, True, True, True, True, ""))
+    defaults = [f"[default: {it}]".encode() in out for it in ("4", "1024", "standard output", "compact")]
+    case("words with --help", (status, defaults, err), (0, [True] * 4, ""))
 
 
 def early_ends(folder):
