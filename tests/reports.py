@@ -582,10 +582,10 @@ def parameters(folder):
     """Parameters files, read and refused. The parameters give decimals and a dimension."""
     edits = [BY_FILE, ('"dimensions":{"entity"', '"decimals":"$a","dimensions":{"eg:Branch":"$b","entity"')]
     write(folder, {"m.json": edited(edits), "t.csv": TYPES, "t1.csv": "cash\n5\n"})
-    fact = '"t1.r_1.cash":{"decimals":1,"dimensions":{"concept":"eg:Cash","eg:Branch":"x,\\"y","entity":"eg:A1","period":"@","unit":"iso4217:EUR"},"value":"5"}'
+    wanted = '"t1.r_1.cash":{"decimals":1,"dimensions":{"concept":"eg:Cash","eg:Branch":"x,\\"y","entity":"eg:A1","period":"@","unit":"iso4217:EUR"},"value":"5"}'
     for text in ('name,value\na,1\nb,"x,""y"\n', '\ufeffname,value\r\na,1\r\n\r\nb,"x,""y"'):
         write(folder, {"p.csv": text})
-        converts(folder, f"parameters {text!r}", [fact])
+        converts(folder, f"parameters {text!r}", [wanted])
     for text in ("", "a,1\n", "name,value\na,1\na,2\n", "name,value\na\n", "name,value\na,1,2\n", "name,value\n,1\n", "name,value\na,\udcff\n"):
         write(folder, {"p.csv": text})
         stops(folder, f"parameters {text!r}", "parameters: BadParameter (13)")
