@@ -55,13 +55,16 @@ count = 0
 
 
 def case(name, seen, wanted):
-    """Counts a case, which is a run's status, standard output and standard error, or a part of them."""
+    """Counts a case, which is what was seen of a run and what was wanted: tuples of a status, texts and the like."""
     global count
     count += 1
     if seen != wanted:
         failed.append(name)
-        at = next((f"they differ in part {i} from place {len(os.path.commonprefix([a, b]))}" for i, (a, b) in enumerate(zip(seen, wanted)) if a != b and i), "")
-        print(f"FAILED {name}: {at}\n  wanted {str(wanted)[-700:]}\n  found  {str(seen)[-700:]}")
+        print(f"FAILED {name}:")
+        for a, b in zip(seen, wanted):
+            at = len(os.path.commonprefix([a, b])) if isinstance(a, (str, bytes)) else 0
+            if a != b:
+                print(f"  from place {at}, wanted {b[max(at - 60, 0) : at + 200] if at else b!r:.300}\n  found {a[max(at - 60, 0) : at + 200] if at else a!r:.300}")
 
 
 def bytes_of(text):
@@ -579,10 +582,10 @@ def parameters(folder):
     """Parameters files, read and refused. The parameters give decimals and a dimension."""
     edits = [BY_FILE, ('"dimensions":{"entity"', '"decimals":"$a","dimensions":{"eg:Branch":"$b","entity"')]
     write(folder, {"m.json": edited(edits), "t.csv": TYPES, "t1.csv": "cash\n5\n"})
-    fact = '"t1.r_1.cash":{"decimals":1,"dimensions":{"concept":"eg:Cash","eg:Branch":"x,\\"y","entity":"eg:A1","period":"@","unit":"iso4217:EUR"},"value":"5"}'
+    wanted = '"t1.r_1.cash":{"decimals":1,"dimensions":{"concept":"eg:Cash","eg:Branch":"x,\\"y","entity":"eg:A1","period":"@","unit":"iso4217:EUR"},"value":"5"}'
     for text in ('name,value\na,1\nb,"x,""y"\n', '\ufeffname,value\r\na,1\r\n\r\nb,"x,""y"'):
         write(folder, {"p.csv": text})
-        converts(folder, f"parameters {text!r}", [fact])
+        converts(folder, f"parameters {text!r}", [wanted])
     for text in ("", "a,1\n", "name,value\na,1\na,2\n", "name,value\na\n", "name,value\na,1,2\n", "name,value\n,1\n", "name,value\na,\udcff\n"):
         write(folder, {"p.csv": text})
         stops(folder, f"parameters {text!r}", "parameters: BadParameter (13)")
@@ -649,7 +652,7 @@ def words_and_paths(folder):
         status, out, err = run(folder, words)
         out = out + (folder / path).read_bytes() if path else out
         case(f"the held report by {words}", (status, out, err), (0, text, ""))
-        case(f"no other file by {words}", (folder / "o.json").exists(), path != "")
+        case(f"no other file by {words}", ((folder / "o.json").exists(),), (path != "",))
     for path in ("b/m.json", "", "d/e.f", "d/e.f/"):
         said = (1, b"", "xbrl-json: report: Read (17)\n") if "e.f" in path else (3, b"", f"xbrl-json: cannot read {path}\n")
         case(f"a report at {path!r}", run(folder, [path, "--types", "t.csv"]), said)
@@ -664,7 +667,8 @@ def words_refused(folder):
         status, out, err = run(folder, words)
         case(f"the words {words}", (status, out, err[:7]), (2, b"", "error: "))
     status, out, err = run(folder, [*WORDS, "--help"])
-    case("words with --help", (status, b"[default: 4]" in out, b"[default: 1024]" in out, b"[default: standard output]" in out, b"[default: compact]" in out, err), (0, True, True, True, True, ""))
+    defaults = [f"[default: {it}]".encode() in out for it in ("4", "1024", "standard output", "compact")]
+    case("words with --help", (status, defaults, err), (0, [True] * 4, ""))
 
 
 def early_ends(folder):
