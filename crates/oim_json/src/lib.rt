@@ -30,6 +30,3 @@ pub use mark::{Mark, WriteFault};
 pub use member::{Member, member_of};
 pub use sink::{Marked, Sink, write_all_of};
 pub use writing::write_members;
-
-#[cfg(test)]
-mod tests;

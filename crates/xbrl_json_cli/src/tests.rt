@@ -14,6 +14,7 @@ mod resolve;
 mod rings;
 mod rows;
 mod settings;
+mod sinks;
 mod starts;
 mod threads;
 mod writers;

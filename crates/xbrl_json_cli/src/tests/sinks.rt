@@ -1,8 +1,8 @@
-//! Texts and writes on worked facts.
+//! Texts of facts, and how often a sink asks its writer.
 
 ghost use Rattle.std.specs.Prelude.{◌≡◌, IfOk};
 
-use crate::{
+use oim_json::{
     Layout, Marked, Member, Sink, TAIL, block_of, member_of, tail, write_all_of, write_members,
 };
 use oim_names::{Items, Text};
