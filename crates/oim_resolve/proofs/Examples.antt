@@ -298,6 +298,16 @@ reference_unknown_name : referring [] [] (codes "eg:Region") ≡ Err fault.Unkno
 unfolding on_literals
 reference_unknown_name = refl
 
+-- a typed dimension, a name that no record has, one without a prefix, one of a prefix that is not declared, and no name
+no_concepts : map (referring [] []) (codes "eg:Branch" ∷ codes "eg:Nowhere" ∷ codes "Cash" ∷ codes "zz:Cash" ∷ codes "1" ∷ [])
+    ≡ Err fault.UnknownName ∷ Err fault.UnknownName ∷ Err fault.UnknownName ∷ Err fault.UnknownName ∷ Err fault.UnknownName ∷ []
+unfolding on_literals
+no_concepts = refl
+
+reference_report_last : referring [] (parameter (codes "eg:Cash")) [] ≡ cash (codes "x") (codes "1") (unit (codes "iso4217:EUR"))
+unfolding on_literals
+reference_report_last = refl
+
 -- WHAT A CONCEPT DROPS: units of texts and languages of numbers, before they are read
 abbrev spoken : Written → List ℕ → List ℕ → Result (Option Fact) CellFault
 spoken u c t =
@@ -312,6 +322,11 @@ dropped_unit_is_not_read = refl
 kept_unit_is_read : spoken (reference (codes "u")) (codes "eg:Cash") (codes "1") ≡ Err fault.UnknownSpecial
 unfolding on_literals
 kept_unit_is_read = refl
+
+-- a unit without a prefix, and one of a prefix that is not declared
+bad_units : map (λ u. spoken (text u) (codes "eg:Cash") (codes "1")) (codes "EUR" ∷ codes "zz:EUR" ∷ []) ≡ Err fault.BadValue ∷ Err fault.BadValue ∷ []
+unfolding on_literals
+bad_units = refl
 
 pure_unit : spoken (text (codes "xbrli:pure")) (codes "eg:Cash") (codes "1") ≡ cash (codes "x") (codes "1") []
 unfolding on_literals
@@ -564,6 +579,10 @@ side_start : with_b ((codes "entity", text (codes "eg:A1")) ∷ (codes "period",
     ≡ fact (codes "x") (Some (codes "1")) None (common (codes "eg:Cash") ++ period (codes "2021-10-01T00:00:00") ++ unit (codes "iso4217:EUR"))
 unfolding on_literals
 side_start = refl
+
+start_of_an_instant : with_b ((codes "entity", text (codes "eg:A1")) ∷ (codes "period", w.Named (codes "b") side.Start) ∷ []) (codes "2021-12-31T00:00:00") ≡ Err fault.NotDuration
+unfolding on_literals
+start_of_an_instant = refl
 
 sides_asked_for : map side_of (w.RowNumber side.Start ∷ w.Named (codes "b") side.End ∷ reference (codes "b") ∷ text (codes "b") ∷ []) ≡ side.Start ∷ side.End ∷ side.Whole ∷ side.Whole ∷ []
 sides_asked_for = refl
