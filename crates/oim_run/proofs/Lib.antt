@@ -7,3 +7,4 @@ mod OneThread
 mod MetadataFacts
 mod StepFacts
 mod Examples
+mod ExamplesNaming

@@ -1,0 +1,83 @@
+-- The names of refused tables, the outcomes of answers, and the steps in their order, on worked cases.
+use Rattle.std.specs.Prelude.{◌≡◌, ◌∷◌, [], ℕ, List, Some, None, Ok, Err, codes, map, if◌then◌else◌}
+use Rattle.std.specs.Global.{Vec}
+use Rattle.std.specs.Str.{bytes_eq, chars, is_utf8}
+use Rattle.std.proofs.Common.{ap, ◌∙◌, refl}
+use lib.Utf8.{encode}
+use Rattle.csv.specs.Machine.{next_record}
+use Rattle.csv.specs.Reading.{records_from, strip_bom}
+use Rattle.oim_convert.specs.declared.fault.ConvertFault.TheVariants as fault
+use Rattle.oim_convert.specs.declared.run.Run.{Run}
+use Rattle.oim_json.specs.declared.mark.WriteFault.TheVariants as write
+use Rattle.oim_merge.specs.declared.progress.MergeEnd.TheVariants as end
+use Rattle.oim_meta.specs.Grid.{records_left}
+use Rattle.oim_meta.specs.declared.fault.MetaFault.TheVariants as refused
+use Rattle.oim_resolve.specs.declared.fact.CellFault.TheVariants as cell
+use Rattle.oim_rows.specs.Header.{fault_at}
+use Rattle.oim_rows.specs.declared.fault.TableFault.{TableFault}
+use Rattle.oim_rows.specs.declared.fault.TableKind.TheVariants as table
+use Rattle.oim_run.specs.Folders.{Files}
+use Rattle.oim_run.specs.Naming.{outcome_alone, outcome_at, outcome_by, with_names}
+use Rattle.oim_run.specs.Steps.{steps}
+use Rattle.oim_run.specs.declared.outcome.Outcome.TheVariants as outcome
+use Rattle.oim_run.specs.declared.outcome.Source.TheVariants as source
+
+-- NAMES
+abbrev names : List (List ℕ)
+names = codes "a" ∷ codes "b" ∷ codes "c" ∷ []
+
+abbrev no_file : ℕ → TableFault
+no_file i = fault_at i 0 0 table.NoFile
+
+abbrev bad_number : TableFault
+bad_number = fault_at 1 2 1 (table.Cell cell.BadNumber)
+
+-- each fault has the name of its own table, whatever the order
+names_by_place : with_names names (no_file 2 ∷ bad_number ∷ []) ≡ (codes "c", no_file 2) ∷ (codes "b", bad_number) ∷ []
+names_by_place = refl
+
+-- a name is given once, and no name stands past the last
+names_given_once : with_names names (no_file 0 ∷ no_file 0 ∷ no_file 3 ∷ []) ≡ (codes "a", no_file 0) ∷ ([], no_file 0) ∷ ([], no_file 3) ∷ []
+names_given_once = refl
+
+-- OUTCOMES
+failed_write : outcome_at names (no_file 0 ∷ []) (end.Write write.Zero) ≡ outcome.Output write.Zero
+failed_write = refl
+
+module _ (run : Run) where
+  ran_to_the_end : run.end ≡ end.Complete → outcome_by names (Ok run) ≡ outcome.Done
+  ran_to_the_end is = ap (λ e. outcome_at names run.faults.items e) is
+
+  one_table_refused : run.faults.items ≡ bad_number ∷ [] → run.end ≡ end.Refused → outcome_by names (Ok run) ≡ outcome.Tables ((codes "b", bad_number) ∷ [])
+  one_table_refused faults is = ap (λ fs. outcome_at names fs run.end) faults ∙ ap (λ e. outcome_at names (bad_number ∷ []) e) is
+
+did_not_run : map (λ f. outcome_by names (Err f)) (fault.BadWorkers ∷ fault.BadSize ∷ fault.WrongReaders ∷ fault.Memory ∷ fault.Lost ∷ [])
+    ≡ outcome.Run fault.BadWorkers ∷ outcome.Run fault.BadSize ∷ outcome.Run fault.WrongReaders ∷ outcome.Run fault.Memory ∷ outcome.Run fault.Lost ∷ []
+did_not_run = refl
+
+-- the same on one thread
+done_alone : outcome_alone names (Ok tt) ≡ outcome.Done
+done_alone = refl
+
+failed_write_alone : outcome_alone names (Err (fault.Write write.Failed)) ≡ outcome.Output write.Failed
+failed_write_alone = refl
+
+did_not_run_alone : map (λ f. outcome_alone names (Err f)) (fault.BadWorkers ∷ fault.BadSize ∷ fault.WrongReaders ∷ fault.Memory ∷ fault.Lost ∷ [])
+    ≡ outcome.Run fault.BadWorkers ∷ outcome.Run fault.BadSize ∷ outcome.Run fault.WrongReaders ∷ outcome.Run fault.Memory ∷ outcome.Run fault.Lost ∷ []
+did_not_run_alone = refl
+
+tables_refused_alone : (faults : Vec TableFault) → faults.items ≡ bad_number ∷ no_file 2 ∷ []
+    → outcome_alone names (Err (fault.Tables faults)) ≡ outcome.Tables ((codes "b", bad_number) ∷ (codes "c", no_file 2) ∷ [])
+tables_refused_alone faults is = ap (λ fs. outcome.Tables (with_names names fs)) is
+
+-- STEPS
+-- a metadata that is not UTF-8 and so not JSON, and no other file
+abbrev no_text : Files
+no_text path = if bytes_eq path (codes "f/m.json") then Some (255 ∷ []) else None
+
+-- the metadata is opened and read, then the types table; then the metadata is looked at, for the parameters file and as a whole
+faults_in_order : map (λ s. s.fault) (steps no_text (codes "f/") (codes "f/m.json") (codes "x.csv"))
+    ≡ None ∷ None ∷ Some (outcome.CannotRead (codes "x.csv")) ∷ Some (outcome.Report source.Types refused.BadTypes)
+    ∷ Some (outcome.Report source.Report refused.Syntax) ∷ Some (outcome.Report source.Report refused.Syntax) ∷ []
+unfolding records_left records_from strip_bom next_record is_utf8 chars encode
+faults_in_order = refl
