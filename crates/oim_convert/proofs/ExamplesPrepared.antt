@@ -1,6 +1,6 @@
 -- What a conversion on threads makes beforehand, and how many faults of tables an answer may have, on small worked cases. A vector is told
 -- by its items and by how many it has room for.
-use Rattle.std.specs.Prelude.{◌≡◌, ℕ, List, [], ◌∷◌, Option, Some, None, Ok, Err, All, length, vec_capacity, vec_len}
+use Rattle.std.specs.Prelude.{◌≡◌, ℕ, List, [], ◌∷◌, Some, None, Ok, Err, All, length, vec_capacity, vec_len}
 use Rattle.std.specs.Global.{Vec}
 use Rattle.std.proofs.Common.{arith, sym, ◌∙◌, refl}
 use Rattle.atomic_table.specs.Seated.{TableId}
