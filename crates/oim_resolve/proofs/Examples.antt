@@ -492,6 +492,11 @@ literal_branches : map (λ x. with_b ((codes "eg:Branch", x) ∷ base_level) [])
 unfolding on_literals
 literal_branches = refl
 
+-- a reference that no cell and no parameter answers writes nothing
+unanswered_reference : with_b ((codes "eg:Branch", reference (codes "z")) ∷ base_level) [] ≡ cash (codes "x") (codes "1") (unit (codes "iso4217:EUR"))
+unfolding on_literals
+unanswered_reference = refl
+
 literal_regions : map (λ x. with_b ((codes "eg:Region", x) ∷ base_level) []) (w.Nil ∷ w.Empty ∷ []) ≡ Err fault.BadReference ∷ Err fault.BadReference ∷ []
 unfolding on_literals
 literal_regions = refl
