@@ -184,7 +184,7 @@ no_forms :
     ([] ∷ codes "5" ∷ codes "005" ∷ codes "00005" ∷ codes "0005-1" ∷ codes "0005-1-1" ∷ codes "0005Q" ∷ codes "0005Q01" ∷ codes "0005q1" ∷ codes "0005h1"
     ∷ codes "0005w1" ∷ codes "0005W" ∷ codes "0005W001" ∷ codes "0005-01-01t00:00:00" ∷ codes "0005-01-01 00:00:00" ∷ codes "0005-01-01T00:00"
     ∷ codes "0005-01-01T00:00:00Z" ∷ codes " 0005" ∷ codes "0005 " ∷ codes "0005/01" ∷ codes "0005-01-01.0005-01-02" ∷ codes "0005-01-01/0005-01-02"
-    ∷ codes "0005-01-01T00:00:00-0005-01-02T00:00:00" ∷ codes "00:5" ∷ codes "000/" ∷ [])
+    ∷ codes "0005-01-01T00:00:00-0005-01-02T00:00:00" ∷ codes "00:5" ∷ codes "000/" ∷ codes "0005W:" ∷ [])
     ≡ false
 unfolding means_something days_of_years days_of_months day_number is_date is_week is_clock one_at two_at four_at found first_some moment_by moment_of days_by
     days_of whole_days in_order pair_of duration_of without period_of
