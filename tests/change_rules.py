@@ -8,8 +8,9 @@ can still be proved. So each rule wants a worked case: a theorem by computation 
 whose answer comes from the standard. This script looks for rules that have none. It changes one thing at a time in the
 body of one definition of `specs/`: a number by one, a text by its last character, an operator, a comparison, a truth
 value, a condition, a constructor, a line of a list or a sum that is left out or changes places with the next, the answer
-of a case. For each change it copies the definitions that rest on it and the worked cases under other names into a copy of
-the repository, and asks the checker about the cases. Many changes are checked in one run, so one takes seconds or less.
+of a case. For each change it copies the definitions that rest on it and a file of worked cases under other names into a
+copy of the repository, and asks the checker about the cases. Many changes are checked in one run, so one takes seconds or
+less. The files of worked cases are tried one after the other, each with the changes that no file before it has noticed.
 
 Each change is one of these:
 - not well-formed: the change does not make a definition (it says nothing);
@@ -20,15 +21,17 @@ A change with which the checker does not end in time is listed too.
 Definitions of relations and records (`Type 0`, `data`, `record`) are left out: what ties a relation to the function of
 the same meaning is a clause. A file whose cases fail in an unchanged copy can't be tried so, and is named.
 
-The crates below have to be proved with their work kept (`rt check` and `rt lib` in each), since it is copied. --only takes one file
-of specs/ by its name, --name one definition, --every N each Nth change (from the one at --begin, else the first), --batch how many
-changes a run checks (40), --minutes for a run (10); --list lists the changes and checks nothing, --all prints what came of each. RT names another command for `rt`. The copy stands in TMPDIR and goes at the end.
-The status is 0 where every change that is a definition showed, else 1. Python 3.9 or later.
+The crates below have to be proved with their work kept (`rt check` and `rt lib` in each), since it is copied. --only takes
+one file of specs/ by its name, --name one definition, --every N each Nth change (from the one at --begin, else the first),
+--batch how many changes a run checks (40), --minutes for a run (10); --list lists the changes and checks nothing, --all
+prints what came of each. RT names another command for `rt`. The copy stands in TMPDIR and goes at the end. The status is 0
+where every change that is a definition showed, else 1. Python 3.9 or later.
 """
 import argparse
 import os
 import re
 import shutil
+import signal
 import subprocess
 import sys
 import tempfile
@@ -182,6 +185,7 @@ class Change:
 
     def __init__(self, file, name, what, text):
         self.file, self.name, self.what, self.text = file, name, what, text
+        self.verdict, self.errors = None, []
 
     def __str__(self):
         return f"{self.file}: {self.name}: {self.what}"
@@ -231,18 +235,29 @@ class Copies:
         """The files of specs/ that rest on a file, with it."""
         found, grows = {file}, True
         while grows:
-            more = {name for name, text in self.specs.items() if any(re.search(rf"\bRattle\.{self.crate}\.specs\.{it}\b", text) for it in found)}
+            more = {name for name, text in self.specs.items() if any(self.names(text, it) for it in found)}
             grows = not more <= found
             found |= more
         return found
+
+    def needed(self, cases, file):
+        """The files of specs/ that rest on a file and that some worked cases need; none where the cases do not need the file."""
+        found, fresh = set(), {it for it in self.specs if self.names(self.cases[cases], it)}
+        while fresh:
+            found |= fresh
+            fresh = {it for it in self.specs if any(self.names(self.specs[user], it) for user in fresh)} - found
+        return self.users(file) & found
+
+    def names(self, text, file):
+        return re.search(rf"\bRattle\.{self.crate}\.specs\.{file}\b", text)
 
     def renamed(self, text, mark, files):
         for it in files:
             text = re.sub(rf"\bRattle\.{self.crate}\.specs\.{it}\b", f"Rattle.{self.crate}.proofs.{mark}{it}", text)
         return text
 
-    def write(self, changes):
-        """Writes the copies for some changes. A function cites all of them, so that one check reads them."""
+    def write(self, cases, changes):
+        """Writes the copies for some changes and a file of worked cases. A function cites all of them, so that one check reads them."""
         proofs = self.at / "proofs"
         for it in proofs.glob("Change*.antt"):
             it.unlink()
@@ -251,15 +266,15 @@ class Copies:
         names, cited = [], []
         for number, change in enumerate(changes):
             mark = f"Change{number:03}"
-            files = self.users(change.file)
+            files = self.needed(cases, change.file)
             for it in files:
                 text = with_imports(change.text) if it == change.file else self.specs[it]
                 (proofs / f"{mark}{it}.antt").write_text(self.renamed(text, mark, files))
                 names.append(f"{mark}{it}")
-            for it, text in self.cases.items():
-                (proofs / f"{mark}{it}.antt").write_text(MARK + self.renamed(text, mark, files) + "\npub shows : Shown\nshows = 0\n")
-                names.append(f"{mark}{it}")
-                cited.append(f"{mark}{it}")
+            text = self.renamed(self.cases[cases], mark, files)
+            (proofs / f"{mark}{cases}.antt").write_text(MARK + text + "\npub shows : Shown\nshows = 0\n")
+            names.append(f"{mark}{cases}")
+            cited.append(f"{mark}{cases}")
         own = (TOP / "crates" / self.crate / "proofs/Lib.antt").read_text().rstrip("\n")
         (proofs / "Lib.antt").write_text(own + "".join(f"\npub mod {it}" for it in names) + "\npub mod ChangesAll\n")
         uses = "".join(f"use Rattle.{self.crate}.proofs.{it}.{{shows as shows{i}}}\n" for i, it in enumerate(cited))
@@ -268,18 +283,25 @@ class Copies:
         source = (TOP / "crates" / self.crate / f"src/{self.root}.rt").read_text()
         (self.at / f"src/{self.root}.rt").write_text(source.rstrip("\n") + "\n" + CITES)
 
-    def check(self, changes):
+    def said(self, words):
+        """What a command prints, or None where it does not end in time: then it is killed, with all that it started."""
+        with subprocess.Popen(words, cwd=self.at, stdout=subprocess.PIPE, stderr=subprocess.STDOUT, text=True, start_new_session=True) as run:
+            try:
+                return run.communicate(timeout=60 * self.minutes)[0]
+            except subprocess.TimeoutExpired:
+                os.killpg(run.pid, signal.SIGKILL)
+                return None
+
+    def check(self, cases, changes):
         """What the checker says of each change: the list of its errors, or None where it did not end."""
-        self.write(changes)
+        self.write(cases, changes)
         words = os.environ.get("RT", "rt").split() + ["check", "--jobs", "1", "--only", "changes_of_rules"]
-        try:
-            done = subprocess.run(words, cwd=self.at, capture_output=True, text=True, timeout=60 * self.minutes)
-        except subprocess.TimeoutExpired:
-            if len(changes) == 1:
-                return [None]
+        said = self.said(words)
+        if said is None and len(changes) == 1:
+            return [None]
+        if said is None:
             half = len(changes) // 2
-            return self.check(changes[:half]) + self.check(changes[half:])
-        said = done.stdout + done.stderr
+            return self.check(cases, changes[:half]) + self.check(cases, changes[half:])
         if not re.search(r"^only=", said, re.M):
             sys.exit(f"the checker stopped:\n{said[-3000:]}")
         errors = [[] for _ in changes]
@@ -303,50 +325,59 @@ def judged(errors, cases):
     """What a change's errors say of it."""
     if errors is None:
         return "no end"
-    if any(file not in cases for file, _ in errors):
+    if any(file != cases for file, _ in errors):
         return "not well-formed"
     if any("not checked" not in what for _, what in errors):
         return "showed"
     return "not well-formed" if errors else "not noticed"
 
 
+def one_round(copies, cases, changes, options):
+    """Tries changes with one file of worked cases; notes at each what came of it."""
+    some = [it for it in changes if copies.needed(cases, it.file)]
+    unchanged = [Change(it, "", "no change", copies.specs[it]) for it in sorted({it.file for it in some})]
+    untried = set()
+    for change, errors in zip(unchanged, copies.check(cases, unchanged) if unchanged else []):
+        if errors is None or errors:
+            untried.add(change.file)
+            print(f"{change.file}: {cases} fails without a change, so it was not tried: {errors and errors[0][1][:150]}", flush=True)
+    some = [it for it in some if it.file not in untried]
+    for at in range(0, len(some), options.batch):
+        batch = some[at:at + options.batch]
+        for change, errors in zip(batch, copies.check(cases, batch)):
+            verdict = judged(errors, cases)
+            if change.verdict != "no end" or verdict != "not noticed":
+                change.verdict, change.errors = verdict, errors
+        print(f"{copies.crate}, {cases}: {at + len(batch)} of {len(some)} tried", file=sys.stderr, flush=True)
+
+
 def run(options):
-    crate = options.crate
     folder = tempfile.mkdtemp()
-    counts, listed = {"showed": 0, "not well-formed": 0, "not noticed": 0, "no end": 0}, []
     try:
-        copies = Copies(crate, folder, options.minutes)
+        copies = Copies(options.crate, folder, options.minutes)
         files = [it for it in copies.specs if not options.only or it == options.only]
         changes = [it for file in files for it in changes_of(file, copies.specs[file])]
         changes = [it for it in changes if not options.name or it.name == options.name][options.begin::options.every]
         if options.list:
             print("\n".join(map(str, changes)) + f"\n{len(changes)} changes")
             return 0
-        tried = sorted({it.file for it in changes})
-        unchanged = [Change(it, "", "no change", copies.specs[it]) for it in tried]
-        untried = set()
-        for at in range(0, len(changes), options.batch):
-            some = changes[at:at + options.batch]
-            begun = unchanged if at == 0 else []
-            answers = copies.check(begun + some)
-            for change, errors in zip(begun, answers):
-                if errors is None or errors:
-                    untried.add(change.file)
-                    print(f"{change.file}: cases fail without a change, so it was not tried: {errors and errors[0][1][:150]}", flush=True)
-            for change, errors in zip(some, answers[len(begun):]):
-                if change.file in untried:
-                    continue
-                verdict = judged(errors, copies.cases)
-                counts[verdict] += 1
-                if verdict in ("not noticed", "no end"):
-                    print(f"{verdict}: {change}", flush=True)
-                elif options.all:
-                    print(f"{verdict}: {change}" + (f" [{errors[0][1][:80]}]" if errors else ""), flush=True)
-            print(f"{crate}: {at + len(some)} of {len(changes)} tried", file=sys.stderr, flush=True)
+        for cases in copies.cases:
+            one_round(copies, cases, [it for it in changes if it.verdict in (None, "not noticed", "no end")], options)
     finally:
         shutil.rmtree(folder, ignore_errors=True)
-    print(f"{crate}: {sum(counts.values())} changes tried: " + ", ".join(f"{n} {what}" for what, n in counts.items()))
-    return 1 if counts["not noticed"] + counts["no end"] else 0
+    return told(options, changes)
+
+
+def told(options, changes):
+    """Prints what came of the changes; 1 if a change did not show."""
+    for it in changes:
+        if it.verdict in (None, "not noticed", "no end"):
+            print(f"{it.verdict or 'no case needs it'}: {it}")
+        elif options.all:
+            print(f"{it.verdict}: {it}" + (f" [{it.errors[0][1][:80]}]" if it.errors else ""))
+    counts = {what: sum(it.verdict == what for it in changes) for what in ("showed", "not well-formed", "not noticed", "no end", None)}
+    print(f"{options.crate}: {len(changes)} changes: " + ", ".join(f"{n} {what or 'not tried'}" for what, n in counts.items()), flush=True)
+    return 1 if counts["not noticed"] + counts["no end"] + counts[None] else 0
 
 
 def main():

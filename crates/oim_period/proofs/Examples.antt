@@ -1,8 +1,8 @@
--- Texts of periods and what each means, in the written form. The answers come from the Gregorian calendar and ISO 8601. Most years are
--- early ones, because their days are counted fast.
+-- Texts of periods and what each means, in the written form. The answers come from the Gregorian calendar and ISO 8601. The years are
+-- early ones, because their days are counted fast; `ExamplesLateYears` has the others.
 use Rattle.std.proofs.Common.{◌≡◌, ℕ, Bool, true, false, refl, List, [], ◌∷◌, Option, Some, None, is_some, option_map, codes, map}
 use Rattle.std.specs.List.{list_all, list_any}
-use Rattle.oim_period.specs.Calendar.{days_of_years, days_of_months, day_number, is_date, is_week, is_clock, day_limit, days_in_year, days_in_month}
+use Rattle.oim_period.specs.Calendar.{days_of_years, days_of_months, day_number, is_date, is_week, is_clock, days_in_year, days_in_month}
 use Rattle.oim_period.specs.Dates.{is_date_text}
 use Rattle.oim_period.specs.Digits.{one_at, two_at, four_at}
 use Rattle.oim_period.specs.Periods.{instant, duration, found, first_some, moment_by, moment_of, days_by, days_of, whole_days, in_order, pair_of, duration_of, without}
@@ -39,11 +39,6 @@ clocks = (refl, refl, refl)
 no_clocks : (is_clock 24 0 1 ≡ false) × (is_clock 24 1 0 ≡ false) × (is_clock 25 0 0 ≡ false) × (is_clock 0 60 0 ≡ false) × (is_clock 0 0 60 ≡ false)
 unfolding is_clock
 no_clocks = (refl, refl, refl, refl, refl)
-
--- the days of 9,999 years
-limit : days_of_years 9999 ≡ day_limit
-unfolding days_of_years
-limit = refl
 
 -- WRITTEN DATES, up to the last day of the year 9999
 written_dates : list_all is_date_text (codes "2024-02-29" ∷ codes "0001-01-01" ∷ codes "9999-12-31" ∷ codes "2000-02-29" ∷ []) ≡ true
@@ -96,10 +91,11 @@ weeks :
     × (written (codes "0005W10") ≡ Some (codes "0005-03-07T00:00:00/0005-03-14T00:00:00"))
     × (written (codes "0005W52") ≡ Some (codes "0005-12-26T00:00:00/0006-01-02T00:00:00"))
     × (written (codes "0004W53") ≡ Some (codes "0004-12-27T00:00:00/0005-01-03T00:00:00"))
-    × (written (codes "2020W53") ≡ Some (codes "2020-12-28T00:00:00/2021-01-04T00:00:00"))
+    × (written (codes "0009W53") ≡ Some (codes "0009-12-28T00:00:00/0010-01-04T00:00:00"))
+    × (written (codes "0010W1") ≡ Some (codes "0010-01-04T00:00:00/0010-01-11T00:00:00"))
 unfolding written days_of_years days_of_months day_number is_date is_week is_clock one_at two_at four_at found first_some moment_by moment_of days_by days_of
     whole_days in_order pair_of duration_of without period_of first_number year_of month_of date_in_year day_text moment_text period_text
-weeks = (refl, refl, refl, refl, refl, refl, refl, refl, refl, refl)
+weeks = (refl, refl, refl, refl, refl, refl, refl, refl, refl, refl, refl)
 
 -- days and ranges of days, of which one day is the shortest
 days :
@@ -107,21 +103,22 @@ days :
     × (written (codes "0005-12-31") ≡ Some (codes "0005-12-31T00:00:00/0006-01-01T00:00:00"))
     × (written (codes "0005-06-30..0005-06-30") ≡ Some (codes "0005-06-30T00:00:00/0005-07-01T00:00:00"))
     × (written (codes "0004-12-31..0005-01-01") ≡ Some (codes "0004-12-31T00:00:00/0005-01-02T00:00:00"))
-    × (written (codes "2021-01-01..2021-12-31") ≡ Some (codes "2021-01-01T00:00:00/2022-01-01T00:00:00"))
 unfolding written days_of_years days_of_months day_number is_date is_week is_clock one_at two_at four_at found first_some moment_by moment_of days_by days_of
     whole_days in_order pair_of duration_of without period_of first_number year_of month_of date_in_year day_text moment_text period_text
-days = (refl, refl, refl, refl, refl)
+days = (refl, refl, refl, refl)
 
 -- moments, and durations between two
 moments :
     (written (codes "0001-01-01T00:00:00") ≡ Some (codes "0001-01-01T00:00:00"))
+    × (written (codes "0001-01-01T01:00:00") ≡ Some (codes "0001-01-01T01:00:00"))
+    × (written (codes "0001-01-01T23:01:00") ≡ Some (codes "0001-01-01T23:01:00"))
     × (written (codes "0004-02-29T23:59:59") ≡ Some (codes "0004-02-29T23:59:59"))
     × (written (codes "0005-12-31T24:00:00") ≡ Some (codes "0006-01-01T00:00:00"))
     × (written (codes "0005-03-31T12:30:05/0005-03-31T12:30:06") ≡ Some (codes "0005-03-31T12:30:05/0005-03-31T12:30:06"))
     × (written (codes "0005-03-31T12:30:05/0005-12-31T24:00:00") ≡ Some (codes "0005-03-31T12:30:05/0006-01-01T00:00:00"))
 unfolding written days_of_years days_of_months day_number is_date is_week is_clock one_at two_at four_at found first_some moment_by moment_of days_by days_of
     whole_days in_order pair_of duration_of without period_of first_number year_of month_of date_in_year day_text moment_text period_text
-moments = (refl, refl, refl, refl, refl)
+moments = (refl, refl, refl, refl, refl, refl, refl)
 
 -- the sides of a duration
 sides :
@@ -138,20 +135,11 @@ unfolding written days_of_years days_of_months day_number is_date is_week is_clo
     whole_days in_order pair_of duration_of without period_of first_number year_of month_of date_in_year day_text moment_text period_text
 sides = (refl, refl, refl, refl, refl, refl, refl, refl, refl)
 
--- the last moments that a text may name
-last_times :
-    (written (codes "9998") ≡ Some (codes "9998-01-01T00:00:00/9999-01-01T00:00:00"))
-    × (written (codes "9999-12-30") ≡ Some (codes "9999-12-30T00:00:00/9999-12-31T00:00:00"))
-    × (written (codes "9999-12-31T23:59:59") ≡ Some (codes "9999-12-31T23:59:59"))
-unfolding written days_of_years days_of_months day_number is_date is_week is_clock one_at two_at four_at found first_some moment_by moment_of days_by days_of
-    whole_days in_order pair_of duration_of without period_of first_number year_of month_of date_in_year day_text moment_text period_text
-last_times = (refl, refl, refl)
-
 -- numbers that are too large or too small
 no_whole_days :
     list_any means_something
     (codes "0000" ∷ codes "0005-00" ∷ codes "0005-13" ∷ codes "0005Q0" ∷ codes "0005Q5" ∷ codes "0005H0" ∷ codes "0005H3" ∷ codes "0005W0" ∷ codes "0005W00"
-    ∷ codes "0003W53" ∷ codes "0005W53" ∷ codes "2021W53" ∷ codes "0003-02-29" ∷ codes "0005-06-00" ∷ codes "0005-04-31" ∷ [])
+    ∷ codes "0003W53" ∷ codes "0005W53" ∷ codes "0003-02-29" ∷ codes "0005-06-00" ∷ codes "0005-04-31" ∷ [])
     ≡ false
 unfolding means_something days_of_years days_of_months day_number is_date is_week is_clock one_at two_at four_at found first_some moment_by moment_of days_by
     days_of whole_days in_order pair_of duration_of without period_of
@@ -189,9 +177,3 @@ no_forms :
 unfolding means_something days_of_years days_of_months day_number is_date is_week is_clock one_at two_at four_at found first_some moment_by moment_of days_by
     days_of whole_days in_order pair_of duration_of without period_of
 no_forms = refl
-
--- an end after the last moment that a text may name
-after_the_last_time : list_any means_something (codes "9999" ∷ codes "9999-12" ∷ codes "9999-12-31" ∷ codes "9999W52" ∷ codes "9999-12-31T24:00:00" ∷ []) ≡ false
-unfolding means_something days_of_years days_of_months day_number is_date is_week is_clock one_at two_at four_at found first_some moment_by moment_of days_by
-    days_of whole_days in_order pair_of duration_of without period_of
-after_the_last_time = refl

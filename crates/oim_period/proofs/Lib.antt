@@ -8,6 +8,7 @@ pub mod Split
 pub mod WholeDays
 pub mod Ends
 mod Examples
+mod ExamplesLateYears
 pub mod Found
 pub mod FoundDays
 pub mod FoundMoments
