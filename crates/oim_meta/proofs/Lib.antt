@@ -21,6 +21,7 @@ mod Examples
 mod ExamplesFaults
 mod ExamplesFiles
 mod ExamplesShapes
+pub mod FirstOfBoth
 pub mod LeastFault
 pub mod TextLaws
 pub mod ShapeLaws

@@ -1,5 +1,5 @@
 -- The faults of a metadata, by the limits, the parameters file and the types, and the first of them.
-use Rattle.std.specs.Prelude.{Bool, false, Option, List, [], ◌∷◌, codes, find}
+use Rattle.std.specs.Prelude.{Bool, false, Option, List, [], ◌∷◌, ◌++◌, codes, find}
 use Rattle.serde_json.specs.Data.{Data}
 use Rattle.serde_json.specs.Find.{get}
 use Rattle.oim_meta.specs.declared.fault.MetaFault.{MetaFault}
@@ -36,16 +36,24 @@ has_fault limits given types d TooLarge = has_too_many limits d
 has_fault limits given types d Memory = false
 has_fault limits given types d Read = false
 
--- the first of the faults that depend on the types, the parameters file or the limits
-abbrev pub late_fault : Limits → ParametersValue → TypesValue → Data → Option MetaFault
-late_fault limits given types d = find (has_fault limits given types d) (BadDimension ∷ BadDecimals ∷ BadParameter ∷ TooLarge ∷ [])
+-- the faults that the metadata alone shows, and those that are looked for with the types, the parameters file's parameters and the limits
+abbrev pub early_faults : List MetaFault
+early_faults = NotReport ∷ BadNamespaces ∷ BadTaxonomy ∷ Unsupported ∷ BadIdentifier ∷ BadTemplate ∷ ColumnKinds ∷ UnknownTemplate ∷ UnknownColumn ∷ []
+
+abbrev pub late_faults : List MetaFault
+late_faults = BadDimension ∷ BadDecimals ∷ BadParameter ∷ TooLarge ∷ []
 
 -- the faults in the order in which they are looked for, which is that of their numbers
 abbrev pub faults_in_order : List MetaFault
-faults_in_order =
-    NotReport ∷ BadNamespaces ∷ BadTaxonomy ∷ Unsupported ∷ BadIdentifier ∷ BadTemplate ∷ ColumnKinds ∷ UnknownTemplate ∷ UnknownColumn ∷ BadDimension ∷ BadDecimals ∷ BadParameter ∷ TooLarge
-    ∷ []
+faults_in_order = early_faults ++ late_faults
 
 -- the first fault that a metadata has
 abbrev pub first_fault : Limits → ParametersValue → TypesValue → Data → Option MetaFault
 first_fault limits given types d = find (has_fault limits given types d) faults_in_order
+
+-- the first of the early faults, and of the late ones
+abbrev pub early_fault : Limits → ParametersValue → TypesValue → Data → Option MetaFault
+early_fault limits given types d = find (has_fault limits given types d) early_faults
+
+abbrev pub late_fault : Limits → ParametersValue → TypesValue → Data → Option MetaFault
+late_fault limits given types d = find (has_fault limits given types d) late_faults

@@ -4,12 +4,15 @@ ghost use Rattle.std.specs.Prelude.{◌≡◌, ◌⊎◌, codes, false, if◌the
 ghost use Rattle.serde_json.specs.Find.{get};
 ghost use Rattle.serde_json.specs.View.{view};
 ghost use Rattle.oim_meta.specs.declared.fault.MetaFault.TheVariants.{Memory};
+ghost use Rattle.oim_meta.specs.declared.limits.Limits.{Limits as LimitsValue};
 ghost use Rattle.oim_meta.specs.Members.{if_there};
 ghost use Rattle.oim_meta.specs.Faults.{has_bad_identifier, has_bad_namespaces, has_unknown_template};
 ghost use Rattle.oim_meta.specs.Order.{IsInOrder};
 ghost use Rattle.oim_meta.specs.Prefixes.{prefixes_of};
 ghost use Rattle.oim_meta.specs.UnknownColumn.{has_unknown_column};
-ghost use Rattle.oim_meta.specs.FirstFault.{first_fault, late_fault};
+ghost use Rattle.oim_meta.specs.FirstFault.{early_fault, first_fault, late_fault};
+ghost use Rattle.oim_meta.specs.Parameters.{ParametersValue};
+ghost use Rattle.oim_meta.specs.Types.{TypesValue};
 ghost use Rattle.oim_meta.specs.Value.{report_of};
 ghost use Rattle.oim_meta.specs.Reading.{IsJson, IsNoJson, IsFaultOf, SaysReport, IsFault, SaysUrl, IsUrlFault, first_url_fault};
 
@@ -67,30 +70,49 @@ fn refuse(is_there: bool, fault: MetaFault) -> Result<(), MetaFault>
     if is_there { Err(fault) } else { Ok(()) }
 }
 
-/// The prefixes of a metadata. Refuses the faults that are looked for with the types, the parameters
-/// file's parameters and the limits.
+/// Refuses the first of the faults that the metadata alone shows.
+fn check_parts(report: &Value) -> Result<(), MetaFault>
+    ensures namespaces { OnOk result (if_there has_bad_namespaces (get (codes "documentInfo") (view report.now)) ≡ false) }
+    ensures templates { OnOk result (has_unknown_template (view report.now) ≡ false) }
+    ensures columns { OnOk result (has_unknown_column (view report.now) ≡ false) }
+    ensures identifiers { OnOk result (has_bad_identifier (view report.now) ≡ false) }
+    ensures sound { (limits : LimitsValue) (given : ParametersValue) (types : TypesValue)
+        → OnOk result (early_fault limits given types (view report.now) ≡ None) }
+    ensures fault { (limits : LimitsValue) (given : ParametersValue) (types : TypesValue)
+        → IfErr result (λ fault. early_fault limits given types (view report.now) ≡ Some fault) }
+{
+    refuse(no_report(report), MetaFault::NotReport)?;
+    refuse(bad_namespaces_in(report), MetaFault::BadNamespaces)?;
+    refuse(bad_taxonomy_in(report), MetaFault::BadTaxonomy)?;
+    refuse(unsupported(report), MetaFault::Unsupported)?;
+    refuse(bad_identifier(report), MetaFault::BadIdentifier)?;
+    refuse(bad_shape(report), MetaFault::BadTemplate)?;
+    refuse(mixed_column(report), MetaFault::ColumnKinds)?;
+    refuse(unknown_template(report), MetaFault::UnknownTemplate)?;
+    refuse(unknown_column(report), MetaFault::UnknownColumn)
+}
+
+/// Refuses the first of the faults that are looked for with the types, the parameters file's parameters
+/// and the limits.
 fn check_levels(
-    alloc: Global,
     report: &Value,
+    names: &Namespaces,
     parameters: &Parameters,
     types: &Types,
     limits: Limits,
-) -> Result<Namespaces, MetaFault>
-    requires { if_there has_bad_namespaces (get (codes "documentInfo") (view report.now)) ≡ false }
-    ensures names { IfOk result (λ names. names ≡ prefixes_of (view report.now)) }
+) -> Result<(), MetaFault>
+    requires namespaces { if_there has_bad_namespaces (get (codes "documentInfo") (view report.now)) ≡ false }
+    requires prefixes { names.now ≡ prefixes_of (view report.now) }
     ensures sound { OnOk result (late_fault limits parameters.now types.now (view report.now) ≡ None) }
-    ensures fault { IfErr result (λ fault. (fault ≡ Memory)
-        ⊎ (late_fault limits parameters.now types.now (view report.now) ≡ Some fault)) }
+    ensures fault { IfErr result (λ fault. late_fault limits parameters.now types.now (view report.now) ≡ Some fault) }
 {
-    let names = prefixes(alloc, report)?;
     refuse(
-        bad_dimensions(types, &names, report),
+        bad_dimensions(types, names, report),
         MetaFault::BadDimension,
     )?;
     refuse(bad_decimals(report), MetaFault::BadDecimals)?;
     refuse(bad_parameter(parameters, report), MetaFault::BadParameter)?;
-    refuse(too_many(limits, report), MetaFault::TooLarge)?;
-    Ok(names)
+    refuse(too_many(limits, report), MetaFault::TooLarge)
 }
 
 /// The prefixes of a metadata. Refuses its first fault.
@@ -109,16 +131,10 @@ fn check(
     ensures fault { IfErr result (λ fault. (fault ≡ Memory)
         ⊎ (first_fault limits parameters.now types.now (view report.now) ≡ Some fault)) }
 {
-    refuse(no_report(report), MetaFault::NotReport)?;
-    refuse(bad_namespaces_in(report), MetaFault::BadNamespaces)?;
-    refuse(bad_taxonomy_in(report), MetaFault::BadTaxonomy)?;
-    refuse(unsupported(report), MetaFault::Unsupported)?;
-    refuse(bad_identifier(report), MetaFault::BadIdentifier)?;
-    refuse(bad_shape(report), MetaFault::BadTemplate)?;
-    refuse(mixed_column(report), MetaFault::ColumnKinds)?;
-    refuse(unknown_template(report), MetaFault::UnknownTemplate)?;
-    refuse(unknown_column(report), MetaFault::UnknownColumn)?;
-    check_levels(alloc, report, parameters, types, limits)
+    check_parts(report)?;
+    let names = prefixes(alloc, report)?;
+    check_levels(report, &names, parameters, types, limits)?;
+    Ok(names)
 }
 
 /// The report that a JSON value says. Refuses its first fault.
