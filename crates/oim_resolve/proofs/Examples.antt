@@ -1,4 +1,4 @@
--- Cells whose results are known, found by computing the definitions.
+-- Cells whose results are known, found by computing the definitions. The years of periods are early ones, because their days are counted fast.
 use Rattle.std.proofs.Common.{◌≡◌, ℕ, ℤ, List, [], ◌∷◌, ◌++◌, Option, Some, None, Result, Ok, Err, codes, map, decimal, refl, true, false, pos, negsuc}
 use Rattle.std.specs.Prelude.{⊤}
 use Rattle.std.specs.Fmt.{digits}
@@ -92,7 +92,7 @@ abbrev level : List (List ℕ × Written) → Level
 level dimensions = record { dimensions = dimensions; decimals = None }
 
 abbrev base_level : List (List ℕ × Written)
-base_level = (codes "entity", text (codes "eg:A1")) ∷ (codes "period", text (codes "2021Q4")) ∷ (codes "unit", text (codes "iso4217:EUR")) ∷ []
+base_level = (codes "entity", text (codes "eg:A1")) ∷ (codes "period", text (codes "0005Q4")) ∷ (codes "unit", text (codes "iso4217:EUR")) ∷ []
 
 abbrev fact_column : List ℕ → List (List ℕ × Written) → List ℕ → Column
 fact_column id dimensions from = record { id = id; kind = column.Fact; level = level dimensions; groups = []; from = from }
@@ -138,7 +138,7 @@ abbrev period : List ℕ → List (List ℕ × Option (List ℕ))
 period t = entry (codes "period") t ∷ []
 
 abbrev quarter : List ℕ
-quarter = codes "2021-10-01T00:00:00/2022-01-01T00:00:00"
+quarter = codes "0005-10-01T00:00:00/0006-01-01T00:00:00"
 
 abbrev with_period : List ℕ → List (List ℕ × Option (List ℕ))
 with_period concept = common concept ++ period quarter
@@ -311,7 +311,7 @@ reference_report_last = refl
 -- WHAT A CONCEPT DROPS: units of texts and languages of numbers, before they are read
 abbrev spoken : Written → List ℕ → List ℕ → Result (Option Fact) CellFault
 spoken u c t =
-    gives ((codes "entity", text (codes "eg:A1")) ∷ (codes "language", text (codes "en-GB")) ∷ (codes "period", text (codes "2021Q4")) ∷ (codes "unit", u) ∷ []) None
+    gives ((codes "entity", text (codes "eg:A1")) ∷ (codes "language", text (codes "en-GB")) ∷ (codes "period", text (codes "0005Q4")) ∷ (codes "unit", u) ∷ []) None
     (plain_column (codes "u") ∷ fact_column (codes "x") (concept c ∷ []) [] ∷ []) [] [] (codes "#foo" ∷ t ∷ []) 1
 
 dropped_unit_is_not_read : spoken (reference (codes "u")) (codes "eg:Note") (codes "say")
@@ -353,11 +353,11 @@ explicit_bad : with_b (typed (codes "North")) [] ≡ Err fault.BadValue
 unfolding on_literals
 explicit_bad = refl
 
-side_end : with_b sided (codes "2021Q4") ≡ fact (codes "x") (Some (codes "1")) None (common (codes "eg:Cash") ++ period (codes "2022-01-01T00:00:00") ++ unit (codes "iso4217:EUR"))
+side_end : with_b sided (codes "0005Q4") ≡ fact (codes "x") (Some (codes "1")) None (common (codes "eg:Cash") ++ period (codes "0006-01-01T00:00:00") ++ unit (codes "iso4217:EUR"))
 unfolding on_literals
 side_end = refl
 
-side_of_an_instant : with_b sided (codes "2021-12-31T00:00:00") ≡ Err fault.NotDuration
+side_of_an_instant : with_b sided (codes "0005-12-31T00:00:00") ≡ Err fault.NotDuration
 unfolding on_literals
 side_of_an_instant = refl
 
@@ -374,21 +374,24 @@ unfolding on_literals
 bad_period_not_met = refl
 
 -- MORE GENERAL AND MORE SPECIFIC LEVELS
-abbrev with_levels : (of_report of_template : Level) → List Column → List (List ℕ) → Result (Option Fact) CellFault
-with_levels of_report of_template columns cells = cell_result (record {
+abbrev with_parameters : (of_table of_report : List (List ℕ × List ℕ)) → (report template : Level) → List Column → List (List ℕ) → Result (Option Fact) CellFault
+with_parameters of_table of_report report template columns cells = cell_result (record {
   report = record {
     info = record { base_url = None; taxonomy = [] };
     namespaces = names;
     types = types;
-    level = of_report;
-    templates = record { id = codes "p"; columns = columns; row_id_column = None; level = of_template } ∷ [];
-    tables = table [] ∷ [];
-    parameters = [];
+    level = report;
+    templates = record { id = codes "p"; columns = columns; row_id_column = None; level = template } ∷ [];
+    tables = table of_table ∷ [];
+    parameters = of_report;
   };
   table = 0;
   row = row cells;
   column = 0;
 })
+
+abbrev with_levels : (of_report of_template : Level) → List Column → List (List ℕ) → Result (Option Fact) CellFault
+with_levels = with_parameters [] []
 
 abbrev groups_column : List ℕ → List ℕ → Level → Column
 groups_column id name of_group = record { id = id; kind = column.Groups; level = level []; groups = (name, of_group) ∷ []; from = [] }
@@ -418,12 +421,15 @@ unfolding on_literals
 groups_in_the_order_named = refl
 
 -- DECIMALS that report, template, group and column write; d is a plain column
-abbrev with_decimals : (of_report of_template of_group of_column : Option WrittenDecimals) → List ℕ → Result (Option Fact) CellFault
-with_decimals of_report of_template of_group of_column d =
-    with_levels (record { dimensions = base_level; decimals = of_report }) (record { dimensions = []; decimals = of_template })
-    (record { id = codes "x"; kind = column.Fact; level = record { dimensions = concept (codes "eg:Rate") ∷ []; decimals = of_column }; groups = []; from = 1 ∷ [] }
-    ∷ groups_column (codes "g") (codes "a") (record { dimensions = []; decimals = of_group }) ∷ plain_column (codes "d") ∷ [])
+abbrev decimals_with : (of_table of_report : List (List ℕ × List ℕ)) → (report template group written : Option WrittenDecimals) → List ℕ → Result (Option Fact) CellFault
+decimals_with of_table of_report report template group written d =
+    with_parameters of_table of_report (record { dimensions = base_level; decimals = report }) (record { dimensions = []; decimals = template })
+    (record { id = codes "x"; kind = column.Fact; level = record { dimensions = concept (codes "eg:Rate") ∷ []; decimals = written }; groups = []; from = 1 ∷ [] }
+    ∷ groups_column (codes "g") (codes "a") (record { dimensions = []; decimals = group }) ∷ plain_column (codes "d") ∷ [])
     (codes "7" ∷ codes "a" ∷ d ∷ [])
+
+abbrev with_decimals : (report template group column : Option WrittenDecimals) → List ℕ → Result (Option Fact) CellFault
+with_decimals = decimals_with [] []
 
 abbrev fixed : ℕ → Option WrittenDecimals
 fixed n = Some (d.Fixed (accuracy.Places (pos n)))
@@ -443,6 +449,85 @@ decimals_by_row_number : with_decimals None None None (Some d.RowNumber) [] ≡ 
 unfolding digits on_literals
 decimals_by_row_number = refl
 
+-- a level that says `#none` takes away the decimals of the more general levels, and a more specific level writes its own all the same
+abbrev none : Option WrittenDecimals
+none = Some d.Absent
+
+decimals_taken_away :
+    with_decimals None None None None [] ∷ with_decimals none None None None [] ∷ with_decimals (fixed 1) (fixed 2) none None [] ∷ []
+    ≡ rate (codes "7") None ∷ rate (codes "7") None ∷ rate (codes "7") None ∷ []
+unfolding on_literals
+decimals_taken_away = refl
+
+decimals_given_again :
+    with_decimals none (fixed 2) None None [] ∷ with_decimals (fixed 1) none (fixed 3) None [] ∷ with_decimals (fixed 1) (fixed 2) none (fixed 4) []
+    ∷ with_decimals none None None (fixed 4) [] ∷ []
+    ≡ rate (codes "7") (Some (pos 2)) ∷ rate (codes "7") (Some (pos 3)) ∷ rate (codes "7") (Some (pos 4)) ∷ rate (codes "7") (Some (pos 4)) ∷ []
+unfolding on_literals
+decimals_given_again = refl
+
+-- infinite decimals override and are overridden too; a fact of an exact value has no decimals
+abbrev exact : Option WrittenDecimals
+exact = Some (d.Fixed accuracy.Infinite)
+
+decimals_infinite : with_decimals (fixed 1) exact None None [] ∷ with_decimals (fixed 1) None exact None [] ∷ with_decimals exact None (fixed 3) None [] ∷ []
+    ≡ rate (codes "7") None ∷ rate (codes "7") None ∷ rate (codes "7") (Some (pos 3)) ∷ []
+unfolding on_literals
+decimals_infinite = refl
+
+-- a reference at each of the more general levels, to the plain column d: a number, no cell, and the special values
+abbrev by_name : Option WrittenDecimals
+by_name = Some (d.Named (codes "d"))
+
+abbrev cells_of_decimals : List (List ℕ)
+cells_of_decimals = codes "-3" ∷ [] ∷ codes "#none" ∷ codes "#nil" ∷ codes "#empty" ∷ codes "#foo" ∷ []
+
+abbrev answers_of_decimals : List (Result (Option Fact) CellFault)
+answers_of_decimals =
+    rate (codes "7") (Some (negsuc 2)) ∷ rate (codes "7") None ∷ rate (codes "7") None ∷ Err fault.BadDecimals ∷ Err fault.BadDecimals ∷ Err fault.UnknownSpecial ∷ []
+
+decimals_by_reference_of_a_group : map (with_decimals (fixed 1) (fixed 2) by_name None) cells_of_decimals ≡ answers_of_decimals
+unfolding on_literals
+decimals_by_reference_of_a_group = refl
+
+decimals_by_reference_of_a_template : map (with_decimals (fixed 1) by_name None None) cells_of_decimals ≡ answers_of_decimals
+unfolding on_literals
+decimals_by_reference_of_a_template = refl
+
+decimals_by_reference_of_a_report : map (with_decimals by_name None None None) cells_of_decimals ≡ answers_of_decimals
+unfolding on_literals
+decimals_by_reference_of_a_report = refl
+
+-- a reference that a more specific level overrides is not read
+decimals_overridden :
+    with_decimals by_name (fixed 2) None None (codes "x") ∷ with_decimals None by_name (fixed 3) None (codes "x") ∷ with_decimals None None by_name (fixed 4) (codes "x")
+    ∷ with_decimals by_name by_name none None (codes "x") ∷ []
+    ≡ rate (codes "7") (Some (pos 2)) ∷ rate (codes "7") (Some (pos 3)) ∷ rate (codes "7") (Some (pos 4)) ∷ rate (codes "7") None ∷ []
+unfolding on_literals
+decimals_overridden = refl
+
+-- where the row's cell is empty, the parameter d answers: the table's, else the report's. A parameter may say `#none` too
+abbrev parameter_d : List ℕ → List (List ℕ × List ℕ)
+parameter_d t = (codes "d", t) ∷ []
+
+decimals_by_parameter_of_a_table :
+    map (λ t. decimals_with (parameter_d t) (parameter_d (codes "5")) (fixed 1) None by_name None []) (codes "3" ∷ codes "#none" ∷ codes "#nil" ∷ codes "#empty" ∷ [])
+    ≡ rate (codes "7") (Some (pos 3)) ∷ rate (codes "7") None ∷ Err fault.BadDecimals ∷ Err fault.BadDecimals ∷ []
+unfolding on_literals
+decimals_by_parameter_of_a_table = refl
+
+decimals_by_parameter_of_a_report :
+    map (λ t. decimals_with [] (parameter_d t) by_name None None None []) (codes "3" ∷ codes "#none" ∷ codes "#nil" ∷ codes "#empty" ∷ [])
+    ≡ rate (codes "7") (Some (pos 3)) ∷ rate (codes "7") None ∷ Err fault.BadDecimals ∷ Err fault.BadDecimals ∷ []
+unfolding on_literals
+decimals_by_parameter_of_a_report = refl
+
+decimals_by_parameter_of_a_template :
+    map (decimals_with (parameter_d (codes "3")) (parameter_d (codes "5")) (fixed 1) by_name None None) ([] ∷ codes "2" ∷ codes "#none" ∷ [])
+    ≡ rate (codes "7") (Some (pos 3)) ∷ rate (codes "7") (Some (pos 2)) ∷ rate (codes "7") None ∷ []
+unfolding on_literals
+decimals_by_parameter_of_a_template = refl
+
 -- decimals are not read for a nil fact, for a numeral with a suffix, and for a concept that is not numeric
 abbrev with_bad_decimals : List ℕ → List ℕ → Result (Option Fact) CellFault
 with_bad_decimals c t =
@@ -453,6 +538,11 @@ decimals_not_read :
     ≡ fact (codes "x") None None (with_period (codes "eg:Rate") ++ unit (codes "iso4217:EUR")) ∷ rate (codes "7") (Some (pos 1)) ∷ note (Some (codes "7")) ∷ []
 unfolding on_literals
 decimals_not_read = refl
+
+-- a fact that is not numeric has none, whatever a level writes
+decimals_of_a_text : gives base_level (fixed 1) (fact_column (codes "x") (concept (codes "eg:Note") ∷ []) [] ∷ []) [] [] (codes "7" ∷ []) 0 ≡ note (Some (codes "7"))
+unfolding on_literals
+decimals_of_a_text = refl
 
 -- NIL AND EMPTY for each role, by reference to the plain column b
 abbrev referred : List ℕ → List ℕ → List ℕ → Result (Option Fact) CellFault
@@ -536,7 +626,7 @@ unfolding on_literals
 explicit_names = refl
 
 -- the local part of an entity's identifier may begin with a digit, that of another name not
-entity_of_digits : gives ((codes "entity", text (codes "eg:12-34")) ∷ (codes "period", text (codes "2021Q4")) ∷ []) None
+entity_of_digits : gives ((codes "entity", text (codes "eg:12-34")) ∷ (codes "period", text (codes "0005Q4")) ∷ []) None
     (fact_column (codes "x") (concept (codes "eg:Note") ∷ []) [] ∷ []) [] [] (codes "a" ∷ []) 0
     ≡ fact (codes "x") (Some (codes "a")) None (entry (codes "concept") (codes "eg:Note") ∷ entry (codes "entity") (codes "eg:12-34") ∷ period quarter)
 unfolding on_literals
@@ -580,12 +670,12 @@ row_number : with_b ((codes "eg:Branch", w.RowNumber side.Whole) ∷ base_level)
 unfolding on_literals
 row_number = refl
 
-side_start : with_b ((codes "entity", text (codes "eg:A1")) ∷ (codes "period", w.Named (codes "b") side.Start) ∷ (codes "unit", text (codes "iso4217:EUR")) ∷ []) (codes "2021Q4")
-    ≡ fact (codes "x") (Some (codes "1")) None (common (codes "eg:Cash") ++ period (codes "2021-10-01T00:00:00") ++ unit (codes "iso4217:EUR"))
+side_start : with_b ((codes "entity", text (codes "eg:A1")) ∷ (codes "period", w.Named (codes "b") side.Start) ∷ (codes "unit", text (codes "iso4217:EUR")) ∷ []) (codes "0005Q4")
+    ≡ fact (codes "x") (Some (codes "1")) None (common (codes "eg:Cash") ++ period (codes "0005-10-01T00:00:00") ++ unit (codes "iso4217:EUR"))
 unfolding on_literals
 side_start = refl
 
-start_of_an_instant : with_b ((codes "entity", text (codes "eg:A1")) ∷ (codes "period", w.Named (codes "b") side.Start) ∷ []) (codes "2021-12-31T00:00:00") ≡ Err fault.NotDuration
+start_of_an_instant : with_b ((codes "entity", text (codes "eg:A1")) ∷ (codes "period", w.Named (codes "b") side.Start) ∷ []) (codes "0005-12-31T00:00:00") ≡ Err fault.NotDuration
 unfolding on_literals
 start_of_an_instant = refl
 
@@ -608,6 +698,15 @@ early_answers = refl
 early_concept : early (report base_level None (fact_column (codes "x") [] [] ∷ []) [] []) (codes "1" ∷ []) 0 ≡ Some (Err fault.NoConcept)
 unfolding early_result on_literals
 early_concept = refl
+
+-- a concept that is nil, empty or unknown is a fault of the second step, so the other dimensions are not looked at; c is a plain column
+abbrev early_of_concept : List ℕ → Option (Result (Option Fact) CellFault)
+early_of_concept c = early (report base_level None (plain_column (codes "c") ∷ fact_column (codes "x") ((codes "concept", reference (codes "c")) ∷ []) [] ∷ []) [] []) (c ∷ codes "1" ∷ []) 1
+
+early_concepts : map early_of_concept (codes "#nil" ∷ codes "#empty" ∷ codes "#foo" ∷ codes "eg:Region" ∷ codes "eg:Cash" ∷ [])
+    ≡ Some (Err fault.BadReference) ∷ Some (Err fault.BadReference) ∷ Some (Err fault.UnknownSpecial) ∷ Some (Err fault.UnknownName) ∷ None ∷ []
+unfolding early_result on_literals
+early_concepts = refl
 
 -- ORDER OF FAULTS in the last step: a bad value before a bad period, bad decimals before a bad number
 
