@@ -254,6 +254,27 @@ def outputs(folder):
     case("a refused table", (status, err) == (1, TABLE_FAULT.format("t2", 1, 1, "BadNumber", 40)) and document.startswith(seen) and b"t1.r_1" in seen, status, seen, err)
 
 
+def endless_files(folder):
+    """A metadata without end is too large. A record without end, which has no limit of its own, takes the memory that the system gives."""
+    report(folder, {"t1": {}})
+    os.symlink("/dev/zero", folder / "t1.csv")
+
+    def limited():
+        resource.setrlimit(resource.RLIMIT_AS, (1 << 28, 1 << 28))
+
+    for words, said in [
+        (["/dev/zero", "--types", "types.csv"], "xbrl-json: report: TooLarge (15)\n"),
+        (["meta.json", "--types", "/dev/zero"], "xbrl-json: types: Memory (16)\n"),
+        (WORDS, TABLE_FAULT.format("t1", 0, 0, "Memory", 42)),
+    ]:
+        status, _, err = run([*words, "--workers", "1"], folder, preexec_fn=limited)
+        case(f"an endless file, {words}", (status, err) == (1, said), status, err)
+    (folder / "t1.csv").unlink()
+    (folder / "t1.csv").write_text("cash\n1\n")
+    status, out, err = run([*WORDS, "--workers", "1"], folder, preexec_fn=limited)
+    case("a short table in as little memory", (status, err) == (0, "") and len(facts(out)) == 1, status, err)
+
+
 def outputs_over_inputs(folder):
     """--out that names a file of the report in another way: the file is lost, and the run says what is wrong with it."""
     for path, said in [
@@ -393,7 +414,7 @@ def a_fact_a_line(folder):
 
 def main():
     examples()
-    parts = words_of_the_command_line, layouts, bad_rows, files_that_are_not_read, a_table_that_may_not_be_read, few_descriptors, a_named_pipe, a_fact_a_line, outputs, outputs_over_inputs, closed_descriptors, progress
+    parts = words_of_the_command_line, layouts, bad_rows, files_that_are_not_read, a_table_that_may_not_be_read, few_descriptors, a_named_pipe, endless_files, a_fact_a_line, outputs, outputs_over_inputs, closed_descriptors, progress
     for part in parts:
         with tempfile.TemporaryDirectory() as folder:
             part(Path(folder))
