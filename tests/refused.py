@@ -65,6 +65,18 @@ def report(folder):
         (folder / f"{table}.csv").write_text("name,cash,note,kind,places\n" + rows)
 
 
+def copied(folder, name, files):
+    """A folder with the report over other tables, each given by its identifier and its file, which are still to be written."""
+    other = folder / name
+    other.mkdir()
+    meta = json.loads((folder / "meta.json").read_text())
+    meta["tables"] = {table: {"url": f"{file}.csv", "template": "p"} for table, file in files.items()}
+    (other / "meta.json").write_text(json.dumps(meta))
+    for same in ("types.csv", "parameters.csv"):
+        (other / same).write_text((folder / same).read_text())
+    return other
+
+
 def run(folder, refuse="", words=(), counts=None):
     """Status, standard output and lines of a run in which a call is refused."""
     told = {**os.environ, "LD_PRELOAD": SHIM, "REFUSE": refuse, "REFUSE_COUNT": counts or "/dev/null"}
@@ -150,13 +162,21 @@ def each_call_refused(folder, document, pool):
 
 
 def some_threads_refused(folder, document, pool):
-    """Every choice of four workers whose threads are refused: the whole document, unless none could be started."""
+    """Every choice of four workers whose threads are refused, over tables of more blocks than their rings take: the whole document, unless none could be started."""
+    rows = 1300  # two facts each, and a block has at most 256
+    large = copied(folder, "large", {it: it for it in TABLES})
+    for table in TABLES:
+        (large / f"{table}.csv").write_text("name,cash,note\n" + "".join(f"{table}{i},{i},text\n" for i in range(rows)))
+    status, whole, err = run(large, "", ["--workers", "1"])
+    identifiers = [f"{table}.{table}{i}.{column}" for table in TABLES for i in range(rows) for column in ("cash", "note")]
+    case("large tables", None if (status, err) == (0, "") and list(json.loads(whole)["facts"]) == identifiers else (status, err))
+    head = whole[: whole.index(b'"t1.')]
+    lines = "".join(f"xbrl-json: table {it}, row 0, column 0: NoThread (43)\n" for it in TABLES)
     todo = [(mask, ring) for mask in range(1, 16) for ring in ("1", "3")]
-    seen = pool.map(lambda it: run(folder, f"thread:={it[0]}", ["--workers", "4", "--ring", it[1]]), todo)
+    seen = pool.map(lambda it: run(large, f"thread:={it[0]}", ["--workers", "4", "--ring", it[1]]), todo)
     for (mask, ring), (status, out, err) in zip(todo, seen):
-        lines = "".join(f"xbrl-json: table {it}, row 0, column 0: NoThread (43)\n" for it in TABLES)
-        wanted = (0, document.whole, "") if mask != 15 else (1, document.whole[: document.head], lines)
-        case(f"threads refused: {mask:04b}, ring {ring}", None if (status, out, err) == wanted else f"{status} {err} {out!r}")
+        wanted = (0, whole, "") if mask != 15 else (1, head, lines)
+        case(f"threads refused: {mask:04b}, ring {ring}", None if (status, out, err) == wanted else f"{status} {err} {len(out)} of {len(whole)} bytes")
 
 
 def one_worker_without_threads(folder, document, pool):
@@ -188,13 +208,7 @@ def each_open_refused_beside_an_output(folder, document, pool):
 
 def a_first_write_that_fails(folder, document, pool):
     """Eight tables of 100 facts through rings of one block: a beginning of the document, none where no write succeeds, and an end."""
-    many = folder / "many"
-    many.mkdir()
-    meta = json.loads((folder / "meta.json").read_text())
-    meta["tables"] = {f"t{i}": {"url": "t.csv", "template": "p"} for i in range(8)}
-    (many / "meta.json").write_text(json.dumps(meta))
-    for name in ("types.csv", "parameters.csv"):
-        (many / name).write_text((folder / name).read_text())
+    many = copied(folder, "many", {f"t{i}": "t" for i in range(8)})
     (many / "t.csv").write_text("name,note\n" + "".join(f"r{i},text\n" for i in range(100)))
     whole = run(many)[1]
     for workers in ("1", "2", "8"):

@@ -524,6 +524,23 @@ def metadata(folder):
         converts(folder, f"{new} for {old}", "")
 
 
+def deep_metadata(folder):
+    """JSON nested 127 levels deep, and one more, as an unknown member of the metadata, of its documentInfo and of a table."""
+    write(folder, {"t.csv": TYPES, "t1.csv": "cash\n100\n"})
+    for place, above in (('"tables"', 1), ('"taxonomy"', 2), ('"template"', 3)):
+        for opened, closed in (("[", "]"), ('{"a":', "}")):
+            for levels in (127, 128):
+                deep = levels - above
+                # the innermost list is empty
+                value = opened * (deep - 1) + "[]" + closed * (deep - 1)
+                write(folder, {"m.json": once(place, f'"foo":{value},{place}')})
+                name = f"{levels} levels of {opened!r} before {place}"
+                if levels == 127:
+                    converts(folder, name, cash("t1.r_1", 100), ways=[(1, 1), (4, None)])
+                else:
+                    stops(folder, name, "report: Syntax (1)")
+
+
 def each_beginning_of_a_metadata(folder):
     write(folder, {"t.csv": TYPES})
     for length in range(len(ON_ONE_LINE)):
@@ -757,6 +774,7 @@ PARTS = (
     every_number_of_workers,
     an_address,
     metadata,
+    deep_metadata,
     each_beginning_of_a_metadata,
     limits_of_metadata,
     paths_of_parameters,

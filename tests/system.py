@@ -254,6 +254,65 @@ def outputs(folder):
     case("a refused table", (status, err) == (1, TABLE_FAULT.format("t2", 1, 1, "BadNumber", 40)) and document.startswith(seen) and b"t1.r_1" in seen, status, seen, err)
 
 
+def endless_files(folder):
+    """A metadata without end is too large. A record without end, which has no limit of its own, takes the memory that the system gives."""
+    report(folder, {"t1": {}})
+    os.symlink("/dev/zero", folder / "t1.csv")
+
+    def limited():
+        resource.setrlimit(resource.RLIMIT_AS, (1 << 28, 1 << 28))
+
+    for words, said in [
+        (["/dev/zero", "--types", "types.csv"], "xbrl-json: report: TooLarge (15)\n"),
+        (["meta.json", "--types", "/dev/zero"], "xbrl-json: types: Memory (16)\n"),
+        (WORDS, TABLE_FAULT.format("t1", 0, 0, "Memory", 42)),
+    ]:
+        status, _, err = run([*words, "--workers", "1"], folder, preexec_fn=limited)
+        case(f"an endless file, {words}", (status, err) == (1, said), status, err)
+    (folder / "t1.csv").unlink()
+    (folder / "t1.csv").write_text("cash\n1\n")
+    status, out, err = run([*WORDS, "--workers", "1"], folder, preexec_fn=limited)
+    case("a short table in as little memory", (status, err) == (0, "") and len(facts(out)) == 1, status, err)
+
+
+def outputs_over_inputs(folder):
+    """--out that names a file of the report in another way: the file is lost, and the run says what is wrong with it."""
+    for path, said in [
+        ("./meta.json", "xbrl-json: report: Syntax (1)\n"),
+        ("./types.csv", "xbrl-json: types: BadTypes (14)\n"),
+        ("parameters.csv", "xbrl-json: parameters: BadParameter (13)\n"),
+        ("t1.csv", TABLE_FAULT.format("t1", 0, 0, "NoHeader", 22)),
+    ]:
+        for workers in ("1", "4"):
+            report(folder, {"t1": {"optional": True}})
+            meta = json.loads((folder / "meta.json").read_text())
+            (folder / "meta.json").write_text(json.dumps({**meta, "parameterURL": "parameters.csv"}))
+            (folder / "parameters.csv").write_text("name,value\na,1\n")
+            (folder / "t1.csv").write_text("cash\n1\n")
+            seen = run([*WORDS, "--workers", workers, "--out", path], folder)
+            case(f"--out {path}, {workers} workers", seen == (1, b"", said), seen)
+
+
+def closed_descriptors(folder):
+    """Without standard input, output or error the files get their numbers, and still nothing goes into a file but the document."""
+    report(folder, {"t1": {}, "t2": {}})
+    (folder / "t1.csv").write_text("cash\n1\n")
+    out = folder / "out.json"
+    for table, status in [("cash\n2\n", 0), ("cash\nx\n", 1)]:
+        (folder / "t2.csv").write_text(table)
+        files = {it: it.read_bytes() for it in folder.glob("*.*") if it != out}
+        document, said = run(WORDS, folder)[1:]
+        for closed in [(0,), (1,), (2,), (0, 1), (1, 2), (0, 1, 2)]:
+            for words in (WORDS, [*WORDS, "--out", "out.json"]):
+                seen = run(words, folder, preexec_fn=lambda: [os.close(it) for it in closed])
+                is_written = words != WORDS or 1 not in closed
+                err = said if is_written else "xbrl-json: output: Write (56)\n"
+                wanted = (status if is_written else 3, document if is_written and words == WORDS else b"", err if 2 not in closed else "")
+                held = words == WORDS or out.read_bytes() == document
+                same = all(it.read_bytes() == before for it, before in files.items())
+                case(f"closed {closed}, {words}, status {status}", seen == wanted and held and same, seen, held, same)
+
+
 PROGRESS = "xbrl-json: {} of {} tables, {:.1f} of {:.1f} MB read, {:.1f} MB written\n"
 
 
@@ -355,7 +414,7 @@ def a_fact_a_line(folder):
 
 def main():
     examples()
-    parts = words_of_the_command_line, layouts, bad_rows, files_that_are_not_read, a_table_that_may_not_be_read, few_descriptors, a_named_pipe, a_fact_a_line, outputs, progress
+    parts = words_of_the_command_line, layouts, bad_rows, files_that_are_not_read, a_table_that_may_not_be_read, few_descriptors, a_named_pipe, endless_files, a_fact_a_line, outputs, outputs_over_inputs, closed_descriptors, progress
     for part in parts:
         with tempfile.TemporaryDirectory() as folder:
             part(Path(folder))

@@ -62,6 +62,36 @@ fn joins_a_block(rt: HostRuntime) -> Result<(), Fail> {
     Ok(())
 }
 
+/// With ample memory a text of any length is given, and none is said to need too much.
+#[test]
+fn writes_a_long_text(rt: HostRuntime) -> Result<(), Fail> {
+    let mut value = String::new(rt.alloc());
+    for _ in 0..10_000 {
+        value.push('x')?;
+    }
+    let expected = format!(in rt.alloc();
+        "\"t1.r_1.note\":{{\"dimensions\":{{\"concept\":\"eg:Note\"}},\"value\":\"{value}\"}}"
+    )?;
+    let mut dimensions = Vec::new(rt.alloc());
+    dimensions.push((
+        text(rt.alloc(), "concept")?,
+        Some(text(rt.alloc(), "eg:Note")?),
+    ))?;
+    let fact = Fact::new(
+        text(rt.alloc(), "t1.r_1.note")?,
+        Some(Text::new(value)),
+        None,
+        Items::from_vec(dimensions),
+    );
+    let member = member_of(rt.alloc(), &fact)?;
+    assert!(rt; member.bytes() == expected.as_bytes());
+    let mut facts = Vec::new(rt.alloc());
+    facts.push(fact)?;
+    let block = block_of(rt.alloc(), &Items::from_vec(facts))?;
+    assert!(rt; block.bytes() == expected.as_bytes());
+    Ok(())
+}
+
 /// A writer that takes all bytes, and counts its calls.
 #[derive(Drop)]
 struct Counting {
