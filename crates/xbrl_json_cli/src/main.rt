@@ -26,7 +26,7 @@ mod tests;
 
 use oim_convert::ConvertFault;
 use oim_run::{Outcome, convert_to, job, line, status};
-use output::convert_as;
+use output::convert_apart;
 use std::alloc::Global;
 use std::io;
 use std::io::ErrorKind;
@@ -72,7 +72,7 @@ fn started<T: Threads + Wait + Sync>(
         return told(rt, alloc, &convert_to(threads, alloc, io::writer(rt)));
     }
     match job(alloc, words) {
-        Ok(settings) => told(rt, alloc, &convert_as(rt, threads, alloc, &settings)),
+        Ok(settings) => told(rt, alloc, &convert_apart(rt, threads, alloc, &settings)),
         Err(error) => explained(rt, &error),
     }
 }

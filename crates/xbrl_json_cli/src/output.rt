@@ -16,6 +16,9 @@ use std::sync::Wait;
 use std::thread::Threads;
 use std::{fs, io};
 
+/// The system's file that holds nothing.
+const NOTHING: &str = "/dev/null";
+
 /// The outcome of a run that cannot write its document to the file at this path.
 fn cannot_write(alloc: Global, path: &str) -> Outcome
     ensures { (result ≡ outcome.CannotWrite path.now) ⊎ (result ≡ spec.no_memory) }
@@ -77,4 +80,20 @@ pub fn convert_as<T: Threads + Wait + Sync>(
         Ok(file) => run_watched(rt, threads, alloc, settings, file),
         Err(_) => cannot_write(alloc, path.as_str()),
     }
+}
+
+/// Runs over the system's files as `convert_as` does, with the numbers of standard input, output and error
+/// taken: where the program was started without one of them, the first file that it opens would get that
+/// number, and what is printed would go into the document. A file that holds nothing and is open for
+/// reading takes it, so that printing fails.
+pub fn convert_apart<T: Threads + Wait + Sync>(
+    rt: &HostRuntime,
+    threads: &T,
+    alloc: Global,
+    settings: &Settings,
+) -> Outcome {
+    let _input = fs::open(rt, NOTHING);
+    let _output = fs::open(rt, NOTHING);
+    let _error = fs::open(rt, NOTHING);
+    convert_as(rt, threads, alloc, settings)
 }
