@@ -7,6 +7,7 @@ Runs the examples and compares documents, lines and statuses, and then the edge:
 folders or pipes, outputs that are full, closed, replaced or misnamed, few descriptors. Each case has a line where it fails.
 The last line counts. Python 3.9 or later and Linux are needed.
 """
+import concurrent.futures
 import json
 import os
 import pty
@@ -370,22 +371,26 @@ def progress(folder):
     lines = re.fullmatch(r"(\rxbrl-json: \d of 3 tables, 0\.0 of 0\.0 MB read, 0\.0 MB written)+\r\n", seen)
     case("--progress on a terminal", lines and seen.count("\r") > 4 and seen.endswith("\r" + PROGRESS.format(3, 3, 0, 0, 0)[:-1] + "\r\n"), repr(seen))
     written_late(folder / "t1.csv", [10.5])
-    without_an_error = threading.Thread(target=progress_without_an_error, args=(folder / "apart",))
-    without_an_error.start()
-    seen = run([*WORDS, "--progress"], folder)
-    lines = PROGRESS.format(2, 3, 0, 0, 0) + PROGRESS.format(3, 3, 0, 0, 0)
-    case("--progress each ten seconds", (seen[0], seen[2]) == (0, lines), seen[0], seen[2])
-    without_an_error.join()
+    with concurrent.futures.ThreadPoolExecutor(1) as pool:
+        without_an_error = pool.submit(progress_without_an_error, folder / "apart")
+        seen = run([*WORDS, "--progress"], folder)
+        lines = PROGRESS.format(2, 3, 0, 0, 0) + PROGRESS.format(3, 3, 0, 0, 0)
+        case("--progress each ten seconds", (seen[0], seen[2]) == (0, lines), seen[0], seen[2])
+        without_an_error.result()
 
 
 def progress_without_an_error(folder):
     """Without standard error a line of progress does not go into the document, which is the first file that is opened."""
     folder.mkdir()
     report(folder, {"t1": {}})
+    (folder / "t1.csv").write_text("cash\n1\n1\n")
+    document = run(WORDS, folder)[1]
+    (folder / "t1.csv").unlink()
     os.mkfifo(folder / "t1.csv")
     written_late(folder / "t1.csv", [10.5])
     status, out, _ = run([*WORDS, "--progress", "--out", "out.json"], folder, preexec_fn=lambda: os.close(2))
-    case("--progress without standard error", (status, out) == (0, b"") and len(facts((folder / "out.json").read_bytes())) == 2, status, out, (folder / "out.json").read_bytes())
+    written = (folder / "out.json").read_bytes()
+    case("--progress without standard error", (status, out, written) == (0, b"", document), status, out, written)
 
 
 HEAD = (
