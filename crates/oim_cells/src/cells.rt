@@ -4,7 +4,7 @@ ghost use Rattle.std.specs.Prelude.{◌≡◌, ◌↔◌};
 ghost use Rattle.oim_cells.specs.Cells.{Meaning, Means, meaning_of, seen_meaning};
 
 /// What a text means as a cell, a parameter or a literal.
-#[derive(Clone, Copy, Debug)]
+#[derive(Clone, Copy, Debug, PartialEq, Eq)]
 pub enum CellMeaning<'a> {
     /// Nothing is reported: the empty text or `#none`.
     Absent,

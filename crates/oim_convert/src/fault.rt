@@ -5,33 +5,51 @@ ghost use Rattle.oim_convert.specs.FaultNames.{number_of, name_of};
 
 use oim_json::WriteFault;
 use oim_rows::TableFault;
-use thiserror::Error;
+use std::error::Error;
+use std::fmt;
+use std::fmt::{Display, Formatter};
 
 /// Why a conversion ends without a whole document.
-#[derive(Debug, PartialEq, Eq, Drop, Error)]
+#[derive(Debug, PartialEq, Eq, Drop)]
 pub enum ConvertFault {
     /// 50: the number of workers is not 1 to 64.
-    #[error("the number of workers is not 1 to 64")]
     BadWorkers,
     /// 51: the ring's size is not 1 to 65,536.
-    #[error("the size of the rings is not 1 to 65,536")]
     BadSize,
     /// 52: the number of readers is not the number of tables.
-    #[error("the number of readers is not the number of tables")]
     WrongReaders,
     /// 53: memory ran out before anything was written.
-    #[error("memory ran out before anything was written")]
     Memory,
     /// 54: the end of a ring was lost.
-    #[error("the end of a ring was lost")]
     Lost,
     /// 55: tables have faults. It has the first fault of each such table, in table order.
-    #[error("tables have faults")]
     Tables(Vec<TableFault>),
     /// 56: a write failed.
-    #[error("a write failed")]
     Write(WriteFault),
 }
+
+impl ConvertFault {
+    /// What is wrong, as a message for people.
+    fn sentence(&self) -> &'static str {
+        match self {
+            ConvertFault::BadWorkers => "the number of workers is not 1 to 64",
+            ConvertFault::BadSize => "the size of the rings is not 1 to 65,536",
+            ConvertFault::WrongReaders => "the number of readers is not the number of tables",
+            ConvertFault::Memory => "memory ran out before anything was written",
+            ConvertFault::Lost => "the end of a ring was lost",
+            ConvertFault::Tables(_) => "tables have faults",
+            ConvertFault::Write(_) => "a write failed",
+        }
+    }
+}
+
+impl Display for ConvertFault {
+    fn fmt<W: fmt::Write>(&self, f: &mut Formatter<W>) -> fmt::Result {
+        f.write_str(self.sentence())
+    }
+}
+
+impl Error for ConvertFault {}
 
 impl ConvertFault {
     /// The fault's number, 50 to 56.

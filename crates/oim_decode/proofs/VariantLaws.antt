@@ -1,5 +1,5 @@
 -- Variants keep their slots as slots are added.
-use Rattle.std.proofs.Common.{◌≡◌, ℕ, List, get_or, map, sym, subst}
+use Rattle.std.proofs.Common.{◌≡◌, ◌⊎◌, inl, inr, ℕ, List, [], get_or, map, sym, subst, arith}
 use Rattle.std.specs.List.{All}
 use Rattle.oim_meta.specs.ReportValue.{ReportValue}
 use Rattle.oim_resolve.specs.Written.{written_decimals}
@@ -42,3 +42,12 @@ still_variant r t h ss ss' ds ds' v e d p = record {
   runs = p.runs;
   groups = p.groups;
 }
+
+-- what is so of all is so of them or of none
+pub all_or_none : {X : Type 0} (P : X → Type 0) (xs ys : List X) → (ys ≡ xs) ⊎ (ys ≡ []) → All P xs → All P ys
+all_or_none P xs ys (inl same) all = subst (All P) (sym same) all
+all_or_none P xs ys (inr none) all = subst (All P) (sym none) (λ k d within. absurd (omega (arith, within)))
+
+-- a list that grows from another grows from what is the same
+pub grows_from : {X : Type 0} {xs ys zs : List X} → xs ≡ ys → Grows xs zs → Grows ys zs
+grows_from {X} {xs} {ys} {zs} same g = subst (λ (ws : List X). Grows ws zs) same g

@@ -187,7 +187,7 @@ fn choose_in<'a>(
 {
     let groups = column.groups.as_slice();
     let variants = kept.variants.as_slice();
-    if let Some(place) = find_variant(variants, column.column, groups, at, guess) {
+    if let Some(place) = find_variant(variants, &kept.index, column.column, groups, at, guess) {
         return Ok(place);
     }
     if let Some(fault) = group_fault(groups, at) {

@@ -1,8 +1,9 @@
 //! The variant of a column for the groups that a row names.
 
-ghost use Rattle.std.specs.Prelude.{◌≡◌, ◌<◌, ◌++◌, List, ℕ, None, Some, true, length, map, reverse, IfOk, OnOk};
+ghost use Rattle.std.specs.Prelude.{◌≡◌, ◌<◌, ◌++◌, ◌⊎◌, [], List, ℕ, None, Some, true, length, map, reverse, IfOk, OnOk};
 ghost use Rattle.std.specs.List.{All, slice_get};
 ghost use Rattle.csv.specs.Records.{fields_of};
+ghost use Rattle.oim_meta.specs.InOrder.{LevelRises};
 ghost use Rattle.oim_meta.specs.Readers.{columns_of};
 ghost use Rattle.oim_rows.specs.RowFacts.{field_or_empty};
 ghost use Rattle.oim_decode.specs.Facts.{groups_wrong};
@@ -19,6 +20,7 @@ use crate::ready_table::ReadyTable;
 use crate::row_at::RowAt;
 use crate::slot::Slot;
 use crate::variant::Variant;
+use crate::variant_index::{Hint, TRIES, VariantIndex};
 use oim_meta::{Level, Report};
 use oim_names::Text;
 use std::alloc::{AllocError, Global};
@@ -35,7 +37,8 @@ fn levels_in<'a>(
     requires column { column < length (columns_of report.now (at.now).table) }
     requires groups { groups.now ≡ group_places report.now (at.now).table (at.now).header.now column }
     requires places { All (λ g. g.0 < length (columns_of report.now (at.now).table)) groups.now }
-    ensures { IfOk result (λ v. reverse (held v.items) ≡ levels_under report.now (at.now).table (at.now).header.now column (group_texts (fields_of (at.now).record.now) groups.now)) }
+    ensures levels { IfOk result (λ v. reverse (held v.items) ≡ levels_under report.now (at.now).table (at.now).header.now column (group_texts (fields_of (at.now).record.now) groups.now)) }
+    ensures rises { IfOk result (λ v. All (λ l. LevelRises l.now) v.items) }
 {
     let levels = levels_of(alloc, report, column, groups, at)?;
     Ok(levels)
@@ -120,10 +123,48 @@ fn is_of_row(
     variant.column == column && are_texts(variant.texts.as_slice(), groups, at)
 }
 
-/// The place of the variant of a column in the row, if it is kept.
-#[inline(never)]
-fn scan(
+/// Whether the variant at a place is that of a column in the row.
+#[inline]
+fn is_at(
     variants: &[Variant<'_>],
+    place: usize,
+    column: usize,
+    groups: &[(usize, Option<usize>)],
+    at: &RowAt<'_>,
+) -> bool
+    requires { groups.now ≡ group_places (at.now).report.now (at.now).table (at.now).header.now column }
+    ensures { result ≡ true
+        → (v : Variant) × (slice_get variants.now place ≡ Some v) × IsOfRow (at.now).report.now (at.now).table (at.now).header.now (fields_of (at.now).record.now) column v }
+{
+    if place >= variants.len() {
+        return false;
+    }
+    is_of_row(&variants[place], column, groups, at)
+}
+
+/// A hash of a text behind the hash of what stands before it.
+fn hash_text(before: u64, text: &str) -> u64 {
+    let mut hash = before.wrapping_mul(0x9e37_79b9_7f4a_7c15).rotate_left(29);
+    for byte in text.as_bytes() {
+        hash = (hash ^ (*byte as u64)).wrapping_mul(0x0000_0100_0000_01b3);
+    }
+    hash.wrapping_mul(0x9e37_79b9_7f4a_7c15)
+}
+
+/// A hash of a column and the texts of the row's cells of groups.
+fn hash_of(column: usize, groups: &[(usize, Option<usize>)], at: &RowAt<'_>) -> u64 {
+    let mut hash = column as u64;
+    for group in groups {
+        hash = hash_text(hash, at.text_at(group.1));
+    }
+    hash
+}
+
+/// The place of the variant of a column in the row, if the index has it.
+#[inline(never)]
+fn look_up(
+    variants: &[Variant<'_>],
+    index: &VariantIndex,
     column: usize,
     groups: &[(usize, Option<usize>)],
     at: &RowAt<'_>,
@@ -132,9 +173,16 @@ fn scan(
     ensures { (i : ℕ) → result ≡ Some i
         → (v : Variant) × (slice_get variants.now i ≡ Some v) × IsOfRow (at.now).report.now (at.now).table (at.now).header.now (fields_of (at.now).record.now) column v }
 {
-    for i in 0..variants.len() {
-        if is_of_row(&variants[i], column, groups, at) {
-            return Some(i);
+    let hash = hash_of(column, groups, at);
+    for i in 0..TRIES {
+        match index.hint(hash, i) {
+            Hint::Nothing => return None,
+            Hint::Other => {}
+            Hint::Variant(place) => {
+                if is_at(variants, place, column, groups, at) {
+                    return Some(place);
+                }
+            }
         }
     }
     None
@@ -144,6 +192,7 @@ fn scan(
 #[inline]
 pub(crate) fn find_variant(
     variants: &[Variant<'_>],
+    index: &VariantIndex,
     column: usize,
     groups: &[(usize, Option<usize>)],
     at: &RowAt<'_>,
@@ -153,10 +202,27 @@ pub(crate) fn find_variant(
     ensures { (i : ℕ) → result ≡ Some i
         → (v : Variant) × (slice_get variants.now i ≡ Some v) × IsOfRow (at.now).report.now (at.now).table (at.now).header.now (fields_of (at.now).record.now) column v }
 {
-    if guess < variants.len() && is_of_row(&variants[guess], column, groups, at) {
+    if is_at(variants, guess, column, groups, at) {
         return Some(guess);
     }
-    scan(variants, column, groups, at)
+    look_up(variants, index, column, groups, at)
+}
+
+/// How much the variants may weigh together before they are let go, and made again as rows ask for them.
+const MOST: usize = 500_000;
+
+/// Lets all variants go where they weigh too much.
+fn make_room(kept: &mut ReadyTable<'_>)
+    ensures slots { kept.new.slots ≡ kept.old.slots }
+    ensures decimals { kept.new.decimals ≡ kept.old.decimals }
+    ensures variants { (kept.new.variants.items ≡ kept.old.variants.items) ⊎ (kept.new.variants.items ≡ []) }
+{
+    if kept.weight <= MOST {
+        return;
+    }
+    kept.variants.clear();
+    kept.index.clear();
+    kept.weight = 0;
 }
 
 /// Makes the variant of a column in a row with whose groups nothing is wrong, and answers its place.
@@ -180,6 +246,7 @@ pub(crate) fn make_variant<'a>(
         × IsOfRow report.now (at.now).table (at.now).header.now (fields_of (at.now).record.now) column v) }
     ensures kept { OnOk result (IsKept report.now (at.now).table (at.now).header.now (at.now).number (fields_of (at.now).record.now) kept.new) }
 {
+    make_room(kept);
     let made = variant(
         alloc,
         report,
@@ -190,6 +257,12 @@ pub(crate) fn make_variant<'a>(
         &mut kept.decimals,
     )?;
     let place = kept.variants.len();
+    kept.index.add(alloc, hash_of(column, groups, at), place)?;
+    kept.weight = kept
+        .weight
+        .saturating_add(1)
+        .saturating_add(made.texts.len())
+        .saturating_add(made.entries.len());
     kept.variants.push(made)?;
     Ok(place)
 }

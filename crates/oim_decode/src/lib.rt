@@ -51,5 +51,6 @@ mod text_record;
 mod text_rows;
 mod value;
 mod variant;
+mod variant_index;
 
 pub use table::TableBlocks;

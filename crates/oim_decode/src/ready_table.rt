@@ -5,6 +5,7 @@ ghost use Rattle.std.specs.Prelude.{◌≡◌, []};
 use crate::decimals_slot::DecimalsSlot;
 use crate::slot::Slot;
 use crate::variant::Variant;
+use crate::variant_index::VariantIndex;
 use std::alloc::Global;
 
 /// The slots of a table's references, and its columns of facts under each choice of groups that came.
@@ -13,6 +14,10 @@ pub(crate) struct ReadyTable<'a> {
     pub(crate) slots: Vec<Slot<'a>>,
     pub(crate) decimals: Vec<DecimalsSlot<'a>>,
     pub(crate) variants: Vec<Variant<'a>>,
+    /// Where the variants stand, by what they were made for.
+    pub(crate) index: VariantIndex,
+    /// How much memory the variants take together, in parts of a like size: themselves, their texts and their dimensions.
+    pub(crate) weight: usize,
 }
 
 /// Nothing is ready yet. It takes no memory.
@@ -25,5 +30,7 @@ pub(crate) fn nothing_ready<'a>(alloc: Global) -> ReadyTable<'a>
         slots: Vec::new(alloc),
         decimals: Vec::new(alloc),
         variants: Vec::new(alloc),
+        index: VariantIndex::new(alloc),
+        weight: 0,
     }
 }

@@ -10,7 +10,6 @@ ghost use Rattle.oim_decode.specs.Rows.{IsRowAt, is_unknown_in, names_none_in};
 use crate::text_record::TextRecord;
 use oim_cells::{CellMeaning, meaning};
 use oim_meta::Report;
-use oim_names::find;
 
 /// A row of a table: its record under the table's header, its number, and the number in digits.
 #[derive(Clone, Copy)]
@@ -48,10 +47,7 @@ impl<'r> RowAt<'r> {
         ensures { result ≡ names_none_in (self.now).report.now (self.now).table (fields_of (self.now).record.now) group }
     {
         match meaning(self.text_at(group.1)) {
-            CellMeaning::Text(name) => {
-                let column = self.report.column(self.table, group.0);
-                find(column.groups.as_slice(), name).is_none()
-            }
+            CellMeaning::Text(name) => self.report.group(self.table, group.0, name).is_none(),
             CellMeaning::Nil | CellMeaning::Empty => true,
             CellMeaning::Absent | CellMeaning::Unknown => false,
         }

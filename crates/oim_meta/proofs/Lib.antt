@@ -1,4 +1,5 @@
 mod PlaceFacts
+pub mod GroupOrder
 pub mod GridFacts
 pub mod Strips
 pub mod Rising
@@ -17,6 +18,7 @@ pub mod Placed
 pub mod ReadOrder
 pub mod Ordered
 pub mod OwnUris
+pub mod OwnTexts
 mod Examples
 mod ExamplesFaults
 mod ExamplesFiles

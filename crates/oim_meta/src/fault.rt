@@ -6,11 +6,12 @@ ghost use Rattle.oim_meta.specs.FaultNames.{fault_number, fault_name};
 
 use crate::records::ReadFault;
 use std::alloc::AllocError;
-use thiserror::Error;
+use std::error::Error;
+use std::fmt;
+use std::fmt::{Display, Formatter};
 
 /// Why a metadata, its parameters file or its types table is refused.
-#[derive(Clone, Copy, Debug, PartialEq, Eq, Error)]
-#[error("{}", self.sentence())]
+#[derive(Clone, Copy, Debug, PartialEq, Eq)]
 pub enum MetaFault {
     /// The bytes are not well-formed JSON in UTF-8.
     Syntax,
@@ -131,6 +132,14 @@ impl MetaFault {
         }
     }
 }
+
+impl Display for MetaFault {
+    fn fmt<W: fmt::Write>(&self, f: &mut Formatter<W>) -> fmt::Result {
+        f.write_str(self.sentence())
+    }
+}
+
+impl Error for MetaFault {}
 
 impl From<ReadFault> for MetaFault {
     ghost from_gives = { λ fault made. made ≡ fault_of_read fault };

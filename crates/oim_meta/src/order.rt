@@ -1,30 +1,32 @@
 //! One text with two names.
 
-ghost use Rattle.std.specs.Prelude.{◌≡◌};
+ghost use Rattle.std.specs.Prelude.{◌≡◌, [], IfOk};
 ghost use Rattle.serde_json.specs.View.{members_view};
-ghost use Rattle.oim_meta.specs.Order.{has_other as other_has, repeats_text as repeated};
+ghost use Rattle.oim_meta.specs.Order.{repeats_seen, repeats_text as repeated};
 
+use crate::named::Named;
 use serde_json::{Map, Value};
+use std::alloc::{AllocError, Global};
 
-fn has_other(members: &Map<String, Value>, name: &str, text: &str) -> bool
-    ensures { result ≡ other_has name.now text.now (members_view members.now.entries) }
+/// Whether some member has a text that a member before it has.
+fn repeats_earlier(alloc: Global, members: &Map<String, Value>) -> Result<bool, AllocError>
+    ensures { IfOk result (λ repeats. repeats ≡ repeats_seen [] (members_view members.now.entries)) }
 {
-    for (other, value) in members.iter() {
-        if name != other.as_str() && text == value.as_str().unwrap_or("") {
-            return true;
+    let mut seen = Named::new(alloc);
+    for (_, value) in members.iter() {
+        let text = value.as_str().unwrap_or("");
+        if seen.get(text).is_some() {
+            return Ok(true);
         }
+        seen.push(String::from_str(alloc, text)?, ())?;
     }
-    false
+    Ok(false)
 }
 
-/// Whether one text has two names.
-pub(crate) fn repeats_text(members: &Map<String, Value>) -> bool
-    ensures { result ≡ repeated (members_view members.now.entries) }
+/// Whether one text has two names. It looks each text up once. Fails if memory runs out.
+pub(crate) fn repeats_text(alloc: Global, members: &Map<String, Value>) -> Result<bool, AllocError>
+    ensures { IfOk result (λ repeats. repeats ≡ repeated (members_view members.now.entries)) }
 {
-    for (name, value) in members.iter() {
-        if has_other(members, name.as_str(), value.as_str().unwrap_or("")) {
-            return true;
-        }
-    }
-    false
+    let _ = members.len();
+    repeats_earlier(alloc, members)
 }

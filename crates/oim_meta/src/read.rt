@@ -6,7 +6,7 @@ ghost use Rattle.serde_json.specs.View.{view};
 ghost use Rattle.oim_meta.specs.declared.fault.MetaFault.TheVariants.{Memory};
 ghost use Rattle.oim_meta.specs.declared.limits.Limits.{Limits as LimitsValue};
 ghost use Rattle.oim_meta.specs.Members.{if_there};
-ghost use Rattle.oim_meta.specs.Faults.{has_bad_identifier, has_bad_namespaces, has_unknown_template};
+ghost use Rattle.oim_meta.specs.Faults.{has_bad_identifier, has_bad_namespaces, has_no_report, has_unknown_template};
 ghost use Rattle.oim_meta.specs.Order.{IsInOrder};
 ghost use Rattle.oim_meta.specs.Prefixes.{prefixes_of};
 ghost use Rattle.oim_meta.specs.UnknownColumn.{has_unknown_column};
@@ -70,9 +70,21 @@ fn refuse(is_there: bool, fault: MetaFault) -> Result<(), MetaFault>
     if is_there { Err(fault) } else { Ok(()) }
 }
 
-/// Refuses the first of the faults that the metadata alone shows.
-fn check_parts(report: &Value) -> Result<(), MetaFault>
+/// Refuses what is not a report, and bad namespaces.
+fn check_namespaces(alloc: Global, report: &Value) -> Result<(), MetaFault>
+    ensures report { OnOk result (has_no_report (view report.now) ≡ false) }
     ensures namespaces { OnOk result (if_there has_bad_namespaces (get (codes "documentInfo") (view report.now)) ≡ false) }
+    ensures fault { (limits : LimitsValue) (given : ParametersValue) (types : TypesValue)
+        → IfErr result (λ fault. (fault ≡ Memory) ⊎ (early_fault limits given types (view report.now) ≡ Some fault)) }
+{
+    refuse(no_report(report), MetaFault::NotReport)?;
+    refuse(bad_namespaces_in(alloc, report)?, MetaFault::BadNamespaces)
+}
+
+/// Refuses the first of the other faults that the metadata alone shows.
+fn check_parts(report: &Value) -> Result<(), MetaFault>
+    requires report { has_no_report (view report.now) ≡ false }
+    requires namespaces { if_there has_bad_namespaces (get (codes "documentInfo") (view report.now)) ≡ false }
     ensures templates { OnOk result (has_unknown_template (view report.now) ≡ false) }
     ensures columns { OnOk result (has_unknown_column (view report.now) ≡ false) }
     ensures identifiers { OnOk result (has_bad_identifier (view report.now) ≡ false) }
@@ -81,8 +93,6 @@ fn check_parts(report: &Value) -> Result<(), MetaFault>
     ensures fault { (limits : LimitsValue) (given : ParametersValue) (types : TypesValue)
         → IfErr result (λ fault. early_fault limits given types (view report.now) ≡ Some fault) }
 {
-    refuse(no_report(report), MetaFault::NotReport)?;
-    refuse(bad_namespaces_in(report), MetaFault::BadNamespaces)?;
     refuse(bad_taxonomy_in(report), MetaFault::BadTaxonomy)?;
     refuse(unsupported(report), MetaFault::Unsupported)?;
     refuse(bad_identifier(report), MetaFault::BadIdentifier)?;
@@ -131,6 +141,7 @@ fn check(
     ensures fault { IfErr result (λ fault. (fault ≡ Memory)
         ⊎ (first_fault limits parameters.now types.now (view report.now) ≡ Some fault)) }
 {
+    check_namespaces(alloc, report)?;
     check_parts(report)?;
     let names = prefixes(alloc, report)?;
     check_levels(report, &names, parameters, types, limits)?;

@@ -3,6 +3,7 @@
 ghost use Rattle.std.specs.Prelude.{◌≡◌, ◌<◌, length, IfOk, IfSome};
 ghost use Rattle.std.specs.List.{All};
 ghost use Rattle.std.specs.Option.{option_map};
+ghost use Rattle.oim_names.specs.Lookup.{value_at};
 ghost use Rattle.oim_meta.specs.InOrder.{PartsRise, HaveIdentifiers};
 ghost use Rattle.oim_meta.specs.Places.{HasColumns};
 ghost use Rattle.oim_meta.specs.Readers.{table_of, template_of, columns_of, column_of, parameter_of, kind_of};
@@ -10,7 +11,7 @@ ghost use Rattle.oim_meta.specs.Readers.{table_of, template_of, columns_of, colu
 use crate::data::{Column, Info, Level, Table, Template};
 use crate::kind::Kind;
 use crate::report::Report;
-use oim_names::{Namespaces, find};
+use oim_names::{Namespaces, find, find_in_order};
 use std::alloc::AllocError;
 
 impl Report {
@@ -100,6 +101,17 @@ impl Report {
         ensures places { All (λ k. k < length (columns_of self.now i)) result.now.from }
     {
         &self.template(i).columns.as_slice()[c]
+    }
+
+    /// The group of this name in a column of groups.
+    #[tactic(auto, using(crate::proofs::GroupOrder::groups_rise))]
+    pub fn group(&self, i: usize, c: usize, name: &str) -> Option<&Level>
+        requires table { i < length self.now.tables }
+        requires column { c < length (columns_of self.now i) }
+        ensures { option_map (λ l. l.now) result ≡ value_at name.now (column_of self.now i c).groups }
+    {
+        self.stands_in_order();
+        find_in_order(self.column(i, c).groups.as_slice(), name)
     }
 
     /// The place of the column of row identifiers, if the table's template names one.

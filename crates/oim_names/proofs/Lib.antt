@@ -7,3 +7,4 @@ pub mod Tags
 pub mod Cut
 pub mod Colons
 pub mod Examples
+pub mod Searches

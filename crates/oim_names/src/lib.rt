@@ -25,6 +25,6 @@ pub use languages::language;
 pub use names::{is_identifier, is_ncname, is_row_identifier};
 pub use namespaces::{NameFault, Namespaces};
 pub use qnames::{qname, sqname};
-pub use text::{Items, Text, find};
+pub use text::{Items, Text, find, find_in_order};
 pub use unit_kind::UnitKind;
 pub use units::unit;

@@ -7,7 +7,7 @@ ghost use Rattle.oim_names.specs.Fault.{number_of, name_of};
 ghost use Rattle.oim_names.specs.Bindings.{AreInOrder, HaveOwnUris, HaveNames, uri_of, has_uri as uri_in, is_before, bound, Extends, IsNamespaces};
 
 use crate::is_ncname;
-use crate::text::{Items, Text, find};
+use crate::text::{Items, Text, find_in_order};
 use std::alloc::{AllocError, Global};
 use std::marker::Model;
 use thiserror::Error;
@@ -142,7 +142,7 @@ impl Namespaces {
     pub fn uri(&self, prefix: &str) -> Option<&str>
         ensures { option_map (λ u. u.now) result ≡ uri_of self.now prefix.now }
     {
-        match find(self.bindings.as_slice(), prefix) {
+        match find_in_order(self.bindings.as_slice(), prefix) {
             Some(uri) => Some(uri.as_str()),
             None => None,
         }

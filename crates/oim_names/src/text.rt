@@ -1,13 +1,22 @@
 //! Texts and lists. Contracts see a text as its bytes, and a list as its items.
 
-ghost use Rattle.std.specs.Prelude.{◌≡◌, ◌++◌, ◌∷◌, [], ◌<◌, ◌≤◌, length, Some, IfOk, is_ok, if◌then◌else◌, slice_get};
+ghost use Rattle.std.specs.Prelude.{bytes_eq, ◌^◌, ◌==◌, ◌≡◌, ◌++◌, ◌∷◌, [], ◌<◌, ◌≤◌, length, Some, IfOk, is_ok, if◌then◌else◌, slice_get};
 ghost use Rattle.std.specs.List.{insert as inserted};
 ghost use Rattle.std.specs.Option.{option_map};
 ghost use Rattle.std.specs.String.{string_bytes};
+ghost use Rattle.std.specs.Cmp.{on_per, partial_equiv_from_equiv};
+ghost use Rattle.std.specs.Cmp.Lexicographic.{nat_list_eq_equiv, slice_cmp};
+ghost use Rattle.std.specs.Iterator.Runs.{EveryRun, ItemsMapTo};
+ghost use Rattle.std.specs.Slice.Iter.{iter_rest, iter_steps};
+ghost use Rattle.std.specs.List.Sorted.{IsStrictlySortedBy};
+ghost use Rattle.std.specs.Map.{keys_of};
+ghost use Rattle.std.specs.Ordering.{nat_cmp};
 ghost use Rattle.oim_names.specs.Lookup.{value_at};
 
 use std::alloc::{AllocError, AllocFailed, Global};
 use std::marker::Model;
+use std::ops::Index;
+use std::slice;
 use std::sync::ArcStr;
 
 /// Where the bytes of a text lie: in a string of its own, or shared with its copies.
@@ -161,11 +170,77 @@ impl<T> Items<T> {
         &self.items[i]
     }
 
+    /// Whether there are no items.
+    pub fn is_empty(&self) -> bool
+        ensures { result ≡ (length self.now == 0) }
+    {
+        self.items.is_empty()
+    }
+
+    /// Goes over the items.
+    pub fn iter(&self) -> slice::Iter<'_, T>
+        ensures { (iter_rest result ≡ self.now) × (length (iter_rest result) < 2 ^ 64)
+            × EveryRun (iter_steps {A = T}) (λ p. ItemsMapTo p (λ x. x.now) (iter_rest p.from)) }
+    {
+        self.items.as_slice().iter()
+    }
+
     /// Lends the items.
     pub fn as_slice(&self) -> &[T]
         ensures { result.now ≡ self.now }
     {
         self.items.as_slice()
+    }
+}
+
+impl<'a, T> IntoIterator for &'a Items<T> {
+    type Item = &'a T;
+
+    type IntoIter = slice::Iter<'a, T>;
+
+    ghost into_iter_gives = { λ v it. (iter_rest it ≡ v.now) × (length (iter_rest it) < 2 ^ 64)
+        × EveryRun (iter_steps {A = T}) (λ p. ItemsMapTo p (λ x. x.now) (iter_rest p.from)) };
+
+    fn into_iter(self) -> slice::Iter<'a, T> {
+        self.as_slice().iter()
+    }
+}
+
+impl<T> Index<usize> for Items<T> {
+    type Output = T;
+
+    ghost can_index = { λ v i. i < length v };
+
+    ghost index_gives = { λ v i x. slice_get v i ≡ Some x };
+
+    fn index(&self, i: usize) -> &T {
+        self.get(i)
+    }
+}
+
+impl<T> From<Vec<T>> for Items<T> {
+    ghost from_gives = { λ v made. made ≡ v.items };
+
+    fn from(items: Vec<T>) -> Items<T> {
+        Items { items }
+    }
+}
+
+impl From<String> for Text {
+    ghost from_gives = { λ s made. made ≡ string_bytes s };
+
+    fn from(string: String) -> Text {
+        Text::new(string)
+    }
+}
+
+impl PartialEq for Text {
+    ghost eq = { λ v w. bytes_eq v w };
+
+    ghost laws = { on_per (λ v. v) (partial_equiv_from_equiv nat_list_eq_equiv) };
+
+    fn eq(&self, other: &Self) -> bool {
+        self.as_str() == other.as_str()
     }
 }
 
@@ -181,4 +256,23 @@ pub fn find<'a, V>(entries: &'a [(Text, V)], name: &str) -> Option<&'a V>
         }
     }
     None
+}
+
+/// How long a list may be that is sooner walked than searched.
+const SHORT: usize = 8;
+
+/// The value of a name in a list whose names rise strictly in byte order, or `None` where the name is not there.
+///
+/// It takes no memory, and time in the logarithm of the list's length.
+pub fn find_in_order<'a, V>(entries: &'a [(Text, V)], name: &str) -> Option<&'a V>
+    requires { IsStrictlySortedBy (slice_cmp nat_cmp) (keys_of entries.now) }
+    ensures { option_map (λ v. v.now) result ≡ value_at name.now entries.now }
+{
+    if entries.len() <= SHORT {
+        return find(entries, name);
+    }
+    match entries.binary_search_by(|entry| entry.0.as_str().cmp(name)) {
+        Ok(place) => Some(&entries[place].1),
+        Err(_) => None,
+    }
 }

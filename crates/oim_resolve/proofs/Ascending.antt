@@ -56,6 +56,13 @@ pub IsAscending-names : (ls : List Level) → IsAscending (names ls)
 IsAscending-names [] = tt
 IsAscending-names (l ∷ ls) = IsAscending-fold (map (λ e. e.0) l.dimensions) (names ls) (IsAscending-names ls)
 
+-- names put to ascending names, and the names of levels
+pub ascending_puts : (ks js ns : List (List ℕ)) → ks ≡ fold put_name js ns → IsAscending js → IsAscending ks
+ascending_puts ks js ns e h = subst IsAscending (sym e) (IsAscending-fold ns js h)
+
+pub ascending_names : (ks : List (List ℕ)) (ls : List Level) → ks ≡ names ls → IsAscending ks
+ascending_names ks ls e = subst IsAscending (sym e) (IsAscending-names ls)
+
 -- the entries of ascending names
 abbrev entries : (List ℕ → Option (Option (List ℕ))) → List (List ℕ) → List (List ℕ × Option (List ℕ))
 entries f ns = flat_map (λ n. named_entry n (f n)) ns

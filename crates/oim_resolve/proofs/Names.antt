@@ -1,11 +1,21 @@
 -- Names put in byte order.
-use Rattle.std.proofs.Common.{◌≡◌, ◌<◌, ℕ, ◌+◌, List, [], ◌∷◌, ◌++◌, length, take, drop, get_or, sym, ap, ◌∙◌, append_assoc, arith}
+use Rattle.std.proofs.Common.{◌≡◌, ◌<◌, ◌≤◌, ℕ, zero, suc, ◌+◌, Result, Ok, Err, refl, subst, inl, inr, List, [], ◌∷◌, ◌++◌, length, take, drop, get_or, sym, ap, ◌∙◌, append_assoc, arith}
 use Rattle.std.specs.Ordering.{match_ordering, nat_cmp}
 use Rattle.std.specs.Cmp.Lexicographic.{slice_cmp}
 use Rattle.std.specs.declared.cmp.Ordering.{Ordering}
 use Rattle.std.specs.declared.cmp.Ordering.TheVariants.{Less, Equal, Greater}
 use Rattle.std.proofs.lemmas.List.{take_more, take_all, at_drop_more, at_drop_all, take-append-drop, map-append, take-map, drop-map, get_or-map, length-map}
 use Rattle.std.specs.Borrow.{Bor}
+use Rattle.std.specs.Prelude.{MatchResult}
+use Rattle.std.specs.Ordering.{ordering_reverse, ordering_index, is_lt}
+use Rattle.std.specs.List.Sorted.{IsStrictlySortedBy, IsNonDecreasingBy, IsPartitionPoint, IsSearchInRange, IsBinarySearchResult}
+use Rattle.std.proofs.lemmas.Bool.{cases_lt}
+use Rattle.std.proofs.lemmas.Cmp.{nat_list_cmp_total}
+use Rattle.std.proofs.lemmas.List.{get_or_default, drop_all}
+use Rattle.std.proofs.lemmas.List.Sorted.{searchable_from_sorted}
+use Rattle.std.proofs.lemmas.Map.Keys.{Less-from_sorted}
+use Rattle.std.proofs.lemmas.Map.Lookups.{exact_bytes}
+use Rattle.oim_resolve.specs.Order.{IsAscending}
 use Rattle.std.specs.List.{insert}
 use Rattle.oim_resolve.specs.ProgramCell.{held}
 use Rattle.oim_resolve.specs.Written.{put_name}
@@ -60,3 +70,63 @@ module _ (ks : List (Bor (List ℕ))) (i : ℕ) (n k : Bor (List ℕ)) (h : i < 
 
 pub held_last : (ks : List (Bor (List ℕ))) (i : ℕ) (n : Bor (List ℕ)) → i ≡ length ks → PutsFrom (held ks) i n.now → held (ks ++ n ∷ []) ≡ put_name (held ks) n.now
 held_last ks i n h p = map-append (λ x. x.now) ks (n ∷ []) ∙ sym (put_name_last (held ks) i n.now (rw (length-map ks (λ x. x.now)) h) p)
+
+abbrev order : List ℕ → List ℕ → Ordering
+order = slice_cmp nat_cmp
+
+pub strictly : (ks : List (List ℕ)) → IsAscending ks → IsStrictlySortedBy order ks
+unfolding IsStrictlySortedBy
+strictly [] rise = tt
+strictly (k ∷ ks) rise = (rise.0, strictly ks rise.1)
+
+inserted_last : {X : Type 0} (xs : List X) (x : X) (i : ℕ) → i ≡ length xs → insert xs i x ≡ xs ++ x ∷ []
+inserted_last xs x i e = ap (λ ys. ys ++ x ∷ drop i xs) (take_all i xs (omega arith)) ∙ ap (λ ys. xs ++ x ∷ ys) (drop_all i xs (omega arith))
+
+-- names that rise, searched for a name
+module _ (ks : List (Bor (List ℕ))) (n : Bor (List ℕ)) (rise : IsAscending (held ks)) where
+  -- a name at one place is below a name at a later place
+  below : (i j : ℕ) (d : Bor (List ℕ)) → i < j → j < length ks → order (get_or ks i d).now (get_or ks j d).now ≡ Less
+  below i j d lt within =
+      let long : length (held ks) ≡ length ks = length-map ks (λ x. x.now) in
+      let first : get_or (held ks) i d.now ≡ (get_or ks i d).now = get_or-map (λ x. x.now) ks i d d.now (omega arith) in
+      let second : get_or (held ks) j d.now ≡ (get_or ks j d).now = get_or-map (λ x. x.now) ks j d d.now within in
+      rw (← first, ← second) (Less-from_sorted order (held ks) i j d.now (strictly (held ks) rise) lt (rw long within))
+
+  -- n goes behind the names below place i, where they are less
+  behind : (i : ℕ) → i ≤ length ks → ((j : ℕ) (d : Bor (List ℕ)) → j < i → order (get_or ks j d).now n.now ≡ Less) → PutsFrom (held ks) i n.now
+  behind zero within less = refl
+  behind (suc i) within less =
+      let here : i < length ks = omega arith in
+      let k = get_or ks i n in
+      let more = nat_list_cmp_total.antisymm n.now k.now ∙ ap ordering_reverse (less i n (omega arith)) in
+      let next = held_more ks i n k here (get_or_default ks i n k here) (behind i (omega arith) (λ j d lt. less j d (omega arith))) more in
+      let same : i + 1 ≡ suc i = omega arith in
+      subst (λ q. PutsFrom (held ks) q n.now) same next
+
+  -- the names rise to a binary search's comparisons with n
+  comparisons_rise : IsNonDecreasingBy (λ k. ordering_index (order k.now n.now)) ks
+  comparisons_rise = searchable_from_sorted nat_list_cmp_total (λ k. k.now) ks n.now
+      (λ k d low within. ap is_lt (nat_list_cmp_total.antisymm (get_or ks (k + 1) d).now (get_or ks k d).now ∙ ap ordering_reverse (below k (k + 1) d (omega arith) within)))
+
+  -- a binary search answers the place of n, or the place where n goes
+  pub searched : (r : Result ℕ ℕ) → IsSearchInRange r (length ks) → IsBinarySearchResult (λ k. order k.now n.now) ks r
+      → MatchResult r (λ _. held ks ≡ put_name (held ks) n.now) (λ i. held (insert ks i n) ≡ put_name (held ks) n.now)
+  searched (Ok i) within equal =
+      let k = get_or ks i n in
+      let same : k.now ≡ n.now = exact_bytes k.now n.now (equal n) in
+      let less : (j : ℕ) (d : Bor (List ℕ)) → j < i → order (get_or ks j d).now n.now ≡ Less
+      = λ j d lt. subst (λ (x : List ℕ). order (get_or ks j d).now x ≡ Less) (exact_bytes (get_or ks i d).now n.now (equal d)) (below j i d lt within) in
+      held_equal ks i n k within (get_or_default ks i n k within) (behind i (omega arith) less) (nat_list_cmp_total.antisymm n.now k.now ∙ ap ordering_reverse (equal n))
+  searched (Err i) within parted = elim (cases_lt i (length ks)) [
+    | inl here ↦
+        let k = get_or ks i n in
+        held_less ks i n k here (get_or_default ks i n k here) (behind i (omega arith) (λ j d lt. sides.0 j d (omega arith) lt))
+        (nat_list_cmp_total.antisymm n.now k.now ∙ ap ordering_reverse (sides.1 i n (omega arith) here))
+    | inr past ↦
+        let at_end : i ≡ length ks = omega arith in
+        let last : held (ks ++ n ∷ []) ≡ put_name (held ks) n.now = held_last ks i n at_end (behind i (omega arith) (λ j d lt. sides.0 j d (omega arith) lt)) in
+        subst (λ (xs : List (Bor (List ℕ))). held xs ≡ put_name (held ks) n.now) (sym (inserted_last ks n i at_end)) last
+  ]
+    where
+      sides : IsPartitionPoint (λ (k : Bor (List ℕ)). order k.now n.now ≡ Less) (λ k. order k.now n.now ≡ Greater) ks i
+      sides = parted comparisons_rise

@@ -8,8 +8,10 @@ ghost use Rattle.oim_resolve.specs.declared.fact.CellFault.TheVariants.{Memory};
 
 use oim_names::{Items, Text};
 use std::alloc::AllocError;
+use std::error::Error;
+use std::fmt;
+use std::fmt::{Display, Formatter};
 use std::marker::Model;
-use thiserror::Error;
 
 /// A row of a table: its number, from 1, its identifier, and a cell for each column of the
 /// template, in the template's order, the empty text where the file omits the column.
@@ -105,45 +107,62 @@ impl Fact {
 }
 
 /// What is wrong with a cell (xBRL-CSV 1.0).
-#[derive(Clone, Copy, Debug, PartialEq, Eq, Error)]
+#[derive(Clone, Copy, Debug, PartialEq, Eq)]
 pub enum CellFault {
     /// A text that begins with a single `#` and is not a special value.
-    #[error("a text begins with # and is not a special value")]
     UnknownSpecial,
     /// A group cell that names no property group of its column.
-    #[error("a cell names no property group of its column")]
     UnknownGroup,
     /// No concept is given.
-    #[error("no concept is given")]
     NoConcept,
     /// The concept is not the name of a concept in the types table.
-    #[error("the types table has no concept of this name")]
     UnknownName,
     /// A dimension that is not typed is nil or empty.
-    #[error("a dimension that is not typed is nil or empty")]
     BadReference,
     /// An entity, a unit, a language or a member of an explicit dimension is not well-formed.
-    #[error("an entity, unit, language or explicit member is not well-formed")]
     BadValue,
     /// A period is not well-formed.
-    #[error("a period is not well-formed")]
     BadPeriod,
     /// The start or the end of an instant is asked for.
-    #[error("the start or end of an instant is asked for")]
     NotDuration,
     /// Decimals that are neither an integer nor `INF`.
-    #[error("decimals are neither an integer nor INF")]
     BadDecimals,
     /// The cell of a number is not a numeral.
-    #[error("the cell of a number is not a numeral")]
     BadNumber,
     /// Memory ran out.
-    #[error("memory ran out")]
     Memory,
     /// The cell of a boolean, a date or a name is not well-formed.
-    #[error("the cell of a boolean, date or name is not well-formed")]
     BadFactValue,
 }
+
+impl CellFault {
+    /// What is wrong, as a message for people.
+    fn sentence(&self) -> &'static str {
+        match self {
+            CellFault::UnknownSpecial => "a text begins with # and is not a special value",
+            CellFault::UnknownGroup => "a cell names no property group of its column",
+            CellFault::NoConcept => "no concept is given",
+            CellFault::UnknownName => "the types table has no concept of this name",
+            CellFault::BadReference => "a dimension that is not typed is nil or empty",
+            CellFault::BadValue =>
+                "an entity, unit, language or explicit member is not well-formed",
+            CellFault::BadPeriod => "a period is not well-formed",
+            CellFault::NotDuration => "the start or end of an instant is asked for",
+            CellFault::BadDecimals => "decimals are neither an integer nor INF",
+            CellFault::BadNumber => "the cell of a number is not a numeral",
+            CellFault::Memory => "memory ran out",
+            CellFault::BadFactValue => "the cell of a boolean, date or name is not well-formed",
+        }
+    }
+}
+
+impl Display for CellFault {
+    fn fmt<W: fmt::Write>(&self, f: &mut Formatter<W>) -> fmt::Result {
+        f.write_str(self.sentence())
+    }
+}
+
+impl Error for CellFault {}
 
 impl CellFault {
     /// The number of the fault: 31 to 40, 42 or 44.

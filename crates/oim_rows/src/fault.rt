@@ -8,56 +8,77 @@ ghost use Rattle.oim_rows.specs.Streams.{fault_of_read};
 
 use oim_meta::ReadFault;
 use oim_resolve::CellFault;
-use thiserror::Error;
+use std::error::Error;
+use std::fmt;
+use std::fmt::{Display, Formatter};
 
 /// What a fault of a table is.
-#[derive(Clone, Copy, PartialEq, Eq, Debug, Error)]
+#[derive(Clone, Copy, PartialEq, Eq, Debug)]
 pub enum TableKind {
     /// 20: a table that is not optional has no file.
-    #[error("a table that is not optional has no file")]
     NoFile,
     /// 21: the reader failed.
-    #[error("the reader failed")]
     Read,
     /// 22: the file has no record at all.
-    #[error("the file has no record at all")]
     NoHeader,
     /// 23: a header cell that is not empty does not name a column of the template.
-    #[error("a header cell does not name a column of the template")]
     UnknownHeader,
     /// 24: a column stands twice in the header.
-    #[error("a column stands twice in the header")]
     RepeatedHeader,
     /// 25: the template's column of row identifiers is not in the header.
-    #[error("the column of row identifiers is not in the header")]
     NoRowIdColumn,
     /// 26: a record has another length than the header.
-    #[error("a record has another length than the header")]
     Ragged,
     /// 27: a cell is not UTF-8.
-    #[error("a cell is not UTF-8")]
     NotUtf8,
     /// 41: the table has more rows than the limit.
-    #[error("the table has more rows than the limit")]
     TooManyRows,
     /// 28: the cell of the row identifier is empty.
-    #[error("the cell of the row identifier is empty")]
     MissingRowId,
     /// 29: the cell of the row identifier is not well-formed.
-    #[error("the cell of the row identifier is not well-formed")]
     BadRowId,
     /// 30: an earlier row of the table has the same row identifier.
-    #[error("an earlier row of the table has the same row identifier")]
     RepeatedRowId,
     /// 31 to 40, and 44: a cell has this fault. Where memory runs out for a cell, that is `Memory`.
-    #[error(transparent)]
     Cell(CellFault),
     /// 42: memory ran out.
-    #[error("memory ran out")]
     Memory,
     /// 43: no worker could be started.
-    #[error("no worker could be started")]
     NoThread,
+}
+
+impl Error for TableKind {}
+
+impl TableKind {
+    /// What is wrong, as a message for people, but for the cell's own fault.
+    fn sentence(&self) -> &'static str {
+        match self {
+            TableKind::NoFile => "a table that is not optional has no file",
+            TableKind::Read => "the reader failed",
+            TableKind::NoHeader => "the file has no record at all",
+            TableKind::UnknownHeader => "a header cell does not name a column of the template",
+            TableKind::RepeatedHeader => "a column stands twice in the header",
+            TableKind::NoRowIdColumn => "the column of row identifiers is not in the header",
+            TableKind::Ragged => "a record has another length than the header",
+            TableKind::NotUtf8 => "a cell is not UTF-8",
+            TableKind::TooManyRows => "the table has more rows than the limit",
+            TableKind::MissingRowId => "the cell of the row identifier is empty",
+            TableKind::BadRowId => "the cell of the row identifier is not well-formed",
+            TableKind::RepeatedRowId => "an earlier row of the table has the same row identifier",
+            TableKind::Memory => "memory ran out",
+            TableKind::NoThread => "no worker could be started",
+            TableKind::Cell(_) => "a cell has a fault",
+        }
+    }
+}
+
+impl Display for TableKind {
+    fn fmt<W: fmt::Write>(&self, f: &mut Formatter<W>) -> fmt::Result {
+        match self {
+            TableKind::Cell(fault) => fault.fmt(f),
+            _ => f.write_str(self.sentence()),
+        }
+    }
 }
 
 impl TableKind {
@@ -109,7 +130,7 @@ impl TableKind {
 }
 
 /// A fault of a table, and where it stands.
-#[derive(Clone, Copy, PartialEq, Eq, Debug, Error)]
+#[derive(Clone, Copy, PartialEq, Eq, Debug, thiserror::Error)]
 #[error("table {table}, row {row}, column {column}: {kind}")]
 pub struct TableFault {
     /// The table's place in its report, from 0.

@@ -1,7 +1,7 @@
 //! The faults of the document as a whole: its type, its namespaces, its taxonomy, and what is not
 //! supported.
 
-ghost use Rattle.std.specs.Prelude.{◌≡◌, codes, true};
+ghost use Rattle.std.specs.Prelude.{◌≡◌, codes, true, IfOk};
 ghost use Rattle.serde_json.specs.Find.{get};
 ghost use Rattle.serde_json.specs.View.{view, items_view, members_view};
 ghost use Rattle.oim_meta.specs.Members.{any_item, if_there, no_object_or};
@@ -13,6 +13,7 @@ use crate::members::{MemberTest, any_member, is_no_object_or_any};
 use crate::order::repeats_text;
 use oim_names::is_ncname;
 use serde_json::{Map, Value};
+use std::alloc::{AllocError, Global};
 
 fn is_csv_type(info: &Value) -> bool
     ensures { result ≡ is_csv (view info.now) }
@@ -47,40 +48,43 @@ impl MemberTest for BadPrefix {
     }
 }
 
-fn bad_prefixes(members: &Map<String, Value>) -> bool
-    ensures { result ≡ has_bad_prefix (members_view members.now.entries) }
+fn bad_prefixes(alloc: Global, members: &Map<String, Value>) -> Result<bool, AllocError>
+    ensures { IfOk result (λ is_bad. is_bad ≡ has_bad_prefix (members_view members.now.entries)) }
 {
-    any_member(&BadPrefix, members) || repeats_text(members)
+    if any_member(&BadPrefix, members) {
+        return Ok(true);
+    }
+    repeats_text(alloc, members)
 }
 
-fn bad_namespace_map(namespaces: &Value) -> bool
-    ensures { result ≡ no_object_or has_bad_prefix (view namespaces.now) }
+fn bad_namespace_map(alloc: Global, namespaces: &Value) -> Result<bool, AllocError>
+    ensures { IfOk result (λ is_bad. is_bad ≡ no_object_or has_bad_prefix (view namespaces.now)) }
 {
     match namespaces.as_object() {
-        Some(members) => bad_prefixes(members),
-        None => true,
+        Some(members) => bad_prefixes(alloc, members),
+        None => Ok(true),
     }
 }
 
 /// Whether the namespaces of the document information have a fault.
 #[tactic(auto, unfolding(crate::specs::Faults::has_bad_namespaces))]
-fn bad_namespaces(info: &Value) -> bool
-    ensures { result ≡ has_bad_namespaces (view info.now) }
+fn bad_namespaces(alloc: Global, info: &Value) -> Result<bool, AllocError>
+    ensures { IfOk result (λ is_bad. is_bad ≡ has_bad_namespaces (view info.now)) }
 {
     match info.get("namespaces") {
-        Some(namespaces) => bad_namespace_map(namespaces),
-        None => false,
+        Some(namespaces) => bad_namespace_map(alloc, namespaces),
+        None => Ok(false),
     }
 }
 
-/// Whether there is document information with such a fault.
-pub(crate) fn bad_namespaces_in(report: &Value) -> bool
-    ensures { result
-        ≡ if_there has_bad_namespaces (get (codes "documentInfo") (view report.now)) }
+/// Whether there is document information with such a fault. Fails if memory runs out.
+pub(crate) fn bad_namespaces_in(alloc: Global, report: &Value) -> Result<bool, AllocError>
+    ensures { IfOk result (λ is_bad. is_bad
+        ≡ if_there has_bad_namespaces (get (codes "documentInfo") (view report.now))) }
 {
     match report.get("documentInfo") {
-        Some(info) => bad_namespaces(info),
-        None => false,
+        Some(info) => bad_namespaces(alloc, info),
+        None => Ok(false),
     }
 }
 

@@ -1,24 +1,26 @@
 //! What several levels write: names, dimensions and decimals.
 
 ghost use Rattle.std.specs.Prelude.{◌≡◌, ◌∷◌, ◌++◌, [], map, reverse, IfOk, OnOk};
-ghost use Rattle.std.specs.List.{fold};
+ghost use Rattle.std.specs.List.{All, fold};
 ghost use Rattle.std.specs.Option.{option_map};
+ghost use Rattle.oim_meta.specs.InOrder.{LevelRises};
+ghost use Rattle.oim_resolve.specs.Order.{IsAscending};
 ghost use Rattle.oim_resolve.specs.ProgramCell.{held};
 ghost use Rattle.oim_resolve.specs.Written.{written, written_decimals, put_name, names};
 
 use oim_meta::{Level, Written, WrittenDecimals};
-use oim_names::find;
+use oim_names::find_in_order;
 use std::alloc::{AllocError, Global};
-use std::cmp::Ordering;
 
 /// What is written for a dimension, by the first level that writes it: the levels stand from the most
 /// specific to the most general. (xBRL-CSV 1.0, dimensions and property groups)
 #[tactic(auto, using(crate::proofs::Overrides::written_reversed))]
 pub fn written<'a>(levels: &[&'a Level], name: &str) -> Option<&'a Written>
+    requires { All (λ l. LevelRises l.now) levels.now }
     ensures { option_map (λ w. w.now) result ≡ written (reverse (held levels.now)) name.now }
 {
     for level in levels {
-        if let Some(value) = find(level.dimensions.as_slice(), name) {
+        if let Some(value) = find_in_order(level.dimensions.as_slice(), name) {
             return Some(value);
         }
     }
@@ -59,24 +61,22 @@ pub(crate) fn decimals_in<'a>(
 
 /// Puts a name in its place in byte order, unless it stands there.
 fn put_name<'a>(names: &mut Vec<&'a str>, name: &'a str) -> Result<(), AllocError>
+    requires { IsAscending (held names.old.items) }
     ensures { OnOk result (held names.new.items ≡ put_name (held names.old.items) name.now) }
 {
-    for i in 0..names.len() {
-        match name.cmp(names[i]) {
-            Ordering::Less => {
-                names.insert(i, name)?;
-                return Ok(());
-            }
-            Ordering::Equal => return Ok(()),
-            Ordering::Greater => {}
-        }
+    match names
+        .as_slice()
+        .binary_search_by(|other| (*other).cmp(name))
+    {
+        Ok(_) => Ok(()),
+        Err(place) => Ok(names.insert(place, name)?),
     }
-    names.push(name)?;
-    Ok(())
 }
 
 /// Puts the names that a level writes.
+#[tactic(auto, using(crate::proofs::Ascending::ascending_puts))]
 fn put_names<'a>(names: &mut Vec<&'a str>, level: &'a Level) -> Result<(), AllocError>
+    requires { IsAscending (held names.old.items) }
     ensures { OnOk result
         (held names.new.items ≡ fold put_name (held names.old.items) (map (λ e. e.0) level.now.dimensions)) }
 {
@@ -87,6 +87,7 @@ fn put_names<'a>(names: &mut Vec<&'a str>, level: &'a Level) -> Result<(), Alloc
 }
 
 /// The names that the levels write, in byte order, each once. It fails only if memory runs out.
+#[tactic(auto, using(crate::proofs::Ascending::ascending_names))]
 pub fn names<'a>(alloc: Global, levels: &[&'a Level]) -> Result<Vec<&'a str>, AllocError>
     ensures { IfOk result (λ v. held v.items ≡ names (reverse (held levels.now))) }
 {

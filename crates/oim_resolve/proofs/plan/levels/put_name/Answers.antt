@@ -1,33 +1,26 @@
-use Rattle.std.proofs.Common.{◌≡◌, ◌<◌, [], ◌∷◌, ◌++◌, length, get_or, sym, ap, ◌∙◌, arith}
+use Rattle.std.proofs.Common.{◌≡◌, List, ℕ, rules, ap, sym, subst, ◌∙◌, Ok, Err}
+use Rattle.std.specs.Borrow.{Bor}
 use Rattle.std.specs.List.{insert}
+use Rattle.std.specs.Cmp.Lexicographic.{slice_cmp}
+use Rattle.std.specs.Ordering.{nat_cmp}
+use Rattle.std.proofs.lemmas.Fn.{always_returns_same}
+use Rattle.oim_resolve.specs.Order.{IsAscending}
 use Rattle.oim_resolve.specs.ProgramCell.{held}
-use Rattle.oim_resolve.proofs.Names.{held_less, held_equal, held_more, held_last}
+use Rattle.oim_resolve.specs.Written.{put_name}
+use Rattle.oim_resolve.proofs.Names.{searched}
 use Rattle.oim_resolve.proofs.plan.levels.put_name.Goals as goal
 
-pub returns-in-Less : goal.returns-in-Less
-returns-in-Less c =
-    let items = c.args.names.now.items in
-    let item = c.index.ensures ∙ ap (λ xs. get_or xs c.loop-i.i c.index.result.now) c.loop-i.invariant.same in
-    let within : c.loop-i.i < length items = omega arith in
-    ap held (c.in_ok-insert-in-Less.ensures.items ∙ ap (λ xs. insert xs c.loop-i.i c.args.name) c.loop-i.invariant.same)
-    ∙ held_less items c.loop-i.i c.args.name c.index.result.now within item c.loop-i.invariant.puts (sym c.in-Less.ensures)
+pub returns-in-Ok : goal.returns-in-Ok
+returns-in-Ok c =
+    let by_name = c.in-Ok.ensures.position (λ k. slice_cmp nat_cmp k.now c.args.name.now) (always_returns_same _ _ _ (λ a r h called. search rules)) in
+    let rise = subst (λ (xs : List (Bor (List ℕ))). IsAscending (held xs)) (sym c.as_slice.ensures.value) c.requires in
+    subst (λ (xs : List (Bor (List ℕ))). held xs ≡ put_name (held xs) c.args.name.now) c.as_slice.ensures.value
+    (searched c.as_slice.result.now c.args.name rise (Ok c.in-Ok.field-0) c.in-Ok.ensures.bound by_name)
 
-pub returns-in-Equal : goal.returns-in-Equal
-returns-in-Equal c =
-    let items = c.args.names.now.items in
-    let item = c.index.ensures ∙ ap (λ xs. get_or xs c.loop-i.i c.index.result.now) c.loop-i.invariant.same in
-    let within : c.loop-i.i < length items = omega arith in
-    ap held c.loop-i.invariant.same ∙ held_equal items c.loop-i.i c.args.name c.index.result.now within item c.loop-i.invariant.puts (sym c.in-Equal.ensures)
-
-pub loop-i-preserved : goal.loop-i-preserved
-loop-i-preserved c =
-    let items = c.args.names.now.items in
-    let item = c.index.ensures ∙ ap (λ xs. get_or xs c.loop-i.i c.index.result.now) c.loop-i.invariant.same in
-    let within : c.loop-i.i < length items = omega arith in
-    record { same = c.loop-i.invariant.same; puts = held_more items c.loop-i.i c.args.name c.index.result.now within item c.loop-i.invariant.puts (sym c.in-Greater.ensures) }
-
-pub returns : goal.returns
-returns c =
-    let items = c.args.names.now.items in
-    let at_end : c.loop-i.i ≡ length items = omega arith in
-    ap held (c.in_ok-push.ensures.items ∙ ap (λ xs. xs ++ c.args.name ∷ []) c.loop-i.invariant.same) ∙ held_last items c.loop-i.i c.args.name at_end c.loop-i.invariant.puts
+pub returns-in_ok-insert-in-Err : goal.returns-in_ok-insert-in-Err
+returns-in_ok-insert-in-Err c =
+    let by_name = c.in-Err.ensures.position (λ k. slice_cmp nat_cmp k.now c.args.name.now) (always_returns_same _ _ _ (λ a r h called. search rules)) in
+    let rise = subst (λ (xs : List (Bor (List ℕ))). IsAscending (held xs)) (sym c.as_slice.ensures.value) c.requires in
+    ap held c.in_ok-insert-in-Err.ensures.items
+    ∙ subst (λ (xs : List (Bor (List ℕ))). held (insert xs c.in-Err.place c.args.name) ≡ put_name (held xs) c.args.name.now) c.as_slice.ensures.value
+    (searched c.as_slice.result.now c.args.name rise (Err c.in-Err.place) c.in-Err.ensures.bound by_name)

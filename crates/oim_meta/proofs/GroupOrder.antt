@@ -1,0 +1,35 @@
+-- The groups of a column of a report rise by name, and so do the dimensions of its levels.
+use Rattle.std.proofs.Common.{ℕ, zero, suc, List, [], ◌∷◌}
+use Rattle.std.specs.Prelude.{slice_index_or}
+use Rattle.std.specs.List.{AllByRecursion}
+use Rattle.std.specs.List.Sorted.{IsStrictlySortedBy}
+use Rattle.std.specs.Map.{keys_of}
+use Rattle.oim_meta.specs.InOrder.{PartsRise, TemplateRises, ColumnRises}
+use Rattle.oim_meta.specs.Order.{IsRising}
+use Rattle.oim_meta.specs.Readers.{column_of, columns_of, table_of, template_of, no_column, no_template}
+use Rattle.oim_meta.specs.ReportValue.{ReportValue}
+
+-- what is so of all is so at each place, where it is so of what stands for a place out of range
+each_at : {X : Type 0} (P : X → Type 0) (xs : List X) (d : X) → AllByRecursion P xs → P d → (k : ℕ) → P (slice_index_or xs k d)
+each_at P [] d all other k = other
+each_at P (x ∷ xs) d all other zero = all.0
+each_at P (x ∷ xs) d all other (suc k) = each_at P xs d all.1 other k
+
+-- what stands for a template and a column out of range has nothing that could fall
+nothing_rises : TemplateRises no_template
+unfolding IsStrictlySortedBy
+nothing_rises = (tt, tt, tt)
+
+none_rise : ColumnRises no_column
+unfolding IsStrictlySortedBy
+none_rise = (tt, tt, tt)
+
+template_rises : (report : ReportValue) → PartsRise report.level report.templates report.tables → (i : ℕ) → TemplateRises (template_of report i)
+unfolding PartsRise
+template_rises report h i = each_at TemplateRises report.templates no_template h.4 nothing_rises (table_of report i).template
+
+pub column_rises : (report : ReportValue) → PartsRise report.level report.templates report.tables → (i c : ℕ) → ColumnRises (column_of report i c)
+column_rises report h i c = each_at ColumnRises (columns_of report i) no_column (template_rises report h i).2 none_rise c
+
+pub groups_rise : (report : ReportValue) → PartsRise report.level report.templates report.tables → (i c : ℕ) → IsRising (keys_of (column_of report i c).groups)
+groups_rise report h i c = (column_rises report h i c).1

@@ -1,0 +1,8 @@
+use Rattle.std.proofs.Common.{◌≡◌, []}
+use Rattle.serde_json.specs.View.{members_view}
+use Rattle.oim_meta.specs.Order.{repeats_seen}
+use Rattle.oim_meta.proofs.order.repeats_earlier.Given as goal
+
+-- what the whole answers, the rest answers with the texts that were seen
+abbrev pub invariant-loop-value : goal.invariant-loop-value
+invariant-loop-value l = repeats_seen l.seen (members_view l.value-iterator) ≡ repeats_seen [] (members_view l.members.entries)

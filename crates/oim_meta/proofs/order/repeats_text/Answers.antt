@@ -1,0 +1,10 @@
+use Rattle.serde_json.specs.View.{members_view}
+use Rattle.oim_meta.proofs.OwnTexts.{seen_is_repeated}
+use Rattle.oim_meta.proofs.Rising.{names_rise}
+use Rattle.oim_meta.proofs.order.repeats_text.Goals as goal
+
+-- the names of an object rise
+pub returns : goal.returns
+returns c =
+    let es = c.args.members.now.entries in
+    rw (← seen_is_repeated (members_view es) (names_rise es c.len.ensures.ordered)) c.repeats_earlier.ensures
