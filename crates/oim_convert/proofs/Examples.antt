@@ -31,7 +31,6 @@ use Rattle.oim_convert.specs.Numbers.{once_below, times}
 use Rattle.oim_convert.specs.Runs.{AreStreams, IsCut, early_fault}
 use Rattle.oim_convert.specs.Jobs.{Gives, placed}
 use Rattle.oim_convert.specs.Serial.{AreBelow, Leaves}
-use Rattle.oim_convert.specs.Steps.{wanted_of}
 use Rattle.oim_convert.specs.declared.fault.ConvertFault.TheVariants as fault
 use Rattle.oim_convert.specs.declared.job.Job.{Job}
 use Rattle.oim_convert.specs.declared.job.Receipt.{Receipt}
@@ -265,14 +264,6 @@ module _ (id : TableId) where
   none_left = refl
 
 -- WRITING
-
--- all facts are wanted while no table is refused
-all_wanted : wanted_of true (first ∷ []) ≡ first ∷ []
-all_wanted = refl
-
--- once a table is refused, no fact is wanted
-none_wanted : wanted_of false (first ∷ []) ≡ []
-none_wanted = refl
 
 module _ (old new : SinkView) where
   keeps_the_mark : Leaves old old (Ok tt)

@@ -60,7 +60,7 @@ pub is_of_tables : (l : Layout) (report : ReportValue) (limit tables : ℕ) (fs 
     → Converts l report (streams report limit fs) old new result → IsOfTables tables result
 is_of_tables l report limit tables fs old new (Ok u) count c = tt
 is_of_tables l report limit tables fs old new (Err (fault.Tables faults)) count c =
-    subst (λ (faults : List TableFault). AreBelow tables faults) (sym c.merged.0) (decoded_below report limit 0 tables fs c.histories (omega (arith, count)) c.decoded)
+    subst (λ (faults : List TableFault). AreBelow tables faults) (sym c.merged.0) (decoded_below report limit 0 tables fs c.histories (omega (arith, count)) c.are)
 is_of_tables l report limit tables fs old new (Err (fault.Write w)) count c = tt
 is_of_tables l report limit tables fs old new (Err fault.WrongReaders) count c = tt
 is_of_tables l report limit tables fs old new (Err fault.Memory) count c = tt

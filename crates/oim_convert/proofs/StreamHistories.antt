@@ -24,7 +24,7 @@ use Rattle.oim_convert.specs.Runs.{AreStreams}
 
 -- ONE HISTORY
 
-blocks_facts : (before more : List Item) → blocks_only before ≡ true → facts_before (before ++ more) ≡ facts_in before ++ facts_before more
+pub blocks_facts : (before more : List Item) → blocks_only before ≡ true → facts_before (before ++ more) ≡ facts_in before ++ facts_before more
 blocks_facts [] more only = refl
 blocks_facts (Block fs ∷ rest) more only = ap (λ l. fs ++ l) (blocks_facts rest more only) ∙ sym (append_assoc fs (facts_in rest) (facts_before more))
 blocks_facts (Ending e ∷ rest) more only = absurd (cc)
@@ -75,7 +75,7 @@ streams_answer l report ss hs old new faults e all m =
 
 -- HISTORIES WITHOUT A FAULT
 
-none_of_first : (xs ys : List TableFault) → xs ++ ys ≡ [] → xs ≡ []
+pub none_of_first : (xs ys : List TableFault) → xs ++ ys ≡ [] → xs ≡ []
 none_of_first [] ys e = refl
 none_of_first (x ∷ xs) ys e = absurd (cc)
 

@@ -45,11 +45,11 @@ no_facts : (all : List Fact) → IsPrefix [] all
 no_facts all = (all, refl)
 
 -- behind all facts of a table
-behind_table : (facts those more : List Fact) → IsPrefix those more → IsPrefix (facts ++ those) (facts ++ more)
+pub behind_table : (facts those more : List Fact) → IsPrefix those more → IsPrefix (facts ++ those) (facts ++ more)
 behind_table facts those more (rest, is) = (rest, append_assoc facts those rest ∙ ap (λ l. facts ++ l) is)
 
 -- of a table whose later facts, and those of later tables, are left out
-cut_in_table : (facts all more : List Fact) → IsPrefix facts all → IsPrefix (facts ++ []) (all ++ more)
+pub cut_in_table : (facts all more : List Fact) → IsPrefix facts all → IsPrefix (facts ++ []) (all ++ more)
 cut_in_table facts all more (rest, is) =
     (rest ++ more, ap (λ l. l ++ (rest ++ more)) (append-nil facts) ∙ (sym (append_assoc facts rest more) ∙ ap (λ l. l ++ more) is))
 
@@ -60,12 +60,12 @@ after_ending Closed items all first = first
 after_ending (Refused x) items all first = no_facts all
 
 -- a table that is refused with these first facts
-refused_table : (e : Endings.Ending) (x : TableFault) (items : List Item) (facts all more : List Fact) → e ≡ Refused x → IsPrefix facts all
+pub refused_table : (e : Endings.Ending) (x : TableFault) (items : List Item) (facts all more : List Fact) → e ≡ Refused x → IsPrefix facts all
     → IsPrefix (facts ++ facts_before (Ending e ∷ items)) (all ++ more)
 refused_table e x items facts all more is first =
     subst (λ (y : Endings.Ending). IsPrefix (facts ++ facts_before (Ending y ∷ items)) (all ++ more)) (sym is) (cut_in_table facts all more first)
 
-first_rows : (rows all : List (List Fact)) → IsPrefix rows all → IsPrefix (facts_of_rows rows) (facts_of_rows all)
+pub first_rows : (rows all : List (List Fact)) → IsPrefix rows all → IsPrefix (facts_of_rows rows) (facts_of_rows all)
 first_rows rows all (later, is) = (facts_of_rows later, sym (rows_append rows later) ∙ ap facts_of_rows is)
 
 given_first : (table : ℕ) (s : Stream) (facts : List Fact) (e : Endings.Ending) (items : List Item) (more : List Fact) → IsGiven table s facts e → IsPrefix (facts_before items) more

@@ -13,4 +13,5 @@ pub mod Jobs
 pub mod Runs
 pub mod Identifiers
 pub mod Preparing
+pub mod WrittenHistories
 pub mod Working

@@ -17,6 +17,7 @@ use Rattle.oim_rows.specs.declared.fault.TableKind.{TableKind}
 use Rattle.oim_rows.specs.declared.fault.TableKind.TheVariants as kind
 use Rattle.oim_convert.specs.Histories.{AreDecoded, AreUnserved, IsStream}
 use Rattle.oim_convert.specs.Limits.{most_workers}
+use Rattle.oim_convert.specs.WrittenHistories.{WritesHistories}
 use Rattle.oim_convert.specs.declared.fault.ConvertFault.{ConvertFault}
 use Rattle.oim_convert.specs.declared.fault.ConvertFault.TheVariants as fault
 use Rattle.oim_convert.specs.declared.run.Run.{Run}
@@ -80,14 +81,13 @@ abbrev pub AreThreaded : List (List Item) → Type 0
 AreThreaded [] = ⊤
 AreThreaded (h ∷ hs) = (¬ IsThreadless h) × AreThreaded hs
 
+-- one history for each table, with one ending
+abbrev pub AreEnded : ℕ → List (List Item) → Type 0
+AreEnded tables hs = (length hs ≡ tables) × EndEach hs
+
 -- a token was lost: the document of some histories, one for each table, or a beginning of it was written
-pub record IsLost (layout : Layout) (report : ReportValue) (tables : ℕ) (old new : SinkView) : Type 0 where
-  pub histories : List (List Item)
-  pub count : length histories ≡ tables
-  pub ended : EndEach histories
-  pub faults : List TableFault
-  pub end : MergeEnd
-  pub merged : Merges layout old new (head_text report) histories faults end
+abbrev pub IsLost : Layout → ReportValue → ℕ → SinkView → SinkView → Type 0
+IsLost layout report tables old new = (faults : List TableFault) × (end : MergeEnd) × WritesHistories (AreEnded tables) layout report old new faults end
 
 -- a run of this many tables: each history has one ending, and the faults, the end and the text written are those of the histories
 pub record IsRun (layout : Layout) (report : ReportValue) (tables : ℕ) (old new : SinkView) (run : Run) : Type 0 where

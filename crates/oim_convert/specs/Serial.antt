@@ -1,31 +1,22 @@
 -- What the conversion on one thread does.
 use Rattle.std.specs.Prelude.{⊤, ◌≡◌, ◌<◌, ◌≤◌, ℕ, List, [], ◌∷◌, Result, Ok, Err, length}
-use Rattle.oim_json.specs.JsonText.{head_text}
 use Rattle.oim_json.specs.Sinks.{SinkView, Broke, Unwritten, mark_of}
 use Rattle.oim_json.specs.declared.layout.Layout.{Layout}
-use Rattle.oim_merge.specs.Merging.{Merges}
 use Rattle.oim_merge.specs.declared.progress.MergeEnd.TheVariants as end
 use Rattle.oim_meta.specs.ReportValue.{ReportValue}
-use Rattle.oim_ring.specs.declared.item.Item.{Item}
 use Rattle.oim_rows.specs.Streams.{Stream}
 use Rattle.oim_rows.specs.declared.fault.TableFault.{TableFault}
 use Rattle.oim_convert.specs.Answer.{IsAnswer, answer_text}
 use Rattle.oim_convert.specs.Histories.{AreDecoded}
+use Rattle.oim_convert.specs.WrittenHistories.{WritesHistories}
 use Rattle.oim_convert.specs.declared.fault.ConvertFault.{ConvertFault}
 use Rattle.oim_convert.specs.declared.fault.ConvertFault.TheVariants as fault
 
--- there are histories of these streams, each whole or cut short by a failed read or by running out of memory; the faults are theirs, in
--- table order, and their document is written
-pub record Refuses (layout : Layout) (report : ReportValue) (ss : List Stream) (old new : SinkView) (faults : List TableFault) : Type 0 where
-  pub histories : List (List Item)
-  pub decoded : AreDecoded 0 ss histories
-  pub merged : Merges layout old new (head_text report) histories faults end.Refused
-
 -- Ok: the whole document is written, and no table is refused. Tables: the fault of each refused table, and the unfinished document up to
--- and including the first. Write: a beginning of the defined text. WrongReaders and Memory: nothing is written
+-- and including the first, where each table is whole or cut short by a failed read or by running out of memory. Write: a beginning of the defined text. WrongReaders and Memory: nothing is written
 abbrev pub Converts : Layout → ReportValue → List Stream → SinkView → SinkView → Result (Unit {0}) ConvertFault → Type 0
 Converts layout report ss old new (Ok u) = IsAnswer layout report ss old new [] end.Complete
-Converts layout report ss old new (Err (fault.Tables faults)) = Refuses layout report ss old new faults.items
+Converts layout report ss old new (Err (fault.Tables faults)) = WritesHistories (AreDecoded 0 ss) layout report old new faults.items end.Refused
 Converts layout report ss old new (Err (fault.Write w)) = Broke old new (answer_text layout report ss) w
 Converts layout report ss old new (Err fault.WrongReaders) = Unwritten old new
 Converts layout report ss old new (Err fault.Memory) = Unwritten old new

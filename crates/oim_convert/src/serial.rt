@@ -1,72 +1,51 @@
 //! The conversion on one thread.
 
-ghost use Rattle.std.specs.Prelude.{◌≡◌, ◌≢◌, ◌↔◌, ◌≤◌, ◌<◌, ◌+◌, ◌++◌, ℕ, List, [], ◌∷◌, Option, Some, Err, IfSome, OnOk, length, vec_len, vec_capacity};
+ghost use Rattle.std.specs.Prelude.{◌≡◌, ◌≢◌, ◌↔◌, ◌≤◌, ◌<◌, ℕ, List, [], Option, Some, Err, IfErr, IfSome, OnOk, length, vec_capacity};
 ghost use Rattle.oim_json.specs.JsonText.{head_text};
 ghost use Rattle.oim_json.specs.Sinks.{sink_at};
 ghost use Rattle.oim_merge.specs.Histories.{refusals};
-ghost use Rattle.oim_ring.specs.declared.item.Item.TheVariants as items;
+ghost use Rattle.oim_merge.specs.Writers.{Continues, IsBroken};
 ghost use Rattle.oim_rows.specs.Streams.{table_stream};
 ghost use Rattle.oim_convert.specs.Answer.{streams};
 ghost use Rattle.oim_convert.specs.Files.{IsFileOf, AreFilesOf};
 ghost use Rattle.oim_convert.specs.Serial.{AreFew, Converts, HasBegun, IsOfTables, Leaves};
-ghost use Rattle.oim_convert.specs.Steps.{Marks, ReadsTable, ReadsTables, WritesFacts};
+ghost use Rattle.oim_convert.specs.Steps.{Gave, ReadsTables, TookBlocks};
 ghost use Rattle.oim_convert.specs.declared.fault.ConvertFault.TheVariants as fault;
 
 use crate::decode::{refused, without_file};
 use crate::fault::ConvertFault;
 use oim_decode::TableBlocks;
-use oim_json::{Block, Layout, Sink, WriteFault, head, tail, write_all_of, write_members};
+use oim_json::{Layout, Sink, WriteFault, head};
+use oim_merge::{DocumentWriter, MergeEnd};
 use oim_meta::{Limits, Report};
 use oim_ring::Ending;
 use oim_rows::{TableFault, TableKind};
 use std::alloc::Global;
 use std::io::Read;
 
-/// Writes the facts of a block. A block has at least one.
-fn write_block<W: Sink>(
-    block: &Block,
-    layout: Layout,
-    sink: &mut W,
-    any: &mut bool,
-) -> Result<(), WriteFault>
-    ensures writes { WritesFacts layout (sink_at (W.mark sink.old) (W.told sink.old)) (sink_at (W.mark sink.new) (W.told sink.new)) any.old any.new block.now result }
-    ensures marked { Marks (W.mark sink.old) (W.mark sink.new) result }
-{
-    let some = block.count() > 0;
-    match write_members(sink, layout, *any, block) {
-        Ok(()) => {
-            *any = some;
-            Ok(())
-        }
-        Err(fault) => Err(fault),
-    }
-}
-
-/// Reads the blocks that are left, writes their facts if they are wanted, and gives the table's ending.
+/// Gives the blocks that are left to the writer, and tells the table's ending. Stops at a failed write.
 fn write_blocks<R: Read + Drop, W: Sink>(
     alloc: Global,
     blocks: &mut TableBlocks<'_, R>,
     table: usize,
-    wanted: bool,
-    layout: Layout,
+    writer: &mut DocumentWriter,
     sink: &mut W,
-    any: &mut bool,
 ) -> Result<Ending, WriteFault>
     requires table { blocks.old.table ≡ table }
     requires begun { blocks.old.pending ≡ [] }
-    ensures reads { IfSome blocks.old.left (λ s. ReadsTable layout table wanted (sink_at (W.mark sink.old) (W.told sink.old)) (sink_at (W.mark sink.new) (W.told sink.new)) any.old any.new s result) }
-    ensures marked { Marks (W.mark sink.old) (W.mark sink.new) result }
+    requires sink { writer.old.sink ≡ sink_at (W.mark sink.old) (W.told sink.old) }
+    ensures sink { writer.new.sink ≡ sink_at (W.mark sink.new) (W.told sink.new) }
+    ensures took { TookBlocks writer.old writer.new (λ facts. IfSome blocks.old.left (λ s. Gave table s facts result)) }
+    ensures broken { IfErr result (λ fault. IsBroken writer.new fault) }
 {
     let mut room = Vec::new(alloc);
     // The bound is never reached: a table has fewer blocks.
     for _ in 0..u64::MAX {
         match blocks.next_block(room) {
             Ok(Some(block)) => {
-                if wanted {
-                    match write_block(&block, layout, sink, any) {
-                        Ok(()) => {}
-                        Err(fault) => return Err(fault),
-                    }
+                writer.put(&block, sink);
+                if let Some(fault) = writer.fault() {
+                    return Err(fault);
                 }
                 room = block.into_room();
             }
@@ -77,98 +56,87 @@ fn write_blocks<R: Read + Drop, W: Sink>(
     Ok(refused(table, TableKind::Memory))
 }
 
-/// Reads a table's file to its end, writes its facts if they are wanted, and gives the table's ending.
+/// Reads a table's file to its end, gives its blocks to the writer, and tells the table's ending. Stops
+/// at a failed write.
 fn convert_file<R: Read + Drop, W: Sink>(
     alloc: Global,
     report: &Report,
     table: usize,
     reader: R,
     limits: Limits,
-    wanted: bool,
-    layout: Layout,
+    writer: &mut DocumentWriter,
     sink: &mut W,
-    any: &mut bool,
 ) -> Result<Ending, WriteFault>
     requires place { table < length report.now.tables }
     requires rows { limits.rows ≤ 4294967294 }
-    ensures reads { IfSome (R.remaining reader) (λ bytes. ReadsTable layout table wanted (sink_at (W.mark sink.old) (W.told sink.old))
-        (sink_at (W.mark sink.new) (W.told sink.new)) any.old any.new (table_stream report.now table limits.rows (Some bytes)) result) }
-    ensures marked { Marks (W.mark sink.old) (W.mark sink.new) result }
+    requires sink { writer.old.sink ≡ sink_at (W.mark sink.old) (W.told sink.old) }
+    ensures sink { writer.new.sink ≡ sink_at (W.mark sink.new) (W.told sink.new) }
+    ensures took { TookBlocks writer.old writer.new (λ facts. IfSome (R.remaining reader) (λ bytes. Gave table (table_stream report.now table limits.rows (Some bytes)) facts result)) }
+    ensures broken { IfErr result (λ fault. IsBroken writer.new fault) }
 {
     match TableBlocks::open(alloc, report, table, reader, limits) {
-        Ok(mut blocks) => write_blocks(alloc, &mut blocks, table, wanted, layout, sink, any),
+        Ok(mut blocks) => write_blocks(alloc, &mut blocks, table, writer, sink),
         Err(fault) => Ok(Ending::Refused(fault)),
     }
 }
 
-/// Reads a table to its end, writes its facts if they are wanted, and gives its ending.
+/// Reads a table to its end, gives its blocks to the writer, and tells its ending. Stops at a failed
+/// write.
 fn convert_table<R: Read + Drop, W: Sink>(
     alloc: Global,
     report: &Report,
     table: usize,
     reader: Option<R>,
     limits: Limits,
-    wanted: bool,
-    layout: Layout,
+    writer: &mut DocumentWriter,
     sink: &mut W,
-    any: &mut bool,
 ) -> Result<Ending, WriteFault>
     requires place { table < length report.now.tables }
     requires rows { limits.rows ≤ 4294967294 }
-    ensures reads { (file : Option (List ℕ)) → IsFileOf R.remaining reader file
-        → ReadsTable layout table wanted (sink_at (W.mark sink.old) (W.told sink.old)) (sink_at (W.mark sink.new) (W.told sink.new)) any.old any.new
-        (table_stream report.now table limits.rows file) result }
-    ensures marked { Marks (W.mark sink.old) (W.mark sink.new) result }
+    requires sink { writer.old.sink ≡ sink_at (W.mark sink.old) (W.told sink.old) }
+    ensures sink { writer.new.sink ≡ sink_at (W.mark sink.new) (W.told sink.new) }
+    ensures took { TookBlocks writer.old writer.new (λ facts. (file : Option (List ℕ)) → IsFileOf R.remaining reader file
+        → Gave table (table_stream report.now table limits.rows file) facts result) }
+    ensures broken { IfErr result (λ fault. IsBroken writer.new fault) }
 {
     match reader {
         None => Ok(without_file(report, table)),
-        Some(reader) => convert_file(
-            alloc, report, table, reader, limits, wanted, layout, sink, any,
-        ),
+        Some(reader) => convert_file(alloc, report, table, reader, limits, writer, sink),
     }
 }
 
-/// Notes the fault of a table that ended refused.
-fn note(ending: Ending, faults: &mut Vec<TableFault>)
-    requires { vec_len faults.old < vec_capacity faults.old }
-    ensures faults { faults.new.items ≡ faults.old.items ++ refusals (items.Ending ending ∷ []) }
-    ensures count { vec_len faults.new ≤ vec_len faults.old + 1 }
-    ensures room { vec_capacity faults.new ≡ vec_capacity faults.old }
-{
-    match ending {
-        Ending::Closed => {}
-        Ending::Refused(fault) => faults.push_reserved(fault),
-    }
-}
-
-/// Reads all tables to their ends, writes the facts up to and including the first refused table, and
-/// notes the fault of each refused one. Stops at a failed write.
+/// Reads all tables to their ends, gives them to the writer, and notes the fault of each refused one.
+/// Stops at a failed write.
 fn convert_tables<R: Read + Drop, W: Sink>(
     alloc: Global,
     report: &Report,
     readers: Vec<Option<R>>,
     limits: Limits,
     faults: &mut Vec<TableFault>,
-    layout: Layout,
+    writer: &mut DocumentWriter,
     sink: &mut W,
 ) -> Result<(), WriteFault>
     requires count { length readers.items ≡ length report.now.tables }
     requires rows { limits.rows ≤ 4294967294 }
     requires empty { faults.old.items ≡ [] }
     requires room { length readers.items ≤ vec_capacity faults.old }
-    ensures reads { (files : List (Option (List ℕ))) → AreFilesOf R.remaining readers.items files
-        → ReadsTables layout (sink_at (W.mark sink.old) (W.told sink.old)) (sink_at (W.mark sink.new) (W.told sink.new)) (streams report.now limits.rows files) faults.new.items result }
-    ensures marked { Marks (W.mark sink.old) (W.mark sink.new) result }
+    requires begun { writer.old.items ≡ [] }
+    requires sink { writer.old.sink ≡ sink_at (W.mark sink.old) (W.told sink.old) }
+    ensures sink { writer.new.sink ≡ sink_at (W.mark sink.new) (W.told sink.new) }
+    ensures continues { Continues writer.old writer.new }
+    ensures broken { IfErr result (λ fault. IsBroken writer.new fault) }
+    ensures faults { OnOk result (faults.new.items ≡ refusals writer.new.items) }
     ensures few { OnOk result (length faults.new.items ≤ length readers.items) }
+    ensures reads { (files : List (Option (List ℕ))) → AreFilesOf R.remaining readers.items files
+        → ReadsTables (streams report.now limits.rows files) writer.new.items result }
 {
-    let mut any = false;
+    if let Some(fault) = writer.fault() {
+        return Err(fault);
+    }
     let mut table = 0;
     for reader in readers {
-        let wanted = faults.is_empty();
-        match convert_table(
-            alloc, report, table, reader, limits, wanted, layout, sink, &mut any,
-        ) {
-            Ok(ending) => note(ending, faults),
+        match convert_table(alloc, report, table, reader, limits, writer, sink) {
+            Ok(ending) => writer.end_table(ending, faults),
             Err(fault) => return Err(fault),
         }
         table += 1;
@@ -176,41 +144,45 @@ fn convert_tables<R: Read + Drop, W: Sink>(
     Ok(())
 }
 
-/// Writes a report's document: the head, the facts of its tables and, if no table is refused, the tail.
-/// `faults` is empty and has room for one fault of each table.
-fn write_document<R: Read + Drop, W: Sink>(
+/// Gives all tables to a writer that has only begun, and ends the document. `faults` is empty and has
+/// room for one fault of each table.
+fn write_tables<R: Read + Drop, W: Sink>(
     alloc: Global,
     report: &Report,
-    head: &[u8],
     readers: Vec<Option<R>>,
     limits: Limits,
     mut faults: Vec<TableFault>,
-    layout: Layout,
+    mut writer: DocumentWriter,
     sink: &mut W,
 ) -> Result<(), ConvertFault>
-    requires head { head.now ≡ head_text report.now }
+    requires head { writer.head ≡ head_text report.now }
     requires count { length readers.items ≡ length report.now.tables }
     requires rows { limits.rows ≤ 4294967294 }
     requires empty { faults.items ≡ [] }
     requires room { length readers.items ≤ vec_capacity faults }
+    requires begun { writer.items ≡ [] }
+    requires sink { writer.sink ≡ sink_at (W.mark sink.old) (W.told sink.old) }
     ensures converts { (files : List (Option (List ℕ))) → AreFilesOf R.remaining readers.items files
-        → Converts layout report.now (streams report.now limits.rows files) (sink_at (W.mark sink.old) (W.told sink.old)) (sink_at (W.mark sink.new) (W.told sink.new)) result }
-    ensures leaves { Leaves (sink_at (W.mark sink.old) (W.told sink.old)) (sink_at (W.mark sink.new) (W.told sink.new)) result }
+        → Converts writer.layout report.now (streams report.now limits.rows files) writer.before (sink_at (W.mark sink.new) (W.told sink.new)) result }
+    ensures leaves { Leaves writer.before (sink_at (W.mark sink.new) (W.told sink.new)) result }
     ensures begun { HasBegun result }
     ensures few { AreFew (length readers.items) result }
 {
-    if let Err(fault) = write_all_of(sink, head) {
+    if let Err(fault) = convert_tables(
+        alloc,
+        report,
+        readers,
+        limits,
+        &mut faults,
+        &mut writer,
+        sink,
+    ) {
         return Err(ConvertFault::Write(fault));
     }
-    if let Err(fault) = convert_tables(alloc, report, readers, limits, &mut faults, layout, sink) {
-        return Err(ConvertFault::Write(fault));
-    }
-    if !faults.is_empty() {
-        return Err(ConvertFault::Tables(faults));
-    }
-    match write_all_of(sink, tail(layout)) {
-        Ok(()) => Ok(()),
-        Err(fault) => Err(ConvertFault::Write(fault)),
+    match writer.finish(sink) {
+        MergeEnd::Complete => Ok(()),
+        MergeEnd::Refused => Err(ConvertFault::Tables(faults)),
+        MergeEnd::Write(fault) => Err(ConvertFault::Write(fault)),
     }
 }
 
@@ -253,14 +225,6 @@ pub fn convert_serial<R: Read + Drop, W: Sink>(
     let Ok(faults) = Vec::with_capacity(alloc, readers.len()) else {
         return Err(ConvertFault::Memory);
     };
-    write_document(
-        alloc,
-        report,
-        head.as_slice(),
-        readers,
-        limits,
-        faults,
-        layout,
-        sink,
-    )
+    let writer = DocumentWriter::begin(layout, head.as_slice(), sink);
+    write_tables(alloc, report, readers, limits, faults, writer, sink)
 }

@@ -8,12 +8,12 @@ use Rattle.oim_json.specs.Sinks.{SinkView, Broke, Wrote}
 use Rattle.oim_json.specs.declared.layout.Layout.{Layout}
 use Rattle.oim_json.specs.declared.mark.WriteFault.{WriteFault}
 use Rattle.oim_merge.specs.declared.progress.MergeEnd.TheVariants as end
-use Rattle.oim_merge.specs.declared.progress.Progress.{Progress}
 use Rattle.oim_merge.specs.declared.progress.Standing.{Standing}
 use Rattle.oim_merge.specs.declared.progress.Standing.TheVariants as standings
-use Rattle.oim_merge.specs.Histories.{all_of, document, tail_for, facts_before, refusals, unfinished}
+use Rattle.oim_merge.specs.Histories.{tail_for, facts_before, refusals, unfinished}
 use Rattle.oim_merge.specs.Merging.{EndsWith}
-use Rattle.oim_merge.specs.Steps.{StandsAt, Advances}
+use Rattle.oim_merge.specs.Steps.{StandsAt}
+use Rattle.oim_merge.specs.Writers.{WriterView, given, text_so_far, whole_text, writing}
 use Rattle.oim_resolve.specs.FactParts.{FactParts as Fact}
 use Rattle.oim_ring.specs.Items.{blocks_only}
 use Rattle.oim_ring.specs.declared.item.Ending as Endings
@@ -78,60 +78,70 @@ unfinished_extends l head before more =
     (rest, ap (λ fs. head ++ members l fs) f.1 ∙ (ap (λ t. head ++ t) (members_more l (facts_before before) f.0) ∙ sym (append_assoc head (members l (facts_before before)) rest)))
 
 -- only the head
-pub head_alone : (l : Layout) (head : List ℕ) → head ≡ unfinished l head []
-head_alone l head = sym (ap (λ t. head ++ t) (no_members l) ∙ append-nil head)
+module _ (l : Layout) (head : List ℕ) (old new : SinkView) where
+  alone : head ≡ unfinished l head []
+  alone = sym (ap (λ t. head ++ t) (no_members l) ∙ append-nil head)
 
-module _ (l : Layout) (first now : SinkView) (head : List ℕ) (before : List Item) (any : Bool) where
+  pub head_written : Wrote old new head → StandsAt (writing l head [] old new) false standings.Open
+  head_written wrote = (refl, refl, subst (λ (t : List ℕ). Wrote old new t) alone wrote)
+
+  pub head_broken : (fault : WriteFault) → Broke old new head fault → StandsAt (writing l head [] old new) false (standings.Broken fault)
+  head_broken fault broke = subst (λ (t : List ℕ). Broke old new t fault) alone broke
+
+module _ (w : WriterView) (any : Bool) where
   -- nothing more is written
-  pub refused_stays : (more : List Item) → StandsAt l first now head before any standings.Refused → StandsAt l first now head (before ++ more) any standings.Refused
+  refused_stays : (more : List Item) → StandsAt w any standings.Refused → StandsAt (given w more w.sink) any standings.Refused
   refused_stays more s =
-      (still_refused before more s.0, subst (λ (fs : List Fact). Wrote first now (head ++ members l fs)) (sym (refused_facts before more s.0)) s.1)
+      (still_refused w.items more s.0, subst (λ (fs : List Fact). Wrote w.before w.sink (w.head ++ members w.layout fs)) (sym (refused_facts w.items more s.0)) s.1)
 
-  pub broken_stays : (more : List Item) (fault : WriteFault) → StandsAt l first now head before any (standings.Broken fault) → StandsAt l first now head (before ++ more) any (standings.Broken fault)
+  broken_stays : (more : List Item) (fault : WriteFault) → StandsAt w any (standings.Broken fault) → StandsAt (given w more w.sink) any (standings.Broken fault)
   broken_stays more fault s =
-      let u = unfinished_extends l head before more in
-      subst (λ t. Broke first now t fault) (sym u.1) (broke_before first now (unfinished l head before) u.0 fault s)
+      let u = unfinished_extends w.layout w.head w.items more in
+      subst (λ t. Broke w.before w.sink t fault) (sym u.1) (broke_before w.before w.sink (text_so_far w) u.0 fault s)
+
+  -- the facts where a table has ended
+  module _ (e : Endings.Ending) (begun : StandsAt w any standings.Open) where
+    same_facts : facts_before (w.items ++ items.Ending e ∷ []) ≡ facts_before w.items
+    same_facts = open_facts w.items (items.Ending e ∷ []) begun.0 ∙ (ap (λ fs. facts_before w.items ++ fs) (no_facts e) ∙ append-nil (facts_before w.items))
+      where
+        no_facts : (e : Endings.Ending) → facts_before (items.Ending e ∷ []) ≡ []
+        no_facts Closed = refl
+        no_facts (Refused fault) = refl
+
+    same_text : Wrote w.before w.sink (text_so_far (given w (items.Ending e ∷ []) w.sink))
+    same_text = subst (λ (fs : List Fact). Wrote w.before w.sink (w.head ++ members w.layout fs)) (sym same_facts) begun.2
 
   -- a table has ended
-  pub closed_stays : StandsAt l first now head before any standings.Open → StandsAt l first now head (before ++ items.Ending Closed ∷ []) any standings.Open
-  closed_stays s =
-      let same : facts_before (before ++ items.Ending Closed ∷ []) ≡ facts_before before = open_facts before (items.Ending Closed ∷ []) s.0 ∙ append-nil (facts_before before) in (
-        open_refusals before (items.Ending Closed ∷ []) s.0,
-        s.1 ∙ ap (has_any false) (sym same),
-        subst (λ (fs : List Fact). Wrote first now (head ++ members l fs)) (sym same) s.2,
-      )
+  closed_stays : StandsAt w any standings.Open → StandsAt (given w (items.Ending Closed ∷ []) w.sink) any standings.Open
+  closed_stays s = (open_refusals w.items (items.Ending Closed ∷ []) s.0, s.1 ∙ ap (has_any false) (sym (same_facts Closed s)), same_text Closed s)
 
-  pub refuses : (fault : TableFault) → StandsAt l first now head before any standings.Open → StandsAt l first now head (before ++ items.Ending (Refused fault) ∷ []) any standings.Refused
+  refuses : (fault : TableFault) → StandsAt w any standings.Open → StandsAt (given w (items.Ending (Refused fault) ∷ []) w.sink) any standings.Refused
   refuses fault s =
-      let same : facts_before (before ++ items.Ending (Refused fault) ∷ []) ≡ facts_before before = open_facts before (items.Ending (Refused fault) ∷ []) s.0 ∙ append-nil (facts_before before) in (
-        (λ none. none_refused fault [] (sym (open_refusals before (items.Ending (Refused fault) ∷ []) s.0) ∙ none)),
-        subst (λ (fs : List Fact). Wrote first now (head ++ members l fs)) (sym same) s.2,
-      )
+      ((λ none. none_refused fault [] (sym (open_refusals w.items (items.Ending (Refused fault) ∷ []) s.0) ∙ none)), same_text (Refused fault) s)
 
-  -- the facts with one more block
-  with_block : (fs : List Fact) → StandsAt l first now head before any standings.Open → facts_before (before ++ items.Block fs ∷ []) ≡ facts_before before ++ fs
-  with_block fs s = open_facts before (items.Block fs ∷ []) s.0 ∙ ap (λ l. facts_before before ++ l) (append-nil fs)
+  module _ (fs : List Fact) (later : SinkView) (s : StandsAt w any standings.Open) where
+    -- the facts with one more block
+    with_block : facts_before (w.items ++ items.Block fs ∷ []) ≡ facts_before w.items ++ fs
+    with_block = open_facts w.items (items.Block fs ∷ []) s.0 ∙ ap (λ l. facts_before w.items ++ l) (append-nil fs)
 
-  -- the text with one more block
-  block_text : (fs : List Fact) → StandsAt l first now head before any standings.Open → unfinished l head (before ++ items.Block fs ∷ []) ≡ unfinished l head before ++ more_members l any fs
-  block_text fs s =
-      ap (λ gs. head ++ members l gs) (with_block fs s)
-      ∙ (ap (λ t. head ++ t) (members_more l (facts_before before) fs)
-      ∙ (sym (append_assoc head (members l (facts_before before)) (more_members l (has_any false (facts_before before)) fs))
-      ∙ ap (λ b. unfinished l head before ++ more_members l b fs) (sym s.1)))
+    -- the text with one more block
+    block_text : text_so_far (given w (items.Block fs ∷ []) later) ≡ text_so_far w ++ more_members w.layout any fs
+    block_text =
+        ap (λ gs. w.head ++ members w.layout gs) with_block
+        ∙ (ap (λ t. w.head ++ t) (members_more w.layout (facts_before w.items) fs)
+        ∙ (sym (append_assoc w.head (members w.layout (facts_before w.items)) (more_members w.layout (has_any false (facts_before w.items)) fs))
+        ∙ ap (λ b. text_so_far w ++ more_members w.layout b fs) (sym s.1)))
 
-  pub block_written : (later : SinkView) (fs : List Fact) → 1 ≤ length fs → StandsAt l first now head before any standings.Open → Wrote now later (more_members l any fs)
-      → StandsAt l first later head (before ++ items.Block fs ∷ []) true standings.Open
-  block_written later fs some s wrote = (
-    open_refusals before (items.Block fs ∷ []) s.0,
-    sym (ap (has_any false) (with_block fs s) ∙ has_any_append false (facts_before before) fs ∙ has_some (has_any false (facts_before before)) fs some),
-    subst (λ t. Wrote first later t) (sym (block_text fs s)) (wrote_twice first now later (unfinished l head before) (more_members l any fs) s.2 wrote),
-  )
+    pub block_written : 1 ≤ length fs → Wrote w.sink later (more_members w.layout any fs) → StandsAt (given w (items.Block fs ∷ []) later) true standings.Open
+    block_written some wrote = (
+      open_refusals w.items (items.Block fs ∷ []) s.0,
+      sym (ap (has_any false) with_block ∙ has_any_append false (facts_before w.items) fs ∙ has_some (has_any false (facts_before w.items)) fs some),
+      subst (λ t. Wrote w.before later t) (sym block_text) (wrote_twice w.before w.sink later (text_so_far w) (more_members w.layout any fs) s.2 wrote),
+    )
 
-  pub block_broken : (later : SinkView) (fs : List Fact) (fault : WriteFault) → StandsAt l first now head before any standings.Open → Broke now later (more_members l any fs) fault
-      → StandsAt l first later head (before ++ items.Block fs ∷ []) any (standings.Broken fault)
-  block_broken later fs fault s broke =
-      subst (λ t. Broke first later t fault) (sym (block_text fs s)) (broke_later first now later (unfinished l head before) (more_members l any fs) fault s.2 broke)
+    pub block_broken : (fault : WriteFault) → Broke w.sink later (more_members w.layout any fs) fault → StandsAt (given w (items.Block fs ∷ []) later) any (standings.Broken fault)
+    block_broken fault broke =
+        subst (λ t. Broke w.before later t fault) (sym block_text) (broke_later w.before w.sink later (text_so_far w) (more_members w.layout any fs) fault s.2 broke)
 
 -- the standing once a table has ended
 abbrev pub next : Standing → Endings.Ending → Standing
@@ -145,16 +155,15 @@ next_closed standings.Open = refl
 next_closed standings.Refused = refl
 next_closed (standings.Broken fault) = refl
 
-ended : (l : Layout) (first now : SinkView) (head : List ℕ) (before : List Item) (any : Bool) (s : Standing) (e : Endings.Ending)
-    → StandsAt l first now head before any s → StandsAt l first now head (before ++ items.Ending e ∷ []) any (next s e)
-ended l first now head before any standings.Open Closed st = closed_stays l first now head before any st
-ended l first now head before any standings.Open (Refused fault) st = refuses l first now head before any fault st
-ended l first now head before any standings.Refused e st = refused_stays l first now head before any (items.Ending e ∷ []) st
-ended l first now head before any (standings.Broken fault) e st = broken_stays l first now head before any (items.Ending e ∷ []) fault st
-
-pub ended_as : (l : Layout) (first now : SinkView) (head : List ℕ) (before : List Item) (any : Bool) (s : Standing) (e : Endings.Ending)
-    (z : Standing) → next s e ≡ z → StandsAt l first now head before any s → StandsAt l first now head (before ++ items.Ending e ∷ []) any z
-ended_as l first now head before any s e z is st = subst (λ (y : Standing). StandsAt l first now head (before ++ items.Ending e ∷ []) any y) is (ended l first now head before any s e st)
+pub ended : (w : WriterView) (any : Bool) (s : Standing) (e : Endings.Ending) (z : Standing) → next s e ≡ z
+    → StandsAt w any s → StandsAt (given w (items.Ending e ∷ []) w.sink) any z
+ended w any s e z is st = subst (λ (y : Standing). StandsAt (given w (items.Ending e ∷ []) w.sink) any y) is (as_next s e st)
+  where
+    as_next : (s : Standing) (e : Endings.Ending) → StandsAt w any s → StandsAt (given w (items.Ending e ∷ []) w.sink) any (next s e)
+    as_next standings.Open Closed st = closed_stays w any st
+    as_next standings.Open (Refused fault) st = refuses w any fault st
+    as_next standings.Refused e st = refused_stays w any (items.Ending e ∷ []) st
+    as_next (standings.Broken fault) e st = broken_stays w any (items.Ending e ∷ []) fault st
 
 -- the document is no longer being written
 abbrev pub IsOver : Standing → Type 0
@@ -162,52 +171,57 @@ IsOver standings.Open = ⊥
 IsOver standings.Refused = Unit {0}
 IsOver (standings.Broken fault) = Unit {0}
 
-pub over_stays : (l : Layout) (first now : SinkView) (head : List ℕ) (before : List Item) (any : Bool) (s : Standing) (more : List Item) → IsOver s
-    → StandsAt l first now head before any s → StandsAt l first now head (before ++ more) any s
-over_stays l first now head before any standings.Open more over st = absurd over
-over_stays l first now head before any standings.Refused more over st = refused_stays l first now head before any more st
-over_stays l first now head before any (standings.Broken fault) more over st = broken_stays l first now head before any more fault st
+pub over_stays : (w : WriterView) (any : Bool) (s : Standing) (more : List Item) → IsOver s → StandsAt w any s → StandsAt (given w more w.sink) any s
+over_stays w any standings.Open more over st = absurd over
+over_stays w any standings.Refused more over st = refused_stays w any more st
+over_stays w any (standings.Broken fault) more over st = broken_stays w any more fault st
 
-pub stands_as : (l : Layout) (first now : SinkView) (head : List ℕ) (before : List Item) (any : Bool) (s z : Standing) → s ≡ z
-    → StandsAt l first now head before any s → StandsAt l first now head before any z
-stands_as l first now head before any s z is st = subst (λ (y : Standing). StandsAt l first now head before any y) is st
+pub stands_as : (w : WriterView) (any : Bool) (s z : Standing) → s ≡ z → StandsAt w any s → StandsAt w any z
+stands_as w any s z is st = subst (λ (y : Standing). StandsAt w any y) is st
+
+-- the document, with the sink under another name
+pub left_as : (w : WriterView) (more : List Item) (any : Bool) (s : Standing) (now : SinkView) → w.sink ≡ now
+    → StandsAt (given w more w.sink) any s → StandsAt (given w more now) any s
+left_as w more any s now is st = subst (λ (n : SinkView). StandsAt (given w more n) any s) is st
 
 -- THE END
-
-pub tail_written : (l : Layout) (first now later : SinkView) (head : List ℕ) (hs : List (List Item)) (any : Bool)
-    → StandsAt l first now head (all_of hs) any standings.Open → Wrote now later (tail_text l)
-    → EndsWith first later (document l head hs) (refusals (all_of hs)) end.Complete
-tail_written l first now later head hs any s wrote = (
-  s.0,
-  subst (λ (o : List TableFault). Wrote first later (unfinished l head (all_of hs) ++ tail_for l o)) (sym s.0)
-      (wrote_twice first now later (unfinished l head (all_of hs)) (tail_text l) s.2 wrote),
-)
-
-pub tail_broken : (l : Layout) (first now later : SinkView) (head : List ℕ) (hs : List (List Item)) (any : Bool) (fault : WriteFault)
-    → StandsAt l first now head (all_of hs) any standings.Open → Broke now later (tail_text l) fault
-    → EndsWith first later (document l head hs) (refusals (all_of hs)) (end.Write fault)
-tail_broken l first now later head hs any fault s broke =
-    subst (λ (o : List TableFault). Broke first later (unfinished l head (all_of hs) ++ tail_for l o) fault) (sym s.0)
-    (broke_later first now later (unfinished l head (all_of hs)) (tail_text l) fault s.2 broke)
 
 -- no tail follows a refusal
 no_tail : (l : Layout) (faults : List TableFault) → ¬ (faults ≡ []) → tail_for l faults ≡ []
 no_tail l [] some = absurd (some refl)
 no_tail l (f ∷ fs) some = refl
 
-pub was_refused : (l : Layout) (first now : SinkView) (head : List ℕ) (hs : List (List Item)) (any : Bool) → StandsAt l first now head (all_of hs) any standings.Refused
-    → EndsWith first now (document l head hs) (refusals (all_of hs)) end.Refused
-was_refused l first now head hs any s =
-    let text = unfinished l head (all_of hs) in
-    (s.0, subst (λ t. Wrote first now t) (sym (ap (λ t. text ++ t) (no_tail l (refusals (all_of hs)) s.0) ∙ append-nil text)) s.1)
+module _ (w : WriterView) (any : Bool) where
+  pub tail_written : (later : SinkView) → StandsAt w any standings.Open → Wrote w.sink later (tail_text w.layout) → EndsWith w.before later (whole_text w) (refusals w.items) end.Complete
+  tail_written later s wrote = (
+    s.0,
+    subst (λ (o : List TableFault). Wrote w.before later (text_so_far w ++ tail_for w.layout o)) (sym s.0)
+        (wrote_twice w.before w.sink later (text_so_far w) (tail_text w.layout) s.2 wrote),
+  )
 
-pub was_broken : (l : Layout) (first now : SinkView) (head : List ℕ) (hs : List (List Item)) (any : Bool) (fault : WriteFault) → StandsAt l first now head (all_of hs) any (standings.Broken fault)
-    → EndsWith first now (document l head hs) (refusals (all_of hs)) (end.Write fault)
-was_broken l first now head hs any fault s = broke_before first now (unfinished l head (all_of hs)) (tail_for l (refusals (all_of hs))) fault s
+  pub tail_broken : (later : SinkView) (fault : WriteFault) → StandsAt w any standings.Open → Broke w.sink later (tail_text w.layout) fault
+      → EndsWith w.before later (whole_text w) (refusals w.items) (end.Write fault)
+  tail_broken later fault s broke =
+      subst (λ (o : List TableFault). Broke w.before later (text_so_far w ++ tail_for w.layout o) fault) (sym s.0)
+      (broke_later w.before w.sink later (text_so_far w) (tail_text w.layout) fault s.2 broke)
 
-pub advances_twice : (l : Layout) (p q r : Progress) (a b c : SinkView) (xs ys zs : List Item) → zs ≡ xs ++ ys → Advances l p q a b xs → Advances l q r b c ys → Advances l p r a c zs
-advances_twice l p q r a b c xs ys zs e f g = λ first head before st.
-    subst (λ (is : List Item). StandsAt l first c head is r.any r.standing) (append_assoc before xs ys ∙ ap (λ is. before ++ is) (sym e)) (g first head (before ++ xs) (f first head before st))
+  pub was_refused : StandsAt w any standings.Refused → EndsWith w.before w.sink (whole_text w) (refusals w.items) end.Refused
+  was_refused s =
+      let text = text_so_far w in
+      (s.0, subst (λ t. Wrote w.before w.sink t) (sym (ap (λ t. text ++ t) (no_tail w.layout (refusals w.items) s.0) ∙ append-nil text)) s.1)
 
-pub advances_as : (l : Layout) (p q : Progress) (a b : SinkView) (xs ys : List Item) → ys ≡ xs → Advances l p q a b xs → Advances l p q a b ys
-advances_as l p q a b xs ys e f = λ first head before st. subst (λ (is : List Item). StandsAt l first b head (before ++ is) q.any q.standing) (sym e) (f first head before st)
+  pub was_broken : (fault : WriteFault) → StandsAt w any (standings.Broken fault) → EndsWith w.before w.sink (whole_text w) (refusals w.items) (end.Write fault)
+  was_broken fault s = broke_before w.before w.sink (text_so_far w) (tail_for w.layout (refusals w.items)) fault s
+
+-- THE ITEMS SO FAR
+
+pub given_nothing : (w : WriterView) (none : List Item) (s : SinkView) → none ≡ [] → w.sink ≡ s → w ≡ given w none s
+given_nothing w none s nil is =
+    ap (λ (n : SinkView). record w { sink = n }) is ∙ ap (λ (is : List Item). record w { items = is; sink = s }) (sym (ap (λ l. w.items ++ l) nil ∙ append-nil w.items))
+
+pub given_as : (w v : WriterView) (xs ys : List Item) (s : SinkView) → ys ≡ xs → v ≡ given w xs s → v ≡ given w ys s
+given_as w v xs ys s same is = is ∙ ap (λ (l : List Item). given w l s) (sym same)
+
+pub given_more : (w v u : WriterView) (xs ys zs : List Item) (s t : SinkView) → zs ≡ xs ++ ys → v ≡ given w xs s → u ≡ given v ys t → u ≡ given w zs t
+given_more w v u xs ys zs s t all first next =
+    next ∙ (ap (λ (x : WriterView). given x ys t) first ∙ ap (λ (l : List Item). record w { items = l; sink = t }) (append_assoc w.items xs ys ∙ ap (λ l. w.items ++ l) (sym all)))

@@ -1,3 +1,4 @@
 pub mod Histories
 pub mod Merging
 pub mod Steps
+pub mod Writers

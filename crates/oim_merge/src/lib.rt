@@ -1,10 +1,17 @@
-//! The writer, which merges the rings of all tables in table order.
+//! The writer of documents, and the merge of the rings of all tables in table order.
+//!
+//! What is proved of a `DocumentWriter`, with which each document is begun, cut and ended:
+//!
+//! - its sink took the text of the items that it was given (`specs/Histories.antt`) in the given layout:
+//!   the head and the facts of the blocks before the first refusal; or after a failed write, which
+//!   `fault` tells, a beginning of it;
+//! - `finish` writes the tail exactly if no table is refused.
 //!
 //! What is proved of `merge`:
 //!
 //! - it takes each drain, in order, to its ending and no further;
-//! - it writes the text of the items taken (`specs/Histories.antt`) in the given layout: the head, the
-//!   facts of the blocks before the first refusal, and the tail exactly if no table is refused;
+//! - it writes the text of the items taken in the given layout: the head, the facts of the blocks before
+//!   the first refusal, and the tail exactly if no table is refused;
 //! - it gives the fault of each ending that is `Refused`, in table order, however the merge ends;
 //! - it answers `Complete` only if there is no such ending, and `Refused` only if there is one;
 //! - it answers `Write` if a write failed or took nothing before the text was whole; then it wrote a
@@ -15,6 +22,9 @@
 
 mod merging;
 mod progress;
+mod remember;
+mod writer;
 
 pub use merging::merge;
 pub use progress::MergeEnd;
+pub use writer::DocumentWriter;

@@ -172,7 +172,8 @@ fn report_in(
 /// # Errors
 ///
 /// The first fault of the metadata: `TooLarge` for the bytes, then `Syntax` to `BadParameter` in the order
-/// of their numbers, then `TooLarge` for the tables and columns. `Memory` if memory runs out.
+/// of their numbers, then `TooLarge` for the tables and columns. `Memory` if memory runs out, which may
+/// come before a fault that is looked for later.
 pub fn read_report(
     alloc: Global,
     bytes: &[u8],

@@ -375,7 +375,7 @@ module _ (layout : Layout) (old new : SinkView) where
 
   -- a report without tables has no fault of a table
   no_fault_without_a_table : Gives layout report [] old new (unknown_header ∷ []) end.Refused → ⊥
-  no_fault_without_a_table given = by given.histories given.are given.merged
+  no_fault_without_a_table given = by given.written.histories given.written.are given.written.merged
     where
       by : (hs : List (List Item)) → AreHistories [] hs → Merges layout old new (head_text report) hs (unknown_header ∷ []) end.Refused → ⊥
       by [] are merged = let e = merged.0 in cc

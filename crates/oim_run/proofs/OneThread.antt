@@ -7,6 +7,7 @@ use Rattle.oim_convert.proofs.StreamHistories.{streams_answer}
 use Rattle.oim_convert.specs.Answer.{IsAnswer, ending_of, histories_of, streams}
 use Rattle.oim_convert.specs.Histories.{AreDecoded}
 use Rattle.oim_convert.specs.Serial as serial
+use Rattle.oim_convert.specs.WrittenHistories.{WritesHistories}
 use Rattle.oim_convert.specs.declared.fault.ConvertFault.{ConvertFault}
 use Rattle.oim_convert.specs.declared.fault.ConvertFault.TheVariants as fault
 use Rattle.oim_json.specs.Sinks.{SinkView}
@@ -67,20 +68,18 @@ module _ (layout : Layout) (report : ReportValue) (limit : ℕ) (files : List (O
   said = streams report limit files
 
   gives : (faults : List TableFault) (e : MergeEnd) → IsAnswer layout report said old new faults e → Gives layout report said old new faults e
-  gives faults e is = record { histories = histories_of said; are = inl (decoded_streams 0 said); merged = is; answer = λ _. is }
+  gives faults e is = record { written = record { histories = histories_of said; are = inl (decoded_streams 0 said); merged = is }; answer = λ _. is }
 
-  refuses : (faults : List TableFault) → serial.Refuses layout report said old new faults → Refuses layout report said old new (with_names names faults)
+  refuses : (faults : List TableFault) → WritesHistories (AreDecoded 0 said) layout report old new faults end.Refused → Refuses layout report said old new (with_names names faults)
   refuses faults r =
       record {
         faults = faults;
-        names = names_are report limit files r.histories names faults named (inl r.decoded) r.merged.0;
+        names = names_are report limit files r.histories names faults named (inl r.are) r.merged.0;
         given = record {
-          histories = r.histories;
-          are = inl r.decoded;
-          merged = r.merged;
+          written = record { histories = r.histories; are = inl r.are; merged = r.merged };
           answer = λ all.
               let defined = subst (λ (l : List TableFault). AreDefined l) r.merged.0 all in
-              streams_answer layout report said r.histories old new faults end.Refused (uncut_streams said r.histories (inl r.decoded) (uncut r.histories defined)) r.merged;
+              streams_answer layout report said r.histories old new faults end.Refused (uncut_streams said r.histories (inl r.are) (uncut r.histories defined)) r.merged;
         };
       }
 

@@ -74,15 +74,13 @@ module _ (layout : Layout) (report : ReportValue) (ss : List Stream) (old new : 
   run_gives : (run : Run) → AreHistories ss run.drains.items → Headline run → IsRun layout report (length report.tables) old new run → Gives layout report ss old new run.faults.items run.end
   run_gives run are headline is =
       record {
-        histories = run.drains.items;
-        are = are;
-        merged = is.merged;
+        written = record { histories = run.drains.items; are = are; merged = is.merged };
         answer = λ all. (headline (uncut run.drains.items (subst (λ (l : List TableFault). AreDefined l) is.merged.0 all))).1;
       }
 
   ended : (names : List (List ℕ)) (faults : List TableFault) (e : MergeEnd) → with_names names faults ≡ refused_tables report faults → Gives layout report ss old new faults e
       → EndsAs layout None report ss old new (outcome_at names faults e)
-  ended names faults end.Complete named gives = subst (λ (l : List TableFault). Gives layout report ss old new l end.Complete) gives.merged.1.0 gives
+  ended names faults end.Complete named gives = subst (λ (l : List TableFault). Gives layout report ss old new l end.Complete) gives.written.merged.1.0 gives
   ended names faults end.Refused named gives = record { faults = faults; names = named; given = gives }
   ended names faults (end.Write w) named gives = (faults, gives)
 

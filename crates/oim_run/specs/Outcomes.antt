@@ -3,17 +3,15 @@
 use Rattle.std.specs.Prelude.{⊤, ◌≡◌, ◌⊎◌, map, slice_index_or, length, ℕ, List, [], ◌∷◌, Option, Some, None}
 use Rattle.oim_convert.specs.Answer.{IsAnswer}
 use Rattle.oim_convert.specs.Runs.{AreHistories, IsLost, IsOuter}
+use Rattle.oim_convert.specs.WrittenHistories.{WritesHistories}
 use Rattle.oim_convert.specs.declared.fault.ConvertFault.{ConvertFault}
 use Rattle.oim_convert.specs.declared.fault.ConvertFault.TheVariants as fault
-use Rattle.oim_json.specs.JsonText.{head_text}
 use Rattle.oim_json.specs.Sinks.{SinkView, Unwritten, mark_of}
 use Rattle.oim_json.specs.declared.layout.Layout.{Layout}
-use Rattle.oim_merge.specs.Merging.{Merges}
 use Rattle.oim_merge.specs.declared.progress.MergeEnd.{MergeEnd}
 use Rattle.oim_merge.specs.declared.progress.MergeEnd.TheVariants as end
 use Rattle.oim_meta.specs.Readers.{table_of}
 use Rattle.oim_meta.specs.ReportValue.{ReportValue}
-use Rattle.oim_ring.specs.declared.item.Item.{Item}
 use Rattle.oim_rows.specs.Streams.{Stream}
 use Rattle.oim_rows.specs.declared.fault.TableFault.{TableFault}
 use Rattle.oim_run.specs.declared.outcome.Outcome.{Outcome}
@@ -42,9 +40,7 @@ AreDefined (e ∷ faults) = (¬ IsOuter e.kind) × AreDefined faults
 -- there are histories of these streams; the faults are theirs, in table order, and their document is written in this layout. If each fault
 -- is a table's own, that is the answer that the streams define
 pub record Gives (layout : Layout) (report : ReportValue) (ss : List Stream) (old new : SinkView) (faults : List TableFault) (e : MergeEnd) : Type 0 where
-  pub histories : List (List Item)
-  pub are : AreHistories ss histories
-  pub merged : Merges layout old new (head_text report) histories faults e
+  pub written : WritesHistories (AreHistories ss) layout report old new faults e
   pub answer : AreDefined faults → IsAnswer layout report ss old new faults e
 
 -- the refused tables, and the unfinished document up to and including the first of them

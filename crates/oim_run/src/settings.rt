@@ -18,6 +18,9 @@ use std::alloc::{AllocError, Global};
 /// The words of the layouts.
 const LAYOUTS: &[&str] = &["compact", "lines"];
 
+/// The program's version, and the kit that proves it, in the words of `rt version`.
+const VERSION: &str = "0.2.0 (proved with rattle-kit-13f logic dac8208d650f15bf)";
+
 /// The help of each argument.
 const META_HELP: &str = "The metadata file of the report";
 
@@ -151,7 +154,7 @@ fn inputs<'a>(alloc: Global) -> Result<Command<'a>, AllocError>
     let types = option(alloc, "types", "FILE", TYPES_HELP).required(true);
     Command::new(alloc, "xbrl-json")
         .about("Converts a report in xBRL-CSV to xBRL-JSON")
-        .version("0.1.0")
+        .version(VERSION)
         .after_help(MORE_HELP)
         .no_binary_name(true)
         .arg(meta)?

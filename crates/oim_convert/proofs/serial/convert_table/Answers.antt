@@ -1,27 +1,25 @@
-use Rattle.std.specs.Prelude.{Some, IfSome}
-use Rattle.std.proofs.Common.{subst}
-use Rattle.oim_json.specs.Sinks.{sink_at}
+use Rattle.std.specs.Prelude.{Some, None, IfSome, Ok, ℕ, List, [], Option}
+use Rattle.std.proofs.Common.{inl, refl, subst}
 use Rattle.oim_rows.specs.Streams.{table_stream}
 use Rattle.oim_convert.specs.Files.{IsFileOf}
-use Rattle.oim_convert.specs.Steps.{ReadsTable}
-use Rattle.oim_convert.proofs.TableFiles.{has_file}
-use Rattle.oim_convert.proofs.SerialTables.{no_file_read}
+use Rattle.oim_convert.specs.Steps.{Gave}
+use Rattle.oim_convert.proofs.TableFiles.{has_file, has_no_file}
+use Rattle.oim_convert.proofs.SerialTables.{took_as, took_nothing}
 use Rattle.oim_convert.proofs.serial.convert_table.Goals as goal
 
-pub returns-in-None-clause-reads : goal.returns-in-None-clause-reads
-returns-in-None-clause-reads g c = λ file is.
-    let told = g.R.Read.remaining in
-    let a = sink_at (g.W.Sink.mark c.args.sink.now) (g.W.Sink.told c.args.sink.now) in
-    no_file_read c.args.layout told file c.args.report.now c.args.table c.args.limits.rows c.args.wanted a c.args.any.now c.without_file.result
-    (subst (λ r. IsFileOf told r file) c.in-None.is is) (c.without_file.ensures c.args.limits.rows)
+pub returns-in-None-clause-took : goal.returns-in-None-clause-took
+returns-in-None-clause-took g c =
+    let told = g.R.Read.remaining in let report = c.args.report.now in let table = c.args.table in let limit = c.args.limits.rows in
+    let ending = c.without_file.result in
+    took_nothing c.args.writer.now (λ facts. (file : Option (List ℕ)) → IsFileOf told c.args.reader file → Gave table (table_stream report table limit file) facts (Ok ending))
+    (λ file is. has_no_file told file (λ f. Gave table (table_stream report table limit f) [] (Ok ending)) (subst (λ r. IsFileOf told r file) c.in-None.is is)
+    (inl (refl, c.without_file.ensures limit)))
 
-pub returns-in-Some-clause-reads : goal.returns-in-Some-clause-reads
-returns-in-Some-clause-reads g c = λ file is.
-    let told = g.R.Read.remaining in
-    let old = sink_at (g.W.Sink.mark c.args.sink.now) (g.W.Sink.told c.args.sink.now) in
-    let new = sink_at (g.W.Sink.mark c.convert_file.new.sink) (g.W.Sink.told c.convert_file.new.sink) in
-    has_file told c.in-Some.reader file (λ f. ReadsTable c.args.layout c.args.table c.args.wanted old new c.args.any.now c.convert_file.new.any
-    (table_stream c.args.report.now c.args.table c.args.limits.rows f) c.convert_file.result)
-    (subst (λ r. IsFileOf told r file) c.in-Some.is is)
-    (λ bytes tells. subst (λ o. IfSome o (λ b. ReadsTable c.args.layout c.args.table c.args.wanted old new c.args.any.now c.convert_file.new.any
-    (table_stream c.args.report.now c.args.table c.args.limits.rows (Some b)) c.convert_file.result)) tells c.convert_file.ensures.reads)
+pub returns-in-Some-clause-took : goal.returns-in-Some-clause-took
+returns-in-Some-clause-took g c =
+    let told = g.R.Read.remaining in let report = c.args.report.now in let table = c.args.table in let limit = c.args.limits.rows in
+    let reader = c.in-Some.reader in let answer = c.convert_file.result in
+    took_as c.args.writer.now c.convert_file.new.writer (λ facts. IfSome (told reader) (λ bytes. Gave table (table_stream report table limit (Some bytes)) facts answer))
+    (λ facts. (file : Option (List ℕ)) → IsFileOf told c.args.reader file → Gave table (table_stream report table limit file) facts answer) c.convert_file.ensures.took
+    (λ facts gave file is. has_file told reader file (λ f. Gave table (table_stream report table limit f) facts answer) (subst (λ r. IsFileOf told r file) c.in-Some.is is)
+    (λ bytes tells. subst (λ o. IfSome o (λ b. Gave table (table_stream report table limit (Some b)) facts answer)) tells gave))

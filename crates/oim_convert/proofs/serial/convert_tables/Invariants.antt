@@ -2,6 +2,8 @@ use Rattle.std.proofs.Common.{◌≡◌, ◌≤◌, ◌+◌, length}
 use Rattle.std.specs.Prelude.{List, ℕ, Option, vec_len, vec_capacity}
 use Rattle.std.specs.Vec.Iter.{into_iter_items}
 use Rattle.oim_json.specs.Sinks.{sink_at}
+use Rattle.oim_merge.specs.Histories.{refusals}
+use Rattle.oim_merge.specs.Writers.{Continues}
 use Rattle.oim_convert.specs.Files.{AreFilesOf}
 use Rattle.oim_convert.proofs.SerialTables.{HasRead}
 use Rattle.oim_convert.proofs.serial.convert_tables.Given as goal
@@ -9,10 +11,11 @@ use Rattle.oim_convert.proofs.serial.convert_tables.Given as goal
 abbrev pub invariant-loop-reader : goal.invariant-loop-reader
 invariant-loop-reader g l = record {
   left : l.table + length (into_iter_items l.reader-iterator) ≡ length l.report.tables;
-  mark : g.W.Sink.mark l.sink ≡ g.W.Sink.mark l.fn.sink;
+  sink : l.writer.sink ≡ sink_at (g.W.Sink.mark l.sink) (g.W.Sink.told l.sink);
+  continues : Continues l.fn.writer l.writer;
+  faults : l.faults.items ≡ refusals l.writer.items;
   count : vec_len l.faults ≤ l.table;
   room : length l.report.tables ≤ vec_capacity l.faults;
   read : (files : List (Option (List ℕ))) → AreFilesOf g.R.Read.remaining l.fn.readers.items files
-      → HasRead l.layout g.R.Read.remaining l.report l.limits.rows l.table (sink_at (g.W.Sink.mark l.fn.sink) (g.W.Sink.told l.fn.sink))
-      (sink_at (g.W.Sink.mark l.sink) (g.W.Sink.told l.sink)) l.any l.faults.items (into_iter_items l.reader-iterator) files;
+      → HasRead g.R.Read.remaining l.report l.limits.rows l.table l.writer.items (into_iter_items l.reader-iterator) files;
 }

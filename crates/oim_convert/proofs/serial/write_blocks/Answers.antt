@@ -1,80 +1,68 @@
-use Rattle.std.proofs.Common.{refl, ap, sym, ◌∙◌, subst}
+use Rattle.std.specs.Prelude.{◌++◌, IfSome, Ok, Err}
+use Rattle.std.proofs.Common.{ap, refl, ◌∙◌}
 use Rattle.std.proofs.lemmas.Option.{IfSome_then}
 use Rattle.oim_json.specs.Sinks.{sink_at}
-use Rattle.oim_convert.proofs.SerialTables.{IsWriting, block_broke, block_passed, block_written, blocks_cut, blocks_done, blocks_refused, writing_begins}
+use Rattle.oim_merge.specs.Writers.{WriterView}
+use Rattle.oim_ring.specs.declared.item.Ending.TheVariants.{Closed, Refused}
+use Rattle.oim_convert.specs.Steps.{Gave}
+use Rattle.oim_convert.proofs.SentFacts.{IsReading, block_given, cut_short, end_given, fault_given, reading_begins, so_far}
+use Rattle.oim_convert.proofs.SerialTables.{took_as, took_more, took_nothing}
 use Rattle.oim_convert.proofs.serial.write_blocks.Goals as goal
-use Rattle.oim_convert.proofs.serial.write_blocks.Goals.{then-wanted+in-Ok, else-wanted}
 
 pub loop-init : goal.loop-init
-loop-init g c = record {
-  table = c.requires.table;
-  mark = refl;
-  writing = writing_begins c.args.layout c.args.table c.args.wanted (sink_at (g.W.Sink.mark c.args.sink.now) (g.W.Sink.told c.args.sink.now))
-      c.args.any.now c.args.blocks.now.pending c.args.blocks.now.left c.requires.begun;
-}
-
-pub returns-in-Err-write_block-clause-reads : goal.returns-in-Err-write_block-clause-reads
-returns-in-Err-write_block-clause-reads g c =
-    let first = sink_at (g.W.Sink.mark c.args.sink.now) (g.W.Sink.told c.args.sink.now) in
-    let now = sink_at (g.W.Sink.mark c.loop.sink) (g.W.Sink.told c.loop.sink) in
-    let new = sink_at (g.W.Sink.mark c.write_block.new.sink) (g.W.Sink.told c.write_block.new.sink) in
-    let gives = rw (c.in-Ok-Some.field-0-is, c.loop.invariant.table) at c.in-Ok-Some.ensures.next in
-    IfSome_then c.args.blocks.now.left c.loop.invariant.writing (λ whole w.
-    block_broke c.args.layout c.args.table first now new c.args.any.now c.loop.any c.write_block.new.any whole c.loop.blocks.pending
-    c.next_block.new.self.pending c.loop.blocks.left c.next_block.new.self.left c.in-Ok-Some.block
-    c.in-Err-write_block.fault c.args.wanted c.if-wanted.true w gives c.in-Err-write_block.ensures.writes)
+loop-init g c =
+    let b = c.args.blocks.now in record {
+      table = c.requires.table;
+      sink = c.requires.sink;
+      took = took_nothing c.args.writer.now (λ facts. IfSome b.left (λ whole. IsReading c.args.table whole facts b.pending b.left))
+          (reading_begins c.args.table b.left _ b.pending refl c.requires.begun);
+    }
 
 pub loop-preserved : goal.loop-preserved
 loop-preserved g c =
-    let first = sink_at (g.W.Sink.mark c.args.sink.now) (g.W.Sink.told c.args.sink.now) in
-    let now = sink_at (g.W.Sink.mark c.loop.sink) (g.W.Sink.told c.loop.sink) in
-    let table = c.next_block.ensures.same.0 ∙ c.loop.invariant.table in
-    let wanted = c.args.wanted in let left = c.loop.blocks.left in let after = c.next_block.new.self.left in
-    let before = c.loop.blocks.pending in let pending = c.next_block.new.self.pending in
+    let table = c.args.table in let first = c.args.blocks.now.left in let block = c.in-Ok-Some.block in
+    let old = c.loop.blocks in let new = c.next_block.new.self in
+    let gives = rw (c.in-Ok-Some.field-0-is, c.loop.invariant.table) at c.in-Ok-Some.ensures.next in record {
+      table = c.next_block.ensures.same.0 ∙ c.loop.invariant.table;
+      sink = ap (λ (w : WriterView). w.sink) c.put.ensures;
+      took = took_more c.args.writer.now c.loop.writer (λ facts. IfSome first (λ whole. IsReading table whole facts old.pending old.left))
+          (λ facts. IfSome first (λ whole. IsReading table whole facts new.pending new.left)) c.loop.invariant.took c.put.new.self block
+          (sink_at (g.W.Sink.mark c.put.new.sink) (g.W.Sink.told c.put.new.sink)) c.put.ensures
+          (λ facts reading. IfSome_then first reading (λ whole r. block_given table whole facts old.pending new.pending new.left old.left block (facts ++ block) r gives refl));
+    }
+
+pub returns-in-Some-clause-took : goal.returns-in-Some-clause-took
+returns-in-Some-clause-took g c =
+    let table = c.args.table in let first = c.args.blocks.now.left in let block = c.in-Ok-Some.block in
+    let old = c.loop.blocks in let new = c.next_block.new.self in
     let gives = rw (c.in-Ok-Some.field-0-is, c.loop.invariant.table) at c.in-Ok-Some.ensures.next in
-    elim c.if-wanted.branch [
-      | then-wanted+in-Ok w ↦
-          let new = sink_at (g.W.Sink.mark w.write_block.new.sink) (g.W.Sink.told w.write_block.new.sink) in
-          record {
-            table = table;
-            mark = ap (λ s. g.W.Sink.mark s) w.sink-is ∙ (w.in-Ok.ensures.marked ∙ c.loop.invariant.mark);
-            writing = IfSome_then c.args.blocks.now.left c.loop.invariant.writing (λ whole old.
-                subst (λ s. IsWriting c.args.layout c.args.table wanted first (sink_at (g.W.Sink.mark s) (g.W.Sink.told s)) c.args.any.now c.if-wanted.any whole pending after) (sym w.sink-is)
-                (subst (λ b. IsWriting c.args.layout c.args.table wanted first new c.args.any.now b whole pending after) (sym w.any-is)
-                (block_written c.args.layout c.args.table first now new c.args.any.now c.loop.any w.write_block.new.any whole before pending left
-                after c.in-Ok-Some.block wanted w.if-wanted.true old gives w.in-Ok.ensures.writes)));
-          }
-      | else-wanted w ↦ record {
-        table = table;
-        mark = ap (λ s. g.W.Sink.mark s) w.sink-is ∙ c.loop.invariant.mark;
-        writing = IfSome_then c.args.blocks.now.left c.loop.invariant.writing (λ whole old.
-            subst (λ s. IsWriting c.args.layout c.args.table wanted first (sink_at (g.W.Sink.mark s) (g.W.Sink.told s)) c.args.any.now c.if-wanted.any whole pending after) (sym w.sink-is)
-            (subst (λ b. IsWriting c.args.layout c.args.table wanted first now c.args.any.now b whole pending after) (sym w.any-is)
-            (block_passed c.args.layout c.args.table first now now c.args.any.now c.loop.any c.loop.any whole before pending left after c.in-Ok-Some.block wanted w.if-wanted.false old gives)));
-      }
-    ]
+    took_more c.args.writer.now c.loop.writer (λ facts. IfSome first (λ whole. IsReading table whole facts old.pending old.left))
+    (λ facts. IfSome first (λ s. Gave table s facts (Err c.in-Some.fault))) c.loop.invariant.took c.put.new.self block
+    (sink_at (g.W.Sink.mark c.put.new.sink) (g.W.Sink.told c.put.new.sink)) c.put.ensures
+    (λ facts reading. IfSome_then first reading (λ whole r. so_far table whole (facts ++ block) new.pending new.left
+    (block_given table whole facts old.pending new.pending new.left old.left block (facts ++ block) r gives refl)))
 
-pub returns-in-Ok-None-clause-reads : goal.returns-in-Ok-None-clause-reads
-returns-in-Ok-None-clause-reads g c =
-    let first = sink_at (g.W.Sink.mark c.args.sink.now) (g.W.Sink.told c.args.sink.now) in
-    let now = sink_at (g.W.Sink.mark c.loop.sink) (g.W.Sink.told c.loop.sink) in
+pub returns-in-Ok-None-clause-took : goal.returns-in-Ok-None-clause-took
+returns-in-Ok-None-clause-took g c =
+    let table = c.args.table in let first = c.args.blocks.now.left in
+    let old = c.loop.blocks in let new = c.next_block.new.self in
     let gives = rw (c.in-Ok-None.field-0-is, c.loop.invariant.table) at c.in-Ok-None.ensures.next in
-    IfSome_then c.args.blocks.now.left c.loop.invariant.writing (λ whole w.
-    blocks_done c.args.layout c.args.table c.args.wanted first now c.args.any.now c.loop.any whole c.loop.blocks.pending
-    c.next_block.new.self.pending c.loop.blocks.left c.next_block.new.self.left w gives)
+    took_as c.args.writer.now c.loop.writer (λ facts. IfSome first (λ whole. IsReading table whole facts old.pending old.left))
+    (λ facts. IfSome first (λ s. Gave table s facts (Ok Closed))) c.loop.invariant.took
+    (λ facts reading. IfSome_then first reading (λ whole r. end_given table whole facts old.pending new.pending old.left new.left r gives))
 
-pub returns-in-Err-clause-reads : goal.returns-in-Err-clause-reads
-returns-in-Err-clause-reads g c =
-    let first = sink_at (g.W.Sink.mark c.args.sink.now) (g.W.Sink.told c.args.sink.now) in
-    let now = sink_at (g.W.Sink.mark c.loop.sink) (g.W.Sink.told c.loop.sink) in
+pub returns-in-Err-clause-took : goal.returns-in-Err-clause-took
+returns-in-Err-clause-took g c =
+    let table = c.args.table in let first = c.args.blocks.now.left in
+    let old = c.loop.blocks in let new = c.next_block.new.self in
     let gives = rw (c.loop.invariant.table) at c.in-Err.ensures.next in
-    IfSome_then c.args.blocks.now.left c.loop.invariant.writing (λ whole w.
-    blocks_refused c.args.layout c.args.table c.args.wanted first now c.args.any.now c.loop.any whole c.loop.blocks.pending
-    c.next_block.new.self.pending c.loop.blocks.left c.next_block.new.self.left w c.in-Err.fault gives)
+    took_as c.args.writer.now c.loop.writer (λ facts. IfSome first (λ whole. IsReading table whole facts old.pending old.left))
+    (λ facts. IfSome first (λ s. Gave table s facts (Ok (Refused c.in-Err.fault)))) c.loop.invariant.took
+    (λ facts reading. IfSome_then first reading (λ whole r. fault_given table whole facts old.pending new.pending old.left new.left r c.in-Err.fault gives))
 
-pub returns-clause-reads : goal.returns-clause-reads
-returns-clause-reads g c =
-    let first = sink_at (g.W.Sink.mark c.args.sink.now) (g.W.Sink.told c.args.sink.now) in
-    let now = sink_at (g.W.Sink.mark c.loop.sink) (g.W.Sink.told c.loop.sink) in
-    IfSome_then c.args.blocks.now.left c.loop.invariant.writing (λ whole w.
-    blocks_cut c.args.layout c.args.table c.args.wanted first now c.args.any.now c.loop.any whole c.loop.blocks.pending c.loop.blocks.left c.refused.result c.refused.ensures w)
+pub returns-clause-took : goal.returns-clause-took
+returns-clause-took g c =
+    let table = c.args.table in let first = c.args.blocks.now.left in let old = c.loop.blocks in
+    took_as c.args.writer.now c.loop.writer (λ facts. IfSome first (λ whole. IsReading table whole facts old.pending old.left))
+    (λ facts. IfSome first (λ s. Gave table s facts (Ok c.refused.result))) c.loop.invariant.took
+    (λ facts reading. IfSome_then first reading (λ whole r. cut_short table whole facts old.pending old.left c.refused.result r c.refused.ensures))

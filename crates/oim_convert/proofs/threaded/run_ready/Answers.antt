@@ -69,13 +69,16 @@ returns-in-None-clause-writes g c =
     let merged = c.work_crew-claims.result.1.merged in
     let old = sink_at (g.W.Sink.mark c.args.sink.now) (g.W.Sink.told c.args.sink.now) in
     let new = sink_at (g.W.Sink.mark c.work_crew-claims.new.sink) (g.W.Sink.told c.work_crew-claims.new.sink) in
-    let Wrote : List ℕ → Type 0 = λ head. Merges c.args.ready.unmerged.layout old new head (taken_of ended) merged.faults.items merged.end in
-    record {
-      histories = taken_of ended;
-      count = as_many (λ (d : DrainView). d.taken) ended (taken_of ended) refl
-          ∙ (rings_len ended c.args.ready.unmerged.drains.items c.work_crew-claims.ensures.merged.rings ∙ (c.requires.ready.count ∙ c.requires.count));
-      ended = c.work_crew-claims.ensures.merged.ended;
-      faults = merged.faults.items;
-      end = merged.end;
-      merged = subst Wrote c.requires.head c.work_crew-claims.ensures.merged.written;
-    }
+    let Wrote : List ℕ → Type 0 = λ head. Merges c.args.ready.unmerged.layout old new head (taken_of ended) merged.faults.items merged.end in (
+      merged.faults.items,
+      merged.end,
+      record {
+        histories = taken_of ended;
+        are = (
+          as_many (λ (d : DrainView). d.taken) ended (taken_of ended) refl
+              ∙ (rings_len ended c.args.ready.unmerged.drains.items c.work_crew-claims.ensures.merged.rings ∙ (c.requires.ready.count ∙ c.requires.count)),
+          c.work_crew-claims.ensures.merged.ended,
+        );
+        merged = subst Wrote c.requires.head c.work_crew-claims.ensures.merged.written;
+      },
+    )

@@ -7,7 +7,7 @@ use Rattle.oim_ring.specs.Items.{EndsOnce}
 use Rattle.oim_ring.specs.declared.item.Item.{Item}
 use Rattle.oim_merge.specs.Histories.{all_of, document, refusals}
 use Rattle.oim_merge.specs.Merging.{EndsWith, taken_of}
-use Rattle.oim_merge.specs.Steps.{StandsAt}
+use Rattle.oim_merge.specs.Writers.{WriterView, given, whole_text, writing}
 use Rattle.oim_merge.proofs.Drains.{FreshFrom, fresh_all, all_set, rings_set, fresh_set, ended_set}
 use Rattle.oim_merge.proofs.Writing.{all_refusals}
 use Rattle.oim_merge.proofs.merging.merge.Goals as goal
@@ -16,13 +16,12 @@ pub loop-drain-init : goal.loop-drain-init
 loop-drain-init g c =
     let fresh : FreshFrom c.args.drains.now 0 = λ k d le lt. c.requires.fresh k d lt in
     let first = sink_at (g.W.Sink.mark c.args.sink.now) (g.W.Sink.told c.args.sink.now) in
-    let now = sink_at (g.W.Sink.mark c.begin-progress.new.sink) (g.W.Sink.told c.begin-progress.new.sink) in
+    let now = sink_at (g.W.Sink.mark c.begin-writer.new.sink) (g.W.Sink.told c.begin-writer.new.sink) in
     let none = fresh_all c.args.drains.now fresh in record {
       rings = refl;
       fresh = fresh;
       ended = λ k d lt. absurd (omega arith);
-      stands = subst (λ (is : List Item). StandsAt c.args.layout first now c.args.head.now is c.begin-progress.result.any
-          c.begin-progress.result.standing) (sym none) (c.begin-progress.ensures c.args.layout);
+      writer = c.begin-writer.ensures ∙ ap (λ (is : List Item). writing c.args.layout c.args.head.now is first now) (sym none);
       faults = c.requires.empty ∙ sym (ap refusals none);
       count = (let e = ap length c.requires.empty in let len = c.args.faults.now.ok.0 in omega (arith, e, len));
       room = c.requires.room;
@@ -39,8 +38,8 @@ loop-drain-preserved g c =
       rings = rings_set ds i d c.drain-item.result lt c.take_all.ensures.ring ∙ r.rings;
       fresh = fresh_set ds i d lt r.fresh;
       ended = ended_set ds i d lt r.ended c.take_all.ensures.ended;
-      stands = subst (λ (is : List Item). StandsAt c.args.layout first later c.args.head.now is c.take_all.new.progress.any c.take_all.new.progress.standing) (sym more)
-          (c.take_all.ensures.advances first c.args.head.now (all_of (taken_of ds)) r.stands);
+      writer = c.take_all.ensures.given ∙ (ap (λ (w : WriterView). given w d.taken later) r.writer
+          ∙ ap (λ (is : List Item). writing c.args.layout c.args.head.now is first later) (sym more));
       faults = c.take_all.ensures.faults ∙ (ap (λ l. l ++ refusals d.taken) r.faults ∙ sym (ap refusals more ∙ all_refusals (all_of (taken_of ds)) d.taken));
       count = (let n = c.take_all.ensures.count in let m = r.count in omega (arith, n, m));
       room = (let n = c.take_all.ensures.room in let m = r.room in omega (arith, n, m));
@@ -56,4 +55,5 @@ returns-clause-merged g c =
     let last = sink_at (g.W.Sink.mark c.finish.new.sink) (g.W.Sink.told c.finish.new.sink) in
     let r = c.loop-drain.invariant in
     let hs = taken_of c.loop-drain.drains in
-    (r.faults, subst (λ fs. EndsWith first last (document c.args.layout c.args.head.now hs) fs c.finish.result) (sym r.faults) (c.finish.ensures first c.args.head.now hs r.stands))
+    let ends = subst (λ (w : WriterView). EndsWith w.before last (whole_text w) (refusals w.items) c.finish.result) r.writer c.finish.ensures in
+    (r.faults, subst (λ fs. EndsWith first last (document c.args.layout c.args.head.now hs) fs c.finish.result) (sym r.faults) ends)

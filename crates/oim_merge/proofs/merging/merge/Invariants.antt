@@ -5,7 +5,7 @@ use Rattle.oim_ring.specs.Items.{EndsOnce}
 use Rattle.oim_ring.specs.Ends.{DrainView}
 use Rattle.oim_merge.specs.Histories.{all_of, refusals}
 use Rattle.oim_merge.specs.Merging.{rings_of, taken_of}
-use Rattle.oim_merge.specs.Steps.{StandsAt}
+use Rattle.oim_merge.specs.Writers.{writing}
 use Rattle.oim_merge.proofs.Drains.{FreshFrom}
 use Rattle.oim_merge.proofs.merging.merge.Given as goal
 
@@ -14,8 +14,8 @@ invariant-loop-drain g l = record {
   rings : rings_of l.drains ≡ rings_of l.fn.drains;
   fresh : FreshFrom l.drains l.drain-index;
   ended : (k : ℕ) (d : DrainView) → k < l.drain-index → EndsOnce (get_or l.drains k d).taken;
-  stands : StandsAt l.layout (sink_at (g.W.Sink.mark l.fn.sink) (g.W.Sink.told l.fn.sink)) (sink_at (g.W.Sink.mark l.sink) (g.W.Sink.told l.sink))
-      l.head (all_of (taken_of l.drains)) l.progress.any l.progress.standing;
+  writer : l.writer ≡ writing l.fn.layout l.head (all_of (taken_of l.drains)) (sink_at (g.W.Sink.mark l.fn.sink) (g.W.Sink.told l.fn.sink))
+      (sink_at (g.W.Sink.mark l.sink) (g.W.Sink.told l.sink));
   faults : l.faults.items ≡ refusals (all_of (taken_of l.drains));
   count : vec_len l.faults ≤ l.drain-index;
   room : length l.fn.drains ≤ vec_capacity l.faults;

@@ -1,7 +1,7 @@
 use Rattle.std.proofs.Common.{◌≡◌, true}
 use Rattle.oim_json.specs.Sinks.{sink_at}
 use Rattle.oim_ring.specs.Items.{blocks_only}
-use Rattle.oim_merge.specs.Steps.{Advances}
+use Rattle.oim_merge.specs.Writers.{given}
 use Rattle.oim_merge.proofs.merging.take_all.Given as goal
 
 abbrev pub invariant-loop : goal.invariant-loop
@@ -9,5 +9,5 @@ invariant-loop g l = record {
   ring : l.drain.ring ≡ l.fn.drain.ring;
   blocks : blocks_only l.drain.taken ≡ true;
   faults : l.faults ≡ l.fn.faults;
-  advances : Advances l.layout l.fn.progress l.progress (sink_at (g.W.Sink.mark l.fn.sink) (g.W.Sink.told l.fn.sink)) (sink_at (g.W.Sink.mark l.sink) (g.W.Sink.told l.sink)) l.drain.taken;
+  given : l.writer ≡ given l.fn.writer l.drain.taken (sink_at (g.W.Sink.mark l.sink) (g.W.Sink.told l.sink));
 }

@@ -1,0 +1,18 @@
+-- How the writing of a report's tables ends: as their histories say.
+-- xBRL-CSV 1.0 (a report is the facts of its tables), xBRL-JSON 1.0 (the document).
+use Rattle.std.specs.Prelude.{List}
+use Rattle.oim_json.specs.JsonText.{head_text}
+use Rattle.oim_json.specs.Sinks.{SinkView}
+use Rattle.oim_json.specs.declared.layout.Layout.{Layout}
+use Rattle.oim_merge.specs.Merging.{Merges}
+use Rattle.oim_merge.specs.declared.progress.MergeEnd.{MergeEnd}
+use Rattle.oim_meta.specs.ReportValue.{ReportValue}
+use Rattle.oim_ring.specs.declared.item.Item.{Item}
+use Rattle.oim_rows.specs.declared.fault.TableFault.{TableFault}
+
+-- there are histories of this kind, and the faults, the end and the text written are theirs
+pub record WritesHistories (Are : List (List Item) → Type 0) (layout : Layout) (report : ReportValue) (old new : SinkView)
+    (faults : List TableFault) (end : MergeEnd) : Type 0 where
+  pub histories : List (List Item)
+  pub are : Are histories
+  pub merged : Merges layout old new (head_text report) histories faults end

@@ -1,0 +1,75 @@
+//! What a writer remembers for contracts alone.
+
+ghost use Rattle.std.specs.Prelude.{◌++◌, ◌∷◌, []};
+ghost use Rattle.oim_json.specs.Sinks.{sink_at};
+ghost use Rattle.oim_ring.specs.declared.item.Item.TheVariants as items;
+
+use oim_json::{Block, Mark, Sink};
+use oim_names::Items;
+use oim_ring::{Ending, Item};
+use std::marker::Model;
+use told::{Tells, Told};
+
+/// A sink as contracts see it: its mark, and the bytes that it tells. No value of this type is made.
+#[derive(Drop)]
+pub(crate) struct SinkState {
+    mark: Mark,
+    bytes: Option<Items<u8>>,
+}
+
+impl Model for SinkState {
+    ghost use Rattle.oim_json.specs.Sinks.{SinkView, sink_at};
+
+    ghost Value = { SinkView };
+
+    ghost view = { λ s. sink_at s.mark s.bytes };
+}
+
+/// A sink as it is now.
+#[derive(Drop)]
+pub(crate) struct Now<'a, W> {
+    pub(crate) sink: &'a W,
+}
+
+impl<W: Sink> Tells<SinkState> for Now<'_, W> {
+    ghost told = { λ n. sink_at (W.mark n.sink.now) (W.told n.sink.now) };
+}
+
+/// Bytes.
+#[derive(Drop)]
+pub(crate) struct Bytes<'a> {
+    pub(crate) bytes: &'a [u8],
+}
+
+impl Tells<Items<u8>> for Bytes<'_> {
+    ghost told = { λ b. b.bytes.now };
+}
+
+/// No items.
+pub(crate) struct NoItems;
+
+impl Tells<Items<Item>> for NoItems {
+    ghost told = { λ _. [] };
+}
+
+/// Items, and then a block.
+#[derive(Drop)]
+pub(crate) struct WithBlock<'a> {
+    pub(crate) before: &'a Told<Items<Item>>,
+    pub(crate) block: &'a Block,
+}
+
+impl Tells<Items<Item>> for WithBlock<'_> {
+    ghost told = { λ n. n.before.now.value ++ items.Block n.block.now ∷ [] };
+}
+
+/// Items, and then an ending.
+#[derive(Drop)]
+pub(crate) struct WithEnding<'a> {
+    pub(crate) before: &'a Told<Items<Item>>,
+    pub(crate) ending: Ending,
+}
+
+impl Tells<Items<Item>> for WithEnding<'_> {
+    ghost told = { λ n. n.before.now.value ++ items.Ending n.ending ∷ [] };
+}

@@ -1,0 +1,172 @@
+//! The writer of a document.
+
+ghost use Rattle.std.specs.Prelude.{◌≡◌, ◌≤◌, ◌<◌, ◌+◌, ◌++◌, [], ◌∷◌, IfSome, IfNone, vec_len, vec_capacity};
+ghost use Rattle.oim_json.specs.Sinks.{SinkView, sink_at};
+ghost use Rattle.oim_json.specs.declared.layout.Layout.{Layout};
+ghost use Rattle.oim_merge.specs.Histories.{refusals};
+ghost use Rattle.oim_merge.specs.Merging.{EndsWith};
+ghost use Rattle.oim_merge.specs.Steps.{Advances, Begins};
+ghost use Rattle.oim_merge.specs.Writers.{IsBroken, IsWritten, given, whole_text, writing};
+ghost use Rattle.oim_ring.specs.declared.item.Item.TheVariants as items;
+
+use crate::progress::{MergeEnd, Progress, Standing};
+use crate::remember::{Bytes, NoItems, Now, SinkState, WithBlock, WithEnding};
+use oim_json::{Block, Layout, Sink, WriteFault, tail, write_all_of, write_members};
+use oim_names::Items;
+use oim_ring::{Ending, Item};
+use oim_rows::TableFault;
+use std::marker::Model;
+use told::Told;
+
+/// Writes a document (xBRL-JSON 1.0) to a sink: its head, the facts of blocks up to the first table that
+/// is refused, and the tail if none is. After a failed write it writes nothing more. Each call is given
+/// the sink, which nothing else may write to meanwhile.
+///
+/// Contracts see the layout, the head, the items so far, and the sink: as it was before the head, and as
+/// the writer left it. That the sink took the text of these items, the type keeps.
+#[derive(Drop)]
+pub struct DocumentWriter {
+    layout: Layout,
+    progress: Progress,
+    head: Told<Items<u8>>,
+    items: Told<Items<Item>>,
+    before: Told<SinkState>,
+    sink: Told<SinkState>,
+}
+
+impl Model for DocumentWriter {
+    ghost use Rattle.oim_merge.specs.Writers.{WriterView, writing};
+
+    ghost Value = { WriterView };
+
+    ghost use Rattle.oim_merge.specs.Steps.{StandsAt};
+
+    ghost view = { λ w. writing w.layout w.head.value w.items.value w.before.value w.sink.value };
+
+    ghost invariant = { λ w. StandsAt (writing w.layout w.head.value w.items.value w.before.value w.sink.value) w.progress.any w.progress.standing };
+}
+
+impl DocumentWriter {
+    /// Begins a document: writes its head.
+    pub fn begin<W: Sink>(layout: Layout, head: &[u8], sink: &mut W) -> DocumentWriter
+        ensures { result ≡ writing layout head.now [] (sink_at (W.mark sink.old) (W.told sink.old)) (sink_at (W.mark sink.new) (W.told sink.new)) }
+    {
+        let before = Told::of(&Now { sink: &*sink });
+        let progress = write_head(head, sink);
+        DocumentWriter {
+            layout,
+            progress,
+            head: Told::of(&Bytes { bytes: head }),
+            items: Told::of(&NoItems),
+            before,
+            sink: Told::of(&Now { sink: &*sink }),
+        }
+    }
+
+    /// Takes a block of a table, and writes its facts if the document is still being written.
+    pub fn put<W: Sink>(&mut self, block: &Block, sink: &mut W)
+        requires { self.old.sink ≡ sink_at (W.mark sink.old) (W.told sink.old) }
+        ensures { self.new ≡ given self.old (items.Block block.now ∷ []) (sink_at (W.mark sink.new) (W.told sink.new)) }
+    {
+        write_block(block, &mut self.progress, self.layout, sink);
+        self.items = Told::of(&WithBlock {
+            before: &self.items,
+            block,
+        });
+        self.sink = Told::of(&Now { sink: &*sink });
+    }
+
+    /// Takes the ending of a table. If the table is refused, its fault is appended to `faults`, which must
+    /// have room for it, and nothing more is written.
+    pub fn end_table(&mut self, ending: Ending, faults: &mut Vec<TableFault>)
+        requires { vec_len faults.old < vec_capacity faults.old }
+        ensures items { self.new ≡ given self.old (items.Ending ending ∷ []) self.old.sink }
+        ensures faults { faults.new.items ≡ faults.old.items ++ refusals (items.Ending ending ∷ []) }
+        ensures count { vec_len faults.new ≤ vec_len faults.old + 1 }
+        ensures room { vec_capacity faults.new ≡ vec_capacity faults.old }
+    {
+        note_ending(ending, &mut self.progress, faults);
+        self.items = Told::of(&WithEnding {
+            before: &self.items,
+            ending,
+        });
+    }
+
+    /// The first write fault. Without one, the text of the items so far is written; with one, a beginning
+    /// of it is.
+    pub fn fault(&self) -> Option<WriteFault>
+        ensures written { IfNone result (IsWritten self.now) }
+        ensures broken { IfSome result (λ fault. IsBroken self.now fault) }
+    {
+        match self.progress.standing {
+            Standing::Broken(fault) => Some(fault),
+            Standing::Open => None,
+            Standing::Refused => None,
+        }
+    }
+
+    /// Ends the document: writes the tail if no table was refused and no write failed.
+    pub fn finish<W: Sink>(self, sink: &mut W) -> MergeEnd
+        requires { self.sink ≡ sink_at (W.mark sink.old) (W.told sink.old) }
+        ensures { EndsWith self.before (sink_at (W.mark sink.new) (W.told sink.new)) (whole_text self) (refusals self.items) result }
+    {
+        match self.progress.standing {
+            Standing::Open => match write_all_of(sink, tail(self.layout)) {
+                Ok(()) => MergeEnd::Complete,
+                Err(fault) => MergeEnd::Write(fault),
+            },
+            Standing::Refused => MergeEnd::Refused,
+            Standing::Broken(fault) => MergeEnd::Write(fault),
+        }
+    }
+}
+
+/// Writes the head.
+fn write_head<W: Sink>(head: &[u8], sink: &mut W) -> Progress
+    ensures { Begins head.now (sink_at (W.mark sink.old) (W.told sink.old)) (sink_at (W.mark sink.new) (W.told sink.new)) result }
+{
+    let standing = match write_all_of(sink, head) {
+        Ok(()) => Standing::Open,
+        Err(fault) => Standing::Broken(fault),
+    };
+    Progress {
+        standing,
+        any: false,
+    }
+}
+
+/// Writes a block if the document is still being written. A block has at least one fact.
+fn write_block<W: Sink>(block: &Block, progress: &mut Progress, layout: Layout, sink: &mut W)
+    ensures { Advances progress.old progress.new layout (sink_at (W.mark sink.old) (W.told sink.old)) (sink_at (W.mark sink.new) (W.told sink.new)) (items.Block block.now ∷ []) }
+{
+    let any = block.count() > 0;
+    match progress.standing {
+        Standing::Open => match write_members(sink, layout, progress.any, block) {
+            Ok(()) => progress.any = any,
+            Err(fault) => progress.standing = Standing::Broken(fault),
+        },
+        Standing::Refused => {}
+        Standing::Broken(_) => {}
+    }
+}
+
+/// Notes how a table ends: if it is refused, its fault, and that the document is not written further.
+fn note_ending(ending: Ending, progress: &mut Progress, faults: &mut Vec<TableFault>)
+    requires { vec_len faults.old < vec_capacity faults.old }
+    ensures faults { faults.new.items ≡ faults.old.items ++ refusals (items.Ending ending ∷ []) }
+    ensures count { vec_len faults.new ≤ vec_len faults.old + 1 }
+    ensures room { vec_capacity faults.new ≡ vec_capacity faults.old }
+    ensures advances { (layout : Layout) (sink : SinkView) → Advances progress.old progress.new layout sink sink (items.Ending ending ∷ []) }
+{
+    match ending {
+        Ending::Closed => {}
+        Ending::Refused(fault) => {
+            faults.push_reserved(fault);
+            match progress.standing {
+                Standing::Open => progress.standing = Standing::Refused,
+                Standing::Refused => {}
+                Standing::Broken(_) => {}
+            }
+        }
+    }
+}
