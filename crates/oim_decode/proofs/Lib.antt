@@ -25,4 +25,3 @@ mod ExamplesFacts
 mod ExamplesRows
 mod ExamplesRuns
 mod ExamplesSlots
-mod LevelLaws

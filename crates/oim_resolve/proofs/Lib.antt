@@ -9,4 +9,3 @@ pub mod Overrides
 pub mod Puts
 pub mod RowFacts
 mod Examples
-pub mod LevelOrder
