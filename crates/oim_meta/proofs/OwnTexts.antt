@@ -1,6 +1,6 @@
 -- One text under two names: a search through the texts seen before finds it exactly where some name has the text of another.
 use Rattle.std.proofs.Common.{◌≡◌, ◌∙◌, ◌++◌, ℕ, List, [], ◌∷◌, Bool, true, false, not, ◌||◌, ◌&&◌, Less, refl, sym, ap, bytes_eq, nat_cmp, if◌then◌else◌}
-use Rattle.std.specs.Prelude.{⊤, is_some, Option, Some, None}
+use Rattle.std.specs.Prelude.{⊤, is_some, Some, None}
 use Rattle.std.specs.Bool.{Decides}
 use Rattle.std.specs.List.{AllByRecursion}
 use Rattle.std.specs.List.Sorted.{IsStrictlySortedBy}
@@ -8,7 +8,6 @@ use Rattle.std.specs.Ordering.{is_eq}
 use Rattle.std.specs.Cmp.Lexicographic.{slice_cmp}
 use Rattle.std.proofs.lemmas.Slice.Eq.{bytes_eq-Decides}
 use Rattle.std.proofs.lemmas.Map.Text.{is_eq-slice_cmp}
-use Rattle.std.proofs.Math.Bool.{or_assoc}
 use Rattle.serde_json.specs.Data.{Data, Members, no_members, member}
 use Rattle.oim_names.specs.Lookup.{value_at}
 use Rattle.oim_meta.specs.Members.{text_of, any_member}
