@@ -39,6 +39,7 @@ lines_of_program() {
 sources_sum() (
     shopt -s globstar nullglob dotglob
     set -o pipefail
+    export LC_ALL=C
     lines=$(lines_of_program "$1") && cd -- "$1" || exit
     files=(HANDLES)
     while read -r line; do
@@ -46,7 +47,7 @@ sources_sum() (
             [[ -d $path ]] || files+=("$path")
         done
     done <<<"$lines"
-    sums=$(sha256sum -- "${files[@]}" | LC_ALL=C sort -k 2) || exit
+    sums=$(sha256sum -- "${files[@]}" | sort -k 2) || exit
     printf '%s\n' "$lines" "$sums" | sha256sum | cut -d' ' -f1
 )
 
