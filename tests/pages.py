@@ -216,7 +216,7 @@ def main(program: str) -> int:
     """The status."""
     printed = [subprocess.run([program, word], capture_output=True, text=True, stdin=subprocess.DEVNULL).stdout for word in ("--help", "--version")]
     said = help_in(printed[0])
-    found = re.fullmatch(r"xbrl-json (\d+\.\d+\.\d+) \((rattle-kit-\w+ logic [0-9a-f]{16})\)\n", printed[1])
+    found = re.fullmatch(r"xbrl-json (\d+\.\d+\.\d+) \(proved with (rattle-kit-\w+ logic [0-9a-f]{16})\)\n", printed[1])
     case("--version has the version and the kit's line", found is not None, printed[1])
     version = found.group(1) if found else printed[1].split()[1]
     changes = re.findall(r"^## ([\d.]+)", (TOP / "CHANGELOG.md").read_text(), re.M)
