@@ -88,17 +88,17 @@ shipped_note=dist/SOURCES
 
 # is_built_of TOP SUM: whether the program that was proved here is of the sources of this sum.
 is_built_of() {
-    is_noted "$1/$built" program "$1/$built_note" && [[ $(noted "$1/$built_note" sources) == "$2" ]]
-}
-
-# is_shipped_of TOP SUM: whether the program that is shipped is of the sources of this sum.
-is_shipped_of() {
-    is_noted "$1/$shipped" xbrl-json "$1/$shipped_note" && [[ $(noted "$1/$shipped_note" sources) == "$2" ]]
+    [[ -n $2 ]] && is_noted "$1/$built" program "$1/$built_note" && [[ $(noted "$1/$built_note" sources) == "$2" ]]
 }
 
 # is_shipped_whole TOP: whether what is shipped is as it was made.
 is_shipped_whole() {
     is_noted "$1/$shipped" xbrl-json "$1/$shipped_note"
+}
+
+# is_shipped_of TOP SUM: whether the program that is shipped is of the sources of this sum.
+is_shipped_of() {
+    [[ -n $2 ]] && is_shipped_whole "$1" && [[ $(noted "$1/$shipped_note" sources) == "$2" ]]
 }
 
 # note_built TOP SUM: notes that the program of TOP was proved and built from the sources of this sum.

@@ -19,24 +19,14 @@ import tempfile
 from pathlib import Path
 from typing import Dict, List, NamedTuple
 
+from cases import case, told
+
 TOP = Path(__file__).resolve().parent.parent
 FOLDER = TOP / "dist/completions"
 BASH = """. xbrl-json.bash
 complete -p xbrl-json >/dev/null || exit
 cd -- "$1"; shift; COMP_WORDS=("$@"); COMP_CWORD=$(($# - 1)); _xbrl_json; printf '%s\\n' "${COMPREPLY[@]}"
 """
-
-failed: List[str] = []
-count = 0
-
-
-def case(name: str, holds: bool, *seen: object) -> None:
-    """Counts a case, with what was seen where it does not hold."""
-    global count
-    count += 1
-    if not holds:
-        failed.append(name)
-        print(f"FAILED {name}: {' | '.join(map(str, seen))}"[:1000])
 
 
 class Option(NamedTuple):
@@ -229,8 +219,7 @@ def main(program: str) -> int:
             (folder / file).touch()
         for part in (for_bash, for_fish, for_zsh):
             part(said, folder)
-    print(f"what describes the words: {count - len(failed)} as they must be, {len(failed)} not")
-    return 1 if failed else 0
+    return told("what describes the words")
 
 
 if __name__ == "__main__":

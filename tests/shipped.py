@@ -16,9 +16,10 @@ import sys
 import tempfile
 import time
 from pathlib import Path
-from typing import Iterator, List, NamedTuple, Sequence
+from typing import Iterator, NamedTuple, Sequence
 
 import dist
+from cases import case, told
 
 TOP = Path(__file__).resolve().parent.parent
 COREUTILS = "cat chmod cp cut dirname env head mkdir mktemp mv readlink rm sha256sum sort tail tee wc".split()
@@ -30,7 +31,7 @@ case $1 in
 version) echo "a made-up kit" ;;
 doc) echo "${0%/*}/page" ;;
 ci)
-    [[ -z $RT_FAILS ]] || { echo "rt: it is not so"; exit 1; }
+    [[ -z $RT_FAILS ]] || { echo "rt: told NOT PROVED"; exit 1; }
     cp crates.txt "${0%/*}/seen" && shopt -s globstar && printf '%s\\n' crates/*/* >"${0%/*}/files"
     while read -r line; do echo "== ${line%%[ :]*}"; echo "rt: ${line%%[ :]*} proved"; done <crates.txt
     mkdir crates/xbrl_json_cli/out && printf '#!/bin/bash\\necho "proved by a made-up kit"\\n' >crates/xbrl_json_cli/out/xbrl_json_cli
@@ -39,9 +40,6 @@ esac
 """
 STRIP = '#!/bin/bash\ncp "$4" "$3"\n'
 
-failed: List[str] = []
-count = 0
-
 
 class Ran(NamedTuple):
     """How a run ended."""
@@ -49,15 +47,6 @@ class Ran(NamedTuple):
     status: int
     out: bytes
     err: str
-
-
-def case(name: str, holds: bool, *seen: object) -> None:
-    """Counts a case, with what was seen where it does not hold."""
-    global count
-    count += 1
-    if not holds:
-        failed.append(name)
-        print(f"FAILED {name}: {' | '.join(map(str, seen))}"[:1000])
 
 
 class Copy:
@@ -275,7 +264,7 @@ def proving(copy: Copy) -> None:
     seen = copy.run(["./xbrl-json", "--prove"], kit=True, RT_FAILS="1")
     case("--prove that fails", seen.status == 3 and "not proved; what the prover said is in " in seen.err and not (copy.top / BUILT).exists(), seen)
     log = Path(seen.err.split()[-1])
-    case("--prove that fails keeps what was said", log.exists() and "it is not so" in log.read_text(), log)
+    case("--prove that fails keeps what was said", log.exists() and "rt: told NOT PROVED" in log.read_text() and "xbrl-json: told NOT PROVED\n" in seen.err, log)
     with longer(copy, "crates/told/must-fail/a.edit"), longer(copy, "crates/told/audit/a.edit"):
         seen = copy.run(["./xbrl-json", "--prove"], kit=True)
     crates = [line.split()[0].rstrip(":") for line in (copy.kit / "seen").read_text().splitlines()]
@@ -288,7 +277,7 @@ def proving(copy: Copy) -> None:
     case("what was proved runs", seen == (0, b"proved by a made-up kit\n", ""), seen)
     seen = copy.run(["./xbrl-json", "--prove", "more"], kit=True)
     case("--prove stands alone", seen.status == 2 and "stands alone" in seen.err, seen)
-    case("nothing is left behind", not list(copy.top.parent.glob("xbrl-json-*/")), list(copy.top.parent.iterdir()))
+    case("nothing is left behind", not [it for it in copy.top.parent.glob("xbrl-json-*") if it.is_dir()], list(copy.top.parent.iterdir()))
     shutil.rmtree((copy.top / BUILT).parent)
 
 
@@ -338,8 +327,7 @@ def main(program: Path) -> int:
             part(copy)
         copy.ship(program)
         counting(copy)
-    print(f"the program that is shipped: {count - len(failed)} as they must be, {len(failed)} not")
-    return 1 if failed else 0
+    return told("the program that is shipped")
 
 
 if __name__ == "__main__":
