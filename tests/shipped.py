@@ -233,7 +233,7 @@ def a_program_proved_here(copy: Copy) -> None:
 
 def a_gate(copy: Copy) -> None:
     """tests/dist.py with a kit: it fills dist/, and fails where the program that was proved here is another."""
-    for name, it in ((SHIPPED, b""), (SOURCES, b"")):
+    for name in (SHIPPED, SOURCES):
         (copy.top / name).unlink()
     seen = copy.check(kit=True)
     case("nothing is shipped: check", seen.status == 0 and b"no dist/xbrl-json yet" in seen.out, seen)
@@ -251,6 +251,10 @@ def a_gate(copy: Copy) -> None:
     case("fill", seen.status == 0 and (copy.top / SHIPPED).read_bytes() == (copy.top / BUILT).read_bytes(), seen)
     seen = copy.check("--strict", kit=True)
     case("check --strict of what was filled", seen.status == 0 and b"byte for byte" in seen.out, seen)
+    dist.write(copy.top, copy.top / BUILT, copy.sum(), KIT, lambda built, to: to.write_bytes(built.read_bytes() + b"\n"))
+    seen = copy.check(kit=True)
+    case("something else was shipped, with sums that fit", seen.status == 1 and b"has other bytes" in seen.out, seen)
+    copy.run(fill, False, True)
     copy.build(f"#!/bin/bash\necho  'xbrl-json 9 ({KIT})'\n")
     seen = copy.check(kit=True)
     case("another program was proved here", seen.status == 1 and b"has other bytes" in seen.out, seen)
