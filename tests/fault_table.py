@@ -39,7 +39,7 @@ def main():
     wrong += [f"twice: {it}" for it in sorted({it for it in rows if rows.count(it) > 1})]
     for it in wrong:
         print(it)
-    print(f"docs/FAULTS.md: {len(rows)} faults, {len(sources)} in the sources, {len(wrong)} differences")
+    print(f"docs/FAULTS.md: {len(sources & set(rows))} as they must be, {len(wrong)} not")
     sys.exit(1 if wrong or not sources else 0)
 
 
