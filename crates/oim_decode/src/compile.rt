@@ -1,10 +1,11 @@
 //! A column under the groups that a row names, made ready.
 
-ghost use Rattle.std.specs.Prelude.{◌≡◌, ◌<◌, ◌++◌, List, ℕ, Some, codes, length, map, reverse, IfOk, OnOk};
+ghost use Rattle.std.specs.Prelude.{◌≡◌, ◌<◌, ◌++◌, List, ℕ, Some, codes, length, map, reverse, IfOk, IfSome, OnOk};
 ghost use Rattle.std.specs.List.{All, slice_get, flat_map};
 ghost use Rattle.std.specs.Option.{option_map, option_to_list};
 ghost use Rattle.csv.specs.Records.{fields_of};
 ghost use Rattle.oim_cells.specs.Cells.{meaning_of};
+ghost use Rattle.oim_meta.specs.InOrder.{LevelRises};
 ghost use Rattle.oim_meta.specs.Readers.{column_of, columns_of};
 ghost use Rattle.oim_resolve.specs.Written.{group_named, written, written_decimals, names};
 ghost use Rattle.oim_rows.specs.RowFacts.{field_or_empty};
@@ -29,6 +30,7 @@ use oim_resolve::levels;
 use std::alloc::{AllocError, Global};
 
 /// The group that the row names in a column of groups.
+#[tactic(auto, using(crate::proofs::LevelLaws::group_in_rises))]
 fn named_group<'a>(
     report: &'a Report,
     group: (usize, Option<usize>),
@@ -36,8 +38,10 @@ fn named_group<'a>(
 ) -> Option<&'a Level>
     requires report { report.now ≡ (at.now).report.now }
     requires place { group.0 < length (columns_of report.now (at.now).table) }
-    ensures { option_map (λ l. l.now) result ≡ group_in report.now (at.now).table (fields_of (at.now).record.now) group }
+    ensures group { option_map (λ l. l.now) result ≡ group_in report.now (at.now).table (fields_of (at.now).record.now) group }
+    ensures rises { IfSome result (λ l. LevelRises l.now) }
 {
+    report.stands_in_order();
     let table = at.table;
     match meaning(at.text_at(group.1)) {
         CellMeaning::Text(name) => report.group(table, group.0, name),
@@ -56,9 +60,11 @@ pub(crate) fn levels_of<'a>(
     requires report { report.now ≡ (at.now).report.now }
     requires column { column < length (columns_of report.now (at.now).table) }
     requires groups { All (λ g. g.0 < length (columns_of report.now (at.now).table)) groups.now }
-    ensures { IfOk result (λ v. held v.items ≡ reverse (levels_by report.now (at.now).table column
+    ensures levels { IfOk result (λ v. held v.items ≡ reverse (levels_by report.now (at.now).table column
         (flat_map (λ g. option_to_list (group_in report.now (at.now).table (fields_of (at.now).record.now) g)) groups.now))) }
+    ensures rises { IfOk result (λ v. All (λ l. LevelRises l.now) v.items) }
 {
+    report.stands_in_order();
     let mut levels = Vec::new(alloc);
     levels.push(&report.column(at.table, column).level)?;
     for group in groups {
@@ -82,6 +88,7 @@ fn push_entry<'a>(
     value: &mut Page,
     entries: &mut Vec<ReadyEntry<'a>>,
 ) -> Result<(), AllocError>
+    requires rises { All (λ l. LevelRises l.now) levels.now }
     requires report { report.now ≡ (at.now).report.now }
     requires fresh { All (IsFresh report.now (at.now).number (fields_of (at.now).record.now)) slots.old.items }
     requires slots { All (HasSlot report.now (at.now).table (at.now).header.now (map wanted_of slots.old.items)) entries.old.items }
@@ -108,6 +115,7 @@ pub(crate) fn entries_of<'a>(
     at: &RowAt<'_>,
     slots: &mut Vec<Slot<'a>>,
 ) -> Result<Vec<ReadyEntry<'a>>, AllocError>
+    requires rises { All (λ l. LevelRises l.now) levels.now }
     requires report { report.now ≡ (at.now).report.now }
     requires fresh { All (IsFresh report.now (at.now).number (fields_of (at.now).record.now)) slots.old.items }
     ensures entries { IfOk result (λ v. map written_of v.items ≡ written_entries (reverse (held levels.now))) }
@@ -141,6 +149,7 @@ pub(crate) fn concept_of<'a>(
     at: &RowAt<'_>,
     slots: &mut Vec<Slot<'a>>,
 ) -> Result<Option<ReadyEntry<'a>>, AllocError>
+    requires rises { All (λ l. LevelRises l.now) levels.now }
     requires report { report.now ≡ (at.now).report.now }
     requires fresh { All (IsFresh report.now (at.now).number (fields_of (at.now).record.now)) slots.old.items }
     ensures concept { IfOk result (λ o. option_map written_of o ≡ option_map (λ x. (codes "concept", x)) (written (reverse (held levels.now)) (codes "concept"))) }
