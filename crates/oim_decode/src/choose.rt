@@ -40,6 +40,7 @@ fn levels_in<'a>(
     ensures levels { IfOk result (λ v. reverse (held v.items) ≡ levels_under report.now (at.now).table (at.now).header.now column (group_texts (fields_of (at.now).record.now) groups.now)) }
     ensures rises { IfOk result (λ v. All (λ l. LevelRises l.now) v.items) }
 {
+    report.stands_in_order();
     let levels = levels_of(alloc, report, column, groups, at)?;
     Ok(levels)
 }

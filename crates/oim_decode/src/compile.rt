@@ -1,6 +1,6 @@
 //! A column under the groups that a row names, made ready.
 
-ghost use Rattle.std.specs.Prelude.{◌≡◌, ◌<◌, ◌++◌, List, ℕ, Some, codes, length, map, reverse, IfOk, IfSome, OnOk};
+ghost use Rattle.std.specs.Prelude.{◌≡◌, ◌<◌, ◌++◌, List, ℕ, Some, codes, length, map, reverse, IfOk, OnOk};
 ghost use Rattle.std.specs.List.{All, slice_get, flat_map};
 ghost use Rattle.std.specs.Option.{option_map, option_to_list};
 ghost use Rattle.csv.specs.Records.{fields_of};
@@ -30,7 +30,6 @@ use oim_resolve::levels;
 use std::alloc::{AllocError, Global};
 
 /// The group that the row names in a column of groups.
-#[tactic(auto, using(crate::proofs::LevelLaws::group_in_rises))]
 fn named_group<'a>(
     report: &'a Report,
     group: (usize, Option<usize>),
@@ -38,10 +37,8 @@ fn named_group<'a>(
 ) -> Option<&'a Level>
     requires report { report.now ≡ (at.now).report.now }
     requires place { group.0 < length (columns_of report.now (at.now).table) }
-    ensures group { option_map (λ l. l.now) result ≡ group_in report.now (at.now).table (fields_of (at.now).record.now) group }
-    ensures rises { IfSome result (λ l. LevelRises l.now) }
+    ensures { option_map (λ l. l.now) result ≡ group_in report.now (at.now).table (fields_of (at.now).record.now) group }
 {
-    report.stands_in_order();
     let table = at.table;
     match meaning(at.text_at(group.1)) {
         CellMeaning::Text(name) => report.group(table, group.0, name),
@@ -60,11 +57,9 @@ pub(crate) fn levels_of<'a>(
     requires report { report.now ≡ (at.now).report.now }
     requires column { column < length (columns_of report.now (at.now).table) }
     requires groups { All (λ g. g.0 < length (columns_of report.now (at.now).table)) groups.now }
-    ensures levels { IfOk result (λ v. held v.items ≡ reverse (levels_by report.now (at.now).table column
+    ensures { IfOk result (λ v. held v.items ≡ reverse (levels_by report.now (at.now).table column
         (flat_map (λ g. option_to_list (group_in report.now (at.now).table (fields_of (at.now).record.now) g)) groups.now))) }
-    ensures rises { IfOk result (λ v. All (λ l. LevelRises l.now) v.items) }
 {
-    report.stands_in_order();
     let mut levels = Vec::new(alloc);
     levels.push(&report.column(at.table, column).level)?;
     for group in groups {
