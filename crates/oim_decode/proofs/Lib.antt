@@ -25,3 +25,4 @@ mod ExamplesFacts
 mod ExamplesRows
 mod ExamplesRuns
 mod ExamplesSlots
+mod LevelLaws

@@ -3,6 +3,7 @@
 ghost use Rattle.std.specs.Prelude.{◌≡◌, ◌<◌, ◌++◌, ◌⊎◌, [], List, ℕ, None, Some, true, length, map, reverse, IfOk, OnOk};
 ghost use Rattle.std.specs.List.{All, slice_get};
 ghost use Rattle.csv.specs.Records.{fields_of};
+ghost use Rattle.oim_meta.specs.InOrder.{LevelRises};
 ghost use Rattle.oim_meta.specs.Readers.{columns_of};
 ghost use Rattle.oim_rows.specs.RowFacts.{field_or_empty};
 ghost use Rattle.oim_decode.specs.Facts.{groups_wrong};
@@ -36,8 +37,10 @@ fn levels_in<'a>(
     requires column { column < length (columns_of report.now (at.now).table) }
     requires groups { groups.now ≡ group_places report.now (at.now).table (at.now).header.now column }
     requires places { All (λ g. g.0 < length (columns_of report.now (at.now).table)) groups.now }
-    ensures { IfOk result (λ v. reverse (held v.items) ≡ levels_under report.now (at.now).table (at.now).header.now column (group_texts (fields_of (at.now).record.now) groups.now)) }
+    ensures levels { IfOk result (λ v. reverse (held v.items) ≡ levels_under report.now (at.now).table (at.now).header.now column (group_texts (fields_of (at.now).record.now) groups.now)) }
+    ensures rises { IfOk result (λ v. All (λ l. LevelRises l.now) v.items) }
 {
+    report.stands_in_order();
     let levels = levels_of(alloc, report, column, groups, at)?;
     Ok(levels)
 }

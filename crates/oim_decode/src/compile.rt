@@ -5,6 +5,7 @@ ghost use Rattle.std.specs.List.{All, slice_get, flat_map};
 ghost use Rattle.std.specs.Option.{option_map, option_to_list};
 ghost use Rattle.csv.specs.Records.{fields_of};
 ghost use Rattle.oim_cells.specs.Cells.{meaning_of};
+ghost use Rattle.oim_meta.specs.InOrder.{LevelRises};
 ghost use Rattle.oim_meta.specs.Readers.{column_of, columns_of};
 ghost use Rattle.oim_resolve.specs.Written.{group_named, written, written_decimals, names};
 ghost use Rattle.oim_rows.specs.RowFacts.{field_or_empty};
@@ -82,6 +83,7 @@ fn push_entry<'a>(
     value: &mut Page,
     entries: &mut Vec<ReadyEntry<'a>>,
 ) -> Result<(), AllocError>
+    requires rises { All (λ l. LevelRises l.now) levels.now }
     requires report { report.now ≡ (at.now).report.now }
     requires fresh { All (IsFresh report.now (at.now).number (fields_of (at.now).record.now)) slots.old.items }
     requires slots { All (HasSlot report.now (at.now).table (at.now).header.now (map wanted_of slots.old.items)) entries.old.items }
@@ -108,6 +110,7 @@ pub(crate) fn entries_of<'a>(
     at: &RowAt<'_>,
     slots: &mut Vec<Slot<'a>>,
 ) -> Result<Vec<ReadyEntry<'a>>, AllocError>
+    requires rises { All (λ l. LevelRises l.now) levels.now }
     requires report { report.now ≡ (at.now).report.now }
     requires fresh { All (IsFresh report.now (at.now).number (fields_of (at.now).record.now)) slots.old.items }
     ensures entries { IfOk result (λ v. map written_of v.items ≡ written_entries (reverse (held levels.now))) }
@@ -141,6 +144,7 @@ pub(crate) fn concept_of<'a>(
     at: &RowAt<'_>,
     slots: &mut Vec<Slot<'a>>,
 ) -> Result<Option<ReadyEntry<'a>>, AllocError>
+    requires rises { All (λ l. LevelRises l.now) levels.now }
     requires report { report.now ≡ (at.now).report.now }
     requires fresh { All (IsFresh report.now (at.now).number (fields_of (at.now).record.now)) slots.old.items }
     ensures concept { IfOk result (λ o. option_map written_of o ≡ option_map (λ x. (codes "concept", x)) (written (reverse (held levels.now)) (codes "concept"))) }

@@ -9,3 +9,4 @@ pub mod Overrides
 pub mod Puts
 pub mod RowFacts
 mod Examples
+pub mod LevelOrder

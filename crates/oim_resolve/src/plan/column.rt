@@ -1,6 +1,7 @@
 //! A column, made ready for the rows.
 
 ghost use Rattle.std.specs.Prelude.{◌≡◌, ◌<◌, map, length, IfOk};
+ghost use Rattle.oim_meta.specs.InOrder.{LevelRises};
 ghost use Rattle.oim_meta.specs.Readers.{columns_of};
 ghost use Rattle.oim_resolve.specs.ProgramPlan.{IsPlanned, planned_column, planned_levels, seen_keyed};
 
@@ -29,7 +30,9 @@ fn plan_levels<'a>(
     template: &'a Level,
     column: &'a Level,
 ) -> Result<Vec<PlannedDimension<'a>>, AllocError>
-    requires { table < length report.now.tables }
+    requires table { table < length report.now.tables }
+    requires general { LevelRises general.now }
+    requires template { LevelRises template.now }
     ensures { IfOk result (λ v. map seen_keyed v.items ≡ planned_levels report.now table general.now template.now column.now) }
 {
     let both = [template, general];
@@ -46,6 +49,7 @@ fn plan_levels<'a>(
 }
 
 /// The merged dimensions of a column.
+#[tactic(auto, using(crate::proofs::LevelOrder::report_rises, crate::proofs::LevelOrder::template_rises))]
 fn plan_dimensions(
     alloc: Global,
     report: &Report,
@@ -56,6 +60,7 @@ fn plan_dimensions(
     requires column { column < length (columns_of report.now table) }
     ensures { IfOk result (λ v. map seen_keyed v.items ≡ planned_column report.now table column) }
 {
+    report.stands_in_order();
     plan_levels(
         alloc,
         report,

@@ -1,24 +1,26 @@
 //! What several levels write: names, dimensions and decimals.
 
 ghost use Rattle.std.specs.Prelude.{◌≡◌, ◌∷◌, ◌++◌, [], map, reverse, IfOk, OnOk};
-ghost use Rattle.std.specs.List.{fold};
+ghost use Rattle.std.specs.List.{All, fold};
 ghost use Rattle.std.specs.Option.{option_map};
+ghost use Rattle.oim_meta.specs.InOrder.{LevelRises};
 ghost use Rattle.oim_resolve.specs.Order.{IsAscending};
 ghost use Rattle.oim_resolve.specs.ProgramCell.{held};
 ghost use Rattle.oim_resolve.specs.Written.{written, written_decimals, put_name, names};
 
 use oim_meta::{Level, Written, WrittenDecimals};
-use oim_names::find;
+use oim_names::find_in_order;
 use std::alloc::{AllocError, Global};
 
 /// What is written for a dimension, by the first level that writes it: the levels stand from the most
 /// specific to the most general. (xBRL-CSV 1.0, dimensions and property groups)
 #[tactic(auto, using(crate::proofs::Overrides::written_reversed))]
 pub fn written<'a>(levels: &[&'a Level], name: &str) -> Option<&'a Written>
+    requires { All (λ l. LevelRises l.now) levels.now }
     ensures { option_map (λ w. w.now) result ≡ written (reverse (held levels.now)) name.now }
 {
     for level in levels {
-        if let Some(value) = find(level.dimensions.as_slice(), name) {
+        if let Some(value) = find_in_order(level.dimensions.as_slice(), name) {
             return Some(value);
         }
     }

@@ -22,7 +22,7 @@ returns-clause-variant c =
     let t = c.args.at.now.table in
     let h = c.args.at.now.header.now in
     let k = c.args.column in
-    let under : reverse (held c.in_ok-levels.levels.items) ≡ levels_under r t h k c.in_ok-texts.texts.items = c.in_ok-levels.ensures ∙ ap (levels_under r t h k) (sym c.in_ok-texts.ensures) in
+    let under : reverse (held c.in_ok-levels.levels.items) ≡ levels_under r t h k c.in_ok-texts.texts.items = c.in_ok-levels.ensures.levels ∙ ap (levels_under r t h k) (sym c.in_ok-texts.ensures) in
     record {
       entries = c.in_ok-entries.ensures.entries ∙ ap (λ (xs : List (Bor Level)). written_entries (reverse (held xs))) c.as_slice.ensures.value ∙ ap written_entries under;
       slots = have_slots_grow r t h c.entries_of.new.slots.items c.concept_of.new.slots.items c.in_ok-concept.ensures.grown c.in_ok-entries.entries.items c.in_ok-entries.ensures.slots;

@@ -1,4 +1,10 @@
-use Rattle.std.proofs.Common.{ap, ◌∙◌, arith}
+use Rattle.std.proofs.Common.{List, ℕ, ap, sym, subst, ◌∙◌, arith}
+use Rattle.std.specs.Borrow.{Bor}
+use Rattle.std.specs.Map.{keys_of}
+use Rattle.oim_meta.specs.InOrder.{LevelRises}
+use Rattle.oim_meta.specs.Order.{IsRising}
+use Rattle.oim_meta.specs.declared.data.Level.{Level}
+use Rattle.oim_meta.specs.declared.data.Written.{Written}
 use Rattle.oim_names.specs.Lookup.{value_at}
 use Rattle.oim_resolve.proofs.Overrides.{found_written, none_written}
 use Rattle.oim_resolve.proofs.plan.levels.written.Goals as goal
@@ -10,3 +16,8 @@ returns-in-Some c =
 
 pub returns : goal.returns
 returns c = none_written c.args.levels.now c.loop-level.level-index c.args.name.now (omega arith) c.loop-level.invariant
+
+pub find_in_order-requires : goal.find_in_order-requires
+find_in_order-requires c =
+    let rises = subst (λ (l : Bor Level). LevelRises l.now) (sym c.level-item.is) (c.requires c.loop-level.level-index c.level-item.result c.loop-level-test.true) in
+    subst (λ (es : List (List ℕ × Written)). IsRising (keys_of es)) (sym c.as_slice.ensures) rises
