@@ -12,7 +12,7 @@ use oim_names::Items;
 use oim_resolve::Fact;
 use std::alloc::{AllocError, Global};
 use std::marker::Model;
-use told::Told;
+use told::{Tells, Told};
 
 /// The texts of 1 to 256 facts, joined by commas. A contract sees the list of facts; the block itself
 /// keeps only their texts.
@@ -37,15 +37,25 @@ impl Model for Block {
     ghost invariant = { λ b. (b.bytes.items ≡ behind_commas b.facts.value) × (b.ends.items ≡ ends_from 0 b.facts.value) × (1 ≤ length b.facts.value) × (length b.facts.value ≤ 256) };
 }
 
+/// Tells the facts that it lends.
+#[derive(Drop)]
+struct Lent<'a> {
+    facts: &'a [Fact],
+}
+
+impl Tells<Items<Fact>> for Lent<'_> {
+    ghost told = { λ a. a.facts.now };
+}
+
 /// The block of 1 to 256 facts. It fails only if memory runs out.
-pub fn block_of(alloc: Global, facts: &Items<Fact>) -> Result<Block, AllocError>
+pub fn block_of(alloc: Global, facts: &[Fact]) -> Result<Block, AllocError>
     requires some { 1 ≤ length facts.now }
     requires most { length facts.now ≤ 256 }
     ensures { IfOk result (λ b. b ≡ facts.now) }
 {
     let mut bytes = Vec::new(alloc);
     let mut ends = Vec::with_capacity(alloc, facts.len())?;
-    for fact in facts.as_slice() {
+    for fact in facts {
         bytes.push(b',')?;
         push_member(alloc, &mut bytes, fact)?;
         ends.push(bytes.len())?;
@@ -53,7 +63,7 @@ pub fn block_of(alloc: Global, facts: &Items<Fact>) -> Result<Block, AllocError>
     Ok(Block {
         bytes,
         ends,
-        facts: Told::seen(facts),
+        facts: Told::of(&Lent { facts }),
     })
 }
 
