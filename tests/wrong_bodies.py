@@ -260,13 +260,14 @@ def is_reached(crate: str, said: list[str]) -> bool:
     return any(it.startswith(f"fn {crate}::") for it in said)
 
 
-def judge(crate: str, made: Round, said: list[str]) -> dict[Edit, str | None]:
-    """What is said of each edit of a round: its reason, or None."""
+def judge(crate: str, made: Round, said: list[str], before: set[str]) -> dict[Edit, str | None]:
+    """What is said of each edit of a round: its reason, which the check without any edit does not give too, or None."""
     if not is_reached(crate, said):
         if len(made.edits) > 1:
             return dict.fromkeys(made.edits)
         first = next((it for it in said if UNREAD.match(it)), said[-1] if said else "nothing was said")
         raise BadEdit(f"it does not reach the prover: {first[:200]}")
+    said = [it for it in said if it not in before]
     reasons = {edit: reason(crate, places, made.texts, said) for edit, places in made.edits.items()}
     if len(reasons) == 1:
         return {edit: why or lone_reason(crate, said) for edit, why in reasons.items()}
@@ -285,6 +286,7 @@ class Audit:
     def __init__(self, room: Room, crate: str, alone: bool):
         self.room, self.crate, self.alone = room, crate, alone
         self.refused = self.others = 0
+        self.before: set[str] = set()
 
     def tell(self, edit: Edit, why: str | None, otherwise: str = "NOT REFUSED") -> None:
         self.refused += why is not None
@@ -318,6 +320,7 @@ class Audit:
         why = lone_reason(self.crate, said) if is_reached(self.crate, said) else "\n".join(said[-10:])
         if why:
             sys.exit(f"{self.crate} is not proved as it stands, so nothing was tried: {why}")
+        self.before = set(said)
 
     def check(self, texts: Texts) -> list[str]:
         """Checks the crate, and ends the audit where that would first have to prove a library."""
@@ -340,7 +343,7 @@ class Audit:
         """Checks one round, tells what it shows, and gives the edits that showed nothing in company."""
         said = self.check(made.texts)
         try:
-            reasons = judge(self.crate, made, said)
+            reasons = judge(self.crate, made, said, self.before)
         except BadEdit as why:
             self.tell(*made.edits, None, f"BAD EDIT: {why}")
             return []
