@@ -8,7 +8,9 @@ a rule of one line; no run of the program makes it. Each report is converted wit
 in both layouts, and the whole document, standard error and the status are compared. Each case has a line where it fails. The last
 line counts. Python 3.9 or later is needed.
 """
+import json
 import os
+import re
 import subprocess
 import sys
 import tempfile
@@ -719,6 +721,8 @@ def many_rows(folder):
         converts(folder, f"{number} rows and {rest!r}", [cash(f"t1.r_{i}", i) for i in range(1, number + 1)], lines(faults), ways)
 
     rows(1_000, [(workers, ring) for workers in (1, 2, 8) for ring in (1, 2, 999, None, 65_536)])
+    # (391 blocks, so that the threads wait for one another again and again)
+    rows(100_000, [(2, 1), (2, 4), (8, 1)])
     for number in (1, 255, 256, 257, 512, 600):
         rows(number, WAYS)
     for number in (3, 255, 256, 257):
@@ -727,6 +731,37 @@ def many_rows(folder):
         write(folder, {"t1.csv": "cash,note\n" + "".join(f"{i},n\n" for i in range(1, number + 1)) + "1,#foo\n1,n\n"})
         facts = [it for i in range(1, number + 1) for it in (cash(f"t1.r_{i}", i), f"t1.r_{i}.note - Note - n")]
         converts(folder, f"{number} rows of two facts before half a row", facts, lines(f"t1, row {number + 1}, column 2: UnknownSpecial (31)"))
+
+
+def beginnings(file):
+    """Each beginning of a table of one row, whose second cell is quoted, with its facts and faults."""
+    start = b'cash,note\n1,"'
+    for length in range(len(file) + 1):
+        head, quoted = file[: min(length, len(start))], file[len(start) : length]
+        # two quotes stand for one, and a single one ends the cell
+        note = re.sub(rb'"("?)\n?', rb"\1", quoted)
+        if note.endswith(b"\xc3"):
+            yield file[:length], [], "t1, row 1, column 2: NotUtf8 (27)"
+        elif note:
+            value = json.dumps(note.decode(), ensure_ascii=False)[1:-1]
+            yield file[:length], [cash("t1.r_1", 1), f"t1.r_1.note - Note - {value}"], ""
+        elif head == b"":
+            yield head, [], "t1, row 0, column 0: NoHeader (22)"
+        elif head in (b"cash", b"cash,", b"cash,note", b"cash,note\n"):
+            yield head, [], ""
+        elif len(head) < len(b"cash,note"):
+            yield head, [], f"t1, row 0, column {head.count(b',') + 1}: UnknownHeader (23)"
+        elif head.endswith(b"1"):
+            yield head, [], "t1, row 1, column 0: Ragged (26)"
+        else:
+            yield head, [cash("t1.r_1", 1)], ""
+
+
+def each_beginning_of_a_table(folder):
+    write(folder, {"t.csv": TYPES, "m.json": METADATA})
+    for file, facts, faults in beginnings('cash,note\n1,"say ""hi"" \\\n\u00e9\u0001"\n'.encode()):
+        write(folder, {"t1.csv": file})
+        converts(folder, f"the table {file!r}", facts, lines(faults), [(1, 1), (2, 1)])
 
 
 def long_cells(folder):
@@ -784,6 +819,7 @@ PARTS = (
     words_refused,
     early_ends,
     many_rows,
+    each_beginning_of_a_table,
     long_cells,
     wide_rows,
     sixty_four_tables,

@@ -20,17 +20,9 @@ const BLOCKS: u32 = 300;
 
 /// A block of one fact.
 fn block(alloc: Global) -> Result<Block, AllocError> {
-    let mut facts = Items::new(alloc);
-    let fact = Fact::new(
-        Text::from_str(alloc, "t1.r_1.a")?,
-        None,
-        None,
-        Items::new(alloc),
-    );
-    match facts.push(fact) {
-        Ok(()) => block_of(alloc, &facts),
-        Err(_) => Err(AllocError),
-    }
+    let id = Text::from_str(alloc, "t1.r_1.a")?;
+    let fact = Fact::new(id, None, None, Items::new(alloc));
+    block_of(alloc, &[fact])
 }
 
 /// Whether the feed takes a block.

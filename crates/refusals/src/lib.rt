@@ -7,7 +7,7 @@
 
 mod scarcity;
 
-pub use scarcity::{Answer, Call, ROOM, refusals};
+pub use scarcity::{Answer, Call, ROOM, is_refused, refusals};
 
 #[cfg(test)]
 mod tests_blocks;

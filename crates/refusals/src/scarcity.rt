@@ -64,6 +64,14 @@ fn reach_down(place: usize) -> u8 {
     bytes[place % DEEPEST]
 }
 
+/// Whether a call is refused memory at least this often before it has enough.
+pub fn is_refused<C: Call>(alloc: Global, room: usize, least: u32, call: &mut C) -> bool {
+    match refusals(alloc, room, call) {
+        Some(count) => count >= least,
+        None => false,
+    }
+}
+
 /// How often a call is refused memory before it has enough.
 ///
 /// It has 16 more bytes each time, up to `room` bytes, of which at most 1,048,576 count. `None` where it never has

@@ -1,7 +1,7 @@
 //! Reading a table in blocks while memory runs out.
 
 use crate::tests_metadata::report;
-use crate::{Answer, Call, ROOM, refusals};
+use crate::{Answer, Call, ROOM, is_refused};
 use oim_decode::TableBlocks;
 use oim_meta::{Limits, Report};
 use oim_rows::{TableFault, TableKind};
@@ -55,7 +55,13 @@ impl Call for ReadsBlocks<'_> {
 #[test]
 fn blocks_without_memory(rt: HostRuntime) -> Result<(), Fail> {
     let report = report(rt.alloc())?;
-    let refused = refusals(rt.alloc(), 4 * ROOM, &mut ReadsBlocks { report: &report });
-    assert!(rt; refused.is_some_and(|count| count >= 50));
+    assert!(rt;
+        is_refused(
+            rt.alloc(),
+            4 * ROOM,
+            50,
+            &mut ReadsBlocks { report: &report }
+        )
+    );
     Ok(())
 }

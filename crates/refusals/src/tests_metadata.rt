@@ -1,6 +1,6 @@
 //! Reading a report's metadata, types table and parameters file while memory runs out.
 
-use crate::{Answer, Call, ROOM, refusals};
+use crate::{Answer, Call, ROOM, is_refused};
 use oim_meta::{
     Limits, MetaFault, Report, parameter_url, read_parameters, read_report, read_types,
 };
@@ -87,20 +87,17 @@ impl Call for CopiesReport<'_> {
 
 #[test]
 fn a_url_without_memory(rt: HostRuntime) {
-    let refused = refusals(rt.alloc(), ROOM, &mut ReadsUrl);
-    assert!(rt; refused.is_some_and(|count| count >= 20));
+    assert!(rt; is_refused(rt.alloc(), ROOM, 20, &mut ReadsUrl));
 }
 
 #[test]
 fn a_report_without_memory(rt: HostRuntime) {
-    let refused = refusals(rt.alloc(), 4 * ROOM, &mut ReadsReport);
-    assert!(rt; refused.is_some_and(|count| count >= 1_000));
+    assert!(rt; is_refused(rt.alloc(), 4 * ROOM, 1_000, &mut ReadsReport));
 }
 
 #[test]
 fn a_copy_without_memory(rt: HostRuntime) -> Result<(), Fail> {
     let report = report(rt.alloc())?;
-    let refused = refusals(rt.alloc(), ROOM, &mut CopiesReport { report: &report });
-    assert!(rt; refused.is_some_and(|count| count >= 20));
+    assert!(rt; is_refused(rt.alloc(), ROOM, 20, &mut CopiesReport { report: &report }));
     Ok(())
 }

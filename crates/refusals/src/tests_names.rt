@@ -1,6 +1,6 @@
 //! Namespaces and texts while memory runs out, and `add` with ample memory.
 
-use crate::{Answer, Call, ROOM, refusals};
+use crate::{Answer, Call, ROOM, is_refused, refusals};
 use oim_names::{NameFault, Namespaces, Text};
 use std::alloc::Global;
 use std::test::Fail;
@@ -65,8 +65,7 @@ fn add_without_memory(rt: HostRuntime) -> Result<(), Fail> {
     let Ok(names) = example(rt.alloc()) else {
         return Err(Fail::new("no names"));
     };
-    let refused = refusals(rt.alloc(), ROOM, &mut Binds { names });
-    assert!(rt; refused.is_some_and(|count| count >= 3));
+    assert!(rt; is_refused(rt.alloc(), ROOM, 3, &mut Binds { names }));
     Ok(())
 }
 

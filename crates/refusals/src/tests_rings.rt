@@ -1,6 +1,6 @@
 //! Opening rings while memory runs out.
 
-use crate::{Answer, Call, ROOM, refusals};
+use crate::{Answer, Call, ROOM, is_refused};
 use oim_ring::{Lanes, lane};
 use std::alloc::{AllocError, Global};
 use std::test::Fail;
@@ -37,14 +37,12 @@ impl Call for OpensNext {
 
 #[test]
 fn a_ring_without_memory(rt: HostRuntime) {
-    let refused = refusals(rt.alloc(), ROOM, &mut OpensOne);
-    assert!(rt; refused.is_some_and(|count| count >= 3));
+    assert!(rt; is_refused(rt.alloc(), ROOM, 3, &mut OpensOne));
 }
 
 #[test]
 fn a_further_ring_without_memory(rt: HostRuntime) -> Result<(), Fail> {
     let lanes = Lanes::new(rt.alloc(), 4)?;
-    let refused = refusals(rt.alloc(), ROOM, &mut OpensNext { lanes });
-    assert!(rt; refused.is_some_and(|count| count >= 3));
+    assert!(rt; is_refused(rt.alloc(), ROOM, 3, &mut OpensNext { lanes }));
     Ok(())
 }

@@ -1,7 +1,7 @@
 //! The rows of a table, their cells and their texts while memory runs out.
 
 use crate::tests_metadata::report;
-use crate::{Answer, Call, ROOM, refusals};
+use crate::{Answer, Call, ROOM, is_refused};
 use oim_json::{block_of, head, member_of};
 use oim_meta::{Limits, Report};
 use oim_names::Items;
@@ -70,8 +70,7 @@ impl Call for ReadsTable<'_> {
 #[test]
 fn a_table_without_memory(rt: HostRuntime) -> Result<(), Fail> {
     let report = report(rt.alloc())?;
-    let refused = refusals(rt.alloc(), ROOM, &mut ReadsTable { report: &report });
-    assert!(rt; refused.is_some_and(|count| count >= 50));
+    assert!(rt; is_refused(rt.alloc(), ROOM, 50, &mut ReadsTable { report: &report }));
     Ok(())
 }
 
@@ -89,7 +88,7 @@ impl Call for WritesTexts<'_> {
         }
         let is_head = head(alloc, self.report).is_ok();
         let is_member = member_of(alloc, self.facts.get(0)).is_ok();
-        let is_block = block_of(alloc, self.facts).is_ok();
+        let is_block = block_of(alloc, self.facts.as_slice()).is_ok();
         if is_head && is_member && is_block {
             Answer::Enough
         } else {
@@ -120,7 +119,6 @@ fn texts_without_memory(rt: HostRuntime) -> Result<(), Fail> {
         report: &report,
         facts: &facts,
     };
-    let refused = refusals(rt.alloc(), ROOM, &mut call);
-    assert!(rt; refused.is_some_and(|count| count >= 20));
+    assert!(rt; is_refused(rt.alloc(), ROOM, 20, &mut call));
     Ok(())
 }

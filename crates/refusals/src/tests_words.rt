@@ -14,27 +14,29 @@ fn prints<F: Display>(alloc: Global, fault: &F, words: &str) -> Result<bool, All
     Ok(printed.as_str() == words)
 }
 
+/// What each fault of namespaces prints.
+const NAMES: &[(NameFault, &str)] = &[
+    (
+        NameFault::BadPrefix,
+        "the prefix is not a name without a colon",
+    ),
+    (
+        NameFault::Repeated,
+        "the prefix or the URI is already bound",
+    ),
+    (NameFault::Memory, "memory ran out"),
+];
+
 #[test]
 fn faults_of_namespaces_print_sentences(rt: HostRuntime) -> Result<(), Fail> {
-    let faults = [
-        (
-            NameFault::BadPrefix,
-            "the prefix is not a name without a colon",
-        ),
-        (
-            NameFault::Repeated,
-            "the prefix or the URI is already bound",
-        ),
-        (NameFault::Memory, "memory ran out"),
-    ];
-    for (fault, words) in faults.iter() {
+    for (fault, words) in NAMES {
         assert!(rt; prints(rt.alloc(), fault, words)?);
     }
     Ok(())
 }
 
 /// What each fault of a metadata, a parameters file and a types table prints.
-const METADATA: [(MetaFault, &str); 17] = [
+const METADATA: &[(MetaFault, &str)] = &[
     (
         MetaFault::Syntax,
         "the bytes are not well-formed JSON in UTF-8",
@@ -98,14 +100,14 @@ const METADATA: [(MetaFault, &str); 17] = [
 
 #[test]
 fn faults_of_metadata_print_sentences(rt: HostRuntime) -> Result<(), Fail> {
-    for (fault, words) in METADATA.iter() {
+    for (fault, words) in METADATA {
         assert!(rt; prints(rt.alloc(), fault, words)?);
     }
     Ok(())
 }
 
 /// What each fault of a table prints, apart from those of its cells.
-const TABLES: [(TableKind, &str); 14] = [
+const TABLES: &[(TableKind, &str)] = &[
     (
         TableKind::NoFile,
         "a table that is not optional has no file",
@@ -149,29 +151,27 @@ const TABLES: [(TableKind, &str); 14] = [
     (TableKind::NoThread, "no worker could be started"),
 ];
 
+/// A fault with its place, and what it prints.
+const PLACED: TableFault = TableFault {
+    table: 1,
+    row: 2,
+    column: 3,
+    kind: TableKind::Cell(CellFault::BadNumber),
+};
+
+const PLACED_WORDS: &str = "table 1, row 2, column 3: the cell of a number is not a numeral";
+
 #[test]
 fn faults_of_tables_print_sentences(rt: HostRuntime) -> Result<(), Fail> {
-    for (kind, words) in TABLES.iter() {
+    for (kind, words) in TABLES {
         assert!(rt; prints(rt.alloc(), kind, words)?);
     }
-    let fault = TableFault {
-        table: 1,
-        row: 2,
-        column: 3,
-        kind: TableKind::Cell(CellFault::BadNumber),
-    };
-    assert!(rt;
-        prints(
-            rt.alloc(),
-            &fault,
-            "table 1, row 2, column 3: the cell of a number is not a numeral"
-        )?
-    );
+    assert!(rt; prints(rt.alloc(), &PLACED, PLACED_WORDS)?);
     Ok(())
 }
 
 /// What each fault of a cell prints.
-const CELLS: [(CellFault, &str); 12] = [
+const CELLS: &[(CellFault, &str)] = &[
     (
         CellFault::UnknownSpecial,
         "a text begins with # and is not a special value",
@@ -215,7 +215,7 @@ const CELLS: [(CellFault, &str); 12] = [
 
 #[test]
 fn faults_of_cells_print_sentences(rt: HostRuntime) -> Result<(), Fail> {
-    for (fault, words) in CELLS.iter() {
+    for (fault, words) in CELLS {
         assert!(rt; prints(rt.alloc(), fault, words)?);
     }
     Ok(())

@@ -21,8 +21,6 @@ ghost use Rattle.oim_run.specs.Lines.{status_of, words_status};
 mod disk;
 mod output;
 mod progress;
-#[cfg(test)]
-mod tests;
 
 use oim_convert::ConvertFault;
 use oim_run::{Outcome, convert_to, job, line, status};

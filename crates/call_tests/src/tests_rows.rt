@@ -1,22 +1,14 @@
-//! The rows of a table: what they answer after a fault, how often their reader is read, and readers that
-//! are too few or too many.
+//! The rows of a table: what they answer after a fault, and how often their reader is read.
 
-use crate::tests::documents::{report_from, report_of};
-use oim_convert::{ConvertFault, convert_serial};
-use oim_json::{Layout, Marked};
+use crate::report::report_of;
 use oim_meta::{Limits, Report};
 use oim_resolve::CellFault;
 use oim_rows::{Rows, TableFault, TableKind};
-use oim_run::{METADATA, TABLE};
 use std::alloc::Global;
 use std::io;
 use std::io::Read;
 use std::sync::atomic::{AtomicUsize, Ordering};
 use std::test::Fail;
-
-fn gives_a_row(rows: &mut Rows<'_, &[u8]>) -> bool {
-    matches!(&rows.next(), Ok(Some(_)))
-}
 
 /// Whether the rows answer with this fault three times.
 fn keeps_to(rows: &mut Rows<'_, &[u8]>, fault: TableFault) -> bool {
@@ -34,22 +26,23 @@ fn answers_again(alloc: Global, report: &Report, table: &[u8], fault: TableFault
         return false;
     }
     match Rows::open(alloc, report, 0, table, Limits::profile()) {
-        Ok(mut rows) => gives_a_row(&mut rows) && keeps_to(&mut rows, fault),
+        Ok(mut rows) => matches!(&rows.next(), Ok(Some(_))) && keeps_to(&mut rows, fault),
         Err(_) => false,
     }
 }
 
+/// The fault of the second row.
+const FAULT: TableFault = TableFault {
+    table: 0,
+    row: 2,
+    column: 1,
+    kind: TableKind::Cell(CellFault::BadNumber),
+};
+
 #[test]
 fn the_same_fault_again(rt: HostRuntime) -> Result<(), Fail> {
-    let report = report_from(rt.alloc(), METADATA)?;
-    let fault = TableFault {
-        table: 0,
-        row: 2,
-        column: 1,
-        kind: TableKind::Cell(CellFault::BadNumber),
-    };
-    let again = answers_again(rt.alloc(), &report, b"cash\n1\nx\n2\n".as_slice(), fault);
-    assert!(rt; again);
+    let report = report_of(rt.alloc(), &[])?;
+    assert!(rt; answers_again(rt.alloc(), &report, b"cash\n1\nx\n2\n", FAULT));
     Ok(())
 }
 
@@ -82,11 +75,21 @@ fn rows_before_end<R: Read + Drop>(rows: &mut Rows<'_, R>) -> usize {
     4
 }
 
+/// A table, whether its reader fails at its end, and the number of its rows.
+type Case<'a> = (&'a [u8], bool, usize);
+
+const CASES: &[Case<'static>] = &[
+    (b"cash\n1\n2\n", false, 2),
+    (b"cash\n1\nx\n2\n", false, 1),
+    (b"cash\n1\n2\n", true, 2),
+];
+
 /// Whether a table gives this many rows, and nothing is read after that.
-fn stops_reading(alloc: Global, report: &Report, bytes: &[u8], fails: bool, count: usize) -> bool {
+fn stops_reading(alloc: Global, report: &Report, case: &Case<'_>) -> bool {
     if report.tables() == 0 {
         return false;
     }
+    let (bytes, fails, count) = *case;
     let reads = AtomicUsize::new(0);
     let reader = Counted {
         bytes,
@@ -105,42 +108,8 @@ fn stops_reading(alloc: Global, report: &Report, bytes: &[u8], fails: bool, coun
 #[test]
 fn nothing_is_read_after_the_end(rt: HostRuntime) -> Result<(), Fail> {
     let report = report_of(rt.alloc(), &[])?;
-    for (bytes, fails, count) in [
-        (b"cash\n1\n2\n".as_slice(), false, 2),
-        (b"cash\n1\nx\n2\n".as_slice(), false, 1),
-        (b"cash\n1\n2\n".as_slice(), true, 2),
-    ] {
-        let stops = stops_reading(rt.alloc(), &report, bytes, fails, count);
-        assert!(rt; stops, "behind {count} rows");
-    }
-    Ok(())
-}
-
-fn readers<'a>(alloc: Global, tables: &[Option<&'a [u8]>]) -> Result<Vec<Option<&'a [u8]>>, Fail> {
-    let mut readers = Vec::new(alloc);
-    for table in tables {
-        readers.push(*table)?;
-    }
-    Ok(readers)
-}
-
-#[test]
-fn other_numbers_of_readers(rt: HostRuntime) -> Result<(), Fail> {
-    let alloc = rt.alloc();
-    let report = report_from(alloc, METADATA)?;
-    for tables in [[].as_slice(), [Some(TABLE.as_bytes()), None].as_slice()] {
-        let mut document = Vec::new(alloc);
-        let sink = &mut Marked::new(&mut document);
-        let answer = convert_serial(
-            alloc,
-            &report,
-            readers(alloc, tables)?,
-            Limits::profile(),
-            Layout::Compact,
-            sink,
-        );
-        assert!(rt; matches!(&answer, Err(ConvertFault::WrongReaders)));
-        assert!(rt; document.is_empty());
+    for case in CASES {
+        assert!(rt; stops_reading(rt.alloc(), &report, case));
     }
     Ok(())
 }

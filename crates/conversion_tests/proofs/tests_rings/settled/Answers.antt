@@ -3,7 +3,7 @@ use Rattle.std.proofs.Common.{ap, ◌∙◌}
 use Rattle.oim_ring.specs.Items.{blocks_only}
 use Rattle.oim_ring.specs.declared.item.Item.TheVariants as items
 use Rattle.oim_ring.proofs.TakenWhole.{ended}
-use Rattle.xbrl_json_cli.proofs.tests.rings.settled.Goals as goal
+use Rattle.conversion_tests.proofs.tests_rings.settled.Goals as goal
 
 pub settle-drained-requires-clause-ended : goal.settle-drained-requires-clause-ended
 settle-drained-requires-clause-ended c =

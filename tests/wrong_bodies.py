@@ -1,0 +1,403 @@
+#!/usr/bin/env python3
+"""The audit of the contracts: every wrong body of crates/*/must-fail and crates/*/audit must be refused, for a reason of its own.
+
+    tests/wrong_bodies.py [--alone] [CRATE ..]
+
+Run it where the crates and those below them are checked (`rt check` in each crate's folder, or a first build): it begins with
+that kept work, in a copy, and sees first that each crate is proved as it stands. A round applies as many edits of a crate as
+change different functions, checks the crate once, and asks of each edit a reason of its own: an error or a note at a line of a
+function that it changes, or in the files of that function's proof. That a function is not proved because it calls another one
+that is not proved counts for nothing. An edit of a function that another edit of the round changes waits for the next round;
+one that changes no function but a constant, and one that showed no reason of its own in company, is tried alone. With --alone
+each edit is. Each edit has a line, and the last line is 'N refused, M not'; the status is 0 only where all are refused. Python
+3.9 or later is needed.
+"""
+from __future__ import annotations
+
+import os
+import re
+import shutil
+import signal
+import subprocess
+import sys
+import tempfile
+import time
+from dataclasses import dataclass
+from pathlib import Path
+
+TOP = Path(__file__).resolve().parent.parent
+FOLDERS = "must-fail", "audit"
+FUNCTION = re.compile(r"( *)(?:pub(?:\([a-z]+\))? )?(?:const )?fn (\w+)")
+WORK, RLIB = "out/incremental", "out/rlib"
+# The type of a block of methods: of a trait's, or of its own.
+OWNER = re.compile(r"impl\b(?:.*? for (?:&\S* ?)?(\w+)|(?:<.*?>)? (\w+))")
+AT = re.compile(r"(?:note: )?(?:\./)?((?:src|proofs)/\S+?):(\d+):\d+: (.*)")
+NOT_PROVED = r"fn {}::\S+: (not proved|no proof)"
+OF_CRATE = re.compile(r"(?:fn|struct|enum|trait|impl) (\w+)::")
+# A proof file that names what the edit took away: such a refusal says little of the contract.
+LOST = re.compile(r"has no field|is not in scope|has no `|was not admitted")
+# What the check says once each function has its line: the search for what might be written into the proof files.
+AFTER = re.compile(r"offer|help: write|`search`|logic=|statements ")
+# The text could not be compiled or read, so no contract was tried.
+UNREAD = re.compile(r".*\berror(\[[\w-]+\])?: .*")
+
+BUILD = "run `rt check` in the folder of each crate that is to be audited, which builds those below it"
+QUIET = {"stdin": subprocess.DEVNULL, "stdout": subprocess.PIPE, "stderr": subprocess.STDOUT, "text": True, "errors": "replace", "start_new_session": True}
+
+Texts = dict[str, str]
+
+
+class BadEdit(Exception):
+    """The edit cannot be applied."""
+
+
+@dataclass(frozen=True)
+class Place:
+    """A function of a file with the type whose method it is, if it is one, or None for what stands in no function."""
+
+    path: str
+    function: str | None
+    owner: str | None
+
+
+@dataclass(frozen=True)
+class Edit:
+    """An edit's name, with its folder, and its pairs of old and new text, each in a file."""
+
+    name: str
+    pairs: tuple[tuple[str, str, str], ...]
+
+    @staticmethod
+    def read(file: Path) -> Edit:
+        path, old, pairs = "", "", []
+        for line in file.read_text(encoding="utf-8").split("\n"):
+            word, _, rest = line.partition(": " if ": " in line else ":")
+            if word == "file":
+                path = rest.strip()
+            elif word == "old":
+                old = rest
+            elif word == "new":
+                pairs.append((path, old, rest))
+        return Edit(f"{file.parent.name}/{file.name}", tuple(pairs))
+
+    def apply(self, folder: Path, texts: Texts) -> tuple[Texts, set[Place]]:
+        """The texts of the files that it changes, over these, and the functions that it changes."""
+        mine: Texts = {}
+        places = set()
+        for path, old, new in self.pairs:
+            text = mine.get(path) or texts.get(path) or text_of(folder / path)
+            if text.count(old) != 1:
+                raise BadEdit(f"its text stands {text.count(old)} times in {path}: {old}")
+            places.add(place_at(path, text, text[: text.index(old)].count("\n") + 1))
+            mine[path] = text.replace(old, new)
+        if not mine:
+            raise BadEdit("it has no pair of texts")
+        return mine, places
+
+
+@dataclass
+class Round:
+    """Edits of different functions, the texts that they make, and what each changes."""
+
+    texts: Texts
+    edits: dict[Edit, set[Place]]
+
+
+def text_of(file: Path) -> str:
+    if not file.is_file():
+        raise BadEdit(f"there is no file {file.name}")
+    return file.read_text(encoding="utf-8")
+
+
+@dataclass(frozen=True)
+class Function:
+    """A function of a file: its first line is that of the comments above it, and lines count from 1."""
+
+    name: str
+    owner: str | None
+    first: int
+    last: int
+
+
+def functions(text: str) -> list[Function]:
+    """The functions of a file in rt fmt's layout."""
+    lines, found = text.split("\n"), []
+    owner = None
+    for at, line in enumerate(lines):
+        head = OWNER.match(line)
+        if head:
+            owner = head[1] or head[2]
+        start = FUNCTION.match(line)
+        if not start:
+            continue
+        ends = (it for it in range(at, len(lines)) if lines[it] in (start[1] + "}", start[1] + "};"))
+        last = at if line.endswith(("}", ";")) else next(ends, len(lines) - 1)
+        first = at
+        while first and lines[first - 1].strip().startswith(("#[", "///")):
+            first -= 1
+        found.append(Function(start[2], owner if start[1] else None, first + 1, last + 1))
+    return found
+
+
+def place_at(path: str, text: str, line: int) -> Place:
+    """The innermost function that has this line."""
+    inside = [it for it in functions(text) if it.first <= line <= it.last]
+    return Place(path, inside[-1].name, inside[-1].owner) if inside else Place(path, None, None)
+
+
+def next_round(folder: Path, left: list[Edit], alone: bool) -> Round:
+    """The first edits that change different functions, and can be applied together. One that changes no function stands alone."""
+    made = Round({}, {})
+    for edit in left:
+        taken: set[Place] = set().union(*made.edits.values())
+        try:
+            own_texts, places = edit.apply(folder, made.texts)
+        except BadEdit:
+            continue
+        is_lone = alone or any(it.function is None for it in places)
+        if taken and (is_lone or places & taken):
+            continue
+        made.texts.update(own_texts)
+        made.edits[edit] = places
+        if is_lone:
+            break
+    return made
+
+
+def module_of(path: str) -> str:
+    """The folder of the proofs of a file's free functions, below proofs/."""
+    return "" if path in ("src/lib.rt", "src/main.rt") else path[len("src/") : -len(".rt")] + "/"
+
+
+def names_of(place: Place) -> str:
+    """The words for a function's folder of proofs. A method stands under its type, wherever that is, with the trait's name behind it."""
+    return rf"(\S+/)?{place.owner}\w*/\+?{place.function}" if place.owner else rf"{module_of(place.path)}\+?{place.function}"
+
+
+def is_own(place: Place, texts: Texts, path: str, line: int) -> bool:
+    """Whether a line of a file is in a function or in the files of its proof."""
+    if place.function is None:
+        return False
+    if path == place.path:
+        same = [it for it in functions(texts[path]) if (it.name, it.owner) == (place.function, place.owner)]
+        return any(it.first <= line <= it.last for it in same)
+    return bool(re.fullmatch(rf"proofs/{names_of(place)}/\w+\.antt", path))
+
+
+def own_line(crate: str, place: Place, said: list[str]) -> str | None:
+    """The line that says of a function itself that it is not proved, and not only for what it calls."""
+    line = re.compile(rf"fn {crate}::{names_of(place).replace('/', '::')}: (not proved(?!; it calls )|no proof: (?!it calls ))")
+    return next((it for it in said if line.match(it)), None)
+
+
+def reason(crate: str, places: set[Place], texts: Texts, said: list[str]) -> str | None:
+    """The first reason that the check gives at these functions, better one that speaks of the contract, or None."""
+    weak = None
+    for line in said:
+        at = AT.match(line)
+        if not at or not any(is_own(it, texts, at[1], int(at[2])) for it in places):
+            continue
+        found = f"{at[1]}:{at[2]}: {at[3][:120]}"
+        if not (at[1].startswith("proofs/") and LOST.search(at[3])):
+            return found
+        weak = weak or f"(only by a name that the edit took away) {found}"
+    return weak or next(filter(None, (own_line(crate, it, said) for it in places if it.function)), None)
+
+
+def lone_reason(crate: str, said: list[str]) -> str | None:
+    """The first function that is not proved, where one edit was tried alone."""
+    return next((it for it in said if re.match(NOT_PROVED.format(crate), it)), None)
+
+
+class Room:
+    """A copy of the repository, where edits are applied and checked."""
+
+    def __init__(self, folder: Path):
+        self.crates = folder / "crates"
+        self.checks = 0
+        shutil.copytree(TOP / "crates", self.crates, ignore=lambda at, names: ["out"] if Path(at).parent.name == "crates" else [])
+        (folder / ".git").mkdir()
+        for name in ("crates.txt", "HANDLES"):
+            shutil.copy(TOP / name, folder)
+
+    def bring(self, crate: str, part: str) -> None:
+        """Brings what is kept of a crate, in place of what the room has."""
+        there = self.crates / crate / part
+        shutil.rmtree(there, ignore_errors=True)
+        shutil.copytree(TOP / "crates" / crate / part, there, symlinks=True)
+
+    def check(self, crate: str, texts: Texts) -> list[str]:
+        """Checks a crate over its kept work with these texts in place of its own, and gives what was said."""
+        folder = self.crates / crate
+        self.bring(crate, WORK)
+        own = {path: text_of(folder / path) for path in texts}
+        try:
+            for path, text in texts.items():
+                (folder / path).write_text(text, encoding="utf-8")
+            return self.said(folder, crate)
+        finally:
+            for path, text in own.items():
+                (folder / path).write_text(text, encoding="utf-8")
+
+    def said(self, folder: Path, crate: str) -> list[str]:
+        """What a check says up to the lines of the crate's functions, or to the first line of another crate, which it has to prove first."""
+        lines: list[str] = []
+        is_begun = False
+        self.checks += 1
+        with subprocess.Popen(["rt", "check", "--jobs", "1"], cwd=folder, **QUIET) as ran:
+            for line in ran.stdout:
+                lines.append(line.rstrip("\n"))
+                is_begun = is_begun or line.startswith(f"fn {crate}::")
+                other = OF_CRATE.match(line)
+                if (is_begun and AFTER.match(line)) or (other and other[1] != crate):
+                    os.killpg(ran.pid, signal.SIGTERM)
+                    break
+            ran.stdout.read()
+        return lines
+
+
+def is_reached(crate: str, said: list[str]) -> bool:
+    return any(it.startswith(f"fn {crate}::") for it in said)
+
+
+def judge(crate: str, made: Round, said: list[str], before: set[str]) -> dict[Edit, str | None]:
+    """What is said of each edit of a round: its reason, which the check without any edit does not give too, or None."""
+    if not is_reached(crate, said):
+        if len(made.edits) > 1:
+            return dict.fromkeys(made.edits)
+        first = next((it for it in said if UNREAD.match(it)), said[-1] if said else "nothing was said")
+        raise BadEdit(f"it does not reach the prover: {first[:200]}")
+    said = [it for it in said if it not in before]
+    reasons = {edit: reason(crate, places, made.texts, said) for edit, places in made.edits.items()}
+    if len(reasons) == 1:
+        return {edit: why or lone_reason(crate, said) for edit, why in reasons.items()}
+    return reasons
+
+
+def edits_of(crate: str) -> list[Edit]:
+    """The edits of both folders."""
+    files = [it for folder in FOLDERS for it in sorted((TOP / "crates" / crate / folder).glob("*.edit"))]
+    return [Edit.read(it) for it in files]
+
+
+class Audit:
+    """The audit of one crate."""
+
+    def __init__(self, room: Room, crate: str, alone: bool):
+        self.room, self.crate, self.alone = room, crate, alone
+        self.refused = self.others = 0
+        self.before: set[str] = set()
+
+    def tell(self, edit: Edit, why: str | None, otherwise: str = "NOT REFUSED") -> None:
+        self.refused += why is not None
+        self.others += why is None
+        print(f"{self.crate}/{edit.name}: {f'refused: {why}' if why else otherwise}", flush=True)
+
+    def applied(self, edits: list[Edit]) -> list[Edit]:
+        """Those of these edits that can be applied; the others are told."""
+        good = []
+        for edit in edits:
+            try:
+                edit.apply(self.room.crates / self.crate, {})
+                good.append(edit)
+            except BadEdit as why:
+                self.tell(edit, None, f"BAD EDIT: {why}")
+        return good
+
+    def run(self) -> None:
+        """Tries all edits, and again alone those that showed no reason in company."""
+        begun, before = time.time(), self.room.checks
+        self.stands()
+        edits = edits_of(self.crate)
+        again = self.rounds(self.applied(edits), self.alone)
+        self.rounds(again, True)
+        took = time.time() - begun
+        print(f"{self.crate}: {len(edits)} edits in {self.room.checks - before} checks, {took:.0f} seconds", flush=True)
+
+    def stands(self) -> None:
+        """Ends the audit where the crate is not proved without any edit, since then a refusal says nothing."""
+        said = self.check({})
+        why = lone_reason(self.crate, said) if is_reached(self.crate, said) else "\n".join(said[-10:])
+        if why:
+            sys.exit(f"{self.crate} is not proved as it stands, so nothing was tried: {why}")
+        self.before = set(said)
+
+    def check(self, texts: Texts) -> list[str]:
+        """Checks the crate, and ends the audit where that would first have to prove a library."""
+        said = self.room.check(self.crate, texts)
+        others = [it[1] for it in map(OF_CRATE.match, said) if it and it[1] != self.crate]
+        if others:
+            sys.exit(f"{self.crate}: the check begins to prove {others[0]}, which has changed since it was built: {BUILD}")
+        return said
+
+    def rounds(self, left: list[Edit], alone: bool) -> list[Edit]:
+        """Tries edits, and gives those that are to be tried alone."""
+        again = []
+        while left:
+            made = next_round(self.room.crates / self.crate, left, alone)
+            left = [it for it in left if it not in made.edits]
+            again += self.round(made)
+        return again
+
+    def round(self, made: Round) -> list[Edit]:
+        """Checks one round, tells what it shows, and gives the edits that showed nothing in company."""
+        said = self.check(made.texts)
+        try:
+            reasons = judge(self.crate, made, said, self.before)
+        except BadEdit as why:
+            self.tell(*made.edits, None, f"BAD EDIT: {why}")
+            return []
+        again = [it for it, why in reasons.items() if not why and len(reasons) > 1]
+        for edit, why in reasons.items():
+            if edit not in again:
+                self.tell(edit, why)
+        return again
+
+
+def libraries() -> dict[str, list[str]]:
+    """The crates of crates.txt, each with the crates of this repository below it."""
+    rows = [it.split("#")[0].partition(":") for it in (TOP / "crates.txt").read_text().splitlines()]
+    uses = {head.split()[0]: rest.split() for head, _, rest in rows if head.strip()}
+    return {name: [it for it in below if it in uses] for name, below in uses.items()}
+
+
+def lacking(crates: list[str]) -> list[str]:
+    """What is not built or not checked of these crates."""
+    below = libraries()
+    needed = {it for crate in crates for it in below[crate]}
+    lacks = [f"the library {it} is not built" for it in below if it in needed and not (TOP / "crates" / it / RLIB / "stamp").is_file()]
+    return lacks + [f"the crate {it} is not checked" for it in crates if not (TOP / "crates" / it / WORK).is_dir()]
+
+
+def chosen(words: list[str]) -> list[str]:
+    """The crates that are to be audited: those that were named, or all that have edits."""
+    known = list(libraries())
+    wrong = [it for it in words if it not in known]
+    if wrong:
+        sys.exit(f"no crate of crates.txt: {' '.join(wrong)}\n{__doc__}")
+    return words or [it for it in known if edits_of(it)]
+
+
+def main(words: list[str]) -> int:
+    alone = "--alone" in words
+    crates = chosen([it for it in words if it != "--alone"])
+    lacks = lacking(crates)
+    if lacks:
+        print(*lacks, f"So nothing was tried: {BUILD}.", sep="\n")
+        return 2
+    refused = others = 0
+    with tempfile.TemporaryDirectory(prefix="wrong-bodies-") as name:
+        room = Room(Path(name))
+        for crate in crates:
+            for it in libraries()[crate]:
+                room.bring(it, RLIB)
+            audit = Audit(room, crate, alone)
+            audit.run()
+            shutil.rmtree(room.crates / crate / WORK, ignore_errors=True)
+            refused, others = refused + audit.refused, others + audit.others
+    print(f"{refused} refused, {others} not")
+    return 1 if others else 0
+
+
+if __name__ == "__main__":
+    sys.exit(main(sys.argv[1:]))
