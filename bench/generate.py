@@ -1,10 +1,11 @@
 #!/usr/bin/env python3
 """Writes a large valid xBRL-CSV report into a folder, the same bytes for the same words.
 
-    generate.py FOLDER [--shape positions] [--megabytes 64] [--tables 8] [--row-ids]
+    generate.py FOLDER [--shape positions] [--megabytes 64] [--tables N] [--row-ids]
 
 FOLDER gets meta.json, types.csv, t01.csv and so on, and sizes.json (bytes of CSV, rows and facts). The tables are of one
-size, together just above the megabytes (of 1,000,000 bytes) asked for.
+size, together just above the megabytes (of 1,000,000 bytes) asked for. There are eight, and three of the shape `datapoints`,
+where --tables does not say another number.
 
 The shape `positions`: each row has five fact columns: an amount in the row's currency, a price with the unit of a property
 group, a count, a rate with an exponent and its own decimals, and a text with quotes and letters beyond ASCII. Its period is
@@ -14,6 +15,10 @@ identifiers of their own, which the converter must keep in memory to see that no
 The shape `mixed`: rows have identifiers of their own; each has a description of 10 to 80 characters with quotes and umlauts
 now and then, amounts that are nil or empty now and then, typed and explicit dimensions by reference, three property groups,
 decimals by suffix and by reference. The last table is of another template, with 200 columns.
+
+The shape `datapoints` is the form in which banking supervisors publish: a column with 10,000 property groups, one for each
+data point, and each row names another one. A group has the concept, two members, and the unit and decimals by parameters of
+the report; each row has a typed key, and one column has all values.
 """
 import argparse
 import json
@@ -166,6 +171,61 @@ def wide_row(numbers, n):
     return ",".join(cells) + "\n", sum(1 for c in counts if c != "")
 
 
+POINTS = 10_000
+BASES = 25
+STRIDE = 7919  # prime to POINTS: rows that follow each other name groups that are far apart
+
+POINT_TYPES = """namespace,name,type
+https://example.org/bench,Amount,decimal
+https://example.org/bench,Count,integer
+https://example.org/bench,Share,double
+https://example.org/bench,Base,explicit
+https://example.org/bench,Region,explicit
+https://example.org/bench,Key,typed
+"""
+POINT_CONCEPTS = [
+    ("b:Amount", "$baseCurrency", "$decimalsMonetary"),
+    ("b:Count", "xbrli:pure", "$decimalsInteger"),
+    ("b:Share", "xbrli:pure", "$decimalsPercentage"),
+]
+
+
+def data_point(n):
+    """The property group of the data point n."""
+    concept, unit, decimals = POINT_CONCEPTS[n % 3]
+    members = {"b:Base": f"b:x{n % BASES}", "b:Region": f"b:r{n // BASES}"}
+    return {"dimensions": {"concept": concept, **members, "unit": unit}, "decimals": decimals}
+
+
+def datapoints_metadata(tables):
+    report = metadata(tables, False)
+    report["parameters"] = {
+        "entityID": "e:BANK-1",
+        "refPeriod": "2025-12-31",
+        "baseCurrency": "iso4217:EUR",
+        "decimalsMonetary": "-3",
+        "decimalsInteger": "0",
+        "decimalsPercentage": "4",
+    }
+    report["dimensions"] = {"entity": "$entityID", "period": "$refPeriod"}
+    del report["decimals"]
+    columns = {
+        "datapoint": {"propertyGroups": {f"dp{n:06}": data_point(n) for n in range(POINTS)}},
+        "key": {},
+        "factValue": {"dimensions": {"b:Key": "$key"}, "propertiesFrom": ["datapoint"]},
+    }
+    report["tableTemplates"] = {"datapoints": {"columns": columns}}
+    report["tables"] = {t: {"url": f"{t}.csv", "template": "datapoints"} for t in tables}
+    return report
+
+
+def datapoint_row(numbers, n):
+    point = n * STRIDE % POINTS
+    amount = numbers.below(10**9)
+    value = [f"{amount // 100}.{amount % 100:02}", str(amount // 1000), f"0.{amount % 10**6:06}"][point % 3]
+    return f"dp{point:06},K{numbers.below(50000):05},{value}\n", 1
+
+
 def cell(text):
     return '"' + text.replace('"', '""') + '"' if any(c in text for c in '",\n') else text
 
@@ -212,6 +272,8 @@ def forms(options, tables):
         kinds = [report["tables"][t]["template"] for t in tables]
         headers = [",".join(report["tableTemplates"][kind]["columns"]) + "\n" for kind in kinds]
         return report, MIXED_TYPES, list(zip(headers, (rows[kind] for kind in kinds)))
+    if options.shape == "datapoints":
+        return datapoints_metadata(tables), POINT_TYPES, [("datapoint,key,factValue\n", datapoint_row)] * len(tables)
     header = ("id," if options.row_ids else "") + "period,currency,party,region,market,amount,price,count,rate,remark\n"
     return metadata(tables, options.row_ids), TYPES, [(header, lambda numbers, n: row(numbers, n, options.row_ids))] * len(tables)
 
@@ -219,11 +281,13 @@ def forms(options, tables):
 def main():
     parser = argparse.ArgumentParser(description=__doc__, formatter_class=argparse.RawDescriptionHelpFormatter)
     parser.add_argument("folder", type=Path)
-    parser.add_argument("--shape", choices=["positions", "mixed"], default="positions")
+    parser.add_argument("--shape", choices=["positions", "mixed", "datapoints"], default="positions")
     parser.add_argument("--megabytes", type=float, default=64.0)
-    parser.add_argument("--tables", type=int, default=8)
+    parser.add_argument("--tables", type=int)
     parser.add_argument("--row-ids", action="store_true")
     options = parser.parse_args()
+    if options.tables is None:
+        options.tables = 3 if options.shape == "datapoints" else 8
     if options.tables < 1:
         parser.error("--tables is 1 at least")
     options.folder.mkdir(parents=True, exist_ok=True)

@@ -1,0 +1,435 @@
+#!/usr/bin/env python3
+"""Measures how the converter's time grows with a report, in one direction after another, beside plain Rust.
+
+    growth.py PROGRAM [PLAIN] [KIND..] [--runs 3] [--limit 60]
+
+PROGRAM is the built program's file, PLAIN that of plain Rust (`plain`, here), which is left out where there is none. Each
+kind of report is made twice, of the size n and of four times that, and grows in one direction only; without a KIND all are
+taken, and `--list` names them. Both programs convert each report on one worker, and their documents of the smaller one must
+be the same JSON value.
+
+A kind's line has the size n; for the program and for plain Rust the seconds of processor (user and system) at n and at 4 n,
+the least of some rounds, and the second as a multiple of the first; and the program's seconds at 4 n as a multiple of plain
+Rust's. What grows with the size has a multiple of about 4, what grows with its square one of 16. A run that takes longer
+than the limit (in seconds of processor) is stopped, and one that takes more than a tenth of it is made once. The last column names the goals that are
+missed: `growth`, where 4 n takes more than 0.1 s and more than 5 times the time of n, and `plain`, where it takes more than
+0.9 of plain Rust's. Needs Linux.
+"""
+from __future__ import annotations
+
+import argparse
+import json
+import os
+import resource
+import signal
+import subprocess
+import sys
+import tempfile
+from pathlib import Path
+from typing import Any, Callable, Dict, Iterable, NamedTuple, Optional
+
+import generate
+
+Json = Dict[str, Any]
+TIMES = 4
+
+
+class Report(NamedTuple):
+    """A report's metadata, the records of its types table behind the namespace, and its other files by name."""
+
+    metadata: Json
+    types: list[str]
+    files: dict[str, str]
+
+
+class Kind(NamedTuple):
+    """A direction: what makes a report of a size, and the smaller size."""
+
+    make: Callable[[int], Report]
+    size: int
+
+
+KINDS: dict[str, Kind] = {}
+TYPES = ["Amount,decimal", "Count,integer", "Note,text", "Key,typed", "Region,explicit"]
+COUNT = {"concept": "b:Count", "unit": "xbrli:pure"}
+LEVEL = {"entity": "e:BANK-1", "period": "2025"}
+
+
+def kind(size: int) -> Callable[[Callable[[int], Report]], Callable[[int], Report]]:
+    """Makes a kind of the function below it, with the smaller size."""
+
+    def keep(make: Callable[[int], Report]) -> Callable[[int], Report]:
+        KINDS[make.__name__] = Kind(make, size)
+        return make
+
+    return keep
+
+
+def report(columns: Json, rows: Iterable[str], types: Iterable[str] = (), template: Json = {}, table: Json = {}, **other: Json) -> Report:
+    """A report of one table t with these columns and rows. What `other` has stands in the metadata."""
+    metadata = {**generate.metadata([], False), "parameters": {}, "dimensions": LEVEL, **other}
+    metadata["tableTemplates"] = {"p": {"columns": columns, **template}, **other.get("tableTemplates", {})}
+    metadata["tables"] = {"t": {"url": "t.csv", "template": "p", **table}, **other.get("tables", {})}
+    text = "\n".join([",".join(columns), *rows]) + "\n"
+    return Report(metadata, [*TYPES, *types], {"t.csv": text})
+
+
+def names(letter: str, n: int) -> list[str]:
+    """n names of one length that begin with the letter."""
+    return [f"{letter}{i:07}" for i in range(n)]
+
+
+def counts(**more: str) -> Json:
+    """A column of counts, with more dimensions."""
+    return {"dimensions": {**COUNT, **more}}
+
+
+def line(n: int, text: str = "1") -> str:
+    """A row's n cells."""
+    return ",".join([text] * n)
+
+
+def keys(n: int, value: str = "x") -> tuple[Json, list[str]]:
+    """n typed dimensions with a value, and their types."""
+    return {f"b:{d}": value for d in names("K", n)}, [f"{d},typed" for d in names("K", n)]
+
+
+def identified(ids: Iterable[str]) -> Report:
+    """A table of rows with these identifiers."""
+    return report({"id": {}, "count": counts()}, (f"{i},7" for i in ids), template={"rowIdColumn": "id"})
+
+
+@kind(10_000)
+def datapoints(n: int) -> Report:
+    """n property groups in one column, two rows each, and each row names another group than the row before."""
+    columns = {"datapoint": {"propertyGroups": {f"dp{i:06}": generate.data_point(i) for i in range(n)}}, "key": {}}
+    columns["value"] = {"dimensions": {"b:Key": "$key"}, "propertiesFrom": ["datapoint"]}
+    parameters = {"baseCurrency": "iso4217:EUR", "decimalsMonetary": "-3", "decimalsInteger": "0", "decimalsPercentage": "4"}
+    rows = (f"dp{i * generate.STRIDE % n:06},K{i % 100},{i}" for i in range(2 * n))
+    return report(columns, rows, ["Share,double", "Base,explicit"], parameters=parameters)
+
+
+@kind(250)
+def group_columns(n: int) -> Report:
+    """n columns of facts under one column of 100 property groups, in 100 rows."""
+    groups = {g: {"dimensions": {"b:Key": g}} for g in names("g", 100)}
+    columns = {"group": {"propertyGroups": groups}, **{c: {**counts(), "propertiesFrom": ["group"]} for c in names("c", n)}}
+    return report(columns, (f"{g}," + line(n) for g in groups))
+
+
+@kind(2_000)
+def choices(n: int) -> Report:
+    """n rows that choose the groups of 60 columns each in another way: a group or none by the bits of its number."""
+    columns: Json = {c: {"propertyGroups": {"g": {"dimensions": {"b:Key": c}}}} for c in names("o", 60)}
+    columns["count"] = {**counts(), "propertiesFrom": names("o", 60)}
+    bits = (f"{i * 0x9E3779B97F4A7C15 % 2**60:060b}" for i in range(n))
+    return report(columns, (",".join(["g" if bit == "1" else "" for bit in row] + ["1"]) for row in bits))
+
+
+@kind(4_000)
+def dimensions(n: int) -> Report:
+    """n dimensions of the report, on each of four facts."""
+    level, types = keys(n)
+    return report({"count": counts()}, ["1"] * 4, types, dimensions={**LEVEL, **level})
+
+
+@kind(4_000)
+def group_dimensions(n: int) -> Report:
+    """n dimensions of a property group, each over one of the report's, on each of four facts."""
+    level, types = keys(n)
+    over, _ = keys(n, "y")
+    columns = {"group": {"propertyGroups": {"g": {"dimensions": over}}}, "count": {**counts(), "propertiesFrom": ["group"]}}
+    return report(columns, ["g,1"] * 4, types, dimensions={**LEVEL, **level})
+
+
+@kind(4_000)
+def references(n: int) -> Report:
+    """n dimensions of the report, each with a parameter of the report of its own."""
+    level, types = keys(n)
+    level = {d: f"${p}" for d, p in zip(level, names("p", n))}
+    parameters = dict.fromkeys(names("p", n), "x")
+    return report({"count": counts()}, ["1"] * 4, types, dimensions={**LEVEL, **level}, parameters=parameters)
+
+
+@kind(10_000)
+def prefixes(n: int) -> Report:
+    """n prefixes of the metadata, each with a namespace of its own."""
+    made = report({"count": counts()}, ["1"])
+    made.metadata["documentInfo"]["namespaces"].update({p: f"https://example.org/{p}" for p in names("p", n)})
+    return made
+
+
+@kind(1_000)
+def table_parameters(n: int) -> Report:
+    """n parameters of one table, and n columns that each refer to one."""
+    columns = {c: counts(**{"b:Key": f"${p}"}) for c, p in zip(names("c", n), names("p", n))}
+    return report(columns, [line(n)] * 2, table={"parameters": dict.fromkeys(names("p", n), "x")})
+
+
+@kind(100_000)
+def members(n: int) -> Report:
+    """n rows whose cells name members of 200 prefixes."""
+    made = report({"region": {}, "count": counts(**{"b:Region": "$region"})}, (f"p{i * 7919 % 200:07}:m{i % 1000},1" for i in range(n)))
+    made.metadata["documentInfo"]["namespaces"].update({p: f"https://example.org/{p}" for p in names("p", 200)})
+    return made
+
+
+@kind(500)
+def wide(n: int) -> Report:
+    """n columns of facts that each refer to a column of their own."""
+    columns = {**{k: {} for k in names("k", n)}, **{c: counts(**{"b:Key": f"${k}"}) for c, k in zip(names("c", n), names("k", n))}}
+    return report(columns, [line(2 * n)] * 2)
+
+
+@kind(1_000)
+def columns(n: int) -> Report:
+    """n columns of facts, which refer to none."""
+    return report({c: counts() for c in names("c", n)}, [line(n)] * 20)
+
+
+@kind(100_000)
+def taxonomy(n: int) -> Report:
+    """n URLs of the taxonomy."""
+    made = report({"count": counts()}, ["1"])
+    made.metadata["documentInfo"]["taxonomy"] = [f"https://example.org/taxonomy/{u}.xsd" for u in names("u", n)]
+    return made
+
+
+@kind(7_500_000)
+def block(n: int) -> Report:
+    """One cell of n bytes of text with quotes and umlauts."""
+    piece = '<p class=""note"">Die Prämie für das Quartal wurde geprüft; die Rückstellung ist ""angepasst"".</p> '
+    text = piece * (n // len(piece.encode()) + 1)
+    return report({"note": {"dimensions": {"concept": "b:Note", "language": "de"}}}, [f'"{text}"'])
+
+
+@kind(10_000)
+def templates(n: int) -> Report:
+    """n templates, of which the one table has the last."""
+    others = {t: {"columns": {"count": counts()}} for t in names("a", n)}
+    return report({"count": counts()}, ["1"], tableTemplates=others)
+
+
+@kind(1_000)
+def tables(n: int) -> Report:
+    """n tables of one template, which read one file."""
+    return report({"count": counts()}, ["1"], tables={t: {"url": "t.csv", "template": "p"} for t in names("t", n)})
+
+
+@kind(1_000)
+def own_templates(n: int) -> Report:
+    """n tables, each of a template of its own, which read one file."""
+    own = {t: {"columns": {"count": counts()}} for t in names("t", n)}
+    return report({"count": counts()}, ["1"], tableTemplates=own, tables={t: {"url": "t.csv"} for t in own})
+
+
+@kind(100_000)
+def types(n: int) -> Report:
+    """n records of the types table."""
+    return report({"count": counts()}, ["1"], [f"{t},decimal" for t in names("T", n)])
+
+
+@kind(100_000)
+def short_ids(n: int) -> Report:
+    """n rows with identifiers of one to six bytes."""
+    return identified(str(i) for i in range(n))
+
+
+@kind(25_000)
+def long_ids(n: int) -> Report:
+    """n rows with identifiers of 200 bytes that differ at their beginning."""
+    return identified(f"{i:07}" + "x" * 193 for i in range(n))
+
+
+@kind(25_000)
+def like_ids(n: int) -> Report:
+    """n rows with identifiers of 200 bytes that differ at their end."""
+    return identified("x" * 193 + f"{i:07}" for i in range(n))
+
+
+@kind(1_000)
+def properties_from(n: int) -> Report:
+    """One column of facts that takes properties from n columns of one group each."""
+    columns: Json = {o: {"propertyGroups": {"g": {"dimensions": {"b:Key": o}}}} for o in names("o", n)}
+    columns["count"] = {**counts(), "propertiesFrom": names("o", n)}
+    return report(columns, [line(n, "g") + ",1"] * 4)
+
+
+@kind(500)
+def many_sources(n: int) -> Report:
+    """n columns of facts that each take properties from the same 50 columns of one group each."""
+    columns: Json = {o: {"propertyGroups": {"g": {"dimensions": {"b:Key": o}}}} for o in names("a", 50)}
+    columns.update({c: {**counts(), "propertiesFrom": names("a", 50)} for c in names("c", n)})
+    return report(columns, [line(50, "g") + "," + line(n)] * 4)
+
+
+@kind(100_000)
+def parameters(n: int) -> Report:
+    """n parameters of the report, of which 100 columns refer to one each."""
+    columns = {c: counts(**{"b:Key": f"${p}"}) for c, p in zip(names("c", 100), names("p", 100))}
+    return report(columns, [line(100)] * 2, parameters=dict.fromkeys(names("p", n), "x"))
+
+
+@kind(16_000)
+def parameter_file(n: int) -> Report:
+    """n records of the parameters file, of which 100 columns refer to one each."""
+    columns = {c: counts(**{"b:Key": f"${p}"}) for c, p in zip(names("c", 100), names("p", 100))}
+    made = report(columns, [line(100)] * 2, parameterURL="parameters.csv")
+    made.files["parameters.csv"] = "name,value\n" + "".join(f"{p},x\n" for p in names("p", n))
+    return made
+
+
+@kind(1_000)
+def long_names(n: int) -> Report:
+    """n columns of facts whose names, all of 200 bytes, differ at their end."""
+    return report({"c" * 192 + c: counts() for c in names("c", n)}, [line(n)] * 10)
+
+
+@kind(50_000)
+def like_texts(n: int) -> Report:
+    """n rows whose texts of 200 bytes, of a fact and of a typed dimension, differ at their end."""
+    note = {"concept": "b:Note", "language": "en", "b:Key": "$key"}
+    texts = ("x" * 193 + f"{i:07}" for i in range(n))
+    return report({"key": {}, "note": {"dimensions": note}}, (f"{t},{t}" for t in texts))
+
+
+@kind(100_000)
+def like_middles(n: int) -> Report:
+    """n rows whose texts, of a typed dimension, differ neither in length nor at both ends and the middle."""
+    texts = (f"xx{i:07}xxxxxx{i:07}xx" for i in range(n))
+    return report({"key": {}, "count": counts(**{"b:Key": "$key"})}, (f"{t},1" for t in texts))
+
+
+@kind(2_500)
+def nesting(n: int) -> Report:
+    """n values of the metadata that mean nothing, each a list nested 100 levels deep."""
+    value: Any = "x"
+    for _ in range(100):
+        value = [value]
+    return report({"count": counts()}, ["1"], **{f"b:{v}": value for v in names("v", n)})
+
+
+@kind(200_000)
+def measures(n: int) -> Report:
+    """A unit of n measures, in one cell."""
+    columns = {"unit": {}, "amount": {"dimensions": {"concept": "b:Amount", "unit": "$unit"}}}
+    return report(columns, ["*".join(f"b:{u}" for u in names("u", n)) + ",1"])
+
+
+@kind(50_000)
+def rows(n: int) -> Report:
+    """n rows of five facts, of the shape `positions` of generate.py."""
+    numbers = generate.Numbers(0)
+    made = generate.metadata(["t"], False)
+    lines = [generate.row(numbers, i, False)[0] for i in range(n)]
+    header = ",".join(made["tableTemplates"]["positions"]["columns"]) + "\n"
+    return Report(made, [record.split(",", 1)[1] for record in generate.TYPES.split("\n")[1:-1]], {"t.csv": header + "".join(lines)})
+
+
+def write(made: Report, folder: Path) -> list[str]:
+    """Writes a report into a folder, and answers the words that convert it."""
+    folder.mkdir()
+    (folder / "meta.json").write_text(json.dumps(made.metadata, ensure_ascii=False), encoding="utf-8")
+    records = "".join(f"{generate.NAMESPACE},{record}\n" for record in made.types)
+    (folder / "types.csv").write_text("namespace,name,type\n" + records, encoding="utf-8")
+    for name, text in made.files.items():
+        (folder / name).write_text(text, encoding="utf-8", newline="")
+    return [str(folder / "meta.json"), "--types", str(folder / "types.csv"), "--workers", "1"]
+
+
+def run(command: list[str], limit: int) -> Optional[float]:
+    """The seconds of processor of one run, or None where it took more than the limit and the system stopped it."""
+    process = subprocess.Popen(command, stdin=subprocess.DEVNULL, stdout=subprocess.DEVNULL)
+    resource.prlimit(process.pid, resource.RLIMIT_CPU, (limit, limit + 1))
+    _, status, usage = os.wait4(process.pid, 0)
+    process.returncode = os.waitstatus_to_exitcode(status)
+    if process.returncode in (-signal.SIGXCPU, -signal.SIGKILL):
+        return None
+    if process.returncode != 0:
+        sys.exit(f"{' '.join(command)}: status {process.returncode}")
+    return usage.ru_utime + usage.ru_stime
+
+
+def least(commands: list[list[str]], runs: int, limit: int) -> list[Optional[float]]:
+    """The least seconds of each command in some rounds, of which each runs all in turn, but once only what takes long."""
+    best = [run(command, limit) for command in commands]
+    for _ in range(runs - 1):
+        for i, command in enumerate(commands):
+            before = best[i]
+            if before is not None and before <= limit / 10:
+                best[i] = min(before, run(command, limit) or before)
+    return best
+
+
+def same(programs: list[str], words: list[str]) -> bool:
+    """Whether the programs write the same JSON value."""
+    texts = [subprocess.run([program, *words], stdin=subprocess.DEVNULL, stdout=subprocess.PIPE).stdout for program in programs]
+    return all(text == texts[0] or json.loads(text) == json.loads(texts[0]) for text in texts[1:])
+
+
+def seconds(taken: Optional[float], limit: int) -> str:
+    return f"over {limit}" if taken is None else f"{taken:.3f}"
+
+
+def multiple(above: Optional[float], below: Optional[float]) -> str:
+    return f"{above / below:.1f}" if above is not None and below else ""
+
+
+def missed(mine: list[Optional[float]], plain: list[Optional[float]]) -> str:
+    """The goals that are missed."""
+    small, large = mine
+    if small is None or large is None:
+        return "growth"
+    grows = large > 0.1 and large > 5 * small
+    behind = len(plain) == 2 and plain[1] is not None and large > 0.9 * plain[1]
+    return ", ".join(name for name, is_missed in [("growth", grows), ("plain", behind)] if is_missed)
+
+
+def measured(name: str, programs: list[str], folder: Path, options: argparse.Namespace) -> str:
+    """A kind's line."""
+    make, n = KINDS[name]
+    sizes = [write(make(size), folder / str(size)) for size in (n, TIMES * n)]
+    taken = least([[program, *words] for program in programs for words in sizes], options.runs, options.limit)
+    mine, plain = taken[:2], taken[2:]
+    if mine[0] is not None and not same(programs, sizes[0]):
+        sys.exit(f"{name}: the documents differ")
+    cells = [name, f"{n:,}"]
+    for figures in (mine, plain):
+        cells += [seconds(each, options.limit) for each in figures] + [multiple(figures[1], figures[0])] if figures else []
+    cells += [f"{mine[1] / plain[1]:.2f}" if plain and mine[1] is not None and plain[1] else ""] if plain else []
+    return "| " + " | ".join([*cells, missed(mine, plain)]) + " |"
+
+
+def words() -> argparse.Namespace:
+    parser = argparse.ArgumentParser(description=__doc__, formatter_class=argparse.RawDescriptionHelpFormatter)
+    parser.add_argument("program", nargs="?")
+    parser.add_argument("others", nargs="*", metavar="[PLAIN] [KIND..]")
+    parser.add_argument("--runs", type=int, default=3)
+    parser.add_argument("--limit", type=int, default=60)
+    parser.add_argument("--list", action="store_true", help="only names the kinds")
+    options = parser.parse_args()
+    if options.program is None and not options.list:
+        parser.error("no PROGRAM")
+    return options
+
+
+def main() -> None:
+    options = words()
+    if options.list:
+        print("\n".join(f"{name}, from {each.size:,}: {each.make.__doc__}" for name, each in KINDS.items()))
+        return
+    others = options.others
+    plain, chosen = ([], others) if not others or others[0] in KINDS else (others[:1], others[1:])
+    unknown = [name for name in chosen if name not in KINDS]
+    if unknown:
+        sys.exit(f"no such kind: {', '.join(unknown)}")
+    programs = [os.path.abspath(program) for program in [options.program, *plain]]
+    columns = ["Kind", "n", "s", f"at {TIMES} n", "times"] + (["plain Rust s", f"at {TIMES} n", "times", "of plain Rust"] if plain else [])
+    print("| " + " | ".join([*columns, "missed"]) + " |\n" + "|---" * (len(columns) + 1) + "|")
+    for name in chosen or KINDS:
+        with tempfile.TemporaryDirectory() as folder:
+            print(measured(name, programs, Path(folder), options), flush=True)
+
+
+if __name__ == "__main__":
+    main()
