@@ -124,6 +124,17 @@ fn records_before_a_failed_read(rt: HostRuntime) -> Result<(), Fail> {
     Ok(())
 }
 
+/// Writes the records of a piece.
+fn put_piece(records: &mut PieceRecords, told: &mut Vec<u8>) -> Result<(), AllocError> {
+    for _ in 0..20 {
+        if !records.read()? {
+            return Ok(());
+        }
+        put_fields(&records.fields(), told)?;
+    }
+    Ok(())
+}
+
 /// Writes the bytes of the pieces of a file, and their records, and gives how many pieces there are.
 fn put_pieces<R: Read + Drop>(
     pieces: &mut PieceReader<R>,
@@ -138,9 +149,7 @@ fn put_pieces<R: Read + Drop>(
         };
         texts.extend_from_slice(&piece)?;
         records.load(piece);
-        while records.read()? {
-            put_fields(&records.fields(), told)?;
-        }
+        put_piece(records, told)?;
     }
     Ok(20)
 }
