@@ -1,0 +1,74 @@
+"""What the schemas of a taxonomy say, kept from one run to the next under a digest of all that it rests on."""
+
+from __future__ import annotations
+
+import hashlib
+import json
+import os
+import secrets
+from typing import Iterable, List, Optional, Sequence
+
+from .kinds import Kinds
+from .packages import Package, digest_of, pieces_of_disk
+from .refusals import cannot_write
+
+
+def key_of(packages: Sequence[Package], entries: Sequence[str]) -> str:
+    """The name under which kinds are kept: by the bytes of the packages, the entry points, and this program's own text."""
+    own = os.path.dirname(os.path.abspath(__file__))
+    modules = sorted(it for it in os.listdir(own) if it.endswith(".py"))
+    program = [digest_of(pieces_of_disk(os.path.join(own, it), it)).hex() for it in modules]
+    said = {"program": program, "packages": [it.digest().hex() for it in packages], "entries": list(entries)}
+    return hashlib.sha256(json.dumps(said, sort_keys=True).encode()).hexdigest()
+
+
+class Cache:
+    """A folder of kept kinds. An entry begins with a line that says where each namespace stands in it, and with which digest."""
+
+    def __init__(self, folder: str) -> None:
+        self.folder = folder
+
+    def path(self, key: str) -> str:
+        return os.path.join(self.folder, f"{key}.kinds")
+
+    def load(self, key: str, namespaces: Iterable[str]) -> Optional[Kinds]:
+        """The kept kinds of some namespaces, or None where they are not kept or not whole."""
+        found: Kinds = {}
+        try:
+            with open(self.path(key), "rb") as file:
+                blocks = json.loads(file.readline())
+                start = file.tell()
+                for namespace in set(namespaces) & set(blocks):
+                    offset, length, digest = blocks[namespace]
+                    file.seek(start + offset)
+                    block = file.read(length)
+                    if hashlib.sha256(block).hexdigest() != digest:
+                        return None
+                    found[namespace] = dict(line.split(" ") for line in block.decode().splitlines())  # type: ignore[misc]
+        except (OSError, ValueError, TypeError, RecursionError):
+            return None
+        return found
+
+    def store(self, key: str, kinds: Kinds) -> None:
+        """Keeps kinds: written aside and then renamed, so that no run sees half of an entry."""
+        body: List[bytes] = []
+        blocks = {}
+        offset = 0
+        for namespace in sorted(kinds):
+            block = "".join(f"{name} {kind}\n" for name, kind in kinds[namespace].items()).encode()
+            blocks[namespace] = [offset, len(block), hashlib.sha256(block).hexdigest()]
+            offset += len(block)
+            body.append(block)
+        aside = f"{self.path(key)}.{secrets.token_hex(8)}"
+        try:
+            os.makedirs(self.folder, exist_ok=True)
+            try:
+                with open(aside, "xb") as file:
+                    file.write(json.dumps(blocks).encode() + b"\n")
+                    file.writelines(body)
+                os.replace(aside, self.path(key))
+            finally:
+                if os.path.lexists(aside):
+                    os.unlink(aside)
+        except OSError as error:
+            raise cannot_write(self.folder, error) from None
