@@ -25,6 +25,7 @@ class Content:
         self.depth = 0
         self.bases: List[Tuple[int, Place]] = [(0, place)]
         self.scope: Dict[str, List[str]] = {"xml": ["http://www.w3.org/XML/1998/namespace"]}
+        self.declarations = 0  # how often the prefixes in scope have changed
         self.parser: Optional[expat.XMLParserType] = None
 
     def start(self, name: str, attributes: Dict[str, str]) -> None:
@@ -34,9 +35,11 @@ class Content:
         raise NotImplementedError
 
     def declare(self, prefix: Optional[str], uri: Optional[str]) -> None:
+        self.declarations += 1
         self.scope.setdefault(prefix or "", []).append(uri or "")
 
     def forget(self, prefix: Optional[str]) -> None:
+        self.declarations += 1
         self.scope[prefix or ""].pop()
 
     def base(self) -> Place:

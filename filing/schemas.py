@@ -81,6 +81,7 @@ class SchemaFile(Content):
         self.open: Optional[Tuple[bool, str, Dict[str, str]]] = None  # a global element or type whose content is still to come
         self.inside: List[str] = []
         self.derived_from: Optional[Name] = None
+        self.made: Dict[object, Element] = {}  # by what the attributes say, while the prefixes in scope are the same
 
     def start(self, name: str, attributes: Dict[str, str]) -> None:
         depth = self.depth = self.depth + 1
@@ -105,11 +106,36 @@ class SchemaFile(Content):
         if self.bases[-1][0] == self.depth:
             self.bases.pop()
         self.depth -= 1
+        if self.depth == 0 and not self.is_schema:
+            self.go_fast()
+
+    def go_fast(self) -> None:
+        """In a linkbase no depth is needed but for `xml:base`, so most of its elements, arcs above all, are passed over at once."""
+        if self.parser:
+            self.depth = 0
+            self.parser.StartElementHandler = self.start_in_linkbase
+            self.parser.EndElementHandler = None
+
+    def start_in_linkbase(self, name: str, attributes: Dict[str, str]) -> None:
+        if XML_BASE in attributes:
+            self.go_slowly(attributes[XML_BASE])
+        if name in FOLLOWED:
+            self.follow(name, attributes)
+
+    def go_slowly(self, reference: str) -> None:
+        """Counts the depth until the element that has an `xml:base` ends."""
+        if self.parser:
+            self.depth = 1
+            self.rebase(reference)
+            self.parser.StartElementHandler = self.start
+            self.parser.EndElementHandler = self.end
 
     def root(self, name: str, attributes: Dict[str, str]) -> None:
         if name not in (SCHEMA, LINKBASE):
             raise wrong(self.label, f"is neither a schema nor a linkbase: its root is '{name.rpartition(' ')[2]}'")
         self.is_schema = name == SCHEMA
+        if not self.is_schema:
+            self.go_fast()
         own = attributes.get("targetNamespace", "").strip()
         self.has_namespace = bool(own) or not self.is_schema
         self.namespace = own or self.namespace
@@ -161,14 +187,18 @@ class SchemaFile(Content):
 
     def element(self, attributes: Dict[str, str]) -> Element:
         """What an element says. Equal ones share one tuple, so that a large taxonomy takes little memory."""
-        head, type_name = attributes.get("substitutionGroup"), attributes.get("type")
-        made = Element(
-            None if head is None else self.name(head, self.adopted()),
-            self.derived_from if type_name is None else self.name(type_name, self.adopted()),
-            attributes.get("abstract", "").strip() in ("true", "1"),
-            TYPED_DOMAIN in attributes,
-        )
-        return self.shared.setdefault(made, made)
+        head, type_name, abstract = attributes.get("substitutionGroup"), attributes.get("type"), attributes.get("abstract")
+        key = (head, type_name, abstract, self.derived_from, TYPED_DOMAIN in attributes, self.declarations)
+        made = self.made.get(key)
+        if made is None:
+            made = Element(
+                None if head is None else self.name(head, self.adopted()),
+                self.derived_from if type_name is None else self.name(type_name, self.adopted()),
+                (abstract or "").strip() in ("true", "1"),
+                TYPED_DOMAIN in attributes,
+            )
+            made = self.made[key] = self.shared.setdefault(made, made)
+        return made
 
     def adopted(self) -> str:
         """The namespace of unprefixed names: that of an including schema, where this one has none (XML Schema, part 1, section 4.2.1)."""
