@@ -2,7 +2,6 @@
 
 from __future__ import annotations
 
-import hashlib
 import json
 import os
 import secrets
@@ -19,11 +18,15 @@ def key_of(packages: Sequence[Package], entries: Sequence[str]) -> str:
     modules = sorted(it for it in os.listdir(own) if it.endswith(".py"))
     program = [digest_of(pieces_of_disk(os.path.join(own, it), it)).hex() for it in modules]
     said = {"program": program, "packages": [it.digest().hex() for it in packages], "entries": list(entries)}
-    return hashlib.sha256(json.dumps(said, sort_keys=True).encode()).hexdigest()
+    return digest_of_text(json.dumps(said, sort_keys=True).encode())
+
+
+def digest_of_text(text: bytes) -> str:
+    return digest_of(iter([text])).hex()
 
 
 class Cache:
-    """A folder of kept kinds. An entry begins with a line that says where each namespace stands in it, and with which digest."""
+    """A folder of kept kinds. The first line of an entry says where each namespace stands in it; all of it is under digests."""
 
     def __init__(self, folder: str) -> None:
         self.folder = folder
@@ -36,13 +39,16 @@ class Cache:
         found: Kinds = {}
         try:
             with open(self.path(key), "rb") as file:
-                blocks = json.loads(file.readline())
+                digest, _, index = file.readline().rstrip(b"\n").partition(b" ")
+                if digest_of_text(index) != digest.decode():
+                    return None
+                blocks = json.loads(index)
                 start = file.tell()
                 for namespace in set(namespaces) & set(blocks):
-                    offset, length, digest = blocks[namespace]
+                    offset, length, known = blocks[namespace]
                     file.seek(start + offset)
                     block = file.read(length)
-                    if hashlib.sha256(block).hexdigest() != digest:
+                    if digest_of_text(block) != known:
                         return None
                     found[namespace] = dict(line.split(" ") for line in block.decode().splitlines())  # type: ignore[misc]
         except (OSError, ValueError, TypeError, RecursionError):
@@ -56,16 +62,16 @@ class Cache:
         offset = 0
         for namespace in sorted(kinds):
             block = "".join(f"{name} {kind}\n" for name, kind in kinds[namespace].items()).encode()
-            blocks[namespace] = [offset, len(block), hashlib.sha256(block).hexdigest()]
+            blocks[namespace] = [offset, len(block), digest_of_text(block)]
             offset += len(block)
             body.append(block)
+        index = json.dumps(blocks).encode()
         aside = f"{self.path(key)}.{secrets.token_hex(8)}"
         try:
             os.makedirs(self.folder, exist_ok=True)
             try:
                 with open(aside, "xb") as file:
-                    file.write(json.dumps(blocks).encode() + b"\n")
-                    file.writelines(body)
+                    file.writelines([digest_of_text(index).encode(), b" ", index, b"\n", *body])
                 os.replace(aside, self.path(key))
             finally:
                 if os.path.lexists(aside):

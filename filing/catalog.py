@@ -49,14 +49,12 @@ class Catalogs:
     def __init__(self, packages: Sequence[Package]) -> None:
         self.exact: Dict[str, List[Tuple[Package, str]]] = {}
         self.rewrites: List[Tuple[str, Package, str]] = []
-        self.without: List[str] = []
         for package in packages:
             self.take(package)
         self.rewrites.sort(key=lambda it: -len(it[0]))
 
     def take(self, package: Package) -> None:
         if not package.has(CATALOG):
-            self.without.append(package.label)
             return
         entries = Entries(package.shown(CATALOG))
         parse(package.pieces(CATALOG), entries)

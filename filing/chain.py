@@ -15,7 +15,7 @@ DOCUMENT_TYPE = "https://xbrl.org/2021/xbrl-csv"
 
 @dataclass
 class Metadata:
-    """One metadata file: what it says, and the files that it extends by their places in the order."""
+    """One metadata file: what it says, and the places of the files that it extends, in order."""
 
     found: Found
     value: Object
@@ -106,18 +106,17 @@ class Chain:
             if place is None:
                 way.pop()
                 continue
-            asker = self.files[at].label
-            place = self.known(place)
-            if any(place == it for it, _ in way):
-                raise wrong(asker, f"extends itself, by way of {self.files[place].label}" if place != at else "extends itself")
-            if place not in self.files:
+            asker, key = self.files[at].label, self.known(place)
+            if any(key == it for it, _ in way):
+                raise wrong(asker, f"extends itself, by way of {self.files[key].label}" if key != at else "extends itself")
+            if key not in self.files:
                 self.enter(self.finder.find(place, asker, "extends"), way)
 
     def enter(self, found: Found, way: List[Tuple[Place, Iterator[Place]]]) -> None:
         metadata = read_metadata(found)
-        place = self.known(found.place)
-        self.files[place] = metadata
-        way.append((place, iter(metadata.extends)))
+        key = self.known(found.place)
+        self.files[key] = metadata
+        way.append((key, iter(metadata.extends)))
 
     @staticmethod
     def known(place: Place) -> Place:
@@ -129,10 +128,10 @@ class Chain:
         found: Dict[Place, Metadata] = {}
         waiting = [self.known(metadata.found.place)]
         while waiting:
-            place = waiting.pop()
-            if place not in found:
-                found[place] = self.files[place]
-                waiting += [self.known(it) for it in self.files[place].extends]
+            key = waiting.pop()
+            if key not in found:
+                found[key] = self.files[key]
+                waiting += [self.known(it) for it in self.files[key].extends]
         return list(found.values())
 
     def above(self, metadata: Metadata) -> List[Metadata]:

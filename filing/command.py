@@ -8,7 +8,7 @@ import tempfile
 from typing import Dict, List, Optional, Tuple
 
 from .cache import Cache, key_of
-from .catalog import CATALOG, Catalogs
+from .catalog import CATALOG
 from .chain import Chain
 from .final import check_final
 from .finding import Finder, Found
@@ -57,6 +57,7 @@ def main(words: List[str], program: str) -> int:
 def run(settings: Settings, program: str, progress: Progress, stopping: Stopping) -> int:
     """Makes the two plain files, in the folder of `--prepare` or in a temporary one that xbrl-json reads."""
     report, packages = open_inputs(settings)
+    refuse_outputs(settings, packages, None)
     merged, files, types = join(report, packages, settings, progress)
     refuse_outputs(settings, packages, files)
     progress.say("preparing the tables")
@@ -91,7 +92,7 @@ def open_inputs(settings: Settings) -> Tuple[Found, List[Package]]:
 
 def join(report: Found, packages: List[Package], settings: Settings, progress: Progress) -> Tuple[Merged, Files, bytes]:
     """The merged metadata, the report's files and the types table."""
-    finder = Finder(report.package, Catalogs(packages))
+    finder = Finder(report.package, packages)
     chain = Chain(report, finder)
     check_parts(chain)
     check_final(chain)

@@ -3,7 +3,7 @@
 from __future__ import annotations
 
 from dataclasses import dataclass
-from typing import Optional
+from typing import Optional, Sequence
 
 from .catalog import CATALOG, STANDARD_HOSTS, Catalogs
 from .packages import Beside, Package
@@ -27,9 +27,10 @@ class Found:
 class Finder:
     """Finds the files that a report and its taxonomy name. Nothing is fetched."""
 
-    def __init__(self, report: Package, catalogs: Catalogs) -> None:
+    def __init__(self, report: Package, packages: Sequence[Package]) -> None:
         self.report = report
-        self.catalogs = catalogs
+        self.packages = packages
+        self.catalogs = Catalogs(packages)
 
     def find(self, place: Place, asker: str, how: str) -> Found:
         """The file at a place, or the refusal that names it and who asked for it."""
@@ -57,5 +58,5 @@ class Finder:
     def missing(self, place: Place, asker: str, how: str) -> Refusal:
         if place.local:
             return wrong(asker, f"there is no {self.report.shown(place.path())} ({how})")
-        without = "".join(f"; {it} has no {CATALOG}" for it in self.catalogs.without)
+        without = "".join(f"; {it.label} has no {CATALOG}" for it in self.packages if it is not self.report and not it.has(CATALOG))
         return wrong(asker, f"no package has {place.text} ({how}{without})")

@@ -123,7 +123,7 @@ def encoding_of(first: bytes, label: str) -> Optional[str]:
     if not found:
         return None
     try:
-        b"".decode(found[1])
+        b" ".decode(found[1], "replace")
         return None if codecs.lookup(found[1]).name in BY_EXPAT else found[1]
     except (LookupError, UnicodeError):
         raise wrong(label, f"is in an encoding that is not known: {found[1]}") from None

@@ -74,7 +74,8 @@ class Merged:
             dimensions = level.get("dimensions")
             concept = dimensions.get("concept") if isinstance(dimensions, dict) else None
             if isinstance(concept, str):
-                yield concept, self.origin(path), ".".join(path + ("dimensions", "concept"))
+                at = path + ("dimensions", "concept")
+                yield concept, self.origin(at), ".".join(at)
 
     def text(self) -> bytes:
         """The file's bytes: compact, members in order of their names."""

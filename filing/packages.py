@@ -117,33 +117,32 @@ class FolderPackage(Package):
         return pieces_of_disk(self.disk(name), self.shown(name))
 
     def children(self, folder: str) -> Tuple[List[str], List[str]]:
-        files: List[str] = []
-        folders: List[str] = []
+        found = self.entries(folder)
+        return [it.name for it in found if not it.is_dir()], [it.name for it in found if it.is_dir()]
+
+    def entries(self, folder: str) -> List[os.DirEntry[str]]:
+        """What stands in a folder, in order of the names; nothing where there is no such folder."""
         try:
-            for it in sorted(os.scandir(self.disk(folder)), key=lambda it: it.name):
-                (folders if it.is_dir() else files).append(it.name)
+            with os.scandir(self.disk(folder)) as found:
+                return sorted(found, key=lambda it: it.name)
         except (FileNotFoundError, NotADirectoryError):
-            pass
+            return []
         except OSError as error:
             raise cannot_read(self.shown(folder), error) from None
-        return files, folders
 
     def digest(self) -> bytes:
         return digest_of(self.all_bytes(""))
 
     def all_bytes(self, folder: str) -> Iterator[bytes]:
-        """The names and digests of all files of a folder, in order."""
-        files, folders = self.children(folder)
-        for name in files:
-            path = folder + name
-            if self.has(path):
-                yield os.fsencode(path) + b"\0" + digest_of(self.pieces(path))
-        for name in folders:
-            path = self.disk(folder + name)
-            if os.path.islink(path):
-                yield os.fsencode(folder + name) + b"\0" + os.fsencode(os.readlink(path))
-            else:
-                yield from self.all_bytes(f"{folder}{name}/")
+        """The names of all files of a folder, in order, with their digests, or with what they link to."""
+        for it in self.entries(folder):
+            name = folder + it.name
+            if it.is_symlink():
+                yield os.fsencode(f"{name}\0{os.readlink(it.path)}\0")
+            elif it.is_dir():
+                yield from self.all_bytes(name + "/")
+            elif it.is_file():
+                yield os.fsencode(name) + b"\0" + digest_of(pieces_of_disk(it.path, self.shown(name)))
 
     def disk(self, name: str) -> str:
         """The path on the disk; a link that leads outside of the folder is refused."""
@@ -217,8 +216,8 @@ def pieces_of_disk(path: str, label: str) -> Iterator[bytes]:
 
 
 def digest_of(pieces: Iterator[bytes]) -> bytes:
-    """The SHA-256 of bytes."""
-    digest = hashlib.sha256()
+    """A digest of bytes, by which they are known."""
+    digest = hashlib.blake2b(digest_size=32)
     for piece in pieces:
         digest.update(piece)
     return digest.digest()

@@ -2,13 +2,13 @@
 
 from __future__ import annotations
 
-from typing import Dict, List, Tuple
+from typing import List, Tuple
 from urllib.parse import quote
 
 from .chain import DOCUMENT_TYPE
 from .finding import Found
 from .packages import Package
-from .refusals import wrong
+from .refusals import WRONG, Refusal, wrong
 from .strict_json import Json, read_json
 from .urls import Place
 
@@ -29,7 +29,7 @@ def report_at(package: Package, name: str) -> Found:
 def find_report(package: Package) -> Found:
     """The one xBRL-CSV report of a package, in `reports` or else in the folders there."""
     check_package_file(package)
-    passed: Dict[str, object] = {}
+    passed: List[Tuple[str, object]] = []
     levels = [["reports/"], [f"reports/{it}/" for it in package.children("reports")[1]]]
     for folders in levels:
         found = [name for folder in folders for name in reports_in(package, folder, passed)]
@@ -37,7 +37,10 @@ def find_report(package: Package) -> Found:
             raise wrong(package.label, f"has several xBRL-CSV reports: {', '.join(found)}")
         if found:
             return report_at(package, found[0])
-    others = "".join(f"; {name} has the document type {kind!r}" for name, kind in passed.items() if kind)
+    broken = next((it for _, it in passed if isinstance(it, Refusal)), None)
+    if broken:
+        raise broken
+    others = "".join(f"; {name} has the document type {kind!r}" for name, kind in passed if kind)
     raise wrong(package.label, f"has no xBRL-CSV report in 'reports' or a folder of it{others}")
 
 
@@ -49,12 +52,21 @@ def check_package_file(package: Package) -> None:
             raise wrong(package.shown(PACKAGE_FILE), f"is of no report package: its document type is {kind!r}")
 
 
-def reports_in(package: Package, folder: str, passed: Dict[str, object]) -> List[str]:
-    """The names of the xBRL-CSV reports in a folder; other JSON is passed over."""
-    found: List[Tuple[str, object]] = []
+def reports_in(package: Package, folder: str, passed: List[Tuple[str, object]]) -> List[str]:
+    """The names of the xBRL-CSV reports in a folder. Other JSON is passed over, and what is no JSON: it is told if there is no report."""
+    found: List[str] = []
     for file in package.children(folder.rstrip("/"))[0]:
-        if file.lower().endswith(".json"):
-            name = folder + file
-            found.append((name, document_type(read_json(package.text(name), package.shown(name)))))
-    passed.update(it for it in found if it[1] != DOCUMENT_TYPE)
-    return [name for name, kind in found if kind == DOCUMENT_TYPE]
+        if not file.lower().endswith(".json"):
+            continue
+        name = folder + file
+        try:
+            kind = document_type(read_json(package.text(name), package.shown(name)))
+        except Refusal as refusal:
+            if refusal.status != WRONG:
+                raise
+            kind = refusal
+        if kind == DOCUMENT_TYPE:
+            found.append(name)
+        else:
+            passed.append((name, kind))
+    return found

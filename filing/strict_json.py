@@ -12,13 +12,15 @@ from .refusals import wrong
 Json = Any
 Object = Dict[str, Any]
 DEEPEST = 127
-SURROGATE = re.compile(rb"\\u[dD][89abAB]")
+SURROGATE = re.compile(rb"\\u[dD][89a-fA-F]")
 
 
 def read_json(data: bytes, label: str) -> Json:
     """The value of a JSON text in UTF-8; one byte-order mark is passed over (RFC 8259)."""
     try:
         text = data[3:].decode() if data.startswith(b"\xef\xbb\xbf") else data.decode()
+        if text.startswith("\ufeff"):
+            raise ValueError("it begins with two byte-order marks")
         value = json.loads(text, parse_constant=no_constant, parse_float=number, parse_int=whole)
         if SURROGATE.search(data):
             json.dumps(value, ensure_ascii=False).encode()
