@@ -5,6 +5,7 @@ from __future__ import annotations
 import os
 import sys
 import tempfile
+from contextlib import suppress
 from typing import Dict, List, Optional, Tuple
 
 from .cache import Cache, key_of
@@ -35,9 +36,8 @@ def main(words: List[str], program: str) -> int:
     progress = Progress()
     try:
         stopping = Stopping()
-        if "--help" in words:
-            print(HELP, end="", flush=True)
-            return 0
+        if "--help" in words or words == ["-h"]:
+            return help_told()
         return run(read_words(words), program, progress, stopping)
     except Stopped as stopped:
         progress.clear()
@@ -50,8 +50,24 @@ def main(words: List[str], program: str) -> int:
     except Exception as error:  # a fault of this program is one line too
         status, line = WRONG, f"a fault of the program: {type(error).__name__}: {error}"
     progress.clear()
-    print(f"{NAME}: {printable(line)}", file=sys.stderr)
+    tell(f"{NAME}: {printable(line)}")
     return status
+
+
+def tell(line: str) -> None:
+    """Writes a line to standard error, where there is one."""
+    with suppress(OSError):
+        if sys.stderr is not None:
+            print(line, file=sys.stderr, flush=True)
+
+
+def help_told() -> int:
+    try:
+        print(HELP, end="", flush=True)
+    except OSError as error:
+        sys.stdout = None  # type: ignore[assignment]  # what is left in its buffer is not written at the end
+        raise cannot_write("standard output", error) from None
+    return 0
 
 
 def run(settings: Settings, program: str, progress: Progress, stopping: Stopping) -> int:

@@ -8,7 +8,7 @@ import shutil
 import signal
 import subprocess
 from contextlib import contextmanager
-from typing import Iterator, List
+from typing import Iterator, List, Optional
 
 from .refusals import FILES, Refusal, cannot_write
 
@@ -71,16 +71,17 @@ def temporary_folder(parent: str, name: str, stopping: Stopping) -> Iterator[str
 
 def run_program(words: List[str], stopping: Stopping) -> int:
     """Runs a program to its end and answers its status; a signal goes on to it."""
-    with stopping.held():
-        try:
-            child = subprocess.Popen(words)
-        except OSError as error:
-            raise Refusal(FILES, words[0], f"cannot run ({error.strerror})") from None
+    child: Optional[subprocess.Popen[bytes]] = None
     try:
+        with stopping.held():
+            child = subprocess.Popen(words)
         status = child.wait()
+    except OSError as error:
+        raise Refusal(FILES, words[0], f"cannot run ({error.strerror})") from None
     except Stopped as stopped:
-        child.send_signal(stopped.number)
-        child.wait()
+        if child is not None:
+            child.send_signal(stopped.number)
+            child.wait()
         raise
     return status if status >= 0 else 128 - status
 

@@ -31,7 +31,8 @@ Nothing is ever fetched: a URL that no package has is an error. Inputs are not c
 Status 0: the document is written. 1: the report or its taxonomy is wrong, or xbrl-json found a fault. 2: the words are no
 command line. 3: a file is not there, or cannot be read or written. The variable XBRL_JSON may name another xbrl-json.
 """
-OF_CONVERTER_WITH_VALUE = ("--out", "--workers", "--ring", "--layout")
+WITH_VALUE = ("--out", "--workers", "--ring", "--layout")
+WITHOUT_VALUE = ("--progress", "--version")
 
 
 @dataclass
@@ -102,12 +103,14 @@ def take_own(settings: Settings, name: str, value: str) -> None:
 
 
 def take_other(settings: Settings, words: List[str], at: int) -> int:
-    """Takes a word of xbrl-json, and the one after it where that is its value."""
+    """Takes a word of xbrl-json, and the one after it where that is its value. A word that is not known may have one, once REPORT is there."""
     word = words[at - 1]
     if word == "--types" or word.startswith("--types="):
         raise misuse("--types is made from the taxonomy and cannot be given")
     settings.rest.append(word)
-    if word in OF_CONVERTER_WITH_VALUE and at < len(words):
+    plain = at < len(words) and not words[at].startswith("--")
+    may_have_one = bool(settings.report) and word not in WITHOUT_VALUE and "=" not in word
+    if at < len(words) and (word in WITH_VALUE or (plain and may_have_one)):
         settings.rest.append(words[at])
         at += 1
     return at

@@ -261,6 +261,8 @@ def forms_of_reports(folder):
     stops(folder, "two reports", "r: has several xBRL-CSV reports: reports/b.json, reports/report.json", report={**REPORT, "reports/b.json": meta()})
     two = {"reports/a/r.json": meta(), "reports/b/r.json": meta()}
     stops(folder, "two reports in folders", "r: has several xBRL-CSV reports: reports/a/r.json, reports/b/r.json", report=two)
+    apart = {f"top/{it}": text for it, text in REPORT.items()}
+    stops(folder, "two folders at the top", "r: has no xBRL-CSV report in 'reports' or a folder of it", report={**apart, "other/x": ""})
     stops(folder, "no report", "r: has no xBRL-CSV report in 'reports' or a folder of it", report={"reports/a/b/r.json": meta()})
     draft = '{"documentInfo":{"documentType":"http://xbrl.org/PWD/2019-02-06/xbrl-csv"}}'
     line = "r: has no xBRL-CSV report in 'reports' or a folder of it; reports/r.json has the document type 'http://xbrl.org/PWD/2019-02-06/xbrl-csv'"
@@ -295,7 +297,7 @@ def catalogs(folder):
     by("an entry in a group", f"<group>{rewrite()}</group>", "reg")
     by("the base of a group", f'<group xml:base="../other/">{rewrite(prefix="")}</group>{rewrite("http://a/", "../reg/")}', "other")
     by("the base of a catalog", rewrite(prefix="./"), "other", attributes='xml:base="../other/"')
-    by("a base ends with its element", f'<group xml:base="../other/"/>{rewrite()}', "reg")
+    by("a base ends with its element", f'<group xml:base="../other/deep/"/>{rewrite()}', "reg")
     by("entries that are read past", f'<system systemId="{HOST}mod.json" uri="../other/mod.json"/><nextCatalog catalog="x"/>{rewrite()}', "reg")
     by("a start string that ends within a name", rewrite(HOST[:-4], "../re"), "reg", {"reple/mod.json": MODULE, "reple/mod.xsd": schema(ELEMENTS)})
     by("a rewritten URL is not rewritten again", rewrite() + rewrite("reg/", "../other/") + rewrite("../reg/", "../other/"), "reg")
@@ -1004,6 +1006,12 @@ def temporary_files(folder):
             wanted = [f"{home}/meta.json", "--types", f"{home}/types.csv", "--out", "doc.json", "--progress", "--ring=7", str(folder), links, "700"]
             case(f"the words of xbrl-json, {report}, {end}", (status, lines, err), (int(end), wanted, "said\n"))
             case("the folder stands under TMPDIR, and is gone", (os.path.dirname(home), os.listdir(temporary)), (str(temporary), []))
+    for given, passed in (
+        (["--new", "x", "--flag", "--progress", "--out", "d"], ["--new", "x", "--flag", "--progress", "--out", "d"]),
+        (["--out=d", "--layout", "lines"], ["--out=d", "--layout", "lines"]),
+    ):
+        seen = start(["r", "--taxonomy", "t", *given], folder, env=settings)[1].decode().splitlines()
+        case(f"words that go on {given}", seen[3 : 3 + len(passed)], passed)
     fake.write_text("#!/bin/sh\nkill -9 $$\n")
     case("xbrl-json that is killed", (start(["r", "--taxonomy", "t"], folder, env=settings)[0], os.listdir(temporary)), (137, []))
     seen = start(["r", "--taxonomy", "t"], folder, env={**settings, "XBRL_JSON": "/nonexistent/x"})
@@ -1038,6 +1046,44 @@ def temporary_files(folder):
     case("a full disk", (status, out, err.startswith(f"xbrl-filing: {temporary}/xbrl-filing-"), err.endswith("/t.csv: cannot write (File too large)\n"), os.listdir(temporary), (folder / "doc.json").exists()), (3, b"", True, True, [], False))
 
 
+def a_signal_between_two_steps(folder):
+    """A signal that comes while xbrl-json is being started is told to it, and one that comes while a folder is removed waits for that."""
+    import filing.stopping as stopping
+
+    seen = []
+
+    class Started(subprocess.Popen):
+        def __init__(self, given):
+            super().__init__(given)
+            seen.append(self)
+            os.kill(os.getpid(), signal.SIGTERM)
+
+    class Removing:
+        def rmtree(self, path, ignore_errors):
+            os.kill(os.getpid(), signal.SIGTERM)
+            shutil.rmtree(path, ignore_errors=ignore_errors)
+
+    kept = stopping.subprocess.Popen, stopping.shutil
+    try:
+        stopping.subprocess.Popen = Started
+        try:
+            status = stopping.run_program(["sleep", "30"], stopping.Stopping())
+        except stopping.Stopped as stopped:
+            status = stopped
+        case("a signal while xbrl-json is started", (getattr(status, "number", status), seen[0].poll()), (signal.SIGTERM, -signal.SIGTERM))
+        stopping.shutil = Removing()
+        try:
+            with stopping.temporary_folder(str(folder), "x-", stopping.Stopping()) as made:
+                write(Path(made), {"a/b": "c"})
+            status = 0
+        except stopping.Stopped as stopped:
+            status = stopped.number
+        case("a signal while the folder is removed", (status, os.listdir(folder)), (signal.SIGTERM, []))
+    finally:
+        stopping.subprocess.Popen, stopping.shutil = kept
+        heeding()
+
+
 def words(folder):
     """The words, the help, and outputs that are inputs."""
     write(folder, {**{f"r/{it}": text for it, text in REPORT.items()}, **{f"t/{it}": text for it, text in TAXONOMY.items()}})
@@ -1052,6 +1098,8 @@ def words(folder):
         (["r", "--taxonomy="], "--taxonomy names no package"),
         (["r", "r2", "--taxonomy", "t"], "'r2' is one word too many"),
         (["r", "", "--taxonomy", "t"], "'' is one word too many"),
+        (["r", "--progress", "yes"], "'yes' is one word too many"),
+        (["r", "--out=x", "yes"], "'yes' is one word too many"),
         (["r", "--taxonomy", "t", "--types", "x"], "--types is made from the taxonomy and cannot be given"),
         (["r", "--types=x"], "--types is made from the taxonomy and cannot be given"),
         (["r", "--prepare"], "--prepare needs a value"),
@@ -1065,6 +1113,11 @@ def words(folder):
         case(f"words {given}", run(given, folder), (2, f"xbrl-filing: {what}{usage}"))
     status, out, err = start(["r", "--help"], folder)
     case("--help", (status, b"--taxonomy PACKAGE.." in out, b"It is not proved" in out, err), (0, True, True, ""))
+    with open("/dev/full", "wb") as full:
+        done = subprocess.run([FILING, "--help"], stdout=full, stderr=subprocess.PIPE, timeout=60)
+    case("--help that cannot be written", (done.returncode, done.stderr), (3, b"xbrl-filing: standard output: cannot write (No space left on device)\n"))
+    done = subprocess.run([FILING, "none", "--prepare", "o"], cwd=folder, stdout=subprocess.PIPE, preexec_fn=lambda: os.close(2), timeout=60)
+    case("a refused run without standard error", (done.returncode, done.stdout), (3, b""))
     status, out, err = start(["r", "--taxonomy", "t", "--workers", "65", "--out", "doc.json"], folder)
     case("words that xbrl-json refuses", (status, out, err.startswith("error: "), (folder / "doc.json").exists()), (2, b"", True, False))
     seen = start(["r", "--taxonomy", "t", "--out", "no/doc.json"], folder)
@@ -1236,6 +1289,7 @@ PARTS = (
     unpacked_packages,
     tables,
     temporary_files,
+    a_signal_between_two_steps,
     words,
     caching,
     a_large_taxonomy,
