@@ -262,7 +262,7 @@ def forms_of_reports(folder):
     two = {"reports/a/r.json": meta(), "reports/b/r.json": meta()}
     stops(folder, "two reports in folders", "r: has several xBRL-CSV reports: reports/a/r.json, reports/b/r.json", report=two)
     apart = {f"top/{it}": text for it, text in REPORT.items()}
-    stops(folder, "two folders at the top", "r: has no xBRL-CSV report in 'reports' or a folder of it", report={**apart, "other/x": ""})
+    stops(folder, "two folders at the top", "r: has no xBRL-CSV report in 'reports' or a folder of it", report={**apart, "z/x": ""})
     stops(folder, "no report", "r: has no xBRL-CSV report in 'reports' or a folder of it", report={"reports/a/b/r.json": meta()})
     draft = '{"documentInfo":{"documentType":"http://xbrl.org/PWD/2019-02-06/xbrl-csv"}}'
     line = "r: has no xBRL-CSV report in 'reports' or a folder of it; reports/r.json has the document type 'http://xbrl.org/PWD/2019-02-06/xbrl-csv'"
@@ -354,6 +354,10 @@ def places(folder):
     for url in ("file:///etc/passwd", "ftp://reg.example/mod.json", "urn:x:y", "//reg.example/mod.json"):
         line = f"r/reports/report.json: no package has {url} (extends)"
         stops(folder, f"a URL of another kind {url}", line, report={**REPORT, "reports/report.json": meta({"extends": [url]})})
+    mapped = {**TAXONOMY, "META-INF/catalog.xml": catalog(rewrite() + rewrite("file:///") + rewrite("//reg.example/"))}
+    for url in ("file:///mod.json", "//reg.example/mod.json"):
+        line = f"r/reports/report.json: no package has {url} (extends)"
+        stops(folder, f"{url}, though a catalog has it", line, report={**REPORT, "reports/report.json": meta({"extends": [url]})}, taxonomies=[mapped])
     own = {**REPORT, "reports/report.json": meta({"extends": [HOST + "mod.json"], "taxonomy": ["own/own.xsd"], "namespaces": {"o": "http://own/"}})}
     own["reports/own/own.xsd"] = schema(include("more.xsd") + item("A"), "http://own/")
     own["reports/own/more.xsd"] = schema(include(HOST + "mod.xsd") + item("B", "xbrli:dateItemType"), "http://own/")
@@ -451,6 +455,9 @@ def chains(folder):
     case("types of all levels in byte order", made["types.csv"].decode(), "namespace,name,type2\n" + "".join(f"http://{it}/,C,text\n" for it in "abcde"))
     long = {**base, **{path: text for number in range(400) for path, text in level(f"n{number}", *([f"n{number + 1}.json"] if number < 399 else [])).items()}}
     makes(folder, "four hundred levels", parts={"documentInfo/taxonomy": [HOST + f"n{it}.xsd" for it in range(400)]}, report={"reports/report.json": meta(info("n0.json"))}, taxonomies=[long])
+    pairs = {path: text for number in range(24) for side in "xy" for path, text in level(f"{side}{number}", *([f"x{number + 1}.json", f"y{number + 1}.json"] if number < 23 else [])).items()}
+    order = [HOST + f"x{it}.xsd" for it in range(24)] + [HOST + f"y{it}.xsd" for it in range(23, -1, -1)]
+    made = makes(folder, "diamonds on diamonds, each file once", parts={"documentInfo/taxonomy": order}, report={"reports/report.json": meta(info("x0.json", "y0.json"))}, taxonomies=[{**base, **pairs}])
     ring = {**base, **level("a", "b.json"), **level("b", "c.json"), **level("c", "b.json")}
     stops(folder, "a ring", "t0/reg/c.json: extends itself, by way of t0/reg/b.json", report=report, taxonomies=[ring])
     itself = {**base, **level("a", "x/../a.json#b"), **level("b")}
@@ -1252,6 +1259,13 @@ def caching(folder):
     runs = [subprocess.Popen([FILING, "r", "--taxonomy", "t.zip", "--cache", "c", "--prepare", f"p{it}"], cwd=folder, stderr=subprocess.PIPE) for it in range(3)]
     case("several runs at once", [(it.communicate(timeout=60)[1], it.returncode) for it in runs], [(b"", 0)] * 3)
     case("leave one entry", ([(folder / f"p{it}/types.csv").read_text() for it in range(3)], len(entries())), ([TYPES] * 3, 1))
+    shutil.copytree(TOP / "filing", folder / "copy/filing", ignore=shutil.ignore_patterns("__pycache__"))
+    shutil.copy(FILING, folder / "copy/xbrl-filing")
+    for text, number in (("", 1), ("# another rule\n", 2)):
+        with open(folder / "copy/filing/kinds.py", "a") as module:
+            module.write(text)
+        done = subprocess.run([folder / "copy/xbrl-filing", "r", "--taxonomy", "t.zip", "--cache", "c", "--prepare", f"q{number}"], cwd=folder, timeout=60)
+        case(f"the program's own text counts, {number}", (done.returncode, len(entries())), (0, number))
     with_prefixes = {"m/META-INF/catalog.xml": catalog(rewrite()), "m/reg/mod.xsd": schema(ELEMENTS), "m/reg/mod.json": meta({**INFO, "namespaces": {"k": EG, "x": "http://x/"}}, dimensions={"k:Region": "x:a", "k:Branch": "x:a"})}
     write(folder, {**with_prefixes, "r5/reports/report.json": meta({"extends": [HOST + "mod.json"], "namespaces": {"eg": EG, "y": "http://x/"}})})
     for turn in ("first", "second"):
