@@ -50,7 +50,8 @@ class Cache:
                     block = file.read(length)
                     if digest_of_text(block) != known:
                         return None
-                    found[namespace] = dict(line.split(" ") for line in block.decode().splitlines())  # type: ignore[misc]
+                    lines = (line.partition(" ") for line in block.decode().split("\n"))
+                    found[namespace] = {name: kind for name, _, kind in lines if kind}
         except (OSError, ValueError, TypeError, RecursionError):
             return None
         return found

@@ -35,23 +35,29 @@ def main(words: List[str], program: str) -> int:
     """Runs the command; `program` is the path of xbrl-json. Answers the status."""
     progress = Progress()
     try:
-        stopping = Stopping()
-        if "--help" in words or words == ["-h"]:
-            return help_told()
-        return run(read_words(words), program, progress, stopping)
+        status, line = attempt(words, program, progress, Stopping())
+        progress.clear()
+        if line:
+            tell(f"{NAME}: {printable(line)}")
+        return status
     except Stopped as stopped:
         progress.clear()
         end_by_signal(stopped.number)
         return 128 + stopped.number
+
+
+def attempt(words: List[str], program: str, progress: Progress, stopping: Stopping) -> Tuple[int, str]:
+    """The status of a run, and the line that says why it ended early, where it did."""
+    try:
+        if "--help" in words or words == ["-h"]:
+            return help_told(), ""
+        return run(read_words(words), program, progress, stopping), ""
     except Refusal as refusal:
-        status, line = refusal.status, refusal.line
+        return refusal.status, refusal.line
     except MemoryError:
-        status, line = FILES, "there is not enough memory"
+        return FILES, "there is not enough memory"
     except Exception as error:  # a fault of this program is one line too
-        status, line = WRONG, f"a fault of the program: {type(error).__name__}: {error}"
-    progress.clear()
-    tell(f"{NAME}: {printable(line)}")
-    return status
+        return WRONG, f"a fault of the program: {type(error).__name__}: {error}"
 
 
 def tell(line: str) -> None:
@@ -62,10 +68,10 @@ def tell(line: str) -> None:
 
 
 def help_told() -> int:
+    """Writes the help, without a buffer that would be written once more at the end where this fails."""
     try:
-        print(HELP, end="", flush=True)
+        os.write(1, HELP.encode())
     except OSError as error:
-        sys.stdout = None  # type: ignore[assignment]  # what is left in its buffer is not written at the end
         raise cannot_write("standard output", error) from None
     return 0
 

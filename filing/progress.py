@@ -4,6 +4,7 @@ from __future__ import annotations
 
 import sys
 import time
+from contextlib import suppress
 from typing import Iterator
 
 EVERY = 0.1
@@ -31,11 +32,15 @@ class Progress:
         if self.on:
             self.shown = True
             self.next = time.monotonic() + EVERY
-            sys.stderr.write(f"\r\x1b[Kxbrl-filing: {text}")
-            sys.stderr.flush()
+            self.put(f"\r\x1b[Kxbrl-filing: {text}")
 
     def clear(self) -> None:
         if self.shown:
             self.shown = False
-            sys.stderr.write("\r\x1b[K")
+            self.put("\r\x1b[K")
+
+    @staticmethod
+    def put(text: str) -> None:
+        with suppress(OSError):
+            sys.stderr.write(text)
             sys.stderr.flush()

@@ -147,8 +147,9 @@ class SchemaFile(Content):
         reference = attributes.get(FOLLOWED[name])
         if reference is None or (name == LINKBASE_REF and attributes.get(ROLE, "").strip() in PASSED_OVER):
             return
-        if len(self.bases) == 1 and name != INCLUDE:
-            key = reference.partition("#")[0]
+        if name != INCLUDE:
+            file = reference.partition("#")[0]
+            key = file if len(self.bases) == 1 else f"{self.base().text} {file}"
             if key in self.asked:
                 return
             self.asked.add(key)
