@@ -2,7 +2,6 @@
 
 from __future__ import annotations
 
-from dataclasses import dataclass, field
 from typing import Dict, Iterator, List, Optional, Tuple
 
 from .finding import Finder, Found
@@ -13,13 +12,13 @@ from .urls import Place, joined
 DOCUMENT_TYPE = "https://xbrl.org/2021/xbrl-csv"
 
 
-@dataclass
 class Metadata:
     """One metadata file: what it says, and the places of the files that it extends, in order."""
 
-    found: Found
-    value: Object
-    extends: List[Place] = field(default_factory=list)
+    def __init__(self, found: Found, value: Object) -> None:
+        self.found = found
+        self.value = value
+        self.extends: List[Place] = []
 
     @property
     def label(self) -> str:

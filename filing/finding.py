@@ -2,8 +2,7 @@
 
 from __future__ import annotations
 
-from dataclasses import dataclass
-from typing import Optional, Sequence
+from typing import NamedTuple, Optional, Sequence
 
 from .catalog import CATALOG, STANDARD_HOSTS, Catalogs
 from .packages import Beside, Package
@@ -11,8 +10,7 @@ from .refusals import Refusal, wrong
 from .urls import Place
 
 
-@dataclass(frozen=True)
-class Found:
+class Found(NamedTuple):
     """A file: its place, and the package and the name by which it is read."""
 
     place: Place

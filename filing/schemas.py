@@ -4,7 +4,6 @@ from __future__ import annotations
 
 import re
 from collections import deque
-from dataclasses import dataclass, field
 from typing import Deque, Dict, List, NamedTuple, Optional, Set, Tuple
 
 from .finding import Finder, Found
@@ -32,7 +31,7 @@ FOLLOWED = {
     **{LINK + it: HREF for it in ("linkbaseRef", "loc", "roleRef", "arcroleRef")},
 }
 PASSED_OVER = frozenset(f"http://www.xbrl.org/2003/role/{it}LinkbaseRef" for it in ("label", "reference"))
-NCNAME = re.compile(
+NCNAME = (
     "[A-Z_a-z\u00c0-\u00d6\u00d8-\u00f6\u00f8-\u02ff\u0370-\u037d\u037f-\u1fff\u200c\u200d\u2070-\u218f\u2c00-\u2fef\u3001-\ud7ff"
     "\uf900-\ufdcf\ufdf0-\ufffd\U00010000-\U000effff]"
     "[-.0-9A-Z_a-z\u00b7\u00c0-\u00d6\u00d8-\u00f6\u00f8-\u037d\u037f-\u1fff\u200c\u200d\u203f\u2040\u2070-\u218f\u2c00-\u2fef"
@@ -49,12 +48,12 @@ class Element(NamedTuple):
     typed: bool
 
 
-@dataclass
 class Declared:
     """The global elements of all schemas, by namespace and name, and the base of each global type."""
 
-    elements: Dict[str, Dict[str, Element]] = field(default_factory=dict)
-    types: Dict[Name, Optional[Name]] = field(default_factory=dict)
+    def __init__(self) -> None:
+        self.elements: Dict[str, Dict[str, Element]] = {}
+        self.types: Dict[Name, Optional[Name]] = {}
 
 
 class Reference(NamedTuple):
@@ -81,6 +80,7 @@ class SchemaFile(Content):
         self.open: Optional[Tuple[bool, str, Dict[str, str]]] = None  # a global element or type whose content is still to come
         self.inside: List[str] = []
         self.derived_from: Optional[Name] = None
+        self.is_ncname = re.compile(NCNAME).fullmatch
         self.made: Dict[object, Element] = {}  # by what the attributes say, while the prefixes in scope are the same
 
     def start(self, name: str, attributes: Dict[str, str]) -> None:
@@ -207,7 +207,7 @@ class SchemaFile(Content):
 
     def ncname(self, attributes: Dict[str, str]) -> str:
         name = attributes.get("name", "").strip()
-        if not NCNAME.fullmatch(name):
+        if not self.is_ncname(name):
             raise wrong(self.label, f"declares '{name}', which is no name (line {self.line()})")
         return name
 

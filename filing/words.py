@@ -2,7 +2,6 @@
 
 from __future__ import annotations
 
-from dataclasses import dataclass, field
 from typing import Iterator, List, Optional
 
 from .refusals import WORDS, Refusal
@@ -35,16 +34,16 @@ WITH_VALUE = ("--out", "--workers", "--ring", "--layout")
 WITHOUT_VALUE = ("--progress", "--version")
 
 
-@dataclass
 class Settings:
     """What the words say. `rest` goes to xbrl-json as it is."""
 
-    report: str = ""
-    taxonomy: List[str] = field(default_factory=list)
-    prepare: Optional[str] = None
-    cache: Optional[str] = None
-    limit: int = DEFAULT_LIMIT
-    rest: List[str] = field(default_factory=list)
+    def __init__(self) -> None:
+        self.report = ""
+        self.taxonomy: List[str] = []
+        self.prepare: Optional[str] = None
+        self.cache: Optional[str] = None
+        self.limit = DEFAULT_LIMIT
+        self.rest: List[str] = []
 
     def outputs(self) -> Iterator[str]:
         """The files that xbrl-json is told to write."""
