@@ -28,8 +28,6 @@ class Merged:
         """Puts a value at a path. A value that is there already must be equal (xBRL-CSV 1.0, extends)."""
         owner: Any = self.value
         for depth, name in enumerate(path[:-1], 1):
-            if not isinstance(owner, dict):
-                raise self.conflict(path[: depth - 1], label)
             if name not in owner:
                 self.origins[path[:depth]] = label
             owner = owner.setdefault(name, {})

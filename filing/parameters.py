@@ -39,7 +39,7 @@ def parameters_of_file(files: Files) -> Iterator[Tuple[str, str, str]]:
         return
     label = files.package.shown(files.name(files.parameters or ""))
     try:
-        for record in csv.reader(io.StringIO(data.decode("utf-8-sig", "replace"), newline="")):
+        for record in csv.reader(io.StringIO(data.decode("utf-8", "replace"), newline="")):
             if len(record) == 2:
                 yield record[0], record[1], label
     except csv.Error:

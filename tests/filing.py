@@ -12,6 +12,7 @@ import io
 import json
 import os
 import pty
+import resource
 import shutil
 import signal
 import struct
@@ -28,7 +29,7 @@ EXAMPLE = TOP / "examples/filing"
 FILING = str(TOP / "xbrl-filing")
 sys.path.insert(0, str(TOP))
 
-from filing.command import main as filing_main  # noqa: E402
+from filing import command, packages, stopping  # noqa: E402
 
 HOST = "http://reg.example/"
 CSV = "https://xbrl.org/2021/xbrl-csv"
@@ -130,7 +131,7 @@ def run(words, folder):
     os.chdir(folder)
     try:
         with contextlib.redirect_stderr(err), contextlib.redirect_stdout(io.StringIO()):
-            status = filing_main([str(it) for it in words], "/nonexistent/xbrl-json")
+            status = command.main([str(it) for it in words], "/nonexistent/xbrl-json")
     finally:
         os.chdir(before)
     return status, err.getvalue()
@@ -153,20 +154,20 @@ def prepared(folder, report=REPORT, taxonomies=(TAXONOMY,), words=(), name="repo
     shutil.rmtree(folder / "w", ignore_errors=True)
     work = folder / "w"
     work.mkdir()
-    packages = ["r"] + [f"t{number}" for number in range(len(taxonomies))]
-    for label, files in zip(packages, [report, *taxonomies]):
+    labels = ["r"] + [f"t{number}" for number in range(len(taxonomies))]
+    for label, files in zip(labels, [report, *taxonomies]):
         if form == "folder" or label == "r" and form == "file":
             write(work / label, files)
         else:
             pack(work / label, files, "top/" if form == "top" else "")
     before = listing(work)
     given = f"r/{name}" if form == "file" else "r"
-    status, err = run([given, *(["--taxonomy", *packages[1:]] if taxonomies else []), "--prepare", "out", *words], work)
+    status, err = run([given, *(["--taxonomy", *labels[1:]] if taxonomies else []), "--prepare", "out", *words], work)
     after = listing(work)
     made = {path[len("out/") :]: text for path, text in after.items() if path.startswith("out/")}
     case("inputs stay, and nothing is left beside them", {it: text for it, text in after.items() if not it.startswith("out/")}, before)
     if status:
-        case("a refused run prepares nothing", (made, sorted(os.listdir(work))), ({}, sorted(packages)))
+        case("a refused run prepares nothing", (made, sorted(os.listdir(work))), ({}, sorted(labels)))
     return status, err, made
 
 
@@ -310,6 +311,10 @@ def catalogs(folder):
     case("the report's own catalog wins", at(json.loads(made["meta.json"]), two), "http://two.example/")
     percent = meta({"extends": [HOST + "a%20%C3%A9.json#x"]})
     makes(folder, "percent signs", MERGED, report={**REPORT, "reports/report.json": percent}, taxonomies=[{**TAXONOMY, "reg/a é.json": MODULE}])
+
+
+def catalogs_refused(folder):
+    """Catalogs and URLs that lead outside, and URLs that no package has."""
     outside = "t0/META-INF/catalog.xml: has an entry that leads outside of the package: '{}' (line 1)"
     for prefix in ("../../", "/etc/", "file:///etc/", "..%2F..%2F", "%2e%2e/%2e%2e/", "a/../../../b/", "//host/"):
         stops(folder, f"a prefix {prefix}", outside.format(prefix), taxonomies=[{**TAXONOMY, "META-INF/catalog.xml": catalog(rewrite() + rewrite("http://b/", prefix))}])
@@ -365,18 +370,22 @@ def places(folder):
     case("their URLs stand as written", json.loads(made["meta.json"])["documentInfo"]["taxonomy"], ["own/own.xsd", HOST + "mod.xsd"])
 
 
+FIRST, SECOND = "r/reports/report.json", "t0/reg/mod.json"
+TWO_TEMPLATES = {"p": {"columns": {"x": {}}}, "q": {"columns": {}}}
+
+
+def both(report, module, info=None, module_info=None):
+    """A report and the module that it extends, by what they say."""
+    return {
+        "report": {**REPORT, "reports/report.json": meta({"extends": [HOST + "mod.json"], **(info or {})}, **report)},
+        "taxonomies": [{**TAXONOMY, "reg/mod.json": meta({**INFO, **(module_info or {})}, **module)}],
+    }
+
+
 def joining(folder):
-    """Each part of the metadata: by key, by member, or one value."""
-
-    def both(report, module, info=None, module_info=None):
-        return {
-            "report": {**REPORT, "reports/report.json": meta({"extends": [HOST + "mod.json"], **(info or {})}, **report)},
-            "taxonomies": [{**TAXONOMY, "reg/mod.json": meta({**INFO, **(module_info or {})}, **module)}],
-        }
-
-    first, second = "r/reports/report.json", "t0/reg/mod.json"
+    """Parts of the metadata that are joined by key, or that have one value."""
+    first, second, templates = FIRST, SECOND, TWO_TEMPLATES
     tables = {"a": {"url": "a.csv", "template": "p"}, "b": {"url": "b.csv", "template": "q"}}
-    templates = {"p": {"columns": {"x": {}}}, "q": {"columns": {}}}
     for part, one, two, other in [
         ("dimensions", {"eg:Branch": "x", "entity": "eg:A"}, {"entity": "eg:A", "period": "2025"}, {"entity": "eg:B"}),
         ("parameters", {"a": "1", "b": "2"}, {"b": "2", "c": "3"}, {"b": "x"}),
@@ -390,7 +399,7 @@ def joining(folder):
     stops(folder, "no completed templates", line, **both({"tableTemplates": {"p": {}}}, {"tableTemplates": templates}))
     one, two = {"columns": {"x": {"dimensions": {"unit": "a:b", "concept": "eg:Cash"}}}, "decimals": 0}, {"decimals": 0, "columns": {"x": {"dimensions": {"concept": "eg:Cash", "unit": "a:b"}}}}
     makes(folder, "the order of members does not count", parts={"tableTemplates/p": one}, **both({"tableTemplates": {"p": one}, "tables": tables}, {"tableTemplates": {"p": two, "q": {"columns": {}}}}))
-    for a, b in ((0, 0.0), (1, True), (0, "0"), (0, None)):
+    for a, b in ((0, 0.0), (1, True), (0, "0"), (0, None), (None, 0)):
         stops(folder, f"{a!r} is not {b!r}", f"{second}: 'decimals' has another value than in {first}", **both({"decimals": a}, {"decimals": b}))
     makes(folder, "decimals that are equal", parts={"decimals": -3}, **both({"decimals": -3}, {"decimals": -3}))
     makes(folder, "parameterURL of the module", parts={"parameterURL": "p.csv"}, report={**REPORT, "reports/p.csv": "name,value\n"}, taxonomies=both({}, {"parameterURL": "p.csv"})["taxonomies"])
@@ -399,6 +408,11 @@ def joining(folder):
     makes(folder, "namespaces by prefix", parts={"documentInfo/namespaces": {"eg": EG, "x": "http://x/"}}, **both({}, {}, {"namespaces": {**namespaces, "eg": EG}}))
     line = f"{second}: 'documentInfo.namespaces.eg' has another value than in {first}"
     stops(folder, "a prefix of two namespaces", line, **both({}, {}, {"namespaces": {"eg": "http://x/"}}))
+
+
+def joining_tables(folder):
+    """Tables are joined member by member: what one file leaves open another may give."""
+    first, second, templates = FIRST, SECOND, TWO_TEMPLATES
     open_table = both({"tables": {"t": {"optional": True, "parameters": {"a": "1"}}}}, {"tables": {"t": {"url": "t.csv", "template": "p", "x:note": 1, "parameters": {"a": "1", "b": "2"}}}, "tableTemplates": templates})
     made = makes(folder, "a table that is completed", parts={"tables": {"t": {"url": "t.csv", "template": "p", "optional": True, "parameters": {"a": "1", "b": "2"}}}}, **open_table)
     case("tables that are named are taken along", made.get("t.csv"), b"cash\n1\n")
@@ -410,6 +424,11 @@ def joining(folder):
     stops(folder, "a table that is none", f"{second}: 'tables.t' has another value than in {first}", **both({"tables": {"t": {}}}, {"tables": {"t": 1}}))
     line = f"{second}: 'tables.t.parameters.a' has another value than in {first}"
     stops(folder, "parameters of a table that are none", line.replace(".parameters.a", ".parameters"), **both({"tables": {"t": {"parameters": 1}}}, {"tables": {"t": {"parameters": {"a": "1"}}}}))
+
+
+def leaving_out(folder):
+    """What is left out, and links, which are refused."""
+    first, second = FIRST, SECOND
     unused = both({}, {"tables": {"t": {"url": "t.csv"}}, "tableTemplates": {"t": {**TEMPLATE, "x:y": 1}, "unused": {"dimensions": {"eg:None": "a"}, "columns": {}}}})
     makes(folder, "templates that no table uses are left out", MERGED, **unused)
     extra = {"features": {"a": 1}, "linkTypes": {"a": "b"}, "linkGroups": {}, "x:y": {"deep": [1]}, "links": {}, "other": 2}
@@ -420,6 +439,11 @@ def joining(folder):
     for links in ({"a": {}}, {"a": {"b": {"c": ["d"]}}}):
         stops(folder, f"links {links}", f"{second}: has 'links', which cannot be carried over", **both({}, {"links": links}))
         stops(folder, f"links of the report {links}", f"{first}: has 'links', which cannot be carried over", **both({"links": links}, {}))
+
+
+def entry_points(folder):
+    """The taxonomy's URLs and their base, and parts of a wrong shape."""
+    second = SECOND
     base = both({}, {}, {"baseURL": "http://filer.example/a/", "taxonomy": ["own.xsd", HOST + "mod.xsd"]}, {"baseURL": "http://reg.example/d/e/", "taxonomy": ["../../mod.xsd", "x.xsd"]})
     base["taxonomies"][0].update({"reg/d/e/x.xsd": schema(item("X"))})
     base["taxonomies"].append({"META-INF/catalog.xml": catalog(rewrite("http://filer.example/", "../f/")), "f/a/own.xsd": schema(item("O"))})
@@ -431,8 +455,7 @@ def joining(folder):
     text = meta({"extends": [HOST + "mod.json"]}).encode()
     makes(folder, "a byte-order mark", MERGED, report={**REPORT, "reports/report.json": b"\xef\xbb\xbf" + text})
     for name in ("tableTemplates", "tables", "dimensions", "parameters", "links"):
-        if name != "links":
-            stops(folder, f"{name} that is a list", f"{second}: '{name}' is not an object", **both({}, {name: []}))
+        stops(folder, f"{name} that is a list", f"{second}: '{name}' is not an object", **both({}, {name: []}))
     for name in ("namespaces", "final"):
         stops(folder, f"{name} that is a text", f"{second}: '{name}' is not an object", **both({}, {}, {}, {name: "x"}))
     for name, value in (("extends", "x"), ("extends", [1]), ("taxonomy", {}), ("taxonomy", [None])):
@@ -464,6 +487,10 @@ def chains(folder):
     stops(folder, "a file that extends itself", "t0/reg/a.json: extends itself", report=report, taxonomies=[itself])
     own = {"reports/report.json": meta({"extends": ["./%72eport.json"]})}
     stops(folder, "a report that extends itself", "r/reports/report.json: extends itself", report=own, taxonomies=[])
+
+
+def what_is_no_metadata(folder):
+    """Files that are no metadata files, and JSON that is none for the converter."""
     for name, text, what in (
         ("another document type", '{"documentInfo":{"documentType":"https://xbrl.org/2021/xbrl-json"}}', "is no xBRL-CSV metadata file: its document type is 'https://xbrl.org/2021/xbrl-json'"),
         ("no document type", '{"documentInfo":{}}', "is no xBRL-CSV metadata file: it has no 'documentInfo.documentType'"),
@@ -540,9 +567,19 @@ def final_parts(folder):
     stops(folder, "final that is no truth", f"{low}: 'documentInfo.final.tables' is neither true nor false", **chain("x:y", None, None, {"tables": "yes"}))
 
 
+def two_prefixes(**parts):
+    """A taxonomy whose module has the prefixes `m` and `g`, where the report has `n` and `eg`."""
+    return {**TAXONOMY, "reg/mod.json": meta({"namespaces": {"m": "http://mem/", "g": EG}, "taxonomy": ["mod.xsd"]}, **parts)}
+
+
+def named_report(**parts):
+    info = {"extends": [HOST + "mod.json"], "namespaces": {"eg": EG, "n": "http://mem/"}}
+    return {**REPORT, "reports/report.json": meta(info, **parts)}
+
+
 def prefixes(folder):
     """Two prefixes of one namespace: the first stands, and the other is replaced wherever it is a prefix."""
-    mem, other = "http://mem/", "http://other/"
+    mem = "http://mem/"
     shown = {
         "dimensions": {"concept": "eg:Cash", "unit": "(m:a*eg:b)/m:c", "entity": "m:a:m:b", "eg:Region": "m:x", "eg:Branch": "m:x", "period": "m:x", "language": "m:x"},
         "decimals": "$m",
@@ -553,10 +590,8 @@ def prefixes(folder):
         "dimensions": {"g:Region": "m:x", "g:Branch": "m:x"},
         "columns": {"m": {}, "g": {"propertyGroups": {"m:x": shown, "s": {"dimensions": special}}}, "f": {**shown, "propertiesFrom": ["g"]}},
     }
-    module = {**TAXONOMY, "reg/mod.json": meta({"namespaces": {"m": mem, "g": EG, "eg": other}, "taxonomy": ["mod.xsd"]})}
-    del module["reg/mod.json"]
-    module["reg/mod.json"] = meta({"namespaces": {"m": mem, "g": EG}, "taxonomy": ["mod.xsd"]}, tableTemplates={"t": template}, tables={"t": {"url": "t.csv"}}, dimensions={"g:Region": "m:x", "g:Branch": "m:x"})
-    report = {**REPORT, "reports/report.json": meta({"extends": [HOST + "mod.json"], "namespaces": {"eg": EG, "n": mem}}, dimensions={"eg:Region": "n:x"})}
+    module = two_prefixes(tableTemplates={"t": template}, tables={"t": {"url": "t.csv"}}, dimensions={"g:Region": "m:x", "g:Branch": "m:x"})
+    report = named_report(dimensions={"eg:Region": "n:x"})
     replaced = {
         "dimensions": {"concept": "eg:Cash", "unit": "(n:a*eg:b)/n:c", "entity": "n:a:m:b", "eg:Region": "n:x", "eg:Branch": "m:x", "period": "m:x", "language": "m:x"},
         "decimals": "$m",
@@ -567,19 +602,25 @@ def prefixes(folder):
         "columns": {"m": {}, "g": {"propertyGroups": {"m:x": replaced, "s": {"dimensions": special}}}, "f": {**replaced, "propertiesFrom": ["g"]}},
     }
     parts = {"documentInfo/namespaces": {"eg": EG, "n": mem}, "tableTemplates/t": wanted, "dimensions": {"eg:Region": "n:x", "eg:Branch": "m:x"}}
-    made = makes(folder, "a prefix is replaced", TYPES and None, TYPES, report=report, taxonomies=[module])
+    made = makes(folder, "a prefix is replaced", None, TYPES, report=report, taxonomies=[module])
     value = json.loads(made["meta.json"])
     case("in all its places and in no others", {it: at(value, it) for it in parts}, parts)
     for unit, wanted_unit in (("m:a/m:b", "n:a/n:b"), ("m:a*m:b*eg:m", "n:a*n:b*eg:m"), ("((m:a))", "((n:a))"), ("mm:a", "mm:a"), ("eg:m", "eg:m")):
-        one = {**module, "reg/mod.json": meta({"namespaces": {"m": mem, "g": EG}, "taxonomy": ["mod.xsd"]}, dimensions={"unit": unit})}
+        one = two_prefixes(dimensions={"unit": unit})
         makes(folder, f"the unit {unit}", parts={"dimensions/unit": wanted_unit}, report=report, taxonomies=[one])
-    two_values = {**module, "reg/mod.json": meta({"namespaces": {"m": mem, "g": EG}, "taxonomy": ["mod.xsd"]}, dimensions={"g:Region": "m:y"})}
+
+
+def keys_that_become_one(folder):
+    """Keys and templates that are one once a prefix is replaced, and prefixes that are left."""
+    mem, report = "http://mem/", named_report(dimensions={"eg:Region": "n:x"})
+    two_values = two_prefixes(dimensions={"g:Region": "m:y"})
     stops(folder, "two keys that become one", "t0/reg/mod.json: 'dimensions.eg:Region' has another value than in r/reports/report.json", report=report, taxonomies=[two_values])
-    both = {**TAXONOMY, "reg/mod.json": meta({"namespaces": {"m": mem, "g": EG}, "taxonomy": ["mod.xsd"]}, tableTemplates={"t": {"columns": {"f": {"dimensions": {"g:Region": "m:x", "eg:Region": "n:y"}}}}}, tables={"t": {"url": "t.csv"}})}
+    columns = {"f": {"dimensions": {"g:Region": "m:x", "eg:Region": "n:y"}}}
+    both_keys = two_prefixes(tableTemplates={"t": {"columns": columns}}, tables={"t": {"url": "t.csv"}})
     line = "t0/reg/mod.json: gives 'eg:Region' two values under two prefixes (template 't', column 'f')"
-    stops(folder, "two keys of a column that become one", line, report=report, taxonomies=[both])
-    same = json.loads(both["reg/mod.json"].replace("n:y", "n:x"))
-    makes(folder, "with one value", parts={"tableTemplates/t/columns/f/dimensions": {"eg:Region": "n:x"}}, report=report, taxonomies=[{**both, "reg/mod.json": json.dumps(same)}])
+    stops(folder, "two keys of a column that become one", line, report=report, taxonomies=[both_keys])
+    same = json.loads(both_keys["reg/mod.json"].replace("n:y", "n:x"))
+    makes(folder, "with one value", parts={"tableTemplates/t/columns/f/dimensions": {"eg:Region": "n:x"}}, report=report, taxonomies=[{**both_keys, "reg/mod.json": json.dumps(same)}])
     equal = {**TAXONOMY, "reg/mod.json": meta({"namespaces": {"g": EG}, "taxonomy": ["mod.xsd"]}, tableTemplates={"t": {"columns": {"f": {"dimensions": {"concept": "g:Cash"}}}}}, tables={"t": {"url": "t.csv"}})}
     again = {**REPORT, "reports/report.json": meta({"extends": [HOST + "mod.json"], "namespaces": {"eg": EG}}, tableTemplates={"t": {"columns": {"f": {"dimensions": {"concept": "eg:Cash"}}}}})}
     makes(folder, "a template restated with another prefix is equal", parts={"documentInfo/namespaces": {"eg": EG}}, types=TYPES, report=again, taxonomies=[equal])
@@ -587,30 +628,40 @@ def prefixes(folder):
     makes(folder, "two prefixes in one file are left", parts={"documentInfo/namespaces": {"a": EG, "b": EG, "eg": EG, "n": mem}, "dimensions": {"a:Region": "b:x", "eg:Region": "n:x"}}, report=report, taxonomies=[twice])
     third = {**TAXONOMY, "reg/mod.json": meta({"namespaces": {"m": mem}, "extends": ["low.json"], "taxonomy": ["mod.xsd"]}), "reg/low.json": meta({"namespaces": {"k": mem}}, dimensions={"entity": "k:1"})}
     makes(folder, "three prefixes in three files", parts={"documentInfo/namespaces": {"m": mem}, "dimensions/entity": "m:1"}, taxonomies=[third])
+
+
+def lost_prefixes(folder):
+    """Parameters whose texts need a prefix that the merged metadata does not have."""
+    module = two_prefixes()
     lost = "r/reports/{}: the parameter '{}' has the prefix 'm', for which 'n' stands ({})"
     for name, text in (("a", "m:x"), ("b", "eg:y/m:x"), ("c", "(m:x)")):
-        inside = {**report, "reports/report.json": meta({"extends": [HOST + "mod.json"], "namespaces": {"eg": EG, "n": mem}}, parameters={name: text})}
+        inside = named_report(parameters={name: text})
         stops(folder, f"a parameter {text}", lost.format("report.json", name, text), report=inside, taxonomies=[module])
-        table = {**report, "reports/report.json": meta({"extends": [HOST + "mod.json"], "namespaces": {"eg": EG, "n": mem}}, tables={"t": {"parameters": {name: text}}})}
+        table = named_report(tables={"t": {"parameters": {name: text}}})
         stops(folder, f"a table's parameter {text}", lost.format("report.json", name, text), report=table, taxonomies=[module])
-        file = {**report, "reports/report.json": meta({"extends": [HOST + "mod.json"], "namespaces": {"eg": EG, "n": mem}}, parameterURL="p.csv"), "reports/p.csv": f'\ufeffname,value\nx,n:x\n{name},"{text}"\n'}
+        file = {**named_report(parameterURL="p.csv"), "reports/p.csv": f'\ufeffname,value\nx,n:x\n{name},"{text}"\n'}
         for form in ("folder", "zip"):
-            stops(folder, f"a parameter {text} in a file, {form}", lost.format("p.csv", name, text), report=file, taxonomies=[module], form=form)
-    kept = {**report, "reports/report.json": meta({"extends": [HOST + "mod.json"], "namespaces": {"eg": EG, "n": mem}}, parameters={"a": "n:x", "b": "am:x", "c": "m"})}
-    makes(folder, "parameters without it", parts={"parameters": {"a": "n:x", "b": "am:x", "c": "m"}}, report=kept, taxonomies=[module])
+            line = lost.format("p.csv", name, text)
+            stops(folder, f"a parameter {text} in a file, {form}", line, report=file, taxonomies=[module], form=form)
+    kept = {"a": "n:x", "b": "am:x", "c": "m"}
+    makes(folder, "parameters without it", parts={"parameters": kept}, report=named_report(parameters=kept), taxonomies=[module])
+
+
+ONE, LEAF = records("A,text"), {"reg/d/leaf.xsd": schema(item("A"))}
+
+
+def reads(folder, name, files, types):
+    """A case: a taxonomy with these files gives this types table."""
+    makes(folder, name, types=types, taxonomies=[{**TAXONOMY, **files}])
+
+
+def refuses(folder, name, files, line):
+    stops(folder, name, line, taxonomies=[{**TAXONOMY, **files}])
 
 
 def reading_schemas(folder):
     """Which schemas and linkbases are read, and by which names and prefixes."""
-
-    def over(name, files, types, **more):
-        makes(folder, name, types=types, taxonomies=[{**TAXONOMY, **files}], **more)
-
-    def refused(name, files, line):
-        stops(folder, name, line, taxonomies=[{**TAXONOMY, **files}])
-
-    one = records("A,text")
-    leaf = {"reg/d/leaf.xsd": schema(item("A"))}
+    one, leaf = ONE, LEAF
     for name, body in {
         "an import": include("d/leaf.xsd"),
         "an import that is indented": include("  d/leaf.xsd\n "),
@@ -623,60 +674,86 @@ def reading_schemas(folder):
         "a base that has ended": f'<xs:annotation xml:base="x/"/>{include("d/leaf.xsd")}',
         "a base inside of a type": f'<xs:complexType name="t" xml:base="x/"><xs:annotation><xs:appinfo>{loc("../d/leaf.xsd", "roleRef")}</xs:appinfo></xs:annotation><xs:sequence/></xs:complexType>',
     }.items():
-        over(name, {**leaf, "reg/mod.xsd": schema(body)}, one)
-    over("the base of a schema", {**leaf, "reg/mod.xsd": schema(include("leaf.xsd"), attributes=f'xml:base="{HOST}d/"')}, one)
+        reads(folder, name, {**leaf, "reg/mod.xsd": schema(body)}, one)
+    reads(folder, "the base of a schema", {**leaf, "reg/mod.xsd": schema(include("leaf.xsd"), attributes=f'xml:base="{HOST}d/"')}, one)
+
+
+def reading_linkbases(folder):
+    """What linkbases lead to, which of them are read, and their bases."""
+    one, leaf = ONE, LEAF
     for kind in ("loc", "linkbaseRef", "roleRef", "arcroleRef"):
         links = {**leaf, "reg/mod.xsd": schema(f"<xs:annotation><xs:appinfo>{loc('l.xml', 'linkbaseRef')}</xs:appinfo></xs:annotation>")}
-        over(f"a {kind} of a linkbase", {**links, "reg/l.xml": linkbase(f"<a><b>{loc('d/leaf.xsd#A', kind)}</b></a>")}, one)
-        over(f"a {kind} of a schema", {**leaf, "reg/mod.xsd": schema(f"<xs:annotation><xs:appinfo>{loc('d/leaf.xsd#A', kind)}</xs:appinfo></xs:annotation>")}, one)
-        refused(f"a {kind} that leads nowhere", {**links, "reg/l.xml": linkbase("\n" + loc("none.xsd#A", kind))}, f"t0/reg/l.xml: no package has {HOST}none.xsd ({kind}, line 2)")
-        over(f"a {kind} of another namespace", {**links, "reg/l.xml": linkbase(f'<x:{kind} xmlns:x="http://x/" xlink:href="none.xsd"/>' + loc("d/leaf.xsd"))}, one)
+        reads(folder, f"a {kind} of a linkbase", {**links, "reg/l.xml": linkbase(f"<a><b>{loc('d/leaf.xsd#A', kind)}</b></a>")}, one)
+        reads(folder, f"a {kind} of a schema", {**leaf, "reg/mod.xsd": schema(f"<xs:annotation><xs:appinfo>{loc('d/leaf.xsd#A', kind)}</xs:appinfo></xs:annotation>")}, one)
+        refuses(folder, f"a {kind} that leads nowhere", {**links, "reg/l.xml": linkbase("\n" + loc("none.xsd#A", kind))}, f"t0/reg/l.xml: no package has {HOST}none.xsd ({kind}, line 2)")
+        reads(folder, f"a {kind} of another namespace", {**links, "reg/l.xml": linkbase(f'<x:{kind} xmlns:x="http://x/" xlink:href="none.xsd"/>' + loc("d/leaf.xsd"))}, one)
     entry = {"reg/mod.xsd": linkbase(loc("d/leaf.xsd#A"))}
-    over("an entry point that is a linkbase", {**leaf, **entry}, one)
+    reads(folder, "an entry point that is a linkbase", {**leaf, **entry}, one)
     inner = {**leaf, "reg/mod.xsd": linkbase(f'<a xml:base="x/">{loc("../d/leaf.xsd")}<b xml:base="../d/"><c/>{loc("two.xsd")}</b>{loc("../d/three.xsd")}</a>{loc("d/four.xsd")}')}
     inner.update({f"reg/d/{it}.xsd": schema(item(it)) for it in ("two", "three", "four")})
-    over("bases of a linkbase", inner, records("A,text", "four,text", "three,text", "two,text"))
-    over("the base of a whole linkbase", {**leaf, "reg/mod.xsd": linkbase(f'<a xml:base="x/">{loc("../leaf.xsd")}</a>{loc("leaf.xsd")}', 'xml:base="d/"')}, one)
+    reads(folder, "bases of a linkbase", inner, records("A,text", "four,text", "three,text", "two,text"))
+    twice = {**leaf, "reg/e/leaf.xsd": schema(item("B")), "reg/mod.xsd": linkbase(f'<a xml:base="d/">{loc("leaf.xsd")}</a><a xml:base="e/">{loc("leaf.xsd")}</a>')}
+    reads(folder, "one reference under two bases", twice, records("A,text", "B,text"))
+    reads(folder, "the base of a whole linkbase", {**leaf, "reg/mod.xsd": linkbase(f'<a xml:base="x/">{loc("../leaf.xsd")}</a>{loc("leaf.xsd")}', 'xml:base="d/"')}, one)
     for kind in ("label", "reference"):
         role = f'<link:linkbaseRef xlink:href="none.xml" xlink:role="http://www.xbrl.org/2003/role/{kind}LinkbaseRef"/>'
-        over(f"{kind} linkbases are passed over", {"reg/mod.xsd": schema(role + item("A"))}, one)
+        reads(folder, f"{kind} linkbases are passed over", {"reg/mod.xsd": schema(role + item("A"))}, one)
     role = '<link:linkbaseRef xlink:href="none.xml" xlink:role="http://www.xbrl.org/2003/role/presentationLinkbaseRef"/>'
-    refused("presentation linkbases are not", {"reg/mod.xsd": schema(role)}, f"t0/reg/mod.xsd: no package has {HOST}none.xml (linkbaseRef, line 1)")
-    over("imports in a ring, each file once", {"reg/mod.xsd": schema(include("d/leaf.xsd") + item("B")), "reg/d/leaf.xsd": schema(include("../mod.xsd") + include("leaf.xsd#x") + item("A"))}, records("A,text", "B,text"))
-    over("one schema by two URLs", {**leaf, "reg/mod.xsd": schema(include("d/leaf.xsd") + include("https://reg.example/d/leaf.xsd")), "META-INF/catalog.xml": catalog(rewrite() + rewrite("https://reg.example/"))}, one)
-    refused("an import that no package has", {"reg/mod.xsd": schema("\n" + include("http://far.example/x.xsd#a"))}, "t0/reg/mod.xsd: no package has http://far.example/x.xsd (import, line 2)")
-    refused("an import of a file", {"reg/mod.xsd": schema(include("file:///etc/passwd"))}, "t0/reg/mod.xsd: no package has file:///etc/passwd (import, line 1)")
+    refuses(folder, "presentation linkbases are not", {"reg/mod.xsd": schema(role)}, f"t0/reg/mod.xsd: no package has {HOST}none.xml (linkbaseRef, line 1)")
+
+
+def reading_once(folder):
+    """Rings, schemas by two URLs, and schemas that no package has."""
+    one, leaf = ONE, LEAF
+    reads(folder, "imports in a ring, each file once", {"reg/mod.xsd": schema(include("d/leaf.xsd") + item("B")), "reg/d/leaf.xsd": schema(include("../mod.xsd") + include("leaf.xsd#x") + item("A"))}, records("A,text", "B,text"))
+    two = {"reg/mod.xsd": schema(include("a.xsd") + include("b.xsd")), "reg/a.xsd": schema(item("A", "xbrli:dateItemType")), "reg/b.xsd": schema(item("A") + item("B"))}
+    reads(folder, "two declarations of one name", two, records("A,date", "B,text"))
+    reads(folder, "one schema by two URLs", {**leaf, "reg/mod.xsd": schema(include("d/leaf.xsd") + include("https://reg.example/d/leaf.xsd")), "META-INF/catalog.xml": catalog(rewrite() + rewrite("https://reg.example/"))}, one)
+    refuses(folder, "an import that no package has", {"reg/mod.xsd": schema("\n" + include("http://far.example/x.xsd#a"))}, "t0/reg/mod.xsd: no package has http://far.example/x.xsd (import, line 2)")
+    refuses(folder, "an import of a file", {"reg/mod.xsd": schema(include("file:///etc/passwd"))}, "t0/reg/mod.xsd: no package has file:///etc/passwd (import, line 1)")
     stops(folder, "an entry point that no package has", f"t0/reg/mod.json: no package has {HOST}none.xsd (taxonomy)", taxonomies=[{**TAXONOMY, "reg/mod.json": meta({**INFO, "taxonomy": ["none.xsd"]})}])
     own = {**TAXONOMY, "META-INF/catalog.xml": catalog(rewrite() + rewrite("http://www.xbrl.org/", "../xbrl/")), "xbrl/own.xsd": schema(item("A")), "reg/mod.xsd": schema(include("http://www.xbrl.org/own.xsd"))}
     makes(folder, "the standard's own schemas where a package has them", types=one, taxonomies=[own])
-    # A schema without a namespace takes that of the schema that includes it, for its names and for unprefixed ones.
+
+
+def including(folder):
+    """A schema without a namespace takes that of the schema that includes it, for its names and for unprefixed ones."""
     plain = schema('<xs:complexType name="T"><xs:simpleContent><xs:restriction base="xbrli:dateItemType"/></xs:simpleContent></xs:complexType>' + item("A", "T"), "")
     two = {"reg/mod.xsd": schema(include("plain.xsd", "include") + include("two.xsd")), "reg/two.xsd": schema(include("plain.xsd", "include") + item("B"), "http://two/"), "reg/plain.xsd": plain}
     both = {**two, "reg/mod.json": meta({**INFO, "namespaces": {"eg": EG, "two": "http://two/"}})}
-    over("an included schema without a namespace", two, records("A,date"))
-    over("included by two", both, records("A,date") + "http://two/,A,date\nhttp://two/,B,text\n")
-    over("included through another", {**two, "reg/plain.xsd": schema(include("q/inner.xsd", "include"), ""), "reg/q/inner.xsd": plain}, records("A,date"))
-    over("imported only, it has no namespace", {"reg/mod.xsd": schema(include("plain.xsd")), "reg/plain.xsd": plain}, "namespace,name,type2\n")
+    reads(folder, "an included schema without a namespace", two, records("A,date"))
+    reads(folder, "included by two", both, records("A,date") + "http://two/,A,date\nhttp://two/,B,text\n")
+    reads(folder, "included through another", {**two, "reg/plain.xsd": schema(include("q/inner.xsd", "include"), ""), "reg/q/inner.xsd": plain}, records("A,date"))
+    ring = {"reg/mod.xsd": schema(include("plain.xsd", "include")), "reg/plain.xsd": schema(include("plain.xsd", "include") + item("A"), "")}
+    reads(folder, "included in a ring", ring, records("A,text"))
+    reads(folder, "imported only, it has no namespace", {"reg/mod.xsd": schema(include("plain.xsd")), "reg/plain.xsd": plain}, "namespace,name,type2\n")
     for kind in ("redefine", "override"):
-        refused(f"a {kind}", {"reg/mod.xsd": schema("\n" + include("d/leaf.xsd", kind))}, f"t0/reg/mod.xsd: has a '{kind}', which is not taken (line 2)")
-    # Prefixes are those in scope where the name stands.
+        refuses(folder, f"a {kind}", {"reg/mod.xsd": schema("\n" + include("d/leaf.xsd", kind))}, f"t0/reg/mod.xsd: has a '{kind}', which is not taken (line 2)")
+
+
+def names_in_schemas(folder):
+    """Prefixes are those in scope where the name stands; only global elements count."""
     inside = f'<xs:element xmlns:i="{XBRLI}" name="A" type="i:dateItemType" substitutionGroup="i:item"/><xs:element xmlns:i="{XBRLI}/other" name="B" type="i:dateItemType" substitutionGroup="i:item"/>'
-    over("prefixes declared on an element", {"reg/mod.xsd": schema(inside)}, records("A,date"))
+    reads(folder, "prefixes declared on an element", {"reg/mod.xsd": schema(inside)}, records("A,date"))
     default = f'<xs:element xmlns="{XBRLI}" name="A" type="dateItemType" substitutionGroup="item"/><xs:element xmlns="{XBRLI}" xmlns:xbrli="http://x/" name="B" type=" dateItemType " substitutionGroup=" item "/>'
-    over("the default namespace", {"reg/mod.xsd": schema(default)}, records("A,date", "B,date"))
-    over("the default namespace of a schema", {"reg/mod.xsd": f'<schema xmlns="{XS}" xmlns:i="{XBRLI}" targetNamespace="{EG}"><element name="A" type="i:dateItemType" substitutionGroup="i:item"/></schema>'}, records("A,date"))
-    refused("a prefix that is not declared", {"reg/mod.xsd": schema('<xs:element name="A" type="no:x"/>')}, "t0/reg/mod.xsd: has the name 'no:x', whose prefix is not declared (line 1)")
-    refused("a name that is none", {"reg/mod.xsd": schema('<xs:element name="a b"/>')}, "t0/reg/mod.xsd: declares 'a b', which is no name (line 1)")
+    reads(folder, "the default namespace", {"reg/mod.xsd": schema(default)}, records("A,date", "B,date"))
+    reads(folder, "the default namespace of a schema", {"reg/mod.xsd": f'<schema xmlns="{XS}" xmlns:i="{XBRLI}" targetNamespace="{EG}"><element name="A" type="i:dateItemType" substitutionGroup="i:item"/></schema>'}, records("A,date"))
+    refuses(folder, "a prefix that is not declared", {"reg/mod.xsd": schema('<xs:element name="A" type="no:x"/>')}, "t0/reg/mod.xsd: has the name 'no:x', whose prefix is not declared (line 1)")
+    refuses(folder, "a name that is none", {"reg/mod.xsd": schema('<xs:element name="a b"/>')}, "t0/reg/mod.xsd: declares 'a b', which is no name (line 1)")
     local = '<xs:complexType name="T"><xs:sequence><xs:element name="A" type="xbrli:dateItemType" substitutionGroup="xbrli:item"/></xs:sequence></xs:complexType>' + item("B")
-    over("elements inside of a type are not global", {"reg/mod.xsd": schema(local)}, records("B,text"))
+    reads(folder, "elements inside of a type are not global", {"reg/mod.xsd": schema(local)}, records("B,text"))
+
+
+def encodings(folder):
+    """Schemas in any encoding, and those that are refused."""
     umlaut = schema(item("Größe"))
     for encoding in ("utf-8", "utf-16", "iso-8859-1", "windows-1252", "iso-8859-15", "utf-32", "cp037", "utf-16-le"):
         head = f'<?xml version="1.0" encoding="{encoding.replace("utf-16-le", "utf-16")}"?>'
         text = (b"\xff\xfe" if encoding == "utf-16-le" else b"") + (head + umlaut).encode(encoding)
-        over(f"a schema in {encoding}", {"reg/mod.xsd": text}, records("Größe,text"))
+        reads(folder, f"a schema in {encoding}", {"reg/mod.xsd": text}, records("Größe,text"))
     for encoding, name in (("shift_jis", "大きさ"), ("gb18030", "尺寸"), ("euc-kr", "크기")):
-        over(f"a schema in {encoding}", {"reg/mod.xsd": (f"<?xml version='1.0' encoding='{encoding}' ?>" + schema(item(name))).encode(encoding)}, records(f"{name},text"))
-    over("a schema with a byte-order mark", {"reg/mod.xsd": b"\xef\xbb\xbf" + umlaut.encode()}, records("Größe,text"))
+        reads(folder, f"a schema in {encoding}", {"reg/mod.xsd": (f"<?xml version='1.0' encoding='{encoding}' ?>" + schema(item(name))).encode(encoding)}, records(f"{name},text"))
+    reads(folder, "a schema with a byte-order mark", {"reg/mod.xsd": b"\xef\xbb\xbf" + umlaut.encode()}, records("Größe,text"))
     for name, text, what in (
         ("a document type", "<!DOCTYPE x>" + schema(), "has a document type, which is refused (line 1)"),
         ("an entity", '<?xml version="1.0"?>\n<!DOCTYPE x [<!ENTITY a "b">]>' + schema("&a;"), "has a document type, which is refused (line 2)"),
@@ -693,7 +770,7 @@ def reading_schemas(folder):
         ("another document", "<html/>", "is neither a schema nor a linkbase: its root is 'html'"),
         ("a locator alone", '<link:loc xmlns:link="http://www.xbrl.org/2003/linkbase"/>', "is neither a schema nor a linkbase: its root is 'loc'"),
     ):
-        refused(f"a schema with {name}", {"reg/mod.xsd": text}, f"t0/reg/mod.xsd: {what}")
+        refuses(folder, f"a schema with {name}", {"reg/mod.xsd": text}, f"t0/reg/mod.xsd: {what}")
 
 
 ITEM_TYPES = {
@@ -727,14 +804,19 @@ def derived(name, base, how="restriction", content="simpleContent"):
     return f'<xs:complexType name="{name}"><xs:{content}><xs:{how} base="{base}"><xs:attribute name="a"><xs:simpleType><xs:restriction base="xs:string"/></xs:simpleType></xs:attribute></xs:{how}></xs:{content}></xs:complexType>'
 
 
+HEADED = '<xs:element name="{}" substitutionGroup="{}" {}/>'
+
+
+def kinds_are(folder, name, body, *lines, **files):
+    """A case: a schema with these elements gives these records."""
+    taxonomy = {**TAXONOMY, "reg/mod.json": meta(INFO), "reg/mod.xsd": schema(body), **files}
+    makes(folder, name, types=records(*sorted(lines)), taxonomies=[taxonomy])
+
+
 def kinds(folder):
     """What each element is: every base type, directly and behind four derivations, and what no fact can have."""
-
-    def over(name, body, *lines, **files):
-        makes(folder, name, types=records(*sorted(lines)), taxonomies=[{**TAXONOMY, "reg/mod.json": meta(INFO), "reg/mod.xsd": schema(body), **files}])
-
     types = [(name, word) for word, names in ITEM_TYPES.items() for name in names.split()]
-    over("each base type", "".join(item(f"I_{it}", f"xbrli:{it}ItemType") for it, _ in types), *(f"I_{it},{word}" for it, word in types))
+    kinds_are(folder, "each base type", "".join(item(f"I_{it}", f"xbrli:{it}ItemType") for it, _ in types), *(f"I_{it},{word}" for it, word in types))
     ways = [("restriction", "simpleContent"), ("extension", "simpleContent"), ("restriction", "complexContent"), ("extension", "complexContent")]
     body = ""
     for name, _ in types:
@@ -743,34 +825,46 @@ def kinds(folder):
             body += derived(f"T{step}_{name}", base, how, content)
             base = f"eg:T{step}_{name}"
         body += item(f"I_{name}", base)
-    over("each base type behind four derivations", body, *(f"I_{it},{word}" for it, word in types))
+    kinds_are(folder, "each base type behind four derivations", body, *(f"I_{it},{word}" for it, word in types))
     for word, namespace, names in KNOWN:
         body = "".join(f'<xs:element xmlns:k="{namespace}" name="I_{it}" type="k:{it}ItemType" substitutionGroup="xbrli:item"/>' for it in names.split())
-        over(f"{word} of {namespace}", body, *(f"I_{it},{word}" for it in names.split()))
+        kinds_are(folder, f"{word} of {namespace}", body, *(f"I_{it},{word}" for it in names.split()))
     own = {"reg/dtr.xsd": schema(derived("percentItemType", "xbrli:stringItemType") + derived("newItemType", "xbrli:dateItemType"), DTR + "2030-01-01")}
     seen = f'<xs:element xmlns:k="{DTR}2030-01-01" name="{{}}" type="k:{{}}ItemType" substitutionGroup="xbrli:item"/>'
-    over("a registry type is known whatever a copy says, and others are followed", include("dtr.xsd") + seen.format("P", "percent") + seen.format("N", "new") + seen.format("X", "none"), "P,decimal", "N,date", **own)
+    kinds_are(folder, "a registry type is known whatever a copy says, and others are followed", include("dtr.xsd") + seen.format("P", "percent") + seen.format("N", "new") + seen.format("X", "none"), "P,decimal", "N,date", **own)
     other = f'<xs:element xmlns:k="{DTR[:-1]}s/2022" name="A" type="k:percentItemType" substitutionGroup="xbrli:item"/>' + item("B")
-    over("another namespace is not the registry's", other, "B,text")
-    over("a copy of the instance schema does not count", item("A", "xbrli:dateItemType") + include("x.xsd"), "A,date", **{"reg/x.xsd": schema(derived("dateItemType", "xbrli:stringItemType"), XBRLI)})
+    kinds_are(folder, "another namespace is not the registry's", other, "B,text")
+    kinds_are(folder, "a copy of the instance schema does not count", item("A", "xbrli:dateItemType") + include("x.xsd"), "A,date", **{"reg/x.xsd": schema(derived("dateItemType", "xbrli:stringItemType"), XBRLI)})
+
+
+def kinds_of_elements(folder):
+    """Types inside of an element, the type of its head, abstract items and dimensions."""
     inline = '<xs:element name="{}" substitutionGroup="xbrli:item"><xs:complexType><xs:simpleContent><xs:{} base="{}"><xs:enumeration value="a"/></xs:{}></xs:simpleContent></xs:complexType></xs:element>'
-    over("a type inside of the element", inline.format("A", "restriction", "xbrli:dateItemType", "restriction") + inline.format("B", "extension", "eg:T", "extension") + derived("T", "xbrli:booleanItemType"), "A,date", "B,boolean")
+    kinds_are(folder, "a type inside of the element", inline.format("A", "restriction", "xbrli:dateItemType", "restriction") + inline.format("B", "extension", "eg:T", "extension") + derived("T", "xbrli:booleanItemType"), "A,date", "B,boolean")
     simple = '<xs:simpleType name="S"><xs:restriction base="xs:string"/></xs:simpleType>' + item("A", "eg:S") + item("B")
-    over("a simple type is no item type", simple, "B,text")
+    kinds_are(folder, "a simple type is no item type", simple, "B,text")
     deep = '<xs:complexType name="T"><xs:simpleContent><xs:restriction base="xbrli:dateItemType"><xs:simpleType><xs:restriction base="xbrli:stringItemType"/></xs:simpleType></xs:restriction></xs:simpleContent></xs:complexType>' + item("A", "eg:T")
-    over("the first derivation counts", deep, "A,date")
-    head = '<xs:element name="{}" substitutionGroup="{}" {}/>'
+    kinds_are(folder, "the first derivation counts", deep, "A,date")
+    content = '<xs:complexType><xs:simpleContent><xs:restriction base="xbrli:dateItemType"/></xs:simpleContent></xs:complexType>'
+    within = f'<xs:complexType name="T"><xs:sequence><xs:element name="x">{content}</xs:element></xs:sequence></xs:complexType>'
+    kinds_are(folder, "derivations of elements inside of a type do not count", within + item("A", "eg:T") + item("B"), "B,text")
+    head = HEADED
     chain = item("H", "xbrli:dateItemType", 'abstract="true"') + head.format("A", "eg:H", "") + head.format("B", "eg:A", "") + head.format("C", "eg:B", 'type="xbrli:booleanItemType"') + head.format("D", "eg:C", "")
-    over("the type of the head", chain, "A,date", "B,date", "C,boolean", "D,boolean")
-    over("abstract items", item("A", more='abstract="true"') + item("B", more='abstract=" 1 "') + item("C", more='abstract="false"') + item("D", more='abstract="0"'), "C,text", "D,text")
+    kinds_are(folder, "the type of the head", chain, "A,date", "B,date", "C,boolean", "D,boolean")
+    kinds_are(folder, "abstract items", item("A", more='abstract="true"') + item("B", more='abstract=" 1 "') + item("C", more='abstract="false"') + item("D", more='abstract="0"'), "C,text", "D,text")
     dims = head.format("X", "xbrldt:dimensionItem", 'abstract="true"') + head.format("Y", "eg:X", "") + head.format("Z", "eg:T", "") + head.format("T", "xbrldt:dimensionItem", 'xbrldt:typedDomainRef="#x"') + head.format("U", "eg:X", 'xbrldt:typedDomainRef="#x"')
-    over("dimensions, by their own attribute", dims, "X,explicit", "Y,explicit", "Z,explicit", "T,typed", "U,typed")
-    over("a typed reference without its namespace", head.format("X", "xbrldt:dimensionItem", 'typedDomainRef="#x"'), "X,explicit")
+    kinds_are(folder, "dimensions, by their own attribute", dims, "X,explicit", "Y,explicit", "Z,explicit", "T,typed", "U,typed")
+    kinds_are(folder, "a typed reference without its namespace", head.format("X", "xbrldt:dimensionItem", 'typedDomainRef="#x"'), "X,explicit")
+
+
+def what_no_fact_can_have(folder):
+    """Elements that are not in the types table, and the concepts among them that the metadata must not name."""
+    head = HEADED
     nothing = head.format("A", "xbrldt:hypercubeItem", "") + head.format("B", "eg:A", "") + '<xs:element name="C" type="xs:string"/>' + head.format("D", "eg:None", 'type="xbrli:dateItemType"')
     ring = head.format("E", "eg:F", "") + head.format("F", "eg:E", "") + derived("G", "eg:I") + derived("I", "eg:G") + item("J", "eg:G") + item("L", "eg:L") + head.format("M", "eg:M", "")
     unknown = item("K", "xs:date") + head.format("N", "xbrli:item", "") + item("O", "xbrli:noneItemType")
     dead = item("F1", "xbrli:fractionItemType") + head.format("T1", "xbrli:tuple", "") + head.format("T2", "eg:T1", "") + derived("FT", "xbrli:fractionItemType", content="complexContent") + item("F2", "eg:FT")
-    over("what no fact can have", nothing + ring + unknown + dead + item("Z"), "Z,text")
+    kinds_are(folder, "what no fact can have", nothing + ring + unknown + dead + item("Z"), "Z,text")
     reasons = {
         "T1": "is a tuple, which no table can have",
         "T2": "is a tuple, which no table can have",
@@ -796,12 +890,16 @@ def kinds(folder):
     for name in ("A", "B", "C", "D", "E", "M", "nowhere"):
         made = prepared(folder, taxonomies=[{**TAXONOMY, "reg/mod.json": meta(INFO, dimensions={"concept": f"eg:{name}"}), "reg/mod.xsd": schema(nothing + ring)}])
         case(f"{name} is left to the converter", made[:2], (0, ""))
+
+
+def types_tables(folder):
+    """The order and the quotes of a types table, and 20,000 concepts."""
     quoting = {**TAXONOMY, "reg/mod.json": meta({**INFO, "namespaces": {"a": 'http://a,b"c/', "e": "http://e", "d": "http://d"}}), "reg/mod.xsd": schema(include("q.xsd") + include("d.xsd") + include("e.xsd") + item("A"))}
     quoting.update({"reg/q.xsd": schema(item("A"), "http://a,b&quot;c/"), "reg/d.xsd": schema(item("Z") + item("a") + item("É"), "http://d"), "reg/e.xsd": schema(item("A"), "http://e")})
     makes(folder, "namespaces of the metadata alone, in byte order and quoted", types='namespace,name,type2\n"http://a,b""c/",A,text\nhttp://d,Z,text\nhttp://d,a,text\nhttp://d,É,text\nhttp://e,A,text\n', taxonomies=[quoting])
     begun = time.monotonic()
     elements = "".join(item(f"C{it:05}", "eg:T", 'id="x" nillable="true"') for it in range(20_000)) + derived("T", "xbrli:monetaryItemType")
-    over("20,000 concepts", elements, *(f"C{it:05},decimal" for it in range(20_000)))
+    kinds_are(folder, "20,000 concepts", elements, *(f"C{it:05},decimal" for it in range(20_000)))
     case("20,000 concepts take seconds", time.monotonic() - begun < 20, True)
 
 
@@ -834,93 +932,132 @@ def with_header(path, name, offset_local, offset_central, form, value):
     path.write_bytes(bytes(data))
 
 
+GOOD = list({**TAXONOMY, **REPORT}.items())
+
+
+def refused_zip(folder, name, line, entries, change=None, words=()):
+    """Cases: a ZIP with these entries is refused by this line, as a report and as a taxonomy, and nothing is written."""
+    for role in ("report", "taxonomy"):
+        work = folder / "z"
+        shutil.rmtree(work, ignore_errors=True)
+        work.mkdir()
+        pack(work / "good.zip", GOOD)
+        pack(work / "bad.zip", GOOD + entries)
+        if change:
+            change(work / "bad.zip")
+        (work / "doc.json").write_text("as it was")
+        packages = ["bad.zip", "--taxonomy", "good.zip"] if role == "report" else ["good.zip", "--taxonomy", "bad.zip"]
+        before = listing(work)
+        seen = run([*packages, *words, "--out", "doc.json"], work)
+        case(f"{name}, as {role}", seen, (1, f"xbrl-filing: bad.zip: {line}\n"))
+        case(f"{name}, as {role}: nothing is written", listing(work), before)
+        seen = run([*packages, *words, "--prepare", "o"], work)
+        case(f"{name}, as {role}, to prepare", (seen[0], sorted(os.listdir(work))), (1, sorted(before)))
+
+
+HOSTILE_NAMES = {
+    "/etc/x": "has an absolute name",
+    "C:/x": "has a name with a drive letter",
+    "c:x": "has a name with a drive letter",
+    "a\\b": "has a name with a backslash",
+    "../x": "leads outside of the package",
+    "a/../../x": "leads outside of the package",
+    "a/..": "leads outside of the package",
+    "a//b": "has an empty or '.' segment in its name",
+    "a/./b": "has an empty or '.' segment in its name",
+    "./a": "has an empty or '.' segment in its name",
+    "a//": "has an empty or '.' segment in its name",
+    "": "has an empty or '.' segment in its name",
+    "reg/mod.json": "stands twice",
+    "reg/mod.json/": "stands twice",
+}
+
+
 def hostile_zips(folder):
-    """ZIPs that are refused by the name of an entry, as a report and as a taxonomy, before anything is written."""
-    good = list({**TAXONOMY, **REPORT}.items())
-
-    def refused(name, line, entries=None, change=None, words=(), files=good):
-        for role in ("report", "taxonomy"):
-            shutil.rmtree(folder, ignore_errors=True)
-            folder.mkdir()
-            pack(folder / "good.zip", files)
-            pack(folder / "bad.zip", files + (entries or []))
-            if change:
-                change(folder / "bad.zip")
-            (folder / "doc.json").write_text("as it was")
-            packages = ["bad.zip", "--taxonomy", "good.zip"] if role == "report" else ["good.zip", "--taxonomy", "bad.zip"]
-            before = listing(folder)
-            seen = run([*packages, *words, "--out", "doc.json"], folder)
-            case(f"{name}, as {role}", seen, (1, f"xbrl-filing: bad.zip{line}\n"))
-            case(f"{name}, as {role}: nothing is written", listing(folder), before)
-            seen = run([*packages, *words, "--prepare", "o"], folder)
-            case(f"{name}, as {role}, to prepare", (seen[0], sorted(os.listdir(folder))), (1, sorted(before)))
-
-    for name, what in {
-        "/etc/x": "has an absolute name",
-        "C:/x": "has a name with a drive letter",
-        "c:x": "has a name with a drive letter",
-        "a\\b": "has a name with a backslash",
-        "../x": "leads outside of the package",
-        "a/../../x": "leads outside of the package",
-        "a/..": "leads outside of the package",
-        "a//b": "has an empty or '.' segment in its name",
-        "a/./b": "has an empty or '.' segment in its name",
-        "./a": "has an empty or '.' segment in its name",
-        "a//": "has an empty or '.' segment in its name",
-        "": "has an empty or '.' segment in its name",
-        "reg/mod.json": "stands twice",
-        "reg/mod.json/": "stands twice",
-    }.items():
-        refused(f"an entry '{name}'", f": the entry '{name}' {what}", [(entry(name), "x")])
-    refused("an entry with control bytes", r": the entry '../\n\x1b[2J\x9b' leads outside of the package", [(entry("../\n\x1b[2J\x9b"), "x")])
-    refused("a file that is a folder too", ": the entry 'a' stands twice, as a file and as a folder", [(entry("a"), "x"), (entry("a/b/c"), "x")])
-    refused("a link", ": the entry 'a' is a link", [(entry("a", 0o120777), "/etc/passwd")])
-    refused("a name that is cut short", r": the entry 'reg/mod.json\x00X' has a name that is cut short by a zero byte", [(entry("reg/mod.jsonQX"), "x")], lambda it: patched(it, [(b"mod.jsonQX", b"mod.json\0X")]))
+    """ZIPs that are refused by the name of an entry, used or not."""
+    for name, what in HOSTILE_NAMES.items():
+        refused_zip(folder, f"an entry '{name}'", f"the entry '{name}' {what}", [(entry(name), "x")])
+    line = r"the entry '../\n\x1b[2J\x9b' leads outside of the package"
+    refused_zip(folder, "an entry with control bytes", line, [(entry("../\n\x1b[2J\x9b"), "x")])
+    line = "the entry 'a' stands twice, as a file and as a folder"
+    refused_zip(folder, "a file that is a folder too", line, [(entry("a"), "x"), (entry("a/b/c"), "x")])
+    refused_zip(folder, "a link", "the entry 'a' is a link", [(entry("a", 0o120777), "/etc/passwd")])
+    line = r"the entry 'reg/mod.json\x00X' has a name that is cut short by a zero byte"
+    cut_short = lambda it: patched(it, [(b"mod.jsonQX", b"mod.json\0X")])
+    refused_zip(folder, "a name that is cut short", line, [(entry("reg/mod.jsonQX"), "x")], cut_short)
     for bit in (0x1, 0x40, 0x2000):
-        refused(f"an encrypted entry, bit {bit}", ": the entry 'a' is encrypted", [(entry("a"), "x")], lambda it: with_header(it, "a", 6, 8, "<H", bit))
-    size = (16 << 20) + 1
-    with tempfile.TemporaryDirectory() as other:
-        pack(Path(other) / "z", [(entry("a"), b"\0" * size)])
-        with zipfile.ZipFile(Path(other) / "z") as archive:
-            small = archive.getinfo("a").compress_size
-    refused("a bomb", f": the entry 'a' unpacks to {size} bytes from {small}", [(entry("a"), b"\0" * size)])
-    total = sum(len(text) for _, text in good) + 1
-    refused("more than the limit", f": unpacks to {total + 5000} bytes, more than {total + 4999} (--unpacked-limit allows more)", [(entry("a"), "x" * 4000), (entry("b"), "x" * 1001)], words=["--unpacked-limit", str(total + 4999)])
-    pack(folder / "mild.zip", good + [(entry("a"), b"\0" * (16 << 20)), (entry("b"), os.urandom(1 << 17) * 140)])
-    seen = run(["good.zip", "--taxonomy", "mild.zip", "--unpacked-limit", str(1 << 30), "--prepare", "o"], folder)
-    case("what is large and no bomb", seen, (0, ""))
-    seen = [run(["good.zip", "--taxonomy", "mild.zip", "--unpacked-limit", str(limit), "--prepare", f"o{limit}"], folder)[0] for limit in (size * 2, 140 << 18)]
-    case("the limit is of all entries together", seen, [1, 0])
+        encrypted = lambda it: with_header(it, "a", 6, 8, "<H", bit)
+        refused_zip(folder, f"an encrypted entry, bit {bit}", "the entry 'a' is encrypted", [(entry("a"), "x")], encrypted)
 
-    def cut(path):
-        path.write_bytes(path.read_bytes()[:-30])
 
-    for name, line, change in (
-        ("cut short", "is damaged, or packed in a way that Python does not know (File is not a zip file)", cut),
-        ("a method that is not known", None, lambda it: with_header(it, "reg/mod.json", 8, 10, "<H", 99)),
-        ("a wrong check sum", None, lambda it: with_header(it, "reg/mod.json", 14, 16, "<I", 12345)),
-        ("too little declared", None, lambda it: with_header(it, "reg/mod.json", 22, 24, "<I", 20)),
-        ("a damaged stream", None, lambda it: patched(it, [(it.read_bytes()[it.read_bytes().find(b"reg/mod.json") + 12 :][:40], b"\xff" * 40)])),
-        ("another name in the file", None, lambda it: patched(it, [(b"reg/mod.json" + it.read_bytes()[it.read_bytes().find(b"reg/mod.json") + 12 :][:4], b"reg/mud.json" + it.read_bytes()[it.read_bytes().find(b"reg/mod.json") + 12 :][:4])])),
+def bombs(folder):
+    """ZIPs that unpack to too much, as one entry or as all together."""
+    size, many = (16 << 20) + 1, 140 << 17
+    pack(folder / "small.zip", [(entry("a"), b"\0" * size)])
+    with zipfile.ZipFile(folder / "small.zip") as archive:
+        small = archive.getinfo("a").compress_size
+    refused_zip(folder, "a bomb", f"the entry 'a' unpacks to {size} bytes from {small}", [(entry("a"), b"\0" * size)])
+    total = sum(len(text) for _, text in GOOD) + 5001
+    line = f"unpacks to {total} bytes, more than {total - 1} (--unpacked-limit allows more)"
+    entries = [(entry("a"), "x" * 4000), (entry("b"), "x" * 1001)]
+    refused_zip(folder, "more than the limit", line, entries, words=["--unpacked-limit", str(total - 1)])
+    pack(folder / "good.zip", GOOD)
+    pack(folder / "mild.zip", GOOD + [(entry("a"), b"\0" * (16 << 20)), (entry("b"), os.urandom(1 << 17) * (many >> 17))])
+    for limit, status in ((1 << 30, 0), ((16 << 20) + many, 1), ((16 << 20) + many + total, 0)):
+        seen = run(["good.zip", "--taxonomy", "mild.zip", "--unpacked-limit", limit, "--prepare", f"o{limit}"], folder)
+        case(f"what is large and no bomb, limit {limit}", seen[0], status)
+
+
+def packed(path, name, length):
+    """The first bytes of a packed entry, where they stand alone in the file."""
+    data = path.read_bytes()
+    at = data.find(name.encode()) + len(name)
+    return data[at : at + length]
+
+
+def damaged_zips(folder):
+    """ZIPs that are cut, changed or packed in an unknown way: one line, and nothing is made."""
+    name, damaged = "reg/mod.json", "is damaged, or packed in a way that Python does not know ("
+    for what, front, change in (
+        ("cut short", "bad.zip: " + damaged + "File is not a zip file)\n", lambda it: it.write_bytes(it.read_bytes()[:-30])),
+        ("a method that is not known", "", lambda it: with_header(it, name, 8, 10, "<H", 99)),
+        ("a wrong check sum", "", lambda it: with_header(it, name, 14, 16, "<I", 12345)),
+        ("too little declared", "", lambda it: with_header(it, name, 22, 24, "<I", 20)),
+        ("too much declared", "", lambda it: with_header(it, name, 22, 24, "<I", 20_000)),
+        ("a damaged stream", "", lambda it: patched(it, [(packed(it, name, 40), b"\xff" * 40)])),
+        ("another name in the file", "", lambda it: patched(it, [(name.encode() + packed(it, name, 4), b"reg/mud.json" + packed(it, name, 4))])),
     ):
-        shutil.rmtree(folder, ignore_errors=True)
-        folder.mkdir()
-        pack(folder / "r.zip", REPORT)
-        pack(folder / "bad.zip", TAXONOMY)
-        change(folder / "bad.zip")
-        before = listing(folder)
-        status, err = run(["r.zip", "--taxonomy", "bad.zip", "--prepare", "o"], folder)
-        front = "xbrl-filing: bad.zip: " if name == "cut short" else "xbrl-filing: bad.zip/reg/mod.json: is damaged, or packed in a way that Python does not know ("
-        case(f"a ZIP with {name}", (status, err.count("\n"), err.startswith(front), listing(folder) == before), (1, 1, True, True))
-        if line:
-            case(f"a ZIP with {name}: its line", err, f"xbrl-filing: bad.zip: {line}\n")
+        work = folder / what
+        work.mkdir()
+        pack(work / "r.zip", REPORT)
+        pack(work / "bad.zip", TAXONOMY)
+        change(work / "bad.zip")
+        before = listing(work)
+        status, err = run(["r.zip", "--taxonomy", "bad.zip", "--prepare", "o"], work)
+        starts = err.startswith("xbrl-filing: " + (front or f"bad.zip/{name}: {damaged}"))
+        case(f"a ZIP with {what}", (status, err.count("\n"), starts, listing(work) == before), (1, 1, True, True))
+    for method in (zipfile.ZIP_BZIP2, zipfile.ZIP_LZMA):
+        pack(folder / f"{method}.zip", {**REPORT, **TAXONOMY}, method=method)
+        seen = run([f"{method}.zip", "--prepare", f"o{method}"], folder)
+        case(f"packed by method {method}", (seen, listing(folder / f"o{method}")["types.csv"].decode()), ((0, ""), TYPES))
+        data = bytearray((folder / f"{method}.zip").read_bytes())
+        at = data.find(b"reports/report.json") + 19
+        data[at : at + 12] = b"\xff" * 12
+        (folder / f"{method}.zip").write_bytes(data)
+        status, err = run([f"{method}.zip", "--prepare", "never"], folder)
+        starts = err.startswith(f"xbrl-filing: {method}.zip/reports/report.json: is damaged")
+        case(f"damaged, by method {method}", (status, err.count("\n"), starts), (1, 1, True))
+
+
+def damaged_tables(folder):
+    """No table is converted where one of them is damaged, the first or the last."""
+    temporary = folder / "tmp"
+    temporary.mkdir()
     for table in ("a.csv", "z.csv"):
         tables = {it: {"url": it + ".csv", "template": "t"} for it in "az"}
-        report = {"reports/report.json": meta(INFO, tableTemplates={"t": TEMPLATE}, tables=tables), "reports/a.csv": "cash\n1\n", "reports/z.csv": "cash\n2\n", "reports/mod.xsd": schema(ELEMENTS)}
-        pack(folder / "r.zip", report)
+        report = {"reports/report.json": meta(INFO, tableTemplates={"t": TEMPLATE}, tables=tables), "reports/mod.xsd": schema(ELEMENTS)}
+        pack(folder / "r.zip", {**report, "reports/a.csv": "cash\n1\n", "reports/z.csv": "cash\n2\n"})
         with_header(folder / "r.zip", "reports/" + table, 14, 16, "<I", 12345)
-        temporary = folder / "tmp"
-        temporary.mkdir(exist_ok=True)
         seen = start(["r.zip", "--out", "doc.json"], folder, env={"TMPDIR": str(temporary)})
         line = f"xbrl-filing: r.zip/reports/{table}: is damaged, or packed in a way that Python does not know (Bad CRC-32 for file 'reports/{table}')\n"
         case(f"a wrong check sum of {table}", (seen, (folder / "doc.json").exists(), os.listdir(temporary)), ((1, b"", line), False, []))
@@ -996,15 +1133,21 @@ def heeding():
         signal.signal(it, signal.SIG_DFL)
 
 
-def temporary_files(folder):
-    """The temporary folder: under TMPDIR, with links and not copies, gone at every end."""
+def with_fake(folder):
+    """A folder with a report, a taxonomy, an empty TMPDIR, and a program in the place of xbrl-json."""
     temporary, fake = folder / "tmp", folder / "fake"
     temporary.mkdir()
     write(folder, {**{f"r/{it}": text for it, text in REPORT.items()}, **{f"t/{it}": text for it, text in TAXONOMY.items()}})
+    fake.write_text("")
+    fake.chmod(0o755)
+    return temporary, fake, {"XBRL_JSON": str(fake), "TMPDIR": str(temporary)}
+
+
+def temporary_files(folder):
+    """The temporary folder: under TMPDIR, with links and not copies, gone at every end."""
+    temporary, fake, settings = with_fake(folder)
     pack(folder / "r.zip", REPORT)
     fake.write_text('#!/bin/sh\nfor it in "$@"; do echo "$it"; done\npwd\nd=$(dirname "$1"); ls -la "$d" | grep -c -- "->"\nstat -c %a "$d"\necho said >&2\nexit ${END:-0}\n')
-    fake.chmod(0o755)
-    settings = {"XBRL_JSON": str(fake), "TMPDIR": str(temporary)}
     for report, links in (("r", "1"), ("r.zip", "0"), ("r/reports/report.json", "1")):
         for end in ("0", "1", "2", "3", "77"):
             status, out, err = start([report, "--taxonomy", "t", "--out", "doc.json", "--progress", "--ring=7"], folder, env={**settings, "END": end})
@@ -1023,6 +1166,11 @@ def temporary_files(folder):
     case("xbrl-json that is killed", (start(["r", "--taxonomy", "t"], folder, env=settings)[0], os.listdir(temporary)), (137, []))
     seen = start(["r", "--taxonomy", "t"], folder, env={**settings, "XBRL_JSON": "/nonexistent/x"})
     case("xbrl-json that is not there", (seen, os.listdir(temporary)), ((3, b"", "xbrl-filing: /nonexistent/x: cannot run (No such file or directory)\n"), []))
+
+
+def signals(folder):
+    """Signals, while xbrl-json runs and while the report is read: nothing is left, and xbrl-json is told."""
+    temporary, fake, settings = with_fake(folder)
     fake.write_text('#!/bin/sh\ntrap "echo stopped; exit 9" TERM INT HUP\necho ready\nwhile :; do sleep 0.02; done\n')
     for number in (signal.SIGTERM, signal.SIGINT, signal.SIGHUP):
         done = subprocess.Popen([FILING, "r", "--taxonomy", "t"], cwd=folder, env={**os.environ, **settings}, stdout=subprocess.PIPE, stderr=subprocess.PIPE, preexec_fn=heeding)
@@ -1041,22 +1189,49 @@ def temporary_files(folder):
         case(f"{number.name} while the report is read", (done.returncode, out, err, (folder / "o").exists()), (-number, b"", b"", False))
     seen = start(["r", "--taxonomy", "t"], folder, preexec_fn=lambda: signal.signal(signal.SIGTERM, signal.SIG_IGN), env={"TMPDIR": str(temporary)})
     case("a signal that the caller ignores", (seen[0], os.listdir(temporary)), (0, []))
-    full = {"TMPDIR": str(temporary), "XBRL_JSON": PROGRAM}
-    shutil.copy(folder / "r.zip", folder / "big.zip")
-    with zipfile.ZipFile(folder / "big.zip", "w") as archive:
-        archive.writestr("reports/report.json", REPORT["reports/report.json"])
-        archive.writestr("reports/t.csv", b"x" * 200_000)
-    import resource
 
-    limited = lambda: (signal.signal(signal.SIGXFSZ, signal.SIG_IGN), resource.setrlimit(resource.RLIMIT_FSIZE, (100_000, 100_000)))
-    status, out, err = start(["big.zip", "--taxonomy", "t", "--out", "doc.json"], folder, env=full, preexec_fn=limited)
-    case("a full disk", (status, out, err.startswith(f"xbrl-filing: {temporary}/xbrl-filing-"), err.endswith("/t.csv: cannot write (File too large)\n"), os.listdir(temporary), (folder / "doc.json").exists()), (3, b"", True, True, [], False))
+
+def a_full_disk(folder):
+    """Tables that cannot be unpacked: xbrl-json is not run, and the output is not touched."""
+    temporary, _, _ = with_fake(folder)
+    pack(folder / "big.zip", {"reports/report.json": REPORT["reports/report.json"], "reports/t.csv": b"x" * 200_000})
+
+    def limited():
+        signal.signal(signal.SIGXFSZ, signal.SIG_IGN)
+        resource.setrlimit(resource.RLIMIT_FSIZE, (100_000, 100_000))
+
+    status, out, err = start(["big.zip", "--taxonomy", "t", "--out", "doc.json"], folder, env={"TMPDIR": str(temporary)}, preexec_fn=limited)
+    ends = err.startswith(f"xbrl-filing: {temporary}/xbrl-filing-"), err.endswith("/t.csv: cannot write (File too large)\n")
+    case("a full disk", (status, out, *ends), (3, b"", True, True))
+    case("a full disk: nothing is left", (os.listdir(temporary), (folder / "doc.json").exists()), ([], False))
+
+
+def what_cannot_be_read(folder):
+    """Files that the system refuses, files that are too large, and a fault of the program: one line each."""
+    write(folder, {**{f"r/{it}": text for it, text in REPORT.items()}, **{f"t/{it}": text for it, text in TAXONOMY.items()}})
+    folder.chmod(0o755)
+    as_nobody = {"user": 65534, "group": 65534} if os.getuid() == 0 else {}
+    for path in ("t/reg/mod.xsd", "t/reg/mod.json", "r/reports/report.json", "r"):
+        mode = (folder / path).stat().st_mode
+        (folder / path).chmod(0)
+        status, out, err = start(["r", "--taxonomy", "t"], folder, **as_nobody)
+        (folder / path).chmod(mode)
+        said = err.startswith(f"xbrl-filing: {path}") and err.endswith(": cannot read (Permission denied)\n")
+        case(f"{path} without permission", (status, out, said, err.count("\n")), (3, b"", True, 1))
+    kept = packages.LARGEST_TEXT, command.find_report
+    try:
+        packages.LARGEST_TEXT = len(REPORT["reports/report.json"])
+        case("a module that is too large", run(["r", "--taxonomy", "t"], folder), (1, f"xbrl-filing: t/reg/mod.json: has more than {packages.LARGEST_TEXT} bytes\n"))
+        command.find_report = lambda _: {}["a\nb"]
+        case("a fault of the program", run(["r"], folder), (1, "xbrl-filing: a fault of the program: KeyError: 'a\\nb'\n"))
+        command.find_report = lambda _: (_ for _ in ()).throw(MemoryError)
+        case("too little memory", run(["r"], folder), (3, "xbrl-filing: there is not enough memory\n"))
+    finally:
+        packages.LARGEST_TEXT, command.find_report = kept
 
 
 def a_signal_between_two_steps(folder):
     """A signal that comes while xbrl-json is being started is told to it, and one that comes while a folder is removed waits for that."""
-    import filing.stopping as stopping
-
     seen = []
 
     class Started(subprocess.Popen):
@@ -1129,12 +1304,18 @@ def words(folder):
     case("words that xbrl-json refuses", (status, out, err.startswith("error: "), (folder / "doc.json").exists()), (2, b"", True, False))
     seen = start(["r", "--taxonomy", "t", "--out", "no/doc.json"], folder)
     case("an output that xbrl-json cannot make", seen, (3, b"", "xbrl-json: cannot write no/doc.json\n"))
+
+
+def several_packages(folder):
+    """Several packages, progress on a terminal, names that are no text, and the same bytes for the same inputs."""
+    write(folder, {**{f"r/{it}": text for it, text in REPORT.items()}, **{f"t/{it}": text for it, text in TAXONOMY.items()}})
+    pack(folder / "r.zip", REPORT)
+    pack(folder / "t.zip", TAXONOMY)
     write(folder, {"t2/META-INF/catalog.xml": catalog(rewrite()), "t2/reg/mod.xsd": schema(ELEMENTS)})
     shutil.move(folder / "t/reg/mod.xsd", folder / "t2/reg/mod.xsd")
     for given in (["r", "--taxonomy", "t", "t2", "--prepare", "o1"], ["--taxonomy", "t", "--prepare=o2", "--taxonomy", "t2", "--unpacked-limit=99999", "r"]):
         case(f"several packages {given}", run(given, folder), (0, ""))
     shutil.copy(folder / "t2/reg/mod.xsd", folder / "t/reg/mod.xsd")
-    outputs_that_are_inputs(folder)
     with open(os.devnull, "wb") as nowhere:
         controller, terminal = pty.openpty()
         done = subprocess.run([FILING, "r", "--taxonomy", "t"], cwd=folder, env={**os.environ, "XBRL_JSON": PROGRAM}, stdout=nowhere, stderr=terminal, timeout=60)
@@ -1162,8 +1343,11 @@ def exit_of(controller):
 
 def outputs_that_are_inputs(folder):
     """--out, --prepare and --cache must not be what the run reads."""
+    write(folder, {**{f"r/{it}": text for it, text in REPORT.items()}, **{f"t/{it}": text for it, text in TAXONOMY.items()}})
+    pack(folder / "r.zip", REPORT)
+    pack(folder / "t.zip", TAXONOMY)
     write(folder, {"alone/m.json": meta({**INFO, "extends": ["low.json"]}, tableTemplates={"t": TEMPLATE}, tables={"t": {"url": "t.csv"}}, parameterURL="p.csv"), "alone/low.json": meta(), "alone/mod.xsd": schema(ELEMENTS), "alone/t.csv": "cash\n1\n", "alone/p.csv": "name,value\n"})
-    (folder / "other.zip").hardlink_to(folder / "r.zip") if hasattr(Path, "hardlink_to") else os.link(folder / "r.zip", folder / "other.zip")
+    os.link(folder / "r.zip", folder / "other.zip")
     (folder / "linked").symlink_to("t.zip")
     own, inside = "it is an input of this run", "it stands inside of a package that is an input of this run"
     for given, out, why in (
@@ -1190,6 +1374,11 @@ def outputs_that_are_inputs(folder):
         case(f"{given} --prepare {out}", (run([*given, "--prepare", out], folder), listing(folder) == before), ((3, line), True))
     seen = run(["r", "--taxonomy", "t", "--cache", "t/cache", "--prepare", "o"], folder)
     case("a cache inside of a package", (seen, (folder / "t/cache").exists()), ((3, f"xbrl-filing: t/cache: cannot write ({inside})\n"), False))
+
+
+def folders_to_prepare(folder):
+    """--prepare takes a new or an empty folder."""
+    write(folder, {**{f"r/{it}": text for it, text in REPORT.items()}, **{f"t/{it}": text for it, text in TAXONOMY.items()}})
     (folder / "full").mkdir()
     (folder / "full/x").write_text("x")
     (folder / "empty").mkdir()
@@ -1201,11 +1390,10 @@ def outputs_that_are_inputs(folder):
     case("--out beside the packages", start([*good, "--out", "free.json"], folder)[0], 0)
 
 
-def caching(folder):
-    """A cache is known by contents alone, and never changes what is made."""
-    reads = {"t": TAXONOMY, "r": REPORT}
-    for top, files in reads.items():
-        write(folder / top, files)
+def cached_runs(folder):
+    """A report and a taxonomy; what runs them with a cache, and what lists the cache."""
+    write(folder / "t", TAXONOMY)
+    write(folder / "r", REPORT)
     pack(folder / "t.zip", TAXONOMY)
 
     def made(taxonomy="t", report="r", *more):
@@ -1216,6 +1404,12 @@ def caching(folder):
     def entries():
         return sorted(it.name for it in (folder / "c").iterdir())
 
+    return made, entries
+
+
+def caching(folder):
+    """A cache is known by contents alone, and never changes what is made."""
+    made, entries = cached_runs(folder)
     case("the first run", made(), ((0, ""), TYPES))
     case("keeps one entry", len(entries()), 1)
     kept = folder / "c" / entries()[0]
@@ -1227,6 +1421,12 @@ def caching(folder):
     for damage in (b"", b"x", b"[]\n", b"{}", kept.read_bytes().replace(b"[0,", b"[1,"), b"\xff {}", b'{"' + EG.encode() + b'":[0,5,"x"]}\n', kept.read_bytes()[:-9], b"[" * 100_000):
         kept.write_bytes(damage)
         case(f"a damaged entry {damage[:20]!r}", made(), ((0, ""), TYPES))
+
+
+def keys_of_the_cache(folder):
+    """What the cache is known by: contents, entry points, the order of packages and the program's own text."""
+    made, entries = cached_runs(folder)
+    made()
     os.utime(folder / "t/reg/mod.xsd", (1, 1))
     shutil.copytree(folder / "t", folder / "named")
     case("neither name nor time counts", (made("named"), len(entries())), (((0, ""), TYPES), 1))
@@ -1241,6 +1441,12 @@ def caching(folder):
     case("another entry point", made(), ((0, ""), records("Two,text")))
     write(folder, {"t3/META-INF/catalog.xml": catalog(rewrite()), "t3/reg/two.xsd": schema(item("Three"))})
     case("the order of packages counts", [made("t", "r", "t3")[1], made("t3", "r", "t")[1]], [records("Two,text"), records("Three,text")])
+
+
+def what_is_not_kept(folder):
+    """The report's own schemas are not kept, nor a taxonomy that is refused."""
+    made, entries = cached_runs(folder)
+    made()
     before = entries()
     own = {"r3/reports/report.json": meta({"namespaces": {"eg": EG}, "taxonomy": ["own.xsd"]}), "r3/reports/own.xsd": schema(item("Own"))}
     write(folder, own)
@@ -1255,7 +1461,11 @@ def caching(folder):
     shutil.rmtree(folder / "o", ignore_errors=True)
     seen = run(["r", "--taxonomy", "t.zip", "--cache", "file", "--prepare", "o"], folder)
     case("a cache that is a file", (seen, (folder / "o").exists()), ((3, "xbrl-filing: file: cannot write (File exists)\n"), False))
-    shutil.rmtree(folder / "c")
+
+
+def caches_of_several_runs(folder):
+    """Several runs at once, another program, and prefixes that are replaced by what was kept."""
+    made, entries = cached_runs(folder)
     runs = [subprocess.Popen([FILING, "r", "--taxonomy", "t.zip", "--cache", "c", "--prepare", f"p{it}"], cwd=folder, stderr=subprocess.PIPE) for it in range(3)]
     case("several runs at once", [(it.communicate(timeout=60)[1], it.returncode) for it in runs], [(b"", 0)] * 3)
     case("leave one entry", ([(folder / f"p{it}/types.csv").read_text() for it in range(3)], len(entries())), ([TYPES] * 3, 1))
@@ -1292,20 +1502,47 @@ PARTS = (
     the_example,
     forms_of_reports,
     catalogs,
+    catalogs_refused,
     places,
     joining,
+    joining_tables,
+    leaving_out,
+    entry_points,
     chains,
+    what_is_no_metadata,
     final_parts,
     prefixes,
+    keys_that_become_one,
+    lost_prefixes,
     reading_schemas,
+    reading_linkbases,
+    reading_once,
+    including,
+    names_in_schemas,
+    encodings,
     kinds,
+    kinds_of_elements,
+    what_no_fact_can_have,
+    types_tables,
     hostile_zips,
+    bombs,
+    damaged_zips,
+    damaged_tables,
     unpacked_packages,
     tables,
     temporary_files,
+    signals,
     a_signal_between_two_steps,
+    a_full_disk,
+    what_cannot_be_read,
     words,
+    several_packages,
+    outputs_that_are_inputs,
+    folders_to_prepare,
     caching,
+    keys_of_the_cache,
+    what_is_not_kept,
+    caches_of_several_runs,
     a_large_taxonomy,
 )
 
@@ -1313,7 +1550,7 @@ PARTS = (
 def main():
     for part in PARTS:
         with tempfile.TemporaryDirectory() as folder:
-            part(Path(folder).resolve() / "here" if part is hostile_zips else Path(folder).resolve())
+            part(Path(folder).resolve())
     print(f"over filings: {count - len(failed)} as they must be, {len(failed)} not")
     sys.exit(1 if failed else 0)
 
