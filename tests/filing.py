@@ -70,7 +70,9 @@ def schema(body="", namespace=EG, attributes=""):
     """A schema with the usual prefixes."""
     return (
         f'<xs:schema xmlns:xs="{XS}" xmlns:xbrli="{XBRLI}" xmlns:xbrldt="http://xbrl.org/2005/xbrldt" xmlns:xlink="http://www.w3.org/1999/xlink"'
-        f' xmlns:link="http://www.xbrl.org/2003/linkbase" xmlns:eg="{EG}"' + (f' targetNamespace="{namespace}"' if namespace else "") + f" {attributes}>{body}</xs:schema>"
+        f' xmlns:link="http://www.xbrl.org/2003/linkbase" xmlns:eg="{EG}"' + (
+            f' targetNamespace="{namespace}"' if namespace else ""
+        ) + f" {attributes}>{body}</xs:schema>"
     )
 
 
@@ -208,7 +210,9 @@ def records(*lines, namespace=EG):
 def the_example(folder):
     """The example in every form of package gives the document that was written by hand."""
     document = (EXAMPLE / "expected.json").read_bytes()
-    report, taxonomy = ({str(it.relative_to(EXAMPLE / top)): it.read_bytes() for it in (EXAMPLE / top).rglob("*") if it.is_file()} for top in ("report", "taxonomy"))
+    report, taxonomy = (
+        {str(it.relative_to(EXAMPLE / top)): it.read_bytes() for it in (EXAMPLE / top).rglob("*") if it.is_file()} for top in ("report", "taxonomy")
+    )
     pack(folder / "r.zip", report, "filing-2025/")
     pack(folder / "r.xbr", report)
     pack(folder / "t.zip", taxonomy, "harbour-2025/")
@@ -251,7 +255,12 @@ def forms_of_reports(folder):
         makes(folder, f"a report package{kind}", MERGED, report={**REPORT, "META-INF/reportPackage.json": said})
     own = "META-INF/reportPackage.json"
     stops(folder, "a package file that is no JSON", f"r/{own}: is not JSON: Expecting value (line 1, column 1)", report={**REPORT, own: "x"})
-    stops(folder, "a package of another kind", f"r/{own}: is of no report package: its document type is 'x'", report={**REPORT, own: '{"documentInfo":{"documentType":"x"}}'})
+    stops(
+        folder,
+        "a package of another kind",
+        f"r/{own}: is of no report package: its document type is 'x'",
+        report={**REPORT, own: '{"documentInfo":{"documentType":"x"}}'},
+    )
     other = {"reports/other.json": '{"documentInfo":{"documentType":"https://xbrl.org/2021/xbrl-json"}}', "reports/list.json": "[1]", "reports/a.txt": "x"}
     makes(folder, "other JSON beside the report", MERGED, report={**REPORT, **other})
     makes(folder, "what is no JSON beside the report", MERGED, report={**REPORT, "reports/a.json": "x", "reports/b.json": b"\xff"})
@@ -317,7 +326,12 @@ def catalogs_refused(folder):
     """Catalogs and URLs that lead outside, and URLs that no package has."""
     outside = "t0/META-INF/catalog.xml: has an entry that leads outside of the package: '{}' (line 1)"
     for prefix in ("../../", "/etc/", "file:///etc/", "..%2F..%2F", "%2e%2e/%2e%2e/", "a/../../../b/", "//host/"):
-        stops(folder, f"a prefix {prefix}", outside.format(prefix), taxonomies=[{**TAXONOMY, "META-INF/catalog.xml": catalog(rewrite() + rewrite("http://b/", prefix))}])
+        stops(
+            folder,
+            f"a prefix {prefix}",
+            outside.format(prefix),
+            taxonomies=[{**TAXONOMY, "META-INF/catalog.xml": catalog(rewrite() + rewrite("http://b/", prefix))}],
+        )
     up = {**REPORT, "reports/report.json": meta({"extends": [HOST + "%2e%2e/%2E%2E/mod.json"]})}
     stops(folder, "a URL that leads outside", f"t0/META-INF/catalog.xml: leads {HOST}%2e%2e/%2E%2E/mod.json outside of the package", report=up)
     dots = {**REPORT, "reports/report.json": meta({"extends": [HOST + "a/../../../mod.json"]})}
@@ -325,7 +339,12 @@ def catalogs_refused(folder):
     line = f"r/reports/report.json: no package has {HOST}mod.json (extends; t0 has no META-INF/catalog.xml)"
     stops(folder, "a package without a catalog", line, taxonomies=[{"reg/mod.json": MODULE}])
     stops(folder, "no package at all", f"r/reports/report.json: no package has {HOST}mod.json (extends)", taxonomies=[])
-    stops(folder, "a start string that differs", f"r/reports/report.json: no package has {HOST}mod.json (extends)", taxonomies=[{**TAXONOMY, "META-INF/catalog.xml": catalog(rewrite("http://Reg.example/"))}])
+    stops(
+        folder,
+        "a start string that differs",
+        f"r/reports/report.json: no package has {HOST}mod.json (extends)",
+        taxonomies=[{**TAXONOMY, "META-INF/catalog.xml": catalog(rewrite("http://Reg.example/"))}],
+    )
     bad = {**TAXONOMY, "META-INF/catalog.xml": "<catalog>"}
     stops(folder, "a broken catalog", "t0/META-INF/catalog.xml: is not well-formed XML: no element found (line 1)", taxonomies=[bad])
     doctype = {**TAXONOMY, "META-INF/catalog.xml": "<!DOCTYPE catalog><catalog/>"}
@@ -335,8 +354,15 @@ def catalogs_refused(folder):
 def places(folder):
     """References: relative ones against the published URL, and those of the report beside it."""
     split = [
-        {"META-INF/catalog.xml": catalog(rewrite(HOST + "f/", "../f/")), "f/m/mod.json": meta({**INFO, "taxonomy": ["../../d/mod.xsd"], "extends": ["../../d/base.json"]})},
-        {"META-INF/catalog.xml": catalog(rewrite(HOST + "d/", "../x/y/")), "x/y/mod.xsd": schema(ELEMENTS), "x/y/base.json": meta(tableTemplates={"t": TEMPLATE}, tables={"t": {"url": "t.csv"}})},
+        {
+            "META-INF/catalog.xml": catalog(rewrite(HOST + "f/", "../f/")),
+            "f/m/mod.json": meta({**INFO, "taxonomy": ["../../d/mod.xsd"], "extends": ["../../d/base.json"]}),
+        },
+        {
+            "META-INF/catalog.xml": catalog(rewrite(HOST + "d/", "../x/y/")),
+            "x/y/mod.xsd": schema(ELEMENTS),
+            "x/y/base.json": meta(tableTemplates={"t": TEMPLATE}, tables={"t": {"url": "t.csv"}}),
+        },
     ]
     report = {**REPORT, "reports/report.json": meta({"extends": [HOST + "f/m/mod.json"]})}
     wanted = {**MERGED, "documentInfo": {**MERGED["documentInfo"], "taxonomy": [HOST + "d/mod.xsd"]}}
@@ -344,7 +370,11 @@ def places(folder):
     same = meta({"extends": [HOST + "mod.json", HOST + "x/../mod.json", HOST + "./mod.json#b"]})
     makes(folder, "one file by three references", MERGED, report={**REPORT, "reports/report.json": same})
     for form in ("folder", "zip", "file"):
-        own = {**REPORT, "reports/report.json": meta({"extends": ["sub/own%20base.json", "./x/../sub/own base.json#b"]}), "reports/sub/own base.json": meta({"extends": [HOST + "mod.json", "../../side/a%2520b.json"]})}
+        own = {
+            **REPORT,
+            "reports/report.json": meta({"extends": ["sub/own%20base.json", "./x/../sub/own base.json#b"]}),
+            "reports/sub/own base.json": meta({"extends": [HOST + "mod.json", "../../side/a%2520b.json"]}),
+        }
         makes(folder, f"the report's own files, {form}", parts={"decimals": 3}, types=TYPES, report={**own, "side/a%20b.json": meta(decimals=3)}, form=form)
     up = {**REPORT, "reports/report.json": meta({"extends": ["../../x.json"]})}
     for form in ("folder", "zip"):
@@ -355,7 +385,12 @@ def places(folder):
     for reference, shown in (("/etc/x.json", "/etc/x.json"), ("%2e%2e/%2e%2e/x.json", "reports/%2e%2e/%2e%2e/x.json")):
         line = f"r/reports/report.json: '{shown}' leads outside of r (extends)"
         stops(folder, f"a reference {reference}", line, report={**REPORT, "reports/report.json": meta({"extends": [reference]})})
-    stops(folder, "a file beside that is not there", "r/reports/report.json: there is no r/reports/x.json (extends)", report={**REPORT, "reports/report.json": meta({"extends": ["x.json"]})})
+    stops(
+        folder,
+        "a file beside that is not there",
+        "r/reports/report.json: there is no r/reports/x.json (extends)",
+        report={**REPORT, "reports/report.json": meta({"extends": ["x.json"]})},
+    )
     for url in ("file:///etc/passwd", "ftp://reg.example/mod.json", "urn:x:y", "//reg.example/mod.json"):
         line = f"r/reports/report.json: no package has {url} (extends)"
         stops(folder, f"a URL of another kind {url}", line, report={**REPORT, "reports/report.json": meta({"extends": [url]})})
@@ -393,19 +428,45 @@ def joining(folder):
         makes(folder, f"{part} by key", parts={part: {**one, **two}}, **both({part: one}, {part: two}))
         key = sorted(set(one) & set(other))[0]
         stops(folder, f"{part} with two values", f"{second}: '{part}.{key}' has another value than in {first}", **both({part: one}, {part: other}))
-    makes(folder, "templates by key", parts={"tableTemplates": templates}, **both({"tableTemplates": {"p": templates["p"]}, "tables": tables}, {"tableTemplates": templates}))
+    makes(
+        folder,
+        "templates by key",
+        parts={"tableTemplates": templates},
+        **both({"tableTemplates": {"p": templates["p"]}, "tables": tables}, {"tableTemplates": templates}),
+    )
     line = f"{second}: 'tableTemplates.p' has another value than in {first}"
     stops(folder, "templates with two values", line, **both({"tableTemplates": {"p": {"columns": {"y": {}}}}}, {"tableTemplates": templates}))
     stops(folder, "no completed templates", line, **both({"tableTemplates": {"p": {}}}, {"tableTemplates": templates}))
-    one, two = {"columns": {"x": {"dimensions": {"unit": "a:b", "concept": "eg:Cash"}}}, "decimals": 0}, {"decimals": 0, "columns": {"x": {"dimensions": {"concept": "eg:Cash", "unit": "a:b"}}}}
-    makes(folder, "the order of members does not count", parts={"tableTemplates/p": one}, **both({"tableTemplates": {"p": one}, "tables": tables}, {"tableTemplates": {"p": two, "q": {"columns": {}}}}))
+    one, two = {
+        "columns": {"x": {"dimensions": {"unit": "a:b", "concept": "eg:Cash"}}},
+        "decimals": 0,
+    }, {"decimals": 0, "columns": {"x": {"dimensions": {"concept": "eg:Cash", "unit": "a:b"}}}}
+    makes(
+        folder,
+        "the order of members does not count",
+        parts={"tableTemplates/p": one},
+        **both({"tableTemplates": {"p": one}, "tables": tables}, {"tableTemplates": {"p": two, "q": {"columns": {}}}}),
+    )
     for a, b in ((0, 0.0), (1, True), (0, "0"), (0, None), (None, 0)):
         stops(folder, f"{a!r} is not {b!r}", f"{second}: 'decimals' has another value than in {first}", **both({"decimals": a}, {"decimals": b}))
     makes(folder, "decimals that are equal", parts={"decimals": -3}, **both({"decimals": -3}, {"decimals": -3}))
-    makes(folder, "parameterURL of the module", parts={"parameterURL": "p.csv"}, report={**REPORT, "reports/p.csv": "name,value\n"}, taxonomies=both({}, {"parameterURL": "p.csv"})["taxonomies"])
-    stops(folder, "two parameterURLs", f"{second}: 'parameterURL' has another value than in {first}", **both({"parameterURL": "a.csv"}, {"parameterURL": "b.csv"}))
+    makes(
+        folder,
+        "parameterURL of the module",
+        parts={"parameterURL": "p.csv"},
+        report={**REPORT, "reports/p.csv": "name,value\n"},
+        taxonomies=both({}, {"parameterURL": "p.csv"})["taxonomies"],
+    )
+    stops(
+        folder, "two parameterURLs", f"{second}: 'parameterURL' has another value than in {first}", **both({"parameterURL": "a.csv"}, {"parameterURL": "b.csv"})
+    )
     namespaces = {"x": "http://x/"}
-    makes(folder, "namespaces by prefix", parts={"documentInfo/namespaces": {"eg": EG, "x": "http://x/"}}, **both({}, {}, {"namespaces": {**namespaces, "eg": EG}}))
+    makes(
+        folder,
+        "namespaces by prefix",
+        parts={"documentInfo/namespaces": {"eg": EG, "x": "http://x/"}},
+        **both({}, {}, {"namespaces": {**namespaces, "eg": EG}}),
+    )
     line = f"{second}: 'documentInfo.namespaces.eg' has another value than in {first}"
     stops(folder, "a prefix of two namespaces", line, **both({}, {}, {"namespaces": {"eg": "http://x/"}}))
 
@@ -413,8 +474,16 @@ def joining(folder):
 def joining_tables(folder):
     """Tables are joined member by member: what one file leaves open another may give."""
     first, second, templates = FIRST, SECOND, TWO_TEMPLATES
-    open_table = both({"tables": {"t": {"optional": True, "parameters": {"a": "1"}}}}, {"tables": {"t": {"url": "t.csv", "template": "p", "x:note": 1, "parameters": {"a": "1", "b": "2"}}}, "tableTemplates": templates})
-    made = makes(folder, "a table that is completed", parts={"tables": {"t": {"url": "t.csv", "template": "p", "optional": True, "parameters": {"a": "1", "b": "2"}}}}, **open_table)
+    open_table = both(
+        {"tables": {"t": {"optional": True, "parameters": {"a": "1"}}}},
+        {"tables": {"t": {"url": "t.csv", "template": "p", "x:note": 1, "parameters": {"a": "1", "b": "2"}}}, "tableTemplates": templates},
+    )
+    made = makes(
+        folder,
+        "a table that is completed",
+        parts={"tables": {"t": {"url": "t.csv", "template": "p", "optional": True, "parameters": {"a": "1", "b": "2"}}}},
+        **open_table,
+    )
     case("tables that are named are taken along", made.get("t.csv"), b"cash\n1\n")
     for member, a, b in (("url", "a.csv", "b.csv"), ("template", "p", "q"), ("optional", True, False)):
         line = f"{second}: 'tables.t.{member}' has another value than in {first}"
@@ -423,19 +492,36 @@ def joining_tables(folder):
     stops(folder, "a table with two parameters", line, **both({"tables": {"t": {"parameters": {"a": "1"}}}}, {"tables": {"t": {"parameters": {"a": "2"}}}}))
     stops(folder, "a table that is none", f"{second}: 'tables.t' has another value than in {first}", **both({"tables": {"t": {}}}, {"tables": {"t": 1}}))
     line = f"{second}: 'tables.t.parameters.a' has another value than in {first}"
-    stops(folder, "parameters of a table that are none", line.replace(".parameters.a", ".parameters"), **both({"tables": {"t": {"parameters": 1}}}, {"tables": {"t": {"parameters": {"a": "1"}}}}))
+    stops(
+        folder,
+        "parameters of a table that are none",
+        line.replace(".parameters.a", ".parameters"),
+        **both({"tables": {"t": {"parameters": 1}}}, {"tables": {"t": {"parameters": {"a": "1"}}}}),
+    )
 
 
 def leaving_out(folder):
     """What is left out, and links, which are refused."""
     first, second = FIRST, SECOND
-    unused = both({}, {"tables": {"t": {"url": "t.csv"}}, "tableTemplates": {"t": {**TEMPLATE, "x:y": 1}, "unused": {"dimensions": {"eg:None": "a"}, "columns": {}}}})
+    unused = both(
+        {}, {"tables": {"t": {"url": "t.csv"}}, "tableTemplates": {"t": {**TEMPLATE, "x:y": 1}, "unused": {"dimensions": {"eg:None": "a"}, "columns": {}}}}
+    )
     makes(folder, "templates that no table uses are left out", MERGED, **unused)
     extra = {"features": {"a": 1}, "linkTypes": {"a": "b"}, "linkGroups": {}, "x:y": {"deep": [1]}, "links": {}, "other": 2}
-    long = {"columns": {"cash": {"x:y": 1, "comment": False, "dimensions": {"concept": "eg:Cash"}}, "g": {"propertyGroups": {"a": {"x:y": 1, "decimals": 1, "dimensions": {}}}, "eurofiling:doc": "x"}}}
+    long = {
+        "columns": {
+            "cash": {"x:y": 1, "comment": False, "dimensions": {"concept": "eg:Cash"}},
+            "g": {"propertyGroups": {"a": {"x:y": 1, "decimals": 1, "dimensions": {}}}, "eurofiling:doc": "x"},
+        }
+    }
     short = {"columns": {"cash": {"comment": False, "dimensions": {"concept": "eg:Cash"}}, "g": {"propertyGroups": {"a": {"decimals": 1, "dimensions": {}}}}}}
     wanted = {**MERGED, "tableTemplates": {"t": short}}
-    makes(folder, "what the converter does not read is left out", wanted, **both(extra, {**extra, "tableTemplates": {"t": long}, "tables": MERGED["tables"]}, {"x:y": 1}))
+    makes(
+        folder,
+        "what the converter does not read is left out",
+        wanted,
+        **both(extra, {**extra, "tableTemplates": {"t": long}, "tables": MERGED["tables"]}, {"x:y": 1}),
+    )
     for links in ({"a": {}}, {"a": {"b": {"c": ["d"]}}}):
         stops(folder, f"links {links}", f"{second}: has 'links', which cannot be carried over", **both({}, {"links": links}))
         stops(folder, f"links of the report {links}", f"{first}: has 'links', which cannot be carried over", **both({"links": links}, {}))
@@ -444,11 +530,18 @@ def leaving_out(folder):
 def entry_points(folder):
     """The taxonomy's URLs and their base, and parts of a wrong shape."""
     second = SECOND
-    base = both({}, {}, {"baseURL": "http://filer.example/a/", "taxonomy": ["own.xsd", HOST + "mod.xsd"]}, {"baseURL": "http://reg.example/d/e/", "taxonomy": ["../../mod.xsd", "x.xsd"]})
+    base = both(
+        {},
+        {},
+        {"baseURL": "http://filer.example/a/", "taxonomy": ["own.xsd", HOST + "mod.xsd"]},
+        {"baseURL": "http://reg.example/d/e/", "taxonomy": ["../../mod.xsd", "x.xsd"]},
+    )
     base["taxonomies"][0].update({"reg/d/e/x.xsd": schema(item("X"))})
     base["taxonomies"].append({"META-INF/catalog.xml": catalog(rewrite("http://filer.example/", "../f/")), "f/a/own.xsd": schema(item("O"))})
     urls = ["http://filer.example/a/own.xsd", HOST + "mod.xsd", HOST + "d/e/x.xsd"]
-    made = makes(folder, "baseURL is the base of a file's own taxonomy", parts={"documentInfo/baseURL": "http://filer.example/a/", "documentInfo/taxonomy": urls}, **base)
+    made = makes(
+        folder, "baseURL is the base of a file's own taxonomy", parts={"documentInfo/baseURL": "http://filer.example/a/", "documentInfo/taxonomy": urls}, **base
+    )
     case("all of them are read", made["types.csv"].decode(), records("Branch,typed", "Cash,decimal", "Note,text", "O,text", "Region,explicit", "X,text"))
     makes(folder, "only the report's baseURL stands", parts={"documentInfo/baseURL": None}, **both({}, {}, {}, {"baseURL": HOST}))
     makes(folder, "no taxonomy at all is left to the converter", parts={"documentInfo/taxonomy": None}, report={"reports/report.json": meta()}, taxonomies=[])
@@ -469,18 +562,51 @@ def chains(folder):
     report = {"reports/report.json": meta(info("a.json", "b.json"), parameters={"r": "1"})}
 
     def level(name, *extends, **more):
-        return {f"reg/{name}.json": meta(info(*extends, taxonomy=[name + ".xsd"], namespaces={name: f"http://{name}/"}), **more), f"reg/{name}.xsd": schema(item("C"), f"http://{name}/")}
+        return {
+            f"reg/{name}.json": meta(info(*extends, taxonomy=[name + ".xsd"], namespaces={name: f"http://{name}/"}), **more),
+            f"reg/{name}.xsd": schema(item("C"), f"http://{name}/"),
+        }
 
     base = {"META-INF/catalog.xml": catalog(rewrite())}
-    diamond = {**base, **level("a", "c.json"), **level("b", "c.json", "d.json"), **level("c", "e.json"), **level("d", "e.json"), **level("e", parameters={"e": "2"})}
+    diamond = {
+        **base,
+        **level("a", "c.json"),
+        **level("b", "c.json", "d.json"),
+        **level("c", "e.json"),
+        **level("d", "e.json"),
+        **level("e", parameters={"e": "2"}),
+    }
     order = [HOST + f"{it}.xsd" for it in "acebd"]
-    made = makes(folder, "three levels and a diamond, in one order", parts={"documentInfo/taxonomy": order, "parameters": {"r": "1", "e": "2"}}, report=report, taxonomies=[diamond])
+    made = makes(
+        folder,
+        "three levels and a diamond, in one order",
+        parts={"documentInfo/taxonomy": order, "parameters": {"r": "1", "e": "2"}},
+        report=report,
+        taxonomies=[diamond],
+    )
     case("types of all levels in byte order", made["types.csv"].decode(), "namespace,name,type2\n" + "".join(f"http://{it}/,C,text\n" for it in "abcde"))
     long = {**base, **{path: text for number in range(400) for path, text in level(f"n{number}", *([f"n{number + 1}.json"] if number < 399 else [])).items()}}
-    makes(folder, "four hundred levels", parts={"documentInfo/taxonomy": [HOST + f"n{it}.xsd" for it in range(400)]}, report={"reports/report.json": meta(info("n0.json"))}, taxonomies=[long])
-    pairs = {path: text for number in range(24) for side in "xy" for path, text in level(f"{side}{number}", *([f"x{number + 1}.json", f"y{number + 1}.json"] if number < 23 else [])).items()}
+    makes(
+        folder,
+        "four hundred levels",
+        parts={"documentInfo/taxonomy": [HOST + f"n{it}.xsd" for it in range(400)]},
+        report={"reports/report.json": meta(info("n0.json"))},
+        taxonomies=[long],
+    )
+    pairs = {
+        path: text
+        for number in range(24)
+        for side in "xy"
+        for path, text in level(f"{side}{number}", *([f"x{number + 1}.json", f"y{number + 1}.json"] if number < 23 else [])).items()
+    }
     order = [HOST + f"x{it}.xsd" for it in range(24)] + [HOST + f"y{it}.xsd" for it in range(23, -1, -1)]
-    made = makes(folder, "diamonds on diamonds, each file once", parts={"documentInfo/taxonomy": order}, report={"reports/report.json": meta(info("x0.json", "y0.json"))}, taxonomies=[{**base, **pairs}])
+    made = makes(
+        folder,
+        "diamonds on diamonds, each file once",
+        parts={"documentInfo/taxonomy": order},
+        report={"reports/report.json": meta(info("x0.json", "y0.json"))},
+        taxonomies=[{**base, **pairs}],
+    )
     ring = {**base, **level("a", "b.json"), **level("b", "c.json"), **level("c", "b.json")}
     stops(folder, "a ring", "t0/reg/c.json: extends itself, by way of t0/reg/b.json", report=report, taxonomies=[ring])
     itself = {**base, **level("a", "x/../a.json#b"), **level("b")}
@@ -492,7 +618,11 @@ def chains(folder):
 def what_is_no_metadata(folder):
     """Files that are no metadata files, and JSON that is none for the converter."""
     for name, text, what in (
-        ("another document type", '{"documentInfo":{"documentType":"https://xbrl.org/2021/xbrl-json"}}', "is no xBRL-CSV metadata file: its document type is 'https://xbrl.org/2021/xbrl-json'"),
+        (
+            "another document type",
+            '{"documentInfo":{"documentType":"https://xbrl.org/2021/xbrl-json"}}',
+            "is no xBRL-CSV metadata file: its document type is 'https://xbrl.org/2021/xbrl-json'",
+        ),
         ("no document type", '{"documentInfo":{}}', "is no xBRL-CSV metadata file: it has no 'documentInfo.documentType'"),
         ("no documentInfo", "{}", "is no xBRL-CSV metadata file: it has no 'documentInfo.documentType'"),
         ("a list", "[]", "is no xBRL-CSV metadata file: it has no 'documentInfo.documentType'"),
@@ -520,7 +650,13 @@ def what_is_no_metadata(folder):
     pair = json.dumps({**edge, "parameters": {"p": "\U0001f600"}})
     made = makes(folder, "127 levels, and a whole pair", parts={"parameters/p": "\U0001f600"}, taxonomies=[{**TAXONOMY, "reg/mod.json": pair}])
     case("texts are written as UTF-8", "\U0001f600".encode() in made["meta.json"], True)
-    made = makes(folder, "numbers stay what they are", taxonomies=[{**TAXONOMY, "reg/mod.json": MODULE.replace('"tables"', '"decimals": -0, "parameters": {"a": 12345678901234567890123, "b": 1.0}, "tables"')}])
+    made = makes(
+        folder,
+        "numbers stay what they are",
+        taxonomies=[
+            {**TAXONOMY, "reg/mod.json": MODULE.replace('"tables"', '"decimals": -0, "parameters": {"a": 12345678901234567890123, "b": 1.0}, "tables"')}
+        ],
+    )
     case("numbers as they are written", (b'"decimals":-0.0' in made["meta.json"], b'"a":12345678901234567890123,"b":1.0' in made["meta.json"]), (True, True))
 
 
@@ -557,13 +693,34 @@ def final_parts(folder):
     stops(folder, "final namespaces", line, **chain("x:y", None, None, {"namespaces": True}, {"namespaces": {"x": "http://x/"}}))
     line = f"{top}: adds '{HOST}more.xsd' to 'taxonomy', which is final in {low}"
     stops(folder, "final taxonomy", line, **chain("x:y", None, None, {"taxonomy": True}, {"taxonomy": [HOST + "more.xsd"]}))
-    makes(folder, "final taxonomy, and the same", **chain("x:y", None, None, {"taxonomy": True}, {"taxonomy": [HOST + "mod.xsd"]}), parts={"documentInfo/documentType": CSV})
+    makes(
+        folder,
+        "final taxonomy, and the same",
+        **chain("x:y", None, None, {"taxonomy": True}, {"taxonomy": [HOST + "mod.xsd"]}),
+        parts={"documentInfo/documentType": CSV},
+    )
     for part in ("links", "features", "linkTypes", "linkGroups", "later"):
         makes(folder, f"final {part} says nothing", **chain("x:y", None, None, {part: True}), parts={"documentInfo/final": None})
-    below = {**TAXONOMY, "reg/mod.json": meta({**INFO, "final": {"parameters": True}, "extends": ["low.json"]}, parameters={"a": "1"}), "reg/low.json": meta(parameters={"b": "2"})}
-    makes(folder, "what a final file itself and those below it have", taxonomies=[below], report={**REPORT, "reports/report.json": meta({"extends": [HOST + "mod.json"]}, parameters={"b": "2"})}, parts={"parameters": {"a": "1", "b": "2"}})
+    below = {
+        **TAXONOMY,
+        "reg/mod.json": meta({**INFO, "final": {"parameters": True}, "extends": ["low.json"]}, parameters={"a": "1"}),
+        "reg/low.json": meta(parameters={"b": "2"}),
+    }
+    makes(
+        folder,
+        "what a final file itself and those below it have",
+        taxonomies=[below],
+        report={**REPORT, "reports/report.json": meta({"extends": [HOST + "mod.json"]}, parameters={"b": "2"})},
+        parts={"parameters": {"a": "1", "b": "2"}},
+    )
     beside = {**below, "reg/side.json": meta(parameters={"c": "3"})}
-    makes(folder, "a file beside it adds what it likes", taxonomies=[beside], report={**REPORT, "reports/report.json": meta({"extends": [HOST + "mod.json", HOST + "side.json"]})}, parts={"parameters": {"a": "1", "b": "2", "c": "3"}})
+    makes(
+        folder,
+        "a file beside it adds what it likes",
+        taxonomies=[beside],
+        report={**REPORT, "reports/report.json": meta({"extends": [HOST + "mod.json", HOST + "side.json"]})},
+        parts={"parameters": {"a": "1", "b": "2", "c": "3"}},
+    )
     stops(folder, "final that is no truth", f"{low}: 'documentInfo.final.tables' is neither true nor false", **chain("x:y", None, None, {"tables": "yes"}))
 
 
@@ -581,7 +738,15 @@ def prefixes(folder):
     """Two prefixes of one namespace: the first stands, and the other is replaced wherever it is a prefix."""
     mem = "http://mem/"
     shown = {
-        "dimensions": {"concept": "eg:Cash", "unit": "(m:a*eg:b)/m:c", "entity": "m:a:m:b", "eg:Region": "m:x", "eg:Branch": "m:x", "period": "m:x", "language": "m:x"},
+        "dimensions": {
+            "concept": "eg:Cash",
+            "unit": "(m:a*eg:b)/m:c",
+            "entity": "m:a:m:b",
+            "eg:Region": "m:x",
+            "eg:Branch": "m:x",
+            "period": "m:x",
+            "language": "m:x",
+        },
         "decimals": "$m",
     }
     special = {"concept": "$m", "unit": "$m", "entity": "#none", "eg:Region": "$m", "eg:Branch": "$$m:x"}
@@ -593,7 +758,15 @@ def prefixes(folder):
     module = two_prefixes(tableTemplates={"t": template}, tables={"t": {"url": "t.csv"}}, dimensions={"g:Region": "m:x", "g:Branch": "m:x"})
     report = named_report(dimensions={"eg:Region": "n:x"})
     replaced = {
-        "dimensions": {"concept": "eg:Cash", "unit": "(n:a*eg:b)/n:c", "entity": "n:a:m:b", "eg:Region": "n:x", "eg:Branch": "m:x", "period": "m:x", "language": "m:x"},
+        "dimensions": {
+            "concept": "eg:Cash",
+            "unit": "(n:a*eg:b)/n:c",
+            "entity": "n:a:m:b",
+            "eg:Region": "n:x",
+            "eg:Branch": "m:x",
+            "period": "m:x",
+            "language": "m:x",
+        },
         "decimals": "$m",
     }
     wanted = {
@@ -614,19 +787,55 @@ def keys_that_become_one(folder):
     """Keys and templates that are one once a prefix is replaced, and prefixes that are left."""
     mem, report = "http://mem/", named_report(dimensions={"eg:Region": "n:x"})
     two_values = two_prefixes(dimensions={"g:Region": "m:y"})
-    stops(folder, "two keys that become one", "t0/reg/mod.json: 'dimensions.eg:Region' has another value than in r/reports/report.json", report=report, taxonomies=[two_values])
+    stops(
+        folder,
+        "two keys that become one",
+        "t0/reg/mod.json: 'dimensions.eg:Region' has another value than in r/reports/report.json",
+        report=report,
+        taxonomies=[two_values],
+    )
     columns = {"f": {"dimensions": {"g:Region": "m:x", "eg:Region": "n:y"}}}
     both_keys = two_prefixes(tableTemplates={"t": {"columns": columns}}, tables={"t": {"url": "t.csv"}})
     line = "t0/reg/mod.json: gives 'eg:Region' two values under two prefixes (template 't', column 'f')"
     stops(folder, "two keys of a column that become one", line, report=report, taxonomies=[both_keys])
     same = json.loads(both_keys["reg/mod.json"].replace("n:y", "n:x"))
-    makes(folder, "with one value", parts={"tableTemplates/t/columns/f/dimensions": {"eg:Region": "n:x"}}, report=report, taxonomies=[{**both_keys, "reg/mod.json": json.dumps(same)}])
-    equal = {**TAXONOMY, "reg/mod.json": meta({"namespaces": {"g": EG}, "taxonomy": ["mod.xsd"]}, tableTemplates={"t": {"columns": {"f": {"dimensions": {"concept": "g:Cash"}}}}}, tables={"t": {"url": "t.csv"}})}
-    again = {**REPORT, "reports/report.json": meta({"extends": [HOST + "mod.json"], "namespaces": {"eg": EG}}, tableTemplates={"t": {"columns": {"f": {"dimensions": {"concept": "eg:Cash"}}}}})}
-    makes(folder, "a template restated with another prefix is equal", parts={"documentInfo/namespaces": {"eg": EG}}, types=TYPES, report=again, taxonomies=[equal])
+    makes(
+        folder,
+        "with one value",
+        parts={"tableTemplates/t/columns/f/dimensions": {"eg:Region": "n:x"}},
+        report=report,
+        taxonomies=[{**both_keys, "reg/mod.json": json.dumps(same)}],
+    )
+    equal = {
+        **TAXONOMY,
+        "reg/mod.json": meta(
+            {"namespaces": {"g": EG}, "taxonomy": ["mod.xsd"]},
+            tableTemplates={"t": {"columns": {"f": {"dimensions": {"concept": "g:Cash"}}}}},
+            tables={"t": {"url": "t.csv"}},
+        ),
+    }
+    again = {
+        **REPORT,
+        "reports/report.json": meta(
+            {"extends": [HOST + "mod.json"], "namespaces": {"eg": EG}}, tableTemplates={"t": {"columns": {"f": {"dimensions": {"concept": "eg:Cash"}}}}}
+        ),
+    }
+    makes(
+        folder, "a template restated with another prefix is equal", parts={"documentInfo/namespaces": {"eg": EG}}, types=TYPES, report=again, taxonomies=[equal]
+    )
     twice = {**TAXONOMY, "reg/mod.json": meta({"namespaces": {"a": EG, "b": EG}, "taxonomy": ["mod.xsd"]}, dimensions={"a:Region": "b:x"})}
-    makes(folder, "two prefixes in one file are left", parts={"documentInfo/namespaces": {"a": EG, "b": EG, "eg": EG, "n": mem}, "dimensions": {"a:Region": "b:x", "eg:Region": "n:x"}}, report=report, taxonomies=[twice])
-    third = {**TAXONOMY, "reg/mod.json": meta({"namespaces": {"m": mem}, "extends": ["low.json"], "taxonomy": ["mod.xsd"]}), "reg/low.json": meta({"namespaces": {"k": mem}}, dimensions={"entity": "k:1"})}
+    makes(
+        folder,
+        "two prefixes in one file are left",
+        parts={"documentInfo/namespaces": {"a": EG, "b": EG, "eg": EG, "n": mem}, "dimensions": {"a:Region": "b:x", "eg:Region": "n:x"}},
+        report=report,
+        taxonomies=[twice],
+    )
+    third = {
+        **TAXONOMY,
+        "reg/mod.json": meta({"namespaces": {"m": mem}, "extends": ["low.json"], "taxonomy": ["mod.xsd"]}),
+        "reg/low.json": meta({"namespaces": {"k": mem}}, dimensions={"entity": "k:1"}),
+    }
     makes(folder, "three prefixes in three files", parts={"documentInfo/namespaces": {"m": mem}, "dimensions/entity": "m:1"}, taxonomies=[third])
 
 
@@ -645,6 +854,10 @@ def lost_prefixes(folder):
             stops(folder, f"a parameter {text} in a file, {form}", line, report=file, taxonomies=[module], form=form)
     kept = {"a": "n:x", "b": "am:x", "c": "m"}
     makes(folder, "parameters without it", parts={"parameters": kept}, report=named_report(parameters=kept), taxonomies=[module])
+
+
+def noted(body, attributes=""):
+    return f"<xs:annotation {attributes}><xs:appinfo>{body}</xs:appinfo></xs:annotation>"
 
 
 ONE, LEAF = records("A,text"), {"reg/d/leaf.xsd": schema(item("A"))}
@@ -668,11 +881,13 @@ def reading_schemas(folder):
         "an include": include("d/leaf.xsd", "include"),
         "an import by its absolute URL": include(HOST + "d/leaf.xsd"),
         "an import without a place": '<xs:import namespace="x"/>' + include("d/leaf.xsd"),
-        "the standard's own schemas": include("http://www.xbrl.org/2003/xbrl-instance-2003-12-31.xsd") + include("https://xbrl.org/a.xsd") + include("http://WWW.w3.org:80/a.xsd") + include("d/leaf.xsd"),
-        "a base": f'<xs:annotation xml:base="d/"><xs:appinfo>{loc("leaf.xsd#A", "linkbaseRef")}</xs:appinfo></xs:annotation>',
+        "the standard's own schemas": include(
+            "http://www.xbrl.org/2003/xbrl-instance-2003-12-31.xsd"
+        ) + include("https://xbrl.org/a.xsd") + include("http://WWW.w3.org:80/a.xsd") + include("d/leaf.xsd"),
+        "a base": noted(loc("leaf.xsd#A", "linkbaseRef"), 'xml:base="d/"'),
         "two bases": f'<xs:annotation xml:base="x/"><xs:appinfo xml:base="../d/"><a xml:base="y/"/>{loc("leaf.xsd", "roleRef")}</xs:appinfo></xs:annotation>',
         "a base that has ended": f'<xs:annotation xml:base="x/"/>{include("d/leaf.xsd")}',
-        "a base inside of a type": f'<xs:complexType name="t" xml:base="x/"><xs:annotation><xs:appinfo>{loc("../d/leaf.xsd", "roleRef")}</xs:appinfo></xs:annotation><xs:sequence/></xs:complexType>',
+        "a base inside of a type": f'<xs:complexType name="t" xml:base="x/">{noted(loc("../d/leaf.xsd", "roleRef"))}<xs:sequence/></xs:complexType>',
     }.items():
         reads(folder, name, {**leaf, "reg/mod.xsd": schema(body)}, one)
     reads(folder, "the base of a schema", {**leaf, "reg/mod.xsd": schema(include("leaf.xsd"), attributes=f'xml:base="{HOST}d/"')}, one)
@@ -684,17 +899,46 @@ def reading_linkbases(folder):
     for kind in ("loc", "linkbaseRef", "roleRef", "arcroleRef"):
         links = {**leaf, "reg/mod.xsd": schema(f"<xs:annotation><xs:appinfo>{loc('l.xml', 'linkbaseRef')}</xs:appinfo></xs:annotation>")}
         reads(folder, f"a {kind} of a linkbase", {**links, "reg/l.xml": linkbase(f"<a><b>{loc('d/leaf.xsd#A', kind)}</b></a>")}, one)
-        reads(folder, f"a {kind} of a schema", {**leaf, "reg/mod.xsd": schema(f"<xs:annotation><xs:appinfo>{loc('d/leaf.xsd#A', kind)}</xs:appinfo></xs:annotation>")}, one)
-        refuses(folder, f"a {kind} that leads nowhere", {**links, "reg/l.xml": linkbase("\n" + loc("none.xsd#A", kind))}, f"t0/reg/l.xml: no package has {HOST}none.xsd ({kind}, line 2)")
-        reads(folder, f"a {kind} of another namespace", {**links, "reg/l.xml": linkbase(f'<x:{kind} xmlns:x="http://x/" xlink:href="none.xsd"/>' + loc("d/leaf.xsd"))}, one)
+        reads(
+            folder,
+            f"a {kind} of a schema",
+            {**leaf, "reg/mod.xsd": schema(f"<xs:annotation><xs:appinfo>{loc('d/leaf.xsd#A', kind)}</xs:appinfo></xs:annotation>")},
+            one,
+        )
+        refuses(
+            folder,
+            f"a {kind} that leads nowhere",
+            {**links, "reg/l.xml": linkbase("\n" + loc("none.xsd#A", kind))},
+            f"t0/reg/l.xml: no package has {HOST}none.xsd ({kind}, line 2)",
+        )
+        reads(
+            folder,
+            f"a {kind} of another namespace",
+            {**links, "reg/l.xml": linkbase(f'<x:{kind} xmlns:x="http://x/" xlink:href="none.xsd"/>' + loc("d/leaf.xsd"))},
+            one,
+        )
     entry = {"reg/mod.xsd": linkbase(loc("d/leaf.xsd#A"))}
     reads(folder, "an entry point that is a linkbase", {**leaf, **entry}, one)
-    inner = {**leaf, "reg/mod.xsd": linkbase(f'<a xml:base="x/">{loc("../d/leaf.xsd")}<b xml:base="../d/"><c/>{loc("two.xsd")}</b>{loc("../d/three.xsd")}</a>{loc("d/four.xsd")}')}
+    inner = {
+        **leaf,
+        "reg/mod.xsd": linkbase(
+            f'<a xml:base="x/">{loc("../d/leaf.xsd")}<b xml:base="../d/"><c/>{loc("two.xsd")}</b>{loc("../d/three.xsd")}</a>{loc("d/four.xsd")}'
+        ),
+    }
     inner.update({f"reg/d/{it}.xsd": schema(item(it)) for it in ("two", "three", "four")})
     reads(folder, "bases of a linkbase", inner, records("A,text", "four,text", "three,text", "two,text"))
-    twice = {**leaf, "reg/e/leaf.xsd": schema(item("B")), "reg/mod.xsd": linkbase(f'<a xml:base="d/">{loc("leaf.xsd")}</a><a xml:base="e/">{loc("leaf.xsd")}</a>')}
+    twice = {
+        **leaf,
+        "reg/e/leaf.xsd": schema(item("B")),
+        "reg/mod.xsd": linkbase(f'<a xml:base="d/">{loc("leaf.xsd")}</a><a xml:base="e/">{loc("leaf.xsd")}</a>'),
+    }
     reads(folder, "one reference under two bases", twice, records("A,text", "B,text"))
-    reads(folder, "the base of a whole linkbase", {**leaf, "reg/mod.xsd": linkbase(f'<a xml:base="x/">{loc("../leaf.xsd")}</a>{loc("leaf.xsd")}', 'xml:base="d/"')}, one)
+    reads(
+        folder,
+        "the base of a whole linkbase",
+        {**leaf, "reg/mod.xsd": linkbase(f'<a xml:base="x/">{loc("../leaf.xsd")}</a>{loc("leaf.xsd")}', 'xml:base="d/"')},
+        one,
+    )
     for kind in ("label", "reference"):
         role = f'<link:linkbaseRef xlink:href="none.xml" xlink:role="http://www.xbrl.org/2003/role/{kind}LinkbaseRef"/>'
         reads(folder, f"{kind} linkbases are passed over", {"reg/mod.xsd": schema(role + item("A"))}, one)
@@ -705,42 +949,103 @@ def reading_linkbases(folder):
 def reading_once(folder):
     """Rings, schemas by two URLs, and schemas that no package has."""
     one, leaf = ONE, LEAF
-    reads(folder, "imports in a ring, each file once", {"reg/mod.xsd": schema(include("d/leaf.xsd") + item("B")), "reg/d/leaf.xsd": schema(include("../mod.xsd") + include("leaf.xsd#x") + item("A"))}, records("A,text", "B,text"))
-    two = {"reg/mod.xsd": schema(include("a.xsd") + include("b.xsd")), "reg/a.xsd": schema(item("A", "xbrli:dateItemType")), "reg/b.xsd": schema(item("A") + item("B"))}
+    reads(
+        folder,
+        "imports in a ring, each file once",
+        {"reg/mod.xsd": schema(include("d/leaf.xsd") + item("B")), "reg/d/leaf.xsd": schema(include("../mod.xsd") + include("leaf.xsd#x") + item("A"))},
+        records("A,text", "B,text"),
+    )
+    two = {
+        "reg/mod.xsd": schema(include("a.xsd") + include("b.xsd")),
+        "reg/a.xsd": schema(item("A", "xbrli:dateItemType")),
+        "reg/b.xsd": schema(item("A") + item("B")),
+    }
     reads(folder, "two declarations of one name", two, records("A,date", "B,text"))
-    reads(folder, "one schema by two URLs", {**leaf, "reg/mod.xsd": schema(include("d/leaf.xsd") + include("https://reg.example/d/leaf.xsd")), "META-INF/catalog.xml": catalog(rewrite() + rewrite("https://reg.example/"))}, one)
-    refuses(folder, "an import that no package has", {"reg/mod.xsd": schema("\n" + include("http://far.example/x.xsd#a"))}, "t0/reg/mod.xsd: no package has http://far.example/x.xsd (import, line 2)")
-    refuses(folder, "an import of a file", {"reg/mod.xsd": schema(include("file:///etc/passwd"))}, "t0/reg/mod.xsd: no package has file:///etc/passwd (import, line 1)")
-    stops(folder, "an entry point that no package has", f"t0/reg/mod.json: no package has {HOST}none.xsd (taxonomy)", taxonomies=[{**TAXONOMY, "reg/mod.json": meta({**INFO, "taxonomy": ["none.xsd"]})}])
-    own = {**TAXONOMY, "META-INF/catalog.xml": catalog(rewrite() + rewrite("http://www.xbrl.org/", "../xbrl/")), "xbrl/own.xsd": schema(item("A")), "reg/mod.xsd": schema(include("http://www.xbrl.org/own.xsd"))}
+    reads(
+        folder,
+        "one schema by two URLs",
+        {
+            **leaf,
+            "reg/mod.xsd": schema(include("d/leaf.xsd") + include("https://reg.example/d/leaf.xsd")),
+            "META-INF/catalog.xml": catalog(rewrite() + rewrite("https://reg.example/")),
+        },
+        one,
+    )
+    refuses(
+        folder,
+        "an import that no package has",
+        {"reg/mod.xsd": schema("\n" + include("http://far.example/x.xsd#a"))},
+        "t0/reg/mod.xsd: no package has http://far.example/x.xsd (import, line 2)",
+    )
+    refuses(
+        folder,
+        "an import of a file",
+        {"reg/mod.xsd": schema(include("file:///etc/passwd"))},
+        "t0/reg/mod.xsd: no package has file:///etc/passwd (import, line 1)",
+    )
+    stops(
+        folder,
+        "an entry point that no package has",
+        f"t0/reg/mod.json: no package has {HOST}none.xsd (taxonomy)",
+        taxonomies=[{**TAXONOMY, "reg/mod.json": meta({**INFO, "taxonomy": ["none.xsd"]})}],
+    )
+    own = {
+        **TAXONOMY,
+        "META-INF/catalog.xml": catalog(rewrite() + rewrite("http://www.xbrl.org/", "../xbrl/")),
+        "xbrl/own.xsd": schema(item("A")),
+        "reg/mod.xsd": schema(include("http://www.xbrl.org/own.xsd")),
+    }
     makes(folder, "the standard's own schemas where a package has them", types=one, taxonomies=[own])
 
 
 def including(folder):
     """A schema without a namespace takes that of the schema that includes it, for its names and for unprefixed ones."""
-    plain = schema('<xs:complexType name="T"><xs:simpleContent><xs:restriction base="xbrli:dateItemType"/></xs:simpleContent></xs:complexType>' + item("A", "T"), "")
-    two = {"reg/mod.xsd": schema(include("plain.xsd", "include") + include("two.xsd")), "reg/two.xsd": schema(include("plain.xsd", "include") + item("B"), "http://two/"), "reg/plain.xsd": plain}
+    plain = schema(
+        '<xs:complexType name="T"><xs:simpleContent><xs:restriction base="xbrli:dateItemType"/></xs:simpleContent></xs:complexType>' + item("A", "T"), ""
+    )
+    two = {
+        "reg/mod.xsd": schema(include("plain.xsd", "include") + include("two.xsd")),
+        "reg/two.xsd": schema(include("plain.xsd", "include") + item("B"), "http://two/"),
+        "reg/plain.xsd": plain,
+    }
     both = {**two, "reg/mod.json": meta({**INFO, "namespaces": {"eg": EG, "two": "http://two/"}})}
     reads(folder, "an included schema without a namespace", two, records("A,date"))
     reads(folder, "included by two", both, records("A,date") + "http://two/,A,date\nhttp://two/,B,text\n")
-    reads(folder, "included through another", {**two, "reg/plain.xsd": schema(include("q/inner.xsd", "include"), ""), "reg/q/inner.xsd": plain}, records("A,date"))
+    reads(
+        folder, "included through another", {**two, "reg/plain.xsd": schema(include("q/inner.xsd", "include"), ""), "reg/q/inner.xsd": plain}, records("A,date")
+    )
     ring = {"reg/mod.xsd": schema(include("plain.xsd", "include")), "reg/plain.xsd": schema(include("plain.xsd", "include") + item("A"), "")}
     reads(folder, "included in a ring", ring, records("A,text"))
     reads(folder, "imported only, it has no namespace", {"reg/mod.xsd": schema(include("plain.xsd")), "reg/plain.xsd": plain}, "namespace,name,type2\n")
     for kind in ("redefine", "override"):
-        refuses(folder, f"a {kind}", {"reg/mod.xsd": schema("\n" + include("d/leaf.xsd", kind))}, f"t0/reg/mod.xsd: has a '{kind}', which is not taken (line 2)")
+        refuses(
+            folder, f"a {kind}", {"reg/mod.xsd": schema("\n" + include("d/leaf.xsd", kind))}, f"t0/reg/mod.xsd: has a '{kind}', which is not taken (line 2)"
+        )
 
 
 def names_in_schemas(folder):
     """Prefixes are those in scope where the name stands; only global elements count."""
-    inside = f'<xs:element xmlns:i="{XBRLI}" name="A" type="i:dateItemType" substitutionGroup="i:item"/><xs:element xmlns:i="{XBRLI}/other" name="B" type="i:dateItemType" substitutionGroup="i:item"/>'
+    inside = f'<xs:element xmlns:i="{XBRLI}" name="A" type="i:dateItemType" substitutionGroup="i:item"/>'
+    inside += f'<xs:element xmlns:i="{XBRLI}/other" name="B" type="i:dateItemType" substitutionGroup="i:item"/>'
     reads(folder, "prefixes declared on an element", {"reg/mod.xsd": schema(inside)}, records("A,date"))
-    default = f'<xs:element xmlns="{XBRLI}" name="A" type="dateItemType" substitutionGroup="item"/><xs:element xmlns="{XBRLI}" xmlns:xbrli="http://x/" name="B" type=" dateItemType " substitutionGroup=" item "/>'
+    default = f'<xs:element xmlns="{XBRLI}" name="A" type="dateItemType" substitutionGroup="item"/>'
+    default += f'<xs:element xmlns="{XBRLI}" xmlns:xbrli="http://x/" name="B" type=" dateItemType " substitutionGroup=" item "/>'
     reads(folder, "the default namespace", {"reg/mod.xsd": schema(default)}, records("A,date", "B,date"))
-    reads(folder, "the default namespace of a schema", {"reg/mod.xsd": f'<schema xmlns="{XS}" xmlns:i="{XBRLI}" targetNamespace="{EG}"><element name="A" type="i:dateItemType" substitutionGroup="i:item"/></schema>'}, records("A,date"))
-    refuses(folder, "a prefix that is not declared", {"reg/mod.xsd": schema('<xs:element name="A" type="no:x"/>')}, "t0/reg/mod.xsd: has the name 'no:x', whose prefix is not declared (line 1)")
+    plain = '<element name="A" type="i:dateItemType" substitutionGroup="i:item"/>'
+    reads(
+        folder,
+        "the default namespace of a schema",
+        {"reg/mod.xsd": f'<schema xmlns="{XS}" xmlns:i="{XBRLI}" targetNamespace="{EG}">{plain}</schema>'},
+        records("A,date"),
+    )
+    refuses(
+        folder,
+        "a prefix that is not declared",
+        {"reg/mod.xsd": schema('<xs:element name="A" type="no:x"/>')},
+        "t0/reg/mod.xsd: has the name 'no:x', whose prefix is not declared (line 1)",
+    )
     refuses(folder, "a name that is none", {"reg/mod.xsd": schema('<xs:element name="a b"/>')}, "t0/reg/mod.xsd: declares 'a b', which is no name (line 1)")
-    local = '<xs:complexType name="T"><xs:sequence><xs:element name="A" type="xbrli:dateItemType" substitutionGroup="xbrli:item"/></xs:sequence></xs:complexType>' + item("B")
+    local = f'<xs:complexType name="T"><xs:sequence>{item("A", "xbrli:dateItemType")}</xs:sequence></xs:complexType>' + item("B")
     reads(folder, "elements inside of a type are not global", {"reg/mod.xsd": schema(local)}, records("B,text"))
 
 
@@ -752,7 +1057,12 @@ def encodings(folder):
         text = (b"\xff\xfe" if encoding == "utf-16-le" else b"") + (head + umlaut).encode(encoding)
         reads(folder, f"a schema in {encoding}", {"reg/mod.xsd": text}, records("Größe,text"))
     for encoding, name in (("shift_jis", "大きさ"), ("gb18030", "尺寸"), ("euc-kr", "크기")):
-        reads(folder, f"a schema in {encoding}", {"reg/mod.xsd": (f"<?xml version='1.0' encoding='{encoding}' ?>" + schema(item(name))).encode(encoding)}, records(f"{name},text"))
+        reads(
+            folder,
+            f"a schema in {encoding}",
+            {"reg/mod.xsd": (f"<?xml version='1.0' encoding='{encoding}' ?>" + schema(item(name))).encode(encoding)},
+            records(f"{name},text"),
+        )
     reads(folder, "a schema with a byte-order mark", {"reg/mod.xsd": b"\xef\xbb\xbf" + umlaut.encode()}, records("Größe,text"))
     for name, text, what in (
         ("a document type", "<!DOCTYPE x>" + schema(), "has a document type, which is refused (line 1)"),
@@ -775,7 +1085,8 @@ def encodings(folder):
 
 ITEM_TYPES = {
     "decimal": "decimal monetary shares pure",
-    "integer": "integer nonPositiveInteger negativeInteger nonNegativeInteger positiveInteger long int short byte unsignedLong unsignedInt unsignedShort unsignedByte",
+    "integer": "integer nonPositiveInteger negativeInteger nonNegativeInteger positiveInteger long int short byte"
+    " unsignedLong unsignedInt unsignedShort unsignedByte",
     "double": "float double",
     "text": "string normalizedString token",
     "boolean": "boolean",
@@ -801,10 +1112,13 @@ KNOWN = [
 
 def derived(name, base, how="restriction", content="simpleContent"):
     """A type that is derived from another."""
-    return f'<xs:complexType name="{name}"><xs:{content}><xs:{how} base="{base}"><xs:attribute name="a"><xs:simpleType><xs:restriction base="xs:string"/></xs:simpleType></xs:attribute></xs:{how}></xs:{content}></xs:complexType>'
+    attribute = '<xs:attribute name="a"><xs:simpleType><xs:restriction base="xs:string"/></xs:simpleType></xs:attribute>'
+    return f'<xs:complexType name="{name}"><xs:{content}><xs:{how} base="{base}">{attribute}</xs:{how}></xs:{content}></xs:complexType>'
 
 
-HEADED = '<xs:element name="{}" substitutionGroup="{}" {}/>'
+def headed(*names, more=""):
+    """Elements of a substitution group, each given as `NAME HEAD`."""
+    return "".join('<xs:element name="{}" substitutionGroup="{}" {}/>'.format(*it.split(), more) for it in names)
 
 
 def kinds_are(folder, name, body, *lines, **files):
@@ -831,39 +1145,72 @@ def kinds(folder):
         kinds_are(folder, f"{word} of {namespace}", body, *(f"I_{it},{word}" for it in names.split()))
     own = {"reg/dtr.xsd": schema(derived("percentItemType", "xbrli:stringItemType") + derived("newItemType", "xbrli:dateItemType"), DTR + "2030-01-01")}
     seen = f'<xs:element xmlns:k="{DTR}2030-01-01" name="{{}}" type="k:{{}}ItemType" substitutionGroup="xbrli:item"/>'
-    kinds_are(folder, "a registry type is known whatever a copy says, and others are followed", include("dtr.xsd") + seen.format("P", "percent") + seen.format("N", "new") + seen.format("X", "none"), "P,decimal", "N,date", **own)
+    kinds_are(
+        folder,
+        "a registry type is known whatever a copy says, and others are followed",
+        include("dtr.xsd") + seen.format("P", "percent") + seen.format("N", "new") + seen.format("X", "none"),
+        "P,decimal",
+        "N,date",
+        **own,
+    )
     other = f'<xs:element xmlns:k="{DTR[:-1]}s/2022" name="A" type="k:percentItemType" substitutionGroup="xbrli:item"/>' + item("B")
     kinds_are(folder, "another namespace is not the registry's", other, "B,text")
-    kinds_are(folder, "a copy of the instance schema does not count", item("A", "xbrli:dateItemType") + include("x.xsd"), "A,date", **{"reg/x.xsd": schema(derived("dateItemType", "xbrli:stringItemType"), XBRLI)})
+    kinds_are(
+        folder,
+        "a copy of the instance schema does not count",
+        item("A", "xbrli:dateItemType") + include("x.xsd"),
+        "A,date",
+        **{"reg/x.xsd": schema(derived("dateItemType", "xbrli:stringItemType"), XBRLI)},
+    )
 
 
 def kinds_of_elements(folder):
     """Types inside of an element, the type of its head, abstract items and dimensions."""
-    inline = '<xs:element name="{}" substitutionGroup="xbrli:item"><xs:complexType><xs:simpleContent><xs:{} base="{}"><xs:enumeration value="a"/></xs:{}></xs:simpleContent></xs:complexType></xs:element>'
-    kinds_are(folder, "a type inside of the element", inline.format("A", "restriction", "xbrli:dateItemType", "restriction") + inline.format("B", "extension", "eg:T", "extension") + derived("T", "xbrli:booleanItemType"), "A,date", "B,boolean")
+    inner = '<xs:complexType><xs:simpleContent><xs:{} base="{}"><xs:enumeration value="a"/></xs:{}></xs:simpleContent></xs:complexType>'
+    inline = '<xs:element name="{}" substitutionGroup="xbrli:item">' + inner + "</xs:element>"
+    kinds_are(
+        folder,
+        "a type inside of the element",
+        inline.format(
+            "A", "restriction", "xbrli:dateItemType", "restriction"
+        ) + inline.format("B", "extension", "eg:T", "extension") + derived("T", "xbrli:booleanItemType"),
+        "A,date",
+        "B,boolean",
+    )
     simple = '<xs:simpleType name="S"><xs:restriction base="xs:string"/></xs:simpleType>' + item("A", "eg:S") + item("B")
     kinds_are(folder, "a simple type is no item type", simple, "B,text")
-    deep = '<xs:complexType name="T"><xs:simpleContent><xs:restriction base="xbrli:dateItemType"><xs:simpleType><xs:restriction base="xbrli:stringItemType"/></xs:simpleType></xs:restriction></xs:simpleContent></xs:complexType>' + item("A", "eg:T")
+    simple = '<xs:simpleType><xs:restriction base="xbrli:stringItemType"/></xs:simpleType>'
+    restricted = f'<xs:simpleContent><xs:restriction base="xbrli:dateItemType">{simple}</xs:restriction></xs:simpleContent>'
+    deep = f'<xs:complexType name="T">{restricted}</xs:complexType>' + item("A", "eg:T")
     kinds_are(folder, "the first derivation counts", deep, "A,date")
     content = '<xs:complexType><xs:simpleContent><xs:restriction base="xbrli:dateItemType"/></xs:simpleContent></xs:complexType>'
     within = f'<xs:complexType name="T"><xs:sequence><xs:element name="x">{content}</xs:element></xs:sequence></xs:complexType>'
     kinds_are(folder, "derivations of elements inside of a type do not count", within + item("A", "eg:T") + item("B"), "B,text")
-    head = HEADED
-    chain = item("H", "xbrli:dateItemType", 'abstract="true"') + head.format("A", "eg:H", "") + head.format("B", "eg:A", "") + head.format("C", "eg:B", 'type="xbrli:booleanItemType"') + head.format("D", "eg:C", "")
+    chain = item("H", "xbrli:dateItemType", 'abstract="true"') + headed("A eg:H", "B eg:A") + headed("D eg:C")
+    chain += headed("C eg:B", more='type="xbrli:booleanItemType"')
     kinds_are(folder, "the type of the head", chain, "A,date", "B,date", "C,boolean", "D,boolean")
-    kinds_are(folder, "abstract items", item("A", more='abstract="true"') + item("B", more='abstract=" 1 "') + item("C", more='abstract="false"') + item("D", more='abstract="0"'), "C,text", "D,text")
-    dims = head.format("X", "xbrldt:dimensionItem", 'abstract="true"') + head.format("Y", "eg:X", "") + head.format("Z", "eg:T", "") + head.format("T", "xbrldt:dimensionItem", 'xbrldt:typedDomainRef="#x"') + head.format("U", "eg:X", 'xbrldt:typedDomainRef="#x"')
+    kinds_are(
+        folder,
+        "abstract items",
+        item("A", more='abstract="true"') + item("B", more='abstract=" 1 "') + item("C", more='abstract="false"') + item("D", more='abstract="0"'),
+        "C,text",
+        "D,text",
+    )
+    typed = 'xbrldt:typedDomainRef="#x"'
+    dims = headed("X xbrldt:dimensionItem", more='abstract="true"') + headed("Y eg:X", "Z eg:T")
+    dims += headed("T xbrldt:dimensionItem", "U eg:X", more=typed)
     kinds_are(folder, "dimensions, by their own attribute", dims, "X,explicit", "Y,explicit", "Z,explicit", "T,typed", "U,typed")
-    kinds_are(folder, "a typed reference without its namespace", head.format("X", "xbrldt:dimensionItem", 'typedDomainRef="#x"'), "X,explicit")
+    kinds_are(folder, "a typed reference without its namespace", headed("X xbrldt:dimensionItem", more='typedDomainRef="#x"'), "X,explicit")
 
 
 def what_no_fact_can_have(folder):
     """Elements that are not in the types table, and the concepts among them that the metadata must not name."""
-    head = HEADED
-    nothing = head.format("A", "xbrldt:hypercubeItem", "") + head.format("B", "eg:A", "") + '<xs:element name="C" type="xs:string"/>' + head.format("D", "eg:None", 'type="xbrli:dateItemType"')
-    ring = head.format("E", "eg:F", "") + head.format("F", "eg:E", "") + derived("G", "eg:I") + derived("I", "eg:G") + item("J", "eg:G") + item("L", "eg:L") + head.format("M", "eg:M", "")
-    unknown = item("K", "xs:date") + head.format("N", "xbrli:item", "") + item("O", "xbrli:noneItemType")
-    dead = item("F1", "xbrli:fractionItemType") + head.format("T1", "xbrli:tuple", "") + head.format("T2", "eg:T1", "") + derived("FT", "xbrli:fractionItemType", content="complexContent") + item("F2", "eg:FT")
+    nothing = headed("A xbrldt:hypercubeItem", "B eg:A") + '<xs:element name="C" type="xs:string"/>'
+    nothing += headed("D eg:None", more='type="xbrli:dateItemType"')
+    ring = headed("E eg:F", "F eg:E", "M eg:M") + derived("G", "eg:I") + derived("I", "eg:G") + item("J", "eg:G") + item("L", "eg:L")
+    unknown = item("K", "xs:date") + headed("N xbrli:item") + item("O", "xbrli:noneItemType")
+    dead = item("F1", "xbrli:fractionItemType") + headed("T1 xbrli:tuple", "T2 eg:T1")
+    dead += derived("FT", "xbrli:fractionItemType", content="complexContent") + item("F2", "eg:FT")
     kinds_are(folder, "what no fact can have", nothing + ring + unknown + dead + item("Z"), "Z,text")
     reasons = {
         "T1": "is a tuple, which no table can have",
@@ -879,7 +1226,9 @@ def what_no_fact_can_have(folder):
         "dimensions.concept": {"dimensions": {"concept": "eg:NAME"}},
         "tableTemplates.t.dimensions.concept": {"tableTemplates": {"t": {"columns": {}, "dimensions": {"concept": "eg:NAME"}}}},
         "tableTemplates.t.columns.c.dimensions.concept": {"tableTemplates": {"t": {"columns": {"c": {"dimensions": {"concept": "eg:NAME"}}}}}},
-        "tableTemplates.t.columns.c.propertyGroups.g.dimensions.concept": {"tableTemplates": {"t": {"columns": {"c": {"propertyGroups": {"g": {"dimensions": {"concept": "eg:NAME"}}}}}}}},
+        "tableTemplates.t.columns.c.propertyGroups.g.dimensions.concept": {
+            "tableTemplates": {"t": {"columns": {"c": {"propertyGroups": {"g": {"dimensions": {"concept": "eg:NAME"}}}}}}}
+        },
     }
     for where, parts in levels.items():
         for name, reason in reasons.items():
@@ -888,15 +1237,32 @@ def what_no_fact_can_have(folder):
             line = f"t0/reg/mod.json: names the concept 'eg:{name}', which {reason} ({where})"
             stops(folder, f"{name} at {where}", line, taxonomies=[{**TAXONOMY, "reg/mod.json": module, "reg/mod.xsd": schema(nothing + ring + unknown + dead)}])
     for name in ("A", "B", "C", "D", "E", "M", "nowhere"):
-        made = prepared(folder, taxonomies=[{**TAXONOMY, "reg/mod.json": meta(INFO, dimensions={"concept": f"eg:{name}"}), "reg/mod.xsd": schema(nothing + ring)}])
+        made = prepared(
+            folder, taxonomies=[{**TAXONOMY, "reg/mod.json": meta(INFO, dimensions={"concept": f"eg:{name}"}), "reg/mod.xsd": schema(nothing + ring)}]
+        )
         case(f"{name} is left to the converter", made[:2], (0, ""))
 
 
 def types_tables(folder):
     """The order and the quotes of a types table, and 20,000 concepts."""
-    quoting = {**TAXONOMY, "reg/mod.json": meta({**INFO, "namespaces": {"a": 'http://a,b"c/', "e": "http://e", "d": "http://d"}}), "reg/mod.xsd": schema(include("q.xsd") + include("d.xsd") + include("e.xsd") + item("A"))}
-    quoting.update({"reg/q.xsd": schema(item("A"), "http://a,b&quot;c/"), "reg/d.xsd": schema(item("Z") + item("a") + item("É"), "http://d"), "reg/e.xsd": schema(item("A"), "http://e")})
-    makes(folder, "namespaces of the metadata alone, in byte order and quoted", types='namespace,name,type2\n"http://a,b""c/",A,text\nhttp://d,Z,text\nhttp://d,a,text\nhttp://d,É,text\nhttp://e,A,text\n', taxonomies=[quoting])
+    quoting = {
+        **TAXONOMY,
+        "reg/mod.json": meta({**INFO, "namespaces": {"a": 'http://a,b"c/', "e": "http://e", "d": "http://d"}}),
+        "reg/mod.xsd": schema(include("q.xsd") + include("d.xsd") + include("e.xsd") + item("A")),
+    }
+    quoting.update(
+        {
+            "reg/q.xsd": schema(item("A"), "http://a,b&quot;c/"),
+            "reg/d.xsd": schema(item("Z") + item("a") + item("É"), "http://d"),
+            "reg/e.xsd": schema(item("A"), "http://e"),
+        }
+    )
+    makes(
+        folder,
+        "namespaces of the metadata alone, in byte order and quoted",
+        types='namespace,name,type2\n"http://a,b""c/",A,text\nhttp://d,Z,text\nhttp://d,a,text\nhttp://d,É,text\nhttp://e,A,text\n',
+        taxonomies=[quoting],
+    )
     begun = time.monotonic()
     elements = "".join(item(f"C{it:05}", "eg:T", 'id="x" nillable="true"') for it in range(20_000)) + derived("T", "xbrli:monetaryItemType")
     kinds_are(folder, "20,000 concepts", elements, *(f"C{it:05},decimal" for it in range(20_000)))
@@ -1088,7 +1454,11 @@ def unpacked_packages(folder):
     case("a link that stays inside", (run(["r", "--taxonomy", "t0", "--prepare", "o"], folder), (folder / "o/t.csv").read_text()), ((0, ""), "cash\n1\n"))
     write(folder, {"alone/m.json": meta(INFO, tables={"t": {"url": "t.csv"}}), "alone/mod.xsd": schema()})
     (folder / "alone/t.csv").symlink_to("../outside/secret.csv")
-    case("a table by a link beside a metadata file", (run(["alone/m.json", "--prepare", "o2"], folder), (folder / "o2/t.csv").read_text()), ((0, ""), "cash\n9\n"))
+    case(
+        "a table by a link beside a metadata file",
+        (run(["alone/m.json", "--prepare", "o2"], folder), (folder / "o2/t.csv").read_text()),
+        ((0, ""), "cash\n9\n"),
+    )
 
 
 def tables(folder):
@@ -1098,15 +1468,43 @@ def tables(folder):
     for form in ("folder", "zip", "file"):
         for left_out in ("b", "d"):
             some = {it: url for it, url in urls.items() if it != left_out}
-            module = meta(INFO, tableTemplates={"t": TEMPLATE}, tables={it: {"url": url, "template": "t", "optional": True} for it, url in some.items()}, parameterURL="p/types.csv")
-            report = {"reports/report.json": REPORT["reports/report.json"], "reports/p/types.csv": "name,value\n", **{f"reports/{url}": f"cash\n{it}\n" for it, url in some.items() if it != "f"}}
-            made = makes(folder, f"names of tables, {form}", parts={f"tables/{it}": {"url": names[it], "template": "t", "optional": True} for it in some}, types=TYPES, report=report, taxonomies=[{**TAXONOMY, "reg/mod.json": module}], form=form)
+            module = meta(
+                INFO,
+                tableTemplates={"t": TEMPLATE},
+                tables={it: {"url": url, "template": "t", "optional": True} for it, url in some.items()},
+                parameterURL="p/types.csv",
+            )
+            report = {
+                "reports/report.json": REPORT["reports/report.json"],
+                "reports/p/types.csv": "name,value\n",
+                **{f"reports/{url}": f"cash\n{it}\n" for it, url in some.items() if it != "f"},
+            }
+            made = makes(
+                folder,
+                f"names of tables, {form}",
+                parts={f"tables/{it}": {"url": names[it], "template": "t", "optional": True} for it in some},
+                types=TYPES,
+                report=report,
+                taxonomies=[{**TAXONOMY, "reg/mod.json": module}],
+                form=form,
+            )
             wanted = {names[it]: f"cash\n{it}\n".encode() for it in some if it != "f"}
-            case(f"tables as they are, {form}", {it: text for it, text in made.items() if it.endswith((".csv", "filed-meta.json")) and it != "types.csv"}, {**wanted, "p/types.csv": b"name,value\n"})
+            case(
+                f"tables as they are, {form}",
+                {it: text for it, text in made.items() if it.endswith((".csv", "filed-meta.json")) and it != "types.csv"},
+                {**wanted, "p/types.csv": b"name,value\n"},
+            )
     for url in ("../t.csv", "/etc/passwd", "a/../../t.csv", "a:b.csv", "a%20b.csv", "a\\b.csv", "./t.csv", "a//t.csv", "", "t.csv?x", "t.csv#x", 7, None):
         for form in ("folder", "zip"):
             module = meta(INFO, tableTemplates={"t": TEMPLATE}, tables={"t": {"url": url}}, parameterURL=url)
-            made = makes(folder, f"a table at {url}, {form}", parts={"tables/t": {"url": url}, "parameterURL": url}, taxonomies=[{**TAXONOMY, "reg/mod.json": module}], report={**REPORT, "reports/a b.csv": "x", "t.csv": "x"}, form=form)
+            made = makes(
+                folder,
+                f"a table at {url}, {form}",
+                parts={"tables/t": {"url": url}, "parameterURL": url},
+                taxonomies=[{**TAXONOMY, "reg/mod.json": module}],
+                report={**REPORT, "reports/a b.csv": "x", "t.csv": "x"},
+                form=form,
+            )
             case(f"a table at {url} is not looked at", sorted(made), ["meta.json", "types.csv"])
     for form in ("folder", "zip"):
         module = {**TAXONOMY, "reg/mod.json": MODULE.replace('"tables"', '"parameterURL": "p.csv", "tables"')}
@@ -1116,7 +1514,11 @@ def tables(folder):
     case("tables lie beside the report's own file", makes(folder, "a deep report", MERGED, report=deep).get("t.csv"), b"cash\n1\n")
     ends = {"r": REPORT, "t": TAXONOMY}
     for name, change, said in (
-        ("a table that is a folder", lambda it: ((it / "r/reports/t.csv").unlink(), (it / "r/reports/t.csv").mkdir()), "xbrl-json: table t, row 0, column 0: Read (21)\n"),
+        (
+            "a table that is a folder",
+            lambda it: ((it / "r/reports/t.csv").unlink(), (it / "r/reports/t.csv").mkdir()),
+            "xbrl-json: table t, row 0, column 0: Read (21)\n",
+        ),
         ("a table that is not there", lambda it: (it / "r/reports/t.csv").unlink(), "xbrl-json: table t, row 0, column 0: NoFile (20)\n"),
     ):
         shutil.rmtree(folder / "x", ignore_errors=True)
@@ -1147,7 +1549,8 @@ def temporary_files(folder):
     """The temporary folder: under TMPDIR, with links and not copies, gone at every end."""
     temporary, fake, settings = with_fake(folder)
     pack(folder / "r.zip", REPORT)
-    fake.write_text('#!/bin/sh\nfor it in "$@"; do echo "$it"; done\npwd\nd=$(dirname "$1"); ls -la "$d" | grep -c -- "->"\nstat -c %a "$d"\necho said >&2\nexit ${END:-0}\n')
+    told = 'for it in "$@"; do echo "$it"; done; pwd; d=$(dirname "$1"); ls -la "$d" | grep -c -- "->"; stat -c %a "$d"'
+    fake.write_text(f"#!/bin/sh\n{told}\necho said >&2\nexit ${{END:-0}}\n")
     for report, links in (("r", "1"), ("r.zip", "0"), ("r/reports/report.json", "1")):
         for end in ("0", "1", "2", "3", "77"):
             status, out, err = start([report, "--taxonomy", "t", "--out", "doc.json", "--progress", "--ring=7"], folder, env={**settings, "END": end})
@@ -1173,15 +1576,28 @@ def signals(folder):
     temporary, fake, settings = with_fake(folder)
     fake.write_text('#!/bin/sh\ntrap "echo stopped; exit 9" TERM INT HUP\necho ready\nwhile :; do sleep 0.02; done\n')
     for number in (signal.SIGTERM, signal.SIGINT, signal.SIGHUP):
-        done = subprocess.Popen([FILING, "r", "--taxonomy", "t"], cwd=folder, env={**os.environ, **settings}, stdout=subprocess.PIPE, stderr=subprocess.PIPE, preexec_fn=heeding)
+        done = subprocess.Popen(
+            [FILING, "r", "--taxonomy", "t"], cwd=folder, env={**os.environ, **settings}, stdout=subprocess.PIPE, stderr=subprocess.PIPE, preexec_fn=heeding
+        )
         ready = done.stdout.readline()
         there = len(os.listdir(temporary))
         done.send_signal(number)
         out, err = done.communicate(timeout=30)
-        case(f"{number.name} while xbrl-json runs", (ready, there, done.returncode, out, err, os.listdir(temporary)), (b"ready\n", 1, -number, b"stopped\n", b"", []))
+        case(
+            f"{number.name} while xbrl-json runs",
+            (ready, there, done.returncode, out, err, os.listdir(temporary)),
+            (b"ready\n", 1, -number, b"stopped\n", b"", []),
+        )
     for number in (signal.SIGTERM, signal.SIGINT):
         os.mkfifo(folder / "pipe.json")
-        done = subprocess.Popen([FILING, "pipe.json", "--prepare", "o"], cwd=folder, env={**os.environ, **settings}, stdout=subprocess.PIPE, stderr=subprocess.PIPE, preexec_fn=heeding)
+        done = subprocess.Popen(
+            [FILING, "pipe.json", "--prepare", "o"],
+            cwd=folder,
+            env={**os.environ, **settings},
+            stdout=subprocess.PIPE,
+            stderr=subprocess.PIPE,
+            preexec_fn=heeding,
+        )
         with open(folder / "pipe.json", "wb"):
             done.send_signal(number)
             out, err = done.communicate(timeout=30)
@@ -1221,7 +1637,11 @@ def what_cannot_be_read(folder):
     kept = packages.LARGEST_TEXT, command.find_report
     try:
         packages.LARGEST_TEXT = len(REPORT["reports/report.json"])
-        case("a module that is too large", run(["r", "--taxonomy", "t"], folder), (1, f"xbrl-filing: t/reg/mod.json: has more than {packages.LARGEST_TEXT} bytes\n"))
+        case(
+            "a module that is too large",
+            run(["r", "--taxonomy", "t"], folder),
+            (1, f"xbrl-filing: t/reg/mod.json: has more than {packages.LARGEST_TEXT} bytes\n"),
+        )
         command.find_report = lambda _: {}["a\nb"]
         case("a fault of the program", run(["r"], folder), (1, "xbrl-filing: a fault of the program: KeyError: 'a\\nb'\n"))
         command.find_report = lambda _: (_ for _ in ()).throw(MemoryError)
@@ -1318,7 +1738,9 @@ def several_packages(folder):
     shutil.copy(folder / "t2/reg/mod.xsd", folder / "t/reg/mod.xsd")
     with open(os.devnull, "wb") as nowhere:
         controller, terminal = pty.openpty()
-        done = subprocess.run([FILING, "r", "--taxonomy", "t"], cwd=folder, env={**os.environ, "XBRL_JSON": PROGRAM}, stdout=nowhere, stderr=terminal, timeout=60)
+        done = subprocess.run(
+            [FILING, "r", "--taxonomy", "t"], cwd=folder, env={**os.environ, "XBRL_JSON": PROGRAM}, stdout=nowhere, stderr=terminal, timeout=60
+        )
         os.close(terminal)
         shown = b""
         with contextlib.suppress(OSError):
@@ -1327,7 +1749,11 @@ def several_packages(folder):
     case("progress on a terminal", (done.returncode, b"xbrl-filing: preparing the tables" in shown, shown.endswith(b"\r\x1b[K")), (0, True, True))
     escaped = folder / "a\nb\x1b.zip"
     escaped.write_text("x")
-    case("control bytes in a name", run([escaped.name, "--prepare", "o"], folder), (1, "xbrl-filing: a\\nb\\x1b.zip: is not JSON: Expecting value (line 1, column 1)\n"))
+    case(
+        "control bytes in a name",
+        run([escaped.name, "--prepare", "o"], folder),
+        (1, "xbrl-filing: a\\nb\\x1b.zip: is not JSON: Expecting value (line 1, column 1)\n"),
+    )
     broken = os.fsdecode(b"r\xff")
     write(folder / broken, REPORT)
     seen = start([broken, "--taxonomy", "t"], folder)
@@ -1346,7 +1772,16 @@ def outputs_that_are_inputs(folder):
     write(folder, {**{f"r/{it}": text for it, text in REPORT.items()}, **{f"t/{it}": text for it, text in TAXONOMY.items()}})
     pack(folder / "r.zip", REPORT)
     pack(folder / "t.zip", TAXONOMY)
-    write(folder, {"alone/m.json": meta({**INFO, "extends": ["low.json"]}, tableTemplates={"t": TEMPLATE}, tables={"t": {"url": "t.csv"}}, parameterURL="p.csv"), "alone/low.json": meta(), "alone/mod.xsd": schema(ELEMENTS), "alone/t.csv": "cash\n1\n", "alone/p.csv": "name,value\n"})
+    write(
+        folder,
+        {
+            "alone/m.json": meta({**INFO, "extends": ["low.json"]}, tableTemplates={"t": TEMPLATE}, tables={"t": {"url": "t.csv"}}, parameterURL="p.csv"),
+            "alone/low.json": meta(),
+            "alone/mod.xsd": schema(ELEMENTS),
+            "alone/t.csv": "cash\n1\n",
+            "alone/p.csv": "name,value\n",
+        },
+    )
     os.link(folder / "r.zip", folder / "other.zip")
     (folder / "linked").symlink_to("t.zip")
     own, inside = "it is an input of this run", "it stands inside of a package that is an input of this run"
@@ -1383,10 +1818,18 @@ def folders_to_prepare(folder):
     (folder / "full/x").write_text("x")
     (folder / "empty").mkdir()
     good = ["r", "--taxonomy", "t"]
-    case("--prepare of a folder that holds something", run([*good, "--prepare", "full"], folder), (3, "xbrl-filing: full: cannot write (the folder is not empty)\n"))
+    case(
+        "--prepare of a folder that holds something",
+        run([*good, "--prepare", "full"], folder),
+        (3, "xbrl-filing: full: cannot write (the folder is not empty)\n"),
+    )
     case("--prepare of a file", run([*good, "--prepare", "full/x"], folder), (3, "xbrl-filing: full/x: cannot write (Not a directory)\n"))
     case("--prepare where no folder is", run([*good, "--prepare", "no/o"], folder), (3, "xbrl-filing: no/o: cannot write (there is no folder to put it in)\n"))
-    case("--prepare of an empty folder", (run([*good, "--prepare", "empty"], folder), sorted(os.listdir(folder / "empty"))), ((0, ""), ["meta.json", "t.csv", "types.csv"]))
+    case(
+        "--prepare of an empty folder",
+        (run([*good, "--prepare", "empty"], folder), sorted(os.listdir(folder / "empty"))),
+        ((0, ""), ["meta.json", "t.csv", "types.csv"]),
+    )
     case("--out beside the packages", start([*good, "--out", "free.json"], folder)[0], 0)
 
 
@@ -1418,7 +1861,17 @@ def caching(folder):
     kept.write_bytes(marked)
     case("an entry that was changed is not taken", made(), ((0, ""), TYPES))
     case("and is made anew", b"Note text" in kept.read_bytes(), True)
-    for damage in (b"", b"x", b"[]\n", b"{}", kept.read_bytes().replace(b"[0,", b"[1,"), b"\xff {}", b'{"' + EG.encode() + b'":[0,5,"x"]}\n', kept.read_bytes()[:-9], b"[" * 100_000):
+    for damage in (
+        b"",
+        b"x",
+        b"[]\n",
+        b"{}",
+        kept.read_bytes().replace(b"[0,", b"[1,"),
+        b"\xff {}",
+        b'{"' + EG.encode() + b'":[0,5,"x"]}\n',
+        kept.read_bytes()[:-9],
+        b"[" * 100_000,
+    ):
         kept.write_bytes(damage)
         case(f"a damaged entry {damage[:20]!r}", made(), ((0, ""), TYPES))
 
@@ -1435,7 +1888,11 @@ def keys_of_the_cache(folder):
     size = (folder / "t/reg/mod.xsd").stat().st_size
     write(folder, {"t/reg/mod.xsd": schema(ELEMENTS.replace("Note", "Nope"))})
     os.utime(folder / "t/reg/mod.xsd", (1, 1))
-    case("another content of the same size and time", (made(), (folder / "t/reg/mod.xsd").stat().st_size, len(entries())), (((0, ""), TYPES.replace("Note", "Nope")), size, 2))
+    case(
+        "another content of the same size and time",
+        (made(), (folder / "t/reg/mod.xsd").stat().st_size, len(entries())),
+        (((0, ""), TYPES.replace("Note", "Nope")), size, 2),
+    )
     case("a ZIP is another package", (made("t.zip"), len(entries())), (((0, ""), TYPES), 3))
     write(folder, {"t/reg/mod.json": meta({**INFO, "taxonomy": ["two.xsd"]}), "t/reg/two.xsd": schema(item("Two"))})
     case("another entry point", made(), ((0, ""), records("Two,text")))
@@ -1466,7 +1923,9 @@ def what_is_not_kept(folder):
 def caches_of_several_runs(folder):
     """Several runs at once, another program, and prefixes that are replaced by what was kept."""
     made, entries = cached_runs(folder)
-    runs = [subprocess.Popen([FILING, "r", "--taxonomy", "t.zip", "--cache", "c", "--prepare", f"p{it}"], cwd=folder, stderr=subprocess.PIPE) for it in range(3)]
+    runs = [
+        subprocess.Popen([FILING, "r", "--taxonomy", "t.zip", "--cache", "c", "--prepare", f"p{it}"], cwd=folder, stderr=subprocess.PIPE) for it in range(3)
+    ]
     case("several runs at once", [(it.communicate(timeout=60)[1], it.returncode) for it in runs], [(b"", 0)] * 3)
     case("leave one entry", ([(folder / f"p{it}/types.csv").read_text() for it in range(3)], len(entries())), ([TYPES] * 3, 1))
     shutil.copytree(TOP / "filing", folder / "copy/filing", ignore=shutil.ignore_patterns("__pycache__"))
@@ -1476,11 +1935,19 @@ def caches_of_several_runs(folder):
             module.write(text)
         done = subprocess.run([folder / "copy/xbrl-filing", "r", "--taxonomy", "t.zip", "--cache", "c", "--prepare", f"q{number}"], cwd=folder, timeout=60)
         case(f"the program's own text counts, {number}", (done.returncode, len(entries())), (0, number))
-    with_prefixes = {"m/META-INF/catalog.xml": catalog(rewrite()), "m/reg/mod.xsd": schema(ELEMENTS), "m/reg/mod.json": meta({**INFO, "namespaces": {"k": EG, "x": "http://x/"}}, dimensions={"k:Region": "x:a", "k:Branch": "x:a"})}
+    with_prefixes = {
+        "m/META-INF/catalog.xml": catalog(rewrite()),
+        "m/reg/mod.xsd": schema(ELEMENTS),
+        "m/reg/mod.json": meta({**INFO, "namespaces": {"k": EG, "x": "http://x/"}}, dimensions={"k:Region": "x:a", "k:Branch": "x:a"}),
+    }
     write(folder, {**with_prefixes, "r5/reports/report.json": meta({"extends": [HOST + "mod.json"], "namespaces": {"eg": EG, "y": "http://x/"}})})
     for turn in ("first", "second"):
         made("m", "r5")
-        case(f"kinds of dimensions are known, {turn} run", json.loads((folder / "o/meta.json").read_text())["dimensions"], {"eg:Region": "y:a", "eg:Branch": "x:a"})
+        case(
+            f"kinds of dimensions are known, {turn} run",
+            json.loads((folder / "o/meta.json").read_text())["dimensions"],
+            {"eg:Region": "y:a", "eg:Branch": "x:a"},
+        )
 
 
 def a_large_taxonomy(folder):
@@ -1488,7 +1955,9 @@ def a_large_taxonomy(folder):
     body = "".join(item(f"C{it:05}", "eg:T", 'id="x" nillable="true"') for it in range(20_000))
     files = {**TAXONOMY, "reg/mod.xsd": schema(loc("l.xml", "linkbaseRef")), "reg/d.xsd": schema(body + derived("T", "xbrli:monetaryItemType"))}
     files["reg/l.xml"] = linkbase("".join(loc(f"d.xsd#C{it}") for it in range(20_000)))
-    files["reg/mod.json"] = meta(INFO, tableTemplates={"t": {"columns": {"cash": {"dimensions": {"concept": "eg:C00007", "unit": "eg:e"}}}}}, tables={"t": {"url": "t.csv"}})
+    files["reg/mod.json"] = meta(
+        INFO, tableTemplates={"t": {"columns": {"cash": {"dimensions": {"concept": "eg:C00007", "unit": "eg:e"}}}}}, tables={"t": {"url": "t.csv"}}
+    )
     pack(folder / "t.zip", files)
     write(folder / "r", REPORT)
     for turn, most in (("first", 15), ("second", 5)):
