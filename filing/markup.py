@@ -93,7 +93,7 @@ def parse(pieces: Iterable[bytes], content: Content) -> None:
     except UnicodeError:
         raise wrong(content.label, f"is not in its encoding, {encoding} (line {content.line()})") from None
     finally:
-        parser.StartElementHandler = parser.EndElementHandler = None  # so that parser and content go at once
+        content.parser = None  # the parser knows the content, so without this neither would go at once
 
 
 def refuse(content: Content, what: str) -> None:

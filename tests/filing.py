@@ -1164,6 +1164,9 @@ def kinds(folder):
     )
 
 
+DIMENSIONS = ("X,explicit", "Y,explicit", "Z,explicit", "T,typed", "U,typed")
+
+
 def kinds_of_elements(folder):
     """Types inside of an element, the type of its head, abstract items and dimensions."""
     inner = '<xs:complexType><xs:simpleContent><xs:{} base="{}"><xs:enumeration value="a"/></xs:{}></xs:simpleContent></xs:complexType>'
@@ -1199,7 +1202,12 @@ def kinds_of_elements(folder):
     typed = 'xbrldt:typedDomainRef="#x"'
     dims = headed("X xbrldt:dimensionItem", more='abstract="true"') + headed("Y eg:X", "Z eg:T")
     dims += headed("T xbrldt:dimensionItem", "U eg:X", more=typed)
-    kinds_are(folder, "dimensions, by their own attribute", dims, "X,explicit", "Y,explicit", "Z,explicit", "T,typed", "U,typed")
+    heads = "".join(
+        f'<xs:element name="{it}Item" type="xbrli:stringItemType" substitutionGroup="xbrli:item" abstract="true"/>' for it in ("dimension", "hypercube")
+    )
+    copy = {"reg/d.xsd": schema(heads, "http://xbrl.org/2005/xbrldt")}
+    kinds_are(folder, "a copy of the schema of dimensions does not count", include("d.xsd") + dims + headed("H xbrldt:hypercubeItem"), *DIMENSIONS, **copy)
+    kinds_are(folder, "dimensions, by their own attribute", dims, *DIMENSIONS)
     kinds_are(folder, "a typed reference without its namespace", headed("X xbrldt:dimensionItem", more='typedDomainRef="#x"'), "X,explicit")
 
 
