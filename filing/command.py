@@ -123,7 +123,7 @@ def join(report: Found, packages: List[Package], settings: Settings, progress: P
     kinds = read_kinds(chain, finder, packages, settings, progress)
     stands = {prefix: uri for prefix, uri in namespaces.items() if prefix not in lost}
     renaming = Renaming(lost, lambda name: kind_of(name, stands, kinds) == "explicit")
-    merged = merge(chain, renaming, lost)
+    merged = merge(chain, renaming)
     refuse_impossible_concepts(merged, stands, kinds)
     files = Files(report, [it.found.name for it in chain if it.found.package is report.package], merged)
     files.require_parameters()

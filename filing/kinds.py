@@ -147,7 +147,7 @@ def kinds_of(declared: Declared) -> Kinds:
     chains = Chains(declared)
     found: Kinds = {}
     for namespace, elements in declared.elements.items():
-        kinds = {name: kind for name, kind in ((it, chains.kind(elements[it])) for it in sorted(elements)) if kind}
+        kinds = {name: kind for name, kind in ((it, chains.kind(element)) for it, element in elements.items()) if kind}
         if kinds:
             found[namespace] = kinds
     return found

@@ -3,7 +3,7 @@
 from __future__ import annotations
 
 import json
-from typing import Any, Dict, Iterable, Iterator, Tuple
+from typing import Any, Dict, Iterator, Tuple
 
 from .chain import DOCUMENT_TYPE, Chain, Metadata
 from .prefixes import Renaming
@@ -52,7 +52,8 @@ class Merged:
         """A table is joined member by member: what one file leaves open another may give."""
         there = self.value.get("tables", {}).get(name, {})
         if not isinstance(table, dict) or not isinstance(there, dict):
-            return self.put(("tables", name), table, label)
+            self.put(("tables", name), table, label)
+            return
         if not there:
             self.put(("tables", name), {}, label)
         for member in TABLE_MEMBERS:
@@ -64,7 +65,6 @@ class Merged:
                     self.put(("tables", name, member, key), text, label)
             else:
                 self.put(("tables", name, member), value, label)
-        return None
 
     def concepts(self) -> Iterator[Tuple[str, str, str]]:
         """Each concept that is named by a literal: its name, the file, and where it stands there."""
@@ -80,7 +80,7 @@ class Merged:
         return (json.dumps(self.value, ensure_ascii=False, sort_keys=True, separators=(",", ":")) + "\n").encode()
 
 
-def merge(chain: Chain, renaming: Renaming, lost: Iterable[str]) -> Merged:
+def merge(chain: Chain, renaming: Renaming) -> Merged:
     """The merged metadata of a chain."""
     merged = Merged()
     for number, metadata in enumerate(chain):
@@ -94,7 +94,7 @@ def merge(chain: Chain, renaming: Renaming, lost: Iterable[str]) -> Merged:
         for member in ("decimals", "parameterURL"):
             if member in value:
                 merged.put((member,), value[member], label)
-    for prefix in lost:
+    for prefix in renaming.lost:
         merged.value["documentInfo"]["namespaces"].pop(prefix, None)
     prune(merged)
     return merged

@@ -145,4 +145,7 @@ def move_into(folder: str, made: str) -> None:
 
 def remove_all(paths: Iterable[str]) -> None:
     for path in paths:
-        shutil.rmtree(path, ignore_errors=True) if os.path.isdir(path) else os.unlink(path)
+        if os.path.isdir(path):
+            shutil.rmtree(path, ignore_errors=True)
+        else:
+            os.unlink(path)

@@ -6,7 +6,7 @@ import stat
 import zipfile
 from typing import Dict, Optional, Set
 
-from .refusals import printable, wrong
+from .refusals import wrong
 
 DEFAULT_LIMIT = 8 << 30
 SMALL = 16 << 20
@@ -25,7 +25,7 @@ def checked_entries(archive: zipfile.ZipFile, label: str, limit: int) -> Dict[st
         if fault is None and name in seen:
             fault = "stands twice"
         if fault is not None:
-            raise wrong(label, f"the entry '{printable(entry.orig_filename)}' {fault}")
+            raise wrong(label, f"the entry '{entry.orig_filename}' {fault}")
         seen.add(name)
         unpacked += entry.file_size
         if not entry.is_dir():
@@ -75,4 +75,4 @@ def refuse_files_that_are_folders(files: Dict[str, zipfile.ZipInfo], seen: Set[s
             parent = parent.rpartition("/")[0]
     twice = sorted(folders.intersection(files))
     if twice:
-        raise wrong(label, f"the entry '{printable(twice[0])}' stands twice, as a file and as a folder")
+        raise wrong(label, f"the entry '{twice[0]}' stands twice, as a file and as a folder")

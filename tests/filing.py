@@ -324,6 +324,8 @@ def catalogs(folder):
 
 def catalogs_refused(folder):
     """Catalogs and URLs that lead outside, and URLs that no package has."""
+    fetching = [it.name for it in (TOP / "filing").glob("*.py") if any(word in it.read_text() for word in ("socket", "urllib.request", "http.client"))]
+    case("no module can fetch anything", fetching, [])
     outside = "t0/META-INF/catalog.xml: has an entry that leads outside of the package: '{}' (line 1)"
     for prefix in ("../../", "/etc/", "file:///etc/", "..%2F..%2F", "%2e%2e/%2e%2e/", "a/../../../b/", "//host/"):
         stops(
@@ -1207,6 +1209,8 @@ def kinds_of_elements(folder):
     )
     copy = {"reg/d.xsd": schema(heads, "http://xbrl.org/2005/xbrldt")}
     kinds_are(folder, "a copy of the schema of dimensions does not count", include("d.xsd") + dims + headed("H xbrldt:hypercubeItem"), *DIMENSIONS, **copy)
+    ring = schema(f'<xs:element name="item" substitutionGroup="xbrli:other"/><xs:element name="other" substitutionGroup="xbrli:item"/>', XBRLI)
+    kinds_are(folder, "a ring above the head of all items", include("i.xsd") + headed("A xbrli:item") + item("B"), "B,text", **{"reg/i.xsd": ring})
     kinds_are(folder, "dimensions, by their own attribute", dims, *DIMENSIONS)
     kinds_are(folder, "a typed reference without its namespace", headed("X xbrldt:dimensionItem", more='typedDomainRef="#x"'), "X,explicit")
 
@@ -1215,7 +1219,7 @@ def what_no_fact_can_have(folder):
     """Elements that are not in the types table, and the concepts among them that the metadata must not name."""
     nothing = headed("A xbrldt:hypercubeItem", "B eg:A") + '<xs:element name="C" type="xs:string"/>'
     nothing += headed("D eg:None", more='type="xbrli:dateItemType"')
-    ring = headed("E eg:F", "F eg:E", "M eg:M") + derived("G", "eg:I") + derived("I", "eg:G") + item("J", "eg:G") + item("L", "eg:L")
+    ring = headed("E eg:F", "F eg:E", "M eg:M") + derived("G", "eg:I") + derived("I", "eg:G") + item("J", "eg:G") + item("P", "eg:I") + item("L", "eg:L")
     unknown = item("K", "xs:date") + headed("N xbrli:item") + item("O", "xbrli:noneItemType")
     dead = item("F1", "xbrli:fractionItemType") + headed("T1 xbrli:tuple", "T2 eg:T1")
     dead += derived("FT", "xbrli:fractionItemType", content="complexContent") + item("F2", "eg:FT")
@@ -1255,20 +1259,21 @@ def types_tables(folder):
     """The order and the quotes of a types table, and 20,000 concepts."""
     quoting = {
         **TAXONOMY,
-        "reg/mod.json": meta({**INFO, "namespaces": {"a": 'http://a,b"c/', "e": "http://e", "d": "http://d"}}),
-        "reg/mod.xsd": schema(include("q.xsd") + include("d.xsd") + include("e.xsd") + item("A")),
+        "reg/mod.json": meta({**INFO, "namespaces": {"a": 'http://a,b"c/', "e": "http://e", "d": "http://d", "f": "http://f,g"}}),
+        "reg/mod.xsd": schema(include("q.xsd") + include("d.xsd") + include("e.xsd") + include("f.xsd") + item("A")),
     }
     quoting.update(
         {
             "reg/q.xsd": schema(item("A"), "http://a,b&quot;c/"),
             "reg/d.xsd": schema(item("Z") + item("a") + item("É"), "http://d"),
             "reg/e.xsd": schema(item("A"), "http://e"),
+            "reg/f.xsd": schema(item("A"), "http://f,g"),
         }
     )
     makes(
         folder,
         "namespaces of the metadata alone, in byte order and quoted",
-        types='namespace,name,type2\n"http://a,b""c/",A,text\nhttp://d,Z,text\nhttp://d,a,text\nhttp://d,É,text\nhttp://e,A,text\n',
+        types='namespace,name,type2\n"http://a,b""c/",A,text\nhttp://d,Z,text\nhttp://d,a,text\nhttp://d,É,text\nhttp://e,A,text\n"http://f,g",A,text\n',
         taxonomies=[quoting],
     )
     begun = time.monotonic()
@@ -1520,27 +1525,28 @@ def tables(folder):
         stops(folder, f"a parameters file that is not there, {form}", line, 3, taxonomies=[module], form=form)
     deep = {**{it.replace("reports/", "reports/q/"): text for it, text in REPORT.items()}, "reports/t.csv": "cash\n9\n"}
     case("tables lie beside the report's own file", makes(folder, "a deep report", MERGED, report=deep).get("t.csv"), b"cash\n1\n")
-    ends = {"r": REPORT, "t": TAXONOMY}
-    for name, change, said in (
-        (
-            "a table that is a folder",
-            lambda it: ((it / "r/reports/t.csv").unlink(), (it / "r/reports/t.csv").mkdir()),
-            "xbrl-json: table t, row 0, column 0: Read (21)\n",
-        ),
-        ("a table that is not there", lambda it: (it / "r/reports/t.csv").unlink(), "xbrl-json: table t, row 0, column 0: NoFile (20)\n"),
-    ):
-        shutil.rmtree(folder / "x", ignore_errors=True)
-        for top, files in ends.items():
-            write(folder / "x" / top, files)
-        change(folder / "x")
-        seen = start(["r", "--taxonomy", "t"], folder / "x")
-        case(name, (seen[0], seen[2]), (1, said))
 
 
-def heeding():
-    """A program that runs in the background may ignore some signals; one that is tested here does not."""
-    for it in (signal.SIGTERM, signal.SIGINT, signal.SIGHUP):
-        signal.signal(it, signal.SIG_DFL)
+def tables_that_are_none(folder):
+    """A table's file that is a folder or is not there is the converter's to tell. No link is ever made in an input."""
+    write(folder / "t", TAXONOMY)
+    apart = {"reports/report.json": REPORT["reports/report.json"]}
+    read, missing = (f"xbrl-json: table t, row 0, column 0: {it}\n" for it in ("Read (21)", "NoFile (20)"))
+    for name, files, said in (("a folder", {**apart, "reports/t.csv/x.csv": "cash\n1\n"}, read), ("nothing", apart, missing)):
+        write(folder / name, files)
+        pack(folder / f"{name}.zip", files)
+        for report in (name, f"{name}.zip"):
+            seen = start([report, "--taxonomy", "t"], folder)
+            case(f"a table that is {name}: {report}", (seen[0], seen[2]), (1, said))
+            seen = run([report, "--taxonomy", "t", "--prepare", f"o {report}"], folder)
+            case(f"a table that is {name}: {report} prepared", (seen, (folder / f"o {report}/t.csv").is_dir()), ((0, ""), name == "a folder"))
+    both_tables = {"t": {"url": "t.csv"}, "u": {"url": "t.csv/x.csv", "template": "t"}}
+    write(folder, {"t/reg/mod.json": meta(INFO, tableTemplates={"t": TEMPLATE}, tables=both_tables)})
+    for report in ("a folder", "a folder.zip"):
+        before = listing(folder / "a folder")
+        status, _, err = start([report, "--taxonomy", "t", "--workers", "1"], folder)
+        case(f"a table and the folder that holds it: {report}", (status, err, listing(folder / "a folder")), (1, read, before))
+        case(f"no link in an input: {report}", [it for it in (folder / "a folder").rglob("*") if it.is_symlink()], [])
 
 
 def with_fake(folder):
@@ -1865,7 +1871,12 @@ def caching(folder):
     case("keeps one entry", len(entries()), 1)
     kept = folder / "c" / entries()[0]
     marked = kept.read_bytes().replace(b"Note text", b"Nota text")
-    case("and the next one reads it", (made(), len(entries())), (((0, ""), TYPES), 1))
+    reader = command.read_schemas
+    try:
+        command.read_schemas = None
+        case("and the next one reads it, and no schema", (made(), len(entries())), (((0, ""), TYPES), 1))
+    finally:
+        command.read_schemas = reader
     kept.write_bytes(marked)
     case("an entry that was changed is not taken", made(), ((0, ""), TYPES))
     case("and is made anew", b"Note text" in kept.read_bytes(), True)
@@ -1905,6 +1916,8 @@ def keys_of_the_cache(folder):
     write(folder, {"t/reg/mod.json": meta({**INFO, "taxonomy": ["two.xsd"]}), "t/reg/two.xsd": schema(item("Two"))})
     case("another entry point", made(), ((0, ""), records("Two,text")))
     write(folder, {"t3/META-INF/catalog.xml": catalog(rewrite()), "t3/reg/two.xsd": schema(item("Three"))})
+    write(folder, {"r6/reports/report.json": meta({"namespaces": {"eg": EG}, "taxonomy": [HOST + "mod.xsd"]})})
+    case("another entry point of the same packages", made("t", "r6"), ((0, ""), TYPES.replace("Note", "Nope")))
     case("the order of packages counts", [made("t", "r", "t3")[1], made("t3", "r", "t")[1]], [records("Two,text"), records("Three,text")])
 
 
@@ -2007,6 +2020,7 @@ PARTS = (
     damaged_tables,
     unpacked_packages,
     tables,
+    tables_that_are_none,
     temporary_files,
     signals,
     a_signal_between_two_steps,
