@@ -1798,6 +1798,7 @@ def outputs_that_are_inputs(folder):
     )
     os.link(folder / "r.zip", folder / "other.zip")
     (folder / "linked").symlink_to("t.zip")
+    (folder / "within").symlink_to("r/reports")
     own, inside = "it is an input of this run", "it stands inside of a package that is an input of this run"
     for given, out, why in (
         (["r.zip", "--taxonomy", "t.zip"], "r.zip", own),
@@ -1811,6 +1812,7 @@ def outputs_that_are_inputs(folder):
         (["r", "--taxonomy", "t"], "t/reg/mod.xsd", inside),
         (["r", "--taxonomy", "t"], "r/new.json", inside),
         (["r", "--taxonomy", "t"], "t/META-INF/../new.json", inside),
+        (["r", "--taxonomy", "t"], "within/new.json", inside),
         (["alone/m.json"], "alone/m.json", own),
         (["alone/m.json"], "alone/low.json", own),
         (["alone/m.json"], "alone/t.csv", own),
