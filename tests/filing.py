@@ -146,6 +146,21 @@ def start(words, folder, **more):
     return done.returncode, done.stdout, done.stderr.decode(errors="replace")
 
 
+def on_a_terminal(words, folder):
+    """Status of a run whose standard error is a terminal, and what that shows."""
+    controller, terminal = pty.openpty()
+    done = subprocess.run(
+        [FILING, *words], cwd=folder, env={**os.environ, "XBRL_JSON": PROGRAM}, stdout=subprocess.DEVNULL, stderr=terminal, timeout=100
+    )
+    os.close(terminal)
+    shown = b""
+    with contextlib.suppress(OSError):
+        while piece := os.read(controller, 1024):
+            shown += piece
+    os.close(controller)
+    return done.returncode, shown
+
+
 def listing(folder):
     """All files of a folder with their bytes."""
     return {str(it.relative_to(folder)): it.read_bytes() for it in sorted(folder.rglob("*")) if it.is_file()}
@@ -1750,17 +1765,8 @@ def several_packages(folder):
     for given in (["r", "--taxonomy", "t", "t2", "--prepare", "o1"], ["--taxonomy", "t", "--prepare=o2", "--taxonomy", "t2", "--unpacked-limit=99999", "r"]):
         case(f"several packages {given}", run(given, folder), (0, ""))
     shutil.copy(folder / "t2/reg/mod.xsd", folder / "t/reg/mod.xsd")
-    with open(os.devnull, "wb") as nowhere:
-        controller, terminal = pty.openpty()
-        done = subprocess.run(
-            [FILING, "r", "--taxonomy", "t"], cwd=folder, env={**os.environ, "XBRL_JSON": PROGRAM}, stdout=nowhere, stderr=terminal, timeout=60
-        )
-        os.close(terminal)
-        shown = b""
-        with contextlib.suppress(OSError):
-            while True:
-                shown += os.read(controller, 1024) or exit_of(controller)
-    case("progress on a terminal", (done.returncode, b"xbrl-filing: preparing the tables" in shown, shown.endswith(b"\r\x1b[K")), (0, True, True))
+    status, shown = on_a_terminal(["r", "--taxonomy", "t"], folder)
+    case("progress on a terminal", (status, b"xbrl-filing: preparing the tables" in shown, shown.endswith(b"\r\x1b[K")), (0, True, True))
     escaped = folder / "a\nb\x1b.zip"
     escaped.write_text("x")
     case(
@@ -1775,10 +1781,6 @@ def several_packages(folder):
     for number in range(2):
         case("the same inputs", run(["r.zip", "--taxonomy", "t.zip", "--prepare", f"same{number}"], folder), (0, ""))
     case("give the same bytes", listing(folder / "same0"), listing(folder / "same1"))
-
-
-def exit_of(controller):
-    raise OSError
 
 
 def outputs_that_are_inputs(folder):
@@ -1988,6 +1990,8 @@ def a_large_taxonomy(folder):
         status, out, err = start(["r", "--taxonomy", "t.zip", "--cache", "c"], folder)
         case(f"20,000 concepts, {turn} run", (status, list(json.loads(out)["facts"]), err), (0, ["t.r_1.cash"], ""))
         case(f"20,000 concepts, {turn} run: time", time.monotonic() - begun < most, True)
+    status, shown = on_a_terminal(["r", "--taxonomy", "t.zip"], folder)
+    case("20,000 concepts on a terminal", (status, b"xbrl-filing: reading the taxonomy: 3 files, " in shown, shown.endswith(b"\r\x1b[K")), (0, True, True))
 
 
 PARTS = (
