@@ -80,11 +80,12 @@ def run(settings: Settings, program: str, progress: Progress, stopping: Stopping
     """Makes the two plain files, in the folder of `--prepare` or in a temporary one that xbrl-json reads."""
     report, packages = open_inputs(settings)
     refuse_outputs(settings, packages, None)
+    place = None if settings.prepare is None else place_of(settings.prepare)
     merged, files, types = join(report, packages, settings, progress)
     refuse_outputs(settings, packages, files)
     progress.say("preparing the tables")
-    if settings.prepare is not None:
-        parent, name = place_of(settings.prepare)
+    if place is not None:
+        parent, name = place
         with temporary_folder(parent, f".{name}-", stopping) as folder:
             write_files(folder, files, types, copy=True)
             os.chmod(folder, 0o777 & ~umask())

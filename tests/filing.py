@@ -1824,6 +1824,8 @@ def outputs_that_are_inputs(folder):
         line = f"xbrl-filing: {out}: cannot write ({why})\n"
         for words_of_out in (["--out", out], [f"--out={out}"]):
             case(f"{given} {words_of_out}", (run([*given, *words_of_out], folder), listing(folder) == before), ((3, line), True))
+        if out.startswith("alone/") and out != "alone/m.json":
+            line = f"xbrl-filing: {out}: cannot write (Not a directory)\n"
         case(f"{given} --prepare {out}", (run([*given, "--prepare", out], folder), listing(folder) == before), ((3, line), True))
     seen = run(["r", "--taxonomy", "t", "--cache", "t/cache", "--prepare", "o"], folder)
     case("a cache inside of a package", (seen, (folder / "t/cache").exists()), ((3, f"xbrl-filing: t/cache: cannot write ({inside})\n"), False))
@@ -1834,6 +1836,8 @@ def folders_to_prepare(folder):
     write(folder, {**{f"r/{it}": text for it, text in REPORT.items()}, **{f"t/{it}": text for it, text in TAXONOMY.items()}})
     (folder / "full").mkdir()
     (folder / "full/x").write_text("x")
+    seen = run(["r", "--prepare", "full"], folder)
+    case("--prepare is looked at before the taxonomy", seen, (3, "xbrl-filing: full: cannot write (the folder is not empty)\n"))
     (folder / "empty").mkdir()
     good = ["r", "--taxonomy", "t"]
     case(
