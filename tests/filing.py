@@ -1564,6 +1564,12 @@ def tables_that_are_none(folder):
         case(f"no link in an input: {report}", [it for it in (folder / "a folder").rglob("*") if it.is_symlink()], [])
 
 
+def heeding():
+    """A program that runs in the background may ignore some signals; one that is tested here does not."""
+    for it in (signal.SIGTERM, signal.SIGINT, signal.SIGHUP):
+        signal.signal(it, signal.SIG_DFL)
+
+
 def with_fake(folder):
     """A folder with a report, a taxonomy, an empty TMPDIR, and a program in the place of xbrl-json."""
     temporary, fake = folder / "tmp", folder / "fake"
@@ -1632,8 +1638,18 @@ def signals(folder):
             out, err = done.communicate(timeout=30)
         (folder / "pipe.json").unlink()
         case(f"{number.name} while the report is read", (done.returncode, out, err, (folder / "o").exists()), (-number, b"", b"", False))
-    seen = start(["r", "--taxonomy", "t"], folder, preexec_fn=lambda: signal.signal(signal.SIGTERM, signal.SIG_IGN), env={"TMPDIR": str(temporary)})
-    case("a signal that the caller ignores", (seen[0], os.listdir(temporary)), (0, []))
+    fake.write_text("#!/bin/sh\necho ready\nsleep 0.5\nexit 7\n")
+    done = subprocess.Popen(
+        [FILING, "r", "--taxonomy", "t"],
+        cwd=folder,
+        env={**os.environ, **settings},
+        stdout=subprocess.PIPE,
+        preexec_fn=lambda: signal.signal(signal.SIGTERM, signal.SIG_IGN),
+    )
+    done.stdout.readline()
+    done.send_signal(signal.SIGTERM)
+    done.communicate(timeout=30)
+    case("a signal that the caller ignores", (done.returncode, os.listdir(temporary)), (7, []))
 
 
 def a_full_disk(folder):
