@@ -2014,6 +2014,21 @@ def a_large_taxonomy(folder):
     case("20,000 concepts on a terminal", (status, b"xbrl-filing: reading the taxonomy: 3 files, " in shown, shown.endswith(b"\r\x1b[K")), (0, True, True))
 
 
+def a_long_schema(folder):
+    """A schema of 64 MB is read as a stream, out of a ZIP and out of a folder."""
+    comment = "<!--" + "x" * (1 << 16) + "-->"
+    files = {**TAXONOMY, "reg/mod.xsd": schema(ELEMENTS + comment * 1024)}
+    write(folder / "r", REPORT)
+    write(folder / "folder", files)
+    pack(folder / "stored.zip", files, method=zipfile.ZIP_STORED)
+    for taxonomy in ("folder", "stored.zip"):
+        done = subprocess.Popen([FILING, "r", "--taxonomy", taxonomy, "--prepare", f"o {taxonomy}"], cwd=folder)
+        _, status, used = os.wait4(done.pid, 0)
+        done.returncode = status
+        case(f"64 MB, {taxonomy}", (status, (folder / f"o {taxonomy}/types.csv").read_text()), (0, TYPES))
+        case(f"64 MB, {taxonomy}: memory", used.ru_maxrss < 64_000 or used.ru_maxrss, True)
+
+
 PARTS = (
     the_example,
     forms_of_reports,
@@ -2061,6 +2076,7 @@ PARTS = (
     what_is_not_kept,
     caches_of_several_runs,
     a_large_taxonomy,
+    a_long_schema,
 )
 
 
