@@ -1045,6 +1045,8 @@ def names_in_schemas(folder):
     inside = f'<xs:element xmlns:i="{XBRLI}" name="A" type="i:dateItemType" substitutionGroup="i:item"/>'
     inside += f'<xs:element xmlns:i="{XBRLI}/other" name="B" type="i:dateItemType" substitutionGroup="i:item"/>'
     reads(folder, "prefixes declared on an element", {"reg/mod.xsd": schema(inside)}, records("A,date"))
+    anew = f'<xs:element xmlns:xbrli="http://x/" xmlns:i="{XBRLI}" name="A" type="xbrli:dateItemType" substitutionGroup="i:item"/>'
+    reads(folder, "a prefix declared anew", {"reg/mod.xsd": schema(anew + item("B", "xbrli:dateItemType"))}, records("B,date"))
     default = f'<xs:element xmlns="{XBRLI}" name="A" type="dateItemType" substitutionGroup="item"/>'
     default += f'<xs:element xmlns="{XBRLI}" xmlns:xbrli="http://x/" name="B" type=" dateItemType " substitutionGroup=" item "/>'
     reads(folder, "the default namespace", {"reg/mod.xsd": schema(default)}, records("A,date", "B,date"))
@@ -1600,6 +1602,14 @@ def temporary_files(folder):
     ):
         seen = start(["r", "--taxonomy", "t", *given], folder, env=settings)[1].decode().splitlines()
         case(f"words that go on {given}", seen[3 : 3 + len(passed)], passed)
+    installed = folder / "installed"
+    shutil.copytree(TOP / "filing", installed / "filing", ignore=shutil.ignore_patterns("__pycache__"))
+    shutil.copy(FILING, installed)
+    shutil.copy(fake, installed / "xbrl-json")
+    (folder / "link").symlink_to("installed/xbrl-filing")
+    without = {name: value for name, value in os.environ.items() if name != "XBRL_JSON"}
+    done = subprocess.run(["./link", "r", "--taxonomy", "t"], cwd=folder, env=without, capture_output=True, timeout=60)
+    case("xbrl-json beside xbrl-filing, by a link", (done.returncode, done.stderr), (0, b"said\n"))
     fake.write_text("#!/bin/sh\nkill -9 $$\n")
     case("xbrl-json that is killed", (start(["r", "--taxonomy", "t"], folder, env=settings)[0], os.listdir(temporary)), (137, []))
     seen = start(["r", "--taxonomy", "t"], folder, env={**settings, "XBRL_JSON": "/nonexistent/x"})
@@ -2021,12 +2031,11 @@ def a_long_schema(folder):
     write(folder / "r", REPORT)
     write(folder / "folder", files)
     pack(folder / "stored.zip", files, method=zipfile.ZIP_STORED)
+    little = lambda: resource.setrlimit(resource.RLIMIT_DATA, (56 << 20, 56 << 20))
     for taxonomy in ("folder", "stored.zip"):
-        done = subprocess.Popen([FILING, "r", "--taxonomy", taxonomy, "--prepare", f"o {taxonomy}"], cwd=folder)
-        _, status, used = os.wait4(done.pid, 0)
-        done.returncode = status
-        case(f"64 MB, {taxonomy}", (status, (folder / f"o {taxonomy}/types.csv").read_text()), (0, TYPES))
-        case(f"64 MB, {taxonomy}: memory", used.ru_maxrss < 64_000 or used.ru_maxrss, True)
+        status, _, err = start(["r", "--taxonomy", taxonomy, "--prepare", f"o {taxonomy}"], folder, preexec_fn=little)
+        case(f"64 MB in 56 MB of memory, {taxonomy}", (status, err), (0, ""))
+        case(f"64 MB, {taxonomy}", (folder / f"o {taxonomy}/types.csv").read_text(), TYPES)
 
 
 PARTS = (
