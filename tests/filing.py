@@ -1045,8 +1045,10 @@ def names_in_schemas(folder):
     inside = f'<xs:element xmlns:i="{XBRLI}" name="A" type="i:dateItemType" substitutionGroup="i:item"/>'
     inside += f'<xs:element xmlns:i="{XBRLI}/other" name="B" type="i:dateItemType" substitutionGroup="i:item"/>'
     reads(folder, "prefixes declared on an element", {"reg/mod.xsd": schema(inside)}, records("A,date"))
-    anew = f'<xs:element xmlns:xbrli="http://x/" xmlns:i="{XBRLI}" name="A" type="xbrli:dateItemType" substitutionGroup="i:item"/>'
-    reads(folder, "a prefix declared anew", {"reg/mod.xsd": schema(anew + item("B", "xbrli:dateItemType"))}, records("B,date"))
+    same = 'type="xbrli:dateItemType" substitutionGroup="i:item"/>'
+    anew = f'<xs:element name="A" {same}<xs:element xmlns:xbrli="http://x/" name="B" {same}<xs:element name="C" {same}'
+    files = {"reg/mod.xsd": schema(anew, attributes=f'xmlns:i="{XBRLI}"')}
+    reads(folder, "a prefix declared anew", files, records("A,date", "C,date"))
     default = f'<xs:element xmlns="{XBRLI}" name="A" type="dateItemType" substitutionGroup="item"/>'
     default += f'<xs:element xmlns="{XBRLI}" xmlns:xbrli="http://x/" name="B" type=" dateItemType " substitutionGroup=" item "/>'
     reads(folder, "the default namespace", {"reg/mod.xsd": schema(default)}, records("A,date", "B,date"))
