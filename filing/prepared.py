@@ -80,7 +80,6 @@ class Files:
 
 def write_files(folder: str, files: Files, types: bytes, copy: bool) -> None:
     """Fills a folder. Files that stand on the disk are linked, or copied where the folder is kept."""
-    files.require_parameters()
     names = files.new_names()
     files.rename(names)
     for url in files.all():
