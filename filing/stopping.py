@@ -73,9 +73,11 @@ def run_program(words: List[str], stopping: Stopping) -> int:
     """Runs a program to its end and answers its status; a signal goes on to it."""
     child: Optional[subprocess.Popen[bytes]] = None
     try:
-        with stopping.held():
-            child = subprocess.Popen(words)
-        status = child.wait()
+        with woken_by_signals() as reader:
+            with stopping.held():
+                child = subprocess.Popen(words)
+            while child.poll() is None:
+                os.read(reader, 64)
     except OSError as error:
         raise Refusal(FILES, words[0], f"cannot run ({error.strerror})") from None
     except Stopped as stopped:
@@ -83,7 +85,23 @@ def run_program(words: List[str], stopping: Stopping) -> int:
             child.send_signal(stopped.number)
             child.wait()
         raise
-    return status if status >= 0 else 128 - status
+    return child.returncode if child.returncode >= 0 else 128 - child.returncode
+
+
+@contextmanager
+def woken_by_signals() -> Iterator[int]:
+    """A pipe that has something to read after each signal, the end of a child among them: a wait on it misses none."""
+    reader, writer = os.pipe()
+    os.set_blocking(writer, False)
+    child_ends = signal.signal(signal.SIGCHLD, lambda *_: None)
+    before = signal.set_wakeup_fd(writer, warn_on_full_buffer=False)
+    try:
+        yield reader
+    finally:
+        signal.set_wakeup_fd(before)
+        signal.signal(signal.SIGCHLD, child_ends or signal.SIG_DFL)
+        os.close(reader)
+        os.close(writer)
 
 
 def end_by_signal(number: int) -> None:
