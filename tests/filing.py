@@ -1967,8 +1967,9 @@ def what_is_not_kept(folder):
     case("schemas of the report are not kept", (made("t", "r3")[1], entries()), (records("Own,text"), before))
     write(folder, {"r3/reports/own.xsd": schema(item("New"))})
     case("and so are read again", made("t", "r3")[1], records("New,text"))
-    write(folder, {**{f"r4/{it}": text for it, text in REPORT.items()}, **{f"r4/{it}": text for it, text in TAXONOMY.items()}})
-    case("nor those of a report with a catalog", (made("t", "r4")[1], entries()), (TYPES, before))
+    own = {**REPORT, **TAXONOMY, "reg/mod.xsd": schema(item("Mine"))}
+    write(folder / "r4", own)
+    case("nor those of a report with a catalog", (made("t", "r4")[1], entries()), (records("Mine,text"), before))
     write(folder, {"bad/META-INF/catalog.xml": catalog(rewrite()), "bad/reg/mod.json": MODULE, "bad/reg/mod.xsd": "<"})
     case("a taxonomy that is refused is not kept", (made("bad")[0][0], entries()), (1, before))
     (folder / "file").write_text("x")
