@@ -1,6 +1,6 @@
 -- The definitions on small texts that show each rule. The answers come from RFC 4180; where a text is no RFC 4180 they are those of the
 -- `csv` crate of Rust with headers off and records of any length.
-use Rattle.std.proofs.Common.{◌≡◌, ◌+◌, ◌++◌, ℕ, List, [], ◌∷◌, Bool, true, false, Option, Some, None, codes, map, refl}
+use Rattle.std.proofs.Common.{◌≡◌, ◌++◌, ℕ, List, [], ◌∷◌, Bool, true, false, Some, None, codes, map, refl}
 use Rattle.std.specs.List.{list_all, list_any}
 use Rattle.std.specs.Str.{chars, is_utf8}
 use Rattle.csv.specs.Machine.{next_record}
@@ -8,7 +8,7 @@ use Rattle.csv.specs.Reading.{records_from, strip_bom}
 use Rattle.csv.specs.declared.parser.State.TheVariants as state
 use Rattle.oim_records.specs.Bytes.{ends_field, ends_line, is_quote, joins_field, is_unquoted}
 use Rattle.oim_records.specs.Cuts.{ended, is_between, state_after}
-use Rattle.oim_records.specs.Fields.{field_in, fields_in}
+use Rattle.oim_records.specs.Fields.{fields_in}
 use Rattle.oim_records.specs.Grids.{Record, grid, records_left}
 use Rattle.oim_records.specs.PieceTaking.{bytes_left}
 use Rattle.oim_records.specs.Pieces.{unread}
@@ -16,9 +16,8 @@ use Rattle.oim_records.specs.Places as places
 use Rattle.oim_records.specs.Places.{at_field, ends_record, in_text, is_line_end, place_after, place_of}
 use Rattle.oim_records.specs.Reads.{left_in}
 use Rattle.oim_records.specs.Runs.{behind, is_quoted, is_special, moved, skipped, stops}
-use Rattle.oim_records.specs.Scans.{fresh, rows_after, scan_after, scanned}
+use Rattle.oim_records.specs.Scans.{fresh, scanned}
 use Rattle.oim_records.specs.Texts.{is_ascii, is_high, is_not_text}
-use Rattle.oim_records.specs.declared.place.Place.{Place}
 use Rattle.oim_records.specs.declared.place.Place.TheVariants as place
 use Rattle.oim_records.specs.declared.scan.Scan.{Scan}
 
