@@ -1,5 +1,5 @@
-use Rattle.std.proofs.Common.{Some, None, refl, ◌<◌, IfSome, sym, ◌∙◌, ap, subst, get_or, take, arith}
-use Rattle.oim_rows.proofs.Repeats.{AreFlags, flag_is, flags_set, flags_stay, goes_on, no_column_there, stops_here}
+use Rattle.std.proofs.Common.{Some, None, refl, ◌<◌, IfSome, sym, ◌∙◌, subst, get_or, take}
+use Rattle.oim_rows.proofs.Repeats.{flag_is, flags_set, flags_stay, goes_on, no_column_there, stops_here}
 use Rattle.oim_rows.proofs.header.first_repeated.Goals.{in-Some+else-index, in_default}
 use Rattle.oim_rows.proofs.header.first_repeated.Goals as goal
 
