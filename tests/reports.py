@@ -39,6 +39,7 @@ http://example.com/eg,Flag,other
 http://example.com/eg,Region,explicit
 http://example.com/eg,Branch,typed
 """
+WIDER_TYPES = TYPES.replace("name,type\n", "name,type2\n") + "".join(f"http://example.com/eg,{it}\n" for it in ("Open,boolean", "Due,date", "Rule,qname"))
 TABLE = "cash,note\n100,first\n200,second\n"
 PERIOD = "2021-01-01T00:00:00/2022-01-01T00:00:00"
 HEAD = (
@@ -652,6 +653,41 @@ def types(folder):
     stops(folder, "1,048,577 types", "types: TooLarge (15)", ways=few)
 
 
+def wider_types(folder):
+    """Cells of booleans, dates and names, which a types table has under `type2` alone. None of them has a unit."""
+    for concept, cell, value in [
+        ("Open", " true ", "true"),
+        ("Open", "1", "1"),
+        ("Open", "#nil", "null"),
+        ("Open", "TRUE", None),
+        ("Open", "#empty", None),
+        ("Due", "2024-02-29", "2024-02-29"),
+        ("Due", "2023-02-29", None),
+        ("Due", "2024-02-29Z", None),
+        ("Due", "24-2-29", None),
+        ("Rule", "eg:Cash", "eg:Cash"),
+        ("Rule", "Cash", None),
+        ("Rule", "zz:a", None),
+    ]:
+        write(folder, {"m.json": edited([('"eg:Cash"', f'"eg:{concept}"')]), "t.csv": WIDER_TYPES, "t1.csv": f"cash\n{cell}\n"})
+        facts = f"t1.r_1.cash - {concept} - {value}" if value else ""
+        converts(folder, f"{cell} of {concept}", facts, "" if value else lines("t1, row 1, column 1: BadFactValue (44)"))
+    write(folder, {"m.json": edited([*UNTIMED, ('"eg:Cash"', '"eg:Open"')]), "t1.csv": "cash\nTRUE\n"})
+    converts(folder, "a bad period before a bad boolean", "", lines("t1, row 1, column 1: BadPeriod (37)"))
+    write(folder, {"t.csv": WIDER_TYPES.replace("name,type2\n", "name,type\n")})
+    stops(folder, "a boolean under `type`", "types: BadTypes (14)")
+
+
+def identifiers_that_come_again(folder):
+    """Identifiers of each length that is kept in another way, the second one between two that are the same."""
+    write(folder, {"t.csv": TYPES, "m.json": edited(IDENTIFIED)})
+    for length in (1, 2, 15, 16, 22, 23, 24, 25, 31, 32, 33, 300):
+        for x, y in (("x".rjust(length, "a"), "y".rjust(length, "a")), ("x".ljust(length, "a"), "y".ljust(length, "a"))):
+            write(folder, {"t1.csv": f"k,cash\n{x},1\n{y},2\n{x},3\n"})
+            facts = f"t1.{x}.cash - Cash EUR 1; t1.{y}.cash - Cash EUR 2"
+            converts(folder, f"{length} letters again", facts, lines("t1, row 3, column 1: RepeatedRowId (30)"), [(1, 1), (4, None)])
+
+
 def words_and_paths(folder):
     """The held report by other words and at other paths."""
     plain = document("compact", members(HELD))
@@ -815,6 +851,8 @@ PARTS = (
     paths_of_parameters,
     parameters,
     types,
+    wider_types,
+    identifiers_that_come_again,
     words_and_paths,
     words_refused,
     early_ends,

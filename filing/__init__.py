@@ -1,0 +1,1 @@
+"""From a filing and its taxonomy packages to the two plain files that xbrl-json converts."""

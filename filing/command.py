@@ -1,0 +1,189 @@
+"""The run: from the words to the two plain files, and on to xbrl-json."""
+
+from __future__ import annotations
+
+import os
+import sys
+import tempfile
+from contextlib import suppress
+from typing import Dict, List, Optional, Tuple
+
+from .cache import Cache, key_of
+from .catalog import CATALOG
+from .chain import Chain
+from .final import check_final
+from .finding import Finder, Found
+from .kinds import REASONS, Kinds, kinds_of
+from .metadata import Merged, check_parts, merge
+from .outputs import refuse_outputs
+from .packages import Beside, Package, open_package
+from .parameters import check_parameters
+from .prefixes import Renaming, lost_prefixes
+from .prepared import META, TYPES, Files, move_into, write_files
+from .progress import Progress
+from .refusals import FILES, WRONG, Refusal, cannot_write, printable, wrong
+from .report import find_report, report_at
+from .schemas import Reference, read_schemas
+from .stopping import Stopped, Stopping, end_by_signal, run_program, temporary_folder
+from .types_table import types_table
+from .words import HELP, Settings, read_words
+
+NAME = "xbrl-filing"
+
+
+def main(words: List[str], program: str) -> int:
+    """Runs the command; `program` is the path of xbrl-json. Answers the status."""
+    progress = Progress()
+    try:
+        status, line = attempt(words, program, progress, Stopping())
+        progress.clear()
+        if line:
+            tell(f"{NAME}: {printable(line)}")
+        return status
+    except Stopped as stopped:
+        progress.clear()
+        end_by_signal(stopped.number)
+        return 128 + stopped.number
+
+
+def attempt(words: List[str], program: str, progress: Progress, stopping: Stopping) -> Tuple[int, str]:
+    """The status of a run, and the line that says why it ended early, where it did."""
+    try:
+        if "--help" in words or words == ["-h"]:
+            return help_told(), ""
+        return run(read_words(words), program, progress, stopping), ""
+    except Refusal as refusal:
+        return refusal.status, refusal.line
+    except MemoryError:
+        return FILES, "there is not enough memory"
+    except Exception as error:  # a fault of this program is one line too
+        return WRONG, f"a fault of the program: {type(error).__name__}: {error}"
+
+
+def tell(line: str) -> None:
+    """Writes a line to standard error, where there is one."""
+    with suppress(OSError):
+        if sys.stderr is not None:
+            print(line, file=sys.stderr, flush=True)
+
+
+def help_told() -> int:
+    """Writes the help, without a buffer that would be written once more at the end where this fails."""
+    try:
+        os.write(1, HELP.encode())
+    except OSError as error:
+        raise cannot_write("standard output", error) from None
+    return 0
+
+
+def run(settings: Settings, program: str, progress: Progress, stopping: Stopping) -> int:
+    """Makes the two plain files, in the folder of `--prepare` or in a temporary one that xbrl-json reads."""
+    report, packages = open_inputs(settings)
+    refuse_outputs(settings, packages, None)
+    place = None if settings.prepare is None else place_of(settings.prepare)
+    merged, files, types = join(report, packages, settings, progress)
+    refuse_outputs(settings, packages, files)
+    progress.say("preparing the tables")
+    if place is not None:
+        parent, name = place
+        with temporary_folder(parent, f".{name}-", stopping) as folder:
+            write_files(folder, files, types, copy=True)
+            os.chmod(folder, 0o777 & ~umask())
+            with stopping.held():
+                move_into(os.path.join(parent, name), folder)
+        progress.clear()
+        return 0
+    with temporary_folder(tempfile.gettempdir(), f"{NAME}-", stopping) as folder:
+        write_files(folder, files, types, copy=False)
+        progress.clear()
+        return run_program([program, os.path.join(folder, META), "--types", os.path.join(folder, TYPES), *settings.rest], stopping)
+
+
+def open_inputs(settings: Settings) -> Tuple[Found, List[Package]]:
+    """The report's own file, and all packages in the order in which their catalogs count."""
+    packages: List[Package] = []
+    package = open_package(settings.report, settings.limit)
+    for label in settings.taxonomy:
+        taxonomy = open_package(label, settings.limit)
+        if taxonomy is None:
+            raise wrong(label, "is neither a ZIP nor a folder, so it is no taxonomy package")
+        packages.append(taxonomy)
+    if package is None:
+        return report_at(Beside(settings.report), os.path.basename(settings.report)), packages
+    return find_report(package), [package, *packages]
+
+
+def join(report: Found, packages: List[Package], settings: Settings, progress: Progress) -> Tuple[Merged, Files, bytes]:
+    """The merged metadata, the report's files and the types table."""
+    finder = Finder(report.package, packages)
+    chain = Chain(report, finder)
+    check_parts(chain)
+    check_final(chain)
+    lost = lost_prefixes(chain)
+    namespaces = namespaces_of(chain)
+    kinds = read_kinds(chain, finder, packages, settings, progress)
+    stands = {prefix: uri for prefix, uri in namespaces.items() if prefix not in lost}
+    renaming = Renaming(lost, lambda name: kind_of(name, stands, kinds) == "explicit")
+    merged = merge(chain, renaming)
+    refuse_impossible_concepts(merged, stands, kinds)
+    files = Files(report, [it.found.name for it in chain if it.found.package is report.package], merged)
+    files.require_parameters()
+    check_parameters(merged, renaming, files)
+    return merged, files, types_table(kinds, stands.values())
+
+
+def namespaces_of(chain: Chain) -> Dict[str, str]:
+    """The prefixes of all files. Values that are no texts are left to xbrl-json."""
+    return {prefix: uri for it in chain for prefix, uri in it.info_part("namespaces").items() if isinstance(uri, str)}
+
+
+def read_kinds(chain: Chain, finder: Finder, packages: List[Package], settings: Settings, progress: Progress) -> Kinds:
+    """The kinds of the taxonomy's concepts and dimensions. They are kept where nothing of the report is among them."""
+    entries = [Reference(place, it.label, "taxonomy", "") for it in chain for _, place in it.taxonomy()]
+    own = any(it.place.local for it in entries) or (finder.report in packages and finder.report.has(CATALOG))
+    if settings.cache is None or own:
+        return kinds_of(read_schemas(entries, finder, progress))
+    cache = Cache(settings.cache)
+    progress.say("looking into the cache")
+    key = key_of([it for it in packages if it is not finder.report], list(dict.fromkeys(it.place.text for it in entries)))
+    kinds = cache.load(key, namespaces_of(chain).values())
+    if kinds is None:
+        kinds = kinds_of(read_schemas(entries, finder, progress))
+        cache.store(key, kinds)
+    return kinds
+
+
+def kind_of(name: str, namespaces: Dict[str, str], kinds: Kinds) -> Optional[str]:
+    """The kind of a QName of the metadata."""
+    prefix, _, local = name.partition(":")
+    return kinds.get(namespaces.get(prefix, ""), {}).get(local)
+
+
+def refuse_impossible_concepts(merged: Merged, namespaces: Dict[str, str], kinds: Kinds) -> None:
+    """Refuses metadata that names a concept of which the types table can say nothing."""
+    for concept, label, where in merged.concepts():
+        reason = REASONS.get(kind_of(concept, namespaces, kinds) or "")
+        if reason:
+            raise wrong(label, f"names the concept '{concept}', which {reason} ({where})")
+
+
+def place_of(prepare: str) -> Tuple[str, str]:
+    """The folder in which a prepared folder is to stand, and its name there; one that holds something is refused."""
+    path = os.path.realpath(prepare)
+    if os.path.lexists(path):
+        try:
+            if os.listdir(path):
+                raise cannot_write(prepare, "the folder is not empty")
+        except OSError as error:
+            raise cannot_write(prepare, error) from None
+    parent, name = os.path.split(path)
+    if not os.path.isdir(parent):
+        raise cannot_write(prepare, "there is no folder to put it in")
+    return parent, name
+
+
+def umask() -> int:
+    """The mask of new files, which the system gives only in exchange for another."""
+    mask = os.umask(0o077)
+    os.umask(mask)
+    return mask

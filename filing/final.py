@@ -1,0 +1,41 @@
+"""What a metadata file declares final: files that extend it add nothing there (xBRL-CSV 1.0, documentInfo.final)."""
+
+from __future__ import annotations
+
+from typing import Callable, Dict, Iterable, List, Set
+
+from .chain import Chain, Metadata
+from .refusals import wrong
+
+KEYS: Dict[str, Callable[[Metadata], Iterable[str]]] = {
+    "namespaces": lambda it: it.info_part("namespaces"),
+    "taxonomy": lambda it: [place.text for _, place in it.taxonomy()],
+    "tables": lambda it: it.part("tables"),
+    "tableTemplates": lambda it: it.part("tableTemplates"),
+    "dimensions": lambda it: it.part("dimensions"),
+    "parameters": lambda it: it.part("parameters"),
+    "parameterURL": lambda it: [it.value["parameterURL"]] if isinstance(it.value.get("parameterURL"), str) else [],
+    "decimals": lambda it: ["decimals"] if "decimals" in it.value else [],
+}
+
+
+def check_final(chain: Chain) -> None:
+    """Refuses a file that adds a key, or a URL, to a part that a file below it declares final."""
+    for metadata in chain:
+        for part in final_parts(metadata):
+            there: Set[str] = set()
+            for it in chain.below(metadata):
+                there.update(KEYS[part](it))
+            for above in chain.above(metadata):
+                for key in KEYS[part](above):
+                    if key not in there:
+                        raise wrong(above.label, f"adds '{key}' to '{part}', which is final in {metadata.label}")
+
+
+def final_parts(metadata: Metadata) -> List[str]:
+    """The parts that a file declares final, of those that are carried over."""
+    declared = metadata.info_part("final")
+    for name, value in declared.items():
+        if not isinstance(value, bool):
+            raise wrong(metadata.label, f"'documentInfo.final.{name}' is neither true nor false")
+    return [name for name in KEYS if declared.get(name)]

@@ -1,0 +1,237 @@
+"""Packages: a ZIP, a folder, or the files beside a metadata file. All are read as names and pieces of bytes."""
+
+from __future__ import annotations
+
+import hashlib
+import lzma
+import os
+import struct
+import zipfile
+import zlib
+from abc import ABC, abstractmethod
+from contextlib import contextmanager
+from typing import Dict, Iterator, List, Optional, Tuple
+
+from .refusals import cannot_read, wrong
+from .zip_entries import checked_entries
+
+PIECE = 1 << 18
+LARGEST_TEXT = 256 << 20
+DAMAGE = (zipfile.BadZipFile, zlib.error, lzma.LZMAError, EOFError, NotImplementedError, RuntimeError, struct.error, ValueError, OverflowError)
+
+
+class Package(ABC):
+    """Files by their names, which are relative to the package's root and have slashes between their segments."""
+
+    def __init__(self, label: str) -> None:
+        self.label = label
+        self.root = ""
+
+    @abstractmethod
+    def has(self, name: str) -> bool:
+        """Whether there is a file of this name. A name that leads outside of the package is refused."""
+
+    @abstractmethod
+    def pieces(self, name: str) -> Iterator[bytes]:
+        """The bytes of a file, piece by piece."""
+
+    @abstractmethod
+    def children(self, folder: str) -> Tuple[List[str], List[str]]:
+        """The names of the files and of the folders in a folder, `""` being the root, in order."""
+
+    @abstractmethod
+    def digest(self) -> bytes:
+        """A digest of all that the package holds."""
+
+    def path_on_disk(self, name: str) -> Optional[str]:
+        """The path of a file that stands on the disk by itself, or None where it must be unpacked."""
+        return None
+
+    def shown(self, name: str) -> str:
+        """How lines name a file of the package."""
+        return f"{self.label.rstrip('/')}/{self.root}{name}"
+
+    def text(self, name: str) -> bytes:
+        """The whole of a file that is read into memory."""
+        kept: List[bytes] = []
+        size = 0
+        for piece in self.pieces(name):
+            size += len(piece)
+            if size > LARGEST_TEXT:
+                raise wrong(self.shown(name), f"has more than {LARGEST_TEXT} bytes")
+            kept.append(piece)
+        return b"".join(kept)
+
+    def find_root(self) -> None:
+        """Sets the root: the one folder at the top, or the top itself where `META-INF` or `reports` stands there."""
+        folders = [it for it in self.children("")[1] if it != "__MACOSX"]
+        if "META-INF" not in folders and "reports" not in folders and len(folders) == 1:
+            self.root = folders[0] + "/"
+
+
+class ZipPackage(Package):
+    """A package that is a ZIP file."""
+
+    def __init__(self, label: str, limit: int) -> None:
+        super().__init__(label)
+        with damage_told(label):
+            self.archive = zipfile.ZipFile(label)
+            self.files = checked_entries(self.archive, label, limit)
+        self.listed = listed(self.files)
+        self.find_root()
+
+    def has(self, name: str) -> bool:
+        return self.root + name in self.files
+
+    def pieces(self, name: str) -> Iterator[bytes]:
+        entry = self.files[self.root + name]
+        read = 0
+        with damage_told(self.shown(name)):
+            with self.archive.open(entry) as file:
+                for piece in iter(lambda: file.read(PIECE), b""):
+                    read += len(piece)
+                    yield piece
+            if read != entry.file_size:
+                raise zipfile.BadZipFile("it ends too early")
+
+    def children(self, folder: str) -> Tuple[List[str], List[str]]:
+        return self.listed.get((self.root + folder).rstrip("/"), ([], []))
+
+    def digest(self) -> bytes:
+        with damage_told(self.label), open(self.label, "rb") as file:
+            return digest_of(iter(lambda: file.read(PIECE), b""))
+
+
+class FolderPackage(Package):
+    """A package that is unpacked. No name leads out of its folder, by `..` or by a link."""
+
+    def __init__(self, label: str) -> None:
+        super().__init__(label)
+        self.top = os.path.realpath(label)
+        self.find_root()
+
+    def has(self, name: str) -> bool:
+        return os.path.isfile(self.disk(name))
+
+    def pieces(self, name: str) -> Iterator[bytes]:
+        return pieces_of_disk(self.disk(name), self.shown(name))
+
+    def children(self, folder: str) -> Tuple[List[str], List[str]]:
+        found = self.entries(folder)
+        return [it.name for it in found if not it.is_dir()], [it.name for it in found if it.is_dir()]
+
+    def entries(self, folder: str) -> List[os.DirEntry[str]]:
+        """What stands in a folder, in order of the names; nothing where there is no such folder."""
+        try:
+            with os.scandir(self.disk(folder)) as found:
+                return sorted(found, key=lambda it: it.name)
+        except (FileNotFoundError, NotADirectoryError):
+            return []
+        except OSError as error:
+            raise cannot_read(self.shown(folder), error) from None
+
+    def digest(self) -> bytes:
+        return digest_of(self.all_bytes(""))
+
+    def all_bytes(self, folder: str) -> Iterator[bytes]:
+        """The names of all files of a folder, in order, with their digests, or with what they link to."""
+        for it in self.entries(folder):
+            name = folder + it.name
+            if it.is_symlink():
+                yield os.fsencode(f"{name}\0{os.readlink(it.path)}\0")
+            elif it.is_dir():
+                yield from self.all_bytes(name + "/")
+            elif it.is_file():
+                yield os.fsencode(name) + b"\0" + digest_of(pieces_of_disk(it.path, self.shown(name)))
+
+    def disk(self, name: str) -> str:
+        """The path on the disk; a link that leads outside of the folder is refused."""
+        path = os.path.join(self.top, self.root + name) if "\0" not in name else ""
+        if os.path.commonpath([self.top, os.path.realpath(path or self.top)]) != self.top:
+            raise wrong(self.shown(name), f"is a link that leads outside of {self.label}")
+        return path
+
+    def path_on_disk(self, name: str) -> Optional[str]:
+        return self.disk(name)
+
+
+class Beside(Package):
+    """The files beside a metadata file that stands by itself."""
+
+    def __init__(self, label: str) -> None:
+        super().__init__(label)
+        self.folder = os.path.dirname(label)
+
+    def has(self, name: str) -> bool:
+        return "\0" not in name and os.path.exists(self.shown(name)) and not os.path.isdir(self.shown(name))
+
+    def pieces(self, name: str) -> Iterator[bytes]:
+        return pieces_of_disk(self.shown(name), self.shown(name))
+
+    def children(self, folder: str) -> Tuple[List[str], List[str]]:
+        return [], []
+
+    def digest(self) -> bytes:
+        raise NotImplementedError
+
+    def shown(self, name: str) -> str:
+        return os.path.join(self.folder, name)
+
+    def path_on_disk(self, name: str) -> Optional[str]:
+        return os.path.abspath(self.shown(name))
+
+
+def open_package(label: str, limit: int) -> Optional[Package]:
+    """A ZIP, by its content, or a folder; None for any other file."""
+    if os.path.isdir(label):
+        return FolderPackage(label)
+    try:
+        with open(label, "rb") as file:
+            start = file.read(4)
+    except OSError as error:
+        raise cannot_read(label, error) from None
+    return ZipPackage(label, limit) if start in (b"PK\3\4", b"PK\5\6", b"PK\7\10") else None
+
+
+@contextmanager
+def damage_told(label: str) -> Iterator[None]:
+    """Tells of a ZIP that is damaged, or packed in a way that Python lacks, in one line."""
+    try:
+        yield
+    except DAMAGE as error:
+        raise wrong(label, f"is damaged, or packed in a way that Python does not know ({error})") from None
+    except OSError as error:
+        if error.errno is None:  # what bz2 says of bytes that are not its own
+            raise wrong(label, f"is damaged ({error})") from None
+        raise cannot_read(label, error) from None
+
+
+def pieces_of_disk(path: str, label: str) -> Iterator[bytes]:
+    """The bytes of a file on the disk, piece by piece."""
+    try:
+        with open(path, "rb") as file:
+            yield from iter(lambda: file.read(PIECE), b"")
+    except OSError as error:
+        raise cannot_read(label, error) from None
+
+
+def digest_of(pieces: Iterator[bytes]) -> bytes:
+    """A digest of bytes, by which they are known."""
+    digest = hashlib.blake2b(digest_size=32)
+    for piece in pieces:
+        digest.update(piece)
+    return digest.digest()
+
+
+def listed(files: Dict[str, zipfile.ZipInfo]) -> Dict[str, Tuple[List[str], List[str]]]:
+    """The files and folders in each folder of a ZIP."""
+    found: Dict[str, Tuple[List[str], List[str]]] = {}
+    for path in sorted(files):
+        folder, _, name = path.rpartition("/")
+        new = folder not in found
+        found.setdefault(folder, ([], []))[0].append(name)
+        while new and folder:
+            folder, _, name = folder.rpartition("/")
+            new = folder not in found
+            found.setdefault(folder, ([], []))[1].append(name)
+    return found

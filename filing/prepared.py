@@ -1,0 +1,150 @@
+"""The files that xbrl-json reads: the merged metadata, the types table, and the report's tables at the paths that it names."""
+
+from __future__ import annotations
+
+import os
+import re
+import shutil
+import stat
+from typing import Any, Dict, Iterable, Iterator, List, Optional, Set
+
+from .finding import Found
+from .metadata import Merged
+from .packages import Package, pieces_of_disk
+from .refusals import FILES, Refusal, cannot_read, cannot_write
+
+META, TYPES = "meta.json", "types.csv"
+# What xbrl-json takes as the path of a table; the segments are looked at besides.
+PLAIN = re.compile(r"[^\\:?#%\x00-\x1f]+")
+
+
+def is_plain(url: object) -> bool:
+    """Whether xbrl-json takes a URL as a path below the metadata's folder. Others are its fault, and are never looked at here."""
+    return isinstance(url, str) and bool(PLAIN.fullmatch(url)) and not {"", ".", ".."}.intersection(url.split("/"))
+
+
+class Files:
+    """The tables and the parameters file of a report, by the URLs of the merged metadata."""
+
+    def __init__(self, report: Found, metadata: List[str], merged: Merged) -> None:
+        self.package: Package = report.package
+        self.metadata = metadata
+        self.folder = report.name[: report.name.rfind("/") + 1]
+        self.merged = merged
+        tables = merged.value.get("tables", {}).values()
+        self.tables: Set[str] = {it["url"] for it in tables if isinstance(it, dict) and is_plain(it.get("url"))}
+        parameters = merged.value.get("parameterURL")
+        self.parameters: Optional[str] = parameters if is_plain(parameters) else None
+
+    def all(self) -> List[str]:
+        return sorted(self.tables | ({self.parameters} if self.parameters is not None else set()))
+
+    def name(self, url: str) -> str:
+        """A file's name in the package. URLs of tables are relative to the report's own file, whichever file states them."""
+        return self.folder + url
+
+    def require_parameters(self) -> None:
+        """Refuses a parameters file that is not there, by the file that names it."""
+        if self.parameters is None:
+            return
+        name = self.name(self.parameters)
+        if not self.package.has(name):
+            asker = self.merged.origin(("parameterURL",))
+            raise Refusal(FILES, self.package.shown(name), f"cannot read (there is no such file; 'parameterURL' of {asker} names it)")
+
+    def parameter_text(self) -> Optional[bytes]:
+        return None if self.parameters is None else self.package.text(self.name(self.parameters))
+
+    def new_names(self) -> Dict[str, str]:
+        """Another name for each file that would stand where the metadata or the types table does."""
+        urls = self.all()
+        taken = {it.split("/")[0] for it in urls} | {META, TYPES}
+        names = {}
+        for reserved in (META, TYPES):
+            new = reserved
+            while new in taken:
+                new = "filed-" + new
+            taken.add(new)
+            names.update({it: new + it[len(reserved) :] for it in urls if it.split("/")[0] == reserved})
+        return names
+
+    def rename(self, names: Dict[str, str]) -> None:
+        """Writes the new names into the metadata."""
+        value: Dict[str, Any] = self.merged.value
+        for table in value.get("tables", {}).values():
+            if isinstance(table, dict) and isinstance(table.get("url"), str):
+                table["url"] = names.get(table["url"], table["url"])
+        if self.parameters is not None:
+            value["parameterURL"] = names.get(self.parameters, self.parameters)
+
+
+def write_files(folder: str, files: Files, types: bytes, copy: bool) -> None:
+    """Fills a folder. Files that stand on the disk are linked, or copied where the folder is kept."""
+    names = files.new_names()
+    files.rename(names)
+    for url in files.all():
+        put_file(os.path.join(folder, *names.get(url, url).split("/")), files.package, files.name(url), copy)
+    fill(os.path.join(folder, TYPES), iter([types]))
+    fill(os.path.join(folder, META), iter([files.merged.text()]))
+
+
+def put_file(target: str, package: Package, name: str, copy: bool) -> None:
+    """Puts one file of the report into a folder. One that is not there is left to xbrl-json, which knows whether it must be."""
+    source = package.path_on_disk(name)
+    if source is None:
+        if package.has(name):
+            fill(target, package.pieces(name))
+        elif package.children(name) != ([], []):
+            os.makedirs(target, exist_ok=True)
+        return
+    try:
+        mode = os.stat(source).st_mode
+    except (FileNotFoundError, NotADirectoryError):
+        return
+    except OSError as error:
+        raise cannot_read(package.shown(name), error) from None
+    if stat.S_ISDIR(mode):
+        os.makedirs(target, exist_ok=True)
+    elif copy:
+        fill(target, pieces_of_disk(source, package.shown(name)))
+    else:
+        make_folder_of(target)
+        os.symlink(source, target)
+
+
+def make_folder_of(target: str) -> None:
+    os.makedirs(os.path.dirname(target), exist_ok=True)
+
+
+def fill(target: str, pieces: Iterator[bytes]) -> None:
+    """Writes a file. What cannot be read is told by the pieces themselves."""
+    try:
+        make_folder_of(target)
+        with open(target, "wb") as file:
+            for piece in pieces:
+                file.write(piece)
+    except OSError as error:
+        raise cannot_write(target, error) from None
+
+
+def move_into(folder: str, made: str) -> None:
+    """Moves the prepared files to their place: all of them, or none."""
+    moved: List[str] = []
+    try:
+        if not os.path.lexists(folder):
+            os.rename(made, folder)
+            return
+        for name in sorted(os.listdir(made)):
+            os.rename(os.path.join(made, name), os.path.join(folder, name))
+            moved.append(name)
+    except OSError as error:
+        remove_all(os.path.join(folder, it) for it in moved)
+        raise cannot_write(folder, error) from None
+
+
+def remove_all(paths: Iterable[str]) -> None:
+    for path in paths:
+        if os.path.isdir(path):
+            shutil.rmtree(path, ignore_errors=True)
+        else:
+            os.unlink(path)

@@ -1,0 +1,72 @@
+"""The report in a report package (Report Packages 1.0)."""
+
+from __future__ import annotations
+
+from typing import List, Tuple
+from urllib.parse import quote
+
+from .chain import DOCUMENT_TYPE
+from .finding import Found
+from .packages import Package
+from .refusals import WRONG, Refusal, wrong
+from .strict_json import Json, read_json
+from .urls import Place
+
+PACKAGE_FILE = "META-INF/reportPackage.json"
+PACKAGE_TYPES = ["https://xbrl.org/report-package/2023" + it for it in ("", "/xbr", "/xbri")]
+
+
+def document_type(value: Json) -> object:
+    info = value.get("documentInfo") if isinstance(value, dict) else None
+    return info.get("documentType") if isinstance(info, dict) else None
+
+
+def report_at(package: Package, name: str) -> Found:
+    """A file of the report, by its name in the package."""
+    return Found(Place(quote(name, errors="surrogateescape"), True), package, name)
+
+
+def find_report(package: Package) -> Found:
+    """The one xBRL-CSV report of a package, in `reports` or else in the folders there."""
+    check_package_file(package)
+    passed: List[Tuple[str, object]] = []
+    levels = [["reports/"], [f"reports/{it}/" for it in package.children("reports")[1]]]
+    for folders in levels:
+        found = [name for folder in folders for name in reports_in(package, folder, passed)]
+        if len(found) > 1:
+            raise wrong(package.label, f"has several xBRL-CSV reports: {', '.join(found)}")
+        if found:
+            return report_at(package, found[0])
+    broken = next((it for _, it in passed if isinstance(it, Refusal)), None)
+    if broken:
+        raise broken
+    others = "".join(f"; {name} has the document type {kind!r}" for name, kind in passed if kind)
+    raise wrong(package.label, f"has no xBRL-CSV report in 'reports' or a folder of it{others}")
+
+
+def check_package_file(package: Package) -> None:
+    """Refuses a package that says that it is of another kind. One that says nothing is taken: older forms did not."""
+    if package.has(PACKAGE_FILE):
+        kind = document_type(read_json(package.text(PACKAGE_FILE), package.shown(PACKAGE_FILE)))
+        if kind not in PACKAGE_TYPES:
+            raise wrong(package.shown(PACKAGE_FILE), f"is of no report package: its document type is {kind!r}")
+
+
+def reports_in(package: Package, folder: str, passed: List[Tuple[str, object]]) -> List[str]:
+    """The names of the xBRL-CSV reports in a folder. Other JSON is passed over, and what is no JSON: it is told if there is no report."""
+    found: List[str] = []
+    for file in package.children(folder.rstrip("/"))[0]:
+        if not file.lower().endswith(".json"):
+            continue
+        name = folder + file
+        try:
+            kind = document_type(read_json(package.text(name), package.shown(name)))
+        except Refusal as refusal:
+            if refusal.status != WRONG:
+                raise
+            kind = refusal
+        if kind == DOCUMENT_TYPE:
+            found.append(name)
+        else:
+            passed.append((name, kind))
+    return found

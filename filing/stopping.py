@@ -1,0 +1,110 @@
+"""An end that leaves nothing behind: temporary folders and the converter, on signals too."""
+
+from __future__ import annotations
+
+import os
+import secrets
+import shutil
+import signal
+import subprocess
+from contextlib import contextmanager
+from typing import Iterator, List, Optional
+
+from .refusals import FILES, Refusal, cannot_write
+
+SIGNALS = (signal.SIGINT, signal.SIGTERM, signal.SIGHUP)
+
+
+class Stopped(BaseException):
+    """The run was asked to end by a signal."""
+
+    def __init__(self, number: int) -> None:
+        super().__init__(number)
+        self.number = number
+
+
+class Stopping:
+    """Turns the first signal into an exception, at a moment when nothing is half done; later ones change nothing."""
+
+    def __init__(self) -> None:
+        self.holding = 0
+        self.asked = 0
+        self.told = False
+        for it in SIGNALS:
+            if signal.getsignal(it) not in (signal.SIG_IGN, None):
+                signal.signal(it, lambda number, _: self.ask(number))
+
+    def ask(self, number: int) -> None:
+        self.asked = self.asked or number
+        self.tell()
+
+    def tell(self) -> None:
+        if self.asked and not self.holding and not self.told:
+            self.told = True
+            raise Stopped(self.asked)
+
+    @contextmanager
+    def held(self) -> Iterator[None]:
+        """A step that signals do not cut in two."""
+        self.holding += 1
+        try:
+            yield
+        finally:
+            self.holding -= 1
+        self.tell()
+
+
+@contextmanager
+def temporary_folder(parent: str, name: str, stopping: Stopping) -> Iterator[str]:
+    """A new folder, gone at every end."""
+    path = os.path.join(parent, f"{name}{secrets.token_hex(8)}")
+    try:
+        try:
+            os.mkdir(path, 0o700)
+        except OSError as error:
+            raise cannot_write(path, error) from None
+        yield path
+    finally:
+        with stopping.held():
+            shutil.rmtree(path, ignore_errors=True)
+
+
+def run_program(words: List[str], stopping: Stopping) -> int:
+    """Runs a program to its end and answers its status; a signal goes on to it."""
+    child: Optional[subprocess.Popen[bytes]] = None
+    try:
+        with woken_by_signals() as reader:
+            with stopping.held():
+                child = subprocess.Popen(words)
+            while child.poll() is None:
+                os.read(reader, 64)
+    except OSError as error:
+        raise Refusal(FILES, words[0], f"cannot run ({error.strerror})") from None
+    except Stopped as stopped:
+        if child is not None:
+            child.send_signal(stopped.number)
+            child.wait()
+        raise
+    return child.returncode if child.returncode >= 0 else 128 - child.returncode
+
+
+@contextmanager
+def woken_by_signals() -> Iterator[int]:
+    """A pipe that has something to read after each signal, the end of a child among them: a wait on it misses none."""
+    reader, writer = os.pipe()
+    os.set_blocking(writer, False)
+    child_ends = signal.signal(signal.SIGCHLD, lambda *_: None)
+    before = signal.set_wakeup_fd(writer, warn_on_full_buffer=False)
+    try:
+        yield reader
+    finally:
+        signal.set_wakeup_fd(before)
+        signal.signal(signal.SIGCHLD, child_ends or signal.SIG_DFL)
+        os.close(reader)
+        os.close(writer)
+
+
+def end_by_signal(number: int) -> None:
+    """Ends as a program does that does not know the signal, so that the caller sees which it was."""
+    signal.signal(number, signal.SIG_DFL)
+    os.kill(os.getpid(), number)

@@ -1,0 +1,123 @@
+"""The words of the command line."""
+
+from __future__ import annotations
+
+from typing import Iterator, List, Optional
+
+from .refusals import WORDS, Refusal
+from .zip_entries import DEFAULT_LIMIT
+
+USAGE = "xbrl-filing REPORT --taxonomy PACKAGE.. [--out FILE] [words of xbrl-json]"
+HELP = f"""\
+Converts a filing to xBRL-JSON: a report package, whose metadata may extend what a regulator publishes, and its taxonomy packages.
+
+    {USAGE}
+    xbrl-filing REPORT --taxonomy PACKAGE.. --prepare FOLDER
+
+It makes two plain files, a metadata file without `extends` and a types table, and hands them to xbrl-json.
+It is not proved: the guarantee of xbrl-json begins at the two plain files that it writes, which anyone can read.
+
+REPORT                  a report package (a ZIP or an unpacked folder), or a metadata file
+--taxonomy PACKAGE..    taxonomy packages (ZIPs or folders); all words up to the next one that begins with `--`
+--prepare FOLDER        only makes FOLDER, which is new or empty: meta.json, types.csv, and the report's tables and parameters
+--cache FOLDER          keeps there what the schemas say, so that the next filing of the same taxonomy starts at once
+--unpacked-limit BYTES  how much one ZIP may unpack to ({DEFAULT_LIMIT})
+--help                  this text
+
+All other words go to xbrl-json: --out FILE, --workers N, --ring K, --layout L, --progress .. (`xbrl-json --help` tells of them).
+Nothing is ever fetched: a URL that no package has is an error. Inputs are not changed.
+
+Status 0: the document is written. 1: the report or its taxonomy is wrong, or xbrl-json found a fault. 2: the words are no
+command line. 3: a file is not there, or cannot be read or written. The variable XBRL_JSON may name another xbrl-json.
+"""
+WITH_VALUE = ("--out", "--workers", "--ring", "--layout")
+WITHOUT_VALUE = ("--progress", "--version")
+
+
+class Settings:
+    """What the words say. `rest` goes to xbrl-json as it is."""
+
+    def __init__(self) -> None:
+        self.report = ""
+        self.taxonomy: List[str] = []
+        self.prepare: Optional[str] = None
+        self.cache: Optional[str] = None
+        self.limit = DEFAULT_LIMIT
+        self.rest: List[str] = []
+
+    def outputs(self) -> Iterator[str]:
+        """The files that xbrl-json is told to write."""
+        for word, after in zip(self.rest, self.rest[1:] + [""]):
+            if word == "--out" and after:
+                yield after
+            elif word.startswith("--out="):
+                yield word[len("--out=") :]
+
+
+def misuse(what: str) -> Refusal:
+    return Refusal(WORDS, "", f"{what}; the words are: {USAGE}")
+
+
+def read_words(words: List[str]) -> Settings:
+    """The settings that the words give; wrong words are refused with status 2."""
+    settings = Settings()
+    at = 0
+    while at < len(words):
+        name, equals, value = words[at].partition("=")
+        at += 1
+        if name == "--taxonomy":
+            packages = [value] if equals else []
+            while at < len(words) and not words[at].startswith("--"):
+                packages.append(words[at])
+                at += 1
+            if "" in packages or not packages:
+                raise misuse("--taxonomy names no package")
+            settings.taxonomy += packages
+        elif name in ("--prepare", "--cache", "--unpacked-limit"):
+            if not equals:
+                value = words[at] if at < len(words) and not words[at].startswith("--") else ""
+                at += 1
+            take_own(settings, name, value)
+        elif name.startswith("--"):
+            at = take_other(settings, words, at)
+        elif settings.report or not words[at - 1]:
+            raise misuse(f"'{words[at - 1]}' is one word too many")
+        else:
+            settings.report = words[at - 1]
+    return checked(settings)
+
+
+def take_own(settings: Settings, name: str, value: str) -> None:
+    """Takes an option of this program."""
+    if value == "":
+        raise misuse(f"{name} needs a value")
+    if name == "--unpacked-limit":
+        if not (value.isascii() and value.isdigit() and len(value) < 20):
+            raise misuse(f"--unpacked-limit is a number of bytes, and '{value}' is none")
+        settings.limit = int(value)
+        return
+    if getattr(settings, name[2:]) is not None:
+        raise misuse(f"{name} stands twice")
+    setattr(settings, name[2:], value)
+
+
+def take_other(settings: Settings, words: List[str], at: int) -> int:
+    """Takes a word of xbrl-json, and the one after it where that is its value. A word that is not known may have one, once REPORT is there."""
+    word = words[at - 1]
+    if word == "--types" or word.startswith("--types="):
+        raise misuse("--types is made from the taxonomy and cannot be given")
+    settings.rest.append(word)
+    plain = at < len(words) and not words[at].startswith("--")
+    may_have_one = bool(settings.report) and word not in WITHOUT_VALUE and "=" not in word
+    if at < len(words) and (word in WITH_VALUE or (plain and may_have_one)):
+        settings.rest.append(words[at])
+        at += 1
+    return at
+
+
+def checked(settings: Settings) -> Settings:
+    if not settings.report:
+        raise misuse("there is no REPORT")
+    if settings.prepare is not None and settings.rest:
+        raise misuse(f"with --prepare nothing is converted, so '{settings.rest[0]}' means nothing")
+    return settings

@@ -1,0 +1,78 @@
+"""What a ZIP may hold: all its entries are looked at before the first is unpacked."""
+
+from __future__ import annotations
+
+import stat
+import zipfile
+from typing import Dict, Optional, Set
+
+from .refusals import wrong
+
+DEFAULT_LIMIT = 8 << 30
+SMALL = 16 << 20
+RATIO = 200
+ENCRYPTED = 0x1 | 0x40 | 0x2000
+
+
+def checked_entries(archive: zipfile.ZipFile, label: str, limit: int) -> Dict[str, zipfile.ZipInfo]:
+    """The files of a ZIP by their names; a ZIP that is hostile is refused by the entry's name."""
+    files: Dict[str, zipfile.ZipInfo] = {}
+    seen: Set[str] = set()
+    unpacked = 0
+    for entry in archive.infolist():
+        fault = fault_of_name(entry.orig_filename) or fault_of_entry(entry)
+        name = entry.filename.rstrip("/")
+        if fault is None and name in seen:
+            fault = "stands twice"
+        if fault is not None:
+            raise wrong(label, f"the entry '{entry.orig_filename}' {fault}")
+        seen.add(name)
+        unpacked += entry.file_size
+        if not entry.is_dir():
+            files[name] = entry
+    if unpacked > limit:
+        raise wrong(label, f"unpacks to {unpacked} bytes, more than {limit} (--unpacked-limit allows more)")
+    refuse_files_that_are_folders(files, seen, label)
+    return files
+
+
+def fault_of_name(name: str) -> Optional[str]:
+    """Why an entry's name is refused (Report Packages 1.0 and Taxonomy Packages 1.0 both want plain relative names)."""
+    if "\0" in name:
+        return "has a name that is cut short by a zero byte"
+    if name.startswith("/"):
+        return "has an absolute name"
+    if "\\" in name:
+        return "has a name with a backslash"
+    if name[1:2] == ":" and name[0].isascii() and name[0].isalpha():
+        return "has a name with a drive letter"
+    segments = (name[:-1] if name.endswith("/") else name).split("/")
+    if ".." in segments:
+        return "leads outside of the package"
+    if "" in segments or "." in segments:
+        return "has an empty or '.' segment in its name"
+    return None
+
+
+def fault_of_entry(entry: zipfile.ZipInfo) -> Optional[str]:
+    """Why an entry is refused for what it is."""
+    if stat.S_ISLNK(entry.external_attr >> 16):
+        return "is a link"
+    if entry.flag_bits & ENCRYPTED:
+        return "is encrypted"
+    if entry.file_size > SMALL and entry.file_size > RATIO * entry.compress_size:
+        return f"unpacks to {entry.file_size} bytes from {entry.compress_size}"
+    return None
+
+
+def refuse_files_that_are_folders(files: Dict[str, zipfile.ZipInfo], seen: Set[str], label: str) -> None:
+    """Refuses a name that is both a file and the folder of another entry."""
+    folders: Set[str] = set()
+    for name in seen:
+        parent = name.rpartition("/")[0]
+        while parent and parent not in folders:
+            folders.add(parent)
+            parent = parent.rpartition("/")[0]
+    twice = sorted(folders.intersection(files))
+    if twice:
+        raise wrong(label, f"the entry '{twice[0]}' stands twice, as a file and as a folder")

@@ -1,0 +1,2107 @@
+#!/usr/bin/env python3
+"""xbrl-filing over made-up filings: what it makes of them, what it refuses and how, and what it leaves behind.
+
+    tests/filing.py PROGRAM
+
+PROGRAM is the built xbrl-json. Packages are written as folders and as ZIPs, good and hostile; what is prepared of them is
+compared with what the rules say, and the example's document with the one written by hand. Each case has a line where it
+fails. The last line counts. Python 3.9 or later and Linux are needed.
+"""
+import contextlib
+import io
+import json
+import os
+import pty
+import resource
+import shutil
+import signal
+import struct
+import subprocess
+import sys
+import tempfile
+import time
+import warnings
+import zipfile
+from pathlib import Path
+
+TOP = Path(__file__).resolve().parent.parent
+EXAMPLE = TOP / "examples/filing"
+FILING = str(TOP / "xbrl-filing")
+sys.path.insert(0, str(TOP))
+
+from filing import command, packages, stopping  # noqa: E402
+
+HOST = "http://reg.example/"
+CSV = "https://xbrl.org/2021/xbrl-csv"
+EG = "http://reg.example/eg"
+XS = "http://www.w3.org/2001/XMLSchema"
+XBRLI = "http://www.xbrl.org/2003/instance"
+
+failed = []
+count = 0
+
+
+def case(name, seen, wanted):
+    """Counts a case, which is what was seen and what was wanted."""
+    global count
+    count += 1
+    if seen != wanted:
+        failed.append(name)
+        print(f"FAILED {name}:\n  wanted {wanted!r:.600}\n  found  {seen!r:.600}", flush=True)
+
+
+# What packages are made of.
+
+
+def meta(info=None, **parts):
+    """The text of a metadata file."""
+    return json.dumps({"documentInfo": {"documentType": CSV, **(info or {})}, **parts})
+
+
+def catalog(entries, attributes=""):
+    return f'<catalog xmlns="urn:oasis:names:tc:entity:xmlns:xml:catalog" {attributes}>{entries}</catalog>'
+
+
+def rewrite(start=HOST, prefix="../reg/"):
+    return f'<rewriteURI uriStartString="{start}" rewritePrefix="{prefix}"/>'
+
+
+def schema(body="", namespace=EG, attributes=""):
+    """A schema with the usual prefixes."""
+    return (
+        f'<xs:schema xmlns:xs="{XS}" xmlns:xbrli="{XBRLI}" xmlns:xbrldt="http://xbrl.org/2005/xbrldt" xmlns:xlink="http://www.w3.org/1999/xlink"'
+        f' xmlns:link="http://www.xbrl.org/2003/linkbase" xmlns:eg="{EG}"' + (
+            f' targetNamespace="{namespace}"' if namespace else ""
+        ) + f" {attributes}>{body}</xs:schema>"
+    )
+
+
+def item(name, kind="xbrli:stringItemType", more=""):
+    return f'<xs:element name="{name}" type="{kind}" substitutionGroup="xbrli:item" {more}/>'
+
+
+def linkbase(body, attributes=""):
+    return f'<link:linkbase xmlns:link="http://www.xbrl.org/2003/linkbase" xmlns:xlink="http://www.w3.org/1999/xlink" {attributes}>{body}</link:linkbase>'
+
+
+def loc(href, kind="loc"):
+    return f'<link:{kind} xlink:href="{href}"/>'
+
+
+def include(place, kind="import"):
+    return f'<xs:{kind} schemaLocation="{place}"/>'
+
+
+EXPLICIT = '<xs:element name="Region" substitutionGroup="xbrldt:dimensionItem" abstract="true"/>'
+TYPED = '<xs:element name="Branch" substitutionGroup="xbrldt:dimensionItem" abstract="true" xbrldt:typedDomainRef="#b"/>'
+ELEMENTS = item("Cash", "xbrli:monetaryItemType") + item("Note") + EXPLICIT + TYPED
+TEMPLATE = {"columns": {"cash": {"dimensions": {"concept": "eg:Cash"}}}}
+INFO = {"namespaces": {"eg": EG}, "taxonomy": ["mod.xsd"]}
+MODULE = meta(INFO, tableTemplates={"t": TEMPLATE}, tables={"t": {"url": "t.csv"}})
+TAXONOMY = {"META-INF/catalog.xml": catalog(rewrite()), "reg/mod.json": MODULE, "reg/mod.xsd": schema(ELEMENTS)}
+REPORT = {"reports/report.json": meta({"extends": [HOST + "mod.json"]}), "reports/t.csv": "cash\n1\n"}
+TYPES = f"namespace,name,type2\n{EG},Branch,typed\n{EG},Cash,decimal\n{EG},Note,text\n{EG},Region,explicit\n"
+MERGED = {
+    "documentInfo": {"documentType": CSV, "namespaces": {"eg": EG}, "taxonomy": [HOST + "mod.xsd"]},
+    "tableTemplates": {"t": TEMPLATE},
+    "tables": {"t": {"url": "t.csv"}},
+}
+
+
+def write(folder, files):
+    """Writes files, given by their paths in a folder."""
+    for path, text in files.items():
+        at = folder / path
+        at.parent.mkdir(parents=True, exist_ok=True)
+        at.write_bytes(text if isinstance(text, bytes) else text.encode())
+
+
+def pack(path, files, top="", method=zipfile.ZIP_DEFLATED):
+    """Writes files as a ZIP."""
+    with warnings.catch_warnings(), zipfile.ZipFile(path, "w", method) as archive:
+        warnings.simplefilter("ignore")
+        for name, text in files.items() if isinstance(files, dict) else files:
+            archive.writestr(name if isinstance(name, zipfile.ZipInfo) else top + name, text)
+
+
+# Runs.
+
+
+def run(words, folder):
+    """Status and standard error of a run in this process, which is much faster than one of its own. It must not reach xbrl-json."""
+    before, err = os.getcwd(), io.StringIO()
+    os.chdir(folder)
+    try:
+        with contextlib.redirect_stderr(err), contextlib.redirect_stdout(io.StringIO()):
+            status = command.main([str(it) for it in words], "/nonexistent/xbrl-json")
+    finally:
+        os.chdir(before)
+    return status, err.getvalue()
+
+
+def start(words, folder, **more):
+    """Status, standard output and standard error of a run of its own, with xbrl-json behind it."""
+    env = {**os.environ, "XBRL_JSON": PROGRAM, **more.pop("env", {})}
+    done = subprocess.run([FILING, *map(str, words)], cwd=folder, env=env, stdin=subprocess.DEVNULL, capture_output=True, timeout=120, **more)
+    return done.returncode, done.stdout, done.stderr.decode(errors="replace")
+
+
+def on_a_terminal(words, folder):
+    """Status of a run whose standard error is a terminal, and what that shows."""
+    controller, terminal = pty.openpty()
+    done = subprocess.run(
+        [FILING, *words], cwd=folder, env={**os.environ, "XBRL_JSON": PROGRAM}, stdout=subprocess.DEVNULL, stderr=terminal, timeout=100
+    )
+    os.close(terminal)
+    shown = b""
+    with contextlib.suppress(OSError):
+        while piece := os.read(controller, 1024):
+            shown += piece
+    os.close(controller)
+    return done.returncode, shown
+
+
+def listing(folder):
+    """All files of a folder with their bytes."""
+    return {str(it.relative_to(folder)): it.read_bytes() for it in sorted(folder.rglob("*")) if it.is_file()}
+
+
+def prepared(folder, report=REPORT, taxonomies=(TAXONOMY,), words=(), name="reports/report.json", form="folder"):
+    """What a run with --prepare says, and the files that it makes. Inputs must stay as they are, and nothing else may be left."""
+    shutil.rmtree(folder / "w", ignore_errors=True)
+    work = folder / "w"
+    work.mkdir()
+    labels = ["r"] + [f"t{number}" for number in range(len(taxonomies))]
+    for label, files in zip(labels, [report, *taxonomies]):
+        if form == "folder" or label == "r" and form == "file":
+            write(work / label, files)
+        else:
+            pack(work / label, files, "top/" if form == "top" else "")
+    before = listing(work)
+    given = f"r/{name}" if form == "file" else "r"
+    status, err = run([given, *(["--taxonomy", *labels[1:]] if taxonomies else []), "--prepare", "out", *words], work)
+    after = listing(work)
+    made = {path[len("out/") :]: text for path, text in after.items() if path.startswith("out/")}
+    case("inputs stay, and nothing is left beside them", {it: text for it, text in after.items() if not it.startswith("out/")}, before)
+    if status:
+        case("a refused run prepares nothing", (made, sorted(os.listdir(work))), ({}, sorted(labels)))
+    return status, err, made
+
+
+def makes(folder, name, merged=None, types=None, parts=None, **inputs):
+    """A case: the run is good and silent, and makes this metadata (or these parts of it) and this types table."""
+    status, err, made = prepared(folder, **inputs)
+    value = json.loads(made["meta.json"]) if "meta.json" in made else None
+    if merged is not None:
+        case(name, (status, err, value), (0, "", merged))
+    if parts is not None:
+        seen = {key: at(value, key) for key in parts}
+        case(name, (status, err, seen), (0, "", parts))
+    if types is not None:
+        case(f"{name}: types", (status, err, made.get("types.csv", b"").decode()), (0, "", types))
+    return made
+
+
+def at(value, path):
+    """A part of a JSON value, by the names on the way to it, or None."""
+    for name in path.split("/"):
+        value = value.get(name) if isinstance(value, dict) else None
+    return value
+
+
+def stops(folder, name, line, status=1, **inputs):
+    """A case: the run ends with this line and status, and has made nothing."""
+    seen = prepared(folder, **inputs)
+    case(name, seen[:2], (status, f"xbrl-filing: {line}\n"))
+
+
+def records(*lines, namespace=EG):
+    return "namespace,name,type2\n" + "".join(f"{namespace},{it}\n" for it in lines)
+
+
+# The parts.
+
+
+def the_example(folder):
+    """The example in every form of package gives the document that was written by hand."""
+    document = (EXAMPLE / "expected.json").read_bytes()
+    report, taxonomy = (
+        {str(it.relative_to(EXAMPLE / top)): it.read_bytes() for it in (EXAMPLE / top).rglob("*") if it.is_file()} for top in ("report", "taxonomy")
+    )
+    pack(folder / "r.zip", report, "filing-2025/")
+    pack(folder / "r.xbr", report)
+    pack(folder / "t.zip", taxonomy, "harbour-2025/")
+    pack(folder / "t.dat", taxonomy, method=zipfile.ZIP_STORED)
+    unpacked, plain, open_taxonomy = EXAMPLE / "report", EXAMPLE / "report/reports/report.json", EXAMPLE / "taxonomy"
+    for form, words in {
+        "folders": [unpacked, "--taxonomy", open_taxonomy],
+        "ZIPs with one folder at the top": ["r.zip", "--taxonomy", "t.zip"],
+        "ZIPs with META-INF at the top": ["r.xbr", "--taxonomy", "t.dat"],
+        "a metadata file": [plain, "--taxonomy", open_taxonomy],
+        "a package after an equals sign": ["r.zip", "--taxonomy=t.zip"],
+        "options first": ["--cache", "cache", "--workers", "2", "r.zip", "--taxonomy", "t.zip"],
+        "the cache": ["r.zip", "--taxonomy", "t.zip", "--cache", "cache"],
+    }.items():
+        case(f"the example: {form}", start(words, folder), (0, document, ""))
+    seen = start(["r.zip", "--taxonomy", "t.zip", "--out", "doc.json", "--workers", "1"], folder)
+    case("the example by --out", (seen, (folder / "doc.json").read_bytes()), ((0, b"", ""), document))
+    case("the example by --prepare", start([unpacked, "--taxonomy", open_taxonomy, "--prepare", "kept"], folder), (0, b"", ""))
+    done = subprocess.run([PROGRAM, "kept/meta.json", "--types", "kept/types.csv"], cwd=folder, capture_output=True, timeout=60)
+    case("the prepared example stands by itself", (done.stdout, any(it.is_symlink() for it in (folder / "kept").rglob("*"))), (document, False))
+    case("the prepared folder may be read by all", oct((folder / "kept").stat().st_mode & 0o777), oct(0o777 & ~current_umask()))
+    (folder / "link").symlink_to(FILING)
+    done = subprocess.run(["./link", "r.zip", "--taxonomy", "t.zip"], cwd=folder, env={**os.environ, "XBRL_JSON": PROGRAM}, capture_output=True, timeout=60)
+    case("the example by a link to the program", (done.returncode, done.stdout), (0, document))
+
+
+def current_umask():
+    mask = os.umask(0o022)
+    os.umask(mask)
+    return mask
+
+
+def forms_of_reports(folder):
+    """Where the report stands in a package, and what its package may say of itself."""
+    for form in ("folder", "zip", "top", "file"):
+        makes(folder, f"a report as {form}", MERGED, TYPES, form=form)
+    makes(folder, "__MACOSX beside the one folder", MERGED, report={"__MACOSX/x": "", **{f"top/{it}": text for it, text in REPORT.items()}})
+    for kind in ("", "/xbr", "/xbri"):
+        said = json.dumps({"documentInfo": {"documentType": "https://xbrl.org/report-package/2023" + kind}})
+        makes(folder, f"a report package{kind}", MERGED, report={**REPORT, "META-INF/reportPackage.json": said})
+    own = "META-INF/reportPackage.json"
+    stops(folder, "a package file that is no JSON", f"r/{own}: is not JSON: Expecting value (line 1, column 1)", report={**REPORT, own: "x"})
+    stops(
+        folder,
+        "a package of another kind",
+        f"r/{own}: is of no report package: its document type is 'x'",
+        report={**REPORT, own: '{"documentInfo":{"documentType":"x"}}'},
+    )
+    other = {"reports/other.json": '{"documentInfo":{"documentType":"https://xbrl.org/2021/xbrl-json"}}', "reports/list.json": "[1]", "reports/a.txt": "x"}
+    makes(folder, "other JSON beside the report", MERGED, report={**REPORT, **other})
+    makes(folder, "what is no JSON beside the report", MERGED, report={**REPORT, "reports/a.json": "x", "reports/b.json": b"\xff"})
+    deep = {it.replace("reports/", "reports/q/"): text for it, text in REPORT.items()}
+    made = makes(folder, "a report in a folder of reports", MERGED, report=deep)
+    case("its table is the one beside it", made.get("t.csv"), b"cash\n1\n")
+    makes(folder, "a report in reports wins over one in a folder", MERGED, report={**REPORT, "reports/q/report.json": meta()})
+    stops(folder, "two reports", "r: has several xBRL-CSV reports: reports/b.json, reports/report.json", report={**REPORT, "reports/b.json": meta()})
+    two = {"reports/a/r.json": meta(), "reports/b/r.json": meta()}
+    stops(folder, "two reports in folders", "r: has several xBRL-CSV reports: reports/a/r.json, reports/b/r.json", report=two)
+    apart = {f"top/{it}": text for it, text in REPORT.items()}
+    stops(folder, "two folders at the top", "r: has no xBRL-CSV report in 'reports' or a folder of it", report={**apart, "z/x": ""})
+    stops(folder, "no report", "r: has no xBRL-CSV report in 'reports' or a folder of it", report={"reports/a/b/r.json": meta()})
+    draft = '{"documentInfo":{"documentType":"http://xbrl.org/PWD/2019-02-06/xbrl-csv"}}'
+    line = "r: has no xBRL-CSV report in 'reports' or a folder of it; reports/r.json has the document type 'http://xbrl.org/PWD/2019-02-06/xbrl-csv'"
+    stops(folder, "a report of a draft", line, report={"reports/r.json": draft})
+    stops(folder, "a broken report", "r/reports/r.json: is not JSON: Expecting value (line 1, column 2)", report={"reports/r.json": "[x"})
+    write(folder, {"x.txt": "hello"})
+    case("neither ZIP nor JSON", run(["x.txt", "--prepare", "o"], folder), (1, "xbrl-filing: x.txt: is not JSON: Expecting value (line 1, column 1)\n"))
+    write(folder, {"m.json": meta()})
+    seen = run(["m.json", "--taxonomy", "x.txt", "--prepare", "o"], folder)
+    case("a package that is none", seen, (1, "xbrl-filing: x.txt: is neither a ZIP nor a folder, so it is no taxonomy package\n"))
+    case("a report that is not there", run(["no.zip", "--prepare", "o"], folder), (3, "xbrl-filing: no.zip: cannot read (No such file or directory)\n"))
+    seen = run(["m.json", "--taxonomy", "no.zip", "--prepare", "o"], folder)
+    case("a package that is not there", seen, (3, "xbrl-filing: no.zip: cannot read (No such file or directory)\n"))
+
+
+def catalogs(folder):
+    """Which file stands for a URL."""
+    other = {"other/mod.json": meta({**INFO, "namespaces": {"eg": EG, "two": "http://two.example/"}}), "other/mod.xsd": schema(ELEMENTS)}
+    two = "documentInfo/namespaces/two"
+
+    def by(name, entries, taken, more=None, attributes=""):
+        files = {**TAXONOMY, **other, "META-INF/catalog.xml": catalog(entries, attributes), **(more or {})}
+        made = makes(folder, name, types=TYPES, taxonomies=[files])
+        value = json.loads(made.get("meta.json", "{}"))
+        case(f"{name}: which file", at(value, two), "http://two.example/" if taken == "other" else None)
+
+    by("the longest start string", rewrite() + rewrite(HOST + "m", "../other/m"), "other")
+    by("the longest start string, in the other order", rewrite(HOST + "m", "../other/m") + rewrite(), "other")
+    by("a longer start string without the file", rewrite() + rewrite(HOST + "mo", "../none/mo"), "reg")
+    by("an exact entry before a start string", rewrite() + f'<uri name="{HOST}mod.json" uri="../other/mod.json"/>', "other")
+    by("an exact entry without its file", rewrite() + f'<uri name="{HOST}mod.json" uri="../none/mod.json"/>', "reg")
+    by("an entry in a group", f"<group>{rewrite()}</group>", "reg")
+    by("the base of a group", f'<group xml:base="../other/">{rewrite(prefix="")}</group>{rewrite("http://a/", "../reg/")}', "other")
+    by("the base of a catalog", rewrite(prefix="./"), "other", attributes='xml:base="../other/"')
+    by("a base ends with its element", f'<group xml:base="../other/deep/"/>{rewrite()}', "reg")
+    by("entries that are read past", f'<system systemId="{HOST}mod.json" uri="../other/mod.json"/><nextCatalog catalog="x"/>{rewrite()}', "reg")
+    by("a start string that ends within a name", rewrite(HOST[:-4], "../re"), "reg", {"reple/mod.json": MODULE, "reple/mod.xsd": schema(ELEMENTS)})
+    by("a rewritten URL is not rewritten again", rewrite() + rewrite("reg/", "../other/") + rewrite("../reg/", "../other/"), "reg")
+    by("the root as prefix", rewrite(HOST, "../"), "other", {"mod.json": other["other/mod.json"], "mod.xsd": schema(ELEMENTS)})
+    by("the root without a slash", rewrite(HOST[:-1], ".."), "other", {"mod.json": other["other/mod.json"], "mod.xsd": schema(ELEMENTS)})
+    moved = {"META-INF/catalog.xml": catalog(rewrite(prefix="../other/")), **other}
+    made = [makes(folder, "the order of packages", types=TYPES, taxonomies=it) for it in ([TAXONOMY, moved], [moved, TAXONOMY])]
+    case("the first package wins", [at(json.loads(it["meta.json"]), two) for it in made], [None, "http://two.example/"])
+    made = makes(folder, "the report's own catalog first", types=TYPES, report={**REPORT, **moved})
+    case("the report's own catalog wins", at(json.loads(made["meta.json"]), two), "http://two.example/")
+    percent = meta({"extends": [HOST + "a%20%C3%A9.json#x"]})
+    makes(folder, "percent signs", MERGED, report={**REPORT, "reports/report.json": percent}, taxonomies=[{**TAXONOMY, "reg/a é.json": MODULE}])
+
+
+def catalogs_refused(folder):
+    """Catalogs and URLs that lead outside, and URLs that no package has."""
+    fetching = [it.name for it in (TOP / "filing").glob("*.py") if any(word in it.read_text() for word in ("socket", "urllib.request", "http.client"))]
+    case("no module can fetch anything", fetching, [])
+    outside = "t0/META-INF/catalog.xml: has an entry that leads outside of the package: '{}' (line 1)"
+    for prefix in ("../../", "/etc/", "file:///etc/", "..%2F..%2F", "%2e%2e/%2e%2e/", "a/../../../b/", "//host/"):
+        stops(
+            folder,
+            f"a prefix {prefix}",
+            outside.format(prefix),
+            taxonomies=[{**TAXONOMY, "META-INF/catalog.xml": catalog(rewrite() + rewrite("http://b/", prefix))}],
+        )
+    up = {**REPORT, "reports/report.json": meta({"extends": [HOST + "%2e%2e/%2E%2E/mod.json"]})}
+    stops(folder, "a URL that leads outside", f"t0/META-INF/catalog.xml: leads {HOST}%2e%2e/%2E%2E/mod.json outside of the package", report=up)
+    dots = {**REPORT, "reports/report.json": meta({"extends": [HOST + "a/../../../mod.json"]})}
+    makes(folder, "dots that are written are resolved", MERGED, report=dots)
+    line = f"r/reports/report.json: no package has {HOST}mod.json (extends; t0 has no META-INF/catalog.xml)"
+    stops(folder, "a package without a catalog", line, taxonomies=[{"reg/mod.json": MODULE}])
+    stops(folder, "no package at all", f"r/reports/report.json: no package has {HOST}mod.json (extends)", taxonomies=[])
+    stops(
+        folder,
+        "a start string that differs",
+        f"r/reports/report.json: no package has {HOST}mod.json (extends)",
+        taxonomies=[{**TAXONOMY, "META-INF/catalog.xml": catalog(rewrite("http://Reg.example/"))}],
+    )
+    bad = {**TAXONOMY, "META-INF/catalog.xml": "<catalog>"}
+    stops(folder, "a broken catalog", "t0/META-INF/catalog.xml: is not well-formed XML: no element found (line 1)", taxonomies=[bad])
+    doctype = {**TAXONOMY, "META-INF/catalog.xml": "<!DOCTYPE catalog><catalog/>"}
+    stops(folder, "a catalog with a document type", "t0/META-INF/catalog.xml: has a document type, which is refused (line 1)", taxonomies=[doctype])
+
+
+def places(folder):
+    """References: relative ones against the published URL, and those of the report beside it."""
+    split = [
+        {
+            "META-INF/catalog.xml": catalog(rewrite(HOST + "f/", "../f/")),
+            "f/m/mod.json": meta({**INFO, "taxonomy": ["../../d/mod.xsd"], "extends": ["../../d/base.json"]}),
+        },
+        {
+            "META-INF/catalog.xml": catalog(rewrite(HOST + "d/", "../x/y/")),
+            "x/y/mod.xsd": schema(ELEMENTS),
+            "x/y/base.json": meta(tableTemplates={"t": TEMPLATE}, tables={"t": {"url": "t.csv"}}),
+        },
+    ]
+    report = {**REPORT, "reports/report.json": meta({"extends": [HOST + "f/m/mod.json"]})}
+    wanted = {**MERGED, "documentInfo": {**MERGED["documentInfo"], "taxonomy": [HOST + "d/mod.xsd"]}}
+    makes(folder, "relative references lead into another package", wanted, TYPES, report=report, taxonomies=split)
+    same = meta({"extends": [HOST + "mod.json", HOST + "x/../mod.json", HOST + "./mod.json#b"]})
+    makes(folder, "one file by three references", MERGED, report={**REPORT, "reports/report.json": same})
+    for form in ("folder", "zip", "file"):
+        own = {
+            **REPORT,
+            "reports/report.json": meta({"extends": ["sub/own%20base.json", "./x/../sub/own base.json#b"]}),
+            "reports/sub/own base.json": meta({"extends": [HOST + "mod.json", "../../side/a%2520b.json"]}),
+        }
+        makes(folder, f"the report's own files, {form}", parts={"decimals": 3}, types=TYPES, report={**own, "side/a%20b.json": meta(decimals=3)}, form=form)
+    up = {**REPORT, "reports/report.json": meta({"extends": ["../../x.json"]})}
+    for form in ("folder", "zip"):
+        stops(folder, f"a reference out of the report, {form}", "r/reports/report.json: '../x.json' leads outside of r (extends)", report=up, form=form)
+    write(folder / "alone", {"a/b/m.json": meta({"extends": ["../up.json"]}), "a/up.json": meta(decimals=1)})
+    case("a metadata file reaches what lies above it", run(["a/b/m.json", "--prepare", "o"], folder / "alone"), (0, ""))
+    case("and that is joined", json.loads((folder / "alone/o/meta.json").read_text())["decimals"], 1)
+    for reference, shown in (("/etc/x.json", "/etc/x.json"), ("%2e%2e/%2e%2e/x.json", "reports/%2e%2e/%2e%2e/x.json")):
+        line = f"r/reports/report.json: '{shown}' leads outside of r (extends)"
+        stops(folder, f"a reference {reference}", line, report={**REPORT, "reports/report.json": meta({"extends": [reference]})})
+    stops(
+        folder,
+        "a file beside that is not there",
+        "r/reports/report.json: there is no r/reports/x.json (extends)",
+        report={**REPORT, "reports/report.json": meta({"extends": ["x.json"]})},
+    )
+    for url in ("file:///etc/passwd", "ftp://reg.example/mod.json", "urn:x:y", "//reg.example/mod.json"):
+        line = f"r/reports/report.json: no package has {url} (extends)"
+        stops(folder, f"a URL of another kind {url}", line, report={**REPORT, "reports/report.json": meta({"extends": [url]})})
+    mapped = {**TAXONOMY, "META-INF/catalog.xml": catalog(rewrite() + rewrite("file:///") + rewrite("//reg.example/"))}
+    for url in ("file:///mod.json", "//reg.example/mod.json"):
+        line = f"r/reports/report.json: no package has {url} (extends)"
+        stops(folder, f"{url}, though a catalog has it", line, report={**REPORT, "reports/report.json": meta({"extends": [url]})}, taxonomies=[mapped])
+    own = {**REPORT, "reports/report.json": meta({"extends": [HOST + "mod.json"], "taxonomy": ["own/own.xsd"], "namespaces": {"o": "http://own/"}})}
+    own["reports/own/own.xsd"] = schema(include("more.xsd") + item("A"), "http://own/")
+    own["reports/own/more.xsd"] = schema(include(HOST + "mod.xsd") + item("B", "xbrli:dateItemType"), "http://own/")
+    made = makes(folder, "schemas of the report", types=records("A,text", "B,date", namespace="http://own/") + TYPES[len(records()) :], report=own)
+    case("their URLs stand as written", json.loads(made["meta.json"])["documentInfo"]["taxonomy"], ["own/own.xsd", HOST + "mod.xsd"])
+
+
+FIRST, SECOND = "r/reports/report.json", "t0/reg/mod.json"
+TWO_TEMPLATES = {"p": {"columns": {"x": {}}}, "q": {"columns": {}}}
+
+
+def both(report, module, info=None, module_info=None):
+    """A report and the module that it extends, by what they say."""
+    return {
+        "report": {**REPORT, "reports/report.json": meta({"extends": [HOST + "mod.json"], **(info or {})}, **report)},
+        "taxonomies": [{**TAXONOMY, "reg/mod.json": meta({**INFO, **(module_info or {})}, **module)}],
+    }
+
+
+def joining(folder):
+    """Parts of the metadata that are joined by key, or that have one value."""
+    first, second, templates = FIRST, SECOND, TWO_TEMPLATES
+    tables = {"a": {"url": "a.csv", "template": "p"}, "b": {"url": "b.csv", "template": "q"}}
+    for part, one, two, other in [
+        ("dimensions", {"eg:Branch": "x", "entity": "eg:A"}, {"entity": "eg:A", "period": "2025"}, {"entity": "eg:B"}),
+        ("parameters", {"a": "1", "b": "2"}, {"b": "2", "c": "3"}, {"b": "x"}),
+    ]:
+        makes(folder, f"{part} by key", parts={part: {**one, **two}}, **both({part: one}, {part: two}))
+        key = sorted(set(one) & set(other))[0]
+        stops(folder, f"{part} with two values", f"{second}: '{part}.{key}' has another value than in {first}", **both({part: one}, {part: other}))
+    makes(
+        folder,
+        "templates by key",
+        parts={"tableTemplates": templates},
+        **both({"tableTemplates": {"p": templates["p"]}, "tables": tables}, {"tableTemplates": templates}),
+    )
+    line = f"{second}: 'tableTemplates.p' has another value than in {first}"
+    stops(folder, "templates with two values", line, **both({"tableTemplates": {"p": {"columns": {"y": {}}}}}, {"tableTemplates": templates}))
+    stops(folder, "no completed templates", line, **both({"tableTemplates": {"p": {}}}, {"tableTemplates": templates}))
+    one, two = {
+        "columns": {"x": {"dimensions": {"unit": "a:b", "concept": "eg:Cash"}}},
+        "decimals": 0,
+    }, {"decimals": 0, "columns": {"x": {"dimensions": {"concept": "eg:Cash", "unit": "a:b"}}}}
+    makes(
+        folder,
+        "the order of members does not count",
+        parts={"tableTemplates/p": one},
+        **both({"tableTemplates": {"p": one}, "tables": tables}, {"tableTemplates": {"p": two, "q": {"columns": {}}}}),
+    )
+    for a, b in ((0, 0.0), (1, True), (0, "0"), (0, None), (None, 0)):
+        stops(folder, f"{a!r} is not {b!r}", f"{second}: 'decimals' has another value than in {first}", **both({"decimals": a}, {"decimals": b}))
+    makes(folder, "decimals that are equal", parts={"decimals": -3}, **both({"decimals": -3}, {"decimals": -3}))
+    makes(
+        folder,
+        "parameterURL of the module",
+        parts={"parameterURL": "p.csv"},
+        report={**REPORT, "reports/p.csv": "name,value\n"},
+        taxonomies=both({}, {"parameterURL": "p.csv"})["taxonomies"],
+    )
+    stops(
+        folder, "two parameterURLs", f"{second}: 'parameterURL' has another value than in {first}", **both({"parameterURL": "a.csv"}, {"parameterURL": "b.csv"})
+    )
+    namespaces = {"x": "http://x/"}
+    makes(
+        folder,
+        "namespaces by prefix",
+        parts={"documentInfo/namespaces": {"eg": EG, "x": "http://x/"}},
+        **both({}, {}, {"namespaces": {**namespaces, "eg": EG}}),
+    )
+    line = f"{second}: 'documentInfo.namespaces.eg' has another value than in {first}"
+    stops(folder, "a prefix of two namespaces", line, **both({}, {}, {"namespaces": {"eg": "http://x/"}}))
+
+
+def joining_tables(folder):
+    """Tables are joined member by member: what one file leaves open another may give."""
+    first, second, templates = FIRST, SECOND, TWO_TEMPLATES
+    open_table = both(
+        {"tables": {"t": {"optional": True, "parameters": {"a": "1"}}}},
+        {"tables": {"t": {"url": "t.csv", "template": "p", "x:note": 1, "parameters": {"a": "1", "b": "2"}}}, "tableTemplates": templates},
+    )
+    made = makes(
+        folder,
+        "a table that is completed",
+        parts={"tables": {"t": {"url": "t.csv", "template": "p", "optional": True, "parameters": {"a": "1", "b": "2"}}}},
+        **open_table,
+    )
+    case("tables that are named are taken along", made.get("t.csv"), b"cash\n1\n")
+    for member, a, b in (("url", "a.csv", "b.csv"), ("template", "p", "q"), ("optional", True, False)):
+        line = f"{second}: 'tables.t.{member}' has another value than in {first}"
+        stops(folder, f"a table with two of {member}", line, **both({"tables": {"t": {member: a}}}, {"tables": {"t": {member: b}}}))
+    line = f"{second}: 'tables.t.parameters.a' has another value than in {first}"
+    stops(folder, "a table with two parameters", line, **both({"tables": {"t": {"parameters": {"a": "1"}}}}, {"tables": {"t": {"parameters": {"a": "2"}}}}))
+    stops(folder, "a table that is none", f"{second}: 'tables.t' has another value than in {first}", **both({"tables": {"t": {}}}, {"tables": {"t": 1}}))
+    line = f"{second}: 'tables.t.parameters.a' has another value than in {first}"
+    stops(
+        folder,
+        "parameters of a table that are none",
+        line.replace(".parameters.a", ".parameters"),
+        **both({"tables": {"t": {"parameters": 1}}}, {"tables": {"t": {"parameters": {"a": "1"}}}}),
+    )
+
+
+def leaving_out(folder):
+    """What is left out, and links, which are refused."""
+    first, second = FIRST, SECOND
+    unused = both(
+        {}, {"tables": {"t": {"url": "t.csv"}}, "tableTemplates": {"t": {**TEMPLATE, "x:y": 1}, "unused": {"dimensions": {"eg:None": "a"}, "columns": {}}}}
+    )
+    makes(folder, "templates that no table uses are left out", MERGED, **unused)
+    extra = {"features": {"a": 1}, "linkTypes": {"a": "b"}, "linkGroups": {}, "x:y": {"deep": [1]}, "links": {}, "other": 2}
+    long = {
+        "columns": {
+            "cash": {"x:y": 1, "comment": False, "dimensions": {"concept": "eg:Cash"}},
+            "g": {"propertyGroups": {"a": {"x:y": 1, "decimals": 1, "dimensions": {}}}, "eurofiling:doc": "x"},
+        }
+    }
+    short = {"columns": {"cash": {"comment": False, "dimensions": {"concept": "eg:Cash"}}, "g": {"propertyGroups": {"a": {"decimals": 1, "dimensions": {}}}}}}
+    wanted = {**MERGED, "tableTemplates": {"t": short}}
+    makes(
+        folder,
+        "what the converter does not read is left out",
+        wanted,
+        **both(extra, {**extra, "tableTemplates": {"t": long}, "tables": MERGED["tables"]}, {"x:y": 1}),
+    )
+    for links in ({"a": {}}, {"a": {"b": {"c": ["d"]}}}):
+        stops(folder, f"links {links}", f"{second}: has 'links', which cannot be carried over", **both({}, {"links": links}))
+        stops(folder, f"links of the report {links}", f"{first}: has 'links', which cannot be carried over", **both({"links": links}, {}))
+
+
+def entry_points(folder):
+    """The taxonomy's URLs and their base, and parts of a wrong shape."""
+    second = SECOND
+    base = both(
+        {},
+        {},
+        {"baseURL": "http://filer.example/a/", "taxonomy": ["own.xsd", HOST + "mod.xsd"]},
+        {"baseURL": "http://reg.example/d/e/", "taxonomy": ["../../mod.xsd", "x.xsd"]},
+    )
+    base["taxonomies"][0].update({"reg/d/e/x.xsd": schema(item("X"))})
+    base["taxonomies"].append({"META-INF/catalog.xml": catalog(rewrite("http://filer.example/", "../f/")), "f/a/own.xsd": schema(item("O"))})
+    urls = ["http://filer.example/a/own.xsd", HOST + "mod.xsd", HOST + "d/e/x.xsd"]
+    made = makes(
+        folder, "baseURL is the base of a file's own taxonomy", parts={"documentInfo/baseURL": "http://filer.example/a/", "documentInfo/taxonomy": urls}, **base
+    )
+    case("all of them are read", made["types.csv"].decode(), records("Branch,typed", "Cash,decimal", "Note,text", "O,text", "Region,explicit", "X,text"))
+    makes(folder, "only the report's baseURL stands", parts={"documentInfo/baseURL": None}, **both({}, {}, {}, {"baseURL": HOST}))
+    makes(folder, "no taxonomy at all is left to the converter", parts={"documentInfo/taxonomy": None}, report={"reports/report.json": meta()}, taxonomies=[])
+    text = meta({"extends": [HOST + "mod.json"]}).encode()
+    makes(folder, "a byte-order mark", MERGED, report={**REPORT, "reports/report.json": b"\xef\xbb\xbf" + text})
+    for name in ("tableTemplates", "tables", "dimensions", "parameters", "links"):
+        stops(folder, f"{name} that is a list", f"{second}: '{name}' is not an object", **both({}, {name: []}))
+    for name in ("namespaces", "final"):
+        stops(folder, f"{name} that is a text", f"{second}: '{name}' is not an object", **both({}, {}, {}, {name: "x"}))
+    for name, value in (("extends", "x"), ("extends", [1]), ("taxonomy", {}), ("taxonomy", [None])):
+        stops(folder, f"{name} {value}", f"{second}: 'documentInfo.{name}' is not a list of texts", **both({}, {}, {}, {name: value}))
+    stops(folder, "baseURL that is none", f"{second}: 'documentInfo.baseURL' is not a text", **both({}, {}, {}, {"baseURL": None}))
+
+
+def chains(folder):
+    """Files that extend files: their order, diamonds, rings, and what is no metadata file."""
+    info = lambda *extends, **more: {"extends": [HOST + it for it in extends], **more}
+    report = {"reports/report.json": meta(info("a.json", "b.json"), parameters={"r": "1"})}
+
+    def level(name, *extends, **more):
+        return {
+            f"reg/{name}.json": meta(info(*extends, taxonomy=[name + ".xsd"], namespaces={name: f"http://{name}/"}), **more),
+            f"reg/{name}.xsd": schema(item("C"), f"http://{name}/"),
+        }
+
+    base = {"META-INF/catalog.xml": catalog(rewrite())}
+    diamond = {
+        **base,
+        **level("a", "c.json"),
+        **level("b", "c.json", "d.json"),
+        **level("c", "e.json"),
+        **level("d", "e.json"),
+        **level("e", parameters={"e": "2"}),
+    }
+    order = [HOST + f"{it}.xsd" for it in "acebd"]
+    made = makes(
+        folder,
+        "three levels and a diamond, in one order",
+        parts={"documentInfo/taxonomy": order, "parameters": {"r": "1", "e": "2"}},
+        report=report,
+        taxonomies=[diamond],
+    )
+    case("types of all levels in byte order", made["types.csv"].decode(), "namespace,name,type2\n" + "".join(f"http://{it}/,C,text\n" for it in "abcde"))
+    long = {**base, **{path: text for number in range(400) for path, text in level(f"n{number}", *([f"n{number + 1}.json"] if number < 399 else [])).items()}}
+    makes(
+        folder,
+        "four hundred levels",
+        parts={"documentInfo/taxonomy": [HOST + f"n{it}.xsd" for it in range(400)]},
+        report={"reports/report.json": meta(info("n0.json"))},
+        taxonomies=[long],
+    )
+    pairs = {
+        path: text
+        for number in range(24)
+        for side in "xy"
+        for path, text in level(f"{side}{number}", *([f"x{number + 1}.json", f"y{number + 1}.json"] if number < 23 else [])).items()
+    }
+    order = [HOST + f"x{it}.xsd" for it in range(24)] + [HOST + f"y{it}.xsd" for it in range(23, -1, -1)]
+    made = makes(
+        folder,
+        "diamonds on diamonds, each file once",
+        parts={"documentInfo/taxonomy": order},
+        report={"reports/report.json": meta(info("x0.json", "y0.json"))},
+        taxonomies=[{**base, **pairs}],
+    )
+    ring = {**base, **level("a", "b.json"), **level("b", "c.json"), **level("c", "b.json")}
+    stops(folder, "a ring", "t0/reg/c.json: extends itself, by way of t0/reg/b.json", report=report, taxonomies=[ring])
+    itself = {**base, **level("a", "x/../a.json#b"), **level("b")}
+    stops(folder, "a file that extends itself", "t0/reg/a.json: extends itself", report=report, taxonomies=[itself])
+    own = {"reports/report.json": meta({"extends": ["./%72eport.json"]})}
+    stops(folder, "a report that extends itself", "r/reports/report.json: extends itself", report=own, taxonomies=[])
+
+
+def what_is_no_metadata(folder):
+    """Files that are no metadata files, and JSON that is none for the converter."""
+    for name, text, what in (
+        (
+            "another document type",
+            '{"documentInfo":{"documentType":"https://xbrl.org/2021/xbrl-json"}}',
+            "is no xBRL-CSV metadata file: its document type is 'https://xbrl.org/2021/xbrl-json'",
+        ),
+        ("no document type", '{"documentInfo":{}}', "is no xBRL-CSV metadata file: it has no 'documentInfo.documentType'"),
+        ("no documentInfo", "{}", "is no xBRL-CSV metadata file: it has no 'documentInfo.documentType'"),
+        ("a list", "[]", "is no xBRL-CSV metadata file: it has no 'documentInfo.documentType'"),
+        ("nothing", "", "is not JSON: Expecting value (line 1, column 1)"),
+        ("NaN", '{"a":NaN}', "is not JSON: NaN is no number of JSON"),
+        ("Infinity", '{"a":-Infinity}', "is not JSON: -Infinity is no number of JSON"),
+        ("a number past a double", '{"a":1e999}', "is not JSON: the number 1e999 is too large"),
+        ("a whole number past a double", '{"a":1' + "0" * 400 + "}", "is not JSON: the number 10000000000000000000 is too large"),
+        ("half of a pair", r'{"a":"\ud800"}', "is not JSON: it has half of a surrogate pair"),
+        ("half of a pair as a name", r'{"\uDC00":1}', "is not JSON: it has half of a surrogate pair"),
+        ("no UTF-8", b'{"a":"\xff"}', "is not UTF-8 (byte 6)"),
+        ("two marks", b"\xef\xbb\xbf\xef\xbb\xbf{}", "is not JSON: it begins with two byte-order marks"),
+        ("UTF-16", "{}".encode("utf-16"), "is not UTF-8 (byte 0)"),
+        ("128 levels", '{"a":' + "[" * 127 + "]" * 127 + "}", "is nested more than 127 levels deep"),
+        ("100,000 levels", "[" * 100_000 + "]" * 100_000, "is nested more than 127 levels deep"),
+        ("a line feed in a text", '{"a":"\n"}', "is not JSON: Invalid control character at (line 1, column 7)"),
+        ("a comma too many", '{"a":1,}', None),
+    ):
+        seen = prepared(folder, taxonomies=[{**TAXONOMY, "reg/mod.json": text}])
+        wanted = (1, f"xbrl-filing: t0/reg/mod.json: {what}\n") if what else (1, seen[1])
+        case(f"a module that is {name}", seen[:2], wanted)
+        case(f"a module that is {name}: one line", (seen[1].count("\n"), seen[1].startswith("xbrl-filing: t0/reg/mod.json: is ")), (1, True))
+    edge = json.loads(MODULE)
+    edge["x:y"] = json.loads("[" * 126 + "]" * 126)
+    pair = json.dumps({**edge, "parameters": {"p": "\U0001f600"}})
+    made = makes(folder, "127 levels, and a whole pair", parts={"parameters/p": "\U0001f600"}, taxonomies=[{**TAXONOMY, "reg/mod.json": pair}])
+    case("texts are written as UTF-8", "\U0001f600".encode() in made["meta.json"], True)
+    made = makes(
+        folder,
+        "numbers stay what they are",
+        taxonomies=[
+            {**TAXONOMY, "reg/mod.json": MODULE.replace('"tables"', '"decimals": -0, "parameters": {"a": 12345678901234567890123, "b": 1.0}, "tables"')}
+        ],
+    )
+    case("numbers as they are written", (b'"decimals":-0.0' in made["meta.json"], b'"a":12345678901234567890123,"b":1.0' in made["meta.json"]), (True, True))
+
+
+def final_parts(folder):
+    """What a file declares final: files that extend it add nothing to it."""
+    top, low = "r/reports/report.json", "t0/reg/mod.json"
+    values = {
+        "tables": ({"t": {"url": "t.csv", "template": "t"}}, {"u": {"url": "u.csv", "template": "t"}}, "u"),
+        "tableTemplates": ({"t": TEMPLATE}, {"u": TEMPLATE}, "u"),
+        "dimensions": ({"entity": "eg:A"}, {"period": "2025"}, "period"),
+        "parameters": ({"a": "1"}, {"b": "1"}, "b"),
+    }
+
+    def chain(part, above, below, final, info=None):
+        """A report over a middle file over a module, which declares the part final."""
+        files = {
+            "reg/middle.json": meta({"extends": ["mod.json"]}),
+            "reg/mod.json": meta({**INFO, "final": final, "extends": ["low.json"]}, **({part: below} if below is not None else {})),
+            "reg/low.json": meta(**({part: above} if part == "low" else {})),
+        }
+        report = {**REPORT, "reports/report.json": meta({"extends": [HOST + "middle.json"], **(info or {})}, **({part: above} if above is not None else {}))}
+        return {"report": report, "taxonomies": [{**TAXONOMY, **files}]}
+
+    for part, (below, other, key) in values.items():
+        line = f"{top}: adds '{key}' to '{part}', which is final in {low}"
+        stops(folder, f"final {part}, and a key more", line, **chain(part, other, below, {part: True}))
+        makes(folder, f"final {part}, and the same key", **chain(part, below, below, {part: True}), parts={"documentInfo/documentType": CSV})
+        makes(folder, f"{part} that is not final", **chain(part, other, below, {part: False}), parts={"documentInfo/documentType": CSV})
+    for part, value in (("decimals", 3), ("parameterURL", "p.csv")):
+        line = f"{top}: adds '{value if part == 'parameterURL' else 'decimals'}' to '{part}', which is final in {low}"
+        stops(folder, f"final {part} that is not given", line, **chain(part, value, None, {part: True}))
+    makes(folder, "final decimals that are given", **chain("decimals", 3, 3, {"decimals": True}), parts={"decimals": 3})
+    line = f"{top}: adds 'x' to 'namespaces', which is final in {low}"
+    stops(folder, "final namespaces", line, **chain("x:y", None, None, {"namespaces": True}, {"namespaces": {"x": "http://x/"}}))
+    line = f"{top}: adds '{HOST}more.xsd' to 'taxonomy', which is final in {low}"
+    stops(folder, "final taxonomy", line, **chain("x:y", None, None, {"taxonomy": True}, {"taxonomy": [HOST + "more.xsd"]}))
+    makes(
+        folder,
+        "final taxonomy, and the same",
+        **chain("x:y", None, None, {"taxonomy": True}, {"taxonomy": [HOST + "mod.xsd"]}),
+        parts={"documentInfo/documentType": CSV},
+    )
+    for part in ("links", "features", "linkTypes", "linkGroups", "later"):
+        makes(folder, f"final {part} says nothing", **chain("x:y", None, None, {part: True}), parts={"documentInfo/final": None})
+    below = {
+        **TAXONOMY,
+        "reg/mod.json": meta({**INFO, "final": {"parameters": True}, "extends": ["low.json"]}, parameters={"a": "1"}),
+        "reg/low.json": meta(parameters={"b": "2"}),
+    }
+    makes(
+        folder,
+        "what a final file itself and those below it have",
+        taxonomies=[below],
+        report={**REPORT, "reports/report.json": meta({"extends": [HOST + "mod.json"]}, parameters={"b": "2"})},
+        parts={"parameters": {"a": "1", "b": "2"}},
+    )
+    beside = {**below, "reg/side.json": meta(parameters={"c": "3"})}
+    makes(
+        folder,
+        "a file beside it adds what it likes",
+        taxonomies=[beside],
+        report={**REPORT, "reports/report.json": meta({"extends": [HOST + "mod.json", HOST + "side.json"]})},
+        parts={"parameters": {"a": "1", "b": "2", "c": "3"}},
+    )
+    stops(folder, "final that is no truth", f"{low}: 'documentInfo.final.tables' is neither true nor false", **chain("x:y", None, None, {"tables": "yes"}))
+
+
+def two_prefixes(**parts):
+    """A taxonomy whose module has the prefixes `m` and `g`, where the report has `n` and `eg`."""
+    return {**TAXONOMY, "reg/mod.json": meta({"namespaces": {"m": "http://mem/", "g": EG}, "taxonomy": ["mod.xsd"]}, **parts)}
+
+
+def named_report(**parts):
+    info = {"extends": [HOST + "mod.json"], "namespaces": {"eg": EG, "n": "http://mem/"}}
+    return {**REPORT, "reports/report.json": meta(info, **parts)}
+
+
+def prefixes(folder):
+    """Two prefixes of one namespace: the first stands, and the other is replaced wherever it is a prefix."""
+    mem = "http://mem/"
+    shown = {
+        "dimensions": {
+            "concept": "eg:Cash",
+            "unit": "(m:a*eg:b)/m:c",
+            "entity": "m:a:m:b",
+            "eg:Region": "m:x",
+            "eg:Branch": "m:x",
+            "period": "m:x",
+            "language": "m:x",
+        },
+        "decimals": "$m",
+    }
+    special = {"concept": "$m", "unit": "$m", "entity": "#none", "eg:Region": "$m", "eg:Branch": "$$m:x"}
+    template = {
+        "rowIdColumn": "m",
+        "dimensions": {"g:Region": "m:x", "g:Branch": "m:x"},
+        "columns": {"m": {}, "g": {"propertyGroups": {"m:x": shown, "s": {"dimensions": special}}}, "f": {**shown, "propertiesFrom": ["g"]}},
+    }
+    module = two_prefixes(tableTemplates={"t": template}, tables={"t": {"url": "t.csv"}}, dimensions={"g:Region": "m:x", "g:Branch": "m:x"})
+    report = named_report(dimensions={"eg:Region": "n:x"})
+    replaced = {
+        "dimensions": {
+            "concept": "eg:Cash",
+            "unit": "(n:a*eg:b)/n:c",
+            "entity": "n:a:m:b",
+            "eg:Region": "n:x",
+            "eg:Branch": "m:x",
+            "period": "m:x",
+            "language": "m:x",
+        },
+        "decimals": "$m",
+    }
+    wanted = {
+        "rowIdColumn": "m",
+        "dimensions": {"eg:Region": "n:x", "eg:Branch": "m:x"},
+        "columns": {"m": {}, "g": {"propertyGroups": {"m:x": replaced, "s": {"dimensions": special}}}, "f": {**replaced, "propertiesFrom": ["g"]}},
+    }
+    parts = {"documentInfo/namespaces": {"eg": EG, "n": mem}, "tableTemplates/t": wanted, "dimensions": {"eg:Region": "n:x", "eg:Branch": "m:x"}}
+    made = makes(folder, "a prefix is replaced", None, TYPES, report=report, taxonomies=[module])
+    value = json.loads(made["meta.json"])
+    case("in all its places and in no others", {it: at(value, it) for it in parts}, parts)
+    for unit, wanted_unit in (("m:a/m:b", "n:a/n:b"), ("m:a*m:b*eg:m", "n:a*n:b*eg:m"), ("((m:a))", "((n:a))"), ("mm:a", "mm:a"), ("eg:m", "eg:m")):
+        one = two_prefixes(dimensions={"unit": unit})
+        makes(folder, f"the unit {unit}", parts={"dimensions/unit": wanted_unit}, report=report, taxonomies=[one])
+
+
+def keys_that_become_one(folder):
+    """Keys and templates that are one once a prefix is replaced, and prefixes that are left."""
+    mem, report = "http://mem/", named_report(dimensions={"eg:Region": "n:x"})
+    two_values = two_prefixes(dimensions={"g:Region": "m:y"})
+    stops(
+        folder,
+        "two keys that become one",
+        "t0/reg/mod.json: 'dimensions.eg:Region' has another value than in r/reports/report.json",
+        report=report,
+        taxonomies=[two_values],
+    )
+    columns = {"f": {"dimensions": {"g:Region": "m:x", "eg:Region": "n:y"}}}
+    both_keys = two_prefixes(tableTemplates={"t": {"columns": columns}}, tables={"t": {"url": "t.csv"}})
+    line = "t0/reg/mod.json: gives 'eg:Region' two values under two prefixes (template 't', column 'f')"
+    stops(folder, "two keys of a column that become one", line, report=report, taxonomies=[both_keys])
+    same = json.loads(both_keys["reg/mod.json"].replace("n:y", "n:x"))
+    makes(
+        folder,
+        "with one value",
+        parts={"tableTemplates/t/columns/f/dimensions": {"eg:Region": "n:x"}},
+        report=report,
+        taxonomies=[{**both_keys, "reg/mod.json": json.dumps(same)}],
+    )
+    equal = {
+        **TAXONOMY,
+        "reg/mod.json": meta(
+            {"namespaces": {"g": EG}, "taxonomy": ["mod.xsd"]},
+            tableTemplates={"t": {"columns": {"f": {"dimensions": {"concept": "g:Cash"}}}}},
+            tables={"t": {"url": "t.csv"}},
+        ),
+    }
+    again = {
+        **REPORT,
+        "reports/report.json": meta(
+            {"extends": [HOST + "mod.json"], "namespaces": {"eg": EG}}, tableTemplates={"t": {"columns": {"f": {"dimensions": {"concept": "eg:Cash"}}}}}
+        ),
+    }
+    makes(
+        folder, "a template restated with another prefix is equal", parts={"documentInfo/namespaces": {"eg": EG}}, types=TYPES, report=again, taxonomies=[equal]
+    )
+    twice = {**TAXONOMY, "reg/mod.json": meta({"namespaces": {"a": EG, "b": EG}, "taxonomy": ["mod.xsd"]}, dimensions={"a:Region": "b:x"})}
+    makes(
+        folder,
+        "two prefixes in one file are left",
+        parts={"documentInfo/namespaces": {"a": EG, "b": EG, "eg": EG, "n": mem}, "dimensions": {"a:Region": "b:x", "eg:Region": "n:x"}},
+        report=report,
+        taxonomies=[twice],
+    )
+    third = {
+        **TAXONOMY,
+        "reg/mod.json": meta({"namespaces": {"m": mem}, "extends": ["low.json"], "taxonomy": ["mod.xsd"]}),
+        "reg/low.json": meta({"namespaces": {"k": mem}}, dimensions={"entity": "k:1"}),
+    }
+    makes(folder, "three prefixes in three files", parts={"documentInfo/namespaces": {"m": mem}, "dimensions/entity": "m:1"}, taxonomies=[third])
+
+
+def lost_prefixes(folder):
+    """Parameters whose texts need a prefix that the merged metadata does not have."""
+    module = two_prefixes()
+    lost = "r/reports/{}: the parameter '{}' has the prefix 'm', for which 'n' stands ({})"
+    for name, text in (("a", "m:x"), ("b", "eg:y/m:x"), ("c", "(m:x)")):
+        inside = named_report(parameters={name: text})
+        stops(folder, f"a parameter {text}", lost.format("report.json", name, text), report=inside, taxonomies=[module])
+        table = named_report(tables={"t": {"parameters": {name: text}}})
+        stops(folder, f"a table's parameter {text}", lost.format("report.json", name, text), report=table, taxonomies=[module])
+        file = {**named_report(parameterURL="p.csv"), "reports/p.csv": f'\ufeffname,value\nx,n:x\n{name},"{text}"\n'}
+        for form in ("folder", "zip"):
+            line = lost.format("p.csv", name, text)
+            stops(folder, f"a parameter {text} in a file, {form}", line, report=file, taxonomies=[module], form=form)
+    kept = {"a": "n:x", "b": "am:x", "c": "m"}
+    makes(folder, "parameters without it", parts={"parameters": kept}, report=named_report(parameters=kept), taxonomies=[module])
+
+
+def noted(body, attributes=""):
+    return f"<xs:annotation {attributes}><xs:appinfo>{body}</xs:appinfo></xs:annotation>"
+
+
+ONE, LEAF = records("A,text"), {"reg/d/leaf.xsd": schema(item("A"))}
+
+
+def reads(folder, name, files, types):
+    """A case: a taxonomy with these files gives this types table."""
+    makes(folder, name, types=types, taxonomies=[{**TAXONOMY, **files}])
+
+
+def refuses(folder, name, files, line):
+    stops(folder, name, line, taxonomies=[{**TAXONOMY, **files}])
+
+
+def reading_schemas(folder):
+    """Which schemas and linkbases are read, and by which names and prefixes."""
+    one, leaf = ONE, LEAF
+    for name, body in {
+        "an import": include("d/leaf.xsd"),
+        "an import that is indented": include("  d/leaf.xsd\n "),
+        "an include": include("d/leaf.xsd", "include"),
+        "an import by its absolute URL": include(HOST + "d/leaf.xsd"),
+        "an import without a place": '<xs:import namespace="x"/>' + include("d/leaf.xsd"),
+        "the standard's own schemas": include(
+            "http://www.xbrl.org/2003/xbrl-instance-2003-12-31.xsd"
+        ) + include("https://xbrl.org/a.xsd") + include("http://WWW.w3.org:80/a.xsd") + include("d/leaf.xsd"),
+        "a base": noted(loc("leaf.xsd#A", "linkbaseRef"), 'xml:base="d/"'),
+        "two bases": f'<xs:annotation xml:base="x/"><xs:appinfo xml:base="../d/"><a xml:base="y/"/>{loc("leaf.xsd", "roleRef")}</xs:appinfo></xs:annotation>',
+        "a base that has ended": f'<xs:annotation xml:base="x/"/>{include("d/leaf.xsd")}',
+        "a base inside of a type": f'<xs:complexType name="t" xml:base="x/">{noted(loc("../d/leaf.xsd", "roleRef"))}<xs:sequence/></xs:complexType>',
+    }.items():
+        reads(folder, name, {**leaf, "reg/mod.xsd": schema(body)}, one)
+    reads(folder, "the base of a schema", {**leaf, "reg/mod.xsd": schema(include("leaf.xsd"), attributes=f'xml:base="{HOST}d/"')}, one)
+
+
+def reading_linkbases(folder):
+    """What linkbases lead to, which of them are read, and their bases."""
+    one, leaf = ONE, LEAF
+    for kind in ("loc", "linkbaseRef", "roleRef", "arcroleRef"):
+        links = {**leaf, "reg/mod.xsd": schema(f"<xs:annotation><xs:appinfo>{loc('l.xml', 'linkbaseRef')}</xs:appinfo></xs:annotation>")}
+        reads(folder, f"a {kind} of a linkbase", {**links, "reg/l.xml": linkbase(f"<a><b>{loc('d/leaf.xsd#A', kind)}</b></a>")}, one)
+        reads(
+            folder,
+            f"a {kind} of a schema",
+            {**leaf, "reg/mod.xsd": schema(f"<xs:annotation><xs:appinfo>{loc('d/leaf.xsd#A', kind)}</xs:appinfo></xs:annotation>")},
+            one,
+        )
+        refuses(
+            folder,
+            f"a {kind} that leads nowhere",
+            {**links, "reg/l.xml": linkbase("\n" + loc("none.xsd#A", kind))},
+            f"t0/reg/l.xml: no package has {HOST}none.xsd ({kind}, line 2)",
+        )
+        reads(
+            folder,
+            f"a {kind} of another namespace",
+            {**links, "reg/l.xml": linkbase(f'<x:{kind} xmlns:x="http://x/" xlink:href="none.xsd"/>' + loc("d/leaf.xsd"))},
+            one,
+        )
+    entry = {"reg/mod.xsd": linkbase(loc("d/leaf.xsd#A"))}
+    reads(folder, "an entry point that is a linkbase", {**leaf, **entry}, one)
+    inner = {
+        **leaf,
+        "reg/mod.xsd": linkbase(
+            f'<a xml:base="x/">{loc("../d/leaf.xsd")}<b xml:base="../d/"><c/>{loc("two.xsd")}</b>{loc("../d/three.xsd")}</a>{loc("d/four.xsd")}'
+        ),
+    }
+    inner.update({f"reg/d/{it}.xsd": schema(item(it)) for it in ("two", "three", "four")})
+    reads(folder, "bases of a linkbase", inner, records("A,text", "four,text", "three,text", "two,text"))
+    twice = {
+        **leaf,
+        "reg/e/leaf.xsd": schema(item("B")),
+        "reg/mod.xsd": linkbase(f'<a xml:base="d/">{loc("leaf.xsd")}</a><a xml:base="e/">{loc("leaf.xsd")}</a>'),
+    }
+    reads(folder, "one reference under two bases", twice, records("A,text", "B,text"))
+    reads(
+        folder,
+        "the base of a whole linkbase",
+        {**leaf, "reg/mod.xsd": linkbase(f'<a xml:base="x/">{loc("../leaf.xsd")}</a>{loc("leaf.xsd")}', 'xml:base="d/"')},
+        one,
+    )
+    for kind in ("label", "reference"):
+        role = f'<link:linkbaseRef xlink:href="none.xml" xlink:role="http://www.xbrl.org/2003/role/{kind}LinkbaseRef"/>'
+        reads(folder, f"{kind} linkbases are passed over", {"reg/mod.xsd": schema(role + item("A"))}, one)
+    role = '<link:linkbaseRef xlink:href="none.xml" xlink:role="http://www.xbrl.org/2003/role/presentationLinkbaseRef"/>'
+    refuses(folder, "presentation linkbases are not", {"reg/mod.xsd": schema(role)}, f"t0/reg/mod.xsd: no package has {HOST}none.xml (linkbaseRef, line 1)")
+
+
+def reading_once(folder):
+    """Rings, schemas by two URLs, and schemas that no package has."""
+    one, leaf = ONE, LEAF
+    reads(
+        folder,
+        "imports in a ring, each file once",
+        {"reg/mod.xsd": schema(include("d/leaf.xsd") + item("B")), "reg/d/leaf.xsd": schema(include("../mod.xsd") + include("leaf.xsd#x") + item("A"))},
+        records("A,text", "B,text"),
+    )
+    two = {
+        "reg/mod.xsd": schema(include("a.xsd") + include("b.xsd")),
+        "reg/a.xsd": schema(item("A", "xbrli:dateItemType")),
+        "reg/b.xsd": schema(item("A") + item("B")),
+    }
+    reads(folder, "two declarations of one name", two, records("A,date", "B,text"))
+    reads(
+        folder,
+        "one schema by two URLs",
+        {
+            **leaf,
+            "reg/mod.xsd": schema(include("d/leaf.xsd") + include("https://reg.example/d/leaf.xsd")),
+            "META-INF/catalog.xml": catalog(rewrite() + rewrite("https://reg.example/")),
+        },
+        one,
+    )
+    refuses(
+        folder,
+        "an import that no package has",
+        {"reg/mod.xsd": schema("\n" + include("http://far.example/x.xsd#a"))},
+        "t0/reg/mod.xsd: no package has http://far.example/x.xsd (import, line 2)",
+    )
+    refuses(
+        folder,
+        "an import of a file",
+        {"reg/mod.xsd": schema(include("file:///etc/passwd"))},
+        "t0/reg/mod.xsd: no package has file:///etc/passwd (import, line 1)",
+    )
+    stops(
+        folder,
+        "an entry point that no package has",
+        f"t0/reg/mod.json: no package has {HOST}none.xsd (taxonomy)",
+        taxonomies=[{**TAXONOMY, "reg/mod.json": meta({**INFO, "taxonomy": ["none.xsd"]})}],
+    )
+    own = {
+        **TAXONOMY,
+        "META-INF/catalog.xml": catalog(rewrite() + rewrite("http://www.xbrl.org/", "../xbrl/")),
+        "xbrl/own.xsd": schema(item("A")),
+        "reg/mod.xsd": schema(include("http://www.xbrl.org/own.xsd")),
+    }
+    makes(folder, "the standard's own schemas where a package has them", types=one, taxonomies=[own])
+
+
+def including(folder):
+    """A schema without a namespace takes that of the schema that includes it, for its names and for unprefixed ones."""
+    plain = schema(
+        '<xs:complexType name="T"><xs:simpleContent><xs:restriction base="xbrli:dateItemType"/></xs:simpleContent></xs:complexType>' + item("A", "T"), ""
+    )
+    two = {
+        "reg/mod.xsd": schema(include("plain.xsd", "include") + include("two.xsd")),
+        "reg/two.xsd": schema(include("plain.xsd", "include") + item("B"), "http://two/"),
+        "reg/plain.xsd": plain,
+    }
+    both = {**two, "reg/mod.json": meta({**INFO, "namespaces": {"eg": EG, "two": "http://two/"}})}
+    reads(folder, "an included schema without a namespace", two, records("A,date"))
+    reads(folder, "included by two", both, records("A,date") + "http://two/,A,date\nhttp://two/,B,text\n")
+    reads(
+        folder, "included through another", {**two, "reg/plain.xsd": schema(include("q/inner.xsd", "include"), ""), "reg/q/inner.xsd": plain}, records("A,date")
+    )
+    ring = {"reg/mod.xsd": schema(include("plain.xsd", "include")), "reg/plain.xsd": schema(include("plain.xsd", "include") + item("A"), "")}
+    reads(folder, "included in a ring", ring, records("A,text"))
+    reads(folder, "imported only, it has no namespace", {"reg/mod.xsd": schema(include("plain.xsd")), "reg/plain.xsd": plain}, "namespace,name,type2\n")
+    for kind in ("redefine", "override"):
+        refuses(
+            folder, f"a {kind}", {"reg/mod.xsd": schema("\n" + include("d/leaf.xsd", kind))}, f"t0/reg/mod.xsd: has a '{kind}', which is not taken (line 2)"
+        )
+
+
+def names_in_schemas(folder):
+    """Prefixes are those in scope where the name stands; only global elements count."""
+    inside = f'<xs:element xmlns:i="{XBRLI}" name="A" type="i:dateItemType" substitutionGroup="i:item"/>'
+    inside += f'<xs:element xmlns:i="{XBRLI}/other" name="B" type="i:dateItemType" substitutionGroup="i:item"/>'
+    reads(folder, "prefixes declared on an element", {"reg/mod.xsd": schema(inside)}, records("A,date"))
+    same = 'type="xbrli:dateItemType" substitutionGroup="i:item"/>'
+    anew = f'<xs:element name="A" {same}<xs:element xmlns:xbrli="http://x/" name="B" {same}<xs:element name="C" {same}'
+    files = {"reg/mod.xsd": schema(anew, attributes=f'xmlns:i="{XBRLI}"')}
+    reads(folder, "a prefix declared anew", files, records("A,date", "C,date"))
+    default = f'<xs:element xmlns="{XBRLI}" name="A" type="dateItemType" substitutionGroup="item"/>'
+    default += f'<xs:element xmlns="{XBRLI}" xmlns:xbrli="http://x/" name="B" type=" dateItemType " substitutionGroup=" item "/>'
+    reads(folder, "the default namespace", {"reg/mod.xsd": schema(default)}, records("A,date", "B,date"))
+    plain = '<element name="A" type="i:dateItemType" substitutionGroup="i:item"/>'
+    reads(
+        folder,
+        "the default namespace of a schema",
+        {"reg/mod.xsd": f'<schema xmlns="{XS}" xmlns:i="{XBRLI}" targetNamespace="{EG}">{plain}</schema>'},
+        records("A,date"),
+    )
+    refuses(
+        folder,
+        "a prefix that is not declared",
+        {"reg/mod.xsd": schema('<xs:element name="A" type="no:x"/>')},
+        "t0/reg/mod.xsd: has the name 'no:x', whose prefix is not declared (line 1)",
+    )
+    refuses(folder, "a name that is none", {"reg/mod.xsd": schema('<xs:element name="a b"/>')}, "t0/reg/mod.xsd: declares 'a b', which is no name (line 1)")
+    local = f'<xs:complexType name="T"><xs:sequence>{item("A", "xbrli:dateItemType")}</xs:sequence></xs:complexType>' + item("B")
+    reads(folder, "elements inside of a type are not global", {"reg/mod.xsd": schema(local)}, records("B,text"))
+
+
+def encodings(folder):
+    """Schemas in any encoding, and those that are refused."""
+    umlaut = schema(item("Größe"))
+    for encoding in ("utf-8", "utf-16", "iso-8859-1", "windows-1252", "iso-8859-15", "utf-32", "cp037", "utf-16-le"):
+        head = f'<?xml version="1.0" encoding="{encoding.replace("utf-16-le", "utf-16")}"?>'
+        text = (b"\xff\xfe" if encoding == "utf-16-le" else b"") + (head + umlaut).encode(encoding)
+        reads(folder, f"a schema in {encoding}", {"reg/mod.xsd": text}, records("Größe,text"))
+    for encoding, name in (("shift_jis", "大きさ"), ("gb18030", "尺寸"), ("euc-kr", "크기")):
+        reads(
+            folder,
+            f"a schema in {encoding}",
+            {"reg/mod.xsd": (f"<?xml version='1.0' encoding='{encoding}' ?>" + schema(item(name))).encode(encoding)},
+            records(f"{name},text"),
+        )
+    reads(folder, "a schema with a byte-order mark", {"reg/mod.xsd": b"\xef\xbb\xbf" + umlaut.encode()}, records("Größe,text"))
+    for name, text, what in (
+        ("a document type", "<!DOCTYPE x>" + schema(), "has a document type, which is refused (line 1)"),
+        ("an entity", '<?xml version="1.0"?>\n<!DOCTYPE x [<!ENTITY a "b">]>' + schema("&a;"), "has a document type, which is refused (line 2)"),
+        ("an outer entity", '<!DOCTYPE x SYSTEM "file:///etc/passwd">' + schema(), "has a document type, which is refused (line 1)"),
+        ("an entity that is not declared", schema("&a;"), "is not well-formed XML: undefined entity (line 1)"),
+        ("no end", schema()[:-3], "is not well-formed XML: unclosed token (line 1)"),
+        ("nothing", "", "is not well-formed XML: no element found (line 1)"),
+        ("two roots", schema() + "<a/>", "is not well-formed XML: junk after document element (line 1)"),
+        ("a prefix without a namespace", "<a:b/>", "is not well-formed XML: unbound prefix (line 1)"),
+        ("bytes of another encoding", b'<?xml version="1.0"?>\n<a b="\xff"/>', "is not well-formed XML: not well-formed (invalid token) (line 2)"),
+        ("half a letter of shift_jis", b'<?xml version="1.0" encoding="shift_jis"?><a b="\x81\xff"/>', "is not in its encoding, shift_jis (line 1)"),
+        ("an encoding that is not known", '<?xml version="1.0" encoding="klingon"?><a/>', "is in an encoding that is not known: klingon"),
+        ("an encoding that is none", '<?xml version="1.0" encoding="rot13"?><a/>', "is in an encoding that is not known: rot13"),
+        ("another document", "<html/>", "is neither a schema nor a linkbase: its root is 'html'"),
+        ("a locator alone", '<link:loc xmlns:link="http://www.xbrl.org/2003/linkbase"/>', "is neither a schema nor a linkbase: its root is 'loc'"),
+    ):
+        refuses(folder, f"a schema with {name}", {"reg/mod.xsd": text}, f"t0/reg/mod.xsd: {what}")
+
+
+ITEM_TYPES = {
+    "decimal": "decimal monetary shares pure",
+    "integer": "integer nonPositiveInteger negativeInteger nonNegativeInteger positiveInteger long int short byte"
+    " unsignedLong unsignedInt unsignedShort unsignedByte",
+    "double": "float double",
+    "text": "string normalizedString token",
+    "boolean": "boolean",
+    "date": "date",
+    "qname": "QName",
+    "other": "language Name NCName anyURI hexBinary base64Binary duration dateTime time gYear gYearMonth gMonth gMonthDay gDay",
+}
+DTR = "http://www.xbrl.org/dtr/type/"
+KNOWN = [
+    ("other", DTR + "non-numeric", "domain noLangString noLangToken"),
+    ("other", DTR + "2020-01-21", "domain noLangString noLangToken"),
+    ("text", DTR + "non-numeric", "textBlock escaped xml xmlNodes"),
+    ("text", DTR + "2022-03-31", "textBlock"),
+    ("decimal", DTR + "numeric", "percent perShare area mass anythingAtAll"),
+    ("decimal", DTR + "2022-03-31", "percent perShare area volume mass energy power length memory noDecimalsMonetary ghgEmissions monetaryPerArea"),
+    ("qname", "http://xbrl.org/2014/extensible-enumerations", "enumeration"),
+    ("qname", "http://xbrl.org/PWD/2016-10-12/extensible-enumerations-1.1", "enumeration"),
+    ("qname", "http://xbrl.org/2020/extensible-enumerations-2.0", "enumeration"),
+    ("other", "http://xbrl.org/PWD/2016-10-12/extensible-enumerations-1.1", "enumerations"),
+    ("other", "http://xbrl.org/2020/extensible-enumerations-2.0", "enumerationSet"),
+]
+
+
+def derived(name, base, how="restriction", content="simpleContent"):
+    """A type that is derived from another."""
+    attribute = '<xs:attribute name="a"><xs:simpleType><xs:restriction base="xs:string"/></xs:simpleType></xs:attribute>'
+    return f'<xs:complexType name="{name}"><xs:{content}><xs:{how} base="{base}">{attribute}</xs:{how}></xs:{content}></xs:complexType>'
+
+
+def headed(*names, more=""):
+    """Elements of a substitution group, each given as `NAME HEAD`."""
+    return "".join('<xs:element name="{}" substitutionGroup="{}" {}/>'.format(*it.split(), more) for it in names)
+
+
+def kinds_are(folder, name, body, *lines, **files):
+    """A case: a schema with these elements gives these records."""
+    taxonomy = {**TAXONOMY, "reg/mod.json": meta(INFO), "reg/mod.xsd": schema(body), **files}
+    makes(folder, name, types=records(*sorted(lines)), taxonomies=[taxonomy])
+
+
+def kinds(folder):
+    """What each element is: every base type, directly and behind four derivations, and what no fact can have."""
+    types = [(name, word) for word, names in ITEM_TYPES.items() for name in names.split()]
+    kinds_are(folder, "each base type", "".join(item(f"I_{it}", f"xbrli:{it}ItemType") for it, _ in types), *(f"I_{it},{word}" for it, word in types))
+    ways = [("restriction", "simpleContent"), ("extension", "simpleContent"), ("restriction", "complexContent"), ("extension", "complexContent")]
+    body = ""
+    for name, _ in types:
+        base = f"xbrli:{name}ItemType"
+        for step, (how, content) in enumerate(ways):
+            body += derived(f"T{step}_{name}", base, how, content)
+            base = f"eg:T{step}_{name}"
+        body += item(f"I_{name}", base)
+    kinds_are(folder, "each base type behind four derivations", body, *(f"I_{it},{word}" for it, word in types))
+    for word, namespace, names in KNOWN:
+        body = "".join(f'<xs:element xmlns:k="{namespace}" name="I_{it}" type="k:{it}ItemType" substitutionGroup="xbrli:item"/>' for it in names.split())
+        kinds_are(folder, f"{word} of {namespace}", body, *(f"I_{it},{word}" for it in names.split()))
+    own = {"reg/dtr.xsd": schema(derived("percentItemType", "xbrli:stringItemType") + derived("newItemType", "xbrli:dateItemType"), DTR + "2030-01-01")}
+    seen = f'<xs:element xmlns:k="{DTR}2030-01-01" name="{{}}" type="k:{{}}ItemType" substitutionGroup="xbrli:item"/>'
+    kinds_are(
+        folder,
+        "a registry type is known whatever a copy says, and others are followed",
+        include("dtr.xsd") + seen.format("P", "percent") + seen.format("N", "new") + seen.format("X", "none"),
+        "P,decimal",
+        "N,date",
+        **own,
+    )
+    other = f'<xs:element xmlns:k="{DTR[:-1]}s/2022" name="A" type="k:percentItemType" substitutionGroup="xbrli:item"/>' + item("B")
+    kinds_are(folder, "another namespace is not the registry's", other, "B,text")
+    kinds_are(
+        folder,
+        "a copy of the instance schema does not count",
+        item("A", "xbrli:dateItemType") + include("x.xsd"),
+        "A,date",
+        **{"reg/x.xsd": schema(derived("dateItemType", "xbrli:stringItemType"), XBRLI)},
+    )
+
+
+DIMENSIONS = ("X,explicit", "Y,explicit", "Z,explicit", "T,typed", "U,typed")
+
+
+def kinds_of_elements(folder):
+    """Types inside of an element, the type of its head, abstract items and dimensions."""
+    inner = '<xs:complexType><xs:simpleContent><xs:{} base="{}"><xs:enumeration value="a"/></xs:{}></xs:simpleContent></xs:complexType>'
+    inline = '<xs:element name="{}" substitutionGroup="xbrli:item">' + inner + "</xs:element>"
+    kinds_are(
+        folder,
+        "a type inside of the element",
+        inline.format(
+            "A", "restriction", "xbrli:dateItemType", "restriction"
+        ) + inline.format("B", "extension", "eg:T", "extension") + derived("T", "xbrli:booleanItemType"),
+        "A,date",
+        "B,boolean",
+    )
+    simple = '<xs:simpleType name="S"><xs:restriction base="xs:string"/></xs:simpleType>' + item("A", "eg:S") + item("B")
+    kinds_are(folder, "a simple type is no item type", simple, "B,text")
+    simple = '<xs:simpleType><xs:restriction base="xbrli:stringItemType"/></xs:simpleType>'
+    restricted = f'<xs:simpleContent><xs:restriction base="xbrli:dateItemType">{simple}</xs:restriction></xs:simpleContent>'
+    deep = f'<xs:complexType name="T">{restricted}</xs:complexType>' + item("A", "eg:T")
+    kinds_are(folder, "the first derivation counts", deep, "A,date")
+    content = '<xs:complexType><xs:simpleContent><xs:restriction base="xbrli:dateItemType"/></xs:simpleContent></xs:complexType>'
+    within = f'<xs:complexType name="T"><xs:sequence><xs:element name="x">{content}</xs:element></xs:sequence></xs:complexType>'
+    kinds_are(folder, "derivations of elements inside of a type do not count", within + item("A", "eg:T") + item("B"), "B,text")
+    chain = item("H", "xbrli:dateItemType", 'abstract="true"') + headed("A eg:H", "B eg:A") + headed("D eg:C")
+    chain += headed("C eg:B", more='type="xbrli:booleanItemType"')
+    kinds_are(folder, "the type of the head", chain, "A,date", "B,date", "C,boolean", "D,boolean")
+    kinds_are(
+        folder,
+        "abstract items",
+        item("A", more='abstract="true"') + item("B", more='abstract=" 1 "') + item("C", more='abstract="false"') + item("D", more='abstract="0"'),
+        "C,text",
+        "D,text",
+    )
+    typed = 'xbrldt:typedDomainRef="#x"'
+    dims = headed("X xbrldt:dimensionItem", more='abstract="true"') + headed("Y eg:X", "Z eg:T")
+    dims += headed("T xbrldt:dimensionItem", "U eg:X", more=typed)
+    heads = "".join(
+        f'<xs:element name="{it}Item" type="xbrli:stringItemType" substitutionGroup="xbrli:item" abstract="true"/>' for it in ("dimension", "hypercube")
+    )
+    copy = {"reg/d.xsd": schema(heads, "http://xbrl.org/2005/xbrldt")}
+    kinds_are(folder, "a copy of the schema of dimensions does not count", include("d.xsd") + dims + headed("H xbrldt:hypercubeItem"), *DIMENSIONS, **copy)
+    ring = schema(f'<xs:element name="item" substitutionGroup="xbrli:other"/><xs:element name="other" substitutionGroup="xbrli:item"/>', XBRLI)
+    kinds_are(folder, "a ring above the head of all items", include("i.xsd") + headed("A xbrli:item") + item("B"), "B,text", **{"reg/i.xsd": ring})
+    kinds_are(folder, "dimensions, by their own attribute", dims, *DIMENSIONS)
+    kinds_are(folder, "a typed reference without its namespace", headed("X xbrldt:dimensionItem", more='typedDomainRef="#x"'), "X,explicit")
+
+
+def what_no_fact_can_have(folder):
+    """Elements that are not in the types table, and the concepts among them that the metadata must not name."""
+    nothing = headed("A xbrldt:hypercubeItem", "B eg:A") + '<xs:element name="C" type="xs:string"/>'
+    nothing += headed("D eg:None", more='type="xbrli:dateItemType"')
+    ring = headed("E eg:F", "F eg:E", "M eg:M") + derived("G", "eg:I") + derived("I", "eg:G") + item("J", "eg:G") + item("P", "eg:I") + item("L", "eg:L")
+    unknown = item("K", "xs:date") + headed("N xbrli:item") + item("O", "xbrli:noneItemType")
+    dead = item("F1", "xbrli:fractionItemType") + headed("T1 xbrli:tuple", "T2 eg:T1")
+    dead += derived("FT", "xbrli:fractionItemType", content="complexContent") + item("F2", "eg:FT")
+    kinds_are(folder, "what no fact can have", nothing + ring + unknown + dead + item("Z"), "Z,text")
+    reasons = {
+        "T1": "is a tuple, which no table can have",
+        "T2": "is a tuple, which no table can have",
+        "F1": "is a fraction, which xBRL-JSON cannot have",
+        "F2": "is a fraction, which xBRL-JSON cannot have",
+        "J": "has a type that leads to none that is known",
+        "K": "has a type that leads to none that is known",
+        "N": "has a type that leads to none that is known",
+        "O": "has a type that leads to none that is known",
+    }
+    levels = {
+        "dimensions.concept": {"dimensions": {"concept": "eg:NAME"}},
+        "tableTemplates.t.dimensions.concept": {"tableTemplates": {"t": {"columns": {}, "dimensions": {"concept": "eg:NAME"}}}},
+        "tableTemplates.t.columns.c.dimensions.concept": {"tableTemplates": {"t": {"columns": {"c": {"dimensions": {"concept": "eg:NAME"}}}}}},
+        "tableTemplates.t.columns.c.propertyGroups.g.dimensions.concept": {
+            "tableTemplates": {"t": {"columns": {"c": {"propertyGroups": {"g": {"dimensions": {"concept": "eg:NAME"}}}}}}}
+        },
+    }
+    for where, parts in levels.items():
+        for name, reason in reasons.items():
+            named = json.loads(json.dumps(parts).replace("NAME", name))
+            module = meta(INFO, tables={"t": {"url": "t.csv"}}, **named)
+            line = f"t0/reg/mod.json: names the concept 'eg:{name}', which {reason} ({where})"
+            stops(folder, f"{name} at {where}", line, taxonomies=[{**TAXONOMY, "reg/mod.json": module, "reg/mod.xsd": schema(nothing + ring + unknown + dead)}])
+    for name in ("A", "B", "C", "D", "E", "M", "nowhere"):
+        made = prepared(
+            folder, taxonomies=[{**TAXONOMY, "reg/mod.json": meta(INFO, dimensions={"concept": f"eg:{name}"}), "reg/mod.xsd": schema(nothing + ring)}]
+        )
+        case(f"{name} is left to the converter", made[:2], (0, ""))
+
+
+def types_tables(folder):
+    """The order and the quotes of a types table, and 20,000 concepts."""
+    quoting = {
+        **TAXONOMY,
+        "reg/mod.json": meta({**INFO, "namespaces": {"a": 'http://a,b"c/', "e": "http://e", "d": "http://d", "f": "http://f,g"}}),
+        "reg/mod.xsd": schema(include("q.xsd") + include("d.xsd") + include("e.xsd") + include("f.xsd") + item("A")),
+    }
+    quoting.update(
+        {
+            "reg/q.xsd": schema(item("A"), "http://a,b&quot;c/"),
+            "reg/d.xsd": schema(item("Z") + item("a") + item("É"), "http://d"),
+            "reg/e.xsd": schema(item("A"), "http://e"),
+            "reg/f.xsd": schema(item("A"), "http://f,g"),
+        }
+    )
+    makes(
+        folder,
+        "namespaces of the metadata alone, in byte order and quoted",
+        types='namespace,name,type2\n"http://a,b""c/",A,text\nhttp://d,Z,text\nhttp://d,a,text\nhttp://d,É,text\nhttp://e,A,text\n"http://f,g",A,text\n',
+        taxonomies=[quoting],
+    )
+    begun = time.monotonic()
+    elements = "".join(item(f"C{it:05}", "eg:T", 'id="x" nillable="true"') for it in range(20_000)) + derived("T", "xbrli:monetaryItemType")
+    kinds_are(folder, "20,000 concepts", elements, *(f"C{it:05},decimal" for it in range(20_000)))
+    case("20,000 concepts take seconds", time.monotonic() - begun < 20, True)
+
+
+def entry(name, mode=0):
+    """An entry of a ZIP under any name."""
+    made = zipfile.ZipInfo("x", (2025, 1, 1, 0, 0, 0))
+    made.filename = name
+    made.external_attr = mode << 16
+    made.compress_type = zipfile.ZIP_DEFLATED
+    return made
+
+
+def patched(path, changes):
+    """A file in which bytes are replaced by others of the same length, wherever they stand."""
+    data = path.read_bytes()
+    for old, new in changes:
+        assert old in data and len(old) == len(new), old
+        data = data.replace(old, new)
+    path.write_bytes(data)
+
+
+def with_header(path, name, offset_local, offset_central, form, value):
+    """Changes one field of an entry's two headers."""
+    data = bytearray(path.read_bytes())
+    for mark, at_name, offset in ((b"PK\3\4", 30, offset_local), (b"PK\1\2", 46, offset_central)):
+        start = data.find(mark)
+        while data[start + at_name : start + at_name + len(name)] != name.encode():
+            start = data.index(mark, start + 1)
+        struct.pack_into(form, data, start + offset, value)
+    path.write_bytes(bytes(data))
+
+
+GOOD = list({**TAXONOMY, **REPORT}.items())
+
+
+def refused_zip(folder, name, line, entries, change=None, words=()):
+    """Cases: a ZIP with these entries is refused by this line, as a report and as a taxonomy, and nothing is written."""
+    for role in ("report", "taxonomy"):
+        work = folder / "z"
+        shutil.rmtree(work, ignore_errors=True)
+        work.mkdir()
+        pack(work / "good.zip", GOOD)
+        pack(work / "bad.zip", GOOD + entries)
+        if change:
+            change(work / "bad.zip")
+        (work / "doc.json").write_text("as it was")
+        packages = ["bad.zip", "--taxonomy", "good.zip"] if role == "report" else ["good.zip", "--taxonomy", "bad.zip"]
+        before = listing(work)
+        seen = run([*packages, *words, "--out", "doc.json"], work)
+        case(f"{name}, as {role}", seen, (1, f"xbrl-filing: bad.zip: {line}\n"))
+        case(f"{name}, as {role}: nothing is written", listing(work), before)
+        seen = run([*packages, *words, "--prepare", "o"], work)
+        case(f"{name}, as {role}, to prepare", (seen[0], sorted(os.listdir(work))), (1, sorted(before)))
+
+
+HOSTILE_NAMES = {
+    "/etc/x": "has an absolute name",
+    "C:/x": "has a name with a drive letter",
+    "c:x": "has a name with a drive letter",
+    "a\\b": "has a name with a backslash",
+    "../x": "leads outside of the package",
+    "a/../../x": "leads outside of the package",
+    "a/..": "leads outside of the package",
+    "a//b": "has an empty or '.' segment in its name",
+    "a/./b": "has an empty or '.' segment in its name",
+    "./a": "has an empty or '.' segment in its name",
+    "a//": "has an empty or '.' segment in its name",
+    "": "has an empty or '.' segment in its name",
+    "reg/mod.json": "stands twice",
+    "reg/mod.json/": "stands twice",
+}
+
+
+def hostile_zips(folder):
+    """ZIPs that are refused by the name of an entry, used or not."""
+    for name, what in HOSTILE_NAMES.items():
+        refused_zip(folder, f"an entry '{name}'", f"the entry '{name}' {what}", [(entry(name), "x")])
+    line = r"the entry '../\n\x1b[2J\x9b' leads outside of the package"
+    refused_zip(folder, "an entry with control bytes", line, [(entry("../\n\x1b[2J\x9b"), "x")])
+    line = "the entry 'a' stands twice, as a file and as a folder"
+    refused_zip(folder, "a file that is a folder too", line, [(entry("a"), "x"), (entry("a/b/c"), "x")])
+    refused_zip(folder, "a link", "the entry 'a' is a link", [(entry("a", 0o120777), "/etc/passwd")])
+    line = r"the entry 'reg/mod.json\x00X' has a name that is cut short by a zero byte"
+    cut_short = lambda it: patched(it, [(b"mod.jsonQX", b"mod.json\0X")])
+    refused_zip(folder, "a name that is cut short", line, [(entry("reg/mod.jsonQX"), "x")], cut_short)
+    for bit in (0x1, 0x40, 0x2000):
+        encrypted = lambda it: with_header(it, "a", 6, 8, "<H", bit)
+        refused_zip(folder, f"an encrypted entry, bit {bit}", "the entry 'a' is encrypted", [(entry("a"), "x")], encrypted)
+
+
+def bombs(folder):
+    """ZIPs that unpack to too much, as one entry or as all together."""
+    size, many = (16 << 20) + 1, 140 << 17
+    pack(folder / "small.zip", [(entry("a"), b"\0" * size)])
+    with zipfile.ZipFile(folder / "small.zip") as archive:
+        small = archive.getinfo("a").compress_size
+    refused_zip(folder, "a bomb", f"the entry 'a' unpacks to {size} bytes from {small}", [(entry("a"), b"\0" * size)])
+    total = sum(len(text) for _, text in GOOD) + 5001
+    line = f"unpacks to {total} bytes, more than {total - 1} (--unpacked-limit allows more)"
+    entries = [(entry("a"), "x" * 4000), (entry("b"), "x" * 1001)]
+    refused_zip(folder, "more than the limit", line, entries, words=["--unpacked-limit", str(total - 1)])
+    pack(folder / "good.zip", GOOD)
+    pack(folder / "mild.zip", GOOD + [(entry("a"), b"\0" * (16 << 20)), (entry("b"), os.urandom(1 << 17) * (many >> 17))])
+    for limit, status in ((1 << 30, 0), ((16 << 20) + many, 1), ((16 << 20) + many + total, 0)):
+        seen = run(["good.zip", "--taxonomy", "mild.zip", "--unpacked-limit", limit, "--prepare", f"o{limit}"], folder)
+        case(f"what is large and no bomb, limit {limit}", seen[0], status)
+
+
+def packed(path, name, length):
+    """The first bytes of a packed entry, where they stand alone in the file."""
+    data = path.read_bytes()
+    at = data.find(name.encode()) + len(name)
+    return data[at : at + length]
+
+
+def damaged_zips(folder):
+    """ZIPs that are cut, changed or packed in an unknown way: one line, and nothing is made."""
+    name, damaged = "reg/mod.json", "is damaged, or packed in a way that Python does not know ("
+    for what, front, change in (
+        ("cut short", "bad.zip: " + damaged + "File is not a zip file)\n", lambda it: it.write_bytes(it.read_bytes()[:-30])),
+        ("a method that is not known", "", lambda it: with_header(it, name, 8, 10, "<H", 99)),
+        ("a wrong check sum", "", lambda it: with_header(it, name, 14, 16, "<I", 12345)),
+        ("too little declared", "", lambda it: with_header(it, name, 22, 24, "<I", 20)),
+        ("too much declared", "", lambda it: with_header(it, name, 22, 24, "<I", 20_000)),
+        ("a damaged stream", "", lambda it: patched(it, [(packed(it, name, 40), b"\xff" * 40)])),
+        ("another name in the file", "", lambda it: patched(it, [(name.encode() + packed(it, name, 4), b"reg/mud.json" + packed(it, name, 4))])),
+    ):
+        work = folder / what
+        work.mkdir()
+        pack(work / "r.zip", REPORT)
+        pack(work / "bad.zip", TAXONOMY)
+        change(work / "bad.zip")
+        before = listing(work)
+        status, err = run(["r.zip", "--taxonomy", "bad.zip", "--prepare", "o"], work)
+        starts = err.startswith("xbrl-filing: " + (front or f"bad.zip/{name}: {damaged}"))
+        case(f"a ZIP with {what}", (status, err.count("\n"), starts, listing(work) == before), (1, 1, True, True))
+    for method in (zipfile.ZIP_BZIP2, zipfile.ZIP_LZMA):
+        pack(folder / f"{method}.zip", {**REPORT, **TAXONOMY}, method=method)
+        seen = run([f"{method}.zip", "--prepare", f"o{method}"], folder)
+        case(f"packed by method {method}", (seen, listing(folder / f"o{method}")["types.csv"].decode()), ((0, ""), TYPES))
+        data = bytearray((folder / f"{method}.zip").read_bytes())
+        at = data.find(b"reports/report.json") + 19
+        data[at : at + 12] = b"\xff" * 12
+        (folder / f"{method}.zip").write_bytes(data)
+        status, err = run([f"{method}.zip", "--prepare", "never"], folder)
+        starts = err.startswith(f"xbrl-filing: {method}.zip/reports/report.json: is damaged")
+        case(f"damaged, by method {method}", (status, err.count("\n"), starts), (1, 1, True))
+
+
+def damaged_tables(folder):
+    """No table is converted where one of them is damaged, the first or the last."""
+    temporary = folder / "tmp"
+    temporary.mkdir()
+    for table in ("a.csv", "z.csv"):
+        tables = {it: {"url": it + ".csv", "template": "t"} for it in "az"}
+        report = {"reports/report.json": meta(INFO, tableTemplates={"t": TEMPLATE}, tables=tables), "reports/mod.xsd": schema(ELEMENTS)}
+        pack(folder / "r.zip", {**report, "reports/a.csv": "cash\n1\n", "reports/z.csv": "cash\n2\n"})
+        with_header(folder / "r.zip", "reports/" + table, 14, 16, "<I", 12345)
+        seen = start(["r.zip", "--out", "doc.json"], folder, env={"TMPDIR": str(temporary)})
+        line = f"xbrl-filing: r.zip/reports/{table}: is damaged, or packed in a way that Python does not know (Bad CRC-32 for file 'reports/{table}')\n"
+        case(f"a wrong check sum of {table}", (seen, (folder / "doc.json").exists(), os.listdir(temporary)), ((1, b"", line), False, []))
+
+
+def unpacked_packages(folder):
+    """Folders: a link that leads out of one is refused, and one that stays inside is taken."""
+    write(folder / "outside", {"mod.json": MODULE, "secret.csv": "cash\n9\n"})
+    for name, link, target, line in (
+        ("a module", "t0/reg/mod.json", "../../outside/mod.json", "t0/reg/mod.json: is a link that leads outside of t0"),
+        ("a folder", "t0/reg", "../outside", "t0/reg/mod.json: is a link that leads outside of t0"),
+        ("a table", "r/reports/t.csv", "../../outside/secret.csv", "r/reports/t.csv: is a link that leads outside of r"),
+    ):
+        for it in ("r", "t0", "o"):
+            shutil.rmtree(folder / it, ignore_errors=True)
+        write(folder / "r", REPORT)
+        write(folder / "t0", TAXONOMY)
+        place = folder / link
+        shutil.rmtree(place) if place.is_dir() else place.unlink()
+        place.symlink_to(target)
+        case(f"{name} by a link that leads outside", run(["r", "--taxonomy", "t0", "--prepare", "o"], folder), (1, f"xbrl-filing: {line}\n"))
+        case(f"{name} by a link that leads outside: nothing is made", (folder / "o").exists(), False)
+    shutil.rmtree(folder / "r")
+    write(folder / "r", REPORT)
+    write(folder / "t0", TAXONOMY) if (folder / "t0/reg").is_dir() else None
+    (folder / "r/reports/t.csv").rename(folder / "r/real.csv")
+    (folder / "r/reports/t.csv").symlink_to("../real.csv")
+    case("a link that stays inside", (run(["r", "--taxonomy", "t0", "--prepare", "o"], folder), (folder / "o/t.csv").read_text()), ((0, ""), "cash\n1\n"))
+    write(folder, {"alone/m.json": meta(INFO, tables={"t": {"url": "t.csv"}}), "alone/mod.xsd": schema()})
+    (folder / "alone/t.csv").symlink_to("../outside/secret.csv")
+    case(
+        "a table by a link beside a metadata file",
+        (run(["alone/m.json", "--prepare", "o2"], folder), (folder / "o2/t.csv").read_text()),
+        ((0, ""), "cash\n9\n"),
+    )
+
+
+def tables(folder):
+    """Where tables lie, by which names they are prepared, and what is never looked at."""
+    urls = {"a": "sub/a.csv", "b": "meta.json", "c": "types.csv", "d": "meta.json/d.csv", "e": "filed-types.csv", "f": "none.csv"}
+    names = {**urls, "b": "filed-meta.json", "c": "filed-filed-types.csv", "d": "filed-meta.json/d.csv"}
+    for form in ("folder", "zip", "file"):
+        for left_out in ("b", "d"):
+            some = {it: url for it, url in urls.items() if it != left_out}
+            module = meta(
+                INFO,
+                tableTemplates={"t": TEMPLATE},
+                tables={it: {"url": url, "template": "t", "optional": True} for it, url in some.items()},
+                parameterURL="p/types.csv",
+            )
+            report = {
+                "reports/report.json": REPORT["reports/report.json"],
+                "reports/p/types.csv": "name,value\n",
+                **{f"reports/{url}": f"cash\n{it}\n" for it, url in some.items() if it != "f"},
+            }
+            made = makes(
+                folder,
+                f"names of tables, {form}",
+                parts={f"tables/{it}": {"url": names[it], "template": "t", "optional": True} for it in some},
+                types=TYPES,
+                report=report,
+                taxonomies=[{**TAXONOMY, "reg/mod.json": module}],
+                form=form,
+            )
+            wanted = {names[it]: f"cash\n{it}\n".encode() for it in some if it != "f"}
+            case(
+                f"tables as they are, {form}",
+                {it: text for it, text in made.items() if it.endswith((".csv", "filed-meta.json")) and it != "types.csv"},
+                {**wanted, "p/types.csv": b"name,value\n"},
+            )
+    for url in ("../t.csv", "/etc/passwd", "a/../../t.csv", "a:b.csv", "a%20b.csv", "a\\b.csv", "./t.csv", "a//t.csv", "", "t.csv?x", "t.csv#x", 7, None):
+        for form in ("folder", "zip"):
+            module = meta(INFO, tableTemplates={"t": TEMPLATE}, tables={"t": {"url": url}}, parameterURL=url)
+            made = makes(
+                folder,
+                f"a table at {url}, {form}",
+                parts={"tables/t": {"url": url}, "parameterURL": url},
+                taxonomies=[{**TAXONOMY, "reg/mod.json": module}],
+                report={**REPORT, "reports/a b.csv": "x", "t.csv": "x"},
+                form=form,
+            )
+            case(f"a table at {url} is not looked at", sorted(made), ["meta.json", "types.csv"])
+    for form in ("folder", "zip"):
+        module = {**TAXONOMY, "reg/mod.json": MODULE.replace('"tables"', '"parameterURL": "p.csv", "tables"')}
+        line = "r/reports/p.csv: cannot read (there is no such file; 'parameterURL' of t0/reg/mod.json names it)"
+        stops(folder, f"a parameters file that is not there, {form}", line, 3, taxonomies=[module], form=form)
+    deep = {**{it.replace("reports/", "reports/q/"): text for it, text in REPORT.items()}, "reports/t.csv": "cash\n9\n"}
+    case("tables lie beside the report's own file", makes(folder, "a deep report", MERGED, report=deep).get("t.csv"), b"cash\n1\n")
+
+
+def tables_that_are_none(folder):
+    """A table's file that is a folder or is not there is the converter's to tell. No link is ever made in an input."""
+    write(folder / "t", TAXONOMY)
+    apart = {"reports/report.json": REPORT["reports/report.json"]}
+    read, missing = (f"xbrl-json: table t, row 0, column 0: {it}\n" for it in ("Read (21)", "NoFile (20)"))
+    for name, files, said in (("a folder", {**apart, "reports/t.csv/x.csv": "cash\n1\n"}, read), ("nothing", apart, missing)):
+        write(folder / name, files)
+        pack(folder / f"{name}.zip", files)
+        for report in (name, f"{name}.zip"):
+            seen = start([report, "--taxonomy", "t"], folder)
+            case(f"a table that is {name}: {report}", (seen[0], seen[2]), (1, said))
+            seen = run([report, "--taxonomy", "t", "--prepare", f"o {report}"], folder)
+            case(f"a table that is {name}: {report} prepared", (seen, (folder / f"o {report}/t.csv").is_dir()), ((0, ""), name == "a folder"))
+    both_tables = {"t": {"url": "t.csv"}, "u": {"url": "t.csv/x.csv", "template": "t"}}
+    write(folder, {"t/reg/mod.json": meta(INFO, tableTemplates={"t": TEMPLATE}, tables=both_tables)})
+    for report in ("a folder", "a folder.zip"):
+        before = listing(folder / "a folder")
+        status, _, err = start([report, "--taxonomy", "t", "--workers", "1"], folder)
+        case(f"a table and the folder that holds it: {report}", (status, err, listing(folder / "a folder")), (1, read, before))
+        case(f"no link in an input: {report}", [it for it in (folder / "a folder").rglob("*") if it.is_symlink()], [])
+
+
+def heeding():
+    """A program that runs in the background may ignore some signals; one that is tested here does not."""
+    for it in (signal.SIGTERM, signal.SIGINT, signal.SIGHUP):
+        signal.signal(it, signal.SIG_DFL)
+
+
+def with_fake(folder):
+    """A folder with a report, a taxonomy, an empty TMPDIR, and a program in the place of xbrl-json."""
+    temporary, fake = folder / "tmp", folder / "fake"
+    temporary.mkdir()
+    write(folder, {**{f"r/{it}": text for it, text in REPORT.items()}, **{f"t/{it}": text for it, text in TAXONOMY.items()}})
+    fake.write_text("")
+    fake.chmod(0o755)
+    return temporary, fake, {"XBRL_JSON": str(fake), "TMPDIR": str(temporary)}
+
+
+def temporary_files(folder):
+    """The temporary folder: under TMPDIR, with links and not copies, gone at every end."""
+    temporary, fake, settings = with_fake(folder)
+    pack(folder / "r.zip", REPORT)
+    told = 'for it in "$@"; do echo "$it"; done; pwd; d=$(dirname "$1"); ls -la "$d" | grep -c -- "->"; stat -c %a "$d"'
+    fake.write_text(f"#!/bin/sh\n{told}\necho said >&2\nexit ${{END:-0}}\n")
+    for report, links in (("r", "1"), ("r.zip", "0"), ("r/reports/report.json", "1")):
+        for end in ("0", "1", "2", "3", "77"):
+            status, out, err = start([report, "--taxonomy", "t", "--out", "doc.json", "--progress", "--ring=7"], folder, env={**settings, "END": end})
+            lines = out.decode().splitlines()
+            home = os.path.dirname(lines[0])
+            wanted = [f"{home}/meta.json", "--types", f"{home}/types.csv", "--out", "doc.json", "--progress", "--ring=7", str(folder), links, "700"]
+            case(f"the words of xbrl-json, {report}, {end}", (status, lines, err), (int(end), wanted, "said\n"))
+            case("the folder stands under TMPDIR, and is gone", (os.path.dirname(home), os.listdir(temporary)), (str(temporary), []))
+    for given, passed in (
+        (["--new", "x", "--flag", "--progress", "--out", "d"], ["--new", "x", "--flag", "--progress", "--out", "d"]),
+        (["--out=d", "--layout", "lines"], ["--out=d", "--layout", "lines"]),
+    ):
+        seen = start(["r", "--taxonomy", "t", *given], folder, env=settings)[1].decode().splitlines()
+        case(f"words that go on {given}", seen[3 : 3 + len(passed)], passed)
+    installed = folder / "installed"
+    shutil.copytree(TOP / "filing", installed / "filing", ignore=shutil.ignore_patterns("__pycache__"))
+    shutil.copy(FILING, installed)
+    shutil.copy(fake, installed / "xbrl-json")
+    (folder / "link").symlink_to("installed/xbrl-filing")
+    without = {name: value for name, value in os.environ.items() if name != "XBRL_JSON"}
+    done = subprocess.run(["./link", "r", "--taxonomy", "t"], cwd=folder, env=without, capture_output=True, timeout=60)
+    case("xbrl-json beside xbrl-filing, by a link", (done.returncode, done.stderr), (0, b"said\n"))
+    fake.write_text("#!/bin/sh\nkill -9 $$\n")
+    case("xbrl-json that is killed", (start(["r", "--taxonomy", "t"], folder, env=settings)[0], os.listdir(temporary)), (137, []))
+    seen = start(["r", "--taxonomy", "t"], folder, env={**settings, "XBRL_JSON": "/nonexistent/x"})
+    case("xbrl-json that is not there", (seen, os.listdir(temporary)), ((3, b"", "xbrl-filing: /nonexistent/x: cannot run (No such file or directory)\n"), []))
+
+
+def signals(folder):
+    """Signals, while xbrl-json runs and while the report is read: nothing is left, and xbrl-json is told."""
+    temporary, fake, settings = with_fake(folder)
+    fake.write_text('#!/bin/sh\ntrap "echo stopped; exit 9" TERM INT HUP\necho ready\nwhile :; do sleep 0.02; done\n')
+    for number in (signal.SIGTERM, signal.SIGINT, signal.SIGHUP):
+        done = subprocess.Popen(
+            [FILING, "r", "--taxonomy", "t"], cwd=folder, env={**os.environ, **settings}, stdout=subprocess.PIPE, stderr=subprocess.PIPE, preexec_fn=heeding
+        )
+        ready = done.stdout.readline()
+        there = len(os.listdir(temporary))
+        done.send_signal(number)
+        out, err = done.communicate(timeout=30)
+        case(
+            f"{number.name} while xbrl-json runs",
+            (ready, there, done.returncode, out, err, os.listdir(temporary)),
+            (b"ready\n", 1, -number, b"stopped\n", b"", []),
+        )
+    for number in (signal.SIGTERM, signal.SIGINT):
+        os.mkfifo(folder / "pipe.json")
+        done = subprocess.Popen(
+            [FILING, "pipe.json", "--prepare", "o"],
+            cwd=folder,
+            env={**os.environ, **settings},
+            stdout=subprocess.PIPE,
+            stderr=subprocess.PIPE,
+            preexec_fn=heeding,
+        )
+        with open(folder / "pipe.json", "wb"):
+            done.send_signal(number)
+            out, err = done.communicate(timeout=30)
+        (folder / "pipe.json").unlink()
+        case(f"{number.name} while the report is read", (done.returncode, out, err, (folder / "o").exists()), (-number, b"", b"", False))
+    fake.write_text("#!/bin/sh\necho ready\nsleep 0.5\nexit 7\n")
+    done = subprocess.Popen(
+        [FILING, "r", "--taxonomy", "t"],
+        cwd=folder,
+        env={**os.environ, **settings},
+        stdout=subprocess.PIPE,
+        preexec_fn=lambda: signal.signal(signal.SIGTERM, signal.SIG_IGN),
+    )
+    done.stdout.readline()
+    done.send_signal(signal.SIGTERM)
+    done.communicate(timeout=30)
+    case("a signal that the caller ignores", (done.returncode, os.listdir(temporary)), (7, []))
+
+
+def a_full_disk(folder):
+    """Tables that cannot be unpacked: xbrl-json is not run, and the output is not touched."""
+    temporary, _, _ = with_fake(folder)
+    pack(folder / "big.zip", {"reports/report.json": REPORT["reports/report.json"], "reports/t.csv": b"x" * 200_000})
+
+    def limited():
+        signal.signal(signal.SIGXFSZ, signal.SIG_IGN)
+        resource.setrlimit(resource.RLIMIT_FSIZE, (100_000, 100_000))
+
+    status, out, err = start(["big.zip", "--taxonomy", "t", "--out", "doc.json"], folder, env={"TMPDIR": str(temporary)}, preexec_fn=limited)
+    ends = err.startswith(f"xbrl-filing: {temporary}/xbrl-filing-"), err.endswith("/t.csv: cannot write (File too large)\n")
+    case("a full disk", (status, out, *ends), (3, b"", True, True))
+    case("a full disk: nothing is left", (os.listdir(temporary), (folder / "doc.json").exists()), ([], False))
+
+
+def what_cannot_be_read(folder):
+    """Files that the system refuses, files that are too large, and a fault of the program: one line each."""
+    write(folder, {**{f"r/{it}": text for it, text in REPORT.items()}, **{f"t/{it}": text for it, text in TAXONOMY.items()}})
+    folder.chmod(0o755)
+    as_nobody = {"user": 65534, "group": 65534} if os.getuid() == 0 else {}
+    for path in ("t/reg/mod.xsd", "t/reg/mod.json", "r/reports/report.json", "r"):
+        mode = (folder / path).stat().st_mode
+        (folder / path).chmod(0)
+        status, out, err = start(["r", "--taxonomy", "t"], folder, **as_nobody)
+        (folder / path).chmod(mode)
+        said = err.startswith(f"xbrl-filing: {path}") and err.endswith(": cannot read (Permission denied)\n")
+        case(f"{path} without permission", (status, out, said, err.count("\n")), (3, b"", True, 1))
+    kept = packages.LARGEST_TEXT, command.find_report
+    try:
+        packages.LARGEST_TEXT = len(REPORT["reports/report.json"])
+        case(
+            "a module that is too large",
+            run(["r", "--taxonomy", "t"], folder),
+            (1, f"xbrl-filing: t/reg/mod.json: has more than {packages.LARGEST_TEXT} bytes\n"),
+        )
+        command.find_report = lambda _: {}["a\nb"]
+        case("a fault of the program", run(["r"], folder), (1, "xbrl-filing: a fault of the program: KeyError: 'a\\nb'\n"))
+        command.find_report = lambda _: (_ for _ in ()).throw(MemoryError)
+        case("too little memory", run(["r"], folder), (3, "xbrl-filing: there is not enough memory\n"))
+    finally:
+        packages.LARGEST_TEXT, command.find_report = kept
+
+
+def a_signal_between_two_steps(folder):
+    """A signal that comes while xbrl-json is being started is told to it, and one that comes while a folder is removed waits for that."""
+    seen = []
+
+    class Started(subprocess.Popen):
+        def __init__(self, given):
+            super().__init__(given)
+            seen.append(self)
+            os.kill(os.getpid(), signal.SIGTERM)
+
+    class Removing:
+        def rmtree(self, path, ignore_errors):
+            os.kill(os.getpid(), signal.SIGTERM)
+            shutil.rmtree(path, ignore_errors=ignore_errors)
+
+    kept = stopping.subprocess.Popen, stopping.shutil
+    try:
+        stopping.subprocess.Popen = Started
+        try:
+            status = stopping.run_program(["sleep", "30"], stopping.Stopping())
+        except stopping.Stopped as stopped:
+            status = stopped
+        case("a signal while xbrl-json is started", (getattr(status, "number", status), seen[0].poll()), (signal.SIGTERM, -signal.SIGTERM))
+        stopping.shutil = Removing()
+        try:
+            with stopping.temporary_folder(str(folder), "x-", stopping.Stopping()) as made:
+                write(Path(made), {"a/b": "c"})
+            status = 0
+        except stopping.Stopped as stopped:
+            status = stopped.number
+        case("a signal while the folder is removed", (status, os.listdir(folder)), (signal.SIGTERM, []))
+    finally:
+        stopping.subprocess.Popen, stopping.shutil = kept
+        heeding()
+
+
+def words(folder):
+    """The words, the help, and outputs that are inputs."""
+    write(folder, {**{f"r/{it}": text for it, text in REPORT.items()}, **{f"t/{it}": text for it, text in TAXONOMY.items()}})
+    pack(folder / "r.zip", REPORT)
+    pack(folder / "t.zip", TAXONOMY)
+    usage = "; the words are: xbrl-filing REPORT --taxonomy PACKAGE.. [--out FILE] [words of xbrl-json]\n"
+    for given, what in (
+        ([], "there is no REPORT"),
+        (["--taxonomy", "t"], "there is no REPORT"),
+        (["r", "--taxonomy"], "--taxonomy names no package"),
+        (["r", "--taxonomy", "--out", "x"], "--taxonomy names no package"),
+        (["r", "--taxonomy="], "--taxonomy names no package"),
+        (["r", "r2", "--taxonomy", "t"], "'r2' is one word too many"),
+        (["r", "", "--taxonomy", "t"], "'' is one word too many"),
+        (["r", "--progress", "yes"], "'yes' is one word too many"),
+        (["r", "--out=x", "yes"], "'yes' is one word too many"),
+        (["r", "--taxonomy", "t", "--types", "x"], "--types is made from the taxonomy and cannot be given"),
+        (["r", "--types=x"], "--types is made from the taxonomy and cannot be given"),
+        (["r", "--prepare"], "--prepare needs a value"),
+        (["r", "--prepare", "--out", "x"], "--prepare needs a value"),
+        (["r", "--prepare", "a", "--prepare", "b"], "--prepare stands twice"),
+        (["r", "--prepare", "a", "--out", "b"], "with --prepare nothing is converted, so '--out' means nothing"),
+        (["r", "--cache", ""], "--cache needs a value"),
+        (["r", "--unpacked-limit", "8G"], "--unpacked-limit is a number of bytes, and '8G' is none"),
+        (["r", "--unpacked-limit=-1"], "--unpacked-limit is a number of bytes, and '-1' is none"),
+    ):
+        case(f"words {given}", run(given, folder), (2, f"xbrl-filing: {what}{usage}"))
+    status, out, err = start(["r", "--help"], folder)
+    case("--help", (status, b"--taxonomy PACKAGE.." in out, b"It is not proved" in out, err), (0, True, True, ""))
+    with open("/dev/full", "wb") as full:
+        done = subprocess.run([FILING, "--help"], stdout=full, stderr=subprocess.PIPE, timeout=60)
+    case("--help that cannot be written", (done.returncode, done.stderr), (3, b"xbrl-filing: standard output: cannot write (No space left on device)\n"))
+    done = subprocess.run([FILING, "none", "--prepare", "o"], cwd=folder, stdout=subprocess.PIPE, preexec_fn=lambda: os.close(2), timeout=60)
+    case("a refused run without standard error", (done.returncode, done.stdout), (3, b""))
+    status, out, err = start(["r", "--taxonomy", "t", "--workers", "65", "--out", "doc.json"], folder)
+    case("words that xbrl-json refuses", (status, out, err.startswith("error: "), (folder / "doc.json").exists()), (2, b"", True, False))
+    seen = start(["r", "--taxonomy", "t", "--out", "no/doc.json"], folder)
+    case("an output that xbrl-json cannot make", seen, (3, b"", "xbrl-json: cannot write no/doc.json\n"))
+
+
+def several_packages(folder):
+    """Several packages, progress on a terminal, names that are no text, and the same bytes for the same inputs."""
+    write(folder, {**{f"r/{it}": text for it, text in REPORT.items()}, **{f"t/{it}": text for it, text in TAXONOMY.items()}})
+    pack(folder / "r.zip", REPORT)
+    pack(folder / "t.zip", TAXONOMY)
+    write(folder, {"t2/META-INF/catalog.xml": catalog(rewrite()), "t2/reg/mod.xsd": schema(ELEMENTS)})
+    shutil.move(folder / "t/reg/mod.xsd", folder / "t2/reg/mod.xsd")
+    for given in (["r", "--taxonomy", "t", "t2", "--prepare", "o1"], ["--taxonomy", "t", "--prepare=o2", "--taxonomy", "t2", "--unpacked-limit=99999", "r"]):
+        case(f"several packages {given}", run(given, folder), (0, ""))
+    shutil.copy(folder / "t2/reg/mod.xsd", folder / "t/reg/mod.xsd")
+    status, shown = on_a_terminal(["r", "--taxonomy", "t"], folder)
+    case("progress on a terminal", (status, b"xbrl-filing: preparing the tables" in shown, shown.endswith(b"\r\x1b[K")), (0, True, True))
+    escaped = folder / "a\nb\x1b.zip"
+    escaped.write_text("x")
+    case(
+        "control bytes in a name",
+        run([escaped.name, "--prepare", "o"], folder),
+        (1, "xbrl-filing: a\\nb\\x1b.zip: is not JSON: Expecting value (line 1, column 1)\n"),
+    )
+    broken = os.fsdecode(b"r\xff")
+    write(folder / broken, REPORT)
+    seen = start([broken, "--taxonomy", "t"], folder)
+    case("a name that is not UTF-8", (seen[0], b'"t.r_1.cash"' in seen[1]), (0, True))
+    for number in range(2):
+        case("the same inputs", run(["r.zip", "--taxonomy", "t.zip", "--prepare", f"same{number}"], folder), (0, ""))
+    case("give the same bytes", listing(folder / "same0"), listing(folder / "same1"))
+
+
+def outputs_that_are_inputs(folder):
+    """--out, --prepare and --cache must not be what the run reads."""
+    write(folder, {**{f"r/{it}": text for it, text in REPORT.items()}, **{f"t/{it}": text for it, text in TAXONOMY.items()}})
+    pack(folder / "r.zip", REPORT)
+    pack(folder / "t.zip", TAXONOMY)
+    write(
+        folder,
+        {
+            "alone/m.json": meta({**INFO, "extends": ["low.json"]}, tableTemplates={"t": TEMPLATE}, tables={"t": {"url": "t.csv"}}, parameterURL="p.csv"),
+            "alone/low.json": meta(),
+            "alone/mod.xsd": schema(ELEMENTS),
+            "alone/t.csv": "cash\n1\n",
+            "alone/p.csv": "name,value\n",
+        },
+    )
+    os.link(folder / "r.zip", folder / "other.zip")
+    (folder / "linked").symlink_to("t.zip")
+    (folder / "within").symlink_to("r/reports")
+    own, inside = "it is an input of this run", "it stands inside of a package that is an input of this run"
+    for given, out, why in (
+        (["r.zip", "--taxonomy", "t.zip"], "r.zip", own),
+        (["r.zip", "--taxonomy", "t.zip"], "./x/../r.zip", own),
+        (["r.zip", "--taxonomy", "t.zip"], "t.zip", own),
+        (["r.zip", "--taxonomy", "t.zip"], "other.zip", own),
+        (["r.zip", "--taxonomy", "t.zip"], "linked", own),
+        (["r", "--taxonomy", "t.zip"], "r", own),
+        (["r", "--taxonomy", "t.zip"], "r/reports/t.csv", inside),
+        (["r", "--taxonomy", "t.zip"], "r/reports/report.json", inside),
+        (["r", "--taxonomy", "t"], "t/reg/mod.xsd", inside),
+        (["r", "--taxonomy", "t"], "r/new.json", inside),
+        (["r", "--taxonomy", "t"], "t/META-INF/../new.json", inside),
+        (["r", "--taxonomy", "t"], "within/new.json", inside),
+        (["alone/m.json"], "alone/m.json", own),
+        (["alone/m.json"], "alone/low.json", own),
+        (["alone/m.json"], "alone/t.csv", own),
+        (["alone/m.json"], "alone/p.csv", own),
+    ):
+        before = listing(folder)
+        line = f"xbrl-filing: {out}: cannot write ({why})\n"
+        for words_of_out in (["--out", out], [f"--out={out}"]):
+            case(f"{given} {words_of_out}", (run([*given, *words_of_out], folder), listing(folder) == before), ((3, line), True))
+        if out.startswith("alone/") and out != "alone/m.json":
+            line = f"xbrl-filing: {out}: cannot write (Not a directory)\n"
+        case(f"{given} --prepare {out}", (run([*given, "--prepare", out], folder), listing(folder) == before), ((3, line), True))
+    seen = run(["r", "--taxonomy", "t", "--cache", "t/cache", "--prepare", "o"], folder)
+    case("a cache inside of a package", (seen, (folder / "t/cache").exists()), ((3, f"xbrl-filing: t/cache: cannot write ({inside})\n"), False))
+
+
+def folders_to_prepare(folder):
+    """--prepare takes a new or an empty folder."""
+    write(folder, {**{f"r/{it}": text for it, text in REPORT.items()}, **{f"t/{it}": text for it, text in TAXONOMY.items()}})
+    (folder / "full").mkdir()
+    (folder / "full/x").write_text("x")
+    seen = run(["r", "--prepare", "full"], folder)
+    case("--prepare is looked at before the taxonomy", seen, (3, "xbrl-filing: full: cannot write (the folder is not empty)\n"))
+    (folder / "empty").mkdir()
+    good = ["r", "--taxonomy", "t"]
+    case(
+        "--prepare of a folder that holds something",
+        run([*good, "--prepare", "full"], folder),
+        (3, "xbrl-filing: full: cannot write (the folder is not empty)\n"),
+    )
+    case("--prepare of a file", run([*good, "--prepare", "full/x"], folder), (3, "xbrl-filing: full/x: cannot write (Not a directory)\n"))
+    case("--prepare where no folder is", run([*good, "--prepare", "no/o"], folder), (3, "xbrl-filing: no/o: cannot write (there is no folder to put it in)\n"))
+    case(
+        "--prepare of an empty folder",
+        (run([*good, "--prepare", "empty"], folder), sorted(os.listdir(folder / "empty"))),
+        ((0, ""), ["meta.json", "t.csv", "types.csv"]),
+    )
+    case("--out beside the packages", start([*good, "--out", "free.json"], folder)[0], 0)
+
+
+def cached_runs(folder):
+    """A report and a taxonomy; what runs them with a cache, and what lists the cache."""
+    write(folder / "t", TAXONOMY)
+    write(folder / "r", REPORT)
+    pack(folder / "t.zip", TAXONOMY)
+
+    def made(taxonomy="t", report="r", *more):
+        shutil.rmtree(folder / "o", ignore_errors=True)
+        seen = run([report, "--taxonomy", taxonomy, *more, "--cache", "c", "--prepare", "o"], folder)
+        return seen, (folder / "o/types.csv").read_text() if seen[0] == 0 else None
+
+    def entries():
+        return sorted(it.name for it in (folder / "c").iterdir())
+
+    return made, entries
+
+
+def caching(folder):
+    """A cache is known by contents alone, and never changes what is made."""
+    made, entries = cached_runs(folder)
+    case("the first run", made(), ((0, ""), TYPES))
+    case("keeps one entry", len(entries()), 1)
+    kept = folder / "c" / entries()[0]
+    marked = kept.read_bytes().replace(b"Note text", b"Nota text")
+    reader = command.read_schemas
+    try:
+        command.read_schemas = None
+        case("and the next one reads it, and no schema", (made(), len(entries())), (((0, ""), TYPES), 1))
+    finally:
+        command.read_schemas = reader
+    kept.write_bytes(marked)
+    case("an entry that was changed is not taken", made(), ((0, ""), TYPES))
+    case("and is made anew", b"Note text" in kept.read_bytes(), True)
+    for damage in (
+        b"",
+        b"x",
+        b"[]\n",
+        b"{}",
+        kept.read_bytes().replace(b"[0,", b"[1,"),
+        b"\xff {}",
+        b'{"' + EG.encode() + b'":[0,5,"x"]}\n',
+        kept.read_bytes()[:-9],
+        b"[" * 100_000,
+    ):
+        kept.write_bytes(damage)
+        case(f"a damaged entry {damage[:20]!r}", made(), ((0, ""), TYPES))
+
+
+def keys_of_the_cache(folder):
+    """What the cache is known by: contents, entry points, the order of packages and the program's own text."""
+    made, entries = cached_runs(folder)
+    made()
+    os.utime(folder / "t/reg/mod.xsd", (1, 1))
+    shutil.copytree(folder / "t", folder / "named")
+    case("neither name nor time counts", (made("named"), len(entries())), (((0, ""), TYPES), 1))
+    write(folder, {"r2/reports/report.json": meta({"extends": [HOST + "mod.json"], "namespaces": {"x": "http://x/"}}, decimals=1)})
+    case("another report of the same taxonomy", (made("t", "r2"), len(entries())), (((0, ""), TYPES), 1))
+    size = (folder / "t/reg/mod.xsd").stat().st_size
+    write(folder, {"t/reg/mod.xsd": schema(ELEMENTS.replace("Note", "Nope"))})
+    os.utime(folder / "t/reg/mod.xsd", (1, 1))
+    case(
+        "another content of the same size and time",
+        (made(), (folder / "t/reg/mod.xsd").stat().st_size, len(entries())),
+        (((0, ""), TYPES.replace("Note", "Nope")), size, 2),
+    )
+    case("a ZIP is another package", (made("t.zip"), len(entries())), (((0, ""), TYPES), 3))
+    write(folder, {"t/reg/mod.json": meta({**INFO, "taxonomy": ["two.xsd"]}), "t/reg/two.xsd": schema(item("Two"))})
+    case("another entry point", made(), ((0, ""), records("Two,text")))
+    write(folder, {"t3/META-INF/catalog.xml": catalog(rewrite()), "t3/reg/two.xsd": schema(item("Three"))})
+    write(folder, {"r6/reports/report.json": meta({"namespaces": {"eg": EG}, "taxonomy": [HOST + "mod.xsd"]})})
+    case("another entry point of the same packages", made("t", "r6"), ((0, ""), TYPES.replace("Note", "Nope")))
+    case("the order of packages counts", [made("t", "r", "t3")[1], made("t3", "r", "t")[1]], [records("Two,text"), records("Three,text")])
+
+
+def what_is_not_kept(folder):
+    """The report's own schemas are not kept, nor a taxonomy that is refused."""
+    made, entries = cached_runs(folder)
+    made()
+    before = entries()
+    own = {"r3/reports/report.json": meta({"namespaces": {"eg": EG}, "taxonomy": ["own.xsd"]}), "r3/reports/own.xsd": schema(item("Own"))}
+    write(folder, own)
+    case("schemas of the report are not kept", (made("t", "r3")[1], entries()), (records("Own,text"), before))
+    write(folder, {"r3/reports/own.xsd": schema(item("New"))})
+    case("and so are read again", made("t", "r3")[1], records("New,text"))
+    own = {**REPORT, **TAXONOMY, "reg/mod.xsd": schema(item("Mine"))}
+    write(folder / "r4", own)
+    case("nor those of a report with a catalog", (made("t", "r4")[1], entries()), (records("Mine,text"), before))
+    write(folder, {"bad/META-INF/catalog.xml": catalog(rewrite()), "bad/reg/mod.json": MODULE, "bad/reg/mod.xsd": "<"})
+    case("a taxonomy that is refused is not kept", (made("bad")[0][0], entries()), (1, before))
+    (folder / "file").write_text("x")
+    shutil.rmtree(folder / "o", ignore_errors=True)
+    seen = run(["r", "--taxonomy", "t.zip", "--cache", "file", "--prepare", "o"], folder)
+    case("a cache that is a file", (seen, (folder / "o").exists()), ((3, "xbrl-filing: file: cannot write (File exists)\n"), False))
+
+
+def caches_of_several_runs(folder):
+    """Several runs at once, another program, and prefixes that are replaced by what was kept."""
+    made, entries = cached_runs(folder)
+    runs = [
+        subprocess.Popen([FILING, "r", "--taxonomy", "t.zip", "--cache", "c", "--prepare", f"p{it}"], cwd=folder, stderr=subprocess.PIPE) for it in range(3)
+    ]
+    case("several runs at once", [(it.communicate(timeout=60)[1], it.returncode) for it in runs], [(b"", 0)] * 3)
+    case("leave one entry", ([(folder / f"p{it}/types.csv").read_text() for it in range(3)], len(entries())), ([TYPES] * 3, 1))
+    shutil.copytree(TOP / "filing", folder / "copy/filing", ignore=shutil.ignore_patterns("__pycache__"))
+    shutil.copy(FILING, folder / "copy/xbrl-filing")
+    for text, number in (("", 1), ("# another rule\n", 2)):
+        with open(folder / "copy/filing/kinds.py", "a") as module:
+            module.write(text)
+        done = subprocess.run([folder / "copy/xbrl-filing", "r", "--taxonomy", "t.zip", "--cache", "c", "--prepare", f"q{number}"], cwd=folder, timeout=60)
+        case(f"the program's own text counts, {number}", (done.returncode, len(entries())), (0, number))
+    with_prefixes = {
+        "m/META-INF/catalog.xml": catalog(rewrite()),
+        "m/reg/mod.xsd": schema(ELEMENTS),
+        "m/reg/mod.json": meta({**INFO, "namespaces": {"k": EG, "x": "http://x/"}}, dimensions={"k:Region": "x:a", "k:Branch": "x:a"}),
+    }
+    write(folder, {**with_prefixes, "r5/reports/report.json": meta({"extends": [HOST + "mod.json"], "namespaces": {"eg": EG, "y": "http://x/"}})})
+    for turn in ("first", "second"):
+        made("m", "r5")
+        case(
+            f"kinds of dimensions are known, {turn} run",
+            json.loads((folder / "o/meta.json").read_text())["dimensions"],
+            {"eg:Region": "y:a", "eg:Branch": "x:a"},
+        )
+
+
+def a_large_taxonomy(folder):
+    """20,000 concepts behind a linkbase, in seconds, and at once from the cache."""
+    body = "".join(item(f"C{it:05}", "eg:T", 'id="x" nillable="true"') for it in range(20_000))
+    files = {**TAXONOMY, "reg/mod.xsd": schema(loc("l.xml", "linkbaseRef")), "reg/d.xsd": schema(body + derived("T", "xbrli:monetaryItemType"))}
+    files["reg/l.xml"] = linkbase("".join(loc(f"d.xsd#C{it}") for it in range(20_000)))
+    files["reg/mod.json"] = meta(
+        INFO, tableTemplates={"t": {"columns": {"cash": {"dimensions": {"concept": "eg:C00007", "unit": "eg:e"}}}}}, tables={"t": {"url": "t.csv"}}
+    )
+    pack(folder / "t.zip", files)
+    write(folder / "r", REPORT)
+    for turn, most in (("first", 15), ("second", 5)):
+        begun = time.monotonic()
+        status, out, err = start(["r", "--taxonomy", "t.zip", "--cache", "c"], folder)
+        case(f"20,000 concepts, {turn} run", (status, list(json.loads(out)["facts"]), err), (0, ["t.r_1.cash"], ""))
+        case(f"20,000 concepts, {turn} run: time", time.monotonic() - begun < most, True)
+    status, shown = on_a_terminal(["r", "--taxonomy", "t.zip"], folder)
+    case("20,000 concepts on a terminal", (status, b"xbrl-filing: reading the taxonomy: 3 files, " in shown, shown.endswith(b"\r\x1b[K")), (0, True, True))
+
+
+def a_long_schema(folder):
+    """A schema of 64 MB is read as a stream, out of a ZIP and out of a folder."""
+    comment = "<!--" + "x" * (1 << 16) + "-->"
+    files = {**TAXONOMY, "reg/mod.xsd": schema(ELEMENTS + comment * 1024)}
+    write(folder / "r", REPORT)
+    write(folder / "folder", files)
+    pack(folder / "stored.zip", files, method=zipfile.ZIP_STORED)
+    little = lambda: resource.setrlimit(resource.RLIMIT_DATA, (56 << 20, 56 << 20))
+    for taxonomy in ("folder", "stored.zip"):
+        status, _, err = start(["r", "--taxonomy", taxonomy, "--prepare", f"o {taxonomy}"], folder, preexec_fn=little)
+        case(f"64 MB in 56 MB of memory, {taxonomy}", (status, err), (0, ""))
+        case(f"64 MB, {taxonomy}", (folder / f"o {taxonomy}/types.csv").read_text(), TYPES)
+
+
+PARTS = (
+    the_example,
+    forms_of_reports,
+    catalogs,
+    catalogs_refused,
+    places,
+    joining,
+    joining_tables,
+    leaving_out,
+    entry_points,
+    chains,
+    what_is_no_metadata,
+    final_parts,
+    prefixes,
+    keys_that_become_one,
+    lost_prefixes,
+    reading_schemas,
+    reading_linkbases,
+    reading_once,
+    including,
+    names_in_schemas,
+    encodings,
+    kinds,
+    kinds_of_elements,
+    what_no_fact_can_have,
+    types_tables,
+    hostile_zips,
+    bombs,
+    damaged_zips,
+    damaged_tables,
+    unpacked_packages,
+    tables,
+    tables_that_are_none,
+    temporary_files,
+    signals,
+    a_signal_between_two_steps,
+    a_full_disk,
+    what_cannot_be_read,
+    words,
+    several_packages,
+    outputs_that_are_inputs,
+    folders_to_prepare,
+    caching,
+    keys_of_the_cache,
+    what_is_not_kept,
+    caches_of_several_runs,
+    a_large_taxonomy,
+    a_long_schema,
+)
+
+
+def main():
+    for part in PARTS:
+        with tempfile.TemporaryDirectory() as folder:
+            part(Path(folder).resolve())
+    print(f"over filings: {count - len(failed)} as they must be, {len(failed)} not")
+    sys.exit(1 if failed else 0)
+
+
+if __name__ == "__main__":
+    if len(sys.argv) != 2:
+        sys.exit(__doc__)
+    PROGRAM = os.path.abspath(sys.argv[1])
+    main()
