@@ -1,6 +1,5 @@
 mod PlaceFacts
 pub mod GroupOrder
-pub mod Searches
 pub mod GridFacts
 pub mod Strips
 pub mod Rising

@@ -21,7 +21,6 @@
 #![tactic(auto)]
 
 mod build;
-mod by_name;
 mod check;
 mod clone;
 mod columns;

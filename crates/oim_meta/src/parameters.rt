@@ -1,7 +1,6 @@
 //! The parameters of a report, and the parameters file.
 
 ghost use Rattle.std.specs.Prelude.{◌≡◌, ◌++◌, ◌∷◌, [], IfOk, IfSome, None, is_some};
-ghost use Rattle.std.specs.Option.{option_map};
 ghost use Rattle.oim_names.specs.Lookup.{value_at};
 ghost use Rattle.oim_meta.specs.CsvFiles.{OrOutside};
 ghost use Rattle.oim_meta.specs.Grid.{grid};
@@ -12,7 +11,7 @@ use crate::fault::MetaFault;
 use crate::fields::texts_of_two;
 use crate::named::Named;
 use csv::ByteRecord;
-use oim_names::{Text, is_identifier};
+use oim_names::{Items, Text, is_identifier};
 use std::alloc::{AllocError, Global};
 use std::io::Read;
 use std::marker::Model;
@@ -21,25 +20,26 @@ use std::marker::Model;
 /// their values, in file order.
 #[derive(Drop)]
 pub struct Parameters {
-    entries: Named<Text>,
+    entries: Items<(Text, Text)>,
+    names: Named<()>,
 }
 
 impl Model for Parameters {
-    ghost use Rattle.oim_meta.specs.Parameters.{ParametersValue};
+    ghost use Rattle.std.specs.Prelude.{◌≡◌};
+    ghost use Rattle.oim_meta.specs.Parameters.{ParametersValue, marked};
 
     ghost Value = { ParametersValue };
 
     ghost view = { λ p. p.entries };
+
+    ghost invariant = { λ p. p.names ≡ marked p.entries };
 }
 
-impl Clone for Parameters {
-    ghost is_clone = { λ v w. w ≡ v };
-
-    fn clone(&self) -> Result<Parameters, AllocError> {
-        Ok(Parameters {
-            entries: self.entries.clone()?,
-        })
-    }
+fn entry(alloc: Global, name: &str, value: &str) -> Result<(Text, Text), AllocError>
+    ensures { IfOk result (λ made. made ≡ (name.now, value.now)) }
+{
+    let name = Text::from_str(alloc, name)?;
+    Ok((name, Text::from_str(alloc, value)?))
 }
 
 impl Parameters {
@@ -48,7 +48,8 @@ impl Parameters {
         ensures { result ≡ [] }
     {
         Parameters {
-            entries: Named::new(alloc),
+            entries: Items::new(alloc),
+            names: Named::new(alloc),
         }
     }
 
@@ -56,17 +57,14 @@ impl Parameters {
     pub(crate) fn has_name(&self, name: &str) -> bool
         ensures { result ≡ is_some (value_at name.now self.now) }
     {
-        self.entries.get(name).is_some()
+        self.names.get(name).is_some()
     }
 
-    /// The value of a name. It does not search through all names.
-    pub(crate) fn value(&self, name: &str) -> Option<&Text>
-        ensures { option_map (λ t. t.now) result ≡ value_at name.now self.now }
+    /// The names with their values.
+    pub(crate) fn into_items(self) -> Items<(Text, Text)>
+        ensures { result ≡ self }
     {
-        if self.entries.is_empty() {
-            return None;
-        }
-        self.entries.get(name)
+        self.entries
     }
 
     /// The same parameters and one more, the last.
@@ -74,10 +72,13 @@ impl Parameters {
         requires { value_at name.now self ≡ None }
         ensures { IfOk result (λ more. more ≡ self ++ (name.now, value.now) ∷ []) }
     {
-        let Parameters { mut entries } = self;
-        let value = Text::from_str(alloc, value)?;
-        entries.push(String::from_str(alloc, name)?, value)?;
-        Ok(Parameters { entries })
+        let Parameters {
+            mut entries,
+            mut names,
+        } = self;
+        names.push(String::from_str(alloc, name)?, ())?;
+        entries.push(entry(alloc, name, value)?)?;
+        Ok(Parameters { entries, names })
     }
 }
 

@@ -1,5 +1,4 @@
 mod Places
-mod Repeats
 mod FactLists
 pub mod StreamLaws
 mod TextRecords
