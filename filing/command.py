@@ -126,7 +126,7 @@ def join(report: Found, packages: List[Package], settings: Settings, progress: P
     renaming = Renaming(lost, lambda name: kind_of(name, stands, kinds) == "explicit")
     merged = merge(chain, renaming)
     refuse_impossible_concepts(merged, stands, kinds)
-    files = Files(report, [it.found.name for it in chain if it.found.package is report.package], merged)
+    files = Files(report, merged)
     files.require_parameters()
     check_parameters(merged, renaming, files)
     return merged, files, types_table(kinds, stands.values())

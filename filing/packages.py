@@ -10,7 +10,7 @@ import zipfile
 import zlib
 from abc import ABC, abstractmethod
 from contextlib import contextmanager
-from typing import Dict, Iterator, List, Optional, Tuple
+from typing import Dict, Iterable, Iterator, List, Optional, Tuple
 
 from .refusals import cannot_read, wrong
 from .zip_entries import checked_entries
@@ -46,6 +46,10 @@ class Package(ABC):
     def path_on_disk(self, name: str) -> Optional[str]:
         """The path of a file that stands on the disk by itself, or None where it must be unpacked."""
         return None
+
+    def names_read(self) -> Iterable[str]:
+        """The names of what has been read so far, where the package is no folder or ZIP of its own."""
+        return ()
 
     def shown(self, name: str) -> str:
         """How lines name a file of the package."""
@@ -161,12 +165,17 @@ class Beside(Package):
     def __init__(self, label: str) -> None:
         super().__init__(label)
         self.folder = os.path.dirname(label)
+        self.read: Dict[str, None] = {}
 
     def has(self, name: str) -> bool:
         return "\0" not in name and os.path.exists(self.shown(name)) and not os.path.isdir(self.shown(name))
 
     def pieces(self, name: str) -> Iterator[bytes]:
+        self.read[name] = None
         return pieces_of_disk(self.shown(name), self.shown(name))
+
+    def names_read(self) -> Iterable[str]:
+        return self.read
 
     def children(self, folder: str) -> Tuple[List[str], List[str]]:
         return [], []

@@ -26,9 +26,8 @@ def is_plain(url: object) -> bool:
 class Files:
     """The tables and the parameters file of a report, by the URLs of the merged metadata."""
 
-    def __init__(self, report: Found, metadata: List[str], merged: Merged) -> None:
+    def __init__(self, report: Found, merged: Merged) -> None:
         self.package: Package = report.package
-        self.metadata = metadata
         self.folder = report.name[: report.name.rfind("/") + 1]
         self.merged = merged
         tables = merged.value.get("tables", {}).values()

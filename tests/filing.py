@@ -1829,7 +1829,11 @@ def outputs_that_are_inputs(folder):
     os.link(folder / "r.zip", folder / "other.zip")
     (folder / "linked").symlink_to("t.zip")
     (folder / "within").symlink_to("r/reports")
+    os.link(folder / "t/reg/mod.xsd", folder / "hard.json")
+    os.link(folder / "alone/mod.xsd", folder / "hard.xsd")
+    (folder / "soft.xsd").symlink_to("alone/mod.xsd")
     own, inside = "it is an input of this run", "it stands inside of a package that is an input of this run"
+    linked = "it is a link to a file of a package that is an input of this run"
     for given, out, why in (
         (["r.zip", "--taxonomy", "t.zip"], "r.zip", own),
         (["r.zip", "--taxonomy", "t.zip"], "./x/../r.zip", own),
@@ -1847,16 +1851,24 @@ def outputs_that_are_inputs(folder):
         (["alone/m.json"], "alone/low.json", own),
         (["alone/m.json"], "alone/t.csv", own),
         (["alone/m.json"], "alone/p.csv", own),
+        (["alone/m.json"], "alone/mod.xsd", own),
+        (["alone/m.json"], "hard.xsd", own),
+        (["alone/m.json"], "soft.xsd", own),
+        (["r.zip", "--taxonomy", "t"], "hard.json", linked),
     ):
         before = listing(folder)
         line = f"xbrl-filing: {out}: cannot write ({why})\n"
         for words_of_out in (["--out", out], [f"--out={out}"]):
             case(f"{given} {words_of_out}", (run([*given, *words_of_out], folder), listing(folder) == before), ((3, line), True))
-        if out.startswith("alone/") and out != "alone/m.json":
+        if given == ["alone/m.json"] and out != "alone/m.json":
             line = f"xbrl-filing: {out}: cannot write (Not a directory)\n"
         case(f"{given} --prepare {out}", (run([*given, "--prepare", out], folder), listing(folder) == before), ((3, line), True))
     seen = run(["r", "--taxonomy", "t", "--cache", "t/cache", "--prepare", "o"], folder)
     case("a cache inside of a package", (seen, (folder / "t/cache").exists()), ((3, f"xbrl-filing: t/cache: cannot write ({inside})\n"), False))
+    for cache in ("o", "o/c", "./o/../o/c"):
+        seen = run(["r", "--taxonomy", "t", "--cache", cache, "--prepare", "o"], folder)
+        line = f"xbrl-filing: {cache}: cannot write (the cache stands inside of the folder to prepare)\n"
+        case(f"a cache in the prepared folder, {cache}", (seen, (folder / "o").exists()), ((3, line), False))
 
 
 def folders_to_prepare(folder):
