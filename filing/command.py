@@ -4,7 +4,6 @@ from __future__ import annotations
 
 import os
 import sys
-import tempfile
 from contextlib import suppress
 from typing import Dict, List, Optional, Tuple
 
@@ -33,14 +32,17 @@ NAME = "xbrl-filing"
 
 def main(words: List[str], program: str) -> int:
     """Runs the command; `program` is the path of xbrl-json. Answers the status."""
-    progress = Progress()
+    progress, stopping = Progress(), Stopping()
     try:
-        status, line = attempt(words, program, progress, Stopping())
+        stopping.heed()
+        status, line = attempt(words, program, progress, stopping)
         progress.clear()
         if line:
             tell(f"{NAME}: {printable(line)}")
+        stopping.heed_no_more()
         return status
     except Stopped as stopped:
+        stopping.clear()
         progress.clear()
         end_by_signal(stopped.number)
         return 128 + stopped.number
@@ -93,7 +95,7 @@ def run(settings: Settings, program: str, progress: Progress, stopping: Stopping
                 move_into(os.path.join(parent, name), folder)
         progress.clear()
         return 0
-    with temporary_folder(tempfile.gettempdir(), f"{NAME}-", stopping) as folder:
+    with temporary_folder(temporary_place(), f"{NAME}-", stopping) as folder:
         write_files(folder, files, types, copy=False)
         progress.clear()
         return run_program([program, os.path.join(folder, META), "--types", os.path.join(folder, TYPES), *settings.rest], stopping)
@@ -180,6 +182,11 @@ def place_of(prepare: str) -> Tuple[str, str]:
     if not os.path.isdir(parent):
         raise cannot_write(prepare, "there is no folder to put it in")
     return parent, name
+
+
+def temporary_place() -> str:
+    """Where temporary files stand: under TMPDIR, and nowhere else where that cannot be used."""
+    return os.path.abspath(os.environ.get("TMPDIR") or "/tmp")
 
 
 def umask() -> int:

@@ -1614,6 +1614,9 @@ def temporary_files(folder):
     case("xbrl-json beside xbrl-filing, by a link", (done.returncode, done.stderr), (0, b"said\n"))
     fake.write_text("#!/bin/sh\nkill -9 $$\n")
     case("xbrl-json that is killed", (start(["r", "--taxonomy", "t"], folder, env=settings)[0], os.listdir(temporary)), (137, []))
+    status, out, err = start(["r", "--taxonomy", "t"], folder, env={**settings, "TMPDIR": "none"})
+    ends = err.startswith(f"xbrl-filing: {folder}/none/xbrl-filing-"), err.endswith(": cannot write (No such file or directory)\n")
+    case("TMPDIR that is not there", (status, out, *ends, os.listdir(temporary)), (3, b"", True, True, []))
     seen = start(["r", "--taxonomy", "t"], folder, env={**settings, "XBRL_JSON": "/nonexistent/x"})
     case("xbrl-json that is not there", (seen, os.listdir(temporary)), ((3, b"", "xbrl-filing: /nonexistent/x: cannot run (No such file or directory)\n"), []))
 
@@ -1726,13 +1729,13 @@ def a_signal_between_two_steps(folder):
     try:
         stopping.subprocess.Popen = Started
         try:
-            status = stopping.run_program(["sleep", "30"], stopping.Stopping())
+            status = stopping.run_program(["sleep", "30"], heeded())
         except stopping.Stopped as stopped:
             status = stopped
         case("a signal while xbrl-json is started", (getattr(status, "number", status), seen[0].poll()), (signal.SIGTERM, -signal.SIGTERM))
         stopping.shutil = Removing()
         try:
-            with stopping.temporary_folder(str(folder), "x-", stopping.Stopping()) as made:
+            with stopping.temporary_folder(str(folder), "x-", heeded()) as made:
                 write(Path(made), {"a/b": "c"})
             status = 0
         except stopping.Stopped as stopped:
@@ -1740,6 +1743,62 @@ def a_signal_between_two_steps(folder):
         case("a signal while the folder is removed", (status, os.listdir(folder)), (signal.SIGTERM, []))
     finally:
         stopping.subprocess.Popen, stopping.shutil = kept
+        heeding()
+
+
+def heeded():
+    """What takes signals from now on."""
+    made = stopping.Stopping()
+    made.heed()
+    return made
+
+
+def a_signal_at_each_step(folder):
+    """A signal at each line of what starts, waits and removes: it ends the run, and nothing is left."""
+    temporary, fake, _ = with_fake(folder)
+    fake.write_text("#!/bin/sh\n")
+    files = {module.__file__ for module in (command, stopping, contextlib)}
+    ended, wrong, number, steps = [], [], 0, 0
+
+    def step(frame, *_):
+        nonlocal steps
+        if frame.f_code.co_filename not in files:
+            return None
+        steps += 1
+        if steps == number and signal.getsignal(signal.SIGTERM) != signal.SIG_DFL:
+            os.kill(os.getpid(), signal.SIGTERM)
+        return step
+
+    def stepped():
+        """The status of a run whose steps are counted; at one of them it is signalled."""
+        nonlocal steps
+        steps = 0
+        signal.signal(signal.SIGTERM, lambda *_: None)
+        sys.settrace(step)
+        try:
+            return command.main(["r", "--taxonomy", "t"], str(fake))
+        finally:
+            sys.settrace(None)
+
+    kept, before = (command.end_by_signal, stopping.end_by_signal), os.environ.get("TMPDIR")
+    os.environ["TMPDIR"] = str(temporary)
+    os.chdir(folder)
+    try:
+        command.end_by_signal = ended.append
+        case("steps are counted", stepped(), 0)
+        for number in range(1, steps):
+            status, left = stepped(), os.listdir(temporary)
+            if left or status not in (0, 143):
+                wrong.append((number, status, left))
+                shutil.rmtree(temporary)
+                temporary.mkdir()
+        case("a signal at each step", (wrong, number > 200, len(ended) > 200), ([], True, True))
+    finally:
+        command.end_by_signal = kept[0]
+        os.chdir(TOP)
+        os.environ.pop("TMPDIR")
+        if before is not None:
+            os.environ["TMPDIR"] = before
         heeding()
 
 
@@ -2089,6 +2148,7 @@ PARTS = (
     temporary_files,
     signals,
     a_signal_between_two_steps,
+    a_signal_at_each_step,
     a_full_disk,
     what_cannot_be_read,
     words,
