@@ -58,6 +58,8 @@ def attempt(words: List[str], program: str, progress: Progress, stopping: Stoppi
         return refusal.status, refusal.line
     except MemoryError:
         return FILES, "there is not enough memory"
+    except OSError as error:
+        return FILES, f"{error.filename or 'the run'}: cannot read or write ({error.strerror or error})"
     except Exception as error:  # a fault of this program is one line too
         return WRONG, f"a fault of the program: {type(error).__name__}: {error}"
 

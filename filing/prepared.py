@@ -2,10 +2,12 @@
 
 from __future__ import annotations
 
+import errno
 import os
 import re
 import shutil
 import stat
+from contextlib import contextmanager
 from typing import Any, Dict, Iterable, Iterator, List, Optional, Set
 
 from .finding import Found
@@ -94,36 +96,50 @@ def put_file(target: str, package: Package, name: str, copy: bool) -> None:
         if package.has(name):
             fill(target, package.pieces(name))
         elif package.children(name) != ([], []):
-            os.makedirs(target, exist_ok=True)
+            make_folder(target)
         return
-    try:
-        mode = os.stat(source).st_mode
-    except (FileNotFoundError, NotADirectoryError):
+    mode = mode_of(source, package.shown(name))
+    if mode is None:
         return
-    except OSError as error:
-        raise cannot_read(package.shown(name), error) from None
     if stat.S_ISDIR(mode):
-        os.makedirs(target, exist_ok=True)
+        make_folder(target)
     elif copy:
         fill(target, pieces_of_disk(source, package.shown(name)))
     else:
-        make_folder_of(target)
-        os.symlink(source, target)
+        make_folder(os.path.dirname(target))
+        with writing(target):
+            os.symlink(source, target)
 
 
-def make_folder_of(target: str) -> None:
-    os.makedirs(os.path.dirname(target), exist_ok=True)
+def mode_of(path: str, label: str) -> Optional[int]:
+    """What a path is, or None where nothing is there; nothing can be at one that is too long."""
+    try:
+        return os.stat(path).st_mode
+    except OSError as error:
+        if error.errno in (errno.ENOENT, errno.ENOTDIR, errno.ENAMETOOLONG):
+            return None
+        raise cannot_read(label, error) from None
+
+
+@contextmanager
+def writing(target: str) -> Iterator[None]:
+    """Tells of a file that cannot be written. What cannot be read is told by those who read."""
+    try:
+        yield
+    except OSError as error:
+        raise cannot_write(target, error) from None
+
+
+def make_folder(target: str) -> None:
+    with writing(target):
+        os.makedirs(target, exist_ok=True)
 
 
 def fill(target: str, pieces: Iterator[bytes]) -> None:
-    """Writes a file. What cannot be read is told by the pieces themselves."""
-    try:
-        make_folder_of(target)
-        with open(target, "wb") as file:
-            for piece in pieces:
-                file.write(piece)
-    except OSError as error:
-        raise cannot_write(target, error) from None
+    make_folder(os.path.dirname(target))
+    with writing(target), open(target, "wb") as file:
+        for piece in pieces:
+            file.write(piece)
 
 
 def move_into(folder: str, made: str) -> None:
@@ -133,6 +149,8 @@ def move_into(folder: str, made: str) -> None:
         if not os.path.lexists(folder):
             os.rename(made, folder)
             return
+        if os.listdir(folder):
+            raise cannot_write(folder, "the folder is not empty any more")
         for name in sorted(os.listdir(made)):
             os.rename(os.path.join(made, name), os.path.join(folder, name))
             moved.append(name)

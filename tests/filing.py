@@ -8,6 +8,7 @@ compared with what the rules say, and the example's document with the one writte
 fails. The last line counts. Python 3.9 or later and Linux are needed.
 """
 import contextlib
+import errno
 import io
 import json
 import os
@@ -1559,6 +1560,12 @@ def tables_that_are_none(folder):
             case(f"a table that is {name}: {report}", (seen[0], seen[2]), (1, said))
             seen = run([report, "--taxonomy", "t", "--prepare", f"o {report}"], folder)
             case(f"a table that is {name}: {report} prepared", (seen, (folder / f"o {report}/t.csv").is_dir()), ((0, ""), name == "a folder"))
+    for url in ("a" * 300 + ".csv", "a/" * 3000 + "b.csv"):
+        write(folder, {"long/META-INF/catalog.xml": catalog(rewrite()), "long/reg/mod.xsd": schema(ELEMENTS)})
+        write(folder, {"long/reg/mod.json": meta(INFO, tableTemplates={"t": TEMPLATE}, tables={"t": {"url": url, "optional": True}})})
+        for report in ("nothing", "nothing.zip", "nothing/reports/report.json"):
+            seen = start([report, "--taxonomy", "long"], folder)
+            case(f"a table of a name that no file can have: {report}", (seen[0], seen[2]), (1, read))
     both_tables = {"t": {"url": "t.csv"}, "u": {"url": "t.csv/x.csv", "template": "t"}}
     write(folder, {"t/reg/mod.json": meta(INFO, tableTemplates={"t": TEMPLATE}, tables=both_tables)})
     for report in ("a folder", "a folder.zip"):
@@ -1676,6 +1683,13 @@ def a_full_disk(folder):
         signal.signal(signal.SIGXFSZ, signal.SIG_IGN)
         resource.setrlimit(resource.RLIMIT_FSIZE, (100_000, 100_000))
 
+    kept = os.symlink
+    try:
+        os.symlink = lambda *_: (_ for _ in ()).throw(OSError(errno.ENOSPC, os.strerror(errno.ENOSPC)))
+        status, err = run(["r", "--taxonomy", "t", "--out", "doc.json"], folder)
+    finally:
+        os.symlink = kept
+    case("a full disk when a table is linked", (status, err.endswith("/t.csv: cannot write (No space left on device)\n"), err.count("\n")), (3, True, 1))
     status, out, err = start(["big.zip", "--taxonomy", "t", "--out", "doc.json"], folder, env={"TMPDIR": str(temporary)}, preexec_fn=limited)
     ends = err.startswith(f"xbrl-filing: {temporary}/xbrl-filing-"), err.endswith("/t.csv: cannot write (File too large)\n")
     case("a full disk", (status, out, *ends), (3, b"", True, True))
@@ -1704,6 +1718,8 @@ def what_cannot_be_read(folder):
         )
         command.find_report = lambda _: {}["a\nb"]
         case("a fault of the program", run(["r"], folder), (1, "xbrl-filing: a fault of the program: KeyError: 'a\\nb'\n"))
+        command.find_report = lambda _: open("none")
+        case("a file that is gone", run(["r"], folder), (3, "xbrl-filing: none: cannot read or write (No such file or directory)\n"))
         command.find_report = lambda _: (_ for _ in ()).throw(MemoryError)
         case("too little memory", run(["r"], folder), (3, "xbrl-filing: there is not enough memory\n"))
     finally:
@@ -1952,6 +1968,20 @@ def folders_to_prepare(folder):
         ((0, ""), ["meta.json", "t.csv", "types.csv"]),
     )
     case("--out beside the packages", start([*good, "--out", "free.json"], folder)[0], 0)
+    (folder / "late").mkdir()
+    kept = command.write_files
+
+    def and_meanwhile(*given, **more):
+        write(folder, {"late/meta.json": "of another"})
+        kept(*given, **more)
+
+    try:
+        command.write_files = and_meanwhile
+        seen = run([*good, "--prepare", "late"], folder)
+    finally:
+        command.write_files = kept
+    line = f"xbrl-filing: {folder}/late: cannot write (the folder is not empty any more)\n"
+    case("a folder that is filled meanwhile", (seen, listing(folder / "late")), ((3, line), {"meta.json": b"of another"}))
 
 
 def cached_runs(folder):
