@@ -320,6 +320,10 @@ def catalogs(folder):
     by("a longer start string without the file", rewrite() + rewrite(HOST + "mo", "../none/mo"), "reg")
     by("an exact entry before a start string", rewrite() + f'<uri name="{HOST}mod.json" uri="../other/mod.json"/>', "other")
     by("an exact entry without its file", rewrite() + f'<uri name="{HOST}mod.json" uri="../none/mod.json"/>', "reg")
+    twice = f'<uri name="{HOST}mod.json" uri="../none/mod.json"/><uri name="{HOST}mod.json" uri="../other/mod.json"/>'
+    by("a second exact entry of the same name", rewrite() + twice, "other")
+    by("a second start string of the same text", rewrite(prefix="../none/") + rewrite(prefix="../other/") + rewrite(), "other")
+    by("a URL that is shorter than a start string", rewrite() + rewrite(HOST + "mod.json/and/more", "../other/mod.json"), "reg")
     by("an entry in a group", f"<group>{rewrite()}</group>", "reg")
     by("the base of a group", f'<group xml:base="../other/">{rewrite(prefix="")}</group>{rewrite("http://a/", "../reg/")}', "other")
     by("the base of a catalog", rewrite(prefix="./"), "other", attributes='xml:base="../other/"')
@@ -2128,6 +2132,40 @@ def a_large_taxonomy(folder):
     case("20,000 concepts on a terminal", (status, b"xbrl-filing: reading the taxonomy: 3 files, " in shown, shown.endswith(b"\r\x1b[K")), (0, True, True))
 
 
+def endless_schemas(folder):
+    """What would take all memory or all time: names, bases and tags that grow, many start strings. One line each, and soon."""
+    deep, long = 100_000, "y" * (17 << 20)
+    grows = '<a xml:base="aaaaaaaaa/">' * deep + "</a>" * deep
+    tag, comment = f'<xs:element name="A" a="{long}"/>', f"<!--{long}-->"
+    far, near = include("http://a.example/" + "y" * 5000), include("y" * 5000 + ".xsd")
+    has = "t0/reg/mod.xsd: has "
+    url, shown = has + "a URL of {} characters; more than 4096 are not taken (import, line 1: {}..)", ("http://a.example/" + "y" * 100)[:100]
+    for name, text, line in (
+        ("bases that grow", schema(grows), has + "more than 100 elements with 'xml:base' inside of each other (line 1)"),
+        ("bases of a linkbase that grow", linkbase(grows), has + "more than 100 elements with 'xml:base' inside of each other (line 1)"),
+        ("a long base", schema(f'<a xml:base="{"y" * 5000}/"/>'), has + f"an 'xml:base' of {len(HOST) + 5001} characters; more than 4096 are not taken (line 1)"),
+        ("a long tag", schema(tag), has + "a tag or a comment of more than 16777216 bytes, which is refused (line 1)"),
+        ("a long comment", schema(comment), has + "a tag or a comment of more than 16777216 bytes, which is refused (line 1)"),
+        ("a long URL", schema(far), url.format(5017, shown)),
+        ("a long relative URL", schema(near), url.format(len(HOST) + 5004, (HOST + "y" * 100)[:100])),
+    ):
+        begun = time.monotonic()
+        refuses(folder, f"a schema with {name}", {"reg/mod.xsd": text}, line)
+        case(f"a schema with {name}: soon", time.monotonic() - begun < 20, True)
+    reads(folder, "a hundred bases", {"reg/mod.xsd": schema('<a xml:base="a/">' * 99 + "</a>" * 99 + ELEMENTS, attributes='xml:base="b/"')}, TYPES)
+    way = "<xs:simpleContent>" * deep + "<x>" + '<xs:restriction base="xbrli:dateItemType"/>' * deep + "</x>" + "</xs:simpleContent>" * deep
+    begun = time.monotonic()
+    reads(folder, "a type that is very deep", {"reg/mod.xsd": schema(f'<xs:complexType name="T">{way}</xs:complexType>' + ELEMENTS)}, TYPES)
+    case("a type that is very deep: soon", time.monotonic() - begun < 20, True)
+    starts = "".join(rewrite(f"{HOST}{number}/", "../reg/") for number in range(50_000))
+    many = {f"reg/x{number}.xsd": schema() for number in range(4000)}
+    imports = "".join(include(f"x{number}.xsd") for number in range(4000))
+    many.update({"META-INF/catalog.xml": catalog(starts + rewrite()), "reg/mod.xsd": schema(imports + ELEMENTS)})
+    begun = time.monotonic()
+    reads(folder, "many start strings and many files", many, TYPES)
+    case("many start strings and many files: soon", time.monotonic() - begun < 20, True)
+
+
 def a_long_schema(folder):
     """A schema of 64 MB is read as a stream, out of a ZIP and out of a folder."""
     comment = "<!--" + "x" * (1 << 16) + "-->"
@@ -2190,6 +2228,7 @@ PARTS = (
     what_is_not_kept,
     caches_of_several_runs,
     a_large_taxonomy,
+    endless_schemas,
     a_long_schema,
 )
 
