@@ -149,11 +149,13 @@ def read_kinds(chain: Chain, finder: Finder, packages: List[Package], settings: 
         return kinds_of(read_schemas(entries, finder, progress))
     cache = Cache(settings.cache)
     progress.say("looking into the cache")
-    key = key_of([it for it in packages if it is not finder.report], list(dict.fromkeys(it.place.text for it in entries)))
+    taxonomy, urls = [it for it in packages if it is not finder.report], list(dict.fromkeys(it.place.text for it in entries))
+    key = key_of(taxonomy, urls)
     kinds = cache.load(key, namespaces_of(chain).values())
     if kinds is None:
         kinds = kinds_of(read_schemas(entries, finder, progress))
-        cache.store(key, kinds)
+        if key_of(taxonomy, urls) == key:  # what was changed while it was read is not kept
+            cache.store(key, kinds)
     return kinds
 
 

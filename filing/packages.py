@@ -10,6 +10,7 @@ import zipfile
 import zlib
 from abc import ABC, abstractmethod
 from contextlib import contextmanager
+from itertools import chain
 from typing import Dict, Iterable, Iterator, List, Optional, Tuple
 
 from .refusals import cannot_read, wrong
@@ -79,7 +80,8 @@ class ZipPackage(Package):
     def __init__(self, label: str, limit: int) -> None:
         super().__init__(label)
         with damage_told(label):
-            self.archive = zipfile.ZipFile(label)
+            self.file = open(label, "rb")
+            self.archive = zipfile.ZipFile(self.file)
             self.files = checked_entries(self.archive, label, limit)
         self.listed = listed(self.files)
         self.find_root()
@@ -102,8 +104,9 @@ class ZipPackage(Package):
         return self.listed.get((self.root + folder).rstrip("/"), ([], []))
 
     def digest(self) -> bytes:
-        with damage_told(self.label), open(self.label, "rb") as file:
-            return digest_of(iter(lambda: file.read(PIECE), b""))
+        """Of the file that is open: another one may have taken its name since."""
+        with damage_told(self.label):
+            return digest_of(os.pread(self.file.fileno(), PIECE, at) for at in range(0, os.fstat(self.file.fileno()).st_size, PIECE))
 
 
 class FolderPackage(Package):
@@ -121,32 +124,23 @@ class FolderPackage(Package):
         return pieces_of_disk(self.disk(name), self.shown(name))
 
     def children(self, folder: str) -> Tuple[List[str], List[str]]:
-        found = self.entries(folder)
+        found = entries_of(self.disk(folder), self.shown(folder))
         return [it.name for it in found if not it.is_dir()], [it.name for it in found if it.is_dir()]
 
-    def entries(self, folder: str) -> List[os.DirEntry[str]]:
-        """What stands in a folder, in order of the names; nothing where there is no such folder."""
-        try:
-            with os.scandir(self.disk(folder)) as found:
-                return sorted(found, key=lambda it: it.name)
-        except (FileNotFoundError, NotADirectoryError):
-            return []
-        except OSError as error:
-            raise cannot_read(self.shown(folder), error) from None
-
     def digest(self) -> bytes:
-        return digest_of(self.all_bytes(""))
+        """Of all that the folder holds, also beside the root, where links may lead."""
+        return digest_of(chain([os.fsencode(self.root) + b"\0"], self.all_bytes("")))
 
     def all_bytes(self, folder: str) -> Iterator[bytes]:
-        """The names of all files of a folder, in order, with their digests, or with what they link to."""
-        for it in self.entries(folder):
+        """Of each file and link its name and its content or target, in order; each as a digest, so that none runs into the next."""
+        for it in entries_of(os.path.join(self.top, folder), self.label):
             name = folder + it.name
             if it.is_symlink():
-                yield os.fsencode(f"{name}\0{os.readlink(it.path)}\0")
+                yield digest_of(iter([b"link ", os.fsencode(name)])) + digest_of(iter([os.fsencode(os.readlink(it.path))]))
             elif it.is_dir():
                 yield from self.all_bytes(name + "/")
             elif it.is_file():
-                yield os.fsencode(name) + b"\0" + digest_of(pieces_of_disk(it.path, self.shown(name)))
+                yield digest_of(iter([b"file ", os.fsencode(name)])) + digest_of(pieces_of_disk(it.path, f"{self.label}/{name}"))
 
     def disk(self, name: str) -> str:
         """The path on the disk; a link that leads outside of the folder is refused."""
@@ -212,6 +206,17 @@ def damage_told(label: str) -> Iterator[None]:
     except OSError as error:
         if error.errno is None:  # what bz2 says of bytes that are not its own
             raise wrong(label, f"is damaged ({error})") from None
+        raise cannot_read(label, error) from None
+
+
+def entries_of(path: str, label: str) -> List[os.DirEntry[str]]:
+    """What stands in a folder of the disk, in order of the names; nothing where there is no such folder."""
+    try:
+        with os.scandir(path) as found:
+            return sorted(found, key=lambda it: it.name)
+    except (FileNotFoundError, NotADirectoryError):
+        return []
+    except OSError as error:
         raise cannot_read(label, error) from None
 
 

@@ -2062,6 +2062,51 @@ def keys_of_the_cache(folder):
     case("the order of packages counts", [made("t", "r", "t3")[1], made("t3", "r", "t")[1]], [records("Two,text"), records("Three,text")])
 
 
+def what_changes_meanwhile(folder):
+    """Packages that are changed while they are read: what is kept of them is never taken for what they hold then."""
+    made, entries = cached_runs(folder)
+    reader, key_of = command.read_schemas, command.key_of
+    other = {**TAXONOMY, "reg/mod.xsd": schema(ELEMENTS.replace("Note", "Nope"))}
+
+    def and_then_changed(*given):
+        declared = reader(*given)
+        write(folder / "t", other)
+        return declared
+
+    def changed_first(*given):
+        pack(folder / "new.zip", other)
+        os.replace(folder / "new.zip", folder / "t.zip")
+        return key_of(*given)
+
+    try:
+        command.read_schemas = and_then_changed
+        case("a folder that is changed while it is read", (made(), (folder / "c").exists()), (((0, ""), TYPES), False))
+        command.read_schemas, command.key_of = reader, changed_first
+        case("a ZIP that is replaced while it is read", made("t.zip"), ((0, ""), TYPES))
+    finally:
+        command.read_schemas, command.key_of = reader, key_of
+    new = TYPES.replace("Note", "Nope")
+    case("what it was is not taken for what it is", (made("t.zip"), made("t")), (((0, ""), new), ((0, ""), new)))
+    write(folder, {f"top/pkg/{it}": text for it, text in TAXONOMY.items()})
+    shutil.move(folder / "top/pkg/reg/mod.xsd", folder / "top/mod.xsd")
+    (folder / "top/pkg/reg/mod.xsd").symlink_to("../../mod.xsd")
+    case("a link that leads beside the root", made("top"), ((0, ""), TYPES))
+    write(folder, {"top/mod.xsd": other["reg/mod.xsd"]})
+    case("and what it leads to is changed", made("top"), ((0, ""), new))
+    before = entries()
+    write(folder, {"x/a": "1", "x/b": "2", "y/a": "1"})
+    (folder / "y/b").symlink_to("a")
+    (folder / "z").mkdir()
+    (folder / "z/a").symlink_to("b")
+    write(folder, {"z/b": "2"})
+    folders = [packages.FolderPackage(str(folder / it)).digest() for it in "xyz"]
+    case("files and links are told apart", (len(set(folders)), entries()), (3, before))
+    zero, one = (os.fsdecode(packages.digest_of(iter([it]))) for it in (b"0", b"1"))
+    write(folder, {"p/x": "0", "p/y": "1", "p/z": "3", f"q/{one}z": "3"})
+    (folder / "q/x").symlink_to(zero + "y")
+    case("no name runs into the next", len({packages.FolderPackage(str(folder / it)).digest() for it in "pq"}), 2)
+
+
 def what_is_not_kept(folder):
     """The report's own schemas are not kept, nor a taxonomy that is refused."""
     made, entries = cached_runs(folder)
@@ -2225,6 +2270,7 @@ PARTS = (
     folders_to_prepare,
     caching,
     keys_of_the_cache,
+    what_changes_meanwhile,
     what_is_not_kept,
     caches_of_several_runs,
     a_large_taxonomy,
