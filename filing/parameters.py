@@ -7,6 +7,7 @@ import io
 from typing import Iterator, Tuple
 
 from .metadata import Merged, objects
+from .packages import LARGEST_TEXT
 from .prefixes import Renaming
 from .prepared import Files
 from .refusals import wrong
@@ -38,6 +39,7 @@ def parameters_of_file(files: Files) -> Iterator[Tuple[str, str, str]]:
     if data is None:
         return
     label = files.package.shown(files.name(files.parameters or ""))
+    csv.field_size_limit(LARGEST_TEXT)
     try:
         for record in csv.reader(io.StringIO(data.decode("utf-8", "replace"), newline="")):
             if len(record) == 2:

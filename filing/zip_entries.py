@@ -20,12 +20,10 @@ def checked_entries(archive: zipfile.ZipFile, label: str, limit: int) -> Dict[st
     seen: Set[str] = set()
     unpacked = 0
     for entry in archive.infolist():
-        fault = fault_of_name(entry.orig_filename) or fault_of_entry(entry)
+        for given in (entry.orig_filename, entry.filename):  # newer Pythons take the second from an extra field
+            refuse(label, given, fault_of_name(given))
         name = entry.filename.rstrip("/")
-        if fault is None and name in seen:
-            fault = "stands twice"
-        if fault is not None:
-            raise wrong(label, f"the entry '{entry.orig_filename}' {fault}")
+        refuse(label, entry.orig_filename, fault_of_entry(entry) or ("stands twice" if name in seen else None))
         seen.add(name)
         unpacked += entry.file_size
         if not entry.is_dir():
@@ -34,6 +32,11 @@ def checked_entries(archive: zipfile.ZipFile, label: str, limit: int) -> Dict[st
         raise wrong(label, f"unpacks to {unpacked} bytes, more than {limit} (--unpacked-limit allows more)")
     refuse_files_that_are_folders(files, seen, label)
     return files
+
+
+def refuse(label: str, name: str, fault: Optional[str]) -> None:
+    if fault is not None:
+        raise wrong(label, f"the entry '{name}' {fault}")
 
 
 def fault_of_name(name: str) -> Optional[str]:

@@ -30,7 +30,7 @@ EXAMPLE = TOP / "examples/filing"
 FILING = str(TOP / "xbrl-filing")
 sys.path.insert(0, str(TOP))
 
-from filing import command, packages, stopping  # noqa: E402
+from filing import command, packages, refusals, stopping, zip_entries  # noqa: E402
 
 HOST = "http://reg.example/"
 CSV = "https://xbrl.org/2021/xbrl-csv"
@@ -874,6 +874,8 @@ def lost_prefixes(folder):
         for form in ("folder", "zip"):
             line = lost.format("p.csv", name, text)
             stops(folder, f"a parameter {text} in a file, {form}", line, report=file, taxonomies=[module], form=form)
+    file = {**named_report(parameterURL="p.csv"), "reports/p.csv": f'name,value\nlong,{"x" * 200_000}\nz,m:x\n'}
+    stops(folder, "a parameter behind a very long one", lost.format("p.csv", "z", "m:x"), report=file, taxonomies=[module])
     kept = {"a": "n:x", "b": "am:x", "c": "m"}
     makes(folder, "parameters without it", parts={"parameters": kept}, report=named_report(parameters=kept), taxonomies=[module])
 
@@ -1382,6 +1384,13 @@ def hostile_zips(folder):
         refused_zip(folder, f"an entry '{name}'", f"the entry '{name}' {what}", [(entry(name), "x")])
     line = r"the entry '../\n\x1b[2J\x9b' leads outside of the package"
     refused_zip(folder, "an entry with control bytes", line, [(entry("../\n\x1b[2J\x9b"), "x")])
+    two_names = entry("../x")
+    two_names.orig_filename = "a"
+    try:
+        seen = zip_entries.checked_entries(type("Archive", (), {"infolist": lambda _: [two_names]})(), "z", 1000)
+    except refusals.Refusal as refusal:
+        seen = refusal.line
+    case("an entry with a second name", seen, "z: the entry '../x' leads outside of the package")
     line = "the entry 'a' stands twice, as a file and as a folder"
     refused_zip(folder, "a file that is a folder too", line, [(entry("a"), "x"), (entry("a/b/c"), "x")])
     refused_zip(folder, "a link", "the entry 'a' is a link", [(entry("a", 0o120777), "/etc/passwd")])
@@ -1881,6 +1890,9 @@ def several_packages(folder):
         run([escaped.name, "--prepare", "o"], folder),
         (1, "xbrl-filing: a\\nb\\x1b.zip: is not JSON: Expecting value (line 1, column 1)\n"),
     )
+    write(folder, {"long.json": json.dumps({"documentInfo": {"documentType": "y" * 100_000}})})
+    line = f"long.json: is no xBRL-CSV metadata file: its document type is '{'y' * 100_000}'"
+    case("a very long line", run(["long.json"], folder), (1, f"xbrl-filing: {line[:1000]} .. {line[-1000:]}\n"))
     broken = os.fsdecode(b"r\xff")
     write(folder / broken, REPORT)
     seen = start([broken, "--taxonomy", "t"], folder)
