@@ -15,6 +15,7 @@ XML_BASE = "http://www.w3.org/XML/1998/namespace base"
 LONGEST_URL = 4096
 MOST_BASES = 100
 LARGEST_TOKEN = 16 << 20  # of a tag, a comment or an instruction, which expat holds as a whole
+NO_MEMORY = expat.errors.codes[expat.errors.XML_ERROR_NO_MEMORY]
 BY_EXPAT = ("utf-8", "utf-16", "ascii", "iso8859-1")
 DECLARED = re.compile(r"""^<\?xml[^>]*?\sencoding\s*=\s*["']([A-Za-z][A-Za-z0-9._-]*)["']""")
 MARKS = ((b"\xff\xfe\0\0", "utf-32"), (b"\0\0\xfe\xff", "utf-32"), (b"\xff\xfe", "utf-16"), (b"\xfe\xff", "utf-16"), (b"\xef\xbb\xbf", "utf-8"))
@@ -101,6 +102,8 @@ def parse(pieces: Iterable[bytes], content: Content) -> None:
                 refuse(content, f"has a tag or a comment of more than {LARGEST_TOKEN} bytes")
         parser.Parse(b"", True)
     except expat.ExpatError as error:
+        if error.code == NO_MEMORY:
+            raise MemoryError from None
         raise wrong(content.label, f"is not well-formed XML: {expat.ErrorString(error.code)} (line {error.lineno})") from None
     except UnicodeError:
         raise wrong(content.label, f"is not in its encoding, {encoding} (line {content.line()})") from None

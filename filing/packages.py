@@ -121,7 +121,7 @@ class FolderPackage(Package):
         return os.path.isfile(self.disk(name))
 
     def pieces(self, name: str) -> Iterator[bytes]:
-        return pieces_of_disk(self.disk(name), self.shown(name))
+        return pieces_of_disk(self.path_on_disk(name), self.shown(name))
 
     def children(self, folder: str) -> Tuple[List[str], List[str]]:
         found = entries_of(self.disk(folder), self.shown(folder))
@@ -149,8 +149,12 @@ class FolderPackage(Package):
             raise wrong(self.shown(name), f"is a link that leads outside of {self.label}")
         return path
 
-    def path_on_disk(self, name: str) -> Optional[str]:
-        return self.disk(name)
+    def path_on_disk(self, name: str) -> str:
+        """The same, but of no pipe, socket or device: who opens these may wait for ever."""
+        path = self.disk(name)
+        if os.path.exists(path) and not (os.path.isfile(path) or os.path.isdir(path)):
+            raise wrong(self.shown(name), "is neither a file nor a folder")
+        return path
 
 
 class Beside(Package):

@@ -4,6 +4,7 @@ from __future__ import annotations
 
 import os
 import secrets
+import select
 import shutil
 import signal
 import subprocess
@@ -12,6 +13,7 @@ from typing import Iterator, List, Optional
 
 from .refusals import FILES, Refusal, cannot_write
 
+LONGEST_WAIT = 1.0  # a caller may have blocked the signal that tells of the child's end
 SIGNALS = (signal.SIGINT, signal.SIGTERM, signal.SIGHUP)
 
 
@@ -94,7 +96,8 @@ def run_program(words: List[str], stopping: Stopping) -> int:
             with stopping.held():
                 child = subprocess.Popen(words)
             while child.poll() is None:
-                os.read(reader, 64)
+                if select.select([reader], [], [], LONGEST_WAIT)[0]:
+                    os.read(reader, 64)
     except OSError as error:
         raise Refusal(FILES, words[0], f"cannot run ({error.strerror})") from None
     except Stopped as stopped:

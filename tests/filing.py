@@ -143,7 +143,7 @@ def run(words, folder):
 def start(words, folder, **more):
     """Status, standard output and standard error of a run of its own, with xbrl-json behind it."""
     env = {**os.environ, "XBRL_JSON": PROGRAM, **more.pop("env", {})}
-    done = subprocess.run([FILING, *map(str, words)], cwd=folder, env=env, stdin=subprocess.DEVNULL, capture_output=True, timeout=120, **more)
+    done = subprocess.run([FILING, *map(str, words)], cwd=folder, env=env, stdin=subprocess.DEVNULL, capture_output=True, **{"timeout": 120, **more})
     return done.returncode, done.stdout, done.stderr.decode(errors="replace")
 
 
@@ -1492,6 +1492,19 @@ def unpacked_packages(folder):
         place.symlink_to(target)
         case(f"{name} by a link that leads outside", run(["r", "--taxonomy", "t0", "--prepare", "o"], folder), (1, f"xbrl-filing: {line}\n"))
         case(f"{name} by a link that leads outside: nothing is made", (folder / "o").exists(), False)
+    for path in ("r/reports/report.json", "r/reports/t.csv", "t0/META-INF/catalog.xml", "t0/reg/mod.xsd"):
+        for it in ("r", "t0"):
+            shutil.rmtree(folder / it, ignore_errors=True)
+        write(folder / "r", REPORT)
+        write(folder / "t0", TAXONOMY)
+        kept = (folder / path).read_bytes()
+        (folder / path).unlink()
+        os.mkfifo(folder / path)
+        begun = time.monotonic()
+        status, out, err = start(["r", "--taxonomy", "t0"], folder, timeout=20)
+        case(f"a pipe in a package, {path}", (status, out, err.count("\n"), time.monotonic() - begun < 15), (1, b"", 1, True))
+        (folder / path).unlink()
+        (folder / path).write_bytes(kept)
     shutil.rmtree(folder / "r")
     write(folder / "r", REPORT)
     write(folder / "t0", TAXONOMY) if (folder / "t0/reg").is_dir() else None
@@ -1684,6 +1697,9 @@ def signals(folder):
     done.stdout.readline()
     done.send_signal(signal.SIGTERM)
     done.communicate(timeout=30)
+    blocked = lambda: signal.pthread_sigmask(signal.SIG_BLOCK, {signal.SIGCHLD})
+    seen = start(["r", "--taxonomy", "t"], folder, env=settings, preexec_fn=blocked, timeout=30)
+    case("a caller that has blocked the end of children", (seen[0], os.listdir(temporary)), (7, []))
     case("a signal that the caller ignores", (done.returncode, os.listdir(temporary)), (7, []))
 
 
@@ -2231,6 +2247,10 @@ def a_long_schema(folder):
     write(folder / "folder", files)
     pack(folder / "stored.zip", files, method=zipfile.ZIP_STORED)
     little = lambda: resource.setrlimit(resource.RLIMIT_DATA, (56 << 20, 56 << 20))
+    write(folder, {**{f"full/{it}": text for it, text in files.items()}, "full/reg/mod.xsd": schema(f'<a b="{"x" * (15 << 20)}"/>')})
+    less = lambda: resource.setrlimit(resource.RLIMIT_DATA, (44 << 20, 44 << 20))
+    seen = start(["r", "--taxonomy", "full", "--prepare", "o"], folder, preexec_fn=less)
+    case("too little memory for a tag", seen, (3, b"", "xbrl-filing: there is not enough memory\n"))
     for taxonomy in ("folder", "stored.zip"):
         status, _, err = start(["r", "--taxonomy", taxonomy, "--prepare", f"o {taxonomy}"], folder, preexec_fn=little)
         case(f"64 MB in 56 MB of memory, {taxonomy}", (status, err), (0, ""))
