@@ -53,6 +53,8 @@ def attempt(words: List[str], program: str, progress: Progress, stopping: Stoppi
     try:
         if "--help" in words or words == ["-h"]:
             return help_told(), ""
+        if words == ["--version"]:
+            return run_program([program, *words], stopping), ""
         return run(read_words(words), program, progress, stopping), ""
     except Refusal as refusal:
         return refusal.status, refusal.line
@@ -130,6 +132,7 @@ def join(report: Found, packages: List[Package], settings: Settings, progress: P
     renaming = Renaming(lost, lambda name: kind_of(name, stands, kinds) == "explicit")
     merged = merge(chain, renaming)
     refuse_impossible_concepts(merged, stands, kinds)
+    refuse_unknown_dimensions(merged, stands, kinds)
     files = Files(report, merged)
     files.require_parameters()
     check_parameters(merged, renaming, files)
@@ -171,6 +174,17 @@ def refuse_impossible_concepts(merged: Merged, namespaces: Dict[str, str], kinds
         reason = REASONS.get(kind_of(concept, namespaces, kinds) or "")
         if reason:
             raise wrong(label, f"names the concept '{concept}', which {reason} ({where})")
+
+
+def refuse_unknown_dimensions(merged: Merged, namespaces: Dict[str, str], kinds: Kinds) -> None:
+    """Refuses metadata that names a dimension of which the types table says nothing, as xbrl-json would, but by its name (Dimensions 1.0, section 2)."""
+    if "taxonomy" not in merged.value["documentInfo"]:
+        return
+    for dimension, label, where in merged.taxonomy_dimensions():
+        if kind_of(dimension, namespaces, kinds) not in ("explicit", "typed"):
+            known = dimension.partition(":")[0] in namespaces
+            reason = "which no schema that the taxonomy reaches has as one" if known else "whose prefix is not among 'namespaces'"
+            raise wrong(label, f"names the dimension '{dimension}', {reason} ({where})")
 
 
 def place_of(prepare: str) -> Tuple[str, str]:

@@ -60,4 +60,5 @@ class Finder:
         if place.local:
             return wrong(asker, f"there is no {self.report.shown(place.path())} ({how})")
         without = "".join(f"; {it.label} has no {CATALOG}" for it in self.packages if it is not self.report and not it.has(CATALOG))
-        return wrong(asker, f"no package has {place.text} ({how}{without})")
+        none = "" if any(it is not self.report for it in self.packages) else "; there is no --taxonomy"
+        return wrong(asker, f"no package has {place.text} ({how}{without}{none})")

@@ -150,7 +150,7 @@ class FolderPackage(Package):
         return path
 
     def path_on_disk(self, name: str) -> str:
-        """The same, but of no pipe, socket or device: who opens these may wait for ever."""
+        """The same, but of no pipe or device: who opens one may wait for ever."""
         path = self.disk(name)
         if os.path.exists(path) and not (os.path.isfile(path) or os.path.isdir(path)):
             raise wrong(self.shown(name), "is neither a file nor a folder")

@@ -20,7 +20,8 @@ def check_parameters(merged: Merged, renaming: Renaming, files: Files) -> None:
     for name, text, label in (*parameters_of_metadata(merged), *parameters_of_file(files)):
         prefix = renaming.lost_in(text)
         if prefix is not None:
-            raise wrong(label, f"the parameter '{name}' has the prefix '{prefix}', for which '{renaming.lost[prefix]}' stands ({text})")
+            stands = renaming.lost[prefix]
+            raise wrong(label, f"the parameter '{name}' has the prefix '{prefix}', whose namespace has the prefix '{stands}' here: write '{stands}' ({text})")
 
 
 def parameters_of_metadata(merged: Merged) -> Iterator[Tuple[str, str, str]]:

@@ -290,6 +290,8 @@ def forms_of_reports(folder):
     apart = {f"top/{it}": text for it, text in REPORT.items()}
     stops(folder, "two folders at the top", "r: has no xBRL-CSV report in 'reports' or a folder of it", report={**apart, "z/x": ""})
     stops(folder, "no report", "r: has no xBRL-CSV report in 'reports' or a folder of it", report={"reports/a/b/r.json": meta()})
+    line = "r: has no xBRL-CSV report in 'reports' or a folder of it; it is a taxonomy package"
+    stops(folder, "a taxonomy package in the place of a report", line, report={**TAXONOMY, "META-INF/taxonomyPackage.xml": "<a/>"})
     draft = '{"documentInfo":{"documentType":"http://xbrl.org/PWD/2019-02-06/xbrl-csv"}}'
     line = "r: has no xBRL-CSV report in 'reports' or a folder of it; reports/r.json has the document type 'http://xbrl.org/PWD/2019-02-06/xbrl-csv'"
     stops(folder, "a report of a draft", line, report={"reports/r.json": draft})
@@ -320,6 +322,7 @@ def catalogs(folder):
     by("a longer start string without the file", rewrite() + rewrite(HOST + "mo", "../none/mo"), "reg")
     by("an exact entry before a start string", rewrite() + f'<uri name="{HOST}mod.json" uri="../other/mod.json"/>', "other")
     by("an exact entry without its file", rewrite() + f'<uri name="{HOST}mod.json" uri="../none/mod.json"/>', "reg")
+    by("percent signs in a prefix", rewrite(prefix="../o%74%20her/"), "other", {it.replace("other", "ot her"): text for it, text in other.items()})
     twice = f'<uri name="{HOST}mod.json" uri="../none/mod.json"/><uri name="{HOST}mod.json" uri="../other/mod.json"/>'
     by("a second exact entry of the same name", rewrite() + twice, "other")
     by("a second start string of the same text", rewrite(prefix="../none/") + rewrite(prefix="../other/") + rewrite(), "other")
@@ -360,7 +363,9 @@ def catalogs_refused(folder):
     makes(folder, "dots that are written are resolved", MERGED, report=dots)
     line = f"r/reports/report.json: no package has {HOST}mod.json (extends; t0 has no META-INF/catalog.xml)"
     stops(folder, "a package without a catalog", line, taxonomies=[{"reg/mod.json": MODULE}])
-    stops(folder, "no package at all", f"r/reports/report.json: no package has {HOST}mod.json (extends)", taxonomies=[])
+    line = f"r/reports/report.json: no package has {HOST}mod.json (extends; there is no --taxonomy)"
+    stops(folder, "no package at all", line, taxonomies=[])
+    stops(folder, "no package but the report's own", line, report={**REPORT, "META-INF/catalog.xml": catalog("")}, taxonomies=[])
     stops(
         folder,
         "a start string that differs",
@@ -482,6 +487,9 @@ def joining(folder):
     stops(
         folder, "two parameterURLs", f"{second}: 'parameterURL' has another value than in {first}", **both({"parameterURL": "a.csv"}, {"parameterURL": "b.csv"})
     )
+    three = both({"parameters": {"a": "1"}}, {"parameters": {"a": "1"}}, None, {"extends": ["low.json"]})
+    three["taxonomies"][0]["reg/low.json"] = meta(parameters={"a": "2"})
+    stops(folder, "two values in three files", f"t0/reg/low.json: 'parameters.a' has another value than in {first}", **three)
     namespaces = {"x": "http://x/"}
     makes(
         folder,
@@ -560,6 +568,11 @@ def entry_points(folder):
     )
     base["taxonomies"][0].update({"reg/d/e/x.xsd": schema(item("X"))})
     base["taxonomies"].append({"META-INF/catalog.xml": catalog(rewrite("http://filer.example/", "../f/")), "f/a/own.xsd": schema(item("O"))})
+    bare = both({}, {}, {}, {"baseURL": HOST[:-1], "taxonomy": ["mod.xsd"]})
+    makes(folder, "a baseURL without a path", parts={"documentInfo/taxonomy": [HOST + "mod.xsd"]}, types=TYPES, **bare)
+    query = both({}, {}, {}, {"taxonomy": ["q.xsd?v=1"]})
+    query["taxonomies"][0].update({"reg/q.xsd?v=1": schema(include("#a") + include("?v=2") + item("Q")), "reg/q.xsd?v=2": schema(item("R"))})
+    makes(folder, "URLs with queries", parts={"documentInfo/taxonomy": [HOST + "q.xsd?v=1"]}, types=records("Q,text", "R,text"), **query)
     urls = ["http://filer.example/a/own.xsd", HOST + "mod.xsd", HOST + "d/e/x.xsd"]
     made = makes(
         folder, "baseURL is the base of a file's own taxonomy", parts={"documentInfo/baseURL": "http://filer.example/a/", "documentInfo/taxonomy": urls}, **base
@@ -644,6 +657,11 @@ def what_is_no_metadata(folder):
             "another document type",
             '{"documentInfo":{"documentType":"https://xbrl.org/2021/xbrl-json"}}',
             "is no xBRL-CSV metadata file: its document type is 'https://xbrl.org/2021/xbrl-json'",
+        ),
+        (
+            "a longer document type",
+            '{"documentInfo":{"documentType":"https://xbrl.org/2021/xbrl-csv/x"}}',
+            "is no xBRL-CSV metadata file: its document type is 'https://xbrl.org/2021/xbrl-csv/x'",
         ),
         ("no document type", '{"documentInfo":{}}', "is no xBRL-CSV metadata file: it has no 'documentInfo.documentType'"),
         ("no documentInfo", "{}", "is no xBRL-CSV metadata file: it has no 'documentInfo.documentType'"),
@@ -864,7 +882,7 @@ def keys_that_become_one(folder):
 def lost_prefixes(folder):
     """Parameters whose texts need a prefix that the merged metadata does not have."""
     module = two_prefixes()
-    lost = "r/reports/{}: the parameter '{}' has the prefix 'm', for which 'n' stands ({})"
+    lost = "r/reports/{}: the parameter '{}' has the prefix 'm', whose namespace has the prefix 'n' here: write 'n' ({})"
     for name, text in (("a", "m:x"), ("b", "eg:y/m:x"), ("c", "(m:x)")):
         inside = named_report(parameters={name: text})
         stops(folder, f"a parameter {text}", lost.format("report.json", name, text), report=inside, taxonomies=[module])
@@ -1001,6 +1019,9 @@ def reading_once(folder):
         {"reg/mod.xsd": schema("\n" + include("http://far.example/x.xsd#a"))},
         "t0/reg/mod.xsd: no package has http://far.example/x.xsd (import, line 2)",
     )
+    for url in ("http://notxbrl.org/x.xsd", "http://www.xbrl.org.far.example/x.xsd", "http://www.xbrl.org@far.example/x.xsd", "http://far.example/www.xbrl.org"):
+        line = f"t0/reg/mod.xsd: no package has {url} (import, line 1)"
+        refuses(folder, f"an import of {url}", {"reg/mod.xsd": schema(include(url))}, line)
     refuses(
         folder,
         "an import of a file",
@@ -1038,6 +1059,9 @@ def including(folder):
     reads(
         folder, "included through another", {**two, "reg/plain.xsd": schema(include("q/inner.xsd", "include"), ""), "reg/q/inner.xsd": plain}, records("A,date")
     )
+    for first, second in (("import", "include"), ("include", "import")):
+        again = {"reg/mod.xsd": schema(include("plain.xsd", first) + include("plain.xsd", second)), "reg/plain.xsd": plain}
+        reads(folder, f"{first} and {second} of one schema", again, records("A,date"))
     ring = {"reg/mod.xsd": schema(include("plain.xsd", "include")), "reg/plain.xsd": schema(include("plain.xsd", "include") + item("A"), "")}
     reads(folder, "included in a ring", ring, records("A,text"))
     reads(folder, "imported only, it has no namespace", {"reg/mod.xsd": schema(include("plain.xsd")), "reg/plain.xsd": plain}, "namespace,name,type2\n")
@@ -1274,6 +1298,21 @@ def what_no_fact_can_have(folder):
             module = meta(INFO, tables={"t": {"url": "t.csv"}}, **named)
             line = f"t0/reg/mod.json: names the concept 'eg:{name}', which {reason} ({where})"
             stops(folder, f"{name} at {where}", line, taxonomies=[{**TAXONOMY, "reg/mod.json": module, "reg/mod.xsd": schema(nothing + ring + unknown + dead)}])
+    places = {
+        "dimensions.{}": {"dimensions": {"NAME": "x"}},
+        "tableTemplates.t.dimensions.{}": {"tableTemplates": {"t": {"columns": {}, "dimensions": {"NAME": "$c"}}}},
+        "tableTemplates.t.columns.c.dimensions.{}": {"tableTemplates": {"t": {"columns": {"c": {"dimensions": {"NAME": "#none"}}}}}},
+        "tableTemplates.t.columns.c.propertyGroups.g.dimensions.{}": {
+            "tableTemplates": {"t": {"columns": {"c": {"propertyGroups": {"g": {"dimensions": {"NAME": "x"}}}}}}}
+        },
+    }
+    unknown = "which no schema that the taxonomy reaches has as one"
+    for where, parts in places.items():
+        for name, reason in (("eg:A", unknown), ("eg:Z", unknown), ("eg:nowhere", unknown), ("no:D", "whose prefix is not among 'namespaces'")):
+            module = meta(INFO, tables={"t": {"url": "t.csv"}}, **json.loads(json.dumps(parts).replace("NAME", name)))
+            line = f"t0/reg/mod.json: names the dimension '{name}', {reason} ({where.format(name)})"
+            taxonomy = {**TAXONOMY, "reg/mod.json": module, "reg/mod.xsd": schema(nothing + item("Z"))}
+            stops(folder, f"no dimension {name} at {where}", line, taxonomies=[taxonomy])
     for name in ("A", "B", "C", "D", "E", "M", "nowhere"):
         made = prepared(
             folder, taxonomies=[{**TAXONOMY, "reg/mod.json": meta(INFO, dimensions={"concept": f"eg:{name}"}), "reg/mod.xsd": schema(nothing + ring)}]
@@ -1394,6 +1433,7 @@ def hostile_zips(folder):
     line = "the entry 'a' stands twice, as a file and as a folder"
     refused_zip(folder, "a file that is a folder too", line, [(entry("a"), "x"), (entry("a/b/c"), "x")])
     refused_zip(folder, "a link", "the entry 'a' is a link", [(entry("a", 0o120777), "/etc/passwd")])
+    refused_zip(folder, "a folder that is a link", "the entry 'a/' is a link", [(entry("a/", 0o120777), "/etc")])
     line = r"the entry 'reg/mod.json\x00X' has a name that is cut short by a zero byte"
     cut_short = lambda it: patched(it, [(b"mod.jsonQX", b"mod.json\0X")])
     refused_zip(folder, "a name that is cut short", line, [(entry("reg/mod.jsonQX"), "x")], cut_short)
@@ -1478,8 +1518,10 @@ def damaged_tables(folder):
 def unpacked_packages(folder):
     """Folders: a link that leads out of one is refused, and one that stays inside is taken."""
     write(folder / "outside", {"mod.json": MODULE, "secret.csv": "cash\n9\n"})
+    write(folder / "t0side", {"mod.json": MODULE})
     for name, link, target, line in (
         ("a module", "t0/reg/mod.json", "../../outside/mod.json", "t0/reg/mod.json: is a link that leads outside of t0"),
+        ("a module of a folder of nearly the same name", "t0/reg/mod.json", "../../t0side/mod.json", "t0/reg/mod.json: is a link that leads outside of t0"),
         ("a folder", "t0/reg", "../outside", "t0/reg/mod.json: is a link that leads outside of t0"),
         ("a table", "r/reports/t.csv", "../../outside/secret.csv", "r/reports/t.csv: is a link that leads outside of r"),
     ):
@@ -1553,6 +1595,17 @@ def tables(folder):
                 {it: text for it, text in made.items() if it.endswith((".csv", "filed-meta.json")) and it != "types.csv"},
                 {**wanted, "p/types.csv": b"name,value\n"},
             )
+        renamed = {"reports/report.json": REPORT["reports/report.json"], "reports/types.csv": "name,value\n", "reports/t.csv": "cash\n1\n"}
+        made = makes(
+            folder,
+            f"a parameters file that is called as one of the two, {form}",
+            parts={"parameterURL": "filed-types.csv"},
+            types=TYPES,
+            report=renamed,
+            taxonomies=[{**TAXONOMY, "reg/mod.json": MODULE.replace('"tables"', '"parameterURL": "types.csv", "tables"')}],
+            form=form,
+        )
+        case(f"it is there, {form}", made.get("filed-types.csv"), b"name,value\n")
     for url in ("../t.csv", "/etc/passwd", "a/../../t.csv", "a:b.csv", "a%20b.csv", "a\\b.csv", "./t.csv", "a//t.csv", "", "t.csv?x", "t.csv#x", 7, None):
         for form in ("folder", "zip"):
             module = meta(INFO, tableTemplates={"t": TEMPLATE}, tables={"t": {"url": url}}, parameterURL=url)
@@ -1631,6 +1684,9 @@ def temporary_files(folder):
             wanted = [f"{home}/meta.json", "--types", f"{home}/types.csv", "--out", "doc.json", "--progress", "--ring=7", str(folder), links, "700"]
             case(f"the words of xbrl-json, {report}, {end}", (status, lines, err), (int(end), wanted, "said\n"))
             case("the folder stands under TMPDIR, and is gone", (os.path.dirname(home), os.listdir(temporary)), (str(temporary), []))
+    for given in (["--ring", "7"], ["--layout", "lines"], ["--workers", "1"], ["--out", "doc.json"]):
+        seen = start([*given, "r", "--taxonomy", "t"], folder, env=settings)[1].decode().splitlines()
+        case(f"words before REPORT {given}", seen[3:5], given)
     for given, passed in (
         (["--new", "x", "--flag", "--progress", "--out", "d"], ["--new", "x", "--flag", "--progress", "--out", "d"]),
         (["--out=d", "--layout", "lines"], ["--out=d", "--layout", "lines"]),
@@ -1855,7 +1911,8 @@ def words(folder):
     usage = "; the words are: xbrl-filing REPORT --taxonomy PACKAGE.. [--out FILE] [words of xbrl-json]\n"
     for given, what in (
         ([], "there is no REPORT"),
-        (["--taxonomy", "t"], "there is no REPORT"),
+        (["--taxonomy", "t"], "there is no REPORT: all words behind --taxonomy are packages, so it stands before"),
+        (["--taxonomy", "t", "r"], "there is no REPORT: all words behind --taxonomy are packages, so it stands before"),
         (["r", "--taxonomy"], "--taxonomy names no package"),
         (["r", "--taxonomy", "--out", "x"], "--taxonomy names no package"),
         (["r", "--taxonomy="], "--taxonomy names no package"),
@@ -1874,6 +1931,8 @@ def words(folder):
         (["r", "--unpacked-limit=-1"], "--unpacked-limit is a number of bytes, and '-1' is none"),
     ):
         case(f"words {given}", run(given, folder), (2, f"xbrl-filing: {what}{usage}"))
+    version = subprocess.run([PROGRAM, "--version"], capture_output=True, timeout=60).stdout
+    case("--version", start(["--version"], folder), (0, version, ""))
     status, out, err = start(["r", "--help"], folder)
     case("--help", (status, b"--taxonomy PACKAGE.." in out, b"It is not proved" in out, err), (0, True, True, ""))
     with open("/dev/full", "wb") as full:
@@ -2062,6 +2121,16 @@ def caching(folder):
     ):
         kept.write_bytes(damage)
         case(f"a damaged entry {damage[:20]!r}", made(), ((0, ""), TYPES))
+
+
+def refusals_of_the_cache(folder):
+    """What is refused by what the schemas say is refused from the cache too."""
+    write(folder / "t", {**TAXONOMY, "reg/mod.json": meta(INFO, dimensions={"concept": "eg:T"}), "reg/mod.xsd": schema(headed("T xbrli:tuple"))})
+    write(folder / "r", REPORT)
+    line = "xbrl-filing: t/reg/mod.json: names the concept 'eg:T', which is a tuple, which no table can have (dimensions.concept)\n"
+    for turn in ("first", "second"):
+        seen = run(["r", "--taxonomy", "t", "--cache", "c", "--prepare", "o"], folder)
+        case(f"a tuple, {turn} run", (seen, len(os.listdir(folder / "c"))), ((1, line), 1))
 
 
 def keys_of_the_cache(folder):
@@ -2301,6 +2370,7 @@ PARTS = (
     outputs_that_are_inputs,
     folders_to_prepare,
     caching,
+    refusals_of_the_cache,
     keys_of_the_cache,
     what_changes_meanwhile,
     what_is_not_kept,
