@@ -2,9 +2,11 @@
 
 from __future__ import annotations
 
+import errno
 import hashlib
 import lzma
 import os
+import stat
 import struct
 import zipfile
 import zlib
@@ -118,7 +120,7 @@ class FolderPackage(Package):
         self.find_root()
 
     def has(self, name: str) -> bool:
-        return os.path.isfile(self.disk(name))
+        return stat.S_ISREG(mode_of(self.disk(name), self.shown(name)) or 0)
 
     def pieces(self, name: str) -> Iterator[bytes]:
         return pieces_of_disk(self.path_on_disk(name), self.shown(name))
@@ -152,7 +154,8 @@ class FolderPackage(Package):
     def path_on_disk(self, name: str) -> str:
         """The same, but of no pipe or device: who opens one may wait for ever."""
         path = self.disk(name)
-        if os.path.exists(path) and not (os.path.isfile(path) or os.path.isdir(path)):
+        mode = mode_of(path, self.shown(name))
+        if mode is not None and not (stat.S_ISREG(mode) or stat.S_ISDIR(mode)):
             raise wrong(self.shown(name), "is neither a file nor a folder")
         return path
 
@@ -166,7 +169,8 @@ class Beside(Package):
         self.read: Dict[str, None] = {}
 
     def has(self, name: str) -> bool:
-        return "\0" not in name and os.path.exists(self.shown(name)) and not os.path.isdir(self.shown(name))
+        mode = mode_of(self.shown(name), self.shown(name))
+        return mode is not None and not stat.S_ISDIR(mode)
 
     def pieces(self, name: str) -> Iterator[bytes]:
         self.read[name] = None
@@ -210,6 +214,18 @@ def damage_told(label: str) -> Iterator[None]:
     except OSError as error:
         if error.errno is None:  # what bz2 says of bytes that are not its own
             raise wrong(label, f"is damaged ({error})") from None
+        raise cannot_read(label, error) from None
+
+
+def mode_of(path: str, label: str) -> Optional[int]:
+    """What a path is, or None where nothing is there. One that the system does not let us look at is no missing one."""
+    try:
+        return os.stat(path).st_mode
+    except ValueError:  # a zero byte, or a letter that names of files cannot have here
+        return None
+    except OSError as error:
+        if error.errno in (errno.ENOENT, errno.ENOTDIR, errno.ENAMETOOLONG, errno.ELOOP):
+            return None
         raise cannot_read(label, error) from None
 
 

@@ -2,7 +2,6 @@
 
 from __future__ import annotations
 
-import errno
 import os
 import re
 import shutil
@@ -12,8 +11,8 @@ from typing import Any, Dict, Iterable, Iterator, List, Optional, Set
 
 from .finding import Found
 from .metadata import Merged
-from .packages import Package, pieces_of_disk
-from .refusals import FILES, Refusal, cannot_read, cannot_write
+from .packages import Package, mode_of, pieces_of_disk
+from .refusals import FILES, Refusal, cannot_write
 
 META, TYPES = "meta.json", "types.csv"
 # What xbrl-json takes as the path of a table; the segments are looked at besides.
@@ -109,16 +108,6 @@ def put_file(target: str, package: Package, name: str, copy: bool) -> None:
         make_folder(os.path.dirname(target))
         with writing(target):
             os.symlink(source, target)
-
-
-def mode_of(path: str, label: str) -> Optional[int]:
-    """What a path is, or None where nothing is there; nothing can be at one that is too long."""
-    try:
-        return os.stat(path).st_mode
-    except OSError as error:
-        if error.errno in (errno.ENOENT, errno.ENOTDIR, errno.ENAMETOOLONG):
-            return None
-        raise cannot_read(label, error) from None
 
 
 @contextmanager

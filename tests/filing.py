@@ -1786,7 +1786,9 @@ def what_cannot_be_read(folder):
     write(folder, {**{f"r/{it}": text for it, text in REPORT.items()}, **{f"t/{it}": text for it, text in TAXONOMY.items()}})
     folder.chmod(0o755)
     as_nobody = {"user": 65534, "group": 65534} if os.getuid() == 0 else {}
-    for path in ("t/reg/mod.xsd", "t/reg/mod.json", "r/reports/report.json", "r"):
+    tables = {"t": {"url": "t.csv"}, "u": {"url": "sub/u.csv", "template": "t", "optional": True}}
+    write(folder, {"t/reg/mod.json": MODULE.replace(json.dumps(MERGED["tables"]), json.dumps(tables)), "r/reports/sub/u.csv": "cash\n1\n"})
+    for path in ("t/reg/mod.xsd", "t/reg/mod.json", "t/reg", "t/META-INF", "r/reports/report.json", "r/reports/sub", "r/reports", "r"):
         mode = (folder / path).stat().st_mode
         (folder / path).chmod(0)
         status, out, err = start(["r", "--taxonomy", "t"], folder, **as_nobody)
