@@ -119,8 +119,7 @@ def put_info(merged: Merged, metadata: Metadata, is_report: bool) -> None:
         merged.put(("documentInfo", "baseURL"), base, label)
     info = merged.value["documentInfo"]
     if "taxonomy" in metadata.info:
-        there = info.setdefault("taxonomy", [])
-        there += [text for text in dict.fromkeys(text for text, _ in metadata.taxonomy()) if text not in there]
+        info["taxonomy"] = list(dict.fromkeys([*info.get("taxonomy", ()), *(text for text, _ in metadata.taxonomy())]))
 
 
 def put_namespaces(merged: Merged, metadata: Metadata) -> None:

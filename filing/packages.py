@@ -16,7 +16,7 @@ from itertools import chain
 from typing import Dict, Iterable, Iterator, List, Optional, Tuple
 
 from .refusals import cannot_read, wrong
-from .zip_entries import checked_entries
+from .zip_entries import Listing, checked_entries
 
 PIECE = 1 << 18
 LARGEST_TEXT = 256 << 20
@@ -85,7 +85,7 @@ class ZipPackage(Package):
             self.file = open(label, "rb")
             self.archive = zipfile.ZipFile(self.file)
             self.files = checked_entries(self.archive, label, limit)
-        self.listed = listed(self.files)
+        self.listing = Listing(self.files)
         self.find_root()
 
     def has(self, name: str) -> bool:
@@ -103,7 +103,7 @@ class ZipPackage(Package):
                 raise zipfile.BadZipFile("it ends too early")
 
     def children(self, folder: str) -> Tuple[List[str], List[str]]:
-        return self.listed.get((self.root + folder).rstrip("/"), ([], []))
+        return self.listing.children((self.root + folder).rstrip("/"))
 
     def digest(self) -> bytes:
         """Of the file that is open: another one may have taken its name since."""
@@ -255,17 +255,3 @@ def digest_of(pieces: Iterator[bytes]) -> bytes:
     for piece in pieces:
         digest.update(piece)
     return digest.digest()
-
-
-def listed(files: Dict[str, zipfile.ZipInfo]) -> Dict[str, Tuple[List[str], List[str]]]:
-    """The files and folders in each folder of a ZIP."""
-    found: Dict[str, Tuple[List[str], List[str]]] = {}
-    for path in sorted(files):
-        folder, _, name = path.rpartition("/")
-        new = folder not in found
-        found.setdefault(folder, ([], []))[0].append(name)
-        while new and folder:
-            folder, _, name = folder.rpartition("/")
-            new = folder not in found
-            found.setdefault(folder, ([], []))[1].append(name)
-    return found

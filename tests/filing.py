@@ -280,7 +280,15 @@ def forms_of_reports(folder):
     other = {"reports/other.json": '{"documentInfo":{"documentType":"https://xbrl.org/2021/xbrl-json"}}', "reports/list.json": "[1]", "reports/a.txt": "x"}
     makes(folder, "other JSON beside the report", MERGED, report={**REPORT, **other})
     makes(folder, "what is no JSON beside the report", MERGED, report={**REPORT, "reports/a.json": "x", "reports/b.json": b"\xff"})
+    upper = {"reports/REPORT.JSON": REPORT["reports/report.json"], "reports/t.csv": REPORT["reports/t.csv"]}
+    makes(folder, "a report in capitals", MERGED, report=upper)
+    near = {"reports/a!.json": "{}", "reports/q!/x": "", "reports/q.b/x": "", "reports/q/a/b/c.json": meta(), "reports/q-/x.json": "[]"}
     deep = {it.replace("reports/", "reports/q/"): text for it, text in REPORT.items()}
+    for form in ("folder", "zip", "top"):
+        makes(folder, f"folders of nearly the same name, {form}", MERGED, report={**deep, **near}, form=form)
+        two = {**near, "reports/q!/r.json": meta(), "reports/q/r.json": meta(), "reports/q-/r.json": meta()}
+        line = "r: has several xBRL-CSV reports: reports/q/r.json, reports/q!/r.json, reports/q-/r.json"
+        stops(folder, f"reports in folders of nearly the same name, {form}", line, report=two, form=form)
     made = makes(folder, "a report in a folder of reports", MERGED, report=deep)
     case("its table is the one beside it", made.get("t.csv"), b"cash\n1\n")
     makes(folder, "a report in reports wins over one in a folder", MERGED, report={**REPORT, "reports/q/report.json": meta()})
@@ -919,6 +927,7 @@ def reading_schemas(folder):
     one, leaf = ONE, LEAF
     for name, body in {
         "an import": include("d/leaf.xsd"),
+        "an import with a fragment that is a path": include("d/leaf.xsd#element(/1/2)/?#"),
         "an import that is indented": include("  d/leaf.xsd\n "),
         "an include": include("d/leaf.xsd", "include"),
         "an import by its absolute URL": include(HOST + "d/leaf.xsd"),
@@ -1430,6 +1439,8 @@ def hostile_zips(folder):
     except refusals.Refusal as refusal:
         seen = refusal.line
     case("an entry with a second name", seen, "z: the entry '../x' leads outside of the package")
+    line = "the entry 'a/b' stands twice, as a file and as a folder"
+    refused_zip(folder, "a file that is the folder of one far below", line, [(entry(it), "x") for it in ("a/b!", "a/b/c/d/e", "a/b", "a/b-", "a.b")])
     line = "the entry 'a' stands twice, as a file and as a folder"
     refused_zip(folder, "a file that is a folder too", line, [(entry("a"), "x"), (entry("a/b/c"), "x")])
     refused_zip(folder, "a link", "the entry 'a' is a link", [(entry("a", 0o120777), "/etc/passwd")])
@@ -2026,7 +2037,7 @@ def outputs_that_are_inputs(folder):
     ):
         before = listing(folder)
         line = f"xbrl-filing: {out}: cannot write ({why})\n"
-        for words_of_out in (["--out", out], [f"--out={out}"]):
+        for words_of_out in (["--out", out], [f"--out={out}"], ["--out", "no/x", "--out", out, "--workers", "1"], ["--out", out, "--out", "no/x"]):
             case(f"{given} {words_of_out}", (run([*given, *words_of_out], folder), listing(folder) == before), ((3, line), True))
         if given == ["alone/m.json"] and out != "alone/m.json":
             line = f"xbrl-filing: {out}: cannot write (Not a directory)\n"
@@ -2301,6 +2312,18 @@ def endless_schemas(folder):
     begun = time.monotonic()
     reads(folder, "a type that is very deep", {"reg/mod.xsd": schema(f'<xs:complexType name="T">{way}</xs:complexType>' + ELEMENTS)}, TYPES)
     case("a type that is very deep: soon", time.monotonic() - begun < 20, True)
+    levels = 1500
+    chain = {f"reg/n{it}.json": meta({"extends": [HOST + f"n{it + 1}.json"], "final": {"parameters": True}}) for it in range(levels)}
+    chain[f"reg/n{levels}.json"] = MODULE
+    begun = time.monotonic()
+    report = {**REPORT, "reports/report.json": meta({"extends": [HOST + "n0.json"]})}
+    makes(folder, "many levels that are all final", MERGED, report=report, taxonomies=[{**TAXONOMY, **chain}])
+    case("many levels that are all final: soon", time.monotonic() - begun < 20, True)
+    pack(folder / "deep.zip", [*REPORT.items(), *((f"{number}/" + "a/" * 32_000 + "x", "x") for number in range(20))])
+    write(folder, {f"t/{it}": text for it, text in TAXONOMY.items()})
+    little = lambda: resource.setrlimit(resource.RLIMIT_DATA, (200 << 20, 200 << 20))
+    seen = start(["deep.zip", "--taxonomy", "t", "--prepare", "o deep"], folder, preexec_fn=little)
+    case("a ZIP of very deep names, in 200 MB", seen, (0, b"", ""))
     starts = "".join(rewrite(f"{HOST}{number}/", "../reg/") for number in range(50_000))
     many = {f"reg/x{number}.xsd": schema() for number in range(4000)}
     imports = "".join(include(f"x{number}.xsd") for number in range(4000))
