@@ -21,7 +21,7 @@ class Entries(Content):
     def __init__(self, label: str) -> None:
         super().__init__(Place(CATALOG, True), label)
         self.rewrites: List[Tuple[str, str]] = []
-        self.exact: Dict[str, str] = {}
+        self.exact: List[Tuple[str, str]] = []
 
     def start(self, name: str, attributes: Dict[str, str]) -> None:
         self.depth += 1
@@ -30,7 +30,7 @@ class Entries(Content):
         if name == REWRITE and "uriStartString" in attributes:
             self.rewrites.append((attributes["uriStartString"], self.target(attributes.get("rewritePrefix", ""))))
         elif name == EXACT and "name" in attributes:
-            self.exact.setdefault(attributes["name"], self.target(attributes.get("uri", "")))
+            self.exact.append((attributes["name"], self.target(attributes.get("uri", ""))))
 
     def end(self, name: str) -> None:
         self.leave()
@@ -48,19 +48,20 @@ class Catalogs:
 
     def __init__(self, packages: Sequence[Package]) -> None:
         self.exact: Dict[str, List[Tuple[Package, str]]] = {}
-        self.rewrites: List[Tuple[str, Package, str]] = []
+        self.rewrites: Dict[str, List[Tuple[Package, str]]] = {}
         for package in packages:
             self.take(package)
-        self.rewrites.sort(key=lambda it: -len(it[0]))
+        self.lengths = sorted({len(it) for it in self.rewrites}, reverse=True)
 
     def take(self, package: Package) -> None:
         if not package.has(CATALOG):
             return
         entries = Entries(package.shown(CATALOG))
         parse(package.pieces(CATALOG), entries)
-        for url, path in entries.exact.items():
+        for url, path in entries.exact:
             self.exact.setdefault(url, []).append((package, path))
-        self.rewrites += [(start, package, prefix) for start, prefix in entries.rewrites]
+        for start, prefix in entries.rewrites:
+            self.rewrites.setdefault(start, []).append((package, prefix))
 
     def find(self, url: str) -> Optional[Tuple[Package, str]]:
         """The first file that stands for a URL: exact entries, then the longest start string, then the order of the packages."""
@@ -68,9 +69,9 @@ class Catalogs:
             name = name_in_package(path, url, package)
             if package.has(name):
                 return package, name
-        for start, package, prefix in self.rewrites:
-            if url.startswith(start):
-                name = name_in_package(prefix + url[len(start) :], url, package)
+        for length in self.lengths:
+            for package, prefix in self.rewrites.get(url[:length], ()) if length <= len(url) else ():
+                name = name_in_package(prefix + url[length:], url, package)
                 if package.has(name):
                     return package, name
         return None

@@ -2,7 +2,7 @@
 
 from __future__ import annotations
 
-from typing import Dict, Iterator, List, Optional, Tuple
+from typing import Dict, Iterator, List, Optional, Set, Tuple
 
 from .finding import Finder, Found
 from .refusals import wrong
@@ -90,6 +90,8 @@ class Chain:
     def __init__(self, report: Found, finder: Finder) -> None:
         self.finder = finder
         self.files: Dict[Place, Metadata] = {}
+        self.down: Dict[Place, List[Place]] = {}
+        self.up: Dict[Place, List[Place]] = {}
         self.read_from(report)
 
     def __iter__(self) -> Iterator[Metadata]:
@@ -115,6 +117,9 @@ class Chain:
         metadata = read_metadata(found)
         key = self.known(found.place)
         self.files[key] = metadata
+        self.down[key] = [self.known(it) for it in metadata.extends]
+        for it in self.down[key]:
+            self.up.setdefault(it, []).append(key)
         way.append((key, iter(metadata.extends)))
 
     @staticmethod
@@ -124,17 +129,19 @@ class Chain:
 
     def below(self, metadata: Metadata) -> List[Metadata]:
         """A file and all that it extends, directly or through others."""
-        found: Dict[Place, Metadata] = {}
+        return self.reached(metadata, self.down)
+
+    def above(self, metadata: Metadata) -> List[Metadata]:
+        """All files that extend a file, directly or through others."""
+        return [it for it in self.reached(metadata, self.up) if it is not metadata]
+
+    def reached(self, metadata: Metadata, ways: Dict[Place, List[Place]]) -> List[Metadata]:
+        """A file and all to which ways lead from it, in the order of the files."""
+        found: Set[Place] = set()
         waiting = [self.known(metadata.found.place)]
         while waiting:
             key = waiting.pop()
             if key not in found:
-                found[key] = self.files[key]
-                waiting += [self.known(it) for it in self.files[key].extends]
-        return list(found.values())
-
-    def above(self, metadata: Metadata) -> List[Metadata]:
-        """All files that extend a file, directly or through others."""
-        return [it for it in self if it is not metadata and any(metadata is at for at in self.below(it))]
-
-
+                found.add(key)
+                waiting += ways.get(key, ())
+        return [it for key, it in self.files.items() if key in found]

@@ -4,7 +4,6 @@ from __future__ import annotations
 
 import os
 import sys
-import tempfile
 from contextlib import suppress
 from typing import Dict, List, Optional, Tuple
 
@@ -33,14 +32,17 @@ NAME = "xbrl-filing"
 
 def main(words: List[str], program: str) -> int:
     """Runs the command; `program` is the path of xbrl-json. Answers the status."""
-    progress = Progress()
+    progress, stopping = Progress(), Stopping()
     try:
-        status, line = attempt(words, program, progress, Stopping())
+        stopping.heed()
+        status, line = attempt(words, program, progress, stopping)
         progress.clear()
         if line:
             tell(f"{NAME}: {printable(line)}")
+        stopping.heed_no_more()
         return status
     except Stopped as stopped:
+        stopping.clear()
         progress.clear()
         end_by_signal(stopped.number)
         return 128 + stopped.number
@@ -51,11 +53,15 @@ def attempt(words: List[str], program: str, progress: Progress, stopping: Stoppi
     try:
         if "--help" in words or words == ["-h"]:
             return help_told(), ""
+        if words == ["--version"]:
+            return run_program([program, *words], stopping), ""
         return run(read_words(words), program, progress, stopping), ""
     except Refusal as refusal:
         return refusal.status, refusal.line
     except MemoryError:
         return FILES, "there is not enough memory"
+    except OSError as error:
+        return FILES, f"{error.filename or 'the run'}: cannot read or write ({error.strerror or error})"
     except Exception as error:  # a fault of this program is one line too
         return WRONG, f"a fault of the program: {type(error).__name__}: {error}"
 
@@ -93,7 +99,7 @@ def run(settings: Settings, program: str, progress: Progress, stopping: Stopping
                 move_into(os.path.join(parent, name), folder)
         progress.clear()
         return 0
-    with temporary_folder(tempfile.gettempdir(), f"{NAME}-", stopping) as folder:
+    with temporary_folder(temporary_place(), f"{NAME}-", stopping) as folder:
         write_files(folder, files, types, copy=False)
         progress.clear()
         return run_program([program, os.path.join(folder, META), "--types", os.path.join(folder, TYPES), *settings.rest], stopping)
@@ -126,7 +132,8 @@ def join(report: Found, packages: List[Package], settings: Settings, progress: P
     renaming = Renaming(lost, lambda name: kind_of(name, stands, kinds) == "explicit")
     merged = merge(chain, renaming)
     refuse_impossible_concepts(merged, stands, kinds)
-    files = Files(report, [it.found.name for it in chain if it.found.package is report.package], merged)
+    refuse_unknown_dimensions(merged, stands, kinds)
+    files = Files(report, merged)
     files.require_parameters()
     check_parameters(merged, renaming, files)
     return merged, files, types_table(kinds, stands.values())
@@ -145,11 +152,13 @@ def read_kinds(chain: Chain, finder: Finder, packages: List[Package], settings: 
         return kinds_of(read_schemas(entries, finder, progress))
     cache = Cache(settings.cache)
     progress.say("looking into the cache")
-    key = key_of([it for it in packages if it is not finder.report], list(dict.fromkeys(it.place.text for it in entries)))
+    taxonomy, urls = [it for it in packages if it is not finder.report], list(dict.fromkeys(it.place.text for it in entries))
+    key = key_of(taxonomy, urls)
     kinds = cache.load(key, namespaces_of(chain).values())
     if kinds is None:
         kinds = kinds_of(read_schemas(entries, finder, progress))
-        cache.store(key, kinds)
+        if key_of(taxonomy, urls) == key:  # what was changed while it was read is not kept
+            cache.store(key, kinds)
     return kinds
 
 
@@ -167,6 +176,17 @@ def refuse_impossible_concepts(merged: Merged, namespaces: Dict[str, str], kinds
             raise wrong(label, f"names the concept '{concept}', which {reason} ({where})")
 
 
+def refuse_unknown_dimensions(merged: Merged, namespaces: Dict[str, str], kinds: Kinds) -> None:
+    """Refuses metadata that names a dimension of which the types table says nothing, as xbrl-json would, but by its name (Dimensions 1.0, section 2)."""
+    if "taxonomy" not in merged.value["documentInfo"]:
+        return
+    for dimension, label, where in merged.taxonomy_dimensions():
+        if kind_of(dimension, namespaces, kinds) not in ("explicit", "typed"):
+            known = dimension.partition(":")[0] in namespaces
+            reason = "which no schema that the taxonomy reaches has as one" if known else "whose prefix is not among 'namespaces'"
+            raise wrong(label, f"names the dimension '{dimension}', {reason} ({where})")
+
+
 def place_of(prepare: str) -> Tuple[str, str]:
     """The folder in which a prepared folder is to stand, and its name there; one that holds something is refused."""
     path = os.path.realpath(prepare)
@@ -180,6 +200,11 @@ def place_of(prepare: str) -> Tuple[str, str]:
     if not os.path.isdir(parent):
         raise cannot_write(prepare, "there is no folder to put it in")
     return parent, name
+
+
+def temporary_place() -> str:
+    """Where temporary files stand: under TMPDIR, and nowhere else where that cannot be used."""
+    return os.path.abspath(os.environ.get("TMPDIR") or "/tmp")
 
 
 def umask() -> int:

@@ -5,6 +5,7 @@ from __future__ import annotations
 from typing import NamedTuple, Optional, Sequence
 
 from .catalog import CATALOG, STANDARD_HOSTS, Catalogs
+from .markup import LONGEST_URL
 from .packages import Beside, Package
 from .refusals import Refusal, wrong
 from .urls import Place
@@ -32,6 +33,8 @@ class Finder:
 
     def find(self, place: Place, asker: str, how: str) -> Found:
         """The file at a place, or the refusal that names it and who asked for it."""
+        if len(place.text) > LONGEST_URL:
+            raise wrong(asker, f"has a URL of {len(place.text)} characters; more than {LONGEST_URL} are not taken ({how}: {place.text[:100]}..)")
         found = self.beside(place, asker, how) if place.local else self.published(place)
         if found is None:
             raise self.missing(place, asker, how)
@@ -57,4 +60,5 @@ class Finder:
         if place.local:
             return wrong(asker, f"there is no {self.report.shown(place.path())} ({how})")
         without = "".join(f"; {it.label} has no {CATALOG}" for it in self.packages if it is not self.report and not it.has(CATALOG))
-        return wrong(asker, f"no package has {place.text} ({how}{without})")
+        none = "" if any(it is not self.report for it in self.packages) else "; there is no --taxonomy"
+        return wrong(asker, f"no package has {place.text} ({how}{without}{none})")

@@ -12,6 +12,10 @@ from .urls import Place, joined
 
 Name = Tuple[str, str]  # a namespace (`""` for none) and a local name
 XML_BASE = "http://www.w3.org/XML/1998/namespace base"
+LONGEST_URL = 4096
+MOST_BASES = 100
+LARGEST_TOKEN = 16 << 20  # of a tag, a comment or an instruction, which expat holds as a whole
+NO_MEMORY = expat.errors.codes[expat.errors.XML_ERROR_NO_MEMORY]
 BY_EXPAT = ("utf-8", "utf-16", "ascii", "iso8859-1")
 DECLARED = re.compile(r"""^<\?xml[^>]*?\sencoding\s*=\s*["']([A-Za-z][A-Za-z0-9._-]*)["']""")
 MARKS = ((b"\xff\xfe\0\0", "utf-32"), (b"\0\0\xfe\xff", "utf-32"), (b"\xff\xfe", "utf-16"), (b"\xfe\xff", "utf-16"), (b"\xef\xbb\xbf", "utf-8"))
@@ -47,8 +51,13 @@ class Content:
         return self.bases[-1][1]
 
     def rebase(self, reference: str) -> None:
-        """Takes the `xml:base` of the element that has just begun."""
-        self.bases.append((self.depth, joined(self.base(), reference.strip())))
+        """Takes the `xml:base` of the element that has just begun. They grow from one to the next, so there is an end to it."""
+        base = joined(self.base(), reference.strip())
+        if len(base.text) > LONGEST_URL:
+            raise wrong(self.label, f"has an 'xml:base' of {len(base.text)} characters; more than {LONGEST_URL} are not taken (line {self.line()})")
+        if len(self.bases) > MOST_BASES:
+            raise wrong(self.label, f"has more than {MOST_BASES} elements with 'xml:base' inside of each other (line {self.line()})")
+        self.bases.append((self.depth, base))
 
     def leave(self) -> None:
         """Leaves an element: its `xml:base` ends with it."""
@@ -85,10 +94,16 @@ def parse(pieces: Iterable[bytes], content: Content) -> None:
     parser.StartElementHandler = content.start
     parser.EndElementHandler = content.end
     try:
+        fed = 0
         for piece in recoded(first, pieces, encoding) if encoding else chained(first, pieces):
             parser.Parse(piece)
+            fed += len(piece)
+            if fed - parser.CurrentByteIndex > LARGEST_TOKEN:
+                refuse(content, f"has a tag or a comment of more than {LARGEST_TOKEN} bytes")
         parser.Parse(b"", True)
     except expat.ExpatError as error:
+        if error.code == NO_MEMORY:
+            raise MemoryError from None
         raise wrong(content.label, f"is not well-formed XML: {expat.ErrorString(error.code)} (line {error.lineno})") from None
     except UnicodeError:
         raise wrong(content.label, f"is not in its encoding, {encoding} (line {content.line()})") from None

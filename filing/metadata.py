@@ -75,6 +75,15 @@ class Merged:
                 at = path + ("dimensions", "concept")
                 yield concept, self.origin(at), ".".join(at)
 
+    def taxonomy_dimensions(self) -> Iterator[Tuple[str, str, str]]:
+        """Each dimension of the taxonomy that is named: its name, the file, and where it stands there."""
+        for path, level in levels(self.value):
+            dimensions = level.get("dimensions")
+            for name in dimensions if isinstance(dimensions, dict) else ():
+                if ":" in name:
+                    at = path + ("dimensions", name)
+                    yield name, self.origin(at), ".".join(at)
+
     def text(self) -> bytes:
         """The file's bytes: compact, members in order of their names."""
         return (json.dumps(self.value, ensure_ascii=False, sort_keys=True, separators=(",", ":")) + "\n").encode()
@@ -110,8 +119,7 @@ def put_info(merged: Merged, metadata: Metadata, is_report: bool) -> None:
         merged.put(("documentInfo", "baseURL"), base, label)
     info = merged.value["documentInfo"]
     if "taxonomy" in metadata.info:
-        there = info.setdefault("taxonomy", [])
-        there += [text for text in dict.fromkeys(text for text, _ in metadata.taxonomy()) if text not in there]
+        info["taxonomy"] = list(dict.fromkeys([*info.get("taxonomy", ()), *(text for text, _ in metadata.taxonomy())]))
 
 
 def put_namespaces(merged: Merged, metadata: Metadata) -> None:

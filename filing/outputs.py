@@ -1,8 +1,9 @@
-"""Outputs that are inputs: refused before anything is written."""
+"""Outputs that are inputs, by any of their names: refused before anything is written. `--out` is emptied in place, so links count."""
 
 from __future__ import annotations
 
 import os
+import stat
 from typing import Iterator, List, Optional
 
 from .packages import FolderPackage, Package
@@ -20,8 +21,12 @@ def refuse_outputs(settings: Settings, packages: List[Package], files: Optional[
         path = os.path.realpath(output)
         if any(path == it or same_file(path, it) for it in inputs):
             raise cannot_write(output, "it is an input of this run")
-        if any(os.path.commonpath([path, it]) == it for it in folders):
+        if any(stands_in(path, it) for it in folders):
             raise cannot_write(output, "it stands inside of a package that is an input of this run")
+        if any(linked_into(path, it) for it in folders):
+            raise cannot_write(output, "it is a link to a file of a package that is an input of this run")
+    if settings.prepare is not None and settings.cache is not None and stands_in(*map(os.path.realpath, (settings.cache, settings.prepare))):
+        raise cannot_write(settings.cache, "the cache stands inside of the folder to prepare")
 
 
 def input_files(settings: Settings, files: Optional[Files]) -> Iterator[str]:
@@ -29,10 +34,26 @@ def input_files(settings: Settings, files: Optional[Files]) -> Iterator[str]:
     yield settings.report
     yield from settings.taxonomy
     if files is not None:
-        for name in [*files.metadata, *(files.name(it) for it in files.all())]:
+        for name in [*files.package.names_read(), *(files.name(it) for it in files.all())]:
             path = files.package.path_on_disk(name)
             if path is not None:
                 yield path
+
+
+def stands_in(path: str, folder: str) -> bool:
+    """Whether a path is a folder's or leads into it; both are without links."""
+    return os.path.commonpath([path, folder]) == folder
+
+
+def linked_into(path: str, folder: str) -> bool:
+    """Whether a file has another name in a folder: a hard link, which no path shows."""
+    try:
+        known = os.stat(path)
+    except OSError:
+        return False
+    if known.st_nlink < 2 or not stat.S_ISREG(known.st_mode):
+        return False
+    return any(same_file(path, os.path.join(at, it)) for at, _, names in os.walk(folder) for it in names)
 
 
 def same_file(one: str, other: str) -> bool:

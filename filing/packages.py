@@ -2,18 +2,21 @@
 
 from __future__ import annotations
 
+import errno
 import hashlib
 import lzma
 import os
+import stat
 import struct
 import zipfile
 import zlib
 from abc import ABC, abstractmethod
 from contextlib import contextmanager
-from typing import Dict, Iterator, List, Optional, Tuple
+from itertools import chain
+from typing import Dict, Iterable, Iterator, List, Optional, Tuple
 
 from .refusals import cannot_read, wrong
-from .zip_entries import checked_entries
+from .zip_entries import Listing, checked_entries
 
 PIECE = 1 << 18
 LARGEST_TEXT = 256 << 20
@@ -47,6 +50,10 @@ class Package(ABC):
         """The path of a file that stands on the disk by itself, or None where it must be unpacked."""
         return None
 
+    def names_read(self) -> Iterable[str]:
+        """The names of what has been read so far, where the package is no folder or ZIP of its own."""
+        return ()
+
     def shown(self, name: str) -> str:
         """How lines name a file of the package."""
         return f"{self.label.rstrip('/')}/{self.root}{name}"
@@ -75,9 +82,10 @@ class ZipPackage(Package):
     def __init__(self, label: str, limit: int) -> None:
         super().__init__(label)
         with damage_told(label):
-            self.archive = zipfile.ZipFile(label)
+            self.file = open(label, "rb")
+            self.archive = zipfile.ZipFile(self.file)
             self.files = checked_entries(self.archive, label, limit)
-        self.listed = listed(self.files)
+        self.listing = Listing(self.files)
         self.find_root()
 
     def has(self, name: str) -> bool:
@@ -95,11 +103,12 @@ class ZipPackage(Package):
                 raise zipfile.BadZipFile("it ends too early")
 
     def children(self, folder: str) -> Tuple[List[str], List[str]]:
-        return self.listed.get((self.root + folder).rstrip("/"), ([], []))
+        return self.listing.children((self.root + folder).rstrip("/"))
 
     def digest(self) -> bytes:
-        with damage_told(self.label), open(self.label, "rb") as file:
-            return digest_of(iter(lambda: file.read(PIECE), b""))
+        """Of the file that is open: another one may have taken its name since."""
+        with damage_told(self.label):
+            return digest_of(os.pread(self.file.fileno(), PIECE, at) for at in range(0, os.fstat(self.file.fileno()).st_size, PIECE))
 
 
 class FolderPackage(Package):
@@ -111,38 +120,29 @@ class FolderPackage(Package):
         self.find_root()
 
     def has(self, name: str) -> bool:
-        return os.path.isfile(self.disk(name))
+        return stat.S_ISREG(mode_of(self.disk(name), self.shown(name)) or 0)
 
     def pieces(self, name: str) -> Iterator[bytes]:
-        return pieces_of_disk(self.disk(name), self.shown(name))
+        return pieces_of_disk(self.path_on_disk(name), self.shown(name))
 
     def children(self, folder: str) -> Tuple[List[str], List[str]]:
-        found = self.entries(folder)
+        found = entries_of(self.disk(folder), self.shown(folder))
         return [it.name for it in found if not it.is_dir()], [it.name for it in found if it.is_dir()]
 
-    def entries(self, folder: str) -> List[os.DirEntry[str]]:
-        """What stands in a folder, in order of the names; nothing where there is no such folder."""
-        try:
-            with os.scandir(self.disk(folder)) as found:
-                return sorted(found, key=lambda it: it.name)
-        except (FileNotFoundError, NotADirectoryError):
-            return []
-        except OSError as error:
-            raise cannot_read(self.shown(folder), error) from None
-
     def digest(self) -> bytes:
-        return digest_of(self.all_bytes(""))
+        """Of all that the folder holds, also beside the root, where links may lead."""
+        return digest_of(chain([os.fsencode(self.root) + b"\0"], self.all_bytes("")))
 
     def all_bytes(self, folder: str) -> Iterator[bytes]:
-        """The names of all files of a folder, in order, with their digests, or with what they link to."""
-        for it in self.entries(folder):
+        """Of each file and link its name and its content or target, in order; each as a digest, so that none runs into the next."""
+        for it in entries_of(os.path.join(self.top, folder), self.label):
             name = folder + it.name
             if it.is_symlink():
-                yield os.fsencode(f"{name}\0{os.readlink(it.path)}\0")
+                yield digest_of(iter([b"link ", os.fsencode(name)])) + digest_of(iter([os.fsencode(os.readlink(it.path))]))
             elif it.is_dir():
                 yield from self.all_bytes(name + "/")
             elif it.is_file():
-                yield os.fsencode(name) + b"\0" + digest_of(pieces_of_disk(it.path, self.shown(name)))
+                yield digest_of(iter([b"file ", os.fsencode(name)])) + digest_of(pieces_of_disk(it.path, f"{self.label}/{name}"))
 
     def disk(self, name: str) -> str:
         """The path on the disk; a link that leads outside of the folder is refused."""
@@ -151,8 +151,13 @@ class FolderPackage(Package):
             raise wrong(self.shown(name), f"is a link that leads outside of {self.label}")
         return path
 
-    def path_on_disk(self, name: str) -> Optional[str]:
-        return self.disk(name)
+    def path_on_disk(self, name: str) -> str:
+        """The same, but of no pipe or device: who opens one may wait for ever."""
+        path = self.disk(name)
+        mode = mode_of(path, self.shown(name))
+        if mode is not None and not (stat.S_ISREG(mode) or stat.S_ISDIR(mode)):
+            raise wrong(self.shown(name), "is neither a file nor a folder")
+        return path
 
 
 class Beside(Package):
@@ -161,12 +166,18 @@ class Beside(Package):
     def __init__(self, label: str) -> None:
         super().__init__(label)
         self.folder = os.path.dirname(label)
+        self.read: Dict[str, None] = {}
 
     def has(self, name: str) -> bool:
-        return "\0" not in name and os.path.exists(self.shown(name)) and not os.path.isdir(self.shown(name))
+        mode = mode_of(self.shown(name), self.shown(name))
+        return mode is not None and not stat.S_ISDIR(mode)
 
     def pieces(self, name: str) -> Iterator[bytes]:
+        self.read[name] = None
         return pieces_of_disk(self.shown(name), self.shown(name))
+
+    def names_read(self) -> Iterable[str]:
+        return self.read
 
     def children(self, folder: str) -> Tuple[List[str], List[str]]:
         return [], []
@@ -206,6 +217,29 @@ def damage_told(label: str) -> Iterator[None]:
         raise cannot_read(label, error) from None
 
 
+def mode_of(path: str, label: str) -> Optional[int]:
+    """What a path is, or None where nothing is there. One that the system does not let us look at is no missing one."""
+    try:
+        return os.stat(path).st_mode
+    except ValueError:  # a zero byte, or a letter that names of files cannot have here
+        return None
+    except OSError as error:
+        if error.errno in (errno.ENOENT, errno.ENOTDIR, errno.ENAMETOOLONG, errno.ELOOP):
+            return None
+        raise cannot_read(label, error) from None
+
+
+def entries_of(path: str, label: str) -> List[os.DirEntry[str]]:
+    """What stands in a folder of the disk, in order of the names; nothing where there is no such folder."""
+    try:
+        with os.scandir(path) as found:
+            return sorted(found, key=lambda it: it.name)
+    except (FileNotFoundError, NotADirectoryError):
+        return []
+    except OSError as error:
+        raise cannot_read(label, error) from None
+
+
 def pieces_of_disk(path: str, label: str) -> Iterator[bytes]:
     """The bytes of a file on the disk, piece by piece."""
     try:
@@ -221,17 +255,3 @@ def digest_of(pieces: Iterator[bytes]) -> bytes:
     for piece in pieces:
         digest.update(piece)
     return digest.digest()
-
-
-def listed(files: Dict[str, zipfile.ZipInfo]) -> Dict[str, Tuple[List[str], List[str]]]:
-    """The files and folders in each folder of a ZIP."""
-    found: Dict[str, Tuple[List[str], List[str]]] = {}
-    for path in sorted(files):
-        folder, _, name = path.rpartition("/")
-        new = folder not in found
-        found.setdefault(folder, ([], []))[0].append(name)
-        while new and folder:
-            folder, _, name = folder.rpartition("/")
-            new = folder not in found
-            found.setdefault(folder, ([], []))[1].append(name)
-    return found

@@ -7,6 +7,7 @@ import io
 from typing import Iterator, Tuple
 
 from .metadata import Merged, objects
+from .packages import LARGEST_TEXT
 from .prefixes import Renaming
 from .prepared import Files
 from .refusals import wrong
@@ -19,7 +20,8 @@ def check_parameters(merged: Merged, renaming: Renaming, files: Files) -> None:
     for name, text, label in (*parameters_of_metadata(merged), *parameters_of_file(files)):
         prefix = renaming.lost_in(text)
         if prefix is not None:
-            raise wrong(label, f"the parameter '{name}' has the prefix '{prefix}', for which '{renaming.lost[prefix]}' stands ({text})")
+            stands = renaming.lost[prefix]
+            raise wrong(label, f"the parameter '{name}' has the prefix '{prefix}', whose namespace has the prefix '{stands}' here: write '{stands}' ({text})")
 
 
 def parameters_of_metadata(merged: Merged) -> Iterator[Tuple[str, str, str]]:
@@ -38,6 +40,7 @@ def parameters_of_file(files: Files) -> Iterator[Tuple[str, str, str]]:
     if data is None:
         return
     label = files.package.shown(files.name(files.parameters or ""))
+    csv.field_size_limit(LARGEST_TEXT)
     try:
         for record in csv.reader(io.StringIO(data.decode("utf-8", "replace"), newline="")):
             if len(record) == 2:

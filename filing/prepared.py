@@ -6,12 +6,13 @@ import os
 import re
 import shutil
 import stat
+from contextlib import contextmanager
 from typing import Any, Dict, Iterable, Iterator, List, Optional, Set
 
 from .finding import Found
 from .metadata import Merged
-from .packages import Package, pieces_of_disk
-from .refusals import FILES, Refusal, cannot_read, cannot_write
+from .packages import Package, mode_of, pieces_of_disk
+from .refusals import FILES, Refusal, cannot_write
 
 META, TYPES = "meta.json", "types.csv"
 # What xbrl-json takes as the path of a table; the segments are looked at besides.
@@ -26,9 +27,8 @@ def is_plain(url: object) -> bool:
 class Files:
     """The tables and the parameters file of a report, by the URLs of the merged metadata."""
 
-    def __init__(self, report: Found, metadata: List[str], merged: Merged) -> None:
+    def __init__(self, report: Found, merged: Merged) -> None:
         self.package: Package = report.package
-        self.metadata = metadata
         self.folder = report.name[: report.name.rfind("/") + 1]
         self.merged = merged
         tables = merged.value.get("tables", {}).values()
@@ -95,36 +95,40 @@ def put_file(target: str, package: Package, name: str, copy: bool) -> None:
         if package.has(name):
             fill(target, package.pieces(name))
         elif package.children(name) != ([], []):
-            os.makedirs(target, exist_ok=True)
+            make_folder(target)
         return
-    try:
-        mode = os.stat(source).st_mode
-    except (FileNotFoundError, NotADirectoryError):
+    mode = mode_of(source, package.shown(name))
+    if mode is None:
         return
-    except OSError as error:
-        raise cannot_read(package.shown(name), error) from None
     if stat.S_ISDIR(mode):
-        os.makedirs(target, exist_ok=True)
+        make_folder(target)
     elif copy:
         fill(target, pieces_of_disk(source, package.shown(name)))
     else:
-        make_folder_of(target)
-        os.symlink(source, target)
+        make_folder(os.path.dirname(target))
+        with writing(target):
+            os.symlink(source, target)
 
 
-def make_folder_of(target: str) -> None:
-    os.makedirs(os.path.dirname(target), exist_ok=True)
+@contextmanager
+def writing(target: str) -> Iterator[None]:
+    """Tells of a file that cannot be written. What cannot be read is told by those who read."""
+    try:
+        yield
+    except OSError as error:
+        raise cannot_write(target, error) from None
+
+
+def make_folder(target: str) -> None:
+    with writing(target):
+        os.makedirs(target, exist_ok=True)
 
 
 def fill(target: str, pieces: Iterator[bytes]) -> None:
-    """Writes a file. What cannot be read is told by the pieces themselves."""
-    try:
-        make_folder_of(target)
-        with open(target, "wb") as file:
-            for piece in pieces:
-                file.write(piece)
-    except OSError as error:
-        raise cannot_write(target, error) from None
+    make_folder(os.path.dirname(target))
+    with writing(target), open(target, "wb") as file:
+        for piece in pieces:
+            file.write(piece)
 
 
 def move_into(folder: str, made: str) -> None:
@@ -134,6 +138,8 @@ def move_into(folder: str, made: str) -> None:
         if not os.path.lexists(folder):
             os.rename(made, folder)
             return
+        if os.listdir(folder):
+            raise cannot_write(folder, "the folder is not empty any more")
         for name in sorted(os.listdir(made)):
             os.rename(os.path.join(made, name), os.path.join(folder, name))
             moved.append(name)

@@ -5,6 +5,7 @@ from __future__ import annotations
 WRONG = 1  # the report or the taxonomy is wrong
 WORDS = 2  # the words are not a command line
 FILES = 3  # a file is not there, or cannot be read or written
+LONGEST_LINE = 2000
 
 
 class Refusal(Exception):
@@ -32,5 +33,7 @@ def cannot_write(file: str, why: object) -> Refusal:
 
 
 def printable(text: str) -> str:
-    """A text whose control characters, line ends and broken bytes are written as escapes, so that a line stays one line."""
+    """A text whose control characters, line ends and broken bytes are written as escapes, so that a line stays one line; a very long one is cut."""
+    if len(text) > LONGEST_LINE:
+        text = f"{text[: LONGEST_LINE // 2]} .. {text[-LONGEST_LINE // 2 :]}"
     return "".join(it if it.isprintable() else it.encode("unicode_escape", "surrogatepass").decode() for it in text)

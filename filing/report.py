@@ -13,6 +13,7 @@ from .strict_json import Json, read_json
 from .urls import Place
 
 PACKAGE_FILE = "META-INF/reportPackage.json"
+TAXONOMY_FILE = "META-INF/taxonomyPackage.xml"
 PACKAGE_TYPES = ["https://xbrl.org/report-package/2023" + it for it in ("", "/xbr", "/xbri")]
 
 
@@ -41,6 +42,7 @@ def find_report(package: Package) -> Found:
     if broken:
         raise broken
     others = "".join(f"; {name} has the document type {kind!r}" for name, kind in passed if kind)
+    others += "; it is a taxonomy package" if package.has(TAXONOMY_FILE) else ""
     raise wrong(package.label, f"has no xBRL-CSV report in 'reports' or a folder of it{others}")
 
 

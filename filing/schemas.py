@@ -78,7 +78,7 @@ class SchemaFile(Content):
         self.references: List[Reference] = []
         self.asked: Set[str] = set()
         self.open: Optional[Tuple[bool, str, Dict[str, str]]] = None  # a global element or type whose content is still to come
-        self.inside: List[str] = []
+        self.astray = 0  # how many elements are open in it that are not on the way to its base
         self.derived_from: Optional[Name] = None
         self.is_ncname = re.compile(NCNAME).fullmatch
         self.made: Dict[object, Element] = {}  # by what the attributes say, while the prefixes in scope are the same
@@ -101,8 +101,8 @@ class SchemaFile(Content):
         if self.open is not None:
             if self.depth == 2:
                 self.close()
-            else:
-                self.inside.pop()
+            elif name not in WAY_TO_A_BASE:
+                self.astray -= 1
         if self.bases[-1][0] == self.depth:
             self.bases.pop()
         self.depth -= 1
@@ -143,7 +143,7 @@ class SchemaFile(Content):
     def follow(self, name: str, attributes: Dict[str, str]) -> None:
         """Keeps what an element asks for (XBRL 2.1, section 3.2: discovery)."""
         if self.open is not None and self.depth > 2:
-            self.inside.append(name)
+            self.astray += 1
         reference = attributes.get(FOLLOWED[name])
         if reference is None or (name == LINKBASE_REF and attributes.get(ROLE, "").strip() in PASSED_OVER):
             return
@@ -170,9 +170,10 @@ class SchemaFile(Content):
 
     def inner(self, name: str, attributes: Dict[str, str]) -> None:
         """What stands inside of a global element or type: its derivation is looked for, and not those of elements further inside."""
-        if name in DERIVATIONS and self.derived_from is None and "base" in attributes and WAY_TO_A_BASE.issuperset(self.inside):
+        if name not in WAY_TO_A_BASE:
+            self.astray += 1
+        elif name in DERIVATIONS and self.derived_from is None and not self.astray and "base" in attributes:
             self.derived_from = self.name(attributes["base"], self.adopted())
-        self.inside.append(name)
 
     def close(self) -> None:
         """Keeps a global element or type. The first one of a name stands: a schema by two URLs gives its names once."""

@@ -4,6 +4,7 @@ from __future__ import annotations
 
 import os
 import secrets
+import select
 import shutil
 import signal
 import subprocess
@@ -12,6 +13,7 @@ from typing import Iterator, List, Optional
 
 from .refusals import FILES, Refusal, cannot_write
 
+LONGEST_WAIT = 1.0  # a caller may have blocked the signal that tells of the child's end
 SIGNALS = (signal.SIGINT, signal.SIGTERM, signal.SIGHUP)
 
 
@@ -30,9 +32,19 @@ class Stopping:
         self.holding = 0
         self.asked = 0
         self.told = False
+        self.folders: List[str] = []  # temporary ones that may be there
+
+    def heed(self) -> None:
+        """Begins to take signals, but not those that the caller ignores."""
         for it in SIGNALS:
             if signal.getsignal(it) not in (signal.SIG_IGN, None):
                 signal.signal(it, lambda number, _: self.ask(number))
+
+    def heed_no_more(self) -> None:
+        """Leaves signals to the system, once nothing is left that must be cleared."""
+        for it in SIGNALS:
+            if signal.getsignal(it) not in (signal.SIG_IGN, None):
+                signal.signal(it, signal.SIG_DFL)
 
     def ask(self, number: int) -> None:
         self.asked = self.asked or number
@@ -53,11 +65,19 @@ class Stopping:
             self.holding -= 1
         self.tell()
 
+    def clear(self) -> None:
+        """Removes the temporary folders. One that a signal kept from being removed at its own end is removed at the run's."""
+        with self.held():
+            while self.folders:
+                shutil.rmtree(self.folders[-1], ignore_errors=True)
+                self.folders.pop()
+
 
 @contextmanager
 def temporary_folder(parent: str, name: str, stopping: Stopping) -> Iterator[str]:
     """A new folder, gone at every end."""
     path = os.path.join(parent, f"{name}{secrets.token_hex(8)}")
+    stopping.folders.append(path)
     try:
         try:
             os.mkdir(path, 0o700)
@@ -65,8 +85,7 @@ def temporary_folder(parent: str, name: str, stopping: Stopping) -> Iterator[str
             raise cannot_write(path, error) from None
         yield path
     finally:
-        with stopping.held():
-            shutil.rmtree(path, ignore_errors=True)
+        stopping.clear()
 
 
 def run_program(words: List[str], stopping: Stopping) -> int:
@@ -77,7 +96,8 @@ def run_program(words: List[str], stopping: Stopping) -> int:
             with stopping.held():
                 child = subprocess.Popen(words)
             while child.poll() is None:
-                os.read(reader, 64)
+                if select.select([reader], [], [], LONGEST_WAIT)[0]:
+                    os.read(reader, 64)
     except OSError as error:
         raise Refusal(FILES, words[0], f"cannot run ({error.strerror})") from None
     except Stopped as stopped:

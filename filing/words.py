@@ -117,7 +117,7 @@ def take_other(settings: Settings, words: List[str], at: int) -> int:
 
 def checked(settings: Settings) -> Settings:
     if not settings.report:
-        raise misuse("there is no REPORT")
+        raise misuse("there is no REPORT" + (": all words behind --taxonomy are packages, so it stands before" if settings.taxonomy else ""))
     if settings.prepare is not None and settings.rest:
         raise misuse(f"with --prepare nothing is converted, so '{settings.rest[0]}' means nothing")
     return settings

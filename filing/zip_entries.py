@@ -4,7 +4,8 @@ from __future__ import annotations
 
 import stat
 import zipfile
-from typing import Dict, Optional, Set
+from bisect import bisect_left
+from typing import Dict, Iterable, List, Optional, Set, Tuple
 
 from .refusals import wrong
 
@@ -20,12 +21,10 @@ def checked_entries(archive: zipfile.ZipFile, label: str, limit: int) -> Dict[st
     seen: Set[str] = set()
     unpacked = 0
     for entry in archive.infolist():
-        fault = fault_of_name(entry.orig_filename) or fault_of_entry(entry)
+        for given in (entry.orig_filename, entry.filename):  # newer Pythons take the second from an extra field
+            refuse(label, given, fault_of_name(given))
         name = entry.filename.rstrip("/")
-        if fault is None and name in seen:
-            fault = "stands twice"
-        if fault is not None:
-            raise wrong(label, f"the entry '{entry.orig_filename}' {fault}")
+        refuse(label, entry.orig_filename, fault_of_entry(entry) or ("stands twice" if name in seen else None))
         seen.add(name)
         unpacked += entry.file_size
         if not entry.is_dir():
@@ -34,6 +33,11 @@ def checked_entries(archive: zipfile.ZipFile, label: str, limit: int) -> Dict[st
         raise wrong(label, f"unpacks to {unpacked} bytes, more than {limit} (--unpacked-limit allows more)")
     refuse_files_that_are_folders(files, seen, label)
     return files
+
+
+def refuse(label: str, name: str, fault: Optional[str]) -> None:
+    if fault is not None:
+        raise wrong(label, f"the entry '{name}' {fault}")
 
 
 def fault_of_name(name: str) -> Optional[str]:
@@ -67,12 +71,27 @@ def fault_of_entry(entry: zipfile.ZipInfo) -> Optional[str]:
 
 def refuse_files_that_are_folders(files: Dict[str, zipfile.ZipInfo], seen: Set[str], label: str) -> None:
     """Refuses a name that is both a file and the folder of another entry."""
-    folders: Set[str] = set()
-    for name in seen:
-        parent = name.rpartition("/")[0]
-        while parent and parent not in folders:
-            folders.add(parent)
-            parent = parent.rpartition("/")[0]
-    twice = sorted(folders.intersection(files))
-    if twice:
-        raise wrong(label, f"the entry '{twice[0]}' stands twice, as a file and as a folder")
+    names = Listing(seen).names
+    for one, other in zip(names, names[1:]):
+        name = one.replace("\0", "/")
+        if other.startswith(one + "\0") and name in files:
+            raise wrong(label, f"the entry '{name}' stands twice, as a file and as a folder")
+
+
+class Listing:
+    """Names in the order of their segments, so that all that stands in a folder stands together. No folder is kept by itself: names may be deep."""
+
+    def __init__(self, names: Iterable[str]) -> None:
+        self.names = sorted(it.replace("/", "\0") for it in names)
+
+    def children(self, folder: str) -> Tuple[List[str], List[str]]:
+        """The names of the files and of the folders in a folder, in order."""
+        front = folder.replace("/", "\0") + "\0" if folder else ""
+        files: List[str] = []
+        folders: List[str] = []
+        at = bisect_left(self.names, front)
+        while at < len(self.names) and self.names[at].startswith(front):
+            name, below, _ = self.names[at][len(front) :].partition("\0")
+            (folders if below else files).append(name)
+            at = bisect_left(self.names, front + name + "\1", at)
+        return files, folders

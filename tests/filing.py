@@ -8,6 +8,7 @@ compared with what the rules say, and the example's document with the one writte
 fails. The last line counts. Python 3.9 or later and Linux are needed.
 """
 import contextlib
+import errno
 import io
 import json
 import os
@@ -29,7 +30,7 @@ EXAMPLE = TOP / "examples/filing"
 FILING = str(TOP / "xbrl-filing")
 sys.path.insert(0, str(TOP))
 
-from filing import command, packages, stopping  # noqa: E402
+from filing import command, packages, refusals, stopping, zip_entries  # noqa: E402
 
 HOST = "http://reg.example/"
 CSV = "https://xbrl.org/2021/xbrl-csv"
@@ -142,7 +143,7 @@ def run(words, folder):
 def start(words, folder, **more):
     """Status, standard output and standard error of a run of its own, with xbrl-json behind it."""
     env = {**os.environ, "XBRL_JSON": PROGRAM, **more.pop("env", {})}
-    done = subprocess.run([FILING, *map(str, words)], cwd=folder, env=env, stdin=subprocess.DEVNULL, capture_output=True, timeout=120, **more)
+    done = subprocess.run([FILING, *map(str, words)], cwd=folder, env=env, stdin=subprocess.DEVNULL, capture_output=True, **{"timeout": 120, **more})
     return done.returncode, done.stdout, done.stderr.decode(errors="replace")
 
 
@@ -279,7 +280,15 @@ def forms_of_reports(folder):
     other = {"reports/other.json": '{"documentInfo":{"documentType":"https://xbrl.org/2021/xbrl-json"}}', "reports/list.json": "[1]", "reports/a.txt": "x"}
     makes(folder, "other JSON beside the report", MERGED, report={**REPORT, **other})
     makes(folder, "what is no JSON beside the report", MERGED, report={**REPORT, "reports/a.json": "x", "reports/b.json": b"\xff"})
+    upper = {"reports/REPORT.JSON": REPORT["reports/report.json"], "reports/t.csv": REPORT["reports/t.csv"]}
+    makes(folder, "a report in capitals", MERGED, report=upper)
+    near = {"reports/a!.json": "{}", "reports/q!/x": "", "reports/q.b/x": "", "reports/q/a/b/c.json": meta(), "reports/q-/x.json": "[]"}
     deep = {it.replace("reports/", "reports/q/"): text for it, text in REPORT.items()}
+    for form in ("folder", "zip", "top"):
+        makes(folder, f"folders of nearly the same name, {form}", MERGED, report={**deep, **near}, form=form)
+        two = {**near, "reports/q!/r.json": meta(), "reports/q/r.json": meta(), "reports/q-/r.json": meta()}
+        line = "r: has several xBRL-CSV reports: reports/q/r.json, reports/q!/r.json, reports/q-/r.json"
+        stops(folder, f"reports in folders of nearly the same name, {form}", line, report=two, form=form)
     made = makes(folder, "a report in a folder of reports", MERGED, report=deep)
     case("its table is the one beside it", made.get("t.csv"), b"cash\n1\n")
     makes(folder, "a report in reports wins over one in a folder", MERGED, report={**REPORT, "reports/q/report.json": meta()})
@@ -289,6 +298,8 @@ def forms_of_reports(folder):
     apart = {f"top/{it}": text for it, text in REPORT.items()}
     stops(folder, "two folders at the top", "r: has no xBRL-CSV report in 'reports' or a folder of it", report={**apart, "z/x": ""})
     stops(folder, "no report", "r: has no xBRL-CSV report in 'reports' or a folder of it", report={"reports/a/b/r.json": meta()})
+    line = "r: has no xBRL-CSV report in 'reports' or a folder of it; it is a taxonomy package"
+    stops(folder, "a taxonomy package in the place of a report", line, report={**TAXONOMY, "META-INF/taxonomyPackage.xml": "<a/>"})
     draft = '{"documentInfo":{"documentType":"http://xbrl.org/PWD/2019-02-06/xbrl-csv"}}'
     line = "r: has no xBRL-CSV report in 'reports' or a folder of it; reports/r.json has the document type 'http://xbrl.org/PWD/2019-02-06/xbrl-csv'"
     stops(folder, "a report of a draft", line, report={"reports/r.json": draft})
@@ -319,6 +330,11 @@ def catalogs(folder):
     by("a longer start string without the file", rewrite() + rewrite(HOST + "mo", "../none/mo"), "reg")
     by("an exact entry before a start string", rewrite() + f'<uri name="{HOST}mod.json" uri="../other/mod.json"/>', "other")
     by("an exact entry without its file", rewrite() + f'<uri name="{HOST}mod.json" uri="../none/mod.json"/>', "reg")
+    by("percent signs in a prefix", rewrite(prefix="../o%74%20her/"), "other", {it.replace("other", "ot her"): text for it, text in other.items()})
+    twice = f'<uri name="{HOST}mod.json" uri="../none/mod.json"/><uri name="{HOST}mod.json" uri="../other/mod.json"/>'
+    by("a second exact entry of the same name", rewrite() + twice, "other")
+    by("a second start string of the same text", rewrite(prefix="../none/") + rewrite(prefix="../other/") + rewrite(), "other")
+    by("a URL that is shorter than a start string", rewrite() + rewrite(HOST + "mod.json/and/more", "../other/mod.json"), "reg")
     by("an entry in a group", f"<group>{rewrite()}</group>", "reg")
     by("the base of a group", f'<group xml:base="../other/">{rewrite(prefix="")}</group>{rewrite("http://a/", "../reg/")}', "other")
     by("the base of a catalog", rewrite(prefix="./"), "other", attributes='xml:base="../other/"')
@@ -355,7 +371,9 @@ def catalogs_refused(folder):
     makes(folder, "dots that are written are resolved", MERGED, report=dots)
     line = f"r/reports/report.json: no package has {HOST}mod.json (extends; t0 has no META-INF/catalog.xml)"
     stops(folder, "a package without a catalog", line, taxonomies=[{"reg/mod.json": MODULE}])
-    stops(folder, "no package at all", f"r/reports/report.json: no package has {HOST}mod.json (extends)", taxonomies=[])
+    line = f"r/reports/report.json: no package has {HOST}mod.json (extends; there is no --taxonomy)"
+    stops(folder, "no package at all", line, taxonomies=[])
+    stops(folder, "no package but the report's own", line, report={**REPORT, "META-INF/catalog.xml": catalog("")}, taxonomies=[])
     stops(
         folder,
         "a start string that differs",
@@ -477,6 +495,9 @@ def joining(folder):
     stops(
         folder, "two parameterURLs", f"{second}: 'parameterURL' has another value than in {first}", **both({"parameterURL": "a.csv"}, {"parameterURL": "b.csv"})
     )
+    three = both({"parameters": {"a": "1"}}, {"parameters": {"a": "1"}}, None, {"extends": ["low.json"]})
+    three["taxonomies"][0]["reg/low.json"] = meta(parameters={"a": "2"})
+    stops(folder, "two values in three files", f"t0/reg/low.json: 'parameters.a' has another value than in {first}", **three)
     namespaces = {"x": "http://x/"}
     makes(
         folder,
@@ -555,6 +576,11 @@ def entry_points(folder):
     )
     base["taxonomies"][0].update({"reg/d/e/x.xsd": schema(item("X"))})
     base["taxonomies"].append({"META-INF/catalog.xml": catalog(rewrite("http://filer.example/", "../f/")), "f/a/own.xsd": schema(item("O"))})
+    bare = both({}, {}, {}, {"baseURL": HOST[:-1], "taxonomy": ["mod.xsd"]})
+    makes(folder, "a baseURL without a path", parts={"documentInfo/taxonomy": [HOST + "mod.xsd"]}, types=TYPES, **bare)
+    query = both({}, {}, {}, {"taxonomy": ["q.xsd?v=1"]})
+    query["taxonomies"][0].update({"reg/q.xsd?v=1": schema(include("#a") + include("?v=2") + item("Q")), "reg/q.xsd?v=2": schema(item("R"))})
+    makes(folder, "URLs with queries", parts={"documentInfo/taxonomy": [HOST + "q.xsd?v=1"]}, types=records("Q,text", "R,text"), **query)
     urls = ["http://filer.example/a/own.xsd", HOST + "mod.xsd", HOST + "d/e/x.xsd"]
     made = makes(
         folder, "baseURL is the base of a file's own taxonomy", parts={"documentInfo/baseURL": "http://filer.example/a/", "documentInfo/taxonomy": urls}, **base
@@ -639,6 +665,11 @@ def what_is_no_metadata(folder):
             "another document type",
             '{"documentInfo":{"documentType":"https://xbrl.org/2021/xbrl-json"}}',
             "is no xBRL-CSV metadata file: its document type is 'https://xbrl.org/2021/xbrl-json'",
+        ),
+        (
+            "a longer document type",
+            '{"documentInfo":{"documentType":"https://xbrl.org/2021/xbrl-csv/x"}}',
+            "is no xBRL-CSV metadata file: its document type is 'https://xbrl.org/2021/xbrl-csv/x'",
         ),
         ("no document type", '{"documentInfo":{}}', "is no xBRL-CSV metadata file: it has no 'documentInfo.documentType'"),
         ("no documentInfo", "{}", "is no xBRL-CSV metadata file: it has no 'documentInfo.documentType'"),
@@ -859,7 +890,7 @@ def keys_that_become_one(folder):
 def lost_prefixes(folder):
     """Parameters whose texts need a prefix that the merged metadata does not have."""
     module = two_prefixes()
-    lost = "r/reports/{}: the parameter '{}' has the prefix 'm', for which 'n' stands ({})"
+    lost = "r/reports/{}: the parameter '{}' has the prefix 'm', whose namespace has the prefix 'n' here: write 'n' ({})"
     for name, text in (("a", "m:x"), ("b", "eg:y/m:x"), ("c", "(m:x)")):
         inside = named_report(parameters={name: text})
         stops(folder, f"a parameter {text}", lost.format("report.json", name, text), report=inside, taxonomies=[module])
@@ -869,6 +900,8 @@ def lost_prefixes(folder):
         for form in ("folder", "zip"):
             line = lost.format("p.csv", name, text)
             stops(folder, f"a parameter {text} in a file, {form}", line, report=file, taxonomies=[module], form=form)
+    file = {**named_report(parameterURL="p.csv"), "reports/p.csv": f'name,value\nlong,{"x" * 200_000}\nz,m:x\n'}
+    stops(folder, "a parameter behind a very long one", lost.format("p.csv", "z", "m:x"), report=file, taxonomies=[module])
     kept = {"a": "n:x", "b": "am:x", "c": "m"}
     makes(folder, "parameters without it", parts={"parameters": kept}, report=named_report(parameters=kept), taxonomies=[module])
 
@@ -894,6 +927,7 @@ def reading_schemas(folder):
     one, leaf = ONE, LEAF
     for name, body in {
         "an import": include("d/leaf.xsd"),
+        "an import with a fragment that is a path": include("d/leaf.xsd#element(/1/2)/?#"),
         "an import that is indented": include("  d/leaf.xsd\n "),
         "an include": include("d/leaf.xsd", "include"),
         "an import by its absolute URL": include(HOST + "d/leaf.xsd"),
@@ -994,6 +1028,9 @@ def reading_once(folder):
         {"reg/mod.xsd": schema("\n" + include("http://far.example/x.xsd#a"))},
         "t0/reg/mod.xsd: no package has http://far.example/x.xsd (import, line 2)",
     )
+    for url in ("http://notxbrl.org/x.xsd", "http://www.xbrl.org.far.example/x.xsd", "http://www.xbrl.org@far.example/x.xsd", "http://far.example/www.xbrl.org"):
+        line = f"t0/reg/mod.xsd: no package has {url} (import, line 1)"
+        refuses(folder, f"an import of {url}", {"reg/mod.xsd": schema(include(url))}, line)
     refuses(
         folder,
         "an import of a file",
@@ -1031,6 +1068,9 @@ def including(folder):
     reads(
         folder, "included through another", {**two, "reg/plain.xsd": schema(include("q/inner.xsd", "include"), ""), "reg/q/inner.xsd": plain}, records("A,date")
     )
+    for first, second in (("import", "include"), ("include", "import")):
+        again = {"reg/mod.xsd": schema(include("plain.xsd", first) + include("plain.xsd", second)), "reg/plain.xsd": plain}
+        reads(folder, f"{first} and {second} of one schema", again, records("A,date"))
     ring = {"reg/mod.xsd": schema(include("plain.xsd", "include")), "reg/plain.xsd": schema(include("plain.xsd", "include") + item("A"), "")}
     reads(folder, "included in a ring", ring, records("A,text"))
     reads(folder, "imported only, it has no namespace", {"reg/mod.xsd": schema(include("plain.xsd")), "reg/plain.xsd": plain}, "namespace,name,type2\n")
@@ -1267,6 +1307,21 @@ def what_no_fact_can_have(folder):
             module = meta(INFO, tables={"t": {"url": "t.csv"}}, **named)
             line = f"t0/reg/mod.json: names the concept 'eg:{name}', which {reason} ({where})"
             stops(folder, f"{name} at {where}", line, taxonomies=[{**TAXONOMY, "reg/mod.json": module, "reg/mod.xsd": schema(nothing + ring + unknown + dead)}])
+    places = {
+        "dimensions.{}": {"dimensions": {"NAME": "x"}},
+        "tableTemplates.t.dimensions.{}": {"tableTemplates": {"t": {"columns": {}, "dimensions": {"NAME": "$c"}}}},
+        "tableTemplates.t.columns.c.dimensions.{}": {"tableTemplates": {"t": {"columns": {"c": {"dimensions": {"NAME": "#none"}}}}}},
+        "tableTemplates.t.columns.c.propertyGroups.g.dimensions.{}": {
+            "tableTemplates": {"t": {"columns": {"c": {"propertyGroups": {"g": {"dimensions": {"NAME": "x"}}}}}}}
+        },
+    }
+    unknown = "which no schema that the taxonomy reaches has as one"
+    for where, parts in places.items():
+        for name, reason in (("eg:A", unknown), ("eg:Z", unknown), ("eg:nowhere", unknown), ("no:D", "whose prefix is not among 'namespaces'")):
+            module = meta(INFO, tables={"t": {"url": "t.csv"}}, **json.loads(json.dumps(parts).replace("NAME", name)))
+            line = f"t0/reg/mod.json: names the dimension '{name}', {reason} ({where.format(name)})"
+            taxonomy = {**TAXONOMY, "reg/mod.json": module, "reg/mod.xsd": schema(nothing + item("Z"))}
+            stops(folder, f"no dimension {name} at {where}", line, taxonomies=[taxonomy])
     for name in ("A", "B", "C", "D", "E", "M", "nowhere"):
         made = prepared(
             folder, taxonomies=[{**TAXONOMY, "reg/mod.json": meta(INFO, dimensions={"concept": f"eg:{name}"}), "reg/mod.xsd": schema(nothing + ring)}]
@@ -1377,9 +1432,19 @@ def hostile_zips(folder):
         refused_zip(folder, f"an entry '{name}'", f"the entry '{name}' {what}", [(entry(name), "x")])
     line = r"the entry '../\n\x1b[2J\x9b' leads outside of the package"
     refused_zip(folder, "an entry with control bytes", line, [(entry("../\n\x1b[2J\x9b"), "x")])
+    two_names = entry("../x")
+    two_names.orig_filename = "a"
+    try:
+        seen = zip_entries.checked_entries(type("Archive", (), {"infolist": lambda _: [two_names]})(), "z", 1000)
+    except refusals.Refusal as refusal:
+        seen = refusal.line
+    case("an entry with a second name", seen, "z: the entry '../x' leads outside of the package")
+    line = "the entry 'a/b' stands twice, as a file and as a folder"
+    refused_zip(folder, "a file that is the folder of one far below", line, [(entry(it), "x") for it in ("a/b!", "a/b/c/d/e", "a/b", "a/b-", "a.b")])
     line = "the entry 'a' stands twice, as a file and as a folder"
     refused_zip(folder, "a file that is a folder too", line, [(entry("a"), "x"), (entry("a/b/c"), "x")])
     refused_zip(folder, "a link", "the entry 'a' is a link", [(entry("a", 0o120777), "/etc/passwd")])
+    refused_zip(folder, "a folder that is a link", "the entry 'a/' is a link", [(entry("a/", 0o120777), "/etc")])
     line = r"the entry 'reg/mod.json\x00X' has a name that is cut short by a zero byte"
     cut_short = lambda it: patched(it, [(b"mod.jsonQX", b"mod.json\0X")])
     refused_zip(folder, "a name that is cut short", line, [(entry("reg/mod.jsonQX"), "x")], cut_short)
@@ -1464,8 +1529,10 @@ def damaged_tables(folder):
 def unpacked_packages(folder):
     """Folders: a link that leads out of one is refused, and one that stays inside is taken."""
     write(folder / "outside", {"mod.json": MODULE, "secret.csv": "cash\n9\n"})
+    write(folder / "t0side", {"mod.json": MODULE})
     for name, link, target, line in (
         ("a module", "t0/reg/mod.json", "../../outside/mod.json", "t0/reg/mod.json: is a link that leads outside of t0"),
+        ("a module of a folder of nearly the same name", "t0/reg/mod.json", "../../t0side/mod.json", "t0/reg/mod.json: is a link that leads outside of t0"),
         ("a folder", "t0/reg", "../outside", "t0/reg/mod.json: is a link that leads outside of t0"),
         ("a table", "r/reports/t.csv", "../../outside/secret.csv", "r/reports/t.csv: is a link that leads outside of r"),
     ):
@@ -1478,6 +1545,19 @@ def unpacked_packages(folder):
         place.symlink_to(target)
         case(f"{name} by a link that leads outside", run(["r", "--taxonomy", "t0", "--prepare", "o"], folder), (1, f"xbrl-filing: {line}\n"))
         case(f"{name} by a link that leads outside: nothing is made", (folder / "o").exists(), False)
+    for path in ("r/reports/report.json", "r/reports/t.csv", "t0/META-INF/catalog.xml", "t0/reg/mod.xsd"):
+        for it in ("r", "t0"):
+            shutil.rmtree(folder / it, ignore_errors=True)
+        write(folder / "r", REPORT)
+        write(folder / "t0", TAXONOMY)
+        kept = (folder / path).read_bytes()
+        (folder / path).unlink()
+        os.mkfifo(folder / path)
+        begun = time.monotonic()
+        status, out, err = start(["r", "--taxonomy", "t0"], folder, timeout=20)
+        case(f"a pipe in a package, {path}", (status, out, err.count("\n"), time.monotonic() - begun < 15), (1, b"", 1, True))
+        (folder / path).unlink()
+        (folder / path).write_bytes(kept)
     shutil.rmtree(folder / "r")
     write(folder / "r", REPORT)
     write(folder / "t0", TAXONOMY) if (folder / "t0/reg").is_dir() else None
@@ -1526,6 +1606,17 @@ def tables(folder):
                 {it: text for it, text in made.items() if it.endswith((".csv", "filed-meta.json")) and it != "types.csv"},
                 {**wanted, "p/types.csv": b"name,value\n"},
             )
+        renamed = {"reports/report.json": REPORT["reports/report.json"], "reports/types.csv": "name,value\n", "reports/t.csv": "cash\n1\n"}
+        made = makes(
+            folder,
+            f"a parameters file that is called as one of the two, {form}",
+            parts={"parameterURL": "filed-types.csv"},
+            types=TYPES,
+            report=renamed,
+            taxonomies=[{**TAXONOMY, "reg/mod.json": MODULE.replace('"tables"', '"parameterURL": "types.csv", "tables"')}],
+            form=form,
+        )
+        case(f"it is there, {form}", made.get("filed-types.csv"), b"name,value\n")
     for url in ("../t.csv", "/etc/passwd", "a/../../t.csv", "a:b.csv", "a%20b.csv", "a\\b.csv", "./t.csv", "a//t.csv", "", "t.csv?x", "t.csv#x", 7, None):
         for form in ("folder", "zip"):
             module = meta(INFO, tableTemplates={"t": TEMPLATE}, tables={"t": {"url": url}}, parameterURL=url)
@@ -1559,6 +1650,12 @@ def tables_that_are_none(folder):
             case(f"a table that is {name}: {report}", (seen[0], seen[2]), (1, said))
             seen = run([report, "--taxonomy", "t", "--prepare", f"o {report}"], folder)
             case(f"a table that is {name}: {report} prepared", (seen, (folder / f"o {report}/t.csv").is_dir()), ((0, ""), name == "a folder"))
+    for url in ("a" * 300 + ".csv", "a/" * 3000 + "b.csv"):
+        write(folder, {"long/META-INF/catalog.xml": catalog(rewrite()), "long/reg/mod.xsd": schema(ELEMENTS)})
+        write(folder, {"long/reg/mod.json": meta(INFO, tableTemplates={"t": TEMPLATE}, tables={"t": {"url": url, "optional": True}})})
+        for report in ("nothing", "nothing.zip", "nothing/reports/report.json"):
+            seen = start([report, "--taxonomy", "long"], folder)
+            case(f"a table of a name that no file can have: {report}", (seen[0], seen[2]), (1, read))
     both_tables = {"t": {"url": "t.csv"}, "u": {"url": "t.csv/x.csv", "template": "t"}}
     write(folder, {"t/reg/mod.json": meta(INFO, tableTemplates={"t": TEMPLATE}, tables=both_tables)})
     for report in ("a folder", "a folder.zip"):
@@ -1598,6 +1695,9 @@ def temporary_files(folder):
             wanted = [f"{home}/meta.json", "--types", f"{home}/types.csv", "--out", "doc.json", "--progress", "--ring=7", str(folder), links, "700"]
             case(f"the words of xbrl-json, {report}, {end}", (status, lines, err), (int(end), wanted, "said\n"))
             case("the folder stands under TMPDIR, and is gone", (os.path.dirname(home), os.listdir(temporary)), (str(temporary), []))
+    for given in (["--ring", "7"], ["--layout", "lines"], ["--workers", "1"], ["--out", "doc.json"]):
+        seen = start([*given, "r", "--taxonomy", "t"], folder, env=settings)[1].decode().splitlines()
+        case(f"words before REPORT {given}", seen[3:5], given)
     for given, passed in (
         (["--new", "x", "--flag", "--progress", "--out", "d"], ["--new", "x", "--flag", "--progress", "--out", "d"]),
         (["--out=d", "--layout", "lines"], ["--out=d", "--layout", "lines"]),
@@ -1614,6 +1714,9 @@ def temporary_files(folder):
     case("xbrl-json beside xbrl-filing, by a link", (done.returncode, done.stderr), (0, b"said\n"))
     fake.write_text("#!/bin/sh\nkill -9 $$\n")
     case("xbrl-json that is killed", (start(["r", "--taxonomy", "t"], folder, env=settings)[0], os.listdir(temporary)), (137, []))
+    status, out, err = start(["r", "--taxonomy", "t"], folder, env={**settings, "TMPDIR": "none"})
+    ends = err.startswith(f"xbrl-filing: {folder}/none/xbrl-filing-"), err.endswith(": cannot write (No such file or directory)\n")
+    case("TMPDIR that is not there", (status, out, *ends, os.listdir(temporary)), (3, b"", True, True, []))
     seen = start(["r", "--taxonomy", "t"], folder, env={**settings, "XBRL_JSON": "/nonexistent/x"})
     case("xbrl-json that is not there", (seen, os.listdir(temporary)), ((3, b"", "xbrl-filing: /nonexistent/x: cannot run (No such file or directory)\n"), []))
 
@@ -1661,6 +1764,9 @@ def signals(folder):
     done.stdout.readline()
     done.send_signal(signal.SIGTERM)
     done.communicate(timeout=30)
+    blocked = lambda: signal.pthread_sigmask(signal.SIG_BLOCK, {signal.SIGCHLD})
+    seen = start(["r", "--taxonomy", "t"], folder, env=settings, preexec_fn=blocked, timeout=30)
+    case("a caller that has blocked the end of children", (seen[0], os.listdir(temporary)), (7, []))
     case("a signal that the caller ignores", (done.returncode, os.listdir(temporary)), (7, []))
 
 
@@ -1673,6 +1779,13 @@ def a_full_disk(folder):
         signal.signal(signal.SIGXFSZ, signal.SIG_IGN)
         resource.setrlimit(resource.RLIMIT_FSIZE, (100_000, 100_000))
 
+    kept = os.symlink
+    try:
+        os.symlink = lambda *_: (_ for _ in ()).throw(OSError(errno.ENOSPC, os.strerror(errno.ENOSPC)))
+        status, err = run(["r", "--taxonomy", "t", "--out", "doc.json"], folder)
+    finally:
+        os.symlink = kept
+    case("a full disk when a table is linked", (status, err.endswith("/t.csv: cannot write (No space left on device)\n"), err.count("\n")), (3, True, 1))
     status, out, err = start(["big.zip", "--taxonomy", "t", "--out", "doc.json"], folder, env={"TMPDIR": str(temporary)}, preexec_fn=limited)
     ends = err.startswith(f"xbrl-filing: {temporary}/xbrl-filing-"), err.endswith("/t.csv: cannot write (File too large)\n")
     case("a full disk", (status, out, *ends), (3, b"", True, True))
@@ -1684,7 +1797,9 @@ def what_cannot_be_read(folder):
     write(folder, {**{f"r/{it}": text for it, text in REPORT.items()}, **{f"t/{it}": text for it, text in TAXONOMY.items()}})
     folder.chmod(0o755)
     as_nobody = {"user": 65534, "group": 65534} if os.getuid() == 0 else {}
-    for path in ("t/reg/mod.xsd", "t/reg/mod.json", "r/reports/report.json", "r"):
+    tables = {"t": {"url": "t.csv"}, "u": {"url": "sub/u.csv", "template": "t", "optional": True}}
+    write(folder, {"t/reg/mod.json": MODULE.replace(json.dumps(MERGED["tables"]), json.dumps(tables)), "r/reports/sub/u.csv": "cash\n1\n"})
+    for path in ("t/reg/mod.xsd", "t/reg/mod.json", "t/reg", "t/META-INF", "r/reports/report.json", "r/reports/sub", "r/reports", "r"):
         mode = (folder / path).stat().st_mode
         (folder / path).chmod(0)
         status, out, err = start(["r", "--taxonomy", "t"], folder, **as_nobody)
@@ -1701,6 +1816,8 @@ def what_cannot_be_read(folder):
         )
         command.find_report = lambda _: {}["a\nb"]
         case("a fault of the program", run(["r"], folder), (1, "xbrl-filing: a fault of the program: KeyError: 'a\\nb'\n"))
+        command.find_report = lambda _: open("none")
+        case("a file that is gone", run(["r"], folder), (3, "xbrl-filing: none: cannot read or write (No such file or directory)\n"))
         command.find_report = lambda _: (_ for _ in ()).throw(MemoryError)
         case("too little memory", run(["r"], folder), (3, "xbrl-filing: there is not enough memory\n"))
     finally:
@@ -1726,13 +1843,13 @@ def a_signal_between_two_steps(folder):
     try:
         stopping.subprocess.Popen = Started
         try:
-            status = stopping.run_program(["sleep", "30"], stopping.Stopping())
+            status = stopping.run_program(["sleep", "30"], heeded())
         except stopping.Stopped as stopped:
             status = stopped
         case("a signal while xbrl-json is started", (getattr(status, "number", status), seen[0].poll()), (signal.SIGTERM, -signal.SIGTERM))
         stopping.shutil = Removing()
         try:
-            with stopping.temporary_folder(str(folder), "x-", stopping.Stopping()) as made:
+            with stopping.temporary_folder(str(folder), "x-", heeded()) as made:
                 write(Path(made), {"a/b": "c"})
             status = 0
         except stopping.Stopped as stopped:
@@ -1740,6 +1857,62 @@ def a_signal_between_two_steps(folder):
         case("a signal while the folder is removed", (status, os.listdir(folder)), (signal.SIGTERM, []))
     finally:
         stopping.subprocess.Popen, stopping.shutil = kept
+        heeding()
+
+
+def heeded():
+    """What takes signals from now on."""
+    made = stopping.Stopping()
+    made.heed()
+    return made
+
+
+def a_signal_at_each_step(folder):
+    """A signal at each line of what starts, waits and removes: it ends the run, and nothing is left."""
+    temporary, fake, _ = with_fake(folder)
+    fake.write_text("#!/bin/sh\n")
+    files = {module.__file__ for module in (command, stopping, contextlib)}
+    ended, wrong, number, steps = [], [], 0, 0
+
+    def step(frame, *_):
+        nonlocal steps
+        if frame.f_code.co_filename not in files:
+            return None
+        steps += 1
+        if steps == number and signal.getsignal(signal.SIGTERM) != signal.SIG_DFL:
+            os.kill(os.getpid(), signal.SIGTERM)
+        return step
+
+    def stepped():
+        """The status of a run whose steps are counted; at one of them it is signalled."""
+        nonlocal steps
+        steps = 0
+        signal.signal(signal.SIGTERM, lambda *_: None)
+        sys.settrace(step)
+        try:
+            return command.main(["r", "--taxonomy", "t"], str(fake))
+        finally:
+            sys.settrace(None)
+
+    kept, before = (command.end_by_signal, stopping.end_by_signal), os.environ.get("TMPDIR")
+    os.environ["TMPDIR"] = str(temporary)
+    os.chdir(folder)
+    try:
+        command.end_by_signal = ended.append
+        case("steps are counted", stepped(), 0)
+        for number in range(1, steps):
+            status, left = stepped(), os.listdir(temporary)
+            if left or status not in (0, 143):
+                wrong.append((number, status, left))
+                shutil.rmtree(temporary)
+                temporary.mkdir()
+        case("a signal at each step", (wrong, number > 200, len(ended) > 200), ([], True, True))
+    finally:
+        command.end_by_signal = kept[0]
+        os.chdir(TOP)
+        os.environ.pop("TMPDIR")
+        if before is not None:
+            os.environ["TMPDIR"] = before
         heeding()
 
 
@@ -1751,7 +1924,8 @@ def words(folder):
     usage = "; the words are: xbrl-filing REPORT --taxonomy PACKAGE.. [--out FILE] [words of xbrl-json]\n"
     for given, what in (
         ([], "there is no REPORT"),
-        (["--taxonomy", "t"], "there is no REPORT"),
+        (["--taxonomy", "t"], "there is no REPORT: all words behind --taxonomy are packages, so it stands before"),
+        (["--taxonomy", "t", "r"], "there is no REPORT: all words behind --taxonomy are packages, so it stands before"),
         (["r", "--taxonomy"], "--taxonomy names no package"),
         (["r", "--taxonomy", "--out", "x"], "--taxonomy names no package"),
         (["r", "--taxonomy="], "--taxonomy names no package"),
@@ -1770,6 +1944,8 @@ def words(folder):
         (["r", "--unpacked-limit=-1"], "--unpacked-limit is a number of bytes, and '-1' is none"),
     ):
         case(f"words {given}", run(given, folder), (2, f"xbrl-filing: {what}{usage}"))
+    version = subprocess.run([PROGRAM, "--version"], capture_output=True, timeout=60).stdout
+    case("--version", start(["--version"], folder), (0, version, ""))
     status, out, err = start(["r", "--help"], folder)
     case("--help", (status, b"--taxonomy PACKAGE.." in out, b"It is not proved" in out, err), (0, True, True, ""))
     with open("/dev/full", "wb") as full:
@@ -1802,6 +1978,9 @@ def several_packages(folder):
         run([escaped.name, "--prepare", "o"], folder),
         (1, "xbrl-filing: a\\nb\\x1b.zip: is not JSON: Expecting value (line 1, column 1)\n"),
     )
+    write(folder, {"long.json": json.dumps({"documentInfo": {"documentType": "y" * 100_000}})})
+    line = f"long.json: is no xBRL-CSV metadata file: its document type is '{'y' * 100_000}'"
+    case("a very long line", run(["long.json"], folder), (1, f"xbrl-filing: {line[:1000]} .. {line[-1000:]}\n"))
     broken = os.fsdecode(b"r\xff")
     write(folder / broken, REPORT)
     seen = start([broken, "--taxonomy", "t"], folder)
@@ -1829,7 +2008,11 @@ def outputs_that_are_inputs(folder):
     os.link(folder / "r.zip", folder / "other.zip")
     (folder / "linked").symlink_to("t.zip")
     (folder / "within").symlink_to("r/reports")
+    os.link(folder / "t/reg/mod.xsd", folder / "hard.json")
+    os.link(folder / "alone/mod.xsd", folder / "hard.xsd")
+    (folder / "soft.xsd").symlink_to("alone/mod.xsd")
     own, inside = "it is an input of this run", "it stands inside of a package that is an input of this run"
+    linked = "it is a link to a file of a package that is an input of this run"
     for given, out, why in (
         (["r.zip", "--taxonomy", "t.zip"], "r.zip", own),
         (["r.zip", "--taxonomy", "t.zip"], "./x/../r.zip", own),
@@ -1847,16 +2030,24 @@ def outputs_that_are_inputs(folder):
         (["alone/m.json"], "alone/low.json", own),
         (["alone/m.json"], "alone/t.csv", own),
         (["alone/m.json"], "alone/p.csv", own),
+        (["alone/m.json"], "alone/mod.xsd", own),
+        (["alone/m.json"], "hard.xsd", own),
+        (["alone/m.json"], "soft.xsd", own),
+        (["r.zip", "--taxonomy", "t"], "hard.json", linked),
     ):
         before = listing(folder)
         line = f"xbrl-filing: {out}: cannot write ({why})\n"
-        for words_of_out in (["--out", out], [f"--out={out}"]):
+        for words_of_out in (["--out", out], [f"--out={out}"], ["--out", "no/x", "--out", out, "--workers", "1"], ["--out", out, "--out", "no/x"]):
             case(f"{given} {words_of_out}", (run([*given, *words_of_out], folder), listing(folder) == before), ((3, line), True))
-        if out.startswith("alone/") and out != "alone/m.json":
+        if given == ["alone/m.json"] and out != "alone/m.json":
             line = f"xbrl-filing: {out}: cannot write (Not a directory)\n"
         case(f"{given} --prepare {out}", (run([*given, "--prepare", out], folder), listing(folder) == before), ((3, line), True))
     seen = run(["r", "--taxonomy", "t", "--cache", "t/cache", "--prepare", "o"], folder)
     case("a cache inside of a package", (seen, (folder / "t/cache").exists()), ((3, f"xbrl-filing: t/cache: cannot write ({inside})\n"), False))
+    for cache in ("o", "o/c", "./o/../o/c"):
+        seen = run(["r", "--taxonomy", "t", "--cache", cache, "--prepare", "o"], folder)
+        line = f"xbrl-filing: {cache}: cannot write (the cache stands inside of the folder to prepare)\n"
+        case(f"a cache in the prepared folder, {cache}", (seen, (folder / "o").exists()), ((3, line), False))
 
 
 def folders_to_prepare(folder):
@@ -1881,6 +2072,20 @@ def folders_to_prepare(folder):
         ((0, ""), ["meta.json", "t.csv", "types.csv"]),
     )
     case("--out beside the packages", start([*good, "--out", "free.json"], folder)[0], 0)
+    (folder / "late").mkdir()
+    kept = command.write_files
+
+    def and_meanwhile(*given, **more):
+        write(folder, {"late/meta.json": "of another"})
+        kept(*given, **more)
+
+    try:
+        command.write_files = and_meanwhile
+        seen = run([*good, "--prepare", "late"], folder)
+    finally:
+        command.write_files = kept
+    line = f"xbrl-filing: {folder}/late: cannot write (the folder is not empty any more)\n"
+    case("a folder that is filled meanwhile", (seen, listing(folder / "late")), ((3, line), {"meta.json": b"of another"}))
 
 
 def cached_runs(folder):
@@ -1931,6 +2136,16 @@ def caching(folder):
         case(f"a damaged entry {damage[:20]!r}", made(), ((0, ""), TYPES))
 
 
+def refusals_of_the_cache(folder):
+    """What is refused by what the schemas say is refused from the cache too."""
+    write(folder / "t", {**TAXONOMY, "reg/mod.json": meta(INFO, dimensions={"concept": "eg:T"}), "reg/mod.xsd": schema(headed("T xbrli:tuple"))})
+    write(folder / "r", REPORT)
+    line = "xbrl-filing: t/reg/mod.json: names the concept 'eg:T', which is a tuple, which no table can have (dimensions.concept)\n"
+    for turn in ("first", "second"):
+        seen = run(["r", "--taxonomy", "t", "--cache", "c", "--prepare", "o"], folder)
+        case(f"a tuple, {turn} run", (seen, len(os.listdir(folder / "c"))), ((1, line), 1))
+
+
 def keys_of_the_cache(folder):
     """What the cache is known by: contents, entry points, the order of packages and the program's own text."""
     made, entries = cached_runs(folder)
@@ -1955,6 +2170,51 @@ def keys_of_the_cache(folder):
     write(folder, {"r6/reports/report.json": meta({"namespaces": {"eg": EG}, "taxonomy": [HOST + "mod.xsd"]})})
     case("another entry point of the same packages", made("t", "r6"), ((0, ""), TYPES.replace("Note", "Nope")))
     case("the order of packages counts", [made("t", "r", "t3")[1], made("t3", "r", "t")[1]], [records("Two,text"), records("Three,text")])
+
+
+def what_changes_meanwhile(folder):
+    """Packages that are changed while they are read: what is kept of them is never taken for what they hold then."""
+    made, entries = cached_runs(folder)
+    reader, key_of = command.read_schemas, command.key_of
+    other = {**TAXONOMY, "reg/mod.xsd": schema(ELEMENTS.replace("Note", "Nope"))}
+
+    def and_then_changed(*given):
+        declared = reader(*given)
+        write(folder / "t", other)
+        return declared
+
+    def changed_first(*given):
+        pack(folder / "new.zip", other)
+        os.replace(folder / "new.zip", folder / "t.zip")
+        return key_of(*given)
+
+    try:
+        command.read_schemas = and_then_changed
+        case("a folder that is changed while it is read", (made(), (folder / "c").exists()), (((0, ""), TYPES), False))
+        command.read_schemas, command.key_of = reader, changed_first
+        case("a ZIP that is replaced while it is read", made("t.zip"), ((0, ""), TYPES))
+    finally:
+        command.read_schemas, command.key_of = reader, key_of
+    new = TYPES.replace("Note", "Nope")
+    case("what it was is not taken for what it is", (made("t.zip"), made("t")), (((0, ""), new), ((0, ""), new)))
+    write(folder, {f"top/pkg/{it}": text for it, text in TAXONOMY.items()})
+    shutil.move(folder / "top/pkg/reg/mod.xsd", folder / "top/mod.xsd")
+    (folder / "top/pkg/reg/mod.xsd").symlink_to("../../mod.xsd")
+    case("a link that leads beside the root", made("top"), ((0, ""), TYPES))
+    write(folder, {"top/mod.xsd": other["reg/mod.xsd"]})
+    case("and what it leads to is changed", made("top"), ((0, ""), new))
+    before = entries()
+    write(folder, {"x/a": "1", "x/b": "2", "y/a": "1"})
+    (folder / "y/b").symlink_to("a")
+    (folder / "z").mkdir()
+    (folder / "z/a").symlink_to("b")
+    write(folder, {"z/b": "2"})
+    folders = [packages.FolderPackage(str(folder / it)).digest() for it in "xyz"]
+    case("files and links are told apart", (len(set(folders)), entries()), (3, before))
+    zero, one = (os.fsdecode(packages.digest_of(iter([it]))) for it in (b"0", b"1"))
+    write(folder, {"p/x": "0", "p/y": "1", "p/z": "3", f"q/{one}z": "3"})
+    (folder / "q/x").symlink_to(zero + "y")
+    case("no name runs into the next", len({packages.FolderPackage(str(folder / it)).digest() for it in "pq"}), 2)
 
 
 def what_is_not_kept(folder):
@@ -2027,6 +2287,52 @@ def a_large_taxonomy(folder):
     case("20,000 concepts on a terminal", (status, b"xbrl-filing: reading the taxonomy: 3 files, " in shown, shown.endswith(b"\r\x1b[K")), (0, True, True))
 
 
+def endless_schemas(folder):
+    """What would take all memory or all time: names, bases and tags that grow, many start strings. One line each, and soon."""
+    deep, long = 100_000, "y" * (17 << 20)
+    grows = '<a xml:base="aaaaaaaaa/">' * deep + "</a>" * deep
+    tag, comment = f'<xs:element name="A" a="{long}"/>', f"<!--{long}-->"
+    far, near = include("http://a.example/" + "y" * 5000), include("y" * 5000 + ".xsd")
+    has = "t0/reg/mod.xsd: has "
+    url, shown = has + "a URL of {} characters; more than 4096 are not taken (import, line 1: {}..)", ("http://a.example/" + "y" * 100)[:100]
+    for name, text, line in (
+        ("bases that grow", schema(grows), has + "more than 100 elements with 'xml:base' inside of each other (line 1)"),
+        ("bases of a linkbase that grow", linkbase(grows), has + "more than 100 elements with 'xml:base' inside of each other (line 1)"),
+        ("a long base", schema(f'<a xml:base="{"y" * 5000}/"/>'), has + f"an 'xml:base' of {len(HOST) + 5001} characters; more than 4096 are not taken (line 1)"),
+        ("a long tag", schema(tag), has + "a tag or a comment of more than 16777216 bytes, which is refused (line 1)"),
+        ("a long comment", schema(comment), has + "a tag or a comment of more than 16777216 bytes, which is refused (line 1)"),
+        ("a long URL", schema(far), url.format(5017, shown)),
+        ("a long relative URL", schema(near), url.format(len(HOST) + 5004, (HOST + "y" * 100)[:100])),
+    ):
+        begun = time.monotonic()
+        refuses(folder, f"a schema with {name}", {"reg/mod.xsd": text}, line)
+        case(f"a schema with {name}: soon", time.monotonic() - begun < 20, True)
+    reads(folder, "a hundred bases", {"reg/mod.xsd": schema('<a xml:base="a/">' * 99 + "</a>" * 99 + ELEMENTS, attributes='xml:base="b/"')}, TYPES)
+    way = "<xs:simpleContent>" * deep + "<x>" + '<xs:restriction base="xbrli:dateItemType"/>' * deep + "</x>" + "</xs:simpleContent>" * deep
+    begun = time.monotonic()
+    reads(folder, "a type that is very deep", {"reg/mod.xsd": schema(f'<xs:complexType name="T">{way}</xs:complexType>' + ELEMENTS)}, TYPES)
+    case("a type that is very deep: soon", time.monotonic() - begun < 20, True)
+    levels = 1500
+    chain = {f"reg/n{it}.json": meta({"extends": [HOST + f"n{it + 1}.json"], "final": {"parameters": True}}) for it in range(levels)}
+    chain[f"reg/n{levels}.json"] = MODULE
+    begun = time.monotonic()
+    report = {**REPORT, "reports/report.json": meta({"extends": [HOST + "n0.json"]})}
+    makes(folder, "many levels that are all final", MERGED, report=report, taxonomies=[{**TAXONOMY, **chain}])
+    case("many levels that are all final: soon", time.monotonic() - begun < 20, True)
+    pack(folder / "deep.zip", [*REPORT.items(), *((f"{number}/" + "a/" * 32_000 + "x", "x") for number in range(20))])
+    write(folder, {f"t/{it}": text for it, text in TAXONOMY.items()})
+    little = lambda: resource.setrlimit(resource.RLIMIT_DATA, (200 << 20, 200 << 20))
+    seen = start(["deep.zip", "--taxonomy", "t", "--prepare", "o deep"], folder, preexec_fn=little)
+    case("a ZIP of very deep names, in 200 MB", seen, (0, b"", ""))
+    starts = "".join(rewrite(f"{HOST}{number}/", "../reg/") for number in range(50_000))
+    many = {f"reg/x{number}.xsd": schema() for number in range(4000)}
+    imports = "".join(include(f"x{number}.xsd") for number in range(4000))
+    many.update({"META-INF/catalog.xml": catalog(starts + rewrite()), "reg/mod.xsd": schema(imports + ELEMENTS)})
+    begun = time.monotonic()
+    reads(folder, "many start strings and many files", many, TYPES)
+    case("many start strings and many files: soon", time.monotonic() - begun < 20, True)
+
+
 def a_long_schema(folder):
     """A schema of 64 MB is read as a stream, out of a ZIP and out of a folder."""
     comment = "<!--" + "x" * (1 << 16) + "-->"
@@ -2035,6 +2341,10 @@ def a_long_schema(folder):
     write(folder / "folder", files)
     pack(folder / "stored.zip", files, method=zipfile.ZIP_STORED)
     little = lambda: resource.setrlimit(resource.RLIMIT_DATA, (56 << 20, 56 << 20))
+    write(folder, {**{f"full/{it}": text for it, text in files.items()}, "full/reg/mod.xsd": schema(f'<a b="{"x" * (15 << 20)}"/>')})
+    less = lambda: resource.setrlimit(resource.RLIMIT_DATA, (44 << 20, 44 << 20))
+    seen = start(["r", "--taxonomy", "full", "--prepare", "o"], folder, preexec_fn=less)
+    case("too little memory for a tag", seen, (3, b"", "xbrl-filing: there is not enough memory\n"))
     for taxonomy in ("folder", "stored.zip"):
         status, _, err = start(["r", "--taxonomy", taxonomy, "--prepare", f"o {taxonomy}"], folder, preexec_fn=little)
         case(f"64 MB in 56 MB of memory, {taxonomy}", (status, err), (0, ""))
@@ -2077,6 +2387,7 @@ PARTS = (
     temporary_files,
     signals,
     a_signal_between_two_steps,
+    a_signal_at_each_step,
     a_full_disk,
     what_cannot_be_read,
     words,
@@ -2084,10 +2395,13 @@ PARTS = (
     outputs_that_are_inputs,
     folders_to_prepare,
     caching,
+    refusals_of_the_cache,
     keys_of_the_cache,
+    what_changes_meanwhile,
     what_is_not_kept,
     caches_of_several_runs,
     a_large_taxonomy,
+    endless_schemas,
     a_long_schema,
 )
 
