@@ -61,4 +61,13 @@ class Finder:
             return wrong(asker, f"there is no {self.report.shown(place.path())} ({how})")
         without = "".join(f"; {it.label} has no {CATALOG}" for it in self.packages if it is not self.report and not it.has(CATALOG))
         none = "" if any(it is not self.report for it in self.packages) else "; there is no --taxonomy"
-        return wrong(asker, f"no package has {place.text} ({how}{without}{none})")
+        other = self.other_scheme(place)
+        there = f"; one has {other.text}" if other and self.published(other) else ""
+        return wrong(asker, f"no package has {place.text} ({how}{without}{none}{there})")
+
+    @staticmethod
+    def other_scheme(place: Place) -> Optional[Place]:
+        """The URL with `http` and `https` exchanged, which is what is mostly wrong with one that no package has."""
+        scheme, colon, rest = place.text.partition(":")
+        other = {"http": "https", "https": "http"}.get(scheme)
+        return Place(other + colon + rest) if other else None

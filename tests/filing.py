@@ -374,6 +374,12 @@ def catalogs_refused(folder):
     line = f"r/reports/report.json: no package has {HOST}mod.json (extends; there is no --taxonomy)"
     stops(folder, "no package at all", line, taxonomies=[])
     stops(folder, "no package but the report's own", line, report={**REPORT, "META-INF/catalog.xml": catalog("")}, taxonomies=[])
+    secure = HOST.replace("http:", "https:") + "mod.json"
+    line = f"r/reports/report.json: no package has {secure} (extends; one has {HOST}mod.json)"
+    stops(folder, "https for http", line, report={**REPORT, "reports/report.json": meta({"extends": [secure]})})
+    moved = {**TAXONOMY, "META-INF/catalog.xml": catalog(rewrite(HOST.replace("http:", "https:")))}
+    line = f"r/reports/report.json: no package has {HOST}mod.json (extends; one has {secure})"
+    stops(folder, "http for https", line, taxonomies=[moved])
     stops(
         folder,
         "a start string that differs",
@@ -1028,7 +1034,8 @@ def reading_once(folder):
         {"reg/mod.xsd": schema("\n" + include("http://far.example/x.xsd#a"))},
         "t0/reg/mod.xsd: no package has http://far.example/x.xsd (import, line 2)",
     )
-    for url in ("http://notxbrl.org/x.xsd", "http://www.xbrl.org.far.example/x.xsd", "http://www.xbrl.org@far.example/x.xsd", "http://far.example/www.xbrl.org"):
+    for host in ("notxbrl.org/x.xsd", "www.xbrl.org.far.example/x.xsd", "www.xbrl.org@far.example/x.xsd", "far.example/www.xbrl.org"):
+        url = f"http://{host}"
         line = f"t0/reg/mod.xsd: no package has {url} (import, line 1)"
         refuses(folder, f"an import of {url}", {"reg/mod.xsd": schema(include(url))}, line)
     refuses(
@@ -2210,6 +2217,9 @@ def what_changes_meanwhile(folder):
     (folder / "z/a").symlink_to("b")
     write(folder, {"z/b": "2"})
     folders = [packages.FolderPackage(str(folder / it)).digest() for it in "xyz"]
+    top = packages.FolderPackage(str(folder / "top")).digest()
+    (folder / "top/other").mkdir()
+    case("where the root is counts", packages.FolderPackage(str(folder / "top")).digest() == top, False)
     case("files and links are told apart", (len(set(folders)), entries()), (3, before))
     zero, one = (os.fsdecode(packages.digest_of(iter([it]))) for it in (b"0", b"1"))
     write(folder, {"p/x": "0", "p/y": "1", "p/z": "3", f"q/{one}z": "3"})
@@ -2298,7 +2308,11 @@ def endless_schemas(folder):
     for name, text, line in (
         ("bases that grow", schema(grows), has + "more than 100 elements with 'xml:base' inside of each other (line 1)"),
         ("bases of a linkbase that grow", linkbase(grows), has + "more than 100 elements with 'xml:base' inside of each other (line 1)"),
-        ("a long base", schema(f'<a xml:base="{"y" * 5000}/"/>'), has + f"an 'xml:base' of {len(HOST) + 5001} characters; more than 4096 are not taken (line 1)"),
+        (
+            "a long base",
+            schema(f'<a xml:base="{"y" * 5000}/"/>'),
+            has + f"an 'xml:base' of {len(HOST) + 5001} characters; more than 4096 are not taken (line 1)",
+        ),
         ("a long tag", schema(tag), has + "a tag or a comment of more than 16777216 bytes, which is refused (line 1)"),
         ("a long comment", schema(comment), has + "a tag or a comment of more than 16777216 bytes, which is refused (line 1)"),
         ("a long URL", schema(far), url.format(5017, shown)),
