@@ -124,8 +124,8 @@ def join(report: Found, packages: List[Package], settings: Settings, progress: P
     finder = Finder(report.package, packages)
     chain = Chain(report, finder)
     check_parts(chain)
-    check_final(chain)
     lost = lost_prefixes(chain)
+    check_final(chain, lost)
     namespaces = namespaces_of(chain)
     kinds = read_kinds(chain, finder, packages, settings, progress)
     stands = {prefix: uri for prefix, uri in namespaces.items() if prefix not in lost}

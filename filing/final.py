@@ -2,9 +2,10 @@
 
 from __future__ import annotations
 
-from typing import Callable, Dict, Iterable, List, Set
+from typing import Callable, Dict, Iterable, List
 
 from .chain import Chain, Metadata
+from .prefixes import Renaming
 from .refusals import wrong
 
 KEYS: Dict[str, Callable[[Metadata], Iterable[str]]] = {
@@ -19,16 +20,16 @@ KEYS: Dict[str, Callable[[Metadata], Iterable[str]]] = {
 }
 
 
-def check_final(chain: Chain) -> None:
-    """Refuses a file that adds a key, or a URL, to a part that a file below it declares final."""
+def check_final(chain: Chain, lost: Dict[str, str]) -> None:
+    """Refuses a file that adds a key, or a URL, to a part that a file below it declares final. A dimension is one key under all its prefixes."""
+    renaming = Renaming(lost, lambda _: False)
     for metadata in chain:
         for part in final_parts(metadata):
-            there: Set[str] = set()
-            for it in chain.below(metadata):
-                there.update(KEYS[part](it))
+            one = renaming.qname if part == "dimensions" else str
+            there = {one(key) for it in chain.below(metadata) for key in KEYS[part](it)}
             for above in chain.above(metadata):
                 for key in KEYS[part](above):
-                    if key not in there:
+                    if one(key) not in there:
                         raise wrong(above.label, f"adds '{key}' to '{part}', which is final in {metadata.label}")
 
 

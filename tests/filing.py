@@ -349,6 +349,10 @@ def catalogs(folder):
     case("the first package wins", [at(json.loads(it["meta.json"]), two) for it in made], [None, "http://two.example/"])
     made = makes(folder, "the report's own catalog first", types=TYPES, report={**REPORT, **moved})
     case("the report's own catalog wins", at(json.loads(made["meta.json"]), two), "http://two.example/")
+    dot = {**REPORT, "reports/report.json": meta({"extends": [HOST + "%2e/mod.json", HOST + "a%2F/../mod.json"]})}
+    for form in ("folder", "zip"):
+        urls = [HOST + "%2e/mod.xsd", HOST + "mod.xsd"]
+        makes(folder, f"a dot that is decoded, {form}", parts={"documentInfo/taxonomy": urls}, types=TYPES, report=dot, form=form)
     percent = meta({"extends": [HOST + "a%20%C3%A9.json#x"]})
     makes(folder, "percent signs", MERGED, report={**REPORT, "reports/report.json": percent}, taxonomies=[{**TAXONOMY, "reg/a é.json": MODULE}])
 
@@ -767,6 +771,12 @@ def final_parts(folder):
         report={**REPORT, "reports/report.json": meta({"extends": [HOST + "mod.json"]}, parameters={"b": "2"})},
         parts={"parameters": {"a": "1", "b": "2"}},
     )
+    other = {"namespaces": {"g": EG}, "taxonomy": ["mod.xsd"], "final": {"dimensions": True}}
+    final = [{**TAXONOMY, "reg/mod.json": meta(other, dimensions={"g:Region": "g:x"})}]
+    for dimension, line in (("Region", ""), ("Branch", f"xbrl-filing: {top}: adds 'eg:Branch' to 'dimensions', which is final in {low}\n")):
+        restated = {"reports/report.json": meta({"extends": [HOST + "mod.json"], "namespaces": {"eg": EG}}, dimensions={f"eg:{dimension}": "eg:x"})}
+        seen = prepared(folder, report=restated, taxonomies=final)
+        case(f"a final dimension by another prefix, {dimension}", seen[:2], (1 if line else 0, line))
     beside = {**below, "reg/side.json": meta(parameters={"c": "3"})}
     makes(
         folder,
@@ -947,6 +957,8 @@ def reading_schemas(folder):
         "a base inside of a type": f'<xs:complexType name="t" xml:base="x/">{noted(loc("../d/leaf.xsd", "roleRef"))}<xs:sequence/></xs:complexType>',
     }.items():
         reads(folder, name, {**leaf, "reg/mod.xsd": schema(body)}, one)
+    reads(folder, "a namespace with spaces", {**leaf, "reg/mod.xsd": schema(item("A"), f"  {EG} ")}, one)
+    reads(folder, "a base with spaces", {**leaf, "reg/mod.xsd": schema(include("leaf.xsd"), attributes=f'xml:base=" {HOST}d/ "')}, one)
     reads(folder, "the base of a schema", {**leaf, "reg/mod.xsd": schema(include("leaf.xsd"), attributes=f'xml:base="{HOST}d/"')}, one)
 
 
@@ -999,6 +1011,8 @@ def reading_linkbases(folder):
     for kind in ("label", "reference"):
         role = f'<link:linkbaseRef xlink:href="none.xml" xlink:role="http://www.xbrl.org/2003/role/{kind}LinkbaseRef"/>'
         reads(folder, f"{kind} linkbases are passed over", {"reg/mod.xsd": schema(role + item("A"))}, one)
+        spaced = role.replace('role="', 'role=" ').replace('Ref"/>', 'Ref "/>')
+        reads(folder, f"{kind} linkbases, with spaces", {"reg/mod.xsd": schema(spaced + item("A"))}, one)
     role = '<link:linkbaseRef xlink:href="none.xml" xlink:role="http://www.xbrl.org/2003/role/presentationLinkbaseRef"/>'
     refuses(folder, "presentation linkbases are not", {"reg/mod.xsd": schema(role)}, f"t0/reg/mod.xsd: no package has {HOST}none.xml (linkbaseRef, line 1)")
 
@@ -1613,6 +1627,17 @@ def tables(folder):
                 {it: text for it, text in made.items() if it.endswith((".csv", "filed-meta.json")) and it != "types.csv"},
                 {**wanted, "p/types.csv": b"name,value\n"},
             )
+        taken = {"a": "meta.json", "b": "filed-meta.json/b.csv"}
+        named = {it: {"url": url, "template": "t"} for it, url in taken.items()}
+        made = makes(
+            folder,
+            f"a new name that is a folder's, {form}",
+            parts={"tables/a/url": "filed-filed-meta.json", "tables/b/url": "filed-meta.json/b.csv"},
+            report={"reports/report.json": REPORT["reports/report.json"], **{f"reports/{it}": "cash\n1\n" for it in taken.values()}},
+            taxonomies=[{**TAXONOMY, "reg/mod.json": meta(INFO, tableTemplates={"t": TEMPLATE}, tables=named)}],
+            form=form,
+        )
+        case(f"both are there, {form}", sorted(it for it in made if it.startswith("filed-")), ["filed-filed-meta.json", "filed-meta.json/b.csv"])
         renamed = {"reports/report.json": REPORT["reports/report.json"], "reports/types.csv": "name,value\n", "reports/t.csv": "cash\n1\n"}
         made = makes(
             folder,
@@ -2079,6 +2104,22 @@ def folders_to_prepare(folder):
         ((0, ""), ["meta.json", "t.csv", "types.csv"]),
     )
     case("--out beside the packages", start([*good, "--out", "free.json"], folder)[0], 0)
+    (folder / "half").mkdir()
+    kept, renamed = os.rename, []
+
+    def once(*given):
+        if renamed:
+            raise OSError(errno.ENOSPC, os.strerror(errno.ENOSPC))
+        renamed.append(given)
+        kept(*given)
+
+    try:
+        os.rename = once
+        seen = run([*good, "--prepare", "half"], folder)
+    finally:
+        os.rename = kept
+    line = f"xbrl-filing: {folder}/half: cannot write (No space left on device)\n"
+    case("a folder that is filled by half", (seen, len(renamed), os.listdir(folder / "half")), ((3, line), 1, []))
     (folder / "late").mkdir()
     kept = command.write_files
 
