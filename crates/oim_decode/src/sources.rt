@@ -9,7 +9,6 @@ ghost use Rattle.oim_decode.specs.Ready.{source_named as named_by, source_writte
 
 use crate::source::SourceOf;
 use oim_meta::{Report, Written, WrittenDecimals};
-use oim_resolve::place_of;
 
 fn is_place(place: Option<usize>, column: usize) -> bool
     ensures { result ≡ is_column column place }
@@ -37,7 +36,7 @@ fn source_named<'a>(
     requires { table < length report.now.tables }
     ensures { option_map seen_source result ≡ named_by report.now table header.now name.now }
 {
-    let column = place_of(report.template_columns(table), name)?;
+    let column = report.place_of_column(table, name.as_bytes())?;
     let place = place_in(header, column)?;
     Some(SourceOf::Named(place, report.parameter(table, name)))
 }

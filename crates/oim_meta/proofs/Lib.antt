@@ -1,5 +1,6 @@
 mod PlaceFacts
 pub mod GroupOrder
+pub mod Searches
 pub mod GridFacts
 pub mod Strips
 pub mod Rising

@@ -123,6 +123,9 @@ parameters_rise : (templates : Members) (id : List ℕ) (t : Data) → IsInOrder
 unfolding table_of
 parameters_rise templates id t h = made_rise (λ e. e.0) named_text (λ k e. refl) (section (codes "parameters") t) (section_in_order (codes "parameters") t h)
 
+pub own_parameters_rise : (d : Data) → IsInOrder d → IsRising (keys_of (map_members named_text (section (codes "parameters") d)))
+own_parameters_rise d h = made_rise (λ e. e.0) named_text (λ k e. refl) (section (codes "parameters") d) (section_in_order (codes "parameters") d h)
+
 pub parts_rise : (d : Data) → IsInOrder d → PartsRise (level_of d) (templates_of d) (tables_of d)
 unfolding PartsRise
 parts_rise d h =

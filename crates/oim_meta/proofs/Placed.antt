@@ -18,8 +18,8 @@ use Rattle.oim_meta.specs.Places.{HasColumns, IsReport}
 use Rattle.oim_meta.specs.Members.{section, items_at, text_at, any_member, any_item, map_members, map_items, if_there}
 use Rattle.oim_meta.specs.Faults.{template_name, lacks_template_of, has_unknown_template, has_bad_identifier}
 use Rattle.oim_meta.specs.UnknownColumn.{is_fact, is_groups, column_at, lacks_column, lacks_groups, has_unknown_row_id, is_unknown_source, has_unknown_source, lacks_named_column, has_unknown_column}
-use Rattle.oim_meta.specs.Value.{kind_of, add_place, sources_of, level_of, column_of, columns_of, template_of, place_of, table_of, tables_of, templates_of}
-use Rattle.oim_meta.proofs.Ordered.{parts_rise, have_identifiers}
+use Rattle.oim_meta.specs.Value.{kind_of, add_place, sources_of, level_of, column_of, columns_of, template_of, place_of, table_of, tables_of, templates_of, named_text}
+use Rattle.oim_meta.proofs.Ordered.{parts_rise, have_identifiers, own_parameters_rise}
 
 left : (a b : Bool) → (a || b) ≡ false → a ≡ false
 left true b h = absurd cc
@@ -151,6 +151,6 @@ templates_placed : (d : Data) → has_unknown_column d ≡ false → All HasColu
 unfolding has_unknown_column
 templates_placed d h = All-from_recursion HasColumns _ (each_template (section (codes "tableTemplates") d) h)
 
-pub all_placed : (d : Data) → has_unknown_template d ≡ false → has_unknown_column d ≡ false → IsInOrder d → has_bad_identifier d ≡ false → IsReport (level_of d) (templates_of d) (tables_of d)
+pub all_placed : (d : Data) → has_unknown_template d ≡ false → has_unknown_column d ≡ false → IsInOrder d → has_bad_identifier d ≡ false → IsReport (level_of d) (templates_of d) (tables_of d) (map_members named_text (section (codes "parameters") d))
 unfolding IsReport
-all_placed d h k ordered good = (tables_placed d h, templates_placed d k, parts_rise d ordered, have_identifiers d good)
+all_placed d h k ordered good = (tables_placed d h, templates_placed d k, parts_rise d ordered, have_identifiers d good, own_parameters_rise d ordered)

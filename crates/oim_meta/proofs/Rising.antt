@@ -1,5 +1,5 @@
--- The keys of a `Map` rise, and so do the names of its members.
-use Rattle.std.proofs.Common.{◌≡◌, List, [], ◌∷◌, String, Global, Less, string_bytes, string_cmp, nat_cmp}
+-- The keys of a `Map` rise, and so do the names of its members, which are as many.
+use Rattle.std.proofs.Common.{◌≡◌, List, length, refl, ap, suc, [], ◌∷◌, String, Global, Less, string_bytes, string_cmp, nat_cmp}
 use Rattle.std.specs.List.{AllByRecursion}
 use Rattle.std.specs.List.Sorted.{IsStrictlySortedBy}
 use Rattle.std.specs.Map.{keys_of}
@@ -17,3 +17,7 @@ pub names_rise : (es : List (String Global × Value)) → IsStrictlySortedBy str
 unfolding IsStrictlySortedBy
 names_rise [] h = tt
 names_rise (e ∷ es) h = (above e.0 es h.0, names_rise es h.1)
+
+pub names_count : (es : List (String Global × Value)) → length (names_of (members_view es)) ≡ length es
+names_count [] = refl
+names_count (e ∷ es) = ap suc (names_count es)

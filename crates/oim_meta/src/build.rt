@@ -12,6 +12,7 @@ ghost use Rattle.oim_meta.specs.UnknownColumn.{has_unknown_column};
 
 mod levels;
 pub(crate) mod made;
+mod names;
 pub(crate) mod namespaces;
 mod places;
 mod tables;
@@ -45,22 +46,6 @@ fn info(alloc: Global, document: &Value) -> Result<Info, AllocError>
         base_url: copied(alloc, text_at(document, "baseURL"))?,
         taxonomy: texts_at(alloc, document, "taxonomy")?,
     })
-}
-
-/// The report's own parameters, then those of the parameters file.
-fn all_parameters(
-    alloc: Global,
-    report: &Value,
-    parameters: Parameters,
-) -> Result<Items<(Text, Text)>, AllocError>
-    ensures { IfOk result (λ made. made
-        ≡ map_members named_text (section (codes "parameters") (view report.now)) ++ parameters) }
-{
-    let own: Items<(Text, Text)> = list_from(alloc, report, "parameters")?;
-    let mut all = own.into_vec();
-    let mut rest = parameters.into_items().into_vec();
-    all.append(&mut rest)?;
-    Ok(Items::from_vec(all))
 }
 
 /// The parts of a report that come from its JSON alone, apart from the prefixes.
@@ -103,7 +88,7 @@ pub(crate) fn report(
     requires identifiers { has_bad_identifier (view value.now) ≡ false }
     ensures { IfOk result (λ r. r ≡ report_of parameters types (view value.now)) }
 {
-    let parameters = all_parameters(alloc, value, parameters)?;
+    let own: Items<(Text, Text)> = list_from(alloc, value, "parameters")?;
     let parts = built(alloc, value)?;
     Ok(Report {
         info: parts.info,
@@ -112,6 +97,7 @@ pub(crate) fn report(
         level: parts.level,
         templates: parts.templates,
         tables: parts.tables,
-        parameters,
+        parameters: own,
+        given: parameters,
     })
 }

@@ -3,6 +3,7 @@
 ghost use Rattle.std.specs.Prelude.{◌≡◌, IfOk};
 
 use crate::data::{Column, Info, Level, Table, Template, Written, WrittenDecimals};
+use crate::parameters::Parameters;
 use crate::report::Report;
 use crate::types::Types;
 use oim_names::{Items, Namespaces, Text};
@@ -111,16 +112,26 @@ impl Report {
         Ok((level, templates, self.tables.clone()?))
     }
 
-    /// Equal copies of its prefixes, its types and its parameters.
-    fn cloned_names(&self) -> Result<(Namespaces, Types, Items<(Text, Text)>), AllocError>
+    /// Equal copies of its prefixes and its types.
+    fn cloned_names(&self) -> Result<(Namespaces, Types), AllocError>
         ensures namespaces { IfOk result (λ made. made.0 ≡ self.now.namespaces) }
         ensures types { IfOk result (λ made. made.1 ≡ self.now.types) }
-        ensures parameters { IfOk result (λ made. made.2 ≡ self.now.parameters) }
     {
         let namespaces = self.namespaces.clone()?;
-        let types = self.types.clone()?;
-        Ok((namespaces, types, self.parameters.clone()?))
+        Ok((namespaces, self.types.clone()?))
     }
+}
+
+/// Equal copies of the metadata's own parameters and of those of the parameters file.
+fn copies_of(
+    own: &Items<(Text, Text)>,
+    given: &Parameters,
+) -> Result<(Items<(Text, Text)>, Parameters), AllocError>
+    ensures own { IfOk result (λ made. made.0 ≡ own.now) }
+    ensures given { IfOk result (λ made. made.1 ≡ given.now) }
+{
+    let own = own.clone()?;
+    Ok((own, given.clone()?))
 }
 
 impl Clone for Report {
@@ -128,7 +139,8 @@ impl Clone for Report {
 
     fn clone(&self) -> Result<Report, AllocError> {
         let info = self.info.clone()?;
-        let (namespaces, types, parameters) = self.cloned_names()?;
+        let (namespaces, types) = self.cloned_names()?;
+        let (parameters, given) = copies_of(&self.parameters, &self.given)?;
         let (level, templates, tables) = self.cloned_tables()?;
         Ok(Report {
             info,
@@ -138,6 +150,7 @@ impl Clone for Report {
             templates,
             tables,
             parameters,
+            given,
         })
     }
 }

@@ -21,6 +21,7 @@
 #![tactic(auto)]
 
 mod build;
+mod by_name;
 mod check;
 mod clone;
 mod columns;

@@ -1,6 +1,6 @@
 //! Values by name, found without a search through all of them.
 
-ghost use Rattle.std.specs.Prelude.{◌≡◌, ◌++◌, ◌∷◌, [], OnOk, None};
+ghost use Rattle.std.specs.Prelude.{◌≡◌, ◌++◌, ◌==◌, ◌∷◌, [], OnOk, None, length};
 ghost use Rattle.std.specs.Option.{option_map};
 ghost use Rattle.std.specs.String.{string_bytes};
 ghost use Rattle.oim_meta.specs.Named.{ExtendsUnder, value_under};
@@ -34,6 +34,13 @@ impl<V> Named<V> {
         Named {
             entries: IndexMap::new(alloc),
         }
+    }
+
+    /// Whether there are no values.
+    pub(crate) fn is_empty(&self) -> bool
+        ensures { result ≡ (length self.now == 0) }
+    {
+        self.entries.len() == 0
     }
 
     /// The value of a name.

@@ -1,6 +1,7 @@
 //! The parameters of a report, and the parameters file.
 
 ghost use Rattle.std.specs.Prelude.{◌≡◌, ◌++◌, ◌∷◌, [], IfOk, IfSome, None, is_some};
+ghost use Rattle.std.specs.Option.{option_map};
 ghost use Rattle.oim_names.specs.Lookup.{value_at};
 ghost use Rattle.oim_meta.specs.CsvFiles.{OrOutside};
 ghost use Rattle.oim_meta.specs.Grid.{grid};
@@ -11,7 +12,7 @@ use crate::fault::MetaFault;
 use crate::fields::texts_of_two;
 use crate::named::Named;
 use csv::ByteRecord;
-use oim_names::{Items, Text, is_identifier};
+use oim_names::{Text, is_identifier};
 use std::alloc::{AllocError, Global};
 use std::io::Read;
 use std::marker::Model;
@@ -20,26 +21,25 @@ use std::marker::Model;
 /// their values, in file order.
 #[derive(Drop)]
 pub struct Parameters {
-    entries: Items<(Text, Text)>,
-    names: Named<()>,
+    entries: Named<Text>,
 }
 
 impl Model for Parameters {
-    ghost use Rattle.std.specs.Prelude.{◌≡◌};
-    ghost use Rattle.oim_meta.specs.Parameters.{ParametersValue, marked};
+    ghost use Rattle.oim_meta.specs.Parameters.{ParametersValue};
 
     ghost Value = { ParametersValue };
 
     ghost view = { λ p. p.entries };
-
-    ghost invariant = { λ p. p.names ≡ marked p.entries };
 }
 
-fn entry(alloc: Global, name: &str, value: &str) -> Result<(Text, Text), AllocError>
-    ensures { IfOk result (λ made. made ≡ (name.now, value.now)) }
-{
-    let name = Text::from_str(alloc, name)?;
-    Ok((name, Text::from_str(alloc, value)?))
+impl Clone for Parameters {
+    ghost is_clone = { λ v w. w ≡ v };
+
+    fn clone(&self) -> Result<Parameters, AllocError> {
+        Ok(Parameters {
+            entries: self.entries.clone()?,
+        })
+    }
 }
 
 impl Parameters {
@@ -48,8 +48,7 @@ impl Parameters {
         ensures { result ≡ [] }
     {
         Parameters {
-            entries: Items::new(alloc),
-            names: Named::new(alloc),
+            entries: Named::new(alloc),
         }
     }
 
@@ -57,14 +56,17 @@ impl Parameters {
     pub(crate) fn has_name(&self, name: &str) -> bool
         ensures { result ≡ is_some (value_at name.now self.now) }
     {
-        self.names.get(name).is_some()
+        self.entries.get(name).is_some()
     }
 
-    /// The names with their values.
-    pub(crate) fn into_items(self) -> Items<(Text, Text)>
-        ensures { result ≡ self }
+    /// The value of a name. It does not search through all names.
+    pub(crate) fn value(&self, name: &str) -> Option<&Text>
+        ensures { option_map (λ t. t.now) result ≡ value_at name.now self.now }
     {
-        self.entries
+        if self.entries.is_empty() {
+            return None;
+        }
+        self.entries.get(name)
     }
 
     /// The same parameters and one more, the last.
@@ -72,13 +74,10 @@ impl Parameters {
         requires { value_at name.now self ≡ None }
         ensures { IfOk result (λ more. more ≡ self ++ (name.now, value.now) ∷ []) }
     {
-        let Parameters {
-            mut entries,
-            mut names,
-        } = self;
-        names.push(String::from_str(alloc, name)?, ())?;
-        entries.push(entry(alloc, name, value)?)?;
-        Ok(Parameters { entries, names })
+        let Parameters { mut entries } = self;
+        let value = Text::from_str(alloc, value)?;
+        entries.push(String::from_str(alloc, name)?, value)?;
+        Ok(Parameters { entries })
     }
 }
 

@@ -1,17 +1,19 @@
 //! The readers of a report.
 
 ghost use Rattle.std.specs.Prelude.{◌≡◌, ◌<◌, length, IfOk, IfSome};
-ghost use Rattle.std.specs.List.{All};
+ghost use Rattle.std.specs.List.{All, position};
 ghost use Rattle.std.specs.Option.{option_map};
+ghost use Rattle.std.specs.Str.{bytes_eq};
 ghost use Rattle.oim_names.specs.Lookup.{value_at};
 ghost use Rattle.oim_meta.specs.InOrder.{PartsRise, HaveIdentifiers};
 ghost use Rattle.oim_meta.specs.Places.{HasColumns};
 ghost use Rattle.oim_meta.specs.Readers.{table_of, template_of, columns_of, column_of, parameter_of, kind_of};
 
+use crate::by_name::place_in_order;
 use crate::data::{Column, Info, Level, Table, Template};
 use crate::kind::Kind;
 use crate::report::Report;
-use oim_names::{Namespaces, find, find_in_order};
+use oim_names::{Namespaces, Text, find_in_order};
 use std::alloc::AllocError;
 
 impl Report {
@@ -92,6 +94,17 @@ impl Report {
         self.template(i).columns.as_slice()
     }
 
+    /// The place of the column with this identifier in a table's template, counted from 0 in byte order of
+    /// identifier, or `None` where there is none. It does not look through all columns.
+    #[tactic(auto, using(crate::proofs::GroupOrder::columns_rise))]
+    pub fn place_of_column(&self, i: usize, name: &[u8]) -> Option<usize>
+        requires { i < length self.now.tables }
+        ensures { result ≡ position (λ k. bytes_eq k.id name.now) (columns_of self.now i) }
+    {
+        self.stands_in_order();
+        place_in_order(self.template_columns(i), name)
+    }
+
     /// The column at a place of a table's template.
     #[tactic(auto, using(crate::proofs::PlaceFacts::from_is_there))]
     pub fn column(&self, i: usize, c: usize) -> &Column
@@ -139,15 +152,28 @@ impl Report {
         &self.level
     }
 
-    /// The value of the table's parameter with this name, else of the report's.
+    /// The value of the report's parameter with this name.
+    #[tactic(auto, using(crate::proofs::PlaceFacts::own_parameters_rise, crate::proofs::ParameterFacts::value_in_both))]
+    fn own_parameter(&self, name: &str) -> Option<&Text>
+        ensures { option_map (λ t. t.now) result ≡ value_at name.now self.now.parameters }
+    {
+        match find_in_order(self.parameters.as_slice(), name) {
+            Some(text) => Some(text),
+            None => self.given.value(name),
+        }
+    }
+
+    /// The value of the table's parameter with this name, else of the report's. It does not look through all names.
+    #[tactic(auto, using(crate::proofs::GroupOrder::parameters_rise))]
     pub fn parameter(&self, i: usize, name: &str) -> Option<&str>
         requires { i < length self.now.tables }
         ensures { option_map (λ t. t.now) result ≡ parameter_of self.now i name.now }
     {
-        if let Some(text) = find(self.table(i).parameters.as_slice(), name) {
+        self.stands_in_order();
+        if let Some(text) = find_in_order(self.table(i).parameters.as_slice(), name) {
             return Some(text.as_str());
         }
-        match find(self.parameters.as_slice(), name) {
+        match self.own_parameter(name) {
             Some(text) => Some(text.as_str()),
             None => None,
         }

@@ -1,15 +1,14 @@
 -- The dimensions of each level of a report rise by name.
-use Rattle.std.proofs.Common.{◌≡◌, ℕ, zero, suc, List, [], ◌∷◌, Bool, true, false, Option, Some, None, if◌then◌else◌, refl, subst, arith}
+use Rattle.std.proofs.Common.{◌≡◌, ℕ, zero, suc, List, [], ◌∷◌, Bool, true, false, Option, Some, if◌then◌else◌, subst, arith}
 use Rattle.std.specs.Prelude.{slice_index_or}
 use Rattle.std.specs.List.{All, AllByRecursion}
 use Rattle.std.specs.List.Sorted.{IsStrictlySortedBy}
 use Rattle.std.specs.Str.{bytes_eq}
 use Rattle.oim_names.specs.Lookup.{value_at}
-use Rattle.oim_meta.specs.InOrder.{PartsRise, TemplateRises, ColumnRises, LevelRises}
+use Rattle.oim_meta.specs.InOrder.{PartsRise, TemplateRises, LevelRises}
 use Rattle.oim_meta.specs.Readers.{column_of, table_of, template_of, no_template}
 use Rattle.oim_meta.specs.ReportValue.{ReportValue}
 use Rattle.oim_meta.specs.declared.data.Level.{Level}
-use Rattle.oim_meta.specs.declared.data.Template.{Template}
 use Rattle.oim_meta.proofs.GroupOrder.{column_rises}
 
 each_at : {X : Type 0} (P : X → Type 0) (xs : List X) (d : X) → AllByRecursion P xs → P d → (k : ℕ) → P (slice_index_or xs k d)

@@ -10,4 +10,4 @@ mod value;
 
 pub(crate) use crate::cell::place::Place;
 pub(crate) use crate::cell::planned_cell::PlannedCell;
-pub use crate::cell::texts::{place_of, side_of};
+pub use crate::cell::texts::side_of;

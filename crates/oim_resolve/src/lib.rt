@@ -25,7 +25,7 @@ mod plan;
 mod reading;
 mod role;
 
-pub use cell::{place_of, side_of};
+pub use cell::side_of;
 pub use dimension::{Entry, read_concept, read_value};
 pub use fact::{CellFault, Fact, Row};
 pub use plan::{Plan, compile, levels, resolve};

@@ -1,4 +1,5 @@
 mod Places
+mod Repeats
 mod FactLists
 pub mod StreamLaws
 mod TextRecords

@@ -1,8 +1,7 @@
 //! The header of a table file.
 
 ghost use Rattle.std.specs.Prelude.{◌≡◌, ◌<◌, ◌⊎◌, [], IfOk, IfErr, IfSome, None, Some, Ok, Err, true, take, length};
-ghost use Rattle.std.specs.List.{list_any, position_from};
-ghost use Rattle.std.specs.Str.{bytes_eq};
+ghost use Rattle.std.specs.List.{All, list_any, position_from};
 ghost use Rattle.csv.specs.Records.{field_at, fields_of};
 ghost use Rattle.oim_meta.specs.Readers.{columns_of as columns_in, template_of};
 ghost use Rattle.oim_rows.specs.Header.{columns_fault, named_column, file_fault, file_header_fault, header_fault, header_of, is_column, is_unknown, names_row_id, place_of, repeat_from};
@@ -11,48 +10,44 @@ ghost use Rattle.oim_rows.specs.Streams.{IsOutside, TakesHeader, early_header_fa
 use crate::cells::field;
 use crate::fault::{TableFault, TableKind, fault_at_place, fault_of_read, whole_fault};
 use csv::ByteRecord;
-use oim_meta::{Column, ReadFault, Records, Report};
+use oim_meta::{ReadFault, Records, Report};
 use std::alloc::{AllocError, Global};
 use std::io::Read;
 
-fn same_bytes(text: &str, bytes: &[u8]) -> bool
-    ensures { result ≡ bytes_eq text.now bytes.now }
-{
-    text.as_bytes() == bytes
-}
-
 /// The place of the column with this identifier.
-fn place_of_cell(columns: &[Column], cell: &[u8]) -> Option<usize>
-    ensures { result ≡ place_of columns.now cell.now }
+fn place_of_cell(report: &Report, table: usize, cell: &[u8]) -> Option<usize>
+    requires { table < length report.now.tables }
+    ensures { result ≡ place_of (columns_in report.now table) cell.now }
 {
-    columns
-        .iter()
-        .position(|column| same_bytes(column.id.as_str(), cell))
+    report.place_of_column(table, cell)
 }
 
 /// The place of the column that a header cell names.
-fn column_of_cell(columns: &[Column], cell: &[u8]) -> Option<usize>
-    ensures { result ≡ named_column columns.now cell.now }
+fn column_of_cell(report: &Report, table: usize, cell: &[u8]) -> Option<usize>
+    requires { table < length report.now.tables }
+    ensures { result ≡ named_column (columns_in report.now table) cell.now }
 {
     if cell.is_empty() {
         None
     } else {
-        place_of_cell(columns, cell)
+        place_of_cell(report, table, cell)
     }
 }
 
-fn is_unknown_cell(columns: &[Column], cell: &[u8]) -> bool
-    ensures { result ≡ is_unknown columns.now cell.now }
+fn is_unknown_cell(report: &Report, table: usize, cell: &[u8]) -> bool
+    requires { table < length report.now.tables }
+    ensures { result ≡ is_unknown (columns_in report.now table) cell.now }
 {
-    !cell.is_empty() && place_of_cell(columns, cell).is_none()
+    !cell.is_empty() && place_of_cell(report, table, cell).is_none()
 }
 
 /// The place of the first header cell that is not empty and does not name a column.
-fn first_unknown(columns: &[Column], row: &ByteRecord) -> Option<usize>
-    ensures { result ≡ position_from (is_unknown columns.now) 0 (fields_of row.now) }
+fn first_unknown(report: &Report, table: usize, row: &ByteRecord) -> Option<usize>
+    requires { table < length report.now.tables }
+    ensures { result ≡ position_from (is_unknown (columns_in report.now table)) 0 (fields_of row.now) }
 {
     for i in 0..row.len() {
-        if is_unknown_cell(columns, field(row, i)) {
+        if is_unknown_cell(report, table, field(row, i)) {
             return Some(i);
         }
     }
@@ -62,14 +57,16 @@ fn first_unknown(columns: &[Column], row: &ByteRecord) -> Option<usize>
 /// The column of each header cell.
 fn columns_of(
     alloc: Global,
-    columns: &[Column],
+    report: &Report,
+    table: usize,
     row: &ByteRecord,
 ) -> Result<Vec<Option<usize>>, AllocError>
-    ensures { IfOk result (λ h. h.items ≡ header_of columns.now (fields_of row.now)) }
+    requires { table < length report.now.tables }
+    ensures { IfOk result (λ h. h.items ≡ header_of (columns_in report.now table) (fields_of row.now)) }
 {
     let mut header = Vec::new(alloc);
     for i in 0..row.len() {
-        header.push(column_of_cell(columns, field(row, i)))?;
+        header.push(column_of_cell(report, table, field(row, i)))?;
     }
     Ok(header)
 }
@@ -90,34 +87,31 @@ pub(crate) fn source_of(header: &[Option<usize>], column: usize) -> Option<usize
     header.iter().position(|place| is_place(*place, column))
 }
 
-ghost use Rattle.oim_rows.specs.Header.{repeats};
-
 fn has_column(header: &[Option<usize>], column: usize) -> bool
     ensures { result ≡ list_any (is_column column) header.now }
 {
     header.iter().any(|place| is_place(*place, column))
 }
 
-/// Whether a cell's column stands in this front of the header.
-fn repeats_in(front: &[Option<usize>], place: Option<usize>) -> bool
-    ensures { result ≡ repeats front.now place }
+/// The first place whose column stands at an earlier place too, in a header of so many columns at most.
+fn first_repeated(
+    alloc: Global,
+    count: usize,
+    header: &[Option<usize>],
+) -> Result<Option<usize>, AllocError>
+    requires { All (λ o. IfSome o (λ c. c < count)) header.now }
+    ensures { IfOk result (λ r. r ≡ repeat_from 0 [] header.now) }
 {
-    match place {
-        Some(column) => has_column(front, column),
-        None => false,
-    }
-}
-
-/// The first place whose column stands at an earlier place too.
-fn first_repeated(header: &[Option<usize>]) -> Option<usize>
-    ensures { result ≡ repeat_from 0 [] header.now }
-{
+    let mut seen = vec![in alloc; false; count]?;
     for i in 0..header.len() {
-        if repeats_in(&header[..i], header[i]) {
-            return Some(i);
+        if let Some(column) = header[i] {
+            if seen[column] {
+                return Ok(Some(i));
+            }
+            seen[column] = true;
         }
     }
-    None
+    Ok(None)
 }
 
 fn names_row_id_column(column: Option<usize>, header: &[Option<usize>]) -> bool
@@ -130,17 +124,23 @@ fn names_row_id_column(column: Option<usize>, header: &[Option<usize>]) -> bool
 }
 
 /// The first fault of a header record's columns.
-fn columns_fault(report: &Report, table: usize, header: &[Option<usize>]) -> Option<TableFault>
-    requires { table < length report.now.tables }
-    ensures { result ≡ columns_fault report.now table header.now }
+fn columns_fault(
+    alloc: Global,
+    report: &Report,
+    table: usize,
+    header: &[Option<usize>],
+) -> Result<Option<TableFault>, AllocError>
+    requires table { table < length report.now.tables }
+    requires columns { All (λ o. IfSome o (λ c. c < length (columns_in report.now table))) header.now }
+    ensures { IfOk result (λ fault. fault ≡ columns_fault report.now table header.now) }
 {
-    if let Some(place) = first_repeated(header) {
-        return Some(fault_at_place(table, 0, place, TableKind::RepeatedHeader));
+    if let Some(place) = first_repeated(alloc, report.columns(table), header)? {
+        return Ok(Some(fault_at_place(table, 0, place, TableKind::RepeatedHeader)));
     }
     if !names_row_id_column(report.row_id_column(table), header) {
-        return Some(whole_fault(table, TableKind::NoRowIdColumn));
+        return Ok(Some(whole_fault(table, TableKind::NoRowIdColumn)));
     }
-    None
+    Ok(None)
 }
 
 /// The columns of a table's header, where `found` is the reader's answer for it and `row` the record.
@@ -163,16 +163,16 @@ fn take_header(
         Ok(false) => return Err(whole_fault(table, TableKind::NoHeader)),
         Err(fault) => return Err(fault_of_read(table, fault)),
     }
-    let columns = report.template_columns(table);
-    if let Some(place) = first_unknown(columns, row) {
+    if let Some(place) = first_unknown(report, table, row) {
         return Err(fault_at_place(table, 0, place, TableKind::UnknownHeader));
     }
-    let Ok(header) = columns_of(alloc, columns, row) else {
+    let Ok(header) = columns_of(alloc, report, table, row) else {
         return Err(whole_fault(table, TableKind::Memory));
     };
-    match columns_fault(report, table, header.as_slice()) {
-        Some(fault) => Err(fault),
-        None => Ok(header),
+    match columns_fault(alloc, report, table, header.as_slice()) {
+        Ok(Some(fault)) => Err(fault),
+        Ok(None) => Ok(header),
+        Err(_) => Err(whole_fault(table, TableKind::Memory)),
     }
 }
 

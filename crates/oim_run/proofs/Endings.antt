@@ -152,44 +152,38 @@ early_leaves range sink (outcome.CannotWrite path) early = absurd early
 early_leaves range sink (outcome.Run f) early = inl (early, (refl, keeps_same sink.told))
 early_leaves range sink (outcome.Output w) early = absurd early
 
--- a run whose tables are converted
-pub runs : {R : Type 0} (told : R → Option (List ℕ)) (known : Option Files) (base meta types : List ℕ) (workers ring : ℕ) (layout : Layout)
-    (old new : SinkView) (o : Outcome) (report : ReportValue) (readers : List (Option R)) → IsFolderOf base meta
-    → IfSome known (λ files. IsReport files base meta types (Ok report))
+-- the conversion of a report's tables
+pub tables_end : {R : Type 0} (told : R → Option (List ℕ)) (known : Option Files) (base : List ℕ) (workers ring : ℕ) (layout : Layout)
+    (old new : SinkView) (o : Outcome) (report : ReportValue) (readers : List (Option R))
     → IfSome known (λ files. AreFilesOf told readers (table_files files base report))
     → ((files : List (Option (List ℕ))) → AreFilesOf told readers files
     → EndsAs layout (early_fault workers ring (length files) (length report.tables)) report (streams report profile.rows files) old new o)
-    → IfSome known (λ files. EndsOver files meta types workers ring layout old new o)
-runs told None base meta types workers ring layout old new o report readers folder is are converts = tt
-runs told (Some files) base meta types workers ring layout old new o report readers folder is are converts =
+    → IfSome known (λ files. EndsAs layout (range_fault workers ring) report (streams report profile.rows (table_files files base report)) old new o)
+tables_end told None base workers ring layout old new o report readers are converts = tt
+tables_end told (Some files) base workers ring layout old new o report readers are converts =
     let tables = table_files files base report in
-    record {
-      base = base;
-      folder = folder;
-      ends = inr (record {
-        report = report;
-        passed = is.0;
-        given = is.1;
-        ends = run_ends layout workers ring report tables old new o (length_map (table_file files base) report.tables) (converts tables are);
-      });
-    }
+    run_ends layout workers ring report tables old new o (length_map (table_file files base) report.tables) (converts tables are)
 
--- a run for which memory ran out while the readers of its tables were made
-pub short : (known : Option Files) (base meta types : List ℕ) (workers ring : ℕ) (layout : Layout) (sink : SinkView) (o : Outcome) (report : ReportValue) → IsFolderOf base meta
-    → IfSome known (λ files. IsReport files base meta types (Ok report)) → o ≡ no_memory
-    → IfSome known (λ files. EndsOver files meta types workers ring layout sink sink o)
-short None base meta types workers ring layout sink o report folder is none = tt
-short (Some files) base meta types workers ring layout sink o report folder is none =
+-- the conversion for which memory ran out while the readers of its tables were made
+pub short_end : (known : Option Files) (base : List ℕ) (workers ring : ℕ) (layout : Layout) (sink : SinkView) (o : Outcome) (report : ReportValue) → o ≡ no_memory
+    → IfSome known (λ files. EndsAs layout (range_fault workers ring) report (streams report profile.rows (table_files files base report)) sink sink o)
+short_end None base workers ring layout sink o report none = tt
+short_end (Some files) base workers ring layout sink o report none =
+    let tables = table_files files base report in
+    subst (EndsAs layout (range_fault workers ring) report (streams report profile.rows tables) sink sink) (sym none)
+    (no_memory_ends layout (range_fault workers ring) report (streams report profile.rows tables) sink)
+
+-- a run that has its report
+pub runs : (known : Option Files) (base meta types : List ℕ) (workers ring : ℕ) (layout : Layout) (old new : SinkView) (o : Outcome) (report : ReportValue) → IsFolderOf base meta
+    → IfSome known (λ files. IsReport files base meta types (Ok report))
+    → IfSome known (λ files. EndsAs layout (range_fault workers ring) report (streams report profile.rows (table_files files base report)) old new o)
+    → IfSome known (λ files. EndsOver files meta types workers ring layout old new o)
+runs None base meta types workers ring layout old new o report folder is ends = tt
+runs (Some files) base meta types workers ring layout old new o report folder is ends =
     record {
       base = base;
       folder = folder;
-      ends = inr (record {
-        report = report;
-        passed = is.0;
-        given = is.1;
-        ends = subst (EndsAs layout (range_fault workers ring) report (streams report profile.rows (table_files files base report)) sink sink) (sym none)
-            (no_memory_ends layout (range_fault workers ring) report (streams report profile.rows (table_files files base report)) sink);
-      });
+      ends = inr (record { report = report; passed = is.0; given = is.1; ends = ends });
     }
 
 -- what every outcome leaves behind

@@ -1,9 +1,11 @@
 //! A run, from the files of a folder to a document.
 
 ghost use Rattle.std.specs.Prelude.{◌≡◌, IfSome, IfErr, IfOk, length};
+ghost use Rattle.oim_convert.specs.Answer.{streams};
 ghost use Rattle.oim_convert.specs.Files.{AreFilesOf};
 ghost use Rattle.oim_json.specs.Sinks.{sink_at};
-ghost use Rattle.oim_run.specs.Outcomes.{Leaves};
+ghost use Rattle.oim_run.specs.Conversion.{profile};
+ghost use Rattle.oim_run.specs.Outcomes.{EndsAs, Leaves};
 ghost use Rattle.oim_run.specs.Runs.{EndsOver, range_fault, table_files};
 ghost use Rattle.oim_run.specs.Steps as spec;
 
@@ -44,6 +46,38 @@ fn find_tables<R: Read + Drop, F: Folder<R>>(
     Ok(readers)
 }
 
+/// Converts the tables of a report, whose files are in a folder, each at `base` followed by its URL, as
+/// `run` does once it has the report.
+fn run_tables<R: Read + Drop + Send, F: Folder<R>, T: Threads + Wait + Sync, W: Sink>(
+    rt: &T,
+    alloc: Global,
+    settings: &Settings,
+    folder: &mut F,
+    base: &str,
+    report: &Report,
+    sink: &mut W,
+) -> Outcome
+    ensures ends { IfSome (F.files folder.old) (λ files.
+        EndsAs settings.now.layout (range_fault settings.now.workers settings.now.ring) report.now (streams report.now profile.rows (table_files files base.now report.now))
+        (sink_at (W.mark sink.old) (W.told sink.old)) (sink_at (W.mark sink.new) (W.told sink.new)) result) }
+    ensures leaves { Leaves (range_fault settings.now.workers settings.now.ring) (sink_at (W.mark sink.old) (W.told sink.old)) (sink_at (W.mark sink.new) (W.told sink.new)) result }
+{
+    match find_tables(alloc, folder, base, report) {
+        Ok(readers) => convert_report(
+            rt,
+            alloc,
+            report,
+            readers,
+            settings.workers,
+            settings.ring,
+            Limits::profile(),
+            settings.layout,
+            sink,
+        ),
+        Err(outcome) => outcome,
+    }
+}
+
 /// Converts the report whose metadata file is at `settings.meta`, with the types table at
 /// `settings.types` (xBRL-CSV 1.0), and writes its document in xBRL-JSON 1.0 to the sink, in the layout
 /// `settings.layout`, with `settings.workers` workers and rings of `settings.ring` blocks. The path of
@@ -82,23 +116,8 @@ pub fn run<R: Read + Drop + Send, F: Folder<R>, T: Threads + Wait + Sync, W: Sin
     let meta = settings.meta.as_str();
     let types = settings.types.as_str();
     let base = folder_of(meta);
-    let report = match report_of(alloc, folder, base, meta, types) {
-        Ok(report) => report,
-        Err(outcome) => return outcome,
-    };
-    let readers = match find_tables(alloc, folder, base, &report) {
-        Ok(readers) => readers,
-        Err(outcome) => return outcome,
-    };
-    convert_report(
-        rt,
-        alloc,
-        &report,
-        readers,
-        settings.workers,
-        settings.ring,
-        Limits::profile(),
-        settings.layout,
-        sink,
-    )
+    match report_of(alloc, folder, base, meta, types) {
+        Ok(report) => run_tables(rt, alloc, settings, folder, base, &report, sink),
+        Err(outcome) => outcome,
+    }
 }

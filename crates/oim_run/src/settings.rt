@@ -2,7 +2,7 @@
 
 ghost use Rattle.std.specs.Prelude.{◌≡◌, ◌≤◌, ◌↔◌, IfOk, IfSome, IsTrue, codes, false, map, option_map};
 ghost use Rattle.clap.specs.Kinds.{FailsBy};
-ghost use Rattle.clap.specs.Words.{app_of, fault_of, first_of, found_of, matches_of, one_of, rows_of, rule_of};
+ghost use Rattle.clap.specs.Words.{App, Rule, app_of, fault_of, first_of, found_of, matches_of, one_of, rows_of, rule_of, with_rule};
 ghost use Rattle.oim_convert.specs.Limits.{IsWorkerCount};
 ghost use Rattle.oim_ring.specs.Limits.{IsRingSize};
 ghost use Rattle.oim_run.specs.CommandLine as spec;
@@ -161,22 +161,34 @@ fn inputs<'a>(alloc: Global) -> Result<Command<'a>, AllocError>
         .arg(types)
 }
 
+/// A command with one more argument. Fails if memory runs out, also for the command.
+fn with<'a>(
+    command: Result<Command<'a>, AllocError>,
+    arg: Arg<'a>,
+) -> Result<Command<'a>, AllocError>
+    requires { arg.global ≡ false }
+    ensures { (before : App) (rule : Rule) → IfOk command.entry (λ c. app_of c ≡ before) → rule_of arg.entry ≡ rule
+        → IfOk result (λ c. app_of c ≡ with_rule before rule) }
+{
+    match command {
+        Ok(command) => command.arg(arg),
+        Err(error) => Err(error),
+    }
+}
+
 /// The program's arguments, as `clap` reads them, where `layouts` are the words of the layouts. Fails if
 /// memory runs out.
 fn command<'a>(alloc: Global, layouts: &'a [&'a str]) -> Result<Command<'a>, AllocError>
     ensures { IfOk result (λ c. app_of c ≡ command_line layouts.entry) }
 {
     let workers = number_option(alloc, "workers", MOST_WORKERS as u64, "4", WORKERS_HELP);
+    let command = with(inputs(alloc), workers);
     let ring = number_option(alloc, "ring", LARGEST_RING as u64, "1024", RING_HELP);
-    let out = option(alloc, "out", "FILE", OUT_HELP);
+    let command = with(command, ring);
+    let command = with(command, option(alloc, "out", "FILE", OUT_HELP));
     let layout = word_option(alloc, "layout", layouts, "compact", LAYOUT_HELP);
-    let progress = flag(alloc, "progress", PROGRESS_HELP);
-    inputs(alloc)?
-        .arg(workers)?
-        .arg(ring)?
-        .arg(out)?
-        .arg(layout)?
-        .arg(progress)
+    let command = with(command, layout);
+    with(command, flag(alloc, "progress", PROGRESS_HELP))
 }
 
 /// The value that the argument `id` has.

@@ -6,6 +6,7 @@ ghost use Rattle.serde_json.specs.View.{view, items_view, members_view};
 ghost use Rattle.oim_meta.specs.Members.{section};
 ghost use Rattle.oim_meta.specs.Value.{place_of, add_new, add_place, places_of};
 
+use crate::build::names::Names;
 use crate::lookup::object_at;
 use serde_json::{Map, Value};
 use std::alloc::{AllocError, Global};
@@ -24,7 +25,7 @@ fn place(members: &Map<String, Value>, name: &str) -> usize
     place
 }
 
-/// The place of a name among the members of the object at a key.
+/// The place of a name among the members of the object at a key. It walks: where many names are looked for, take `Names`.
 pub(crate) fn place_at(value: &Value, key: &str, name: &str) -> usize
     ensures { result ≡ place_of name.now (section key.now (view value.now)) }
 {
@@ -45,16 +46,12 @@ fn push_new(made: &mut Vec<usize>, place: usize) -> Result<(), AllocError>
 }
 
 /// Appends the place of a name, unless it is there.
-fn push_place(
-    made: &mut Vec<usize>,
-    columns: &Map<String, Value>,
-    name: &Value,
-) -> Result<(), AllocError>
+fn push_place(made: &mut Vec<usize>, columns: &Names, name: &Value) -> Result<(), AllocError>
     ensures { OnOk result (made.new.items
-        ≡ add_place (members_view columns.now.entries) made.old.items (as_str (view name.now))) }
+        ≡ add_place (members_view (columns.now).members.now.entries) made.old.items (as_str (view name.now))) }
 {
     match name.as_str() {
-        Some(name) => push_new(made, place(columns, name)),
+        Some(name) => push_new(made, columns.place(name)),
         None => Ok(()),
     }
 }
@@ -62,11 +59,11 @@ fn push_place(
 /// The places of names among columns, each once, in the order of first mention.
 pub(crate) fn places(
     alloc: Global,
-    columns: &Map<String, Value>,
+    columns: &Names,
     names: &[Value],
 ) -> Result<Vec<usize>, AllocError>
     ensures { IfOk result
-        (λ made. made.items ≡ places_of (members_view columns.now.entries) (items_view names.now)) }
+        (λ made. made.items ≡ places_of (members_view (columns.now).members.now.entries) (items_view names.now)) }
 {
     let mut made = Vec::new(alloc);
     for name in names {

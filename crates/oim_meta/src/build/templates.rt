@@ -7,6 +7,7 @@ ghost use Rattle.oim_meta.specs.Value.{kind_of as kind_in, column_level as level
 
 use crate::build::levels::{level, no_level};
 use crate::build::made::{FromMember, flag, list_from};
+use crate::build::names::Names;
 use crate::build::places::{place_at, places};
 use crate::data::{Column, ColumnKind, Level, Template};
 use crate::lookup::{list_at, object_at, text_at};
@@ -51,13 +52,9 @@ fn groups_of(
     }
 }
 
-fn named_sources(
-    alloc: Global,
-    columns: &Map<String, Value>,
-    column: &Value,
-) -> Result<Items<usize>, AllocError>
+fn named_sources(alloc: Global, columns: &Names, column: &Value) -> Result<Items<usize>, AllocError>
     ensures { IfOk result
-        (λ made. made ≡ sources_in (members_view columns.now.entries) ColumnKind.Fact (view column.now)) }
+        (λ made. made ≡ sources_in (members_view (columns.now).members.now.entries) ColumnKind.Fact (view column.now)) }
 {
     match list_at(column, "propertiesFrom") {
         Some(names) => Ok(Items::from_vec(places(alloc, columns, names)?)),
@@ -67,12 +64,12 @@ fn named_sources(
 
 fn sources_of(
     alloc: Global,
-    columns: &Map<String, Value>,
+    columns: &Names,
     kind: ColumnKind,
     column: &Value,
 ) -> Result<Items<usize>, AllocError>
     ensures { IfOk result
-        (λ made. made ≡ sources_in (members_view columns.now.entries) kind (view column.now)) }
+        (λ made. made ≡ sources_in (members_view (columns.now).members.now.entries) kind (view column.now)) }
 {
     match kind {
         ColumnKind::Fact => named_sources(alloc, columns, column),
@@ -81,14 +78,9 @@ fn sources_of(
 }
 
 #[tactic(auto, unfolding(crate::specs::Value::column_of))]
-fn column(
-    alloc: Global,
-    columns: &Map<String, Value>,
-    name: &str,
-    value: &Value,
-) -> Result<Column, AllocError>
+fn column(alloc: Global, columns: &Names, name: &str, value: &Value) -> Result<Column, AllocError>
     ensures { IfOk result (λ made.
-        made ≡ column_of (members_view columns.now.entries) name.now (view value.now)) }
+        made ≡ column_of (members_view (columns.now).members.now.entries) name.now (view value.now)) }
 {
     let kind = kind_of(value);
     Ok(Column {
@@ -105,9 +97,10 @@ fn vec_of_columns(alloc: Global, columns: &Map<String, Value>) -> Result<Vec<Col
         ≡ map_members (column_of (members_view columns.now.entries))
         (members_view columns.now.entries)) }
 {
+    let names = Names::of(alloc, columns)?;
     let mut made = Vec::new(alloc);
     for (name, value) in columns.iter() {
-        made.push(column(alloc, columns, name.as_str(), value)?)?;
+        made.push(column(alloc, &names, name.as_str(), value)?)?;
     }
     Ok(made)
 }

@@ -3,7 +3,7 @@
 ghost use Rattle.oim_resolve.specs.ProgramPlace.{IsPlace};
 
 use crate::cell::decimals::Stated;
-use crate::cell::texts::{not_empty, place_of};
+use crate::cell::texts::not_empty;
 use crate::fact::Row;
 use crate::plan::{PlannedDimension, Reference};
 use oim_cells::{CellMeaning, meaning};
@@ -63,7 +63,7 @@ impl<'a> Place<'a> {
     fn text_in_row(&self, name: &str) -> Option<&'a str>
         ensures { option_map (λ t. t.now) result ≡ text_in_row (cell_at self.now) name.now }
     {
-        match place_of(self.report.template_columns(self.table), name) {
+        match self.report.place_of_column(self.table, name.as_bytes()) {
             Some(i) => not_empty(self.text_at(i)),
             None => None,
         }

@@ -1,24 +1,10 @@
-//! What references name: the column of a name, a text that is not empty, and the side of a duration.
+//! What references name: a text that is not empty, and the side of a duration.
 
 ghost use Rattle.std.specs.Prelude.{◌≡◌};
-ghost use Rattle.std.specs.List.{position};
 ghost use Rattle.std.specs.Option.{option_map};
-ghost use Rattle.std.specs.Str.{bytes_eq};
 ghost use Rattle.oim_resolve.specs.Values.{not_empty, side_of};
 
-use oim_meta::{Column, Side, Written};
-
-/// The place of the column of a name, where there is one.
-pub fn place_of(columns: &[Column], name: &str) -> Option<usize>
-    ensures { result ≡ position (λ k. bytes_eq k.id name.now) columns.now }
-{
-    for (i, column) in columns.iter().enumerate() {
-        if column.id.as_str() == name {
-            return Some(i);
-        }
-    }
-    None
-}
+use oim_meta::{Side, Written};
 
 /// A text, where it is not empty.
 pub(crate) fn not_empty(text: &str) -> Option<&str>

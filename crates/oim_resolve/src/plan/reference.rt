@@ -4,7 +4,6 @@ ghost use Rattle.std.specs.Prelude.{◌≡◌, ◌<◌, length};
 ghost use Rattle.std.specs.Option.{option_map};
 ghost use Rattle.oim_resolve.specs.ProgramPlan.{reference_of, seen_reference};
 
-use crate::cell::place_of;
 use oim_meta::{Report, Written};
 
 /// What a reference names: the place of a column, and a parameter.
@@ -25,7 +24,7 @@ pub(crate) fn reference_of<'a>(
 {
     match written {
         Written::Named(name, _) => Some(Reference {
-            place: place_of(report.template_columns(table), name.as_str()),
+            place: report.place_of_column(table, name.as_str().as_bytes()),
             parameter: report.parameter(table, name.as_str()),
         }),
         Written::Absent

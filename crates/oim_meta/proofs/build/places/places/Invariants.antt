@@ -8,5 +8,5 @@ use Rattle.oim_meta.proofs.build.places.places.Given as goal
 -- what is made so far, continued over the rest, is the whole
 abbrev pub invariant-loop-name : goal.invariant-loop-name
 invariant-loop-name l =
-    let columns = members_view l.columns.entries in
+    let columns = members_view l.columns.members.now.entries in
     fold (add_place columns) l.made.items (map_items as_str (items_view (drop l.name-index l.names))) ≡ places_of columns (items_view l.names)

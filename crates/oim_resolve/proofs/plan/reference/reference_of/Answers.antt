@@ -9,7 +9,6 @@ pub returns-in-Named : goal.returns-in-Named
 returns-in-Named c =
     let r = c.args.report.now in
     let t = c.args.table in
-    let place = c.place_of.ensures ∙ ap (λ ks. position (λ k. bytes_eq k.id c.as_str.result.now) ks) c.template_columns.ensures
-    ∙ ap (λ n. position (λ k. bytes_eq k.id n) (columns_of r t)) c.as_str.ensures in
+    let place = c.place_of_column.ensures ∙ ap (λ n. position (λ k. bytes_eq k.id n) (columns_of r t)) (c.as_bytes.ensures.value ∙ c.as_str.ensures) in
     let parameter = c.parameter.ensures ∙ ap (parameter_of r t) c.as_str-in-Named.ensures in
     (λ i. Some (place i, parameter i)) ∙ ap (reference_of r t) (sym c.in-Named.is)
