@@ -3,8 +3,8 @@
 ghost use Rattle.std.specs.Prelude.{◌≡◌, ◌<◌, ◌++◌, ◌⊎◌, [], List, ℕ, None, Some, true, length, map, reverse, IfOk, OnOk};
 ghost use Rattle.std.specs.List.{All, slice_get};
 ghost use Rattle.csv.specs.Records.{fields_of};
-ghost use Rattle.oim_meta.specs.InOrder.{LevelRises};
-ghost use Rattle.oim_meta.specs.Readers.{columns_of};
+ghost use Rattle.oim_report.specs.InOrder.{LevelRises};
+ghost use Rattle.oim_report.specs.Readers.{columns_of};
 ghost use Rattle.oim_rows.specs.RowFacts.{field_or_empty};
 ghost use Rattle.oim_decode.specs.Facts.{groups_wrong};
 ghost use Rattle.oim_decode.specs.ReadyTable.{IsFresh, IsFreshDecimals, Grows, held};

@@ -3,7 +3,7 @@
 ghost use Rattle.std.specs.Prelude.{◌≡◌, ◌++◌, ◌∷◌, ◌<◌, [], List, None, length, IfOk, OnOk};
 ghost use Rattle.std.specs.List.{All};
 ghost use mathlib.Core.List.{IsPrefix};
-ghost use Rattle.oim_meta.specs.declared.kind.Kind.{Kind as KindValue};
+ghost use Rattle.oim_report.specs.declared.kind.Kind.{Kind as KindValue};
 ghost use Rattle.oim_resolve.specs.Facts.{value_faults_of};
 ghost use Rattle.oim_resolve.specs.Faults.{least};
 ghost use Rattle.oim_decode.specs.Ready.{EntryView};

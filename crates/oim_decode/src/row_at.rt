@@ -3,7 +3,7 @@
 ghost use Rattle.std.specs.Prelude.{◌≡◌, ◌<◌, length, false};
 ghost use Rattle.std.specs.List.{list_any};
 ghost use Rattle.csv.specs.Records.{fields_of};
-ghost use Rattle.oim_meta.specs.Readers.{columns_of};
+ghost use Rattle.oim_report.specs.Readers.{columns_of};
 ghost use Rattle.oim_rows.specs.RowFacts.{field_or_empty};
 ghost use Rattle.oim_decode.specs.Rows.{IsRowAt, is_unknown_in, names_none_in};
 

@@ -3,7 +3,7 @@
 ghost use Rattle.std.specs.Prelude.{◌≡◌, ◌<◌, OnOk, length};
 ghost use Rattle.std.specs.String.{string_bytes};
 ghost use Rattle.csv.specs.Records.{fields_of};
-ghost use Rattle.oim_meta.specs.Readers.{template_of};
+ghost use Rattle.oim_report.specs.Readers.{template_of};
 ghost use Rattle.oim_rows.specs.RowFacts.{IsNewId, ids_after, row_id_place, row_id_text};
 
 use crate::sources::place_in;

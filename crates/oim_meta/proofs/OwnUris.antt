@@ -6,7 +6,8 @@ use Rattle.std.specs.Map.{keys_of, values_of}
 use Rattle.std.specs.Cmp.Lexicographic.{slice_cmp}
 use Rattle.serde_json.specs.Data.{Members, no_members, member}
 use Rattle.oim_meta.specs.Members.{text_of, any_member, map_members}
-use Rattle.oim_meta.specs.Order.{names_of, IsRising, has_other, repeats_text}
+use Rattle.oim_meta.specs.Order.{names_of, has_other, repeats_text}
+use Rattle.oim_report.specs.Rising.{IsRising}
 use Rattle.oim_meta.specs.Value.{named_text}
 use Rattle.oim_meta.proofs.Unrepeated.{left, right, fewer, below-differs, unlike}
 

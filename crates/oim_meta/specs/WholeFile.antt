@@ -7,7 +7,7 @@ use Rattle.oim_meta.specs.Grid.{Field, Record}
 use Rattle.oim_names.specs.Lookup.{value_at}
 use Rattle.oim_meta.specs.TypeWords.{Words}
 use Rattle.oim_meta.specs.declared.fault.MetaFault.{MetaFault}
-use Rattle.oim_meta.specs.declared.kind.Kind.{Kind}
+use Rattle.oim_report.specs.declared.kind.Kind.{Kind}
 
 -- the record at a place
 abbrev pub record_at : List Record → ℕ → Option Record

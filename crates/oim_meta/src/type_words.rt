@@ -7,7 +7,7 @@ ghost use Rattle.oim_names.specs.Lookup.{value_at};
 ghost use Rattle.oim_meta.specs.TypeWords.{plain_words, tables_of_words, wider_words, words_chosen, words_in};
 
 use crate::fields::texts_of_three;
-use crate::kind::Kind;
+use oim_report::Kind;
 use csv::ByteRecord;
 use oim_cells::NumberKind;
 

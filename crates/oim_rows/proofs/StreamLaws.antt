@@ -3,8 +3,8 @@ use Rattle.std.proofs.Common.{◌≡◌, ◌⊎◌, ◌+◌, ℕ, Bool, List, []
 use Rattle.oim_meta.specs.Grid.{Field, Record, grid}
 use Rattle.oim_meta.specs.Taking.{TakesRecord}
 use Rattle.oim_resolve.specs.FactParts.{FactParts as Fact}
-use Rattle.oim_meta.specs.Readers.{columns_of}
-use Rattle.oim_meta.specs.ReportValue.{ReportValue}
+use Rattle.oim_report.specs.Readers.{columns_of}
+use Rattle.oim_report.specs.ReportValue.{ReportValue}
 use Rattle.oim_meta.specs.declared.records.ReadFault.{ReadFault}
 use Rattle.oim_meta.specs.declared.records.ReadFault.TheVariants as read
 use Rattle.oim_rows.specs.Header.{Header, file_fault, file_header_fault, header_fault, header_of}

@@ -4,9 +4,9 @@ use Rattle.std.specs.Prelude.{List, [], ◌∷◌, ◌++◌, ℕ, ◌+◌, ◌-�
 use Rattle.std.specs.List.{list_any, position_from}
 use Rattle.std.specs.Str.{bytes_eq}
 use Rattle.oim_meta.specs.Grid.{Field, Record}
-use Rattle.oim_meta.specs.Readers.{columns_of, template_of}
-use Rattle.oim_meta.specs.ReportValue.{ReportValue}
-use Rattle.oim_meta.specs.declared.data.Column.{Column}
+use Rattle.oim_report.specs.Readers.{columns_of, template_of}
+use Rattle.oim_report.specs.ReportValue.{ReportValue}
+use Rattle.oim_report.specs.declared.data.Column.{Column}
 use Rattle.oim_rows.specs.declared.fault.TableFault.{TableFault}
 use Rattle.oim_rows.specs.declared.fault.TableKind.{TableKind}
 use Rattle.oim_rows.specs.declared.fault.TableKind.TheVariants as kind

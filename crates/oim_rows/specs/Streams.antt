@@ -3,8 +3,8 @@
 use Rattle.std.specs.Prelude.{⊤, List, [], ◌∷◌, ◌≡◌, ◌⊎◌, ℕ, ◌+◌, Bool, true, false, if◌then◌else◌, Option, Some, None, option_map, Result, Ok, Err}
 use Rattle.std.specs.List.{flat_map}
 use Rattle.oim_meta.specs.Grid.{Field, Record, grid}
-use Rattle.oim_meta.specs.Readers.{columns_of, table_of}
-use Rattle.oim_meta.specs.ReportValue.{ReportValue}
+use Rattle.oim_report.specs.Readers.{columns_of, table_of}
+use Rattle.oim_report.specs.ReportValue.{ReportValue}
 use Rattle.oim_meta.specs.declared.records.ReadFault.{ReadFault}
 use Rattle.oim_meta.specs.declared.records.ReadFault.TheVariants as read
 use Rattle.oim_resolve.specs.FactParts.{FactParts as Fact}

@@ -32,7 +32,7 @@ pub struct RowForm<'a> {
 
 impl<'a> Model for RowForm<'a> {
     ghost use Rattle.std.specs.Prelude.{◌≡◌, ◌<◌, length};
-    ghost use Rattle.oim_meta.specs.Readers.{template_of};
+    ghost use Rattle.oim_report.specs.Readers.{template_of};
     ghost use Rattle.oim_rows.specs.RowFacts.{Reading, row_id_place};
 
     ghost Value = { Reading };

@@ -2,7 +2,7 @@
 
 ghost use Rattle.std.specs.Prelude.{◌≡◌, ◌↔◌, List, ℕ, Option, []};
 ghost use Rattle.oim_meta.specs.Grid.{Record};
-ghost use Rattle.oim_meta.specs.ReportValue.{ReportValue};
+ghost use Rattle.oim_report.specs.ReportValue.{ReportValue};
 ghost use Rattle.oim_rows.specs.Identifiers.{FactIdsDiffer};
 ghost use Rattle.oim_rows.specs.RowFacts.{Reading};
 ghost use Rattle.oim_rows.specs.Streams.{Stream, stream_from, table_stream};

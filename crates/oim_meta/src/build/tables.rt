@@ -8,7 +8,7 @@ ghost use Rattle.oim_meta.specs.Value.{table_of, tables_of};
 
 use crate::build::made::{flag, list_from};
 use crate::build::names::Names;
-use crate::data::Table;
+use oim_report::Table;
 use crate::lookup::{object_at, text_at};
 use oim_names::{Items, Text};
 use serde_json::{Map, Value};

@@ -9,7 +9,7 @@ use crate::build::levels::{level, no_level};
 use crate::build::made::{FromMember, flag, list_from};
 use crate::build::names::Names;
 use crate::build::places::{place_at, places};
-use crate::data::{Column, ColumnKind, Level, Template};
+use oim_report::{Column, ColumnKind, Level, Template};
 use crate::lookup::{list_at, object_at, text_at};
 use oim_names::{Items, Text};
 use serde_json::{Map, Value};

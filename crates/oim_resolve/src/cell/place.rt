@@ -7,7 +7,7 @@ use crate::cell::texts::not_empty;
 use crate::fact::Row;
 use crate::plan::{PlannedDimension, Reference};
 use oim_cells::{CellMeaning, meaning};
-use oim_meta::{Report, WrittenDecimals};
+use oim_report::{Report, WrittenDecimals};
 use oim_names::Text;
 use std::alloc::{AllocError, Global};
 

@@ -12,7 +12,7 @@ use crate::dimension::is_numeric;
 use crate::fact::CellFault;
 use crate::reading::FactValue;
 use oim_cells::{Accuracy, CellMeaning};
-use oim_meta::Kind;
+use oim_report::Kind;
 use oim_names::Text;
 use std::alloc::{AllocError, Global};
 

@@ -9,7 +9,7 @@ use crate::cell::side_of;
 use crate::plan::literal::{Literal, literal_of};
 use crate::plan::reference::{Reference, reference_of};
 use crate::role::Role;
-use oim_meta::{Report, Side, Written};
+use oim_report::{Report, Side, Written};
 use oim_names::Text;
 use std::alloc::{AllocError, Global};
 
