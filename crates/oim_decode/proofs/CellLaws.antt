@@ -7,7 +7,7 @@ use Rattle.std.proofs.lemmas.Grind.{flat_map-append}
 use Rattle.oim_cells.specs.Cells.{Meaning, meaning_of}
 use Rattle.oim_cells.specs.Cells as m
 use Rattle.oim_json.specs.JsonText.{quoted, escaped_byte, decimals_text, value_text, member_text}
-use Rattle.oim_meta.specs.Grid.{Record}
+use Rattle.oim_records.specs.Grids.{Record}
 use Rattle.oim_report.specs.Readers.{column_of, columns_of, table_of}
 use Rattle.oim_report.specs.ReportValue.{ReportValue}
 use Rattle.oim_report.specs.declared.kind.Kind.{Kind}

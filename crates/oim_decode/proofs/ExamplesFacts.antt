@@ -10,7 +10,7 @@ use Rattle.oim_names.specs.QName.{qname_of, sqname_of}
 use Rattle.oim_cells.specs.Cells as m
 use Rattle.oim_cells.specs.Cells.{meaning_of}
 use Rattle.oim_json.specs.JsonText.{decimals_text, dimension_text, escaped_byte, member_text, quoted, value_text}
-use Rattle.oim_meta.specs.Grid.{Record}
+use Rattle.oim_records.specs.Grids.{Record}
 use Rattle.oim_report.specs.Readers.{column_of, no_level}
 use Rattle.oim_report.specs.ReportValue.{ReportValue}
 use Rattle.oim_report.specs.declared.data.Column.{Column}

@@ -12,7 +12,7 @@ use Rattle.oim_names.specs.Unit.{unit_of}
 use Rattle.oim_names.specs.Language.{language_of}
 use Rattle.oim_cells.specs.Cells.{Absent, Nil, Empty, Text, meaning_of, accuracy_of}
 use Rattle.oim_cells.specs.declared.cells.NumberKind.TheVariants as number
-use Rattle.oim_meta.specs.Grid.{Record}
+use Rattle.oim_records.specs.Grids.{Record}
 use Rattle.oim_report.specs.ReportValue.{ReportValue}
 use Rattle.oim_report.specs.Types.{TypesValue}
 use Rattle.oim_report.specs.declared.data.Side.TheVariants as side

@@ -7,7 +7,7 @@ use Rattle.std.specs.List.{All}
 use Rattle.std.specs.Option.{option_to_list}
 use Rattle.oim_cells.specs.Cells.{Meaning, meaning_of}
 use Rattle.oim_cells.specs.Cells as m
-use Rattle.oim_meta.specs.Grid.{Field}
+use Rattle.oim_records.specs.Grids.{Field}
 use Rattle.oim_report.specs.InOrder.{PartsRise, LevelRises}
 use Rattle.oim_report.specs.Readers.{column_of, template_of}
 use Rattle.oim_report.specs.ReportValue.{ReportValue}

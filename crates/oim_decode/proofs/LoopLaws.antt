@@ -8,7 +8,7 @@ use Rattle.std.proofs.lemmas.List.{at_drop_more, at_drop_all, length-map, get_or
 use Rattle.oim_json.specs.Blocks.{behind_comma, behind_commas, ends_from}
 use Rattle.oim_json.specs.JsonText.{member_text}
 use Rattle.oim_json.proofs.Blocks.{texts_append, texts_push, ends_push}
-use Rattle.oim_meta.specs.Grid.{Record}
+use Rattle.oim_records.specs.Grids.{Record}
 use Rattle.oim_report.specs.ReportValue.{ReportValue}
 use Rattle.oim_resolve.specs.FactParts.{FactParts as Fact}
 use Rattle.oim_resolve.specs.declared.fact.Row.{Row}

@@ -17,9 +17,9 @@ ghost use Rattle.oim_decode.specs.Slots.{piece_given, concept_given};
 use crate::append::{put, put_quoted};
 use crate::page::Page;
 use oim_cells::CellMeaning;
-use oim_meta::{Kind, Report, Side};
 use oim_names::{UnitKind, language, qname, sqname, unit};
 use oim_period::{Period, read};
+use oim_report::{Kind, Report, Side};
 use oim_resolve::{CellFault, Role};
 use std::alloc::{AllocError, Global};
 

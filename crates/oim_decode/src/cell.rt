@@ -28,7 +28,7 @@ use crate::row_at::RowAt;
 use crate::slot::Slot;
 use crate::variant::Variant;
 use oim_cells::{CellMeaning, meaning};
-use oim_meta::{Kind, Report};
+use oim_report::{Kind, Report};
 use oim_resolve::CellFault;
 use std::alloc::{AllocError, Global};
 

@@ -21,8 +21,8 @@ use crate::row_at::RowAt;
 use crate::slot::Slot;
 use crate::variant::Variant;
 use crate::variant_index::{Hint, TRIES, VariantIndex};
-use oim_meta::{Level, Report};
 use oim_names::Text;
+use oim_report::{Level, Report};
 use std::alloc::{AllocError, Global};
 
 /// The levels of a column under the groups that a row names, the most specific first.

@@ -11,7 +11,7 @@ use crate::append::{put, put_escaped};
 use crate::column::FactColumn;
 use crate::page::Page;
 use crate::sources::place_in;
-use oim_meta::{Column, ColumnKind, Report};
+use oim_report::{Column, ColumnKind, Report};
 use std::alloc::{AllocError, Global};
 
 /// Columns of groups, each with its place in a header.

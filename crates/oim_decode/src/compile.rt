@@ -24,8 +24,8 @@ use crate::slot::Slot;
 use crate::slots::decimals_slot_for;
 use crate::sources::source_decimals;
 use oim_cells::{CellMeaning, meaning};
-use oim_meta::{Level, Report, WrittenDecimals};
 use oim_names::Text;
+use oim_report::{Level, Report, WrittenDecimals};
 use oim_resolve::levels;
 use std::alloc::{AllocError, Global};
 

@@ -16,7 +16,7 @@ use crate::page::Page;
 use crate::ready::ReadyEntry;
 use crate::slot::Slot;
 use oim_cells::NumberKind;
-use oim_meta::Kind;
+use oim_report::Kind;
 use oim_resolve::CellFault;
 use std::alloc::{AllocError, Global};
 use std::mem;

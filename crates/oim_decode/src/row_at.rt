@@ -9,7 +9,7 @@ ghost use Rattle.oim_decode.specs.Rows.{IsRowAt, is_unknown_in, names_none_in};
 
 use crate::text_record::TextRecord;
 use oim_cells::{CellMeaning, meaning};
-use oim_meta::Report;
+use oim_report::Report;
 
 /// A row of a table: its record under the table's header, its number, and the number in digits.
 #[derive(Clone, Copy)]

@@ -8,7 +8,7 @@ ghost use Rattle.oim_rows.specs.RowFacts.{IsNewId, ids_after, row_id_place, row_
 
 use crate::sources::place_in;
 use crate::text_record::TextRecord;
-use oim_meta::Report;
+use oim_report::Report;
 use oim_rows::{RowIds, push_row_number};
 use std::alloc::{AllocError, Global};
 

@@ -11,12 +11,12 @@ use Rattle.csv.specs.Reading.{records_from, strip_bom}
 use Rattle.csv.specs.Records.{field_at}
 use Rattle.csv.specs.declared.error.ErrorKind.TheVariants as kind
 use Rattle.oim_meta.specs.CsvFiles.{EntryFile, all_of, fault_of_read, file_result, text_field}
-use Rattle.oim_meta.specs.ReadFaults.{fault_of_kind}
+use Rattle.oim_records.specs.ReadFaults.{fault_of_kind}
 use Rattle.oim_meta.specs.WholeFile.{kind_said, record_at}
-use Rattle.oim_meta.specs.declared.records.ReadFault.TheVariants as read
+use Rattle.oim_records.specs.declared.read_fault.ReadFault.TheVariants as read
 use Rattle.oim_meta.specs.declared.type_words.TypeWords.TheVariants.{Plain, Wider}
 use Rattle.oim_meta.specs.FaultNames.{fault_number, fault_name}
-use Rattle.oim_meta.specs.Grid.{Record, grid, records_left}
+use Rattle.oim_records.specs.Grids.{Record, grid, records_left}
 use Rattle.oim_meta.specs.ParametersFile.{parameters_file, parameters_result}
 use Rattle.oim_names.specs.Lookup.{value_at}
 use Rattle.oim_meta.specs.TypeWords.{Words, plain_words, wider_words, words_chosen, words_in}

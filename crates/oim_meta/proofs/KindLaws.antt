@@ -4,7 +4,7 @@ use Rattle.std.specs.Option.{is_none, ok_or, option_and_then, option_or}
 use Rattle.oim_names.specs.Lookup.{value_at}
 use Rattle.oim_names.specs.Names.{is_ncname}
 use Rattle.oim_meta.specs.CsvFiles.{all_of, three_texts, unless_bad}
-use Rattle.oim_meta.specs.Grid.{Field, Record}
+use Rattle.oim_records.specs.Grids.{Field, Record}
 use Rattle.oim_report.specs.Types.{TypesValue, kind_in}
 use Rattle.oim_meta.specs.TypeWords.{Words}
 use Rattle.oim_meta.specs.TypesFile.{most_types, type_after, types_file, with_type}

@@ -1,5 +1,4 @@
 pub mod Searches
-pub mod GridFacts
 pub mod Strips
 pub mod Rising
 pub mod Counted

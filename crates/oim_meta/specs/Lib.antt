@@ -1,6 +1,3 @@
-pub mod Grid
-pub mod Taking
-pub mod ReadFaults
 pub mod TypeWords
 pub mod TypesFile
 pub mod CsvFiles

@@ -5,7 +5,7 @@ use Rattle.std.specs.Option.{option_and_then, option_map}
 use Rattle.oim_names.specs.Lookup.{value_at}
 use Rattle.oim_names.specs.Names.{is_ncname}
 use Rattle.oim_meta.specs.CsvFiles.{EntryFile, file_result, three_texts}
-use Rattle.oim_meta.specs.Grid.{Field, Record}
+use Rattle.oim_records.specs.Grids.{Field, Record}
 use Rattle.oim_report.specs.Types.{TypesValue, kind_in, with_kind}
 use Rattle.oim_meta.specs.TypeWords.{Words, words_chosen}
 use Rattle.oim_meta.specs.declared.fault.MetaFault.{MetaFault}

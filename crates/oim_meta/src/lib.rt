@@ -34,7 +34,6 @@ mod members;
 mod order;
 mod parameters;
 mod read;
-mod records;
 mod shape_laws;
 mod text_laws;
 mod type_words;
@@ -44,10 +43,13 @@ mod written;
 pub use fault::MetaFault;
 pub use fault_laws::first_fault_is_least;
 pub use file_laws::{fault_is_of_earliest_record, types_are_of_all_records};
-pub use oim_report::{Column, ColumnKind, Info, Kind, Level, Limits, Parameters, Report, Side, Table, Template, TypedName, Types, Written, WrittenDecimals};
+pub use oim_records::{ReadFault, Records};
+pub use oim_report::{
+    Column, ColumnKind, Info, Kind, Level, Limits, Parameters, Report, Side, Table, Template,
+    TypedName, Types, Written, WrittenDecimals,
+};
 pub use parameters::read_parameters;
 pub use read::{parameter_url, read_report};
-pub use records::{ReadFault, Records};
 pub use shape_laws::faults_of_shape_are_parts_without_it;
 pub use text_laws::a_text_writes_one_value;
 pub use types::read_types;

@@ -2,7 +2,7 @@
 
 ghost use Rattle.std.specs.Prelude.{IfSome};
 ghost use Rattle.oim_meta.specs.CsvFiles.{OrOutside};
-ghost use Rattle.oim_meta.specs.Grid.{grid};
+ghost use Rattle.oim_records.specs.Grids.{grid};
 ghost use Rattle.oim_meta.specs.ParametersFile.{parameters_result};
 
 use crate::entries::{Entries, read_file};

@@ -30,12 +30,9 @@ use crate::check::shapes::bad_shape;
 use crate::check::templates::unknown_template;
 use crate::columns::unknown_column;
 use crate::fault::MetaFault;
-use oim_report::Limits;
 use crate::lookup::text_at;
-use oim_report::Parameters;
-use oim_report::Report;
-use oim_report::Types;
 use oim_names::{Namespaces, Text};
+use oim_report::{Limits, Parameters, Report, Types};
 use serde_json::{Error, Value};
 use std::alloc::Global;
 

@@ -25,6 +25,10 @@ order = slice_cmp nat_cmp
 differ : (k n : List ℕ) → is_eq (order k n) ≡ false → bytes_eq k n ≡ false
 differ k n h = sym (is_eq-slice_cmp k n) ∙ h
 
+-- a name that is below another is another
+pub below-differs : (k l : List ℕ) → slice_cmp nat_cmp k l ≡ Less → bytes_eq k l ≡ false
+below-differs k l h = sym (is_eq-slice_cmp k l) ∙ ap is_eq h
+
 -- the first place, where it is known
 is_at : (n len i : ℕ) → n ≡ i → i < len → cond (ltb n len) (Some n) None ≡ Some i
 is_at n len i same within = by (ltb i len) refl

@@ -66,7 +66,7 @@ impl Types {
     }
 
     /// No types. It takes no memory.
-    pub fn new(alloc: Global) -> Types
+    pub fn none(alloc: Global) -> Types
         ensures { result ≡ [] }
     {
         Types {
@@ -76,7 +76,13 @@ impl Types {
     }
 
     /// The same types and one more, the last.
-    pub fn with(self, alloc: Global, uri: &str, local: &str, kind: Kind) -> Result<Types, AllocError>
+    pub fn with(
+        self,
+        alloc: Global,
+        uri: &str,
+        local: &str,
+        kind: Kind,
+    ) -> Result<Types, AllocError>
         requires { kind_in self uri.now local.now ≡ None }
         ensures { IfOk result (λ more. more ≡ with_kind self uri.now local.now kind) }
     {

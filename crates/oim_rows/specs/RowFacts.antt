@@ -7,7 +7,7 @@ use Rattle.std.specs.Option.{option_map_or}
 use Rattle.std.specs.Str.{bytes_eq, is_utf8}
 use Rattle.csv.specs.Records.{field_at}
 use Rattle.oim_names.specs.Names.{is_row_identifier}
-use Rattle.oim_meta.specs.Grid.{Field, Record}
+use Rattle.oim_records.specs.Grids.{Field, Record}
 use Rattle.oim_report.specs.Readers.{columns_of, template_of}
 use Rattle.oim_report.specs.ReportValue.{ReportValue}
 use Rattle.oim_report.specs.declared.data.Column.{Column}

@@ -10,7 +10,8 @@ ghost use Rattle.oim_rows.specs.Streams.{IsOutside, TakesHeader, early_header_fa
 use crate::cells::field;
 use crate::fault::{TableFault, TableKind, fault_at_place, fault_of_read, whole_fault};
 use csv::ByteRecord;
-use oim_meta::{ReadFault, Records, Report};
+use oim_records::{ReadFault, Records};
+use oim_report::Report;
 use std::alloc::{AllocError, Global};
 use std::io::Read;
 

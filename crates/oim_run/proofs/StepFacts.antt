@@ -31,7 +31,7 @@ use Rattle.std.proofs.Common.{
 }
 use Rattle.oim_convert.specs.Files.{IsFileOf}
 use Rattle.oim_meta.specs.CsvFiles.{OrOutside}
-use Rattle.oim_meta.specs.Grid.{grid}
+use Rattle.oim_records.specs.Grids.{grid}
 use Rattle.oim_report.specs.Parameters.{ParametersValue}
 use Rattle.oim_meta.specs.ParametersFile.{parameters_result}
 use Rattle.oim_report.specs.ReportValue.{ReportValue}

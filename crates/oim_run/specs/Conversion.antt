@@ -2,7 +2,7 @@
 -- xBRL-CSV 1.0 (the metadata and the table files), xBRL-JSON 1.0 (the document).
 use Rattle.std.specs.Prelude.{◌≡◌, ◌⊎◌, length, ℕ, List, [], Option, Result, Ok, Err}
 use Rattle.oim_meta.specs.CsvFiles.{OrOutside}
-use Rattle.oim_meta.specs.Grid.{grid}
+use Rattle.oim_records.specs.Grids.{grid}
 use Rattle.oim_meta.specs.Reading.{SaysReport, IsFault}
 use Rattle.oim_report.specs.ReportValue.{ReportValue}
 use Rattle.oim_report.specs.Types.{TypesValue}

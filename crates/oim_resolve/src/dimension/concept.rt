@@ -9,8 +9,8 @@ ghost use Rattle.oim_resolve.specs.Facts.{concept_read, concept_type_of, is_nume
 
 use crate::fact::CellFault;
 use oim_cells::CellMeaning;
-use oim_report::{Kind, Report};
 use oim_names::qname;
+use oim_report::{Kind, Report};
 
 /// The kind of a declared QName.
 pub(crate) fn kind_of_name(report: &Report, text: &str) -> Option<Kind>

@@ -8,8 +8,8 @@ ghost use Rattle.oim_resolve.specs.ProgramPlan.{IsPlanned, planned_column, plann
 use crate::plan::dimension::{PlannedDimension, plan_dimension};
 use crate::plan::group::{PlannedGroup, plan_groups};
 use crate::plan::levels;
-use oim_report::{Level, Report};
 use oim_names::find;
+use oim_report::{Level, Report};
 use std::alloc::{AllocError, Global};
 
 /// A column: what it, its template and the report write, merged in byte order of name, and its

@@ -2,7 +2,7 @@ use Rattle.std.proofs.Common.{List, ℕ, ap, sym, subst, ◌∙◌, arith}
 use Rattle.std.specs.Borrow.{Bor}
 use Rattle.std.specs.Map.{keys_of}
 use Rattle.oim_report.specs.InOrder.{LevelRises}
-use Rattle.oim_meta.specs.Order.{IsRising}
+use Rattle.oim_report.specs.Rising.{IsRising}
 use Rattle.oim_report.specs.declared.data.Level.{Level}
 use Rattle.oim_report.specs.declared.data.Written.{Written}
 use Rattle.oim_names.specs.Lookup.{value_at}

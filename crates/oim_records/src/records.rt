@@ -1,25 +1,17 @@
-//! The records of a CSV file, one at a time.
+//! The records of a CSV file, one at a time, by the `csv` crate's reader: small, for files of which few are read or none is large.
 
 ghost use Rattle.std.specs.Prelude.{◌≡◌, [], option_map, MatchResult, Some, true};
 ghost use Rattle.csv.specs.Reading.{stops_reader};
 ghost use Rattle.csv.specs.Records.{fields_of};
-ghost use Rattle.oim_meta.specs.Grid.{grid};
-ghost use Rattle.oim_meta.specs.ReadFaults.{fault_of_kind};
-ghost use Rattle.oim_meta.specs.Taking.{TakesRecord};
+ghost use Rattle.oim_records.specs.Grids.{grid};
+ghost use Rattle.oim_records.specs.ReadFaults.{fault_of_kind};
+ghost use Rattle.oim_records.specs.Reads.{TakesRecord};
 
+use crate::read_fault::ReadFault;
 use csv::{ByteRecord, ErrorKind, Reader, ReaderBuilder};
 use std::alloc::Global;
 use std::io::Read;
 use std::marker::Model;
-
-/// Why a record could not be read.
-#[derive(Clone, Copy, PartialEq, Eq, Debug)]
-pub enum ReadFault {
-    /// The reader failed.
-    Read,
-    /// Memory ran out.
-    Memory,
-}
 
 /// The fault of an error that stops a reader.
 fn fault_of(kind: &ErrorKind) -> ReadFault
@@ -46,8 +38,8 @@ pub struct Records<R: Read> {
 impl<R: Read> Model for Records<R> {
     ghost use Rattle.std.specs.Prelude.{List, [], Option, Some, option_map, if◌then◌else◌};
     ghost use Rattle.csv.specs.Reading.{reader_state, source_of};
-    ghost use Rattle.oim_meta.specs.Grid.{Record, records_left};
-    ghost use Rattle.oim_meta.specs.Taking.{IsPlainUnlessFailed};
+    ghost use Rattle.oim_records.specs.Grids.{Record, records_left};
+    ghost use Rattle.oim_records.specs.PlainReaders.{IsPlainUnlessFailed};
 
     ghost Value = { Option (List Record) };
 

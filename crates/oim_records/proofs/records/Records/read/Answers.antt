@@ -1,9 +1,9 @@
 use Rattle.std.proofs.Common.{true, false, inl, inr, option_map}
 use Rattle.csv.specs.Reading.{reader_state, source_of}
 use Rattle.csv.specs.Records.{fields_of}
-use Rattle.oim_meta.specs.Grid.{records_left}
-use Rattle.oim_meta.proofs.GridFacts.{takes_end, takes_found, takes_none, takes_record}
-use Rattle.oim_meta.proofs.records.Records.read.Goals as goal
+use Rattle.oim_records.specs.Grids.{records_left}
+use Rattle.oim_records.proofs.GridFacts.{takes_end, takes_found, takes_none, takes_record}
+use Rattle.oim_records.proofs.records.Records.read.Goals as goal
 
 pub returns-in-Ok-true : goal.returns-in-Ok-true
 returns-in-Ok-true g c =
