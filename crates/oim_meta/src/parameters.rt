@@ -9,7 +9,8 @@ use crate::entries::{Entries, read_file};
 use crate::fault::MetaFault;
 use crate::fields::texts_of_two;
 use csv::ByteRecord;
-use oim_names::{Text, is_identifier};
+use oim_names::is_identifier;
+use oim_report::Parameters;
 use std::alloc::{AllocError, Global};
 use std::io::Read;
 
