@@ -5,7 +5,7 @@ use Rattle.std.specs.List.{AllByRecursion}
 use Rattle.std.specs.List.Sorted.{IsStrictlySortedBy}
 use Rattle.std.specs.Map.{keys_of}
 use Rattle.oim_report.specs.InOrder.{PartsRise, TemplateRises, ColumnRises}
-use Rattle.oim_report.specs.Order.{IsRising}
+use Rattle.oim_report.specs.Rising.{IsRising}
 use Rattle.oim_report.specs.Readers.{column_of, columns_of, table_of, template_of, no_column, no_table, no_template}
 use Rattle.oim_report.specs.ReportValue.{ReportValue}
 use Rattle.oim_report.specs.declared.data.Column.{Column}

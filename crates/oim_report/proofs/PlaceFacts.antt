@@ -2,7 +2,7 @@
 use Rattle.std.specs.Prelude.{◌<◌, ℕ, List, IfSome, length, slice_index_or}
 use Rattle.std.specs.List.{All}
 use Rattle.std.specs.Map.{keys_of}
-use Rattle.oim_report.specs.Order.{IsRising}
+use Rattle.oim_report.specs.Rising.{IsRising}
 use Rattle.oim_report.specs.Places.{HasColumns, IsReport}
 use Rattle.oim_report.specs.Readers.{no_table}
 use Rattle.oim_report.specs.InOrder.{PartsRise, HaveIdentifiers}

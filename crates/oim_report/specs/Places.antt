@@ -3,7 +3,7 @@ use Rattle.std.specs.Prelude.{◌<◌, ℕ, List, IfSome, length}
 use Rattle.std.specs.List.{All}
 use Rattle.std.specs.Map.{keys_of}
 use Rattle.oim_report.specs.InOrder.{PartsRise, HaveIdentifiers}
-use Rattle.oim_report.specs.Order.{IsRising}
+use Rattle.oim_report.specs.Rising.{IsRising}
 use Rattle.oim_report.specs.declared.data.Level.{Level}
 use Rattle.oim_report.specs.declared.data.Table.{Table}
 use Rattle.oim_report.specs.declared.data.Template.{Template}

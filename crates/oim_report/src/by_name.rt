@@ -3,7 +3,7 @@
 ghost use Rattle.std.specs.Prelude.{◌≡◌, map};
 ghost use Rattle.std.specs.List.{position};
 ghost use Rattle.std.specs.Str.{bytes_eq};
-ghost use Rattle.oim_report.specs.Order.{IsRising};
+ghost use Rattle.oim_report.specs.Rising.{IsRising};
 ghost use Rattle.oim_report.specs.declared.data.Column.{Column as ColumnValue};
 
 use crate::data::Column;
