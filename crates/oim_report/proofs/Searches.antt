@@ -15,7 +15,6 @@ use Rattle.std.proofs.lemmas.Map.Lookups.{exact_bytes}
 use Rattle.std.proofs.lemmas.Map.Text.{is_eq-slice_cmp}
 use Rattle.std.proofs.lemmas.Slice.Eq.{bytes_eq-Decides}
 use Rattle.std.proofs.lemmas.Bool.{cases_lt, ltb-true, ltb-false}
-use Rattle.oim_report.specs.Order.{names_of}
 use Rattle.oim_report.specs.Rising.{IsRising}
 
 abbrev order : List ℕ → List ℕ → Ordering
