@@ -57,7 +57,7 @@ abbrev least : List Text
 least = codes "m.json" ∷ codes "--types" ∷ codes "t.csv" ∷ []
 
 abbrev full : List Text
-full = codes "--out" ∷ codes "o.json" ∷ codes "--workers" ∷ codes "64" ∷ codes "--ring=2" ∷ codes "--layout" ∷ codes "lines" ∷ codes "--progress" ∷ least
+full = codes "--out" ∷ codes "o.json" ∷ codes "--workers" ∷ codes "64" ∷ codes "--ring=2" ∷ codes "--layout" ∷ codes "lines" ∷ codes "--progress" ∷ codes "--whole" ∷ least
 
 abbrev given : List Text → List Row
 given words = matches_of (command_line layouts) words
@@ -113,6 +113,14 @@ no_progress = refl
 full_progress : is_given (first_of (codes "progress") (given full)) ≡ true
 unfolding clap_on_literals command_line
 full_progress = refl
+
+least_whole : is_given (first_of (codes "whole") (given least)) ≡ false
+unfolding clap_on_literals command_line
+least_whole = refl
+
+full_whole : is_given (first_of (codes "whole") (given full)) ≡ true
+unfolding clap_on_literals command_line
+full_whole = refl
 
 least_taken : fault_of (command_line layouts) least ≡ []
 unfolding clap_on_literals command_line
