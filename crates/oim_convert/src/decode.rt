@@ -12,8 +12,8 @@ ghost use Rattle.oim_rows.specs.declared.fault.TableKind.TheVariants as kind;
 use crate::job::Job;
 use crate::sending::{close_waiting, put_waiting};
 use oim_decode::TableBlocks;
-use oim_meta::{Limits, Report};
-use oim_ring::{ClosedFeed, Ending, Feed};
+use oim_report::{Limits, Report};
+use oim_ring::{Closed, Ending, Feed};
 use oim_rows::{TableFault, TableKind};
 use std::alloc::Global;
 use std::io::Read;
@@ -39,7 +39,7 @@ pub(crate) fn decode<R: Read + Drop, T: Wait>(
     report: &Report,
     limits: Limits,
     job: Job<R>,
-) -> Option<ClosedFeed>
+) -> Option<Closed>
     requires place { job.table < length report.now.tables }
     requires rows { limits.rows ≤ 4294967294 }
     requires fresh { job.feed.sent ≡ [] }

@@ -1,9 +1,7 @@
 //! Reading a report's metadata, types table and parameters file while memory runs out.
 
 use crate::{Answer, Call, ROOM, is_refused};
-use oim_meta::{
-    Limits, MetaFault, Report, parameter_url, read_parameters, read_report, read_types,
-};
+use oim_meta::{Limits, MetaFault, Report, parameter_url, read_parameters, read_report, read_types};
 use std::alloc::Global;
 use std::test::Fail;
 
@@ -48,7 +46,7 @@ struct ReadsUrl;
 
 impl Call for ReadsUrl {
     fn make(&mut self, alloc: Global) -> Answer {
-        match parameter_url(alloc, METADATA.as_bytes(), Limits::profile()) {
+        match parameter_url(alloc, METADATA.as_bytes(), &Limits::profile()) {
             Ok(Some(url)) if url.as_str() == "parameters.csv" => Answer::Enough,
             Ok(_) => Answer::Wrong,
             Err(fault) => of_fault(fault),
