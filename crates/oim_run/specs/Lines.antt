@@ -1,8 +1,7 @@
 -- What the program says of each outcome: its exit status, and its lines on standard error.
-use Rattle.std.specs.Prelude.{ℕ, ◌+◌, ◌/◌, ◌%◌, nat_lt, if◌then◌else◌, List, [], ◌∷◌, ◌++◌, codes}
+use Rattle.std.specs.Prelude.{ℕ, ◌+◌, ◌/◌, ◌%◌, nat_lt, if◌then◌else◌, List, [], ◌∷◌, ◌++◌, chars, codes, encode_utf8, flat_map}
 use Rattle.std.specs.Char.{is_control}
 use Rattle.std.specs.Fmt.{decimal}
-use Rattle.std.specs.Str.{chars, encode_utf8}
 use Rattle.clap.specs.declared.error.kind.ErrorKind.{ErrorKind}
 use Rattle.clap.specs.declared.error.kind.ErrorKind.TheVariants as kind
 use Rattle.oim_meta.specs.FaultNames.{fault_name, fault_number}
@@ -76,17 +75,17 @@ line_of (outcome.Output f) = codes "xbrl-json: output: Write (56)" ++ 10 ∷ []
 abbrev pub hex_digit : ℕ → ℕ
 hex_digit n = if nat_lt n 10 then 48 + n else 87 + n
 
--- a control character (U+0000 to U+001F, U+007F to U+009F) as \x and two hexadecimal digits, any other as itself
-abbrev pub shown_char : ℕ → List ℕ
-shown_char c = if is_control c then 92 ∷ 120 ∷ hex_digit (c / 16) ∷ hex_digit (c % 16) ∷ [] else encode_utf8 c
+-- \x and the two hexadecimal digits of a character's code
+abbrev pub escape_of : ℕ → List ℕ
+escape_of c = 92 ∷ 120 ∷ hex_digit (c / 16) ∷ hex_digit (c % 16) ∷ []
 
-abbrev pub shown_chars : List ℕ → List ℕ
-shown_chars [] = []
-shown_chars (c ∷ cs) = shown_char c ++ shown_chars cs
+-- a control character (U+0000 to U+001F, U+007F to U+009F) by its code, any other as itself
+abbrev pub shown_char : ℕ → List ℕ
+shown_char c = if is_control c then escape_of c else encode_utf8 c
 
 -- a text as a terminal is shown it: it gives no order, and no line ends in it
-unfoldable pub shown : List ℕ → List ℕ
-shown text = shown_chars (chars text)
+abbrev pub shown : List ℕ → List ℕ
+shown text = flat_map shown_char (chars text)
 
 -- the lines for an outcome, where no path has a control character
 abbrev pub terminal_line_of : Outcome → List ℕ

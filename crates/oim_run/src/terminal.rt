@@ -1,7 +1,7 @@
 //! Texts of files and words as a terminal is shown them, with no control character.
 
-ghost use Rattle.std.specs.Prelude.{◌≡◌, ◌<◌, IfOk, string_bytes};
-ghost use Rattle.oim_run.specs.Lines.{hex_digit, shown};
+ghost use Rattle.std.specs.Prelude.{◌≡◌, ◌<◌, ◌++◌, IfOk, string_bytes};
+ghost use Rattle.oim_run.specs.Lines.{escape_of, hex_digit, shown, shown_char};
 
 use oim_names::Text;
 use std::alloc::{AllocError, Global};
@@ -18,11 +18,25 @@ fn digit(n: u32) -> char
 }
 
 /// Puts a control character behind a text, as `\x` and two hexadecimal digits.
-fn put_control(out: &mut String, c: char) -> Result<(), AllocError> {
+fn put_control(out: &mut String, c: char) -> Result<(), AllocError>
+    requires { c < 256 }
+    ensures { IfOk result (λ u. string_bytes out.new ≡ string_bytes out.old ++ escape_of c) }
+{
     let code = u32::from(c);
     out.push_str("\\x")?;
-    out.push(digit(code / 16 % 16))?;
+    out.push(digit(code / 16))?;
     out.push(digit(code % 16))
+}
+
+/// Puts a character behind a text, as a terminal is shown it.
+fn put_shown(out: &mut String, c: char) -> Result<(), AllocError>
+    ensures { IfOk result (λ u. string_bytes out.new ≡ string_bytes out.old ++ shown_char c) }
+{
+    if c.is_control() {
+        put_control(out, c)
+    } else {
+        out.push(c)
+    }
 }
 
 /// A text with each control character as `\x` and its two hexadecimal digits, so that a terminal takes
@@ -32,11 +46,7 @@ pub fn shown(alloc: Global, text: &str) -> Result<Text, AllocError>
 {
     let mut out = String::new(alloc);
     for c in text.chars() {
-        if c.is_control() {
-            put_control(&mut out, c)?;
-        } else {
-            out.push(c)?;
-        }
+        put_shown(&mut out, c)?;
     }
     Ok(Text::new(out))
 }
