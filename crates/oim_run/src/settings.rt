@@ -30,8 +30,7 @@ const RING_HELP: &str =
 const OUT_HELP: &str =
     "The file of the document, which is emptied first [default: standard output]";
 
-const WHOLE_HELP: &str =
-    "FILE gets the document only once it is whole, and is else left as it was";
+const WHOLE_HELP: &str = "FILE gets the document only once it is whole, and is else left as it was";
 
 const LAYOUT_HELP: &str = "The document on one line, or with a line for each fact";
 
