@@ -3,7 +3,6 @@
 from __future__ import annotations
 
 import os
-import secrets
 import select
 import shutil
 import signal
@@ -76,7 +75,7 @@ class Stopping:
 @contextmanager
 def temporary_folder(parent: str, name: str, stopping: Stopping) -> Iterator[str]:
     """A new folder, gone at every end."""
-    path = os.path.join(parent, f"{name}{secrets.token_hex(8)}")
+    path = os.path.join(parent, f"{name}{os.urandom(8).hex()}")
     stopping.folders.append(path)
     try:
         try:

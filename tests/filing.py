@@ -20,6 +20,7 @@ import struct
 import subprocess
 import sys
 import tempfile
+import threading
 import time
 import warnings
 import zipfile
@@ -30,7 +31,7 @@ EXAMPLE = TOP / "examples/filing"
 FILING = str(TOP / "xbrl-filing")
 sys.path.insert(0, str(TOP))
 
-from filing import command, packages, refusals, stopping, zip_entries  # noqa: E402
+from filing import command, digests, packages, refusals, stopping, zip_entries  # noqa: E402
 
 HOST = "http://reg.example/"
 CSV = "https://xbrl.org/2021/xbrl-csv"
@@ -2262,10 +2263,86 @@ def what_changes_meanwhile(folder):
     (folder / "top/other").mkdir()
     case("where the root is counts", packages.FolderPackage(str(folder / "top")).digest() == top, False)
     case("files and links are told apart", (len(set(folders)), entries()), (3, before))
-    zero, one = (os.fsdecode(packages.digest_of(iter([it]))) for it in (b"0", b"1"))
+    zero, one = (os.fsdecode(digests.digest_of(it)) for it in (b"0", b"1"))
     write(folder, {"p/x": "0", "p/y": "1", "p/z": "3", f"q/{one}z": "3"})
     (folder / "q/x").symlink_to(zero + "y")
     case("no name runs into the next", len({packages.FolderPackage(str(folder / it)).digest() for it in "pq"}), 2)
+
+
+def digests_of_contents(folder):
+    """The digest of a file is that of the digests of its blocks, on any number of threads."""
+    texts = [b"", b"a", b"abcdef", b"abcdefg", b"abcdefgh", b"abcdefgabcdefg", b"abcdefgabcdefgh", b"x" * 700]
+    write(folder, {str(number): text for number, text in enumerate(texts)})
+    files = [digests.contents_of_disk(str(folder / str(number)), len(text), str(number)) for number, text in enumerate(texts)]
+    own = digests.digest_of
+    wanted = [own(b"".join(own(text[at : at + 7]) for at in range(0, len(text) or 1, 7))) for text in texts]
+    kept = digests.BLOCK, digests.processors, digests.Thread, digests.Blocks.digest
+    workers = set()
+
+    def slowly(blocks, *place):
+        workers.add(threading.get_ident())
+        time.sleep(0.01)
+        return kept[3](blocks, *place)
+
+    class NoThread(threading.Thread):
+        def start(self):
+            raise RuntimeError("can't start new thread")
+
+    try:
+        digests.BLOCK = 7
+        for number in (1, 2, 3, 8, 100):
+            digests.processors = lambda: number
+            case(f"digests of blocks on {number} processors", digests.digests_of(files), wanted)
+        digests.Blocks.digest = slowly
+        for number, used in ((1, 1), (3, 3), (100, digests.MOST_THREADS)):
+            workers.clear()
+            digests.processors = lambda: number
+            case(f"{number} processors", (digests.digests_of(files), len(workers), threading.active_count()), (wanted, used, 1))
+        case("no more threads than blocks", digests.digests_of(files[:1]), wanted[:1])
+        digests.Thread = NoThread
+        case("a system that gives no threads", digests.digests_of(files), wanted)
+    finally:
+        digests.BLOCK, digests.processors, digests.Thread, digests.Blocks.digest = kept
+    case("no files", digests.digests_of([]), [])
+    case("a file that has grown a little counts as it is", digests.digests_of([files[3]._replace(size=1)]), digests.digests_of(files[3:4]))
+
+
+def digests_that_fail(folder):
+    """Of several failures the first is told, in the order of the files; a signal ends the work of all threads."""
+    names = ["a", "b", "c", "d"]
+    write(folder, {"a": "1", "c": "1"})
+    files = [digests.contents_of_disk(str(folder / it), 1, it) for it in names] * 20
+
+    def seen(number):
+        digests.processors = lambda: number
+        try:
+            return digests.digests_of(files)
+        except refusals.Refusal as refusal:
+            return refusal.status, refusal.line
+        except (MemoryError, stopping.Stopped) as error:
+            return type(error)
+
+    kept, digest = digests.processors, digests.Blocks.digest
+    main_thread = threading.get_ident()
+
+    def signalled(blocks, *place):
+        if threading.get_ident() == main_thread:
+            os.kill(os.getpid(), signal.SIGTERM)
+        done.append(place)
+        time.sleep(0.01)
+        return b""
+
+    try:
+        for number in (1, 4):
+            case(f"what cannot be read, on {number} processors", seen(number), (3, "b: cannot read (No such file or directory)"))
+        digests.Blocks.digest = lambda *_: (_ for _ in ()).throw(MemoryError)
+        case("too little memory to digest", seen(4), MemoryError)
+        digests.Blocks.digest, done = signalled, []
+        heeded()
+        case("a signal while contents are digested", (seen(4), threading.active_count(), len(done) < 40), (stopping.Stopped, 1, True))
+    finally:
+        digests.processors, digests.Blocks.digest = kept, digest
+        heeding()
 
 
 def what_is_not_kept(folder):
@@ -2453,6 +2530,8 @@ PARTS = (
     refusals_of_the_cache,
     keys_of_the_cache,
     what_changes_meanwhile,
+    digests_of_contents,
+    digests_that_fail,
     what_is_not_kept,
     caches_of_several_runs,
     a_large_taxonomy,
