@@ -10,10 +10,12 @@ from typing import Dict, List, Optional, Tuple
 from .cache import Cache, key_of
 from .catalog import CATALOG
 from .chain import Chain
+from .converter_lines import ConverterLines
 from .final import check_final
 from .finding import Finder, Found
 from .kinds import REASONS, Kinds, kinds_of
 from .metadata import Merged, check_parts, merge
+from .origins import Origins
 from .outputs import refuse_outputs
 from .packages import Beside, Package, open_package
 from .parameters import check_parameters
@@ -87,22 +89,33 @@ def run(settings: Settings, program: str, progress: Progress, stopping: Stopping
     report, packages = open_inputs(settings)
     refuse_outputs(settings, packages, None)
     place = None if settings.prepare is None else place_of(settings.prepare)
-    merged, files, types = join(report, packages, settings, progress)
+    origins, files, types = join(report, packages, settings, progress)
     refuse_outputs(settings, packages, files)
     progress.say("preparing the tables")
-    if place is not None:
-        parent, name = place
-        with temporary_folder(parent, f".{name}-", stopping) as folder:
-            write_files(folder, files, types, copy=True)
-            os.chmod(folder, 0o777 & ~umask())
-            with stopping.held():
-                move_into(os.path.join(parent, name), folder)
-        progress.clear()
-        return 0
+    if place is None:
+        return convert(origins, files, types, settings, program, progress, stopping)
+    parent, name = place
+    with temporary_folder(parent, f".{name}-", stopping) as folder:
+        write_files(folder, files, types, copy=True)
+        os.chmod(folder, 0o777 & ~umask())
+        with stopping.held():
+            move_into(os.path.join(parent, name), folder)
+    progress.clear()
+    return 0
+
+
+def convert(origins: Origins, files: Files, types: bytes, settings: Settings, program: str, progress: Progress, stopping: Stopping) -> int:
+    """Runs xbrl-json over a temporary folder, and answers its status. On a terminal, the line of its --progress is its own."""
     with temporary_folder(temporary_place(), f"{NAME}-", stopping) as folder:
-        write_files(folder, files, types, copy=False)
+        lines = ConverterLines(origins, write_files(folder, files, types, copy=False))
         progress.clear()
-        return run_program([program, os.path.join(folder, META), "--types", os.path.join(folder, TYPES), *settings.rest], stopping)
+        words = [program, os.path.join(folder, META), "--types", os.path.join(folder, TYPES), *settings.rest]
+        heard = "--explain" in settings.rest or "--progress" not in settings.rest
+        status = run_program(words, stopping, lines.hear if heard and sys.stderr else None)
+        more = lines.end()
+        if more:
+            tell(f"{NAME}: {printable(more)}")
+        return status
 
 
 def open_inputs(settings: Settings) -> Tuple[Found, List[Package]]:
@@ -119,8 +132,8 @@ def open_inputs(settings: Settings) -> Tuple[Found, List[Package]]:
     return find_report(package), [package, *packages]
 
 
-def join(report: Found, packages: List[Package], settings: Settings, progress: Progress) -> Tuple[Merged, Files, bytes]:
-    """The merged metadata, the report's files and the types table."""
+def join(report: Found, packages: List[Package], settings: Settings, progress: Progress) -> Tuple[Origins, Files, bytes]:
+    """Where the merged metadata comes from, the report's files with that metadata, and the types table."""
     finder = Finder(report.package, packages)
     chain = Chain(report, finder)
     check_parts(chain)
@@ -136,7 +149,7 @@ def join(report: Found, packages: List[Package], settings: Settings, progress: P
     files = Files(report, merged)
     files.require_parameters()
     check_parameters(merged, renaming, files)
-    return merged, files, types_table(kinds, stands.values())
+    return Origins(merged, chain, renaming), files, types_table(kinds, stands.values())
 
 
 def namespaces_of(chain: Chain) -> Dict[str, str]:

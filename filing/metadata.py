@@ -11,6 +11,7 @@ from .refusals import wrong
 from .strict_json import Json, Object, equal
 
 Path = Tuple[str, ...]
+ENTRIES: Path = ("documentInfo", "taxonomy")
 TABLE_MEMBERS = ("url", "template", "optional", "parameters")
 TEMPLATE_MEMBERS = ("columns", "rowIdColumn", "dimensions", "decimals")
 COLUMN_MEMBERS = ("comment", "dimensions", "decimals", "propertyGroups", "propertiesFrom")
@@ -117,9 +118,20 @@ def put_info(merged: Merged, metadata: Metadata, is_report: bool) -> None:
     base = metadata.base_url()
     if is_report and base is not None:
         merged.put(("documentInfo", "baseURL"), base, label)
-    info = merged.value["documentInfo"]
     if "taxonomy" in metadata.info:
-        info["taxonomy"] = list(dict.fromkeys([*info.get("taxonomy", ()), *(text for text, _ in metadata.taxonomy())]))
+        put_entries(merged, metadata)
+
+
+def put_entries(merged: Merged, metadata: Metadata) -> None:
+    """Adds a file's entry points to those that are there, each once."""
+    entries = merged.value["documentInfo"].setdefault("taxonomy", [])
+    merged.origins.setdefault(ENTRIES, metadata.label)
+    known = set(entries)
+    for text, _ in metadata.taxonomy():
+        if text not in known:
+            known.add(text)
+            merged.origins[(*ENTRIES, str(len(entries)))] = metadata.label
+            entries.append(text)
 
 
 def put_namespaces(merged: Merged, metadata: Metadata) -> None:

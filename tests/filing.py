@@ -148,11 +148,11 @@ def start(words, folder, **more):
     return done.returncode, done.stdout, done.stderr.decode(errors="replace")
 
 
-def on_a_terminal(words, folder):
+def on_a_terminal(words, folder, program=None):
     """Status of a run whose standard error is a terminal, and what that shows."""
     controller, terminal = pty.openpty()
     done = subprocess.run(
-        [FILING, *words], cwd=folder, env={**os.environ, "XBRL_JSON": PROGRAM}, stdout=subprocess.DEVNULL, stderr=terminal, timeout=100
+        [FILING, *words], cwd=folder, env={**os.environ, "XBRL_JSON": program or PROGRAM}, stdout=subprocess.DEVNULL, stderr=terminal, timeout=100
     )
     os.close(terminal)
     shown = b""
@@ -1862,8 +1862,8 @@ def a_signal_between_two_steps(folder):
     seen = []
 
     class Started(subprocess.Popen):
-        def __init__(self, given):
-            super().__init__(given)
+        def __init__(self, given, **more):
+            super().__init__(given, **more)
             seen.append(self)
             os.kill(os.getpid(), signal.SIGTERM)
 
@@ -1947,6 +1947,193 @@ def a_signal_at_each_step(folder):
         if before is not None:
             os.environ["TMPDIR"] = before
         heeding()
+
+
+def joined_of(folder, report, taxonomies=(TAXONOMY,)):
+    """Where the merged metadata of a filing comes from, and the filing's files."""
+    labels = ["r"] + [f"t{number}" for number in range(len(taxonomies))]
+    for label, files in zip(labels, [report, *taxonomies]):
+        write(folder / label, files)
+    before = os.getcwd()
+    os.chdir(folder)
+    try:
+        given = command.read_words(["r", "--taxonomy", *labels[1:]])
+        origins, files, _ = command.join(*command.open_inputs(given), given, command.Progress())
+    finally:
+        os.chdir(before)
+    return origins, files
+
+
+def filed_in_parts():
+    """A report, a module and a file below it, each with parts of the merged metadata; the module has other prefixes than the report."""
+    columns = {"cash": {"dimensions": {"g:Region": "m:x", "concept": "g:Cash"}}, "g": {"propertyGroups": {"a/b~c": {"dimensions": {"g:Branch": "y"}}}}}
+    module = {
+        "namespaces": {"m": "http://mem/", "g": EG}, "taxonomy": ["mod.xsd", "two.xsd"], "extends": ["low.json"]
+    }
+    files = {
+        "reg/mod.json": meta(module, tableTemplates={"t": {"columns": columns}}, tables={"t": {"template": "t", "parameters": {"p": "1"}}}, decimals=0),
+        "reg/low.json": meta({"taxonomy": ["mod.xsd", "low.xsd"]}, parameters={"low": "2"}, dimensions={"entity": "m:1"}),
+        "reg/two.xsd": schema(item("Two")),
+        "reg/low.xsd": schema(item("Low")),
+    }
+    own = {"extends": [HOST + "mod.json"], "namespaces": {"eg": EG, "n": "http://mem/"}, "taxonomy": [HOST + "low.xsd"]}
+    tables = {"t": {"url": "meta.json", "parameters": {"q": "1"}}}
+    report = {"reports/report.json": meta(own, tables=tables, dimensions={"eg:Region": "n:y"}), "reports/meta.json": "cash\n1\n"}
+    return report, [{**TAXONOMY, **files}]
+
+
+ORIGINS = {
+    "/tableTemplates/t/columns/cash/dimensions/eg:Region": ("t0/reg/mod.json", "/tableTemplates/t/columns/cash/dimensions/g:Region"),
+    "/tableTemplates/t/columns/cash/dimensions/concept": ("t0/reg/mod.json", "/tableTemplates/t/columns/cash/dimensions/concept"),
+    "/tableTemplates/t/columns/cash/dimensions/eg:None": ("t0/reg/mod.json", "/tableTemplates/t/columns/cash/dimensions/eg:None"),
+    "/tableTemplates/t/columns/g/propertyGroups/a~1b~0c/dimensions/eg:Branch": (
+        "t0/reg/mod.json", "/tableTemplates/t/columns/g/propertyGroups/a~1b~0c/dimensions/g:Branch"
+    ),
+    "/tableTemplates/t/columns/g/propertyGroups/a~1b~0c/none/0": ("t0/reg/mod.json", "/tableTemplates/t/columns/g/propertyGroups/a~1b~0c/none/0"),
+    "/tableTemplates/u": ("t0/reg/mod.json", "/tableTemplates/u"),
+    "/tables/t": ("r/reports/report.json", "/tables/t"),
+    "/tables/t/url": ("r/reports/report.json", "/tables/t/url"),
+    "/tables/t/template": ("t0/reg/mod.json", "/tables/t/template"),
+    "/tables/t/parameters/p": ("t0/reg/mod.json", "/tables/t/parameters/p"),
+    "/tables/t/parameters/q": ("r/reports/report.json", "/tables/t/parameters/q"),
+    "/tables/t/parameters/none": ("r/reports/report.json", "/tables/t/parameters/none"),
+    "/dimensions/eg:Region": ("r/reports/report.json", "/dimensions/eg:Region"),
+    "/dimensions/entity": ("t0/reg/low.json", "/dimensions/entity"),
+    "/parameters/low": ("t0/reg/low.json", "/parameters/low"),
+    "/decimals": ("t0/reg/mod.json", "/decimals"),
+    "/documentInfo": ("r/reports/report.json", "/documentInfo"),
+    "/documentInfo/baseURL": ("r/reports/report.json", "/documentInfo/baseURL"),
+    "/documentInfo/namespaces/eg": ("r/reports/report.json", "/documentInfo/namespaces/eg"),
+    "/documentInfo/taxonomy": ("r/reports/report.json", "/documentInfo/taxonomy"),
+    "/documentInfo/taxonomy/0": ("r/reports/report.json", "/documentInfo/taxonomy/0"),
+    "/documentInfo/taxonomy/1": ("t0/reg/mod.json", "/documentInfo/taxonomy/0"),
+    "/documentInfo/taxonomy/2": ("t0/reg/mod.json", "/documentInfo/taxonomy/1"),
+    "/documentInfo/taxonomy/3": ("r/reports/report.json", "/documentInfo/taxonomy/3"),
+    "/documentInfo/taxonomy/x": ("r/reports/report.json", "/documentInfo/taxonomy/x"),
+    **{it: None for it in ("", "x", "tables", "/", "/none", "/tables/~2", "/tables/~", "//tables", "/parameterURL", "/etc/passwd")},
+}
+
+
+def where_metadata_came_from(folder):
+    """A place of the merged metadata is told in the file that it came from, by what that file calls it."""
+    origins, _ = joined_of(folder, *filed_in_parts())
+    for pointer, wanted in ORIGINS.items():
+        case(f"where {pointer!r} came from", origins.place(pointer), wanted)
+    case("the files in their order", origins.labels(), ["r/reports/report.json", "t0/reg/mod.json", "t0/reg/low.json"])
+
+
+def with_words(folder, said, words=(), status=1, report=None):
+    """Status and standard error of a run whose xbrl-json says this; `HOME` is the folder that it was given."""
+    fake = folder / "fake"
+    fake.write_text('#!/bin/sh\nHOME=$(dirname "$1")\ncat >&2 <<END\n' + said + f"END\nexit {status}\n")
+    fake.chmod(0o755)
+    report, taxonomies = report or filed_in_parts()
+    joined_of(folder, report, taxonomies)
+    seen = start(["r", "--taxonomy", "t0", *words], folder, env={"XBRL_JSON": str(fake)})
+    return seen[0], seen[2]
+
+
+def lines_of_the_converter(folder):
+    """The lines of xbrl-json come through, with places and files by their names in the filing."""
+    place, other = "/tableTemplates/t/columns/cash/dimensions/eg:Region", "t0/reg/mod.json: /tableTemplates/t/columns/cash/dimensions/g:Region"
+    fault, why = "xbrl-json: report: BadDimension (11)\n", "no explicit or typed dimension of this name is in the types table\n"
+    files = "xbrl-filing: 'report' is the metadata that was joined of r/reports/report.json, t0/reg/mod.json, t0/reg/low.json;"
+    files += " --prepare FOLDER writes it as one file\n"
+    apart = "xbrl-json: table t, row 2, column 1: BadNumber (40)\n"
+    for name, said, wanted in (
+        ("a place", f"{fault}    {place}\n    n:x\n    {why}", f"{fault}    {other}\n    n:x\n    {why}"),
+        ("a place behind a tab", f"{fault}\t{place}\n", f"{fault}\t{other}\n"),
+        ("two places", f"{fault}  {place}\n  /decimals\n", f"{fault}  {other}\n  t0/reg/mod.json: /decimals\n"),
+        ("a place below a table's fault", f"{apart}  {place}\n", f"{apart}  {other}\n"),
+        ("a place that is none", f"{fault}  /none\n  x {place}\n{place}\n", f"{fault}  /none\n  x {place}\n{place}\n{files}"),
+        ("no place", fault, fault + files),
+        ("the fault of a table", apart, apart),
+        ("a fault of the metadata in a value", f"{apart}  {fault}", f"{apart}  {fault}"),
+        ("a file", "  HOME/filed-meta.json, line 3\n".replace("HOME", "$HOME"), "  r/reports/meta.json, line 3\n"),
+        ("a file that was made here", "cannot read $HOME/meta.json\n", None),
+        ("no line", "", ""),
+    ):
+        for words in ([], ["--explain"], ["--explain", "--progress"]):
+            status, err = with_words(folder, said, words)
+            if wanted is None:
+                case(f"{name}, {words}", (status, err.startswith("cannot read /"), err.endswith("/meta.json\n")), (1, True, True))
+            else:
+                case(f"{name}, {words}", (status, err), (1, wanted))
+    case("with --progress alone all is as it is", with_words(folder, f"{fault}  {place}\n", ["--progress"]), (1, f"{fault}  {place}\n"))
+    alone = ({"reports/report.json": meta(INFO), "reports/mod.xsd": schema()}, [TAXONOMY])
+    case("one file is named by nobody", with_words(folder, fault, report=alone), (1, fault))
+    (folder / "fake").write_text("#!/bin/sh\ncat said >&2\n")
+    for said in (b"a line without an end", b"one\nanother", b"\n\n", b"\rh\x1b[2K a\xff\xc3\xa9\0b\n", b"x" * 100_000):
+        (folder / "said").write_bytes(said)
+        settings = {**os.environ, "XBRL_JSON": str(folder / "fake")}
+        done = subprocess.run([FILING, "r", "--taxonomy", "t0"], cwd=folder, env=settings, stderr=subprocess.PIPE, timeout=60)
+        case(f"byte for byte: {said[:30]!r}", (done.returncode, done.stderr), (0, said))
+
+
+def hearing_the_converter(folder):
+    """Lines come as soon as they are said; many of them, and those of a program that is signalled or stays behind, keep nothing waiting."""
+    report, taxonomies = filed_in_parts()
+    joined_of(folder, report, taxonomies)
+    fake = folder / "fake"
+    settings = {**os.environ, "XBRL_JSON": str(fake)}
+    fake.touch(0o755)
+
+    def begun():
+        return subprocess.Popen([FILING, "r", "--taxonomy", "t0"], cwd=folder, env=settings, stderr=subprocess.PIPE, preexec_fn=heeding)
+
+    fake.write_text("#!/bin/sh\necho ready >&2\nsleep 30\n")
+    done, since = begun(), time.monotonic()
+    line = done.stderr.readline()
+    done.send_signal(signal.SIGTERM)
+    done.communicate(timeout=60)
+    case("a line while the program runs", (line, done.returncode, time.monotonic() - since < 25), (b"ready\n", -signal.SIGTERM, True))
+    fake.write_text("#!/bin/sh\nyes 'much to say' | head -100000 >&2\nexit 3\n")
+    done = begun()
+    case("many lines", (done.communicate(timeout=60)[1] == b"much to say\n" * 100_000, done.returncode), (True, 3))
+    fake.write_text("#!/bin/sh\n(sleep 20; echo late >&2) &\necho said >&2\nexit 1\n")
+    done, since = begun(), time.monotonic()
+    line = done.stderr.readline(), done.wait(timeout=60)
+    case("a program that leaves another behind", (line, time.monotonic() - since < 15), ((b"said\n", 1), True))
+    done.stderr.close()
+    fake.write_text("#!/bin/sh\nexec 2>&-\nsleep 0.3\nexit 4\n")
+    done = begun()
+    case("a program that closes its standard error", (done.communicate(timeout=60)[1], done.returncode), (b"", 4))
+    fake.write_text("#!/bin/sh\ntrap 'yes again | head -100000 >&2; exit 9' TERM\necho ready >&2\nwhile :; do sleep 0.02; done\n")
+    done = begun()
+    done.stderr.readline()
+    done.send_signal(signal.SIGTERM)
+    rest = done.communicate(timeout=60)[1]
+    case("much that is said after a signal", (rest == b"again\n" * 100_000, done.returncode), (True, -signal.SIGTERM))
+    fake.write_text("#!/bin/sh\nsleep 0.1\necho said >&2\nexit 5\n")
+    done = subprocess.run([FILING, "r", "--taxonomy", "t0"], cwd=folder, env=settings, preexec_fn=lambda: os.close(2), timeout=60)
+    case("nobody hears", done.returncode, 5)
+    with open("/dev/full", "wb") as full:
+        done = subprocess.run([FILING, "r", "--taxonomy", "t0"], cwd=folder, env=settings, stderr=full, timeout=60)
+    case("what cannot be handed on", done.returncode, 5)
+    fake.write_text("#!/bin/sh\nprintf 'xbrl-json: report: X (1)\\n  a\\033[2Jb\\n' >&2\nexit 1\n")
+    status, shown = on_a_terminal(["r", "--taxonomy", "t0"], folder, str(fake))
+    case("lines on a terminal", (status, b"X (1)\r\n  a\\x1b[2Jb\r\nxbrl-filing: 'report' is the metadata" in shown), (1, True))
+    fake.write_text("#!/bin/sh\ntest -t 2 && printf '\\rhow far\\r\\033[K' >&2\n")
+    status, shown = on_a_terminal(["r", "--taxonomy", "t0", "--progress"], folder, str(fake))
+    case("progress on a terminal is the program's own", (status, shown.endswith(b"\rhow far\r\x1b[K")), (0, True))
+    seen = []
+
+    class Heard(subprocess.Popen):
+        def __init__(self, *given, **more):
+            super().__init__(*given, **more)
+            seen.append(self)
+
+    def fails(_):
+        raise KeyError("a fault")
+
+    kept = stopping.subprocess.Popen
+    try:
+        stopping.subprocess.Popen = Heard
+        stopping.run_program(["sh", "-c", "echo a >&2; exec sleep 30"], stopping.Stopping(), fails)
+    except KeyError:
+        case("a fault of what hears leaves no program behind", seen[0].returncode, -signal.SIGKILL)
+    finally:
+        stopping.subprocess.Popen = kept
 
 
 def words(folder):
@@ -2271,7 +2458,7 @@ def what_changes_meanwhile(folder):
 
 def digests_of_contents(folder):
     """The digest of a file is that of the digests of its blocks, on any number of threads."""
-    texts = [b"", b"a", b"abcdef", b"abcdefg", b"abcdefgh", b"abcdefgabcdefg", b"abcdefgabcdefgh", b"x" * 700]
+    texts = [b"", b"a", b"abcdef", b"abcdefg", b"abcdefgh", b"abcdefgabcdefg", b"abcdefgabcdefgh", b"x" * 70]
     write(folder, {str(number): text for number, text in enumerate(texts)})
     files = [digests.contents_of_disk(str(folder / str(number)), len(text), str(number)) for number, text in enumerate(texts)]
     own = digests.digest_of
@@ -2281,7 +2468,7 @@ def digests_of_contents(folder):
 
     def slowly(blocks, *place):
         workers.add(threading.get_ident())
-        time.sleep(0.01)
+        time.sleep(0.005)
         return kept[3](blocks, *place)
 
     class NoThread(threading.Thread):
@@ -2520,6 +2707,9 @@ PARTS = (
     signals,
     a_signal_between_two_steps,
     a_signal_at_each_step,
+    where_metadata_came_from,
+    lines_of_the_converter,
+    hearing_the_converter,
     a_full_disk,
     what_cannot_be_read,
     words,
