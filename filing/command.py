@@ -141,15 +141,14 @@ def join(report: Found, packages: List[Package], settings: Settings, progress: P
     check_final(chain, lost)
     namespaces = namespaces_of(chain)
     kinds = read_kinds(chain, finder, packages, settings, progress)
-    stands = {prefix: uri for prefix, uri in namespaces.items() if prefix not in lost}
-    renaming = Renaming(lost, lambda name: kind_of(name, stands, kinds) == "explicit")
+    renaming = Renaming(lost, lambda name: kind_of(name, namespaces, kinds) == "explicit")
     merged = merge(chain, renaming)
-    refuse_impossible_concepts(merged, stands, kinds)
-    refuse_unknown_dimensions(merged, stands, kinds)
+    refuse_impossible_concepts(merged, namespaces, kinds)
+    refuse_unknown_dimensions(merged, namespaces, kinds)
     files = Files(report, merged)
     files.require_parameters()
     check_parameters(merged, renaming, files)
-    return Origins(merged, chain, renaming), files, types_table(kinds, stands.values())
+    return Origins(merged, chain, renaming), files, types_table(kinds, namespaces.values())
 
 
 def namespaces_of(chain: Chain) -> Dict[str, str]:

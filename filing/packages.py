@@ -217,8 +217,8 @@ def damage_told(label: str) -> Iterator[None]:
     except DAMAGE as error:
         raise wrong(label, f"is damaged, or packed in a way that Python does not know ({error})") from None
     except OSError as error:
-        if error.errno is None:  # what bz2 says of bytes that are not its own
-            raise wrong(label, f"is damaged ({error})") from None
+        if error.errno in (None, errno.EINVAL):  # what bz2 says of bytes that are not its own, or a place before the file's begin
+            raise wrong(label, f"is damaged ({error.strerror or error})") from None
         raise cannot_read(label, error) from None
 
 

@@ -94,18 +94,17 @@ def run_program(words: List[str], stopping: Stopping, hear: Optional[Hear] = Non
     child: Optional[subprocess.Popen[bytes]] = None
     try:
         with woken_by_signals() as reader:
-            with stopping.held():
-                child = subprocess.Popen(words, stderr=subprocess.PIPE if hear else None)
-            listen(child, reader, hear)
+            try:
+                with stopping.held():
+                    child = subprocess.Popen(words, stderr=subprocess.PIPE if hear else None)
+                listen(child, reader, hear)
+            except Stopped as stopped:
+                if child is not None:
+                    child.send_signal(stopped.number)
+                    listen(child, reader, hear)
+                raise
     except OSError as error:
         raise Refusal(FILES, words[0], f"cannot run ({error.strerror})") from None
-    except Stopped as stopped:
-        if child is not None:
-            child.send_signal(stopped.number)
-            rest = child.communicate()[1]  # it may still have much to say, and would wait with it
-            if hear and rest:
-                hear(rest)
-        raise
     finally:
         if child is not None and child.returncode is None:  # only after a fault of this program
             child.kill()
