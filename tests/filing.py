@@ -335,6 +335,12 @@ def catalogs(folder):
     twice = f'<uri name="{HOST}mod.json" uri="../none/mod.json"/><uri name="{HOST}mod.json" uri="../other/mod.json"/>'
     by("a second exact entry of the same name", rewrite() + twice, "other")
     by("a second start string of the same text", rewrite(prefix="../none/") + rewrite(prefix="../other/") + rewrite(), "other")
+    by("a start string that is the whole URL", rewrite() + rewrite(HOST + "mod.json", "../other/mod.json"), "other")
+    for kind in ("rewriteURI", "uri"):
+        entry = {"rewriteURI": rewrite(HOST + "m", "../other/m"), "uri": f'<uri name="{HOST}mod.json" uri="../other/mod.json"/>'}[kind]
+        by(f"a {kind} of another namespace", rewrite() + entry.replace(f"<{kind} ", f'<{kind} xmlns="http://x/" '), "reg")
+        spaced = entry.replace('="', '=" ').replace('"/>', ' "/>').replace('" ', ' " ').replace('=" ', '="\n ')
+        by(f"a {kind} with blanks", rewrite() + spaced, "other")
     by("a URL that is shorter than a start string", rewrite() + rewrite(HOST + "mod.json/and/more", "../other/mod.json"), "reg")
     by("an entry in a group", f"<group>{rewrite()}</group>", "reg")
     by("the base of a group", f'<group xml:base="../other/">{rewrite(prefix="")}</group>{rewrite("http://a/", "../reg/")}', "other")
@@ -428,6 +434,9 @@ def places(folder):
     write(folder / "alone", {"a/b/m.json": meta({"extends": ["../up.json"]}), "a/up.json": meta(decimals=1)})
     case("a metadata file reaches what lies above it", run(["a/b/m.json", "--prepare", "o"], folder / "alone"), (0, ""))
     case("and that is joined", json.loads((folder / "alone/o/meta.json").read_text())["decimals"], 1)
+    write(folder / "alone", {"root.json": meta({"extends": [f"{folder}/alone/a/up.json"]})})
+    line = f"xbrl-filing: root.json: '{folder}/alone/a/up.json' leads outside of root.json (extends)\n"
+    case("and none by its path from the root", run(["root.json", "--prepare", "never"], folder / "alone"), (1, line))
     for reference, shown in (("/etc/x.json", "/etc/x.json"), ("%2e%2e/%2e%2e/x.json", "reports/%2e%2e/%2e%2e/x.json")):
         line = f"r/reports/report.json: '{shown}' leads outside of r (extends)"
         stops(folder, f"a reference {reference}", line, report={**REPORT, "reports/report.json": meta({"extends": [reference]})})
@@ -589,6 +598,8 @@ def entry_points(folder):
     base["taxonomies"].append({"META-INF/catalog.xml": catalog(rewrite("http://filer.example/", "../f/")), "f/a/own.xsd": schema(item("O"))})
     bare = both({}, {}, {}, {"baseURL": HOST[:-1], "taxonomy": ["mod.xsd"]})
     makes(folder, "a baseURL without a path", parts={"documentInfo/taxonomy": [HOST + "mod.xsd"]}, types=TYPES, **bare)
+    below = both({}, {}, {}, {"baseURL": "d/e/", "taxonomy": ["../../mod.xsd"]})
+    makes(folder, "a baseURL that is relative", parts={"documentInfo/taxonomy": [HOST + "mod.xsd"]}, types=TYPES, **below)
     query = both({}, {}, {}, {"taxonomy": ["q.xsd?v=1"]})
     query["taxonomies"][0].update({"reg/q.xsd?v=1": schema(include("#a") + include("?v=2") + item("Q")), "reg/q.xsd?v=2": schema(item("R"))})
     makes(folder, "URLs with queries", parts={"documentInfo/taxonomy": [HOST + "q.xsd?v=1"]}, types=records("Q,text", "R,text"), **query)
@@ -622,6 +633,15 @@ def chains(folder):
         }
 
     base = {"META-INF/catalog.xml": catalog(rewrite())}
+    missing = {**base, **level("a", "none.json"), **level("b")}
+    line = f"t0/reg/a.json: no package has {HOST}none.json (extends)"
+    stops(folder, "a file of the second level that no package has", line, report=report, taxonomies=[missing])
+    spelled = {"reports/report.json": meta({"extends": ["../low.json", "x/../../l%6Fw.json", "../%6cow.json", "../mid.json"]})}
+    spelled.update({"low.json": meta(), "mid.json": meta({"extends": ["lo%77.json"]})})
+    write(folder / "spelled", spelled)
+    report_file, packages_given = command.open_inputs(command.read_words([str(folder / "spelled")]))
+    seen = [it.found.name for it in command.Chain(report_file, command.Finder(report_file.package, packages_given))]
+    case("a file is one by all its spellings", seen, ["reports/report.json", "low.json", "mid.json"])
     diamond = {
         **base,
         **level("a", "c.json"),
@@ -772,6 +792,18 @@ def final_parts(folder):
         report={**REPORT, "reports/report.json": meta({"extends": [HOST + "mod.json"]}, parameters={"b": "2"})},
         parts={"parameters": {"a": "1", "b": "2"}},
     )
+    two_below = {**below, "reg/mod.json": meta({**INFO, "final": {"parameters": True}, "extends": ["side.json", "low.json"]}, parameters={"a": "1"})}
+    two_below["reg/side.json"] = meta()
+    restated = {**REPORT, "reports/report.json": meta({"extends": [HOST + "mod.json"]}, parameters={"b": "2"})}
+    wanted = {"parameters": {"a": "1", "b": "2"}}
+    makes(folder, "what the second file below a final one has", taxonomies=[two_below], report=restated, parts=wanted)
+    ways = {"reg/one.json": meta({"extends": ["mod.json"]}), "reg/two.json": meta({"extends": ["mod.json"]}, parameters={"c": "3"})}
+    by_two = {**REPORT, "reports/report.json": meta({"extends": [HOST + "one.json", HOST + "two.json"]})}
+    line = f"t0/reg/two.json: adds 'c' to 'parameters', which is final in {low}"
+    stops(folder, "the second file that extends a final one", line, taxonomies=[{**below, **ways}], report=by_two)
+    beside = {"reports/report.json": meta({"extends": ["sub/base.json"], "taxonomy": ["own.xsd"]}), "reports/own.xsd": schema()}
+    beside["reports/sub/base.json"] = meta({"taxonomy": ["../own.xsd"], "final": {"taxonomy": True}})
+    makes(folder, "a final taxonomy by another reference", report=beside, parts={"documentInfo/taxonomy": ["own.xsd", "../own.xsd"]})
     other = {"namespaces": {"g": EG}, "taxonomy": ["mod.xsd"], "final": {"dimensions": True}}
     final = [{**TAXONOMY, "reg/mod.json": meta(other, dimensions={"g:Region": "g:x"})}]
     for dimension, line in (("Region", ""), ("Branch", f"xbrl-filing: {top}: adds 'eg:Branch' to 'dimensions', which is final in {low}\n")):
@@ -1049,16 +1081,13 @@ def reading_once(folder):
         {"reg/mod.xsd": schema("\n" + include("http://far.example/x.xsd#a"))},
         "t0/reg/mod.xsd: no package has http://far.example/x.xsd (import, line 2)",
     )
-    for host in ("notxbrl.org/x.xsd", "www.xbrl.org.far.example/x.xsd", "www.xbrl.org@far.example/x.xsd", "far.example/www.xbrl.org"):
+    for host in ("w3.org/x.xsd", "notxbrl.org/x.xsd", "www.xbrl.org.far.example/x.xsd", "www.xbrl.org@far.example/x.xsd", "far.example/www.xbrl.org"):
         url = f"http://{host}"
         line = f"t0/reg/mod.xsd: no package has {url} (import, line 1)"
         refuses(folder, f"an import of {url}", {"reg/mod.xsd": schema(include(url))}, line)
-    refuses(
-        folder,
-        "an import of a file",
-        {"reg/mod.xsd": schema(include("file:///etc/passwd"))},
-        "t0/reg/mod.xsd: no package has file:///etc/passwd (import, line 1)",
-    )
+    for url in ("file:///etc/passwd", "ftp://www.xbrl.org/x.xsd", "urn:www.xbrl.org"):
+        line = f"t0/reg/mod.xsd: no package has {url} (import, line 1)"
+        refuses(folder, f"an import of {url}", {"reg/mod.xsd": schema(include(url))}, line)
     stops(
         folder,
         "an entry point that no package has",
@@ -1184,7 +1213,12 @@ KNOWN = [
     ("text", DTR + "non-numeric", "textBlock escaped xml xmlNodes"),
     ("text", DTR + "2022-03-31", "textBlock"),
     ("decimal", DTR + "numeric", "percent perShare area mass anythingAtAll"),
-    ("decimal", DTR + "2022-03-31", "percent perShare area volume mass energy power length memory noDecimalsMonetary ghgEmissions monetaryPerArea"),
+    ("decimal", DTR + "2022-03-31", "percent perShare area volume mass weight energy power length memory force frequency pressure temperature"),
+    ("decimal", DTR + "2022-03-31", "voltage electricCurrent electricCharge planeAngle ghgEmissions insolation irradiance speed flow massFlow"),
+    ("decimal", DTR + "2022-03-31", "noDecimalsMonetary nonNegativeMonetary nonNegativeNoDecimalsMonetary monetaryPerLength monetaryPerArea"),
+    ("decimal", DTR + "2022-03-31", "monetaryPerVolume monetaryPerDuration monetaryPerEnergy monetaryPerMass energyPerMonetary"),
+    ("decimal", DTR + "2022-03-31", "ghgEmissionsPerMonetary volumePerMonetary perUnit"),
+    ("other", DTR + "2024-01-31", "SQName SQNames prefixedContent"),
     ("qname", "http://xbrl.org/2014/extensible-enumerations", "enumeration"),
     ("qname", "http://xbrl.org/PWD/2016-10-12/extensible-enumerations-1.1", "enumeration"),
     ("qname", "http://xbrl.org/2020/extensible-enumerations-2.0", "enumeration"),
@@ -1750,6 +1784,11 @@ def temporary_files(folder):
     status, out, err = start(["r", "--taxonomy", "t"], folder, env={**settings, "TMPDIR": "none"})
     ends = err.startswith(f"xbrl-filing: {folder}/none/xbrl-filing-"), err.endswith(": cannot write (No such file or directory)\n")
     case("TMPDIR that is not there", (status, out, *ends, os.listdir(temporary)), (3, b"", True, True, []))
+    fake.write_text('#!/bin/sh\ndirname "$1"\n')
+    seen = start(["r", "--taxonomy", "t"], folder, env={**settings, "TMPDIR": ""})
+    case("TMPDIR that is empty", (seen[0], os.path.dirname(seen[1].decode())), (0, "/tmp"))
+    seen = start(["r", "--taxonomy", "t"], folder, env={**settings, "TMPDIR": "tmp"})
+    case("TMPDIR that is relative", (seen[0], os.path.dirname(seen[1].decode())), (0, str(temporary)))
     seen = start(["r", "--taxonomy", "t"], folder, env={**settings, "XBRL_JSON": "/nonexistent/x"})
     case("xbrl-json that is not there", (seen, os.listdir(temporary)), ((3, b"", "xbrl-filing: /nonexistent/x: cannot run (No such file or directory)\n"), []))
 
@@ -2166,6 +2205,8 @@ def words(folder):
         case(f"words {given}", run(given, folder), (2, f"xbrl-filing: {what}{usage}"))
     version = subprocess.run([PROGRAM, "--version"], capture_output=True, timeout=60).stdout
     case("--version", start(["--version"], folder), (0, version, ""))
+    case("-h is --help", start(["-h"], folder), start(["--help"], folder))
+    case("-h is no word beside others", start(["r", "-h"], folder)[0], 2)
     status, out, err = start(["r", "--help"], folder)
     case("--help", (status, b"--taxonomy PACKAGE.." in out, b"It is not proved" in out, err), (0, True, True, ""))
     with open("/dev/full", "wb") as full:
@@ -2285,6 +2326,16 @@ def folders_to_prepare(folder):
         (3, "xbrl-filing: full: cannot write (the folder is not empty)\n"),
     )
     case("--prepare of a file", run([*good, "--prepare", "full/x"], folder), (3, "xbrl-filing: full/x: cannot write (Not a directory)\n"))
+    seen = run([*good, "--prepare", "full/x/y"], folder)
+    case("--prepare below a file", seen, (3, "xbrl-filing: full/x/y: cannot write (there is no folder to put it in)\n"))
+    (folder / "elsewhere").mkdir()
+    (folder / "to empty").symlink_to("elsewhere")
+    (folder / "to none").symlink_to("elsewhere/new")
+    for link, made in (("to none", "elsewhere/new"), ("to empty", None)):
+        if made is None:
+            shutil.rmtree(folder / "elsewhere/new")
+        seen = run([*good, "--prepare", link], folder), sorted(os.listdir(folder / (made or "elsewhere"))), (folder / link).is_symlink()
+        case(f"--prepare of a link {link}", seen, ((0, ""), ["meta.json", "t.csv", "types.csv"], True))
     case("--prepare where no folder is", run([*good, "--prepare", "no/o"], folder), (3, "xbrl-filing: no/o: cannot write (there is no folder to put it in)\n"))
     case(
         "--prepare of an empty folder",
@@ -2405,6 +2456,12 @@ def keys_of_the_cache(folder):
     write(folder, {"t3/META-INF/catalog.xml": catalog(rewrite()), "t3/reg/two.xsd": schema(item("Three"))})
     write(folder, {"r6/reports/report.json": meta({"namespaces": {"eg": EG}, "taxonomy": [HOST + "mod.xsd"]})})
     case("another entry point of the same packages", made("t", "r6"), ((0, ""), TYPES.replace("Note", "Nope")))
+    orders = [[HOST + "x.xsd", HOST + "y.xsd"], [HOST + "y.xsd", HOST + "x.xsd"]]
+    twice = {"x": schema(item("A", "xbrli:dateItemType")), "y": schema(item("A"))}
+    write(folder, {"t9/META-INF/catalog.xml": catalog(rewrite()), **{f"t9/reg/{name}.xsd": text for name, text in twice.items()}})
+    for number, urls in enumerate(orders):
+        write(folder, {f"r{number + 7}/reports/report.json": meta({"namespaces": {"eg": EG}, "taxonomy": urls})})
+    case("the order of entry points counts", [made("t9", it)[1] for it in ("r7", "r8")], [records("A,date"), records("A,text")])
     case("the order of packages counts", [made("t", "r", "t3")[1], made("t3", "r", "t")[1]], [records("Two,text"), records("Three,text")])
 
 
@@ -2542,6 +2599,8 @@ def what_is_not_kept(folder):
     case("schemas of the report are not kept", (made("t", "r3")[1], entries()), (records("Own,text"), before))
     write(folder, {"r3/reports/own.xsd": schema(item("New"))})
     case("and so are read again", made("t", "r3")[1], records("New,text"))
+    write(folder, {"r3/reports/report.json": meta({"namespaces": {"eg": EG}, "taxonomy": [HOST + "mod.xsd", "own.xsd"]})})
+    case("nor among others", (made("t", "r3")[1], entries()), (records(*sorted([*TYPES.replace(f"{EG},", "").split()[1:], "New,text"])), before))
     own = {**REPORT, **TAXONOMY, "reg/mod.xsd": schema(item("Mine"))}
     write(folder / "r4", own)
     case("nor those of a report with a catalog", (made("t", "r4")[1], entries()), (records("Mine,text"), before))
@@ -2602,6 +2661,15 @@ def a_large_taxonomy(folder):
     case("20,000 concepts on a terminal", (status, b"xbrl-filing: reading the taxonomy: 3 files, " in shown, shown.endswith(b"\r\x1b[K")), (0, True, True))
 
 
+def long_chains(length):
+    """Schemas in which each of many elements or types rests on the next, to the last; and the kind that all of them have."""
+    yield "H", "".join(headed(f"H{it} {f'eg:H{it + 1}' if it < length - 1 else 'xbrli:item'}", more='type="xbrli:dateItemType"') for it in range(length)), "date"
+    yield "T", "".join(
+        item(f"T{it}", f"eg:t{it}") + derived(f"t{it}", f"eg:t{it + 1}" if it < length - 1 else "xbrli:dateItemType") for it in range(length)
+    ), "date"
+    yield "N", "".join(headed(f"N{it} eg:N{it + 1}") for it in range(length - 1)) + item(f"N{length - 1}", "xbrli:dateItemType"), "date"
+
+
 def endless_schemas(folder):
     """What would take all memory or all time: names, bases and tags that grow, many start strings. One line each, and soon."""
     deep, long = 100_000, "y" * (17 << 20)
@@ -2631,6 +2699,15 @@ def endless_schemas(folder):
     begun = time.monotonic()
     reads(folder, "a type that is very deep", {"reg/mod.xsd": schema(f'<xs:complexType name="T">{way}</xs:complexType>' + ELEMENTS)}, TYPES)
     case("a type that is very deep: soon", time.monotonic() - begun < 20, True)
+    for name, body, word in long_chains(20_000):
+        begun = time.monotonic()
+        reads(folder, f"a long chain of {name}", {"reg/mod.xsd": schema(body)}, records(*sorted(f"{name}{it},{word}" for it in range(20_000))))
+        case(f"a long chain of {name}: soon", time.monotonic() - begun < 20, True)
+    many = {f"p{it}": f"http://p{it}/" for it in range(30_000)}
+    begun = time.monotonic()
+    twice = {"namespaces": {**many, "q": "http://p7/"}}
+    makes(folder, "many prefixes", parts={"documentInfo/namespaces": twice["namespaces"]}, report={"reports/report.json": meta(twice)}, taxonomies=[])
+    case("many prefixes: soon", time.monotonic() - begun < 20, True)
     levels = 1500
     chain = {f"reg/n{it}.json": meta({"extends": [HOST + f"n{it + 1}.json"], "final": {"parameters": True}}) for it in range(levels)}
     chain[f"reg/n{levels}.json"] = MODULE
