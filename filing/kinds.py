@@ -81,7 +81,9 @@ Known = TypeVar("Known")
 NOWHERE: Name = ("", "")
 
 
-def followed(start: Optional[Name], kept: Dict[Name, Known], known: Callable[[Name], Optional[Known]], above: Callable[[Name], Optional[Name]], none: Known) -> Known:
+def followed(
+    start: Optional[Name], kept: Dict[Name, Known], known: Callable[[Name], Optional[Known]], above: Callable[[Name], Optional[Name]], none: Known
+) -> Known:
     """What is known of the first name of a chain of which anything is; `none` where it ends or runs in a ring. It is kept for all names on the way."""
     way: Set[Name] = set()
     at, end = start, None

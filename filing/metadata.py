@@ -67,23 +67,21 @@ class Merged:
             else:
                 self.put(("tables", name, member), value, label)
 
-    def concepts(self) -> Iterator[Tuple[str, str, str]]:
-        """Each concept that is named by a literal: its name, the file, and where it stands there."""
+    def concepts(self) -> Iterator[Tuple[str, Path]]:
+        """Each concept that is named by a literal, and where."""
         for path, level in levels(self.value):
             dimensions = level.get("dimensions")
             concept = dimensions.get("concept") if isinstance(dimensions, dict) else None
             if isinstance(concept, str):
-                at = path + ("dimensions", "concept")
-                yield concept, self.origin(at), ".".join(at)
+                yield concept, path + ("dimensions", "concept")
 
-    def taxonomy_dimensions(self) -> Iterator[Tuple[str, str, str]]:
-        """Each dimension of the taxonomy that is named: its name, the file, and where it stands there."""
+    def taxonomy_dimensions(self) -> Iterator[Tuple[str, Path]]:
+        """Each dimension of the taxonomy that is named, and where."""
         for path, level in levels(self.value):
             dimensions = level.get("dimensions")
             for name in dimensions if isinstance(dimensions, dict) else ():
                 if ":" in name:
-                    at = path + ("dimensions", name)
-                    yield name, self.origin(at), ".".join(at)
+                    yield name, path + ("dimensions", name)
 
     def text(self) -> bytes:
         """The file's bytes: compact, members in order of their names."""

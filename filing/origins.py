@@ -29,14 +29,19 @@ class Origins:
         path = path_of(pointer)
         if not path or path[0] not in self.merged.value:
             return None
+        label, there = self.own_path(path)
+        return label, pointer_of(there)
+
+    def own_path(self, path: Path) -> Tuple[str, Path]:
+        """The file that gave a part of the merged file, or the part around it, and the path of it there."""
         label = self.merged.origin(path)
-        there: List[str] = []
         file = self.files[label]
         owner: Json = file.value
+        there: List[str] = []
         for depth, name in enumerate(path):
             there.append(self.own_name(file, owner, path[:depth], name))
             owner = owner.get(there[-1]) if isinstance(owner, dict) else None
-        return label, pointer_of(there)
+        return label, tuple(there)
 
     def own_name(self, file: Metadata, owner: Json, path: Path, name: str) -> str:
         """What a file itself calls a member of one of its objects, or which of its entry points one is."""

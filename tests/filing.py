@@ -298,6 +298,9 @@ def forms_of_reports(folder):
     stops(folder, "two reports in folders", "r: has several xBRL-CSV reports: reports/a/r.json, reports/b/r.json", report=two)
     apart = {f"top/{it}": text for it, text in REPORT.items()}
     stops(folder, "two folders at the top", "r: has no xBRL-CSV report in 'reports' or a folder of it", report={**apart, "z/x": ""})
+    line = "r: has no xBRL-CSV report in 'reports' or a folder of it; report.json is one, but does not stand there"
+    for form in ("folder", "zip"):
+        stops(folder, f"a report beside 'reports', {form}", line, report={"report.json": meta(), "b.json": "{}", "c.json": "x"}, form=form)
     stops(folder, "no report", "r: has no xBRL-CSV report in 'reports' or a folder of it", report={"reports/a/b/r.json": meta()})
     line = "r: has no xBRL-CSV report in 'reports' or a folder of it; it is a taxonomy package"
     stops(folder, "a taxonomy package in the place of a report", line, report={**TAXONOMY, "META-INF/taxonomyPackage.xml": "<a/>"})
@@ -307,6 +310,10 @@ def forms_of_reports(folder):
     stops(folder, "a broken report", "r/reports/r.json: is not JSON: Expecting value (line 1, column 2)", report={"reports/r.json": "[x"})
     write(folder, {"x.txt": "hello"})
     case("neither ZIP nor JSON", run(["x.txt", "--prepare", "o"], folder), (1, "xbrl-filing: x.txt: is not JSON: Expecting value (line 1, column 1)\n"))
+    for ending in ("zip", "ZIP", "xbr", "xbri"):
+        write(folder, {f"x.{ending}": "<html>", f"j.{ending}": meta()})
+        seen = run([f"x.{ending}", "--prepare", "o"], folder), run([f"j.{ending}", "--prepare", f"o {ending}"], folder)
+        case(f"neither ZIP nor JSON, called {ending}", seen, ((1, f"xbrl-filing: x.{ending}: is neither a ZIP nor JSON\n"), (0, "")))
     write(folder, {"m.json": meta()})
     seen = run(["m.json", "--taxonomy", "x.txt", "--prepare", "o"], folder)
     case("a package that is none", seen, (1, "xbrl-filing: x.txt: is neither a ZIP nor a folder, so it is no taxonomy package\n"))
@@ -382,6 +389,10 @@ def catalogs_refused(folder):
     makes(folder, "dots that are written are resolved", MERGED, report=dots)
     line = f"r/reports/report.json: no package has {HOST}mod.json (extends; t0 has no META-INF/catalog.xml)"
     stops(folder, "a package without a catalog", line, taxonomies=[{"reg/mod.json": MODULE}])
+    many = {"a.zip": "", "B.ZIP": "", "c/META-INF/catalog.xml": "", "d/x": "", "e.txt": ""}
+    line = f"r/reports/report.json: no package has {HOST}mod.json (extends; t0 has no META-INF/catalog.xml, but packages, which --taxonomy takes one by one:"
+    for form in ("folder", "zip"):
+        stops(folder, f"a collection of packages, {form}", f"{line} B.ZIP, a.zip, c)", taxonomies=[many], form=form)
     line = f"r/reports/report.json: no package has {HOST}mod.json (extends; there is no --taxonomy)"
     stops(folder, "no package at all", line, taxonomies=[])
     stops(folder, "no package but the report's own", line, report={**REPORT, "META-INF/catalog.xml": catalog("")}, taxonomies=[])
@@ -1378,6 +1389,11 @@ def what_no_fact_can_have(folder):
             line = f"t0/reg/mod.json: names the dimension '{name}', {reason} ({where.format(name)})"
             taxonomy = {**TAXONOMY, "reg/mod.json": module, "reg/mod.xsd": schema(nothing + item("Z"))}
             stops(folder, f"no dimension {name} at {where}", line, taxonomies=[taxonomy])
+    other = {"namespaces": {"g": EG}, "taxonomy": ["mod.xsd"]}
+    named = {**REPORT, "reports/report.json": meta({"extends": [HOST + "mod.json"], "namespaces": {"eg": EG}})}
+    module = {**TAXONOMY, "reg/mod.json": meta(other, dimensions={"g:None": "x"})}
+    line = f"t0/reg/mod.json: names the dimension 'g:None', {unknown} (dimensions.g:None)"
+    stops(folder, "a dimension by the name that the file has for it", line, report=named, taxonomies=[module])
     for name in ("A", "B", "C", "D", "E", "M", "nowhere"):
         made = prepared(
             folder, taxonomies=[{**TAXONOMY, "reg/mod.json": meta(INFO, dimensions={"concept": f"eg:{name}"}), "reg/mod.xsd": schema(nothing + ring)}]
