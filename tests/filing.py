@@ -1125,6 +1125,8 @@ def including(folder):
         "reg/plain.xsd": plain,
     }
     both = {**two, "reg/mod.json": meta({**INFO, "namespaces": {"eg": EG, "two": "http://two/"}})}
+    undeclared = plain.replace(' type="T"', ' xmlns="" type="T"')
+    reads(folder, "one that says that it has no default namespace", {**two, "reg/plain.xsd": undeclared}, records("A,date"))
     reads(folder, "an included schema without a namespace", two, records("A,date"))
     reads(folder, "included by two", both, records("A,date") + "http://two/,A,date\nhttp://two/,B,text\n")
     reads(
@@ -1457,6 +1459,14 @@ def with_header(path, name, offset_local, offset_central, form, value):
     path.write_bytes(bytes(data))
 
 
+def with_end(path, offset, more):
+    """Adds to one field of the record that ends a ZIP."""
+    data = bytearray(path.read_bytes())
+    at = data.rindex(b"PK\5\6") + offset
+    struct.pack_into("<I", data, at, struct.unpack_from("<I", data, at)[0] + more)
+    path.write_bytes(bytes(data))
+
+
 GOOD = list({**TAXONOMY, **REPORT}.items())
 
 
@@ -1555,6 +1565,7 @@ def damaged_zips(folder):
     name, damaged = "reg/mod.json", "is damaged, or packed in a way that Python does not know ("
     for what, front, change in (
         ("cut short", "bad.zip: " + damaged + "File is not a zip file)\n", lambda it: it.write_bytes(it.read_bytes()[:-30])),
+        ("an entry before its begin", "bad.zip/META-INF/catalog.xml: is damaged", lambda it: with_end(it, 16, 1000)),
         ("a method that is not known", "", lambda it: with_header(it, name, 8, 10, "<H", 99)),
         ("a wrong check sum", "", lambda it: with_header(it, name, 14, 16, "<I", 12345)),
         ("too little declared", "", lambda it: with_header(it, name, 22, 24, "<I", 20)),
