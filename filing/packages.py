@@ -70,9 +70,9 @@ class Package(ABC):
         return b"".join(kept)
 
     def find_root(self) -> None:
-        """Sets the root: the one folder at the top, or the top itself where `META-INF` or `reports` stands there."""
+        """Sets the root: the one folder at the top, which may have any name, or the top itself where `META-INF` or `reports` stands there."""
         folders = [it for it in self.children("")[1] if it != "__MACOSX"]
-        if "META-INF" not in folders and "reports" not in folders and len(folders) == 1:
+        if len(folders) == 1 and (folders[0] not in ("META-INF", "reports") or "META-INF" in self.children(folders[0])[1]):
             self.root = folders[0] + "/"
 
 

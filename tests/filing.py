@@ -267,6 +267,12 @@ def forms_of_reports(folder):
     for form in ("folder", "zip", "top", "file"):
         makes(folder, f"a report as {form}", MERGED, TYPES, form=form)
     makes(folder, "__MACOSX beside the one folder", MERGED, report={"__MACOSX/x": "", **{f"top/{it}": text for it, text in REPORT.items()}})
+    said = json.dumps({"documentInfo": {"documentType": "https://xbrl.org/report-package/2023"}})
+    for top in ("reports", "META-INF", "top"):
+        named = {f"{top}/{it}": text for it, text in {**REPORT, "META-INF/reportPackage.json": said}.items()}
+        taxonomy = {f"{top}/{it}": text for it, text in TAXONOMY.items()}
+        for form in ("folder", "zip"):
+            makes(folder, f"a folder at the top that is called {top}, {form}", MERGED, report=named, taxonomies=[taxonomy], form=form)
     for kind in ("", "/xbr", "/xbri"):
         said = json.dumps({"documentInfo": {"documentType": "https://xbrl.org/report-package/2023" + kind}})
         makes(folder, f"a report package{kind}", MERGED, report={**REPORT, "META-INF/reportPackage.json": said})
@@ -2703,7 +2709,7 @@ def endless_schemas(folder):
     grows = '<a xml:base="aaaaaaaaa/">' * deep + "</a>" * deep
     tag, comment = f'<xs:element name="A" a="{long}"/>', f"<!--{long}-->"
     far, near = include("http://a.example/" + "y" * 5000), include("y" * 5000 + ".xsd")
-    has = "t0/reg/mod.xsd: has "
+    has, edge = "t0/reg/mod.xsd: has ", "http://a.example/" + "y" * (4096 - 17)
     url, shown = has + "a URL of {} characters; more than 4096 are not taken (import, line 1: {}..)", ("http://a.example/" + "y" * 100)[:100]
     for name, text, line in (
         ("bases that grow", schema(grows), has + "more than 100 elements with 'xml:base' inside of each other (line 1)"),
@@ -2716,6 +2722,7 @@ def endless_schemas(folder):
         ("a long tag", schema(tag), has + "a tag or a comment of more than 16777216 bytes, which is refused (line 1)"),
         ("a long comment", schema(comment), has + "a tag or a comment of more than 16777216 bytes, which is refused (line 1)"),
         ("a long URL", schema(far), url.format(5017, shown)),
+        ("a URL that is nearly too long", schema(include(edge)), refusals.printable(f"t0/reg/mod.xsd: no package has {edge} (import, line 1)")),
         ("a long relative URL", schema(near), url.format(len(HOST) + 5004, (HOST + "y" * 100)[:100])),
     ):
         begun = time.monotonic()
