@@ -2270,7 +2270,7 @@ def several_packages(folder):
     case(
         "control bytes in a name",
         run([escaped.name, "--prepare", "o"], folder),
-        (1, "xbrl-filing: a\\nb\\x1b.zip: is not JSON: Expecting value (line 1, column 1)\n"),
+        (1, "xbrl-filing: a\\nb\\x1b.zip: is neither a ZIP nor JSON\n"),
     )
     write(folder, {"long.json": json.dumps({"documentInfo": {"documentType": "y" * 100_000}})})
     line = f"long.json: is no xBRL-CSV metadata file: its document type is '{'y' * 100_000}'"
