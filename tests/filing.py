@@ -1795,12 +1795,13 @@ def temporary_files(folder):
             wanted = [f"{home}/meta.json", "--types", f"{home}/types.csv", "--out", "doc.json", "--progress", "--ring=7", str(folder), links, "700"]
             case(f"the words of xbrl-json, {report}, {end}", (status, lines, err), (int(end), wanted, "said\n"))
             case("the folder stands under TMPDIR, and is gone", (os.path.dirname(home), os.listdir(temporary)), (str(temporary), []))
-    for given in (["--ring", "7"], ["--layout", "lines"], ["--workers", "1"], ["--out", "doc.json"]):
+    for given in (["--ring", "7"], ["--layout", "lines"], ["--workers", "1"], ["--out", "doc.json"], ["--faults", "f.csv"], ["--explain", "--whole"]):
         seen = start([*given, "r", "--taxonomy", "t"], folder, env=settings)[1].decode().splitlines()
         case(f"words before REPORT {given}", seen[3:5], given)
     for given, passed in (
         (["--new", "x", "--flag", "--progress", "--out", "d"], ["--new", "x", "--flag", "--progress", "--out", "d"]),
         (["--out=d", "--layout", "lines"], ["--out=d", "--layout", "lines"]),
+        (["--out=", "--workers=1", "--faults", "--out"], ["--out=", "--workers=1", "--faults", "--out"]),
     ):
         seen = start(["r", "--taxonomy", "t", *given], folder, env=settings)[1].decode().splitlines()
         case(f"words that go on {given}", seen[3 : 3 + len(passed)], passed)
@@ -2225,6 +2226,8 @@ def words(folder):
         (["r", "", "--taxonomy", "t"], "'' is one word too many"),
         (["r", "--progress", "yes"], "'yes' is one word too many"),
         (["r", "--out=x", "yes"], "'yes' is one word too many"),
+        (["r", "--explain", "yes"], "'yes' is one word too many"),
+        (["r", "--whole", "yes"], "'yes' is one word too many"),
         (["r", "--taxonomy", "t", "--types", "x"], "--types is made from the taxonomy and cannot be given"),
         (["r", "--types=x"], "--types is made from the taxonomy and cannot be given"),
         (["r", "--prepare"], "--prepare needs a value"),
@@ -2331,7 +2334,8 @@ def outputs_that_are_inputs(folder):
     ):
         before = listing(folder)
         line = f"xbrl-filing: {out}: cannot write ({why})\n"
-        for words_of_out in (["--out", out], [f"--out={out}"], ["--out", "no/x", "--out", out, "--workers", "1"], ["--out", out, "--out", "no/x"]):
+        twice = ["--out", "no/x", "--out", out, "--workers", "1"], ["--out", out, "--out", "no/x"]
+        for words_of_out in (["--out", out], [f"--out={out}"], *twice, ["--faults", out], [f"--faults={out}"]):
             case(f"{given} {words_of_out}", (run([*given, *words_of_out], folder), listing(folder) == before), ((3, line), True))
         if given == ["alone/m.json"] and out != "alone/m.json":
             line = f"xbrl-filing: {out}: cannot write (Not a directory)\n"
