@@ -107,7 +107,7 @@ def run(settings: Settings, program: str, progress: Progress, stopping: Stopping
 def convert(origins: Origins, files: Files, types: bytes, settings: Settings, program: str, progress: Progress, stopping: Stopping) -> int:
     """Runs xbrl-json over a temporary folder, and answers its status. On a terminal, the line of its --progress is its own."""
     with temporary_folder(temporary_place(), f"{NAME}-", stopping) as folder:
-        lines = ConverterLines(origins, write_files(folder, files, types, copy=False))
+        lines = ConverterLines(origins, folder, write_files(folder, files, types, copy=False))
         progress.clear()
         words = [program, os.path.join(folder, META), "--types", os.path.join(folder, TYPES), *settings.rest]
         heard = "--explain" in settings.rest or "--progress" not in settings.rest

@@ -19,10 +19,10 @@ FAULT_OF_METADATA = "xbrl-json: report: "
 class ConverterLines:
     """Hands the lines of xbrl-json on to standard error, each as soon as it is whole."""
 
-    def __init__(self, origins: Origins, names: Dict[str, str]) -> None:
+    def __init__(self, origins: Origins, folder: str, names: Dict[str, str]) -> None:
         self.origins = origins
-        self.names = names  # what lines call a file, by its path among the prepared ones
-        self.paths = re.compile("|".join(re.escape(it) for it in sorted(names, key=len, reverse=True)) or "(?!)")
+        self.folder = folder + "/"
+        self.names = names  # what the filing calls a file, by its name in the folder
         self.for_terminal = bool(sys.stderr and sys.stderr.isatty())
         self.begun = b""
         self.of_metadata = self.placed = False
@@ -45,13 +45,19 @@ class ConverterLines:
         """A line as it is handed on: byte for byte, but for the names of files and places."""
         text = line.decode("utf-8", "surrogateescape")
         self.of_metadata = self.of_metadata or text.startswith(FAULT_OF_METADATA)
-        text = self.paths.sub(lambda it: self.names[it[0]], text)
+        before, *behind = text.split(self.folder)
+        text = before + "".join(self.named(it) for it in behind)
         found = PLACE.fullmatch(text)
         place = self.origins.place(found[2]) if found else None
         if found and place:
             self.placed = True
             text = f"{found[1]}{place[0]}: {place[1]}"
         return (escaped(text) if self.for_terminal else text).encode("utf-8", "surrogateescape")
+
+    def named(self, rest: str) -> str:
+        """What stands behind the folder's path in a line, with the file's name in the filing: it has the longest of the names that fit."""
+        name = max((it for it in self.names if rest.startswith(it)), key=len, default="")
+        return self.names[name] + rest[len(name) :] if name else self.folder + rest
 
 
 def put(text: bytes) -> None:

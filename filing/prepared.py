@@ -84,9 +84,9 @@ def write_files(folder: str, files: Files, types: bytes, copy: bool) -> Dict[str
     files.rename(names)
     shown: Dict[str, str] = {}
     for url in files.all():
-        target = os.path.join(folder, *names.get(url, url).split("/"))
-        shown[target] = files.package.shown(files.name(url))
-        put_file(target, files.package, files.name(url), copy)
+        target, name = names.get(url, url), files.name(url)
+        shown[target] = files.package.shown(name)
+        put_file(os.path.join(folder, *target.split("/")), files.package, name, copy)
     fill(os.path.join(folder, TYPES), iter([types]))
     fill(os.path.join(folder, META), iter([files.merged.text()]))
     return shown

@@ -2050,7 +2050,7 @@ def filed_in_parts():
         "reg/low.xsd": schema(item("Low")),
     }
     own = {"extends": [HOST + "mod.json"], "namespaces": {"eg": EG, "n": "http://mem/"}, "taxonomy": [HOST + "low.xsd"]}
-    tables = {"t": {"url": "meta.json", "parameters": {"q": "1"}}}
+    tables = {"t": {"url": "meta.json", "parameters": {"q": "1"}}, "u": {"url": "filed-meta.json.csv", "template": "t", "optional": True}}
     report = {"reports/report.json": meta(own, tables=tables, dimensions={"eg:Region": "n:y"}), "reports/meta.json": "cash\n1\n"}
     return report, [{**TAXONOMY, **files}]
 
@@ -2123,12 +2123,16 @@ def lines_of_the_converter(folder):
         ("the fault of a table", apart, apart),
         ("a fault of the metadata in a value", f"{apart}  {fault}", f"{apart}  {fault}"),
         ("a file", "  HOME/filed-meta.json, line 3\n".replace("HOME", "$HOME"), "  r/reports/meta.json, line 3\n"),
+        ("files in one line", "  $HOME/filed-meta.json.csv and $HOME/filed-meta.json $HOME\n", None),
         ("a file that was made here", "cannot read $HOME/meta.json\n", None),
         ("no line", "", ""),
     ):
         for words in ([], ["--explain"], ["--explain", "--progress"]):
             status, err = with_words(folder, said, words)
-            if wanted is None:
+            if wanted is None and "line" in name:
+                ends = err.startswith("  r/reports/filed-meta.json.csv and r/reports/meta.json /"), err.endswith("\n")
+                case(f"{name}, {words}", (status, *ends), (1, True, True))
+            elif wanted is None:
                 case(f"{name}, {words}", (status, err.startswith("cannot read /"), err.endswith("/meta.json\n")), (1, True, True))
             else:
                 case(f"{name}, {words}", (status, err), (1, wanted))
