@@ -20,6 +20,8 @@ mod ExamplesFiles
 mod ExamplesShapes
 pub mod FirstOfBoth
 pub mod LeastFault
+pub mod FirstFinding
+pub mod Joined
 pub mod TextLaws
 pub mod ShapeLaws
 pub mod PartLaws

@@ -12,9 +12,9 @@ ghost use Rattle.oim_meta.specs.UnknownColumn.{has_unknown_column};
 
 mod levels;
 pub(crate) mod made;
-mod names;
+pub(crate) mod names;
 pub(crate) mod namespaces;
-mod places;
+pub(crate) mod places;
 mod tables;
 mod templates;
 

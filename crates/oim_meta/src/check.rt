@@ -8,6 +8,5 @@ pub(crate) mod identifiers;
 pub(crate) mod kinds;
 pub(crate) mod levels;
 pub(crate) mod parameters;
-pub(crate) mod paths;
 pub(crate) mod shapes;
 pub(crate) mod templates;

@@ -4,7 +4,7 @@ ghost use Rattle.std.specs.Prelude.{◌≡◌};
 ghost use Rattle.serde_json.specs.View.{view};
 ghost use Rattle.oim_meta.specs.BadParameters.{has_bad_parameters, is_no_plain_path as not_plain_path, has_bad_parameter_url, has_bad_parameter};
 
-use crate::check::paths::is_plain_path;
+use crate::paths::is_plain_path;
 use crate::members::{MemberTest, any_member_at, is_bad_object_at};
 use oim_names::is_identifier;
 use oim_report::Parameters;

@@ -7,7 +7,7 @@ ghost use Rattle.oim_meta.specs.Members.{if_there};
 ghost use Rattle.oim_meta.specs.Faults.{is_no_flag as not_flag, has_bad_section, has_bad_sources, has_bad_columns, lacks_url as without_url, has_bad_shape};
 
 use crate::check::document::{is_no_text_at, is_no_texts};
-use crate::check::paths::is_plain_path;
+use crate::paths::is_plain_path;
 use crate::lookup::text_at;
 use crate::members::{MemberTest, is_bad_object_at, is_no_object_or_any};
 use serde_json::Value;
