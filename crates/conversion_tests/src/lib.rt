@@ -11,6 +11,8 @@ mod report;
 #[cfg(test)]
 mod tests_readers;
 #[cfg(test)]
+mod tests_refused;
+#[cfg(test)]
 mod tests_rings;
 #[cfg(test)]
 mod tests_starts;

@@ -8,7 +8,6 @@ use oim_convert::{ConvertFault, convert_serial};
 use oim_json::{Layout, Marked};
 use oim_merge::MergeEnd;
 use oim_meta::{Limits, Report};
-use oim_resolve::CellFault;
 use oim_rows::{TableFault, TableKind};
 use std::alloc::{AllocError, Global};
 use std::io;
@@ -52,19 +51,26 @@ impl Read for Cut<'_> {
     }
 }
 
-/// Whether a conversion on one thread writes this document, and refuses these tables.
+/// Whether a conversion by this many workers, or on one thread where that is 0, writes this document and refuses these tables.
 fn is_refused(
-    alloc: Global,
+    rt: &(impl AllocGlobal + Threads + Wait + Sync),
     report: &Report,
     tables: &[Cut<'_>],
+    workers: usize,
     expected: &[u8],
     faults: &[TableFault],
 ) -> Result<bool, AllocError> {
-    let readers = readers_of(alloc, tables)?;
-    let mut document = Vec::new(alloc);
+    let readers = readers_of(rt.alloc(), tables)?;
+    let mut document = Vec::new(rt.alloc());
     let limits = Limits::profile();
-    let found = faults_alone(alloc, report, readers, limits, &mut document);
-    Ok(found.as_slice() == faults && document.as_slice() == expected)
+    let is_ended = if workers == 0 {
+        faults_alone(rt.alloc(), report, readers, limits, &mut document).as_slice() == faults
+    } else {
+        let way = all_of(workers, 1);
+        let end = MergeEnd::Refused;
+        ends_so(rt, report, readers, way, limits, &mut document, faults, end)
+    };
+    Ok(is_ended && document.as_slice() == expected)
 }
 
 /// A table of two rows of two facts each.
@@ -86,47 +92,57 @@ const PLACES: &[(usize, usize, &str, &str)] = &[
     (31, 32, FIRST, SECOND),
 ];
 
+/// The number of bytes per call, and the number of workers.
+type Pace = (usize, usize);
+
+const PACES: &[Pace] = &[(64, 0), (1, 0), (64, 1), (1, 2), (64, 8)];
+
 /// Whether the first `place` bytes of the table give this document, if its reader then fails.
 fn is_cut(
-    alloc: Global,
+    rt: &(impl AllocGlobal + Threads + Wait + Sync),
     report: &Report,
     place: usize,
-    step: usize,
+    pace: Pace,
     expected: &[u8],
 ) -> Result<bool, AllocError> {
     let Some(bytes) = TABLE.get(..place) else {
         return Ok(false);
     };
+    let (step, workers) = pace;
     let cut = Cut {
         bytes,
         step,
         fails: true,
     };
     let fault = fault_of(0, TableKind::Read);
-    is_refused(alloc, report, &[cut], expected, &[fault])
+    is_refused(rt, report, &[cut], workers, expected, &[fault])
 }
 
 /// The same for each place of a cut.
 fn are_cut(
-    alloc: Global,
+    rt: &(impl AllocGlobal + Threads + Wait + Sync),
     report: &Report,
     places: (usize, usize),
-    step: usize,
+    pace: Pace,
     expected: &[u8],
 ) -> Result<bool, AllocError> {
     for place in places.0..places.1 {
-        if !is_cut(alloc, report, place, step, expected)? {
+        if !is_cut(rt, report, place, pace, expected)? {
             return Ok(false);
         }
     }
     Ok(true)
 }
 
-/// The same for each cut, with this many bytes per call.
-fn all_are_cut(alloc: Global, report: &Report, step: usize) -> Result<bool, AllocError> {
+/// The same for each cut.
+fn all_are_cut(
+    rt: &(impl AllocGlobal + Threads + Wait + Sync),
+    report: &Report,
+    pace: Pace,
+) -> Result<bool, AllocError> {
     for (from, to, first, second) in PLACES {
-        let expected = format!(in alloc; "{HEAD}{first}{second}")?;
-        if !are_cut(alloc, report, (*from, *to), step, expected.as_bytes())? {
+        let expected = format!(in rt.alloc(); "{HEAD}{first}{second}")?;
+        if !are_cut(rt, report, (*from, *to), pace, expected.as_bytes())? {
             return Ok(false);
         }
     }
@@ -136,8 +152,8 @@ fn all_are_cut(alloc: Global, report: &Report, step: usize) -> Result<bool, Allo
 #[test]
 fn a_reader_cut_at_each_place(rt: HostRuntime) -> Result<(), Fail> {
     let report = report_of(rt.alloc(), 1)?;
-    for step in [64, 1] {
-        assert!(rt; all_are_cut(rt.alloc(), &report, step)?);
+    for pace in PACES {
+        assert!(rt; all_are_cut(&rt, &report, *pace)?);
     }
     Ok(())
 }
@@ -180,7 +196,7 @@ const CASES: &[Case<'static>] = &[
             table: 0,
             row: 2,
             column: 1,
-            kind: TableKind::Cell(CellFault::BadNumber),
+            kind: TableKind::BadNumber,
         }],
     ),
 ];
@@ -202,24 +218,24 @@ fn readers_that_fail<'a>(
 }
 
 /// Whether three tables end so.
-fn is_so(alloc: Global, report: &Report, case: &Case<'_>) -> Result<bool, AllocError> {
+fn is_so(
+    rt: &(impl AllocGlobal + Threads + Wait + Sync),
+    report: &Report,
+    workers: usize,
+    case: &Case<'_>,
+) -> Result<bool, AllocError> {
     let (files, written, faults) = *case;
-    let tables = readers_that_fail(alloc, files)?;
-    let expected = document_of(alloc, written, 1, "")?;
-    is_refused(
-        alloc,
-        report,
-        tables.as_slice(),
-        expected.as_bytes(),
-        faults,
-    )
+    let tables = readers_that_fail(rt.alloc(), files)?;
+    let expected = document_of(rt.alloc(), written, 1, "")?;
+    let bytes = expected.as_bytes();
+    is_refused(rt, report, tables.as_slice(), workers, bytes, faults)
 }
 
 #[test]
 fn a_reader_cut_between_faults(rt: HostRuntime) -> Result<(), Fail> {
     let report = report_of(rt.alloc(), 3)?;
     for case in CASES {
-        assert!(rt; is_so(rt.alloc(), &report, case)?);
+        assert!(rt; is_so(&rt, &report, 0, case)? && is_so(&rt, &report, 2, case)?);
     }
     Ok(())
 }
@@ -304,7 +320,7 @@ fn a_table_without_end(rt: HostRuntime) -> Result<(), Fail> {
     Ok(())
 }
 
-/// Whether a conversion with these readers is refused for their number, and writes nothing.
+/// Whether a conversion on one thread with these readers is refused for their number, and writes nothing.
 fn are_wrong(alloc: Global, report: &Report, tables: &[&[u8]]) -> Result<bool, AllocError> {
     let readers = readers_of(alloc, tables)?;
     let mut document = Vec::new(alloc);

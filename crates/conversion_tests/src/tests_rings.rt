@@ -1,13 +1,15 @@
-//! Rings at run time: what a full and an empty ring answer.
+//! Rings at run time: what a full and an empty ring answer, and the merge of rings that are full.
 
-ghost use Rattle.std.specs.Prelude.{◌≡◌, IfSome};
+ghost use Rattle.std.specs.Prelude.{◌≡◌, [], IfOk, IfSome};
 
-use oim_json::{Block, block_of};
+use oim_json::{Block, Layout, Marked, block_of};
+use oim_merge::{MergeEnd, merge};
 use oim_names::{Items, Text};
 use oim_resolve::Fact;
-use oim_ring::{CloseFault, ClosedFeed, Drain, Ending, Feed, Item, lane};
+use oim_ring::{CloseFault, Closed, Drain, Ending, Feed, Item, lane};
 use oim_rows::{TableFault, TableKind};
 use std::alloc::{AllocError, Global};
+use std::sync::Wait;
 use std::test::Fail;
 
 /// The ending of these rings.
@@ -101,7 +103,7 @@ fn not_closed(feed: Feed) -> Option<Feed>
 }
 
 /// The token of the feed, whose ring has room, once it is closed.
-fn closed(feed: Feed) -> Option<ClosedFeed>
+fn closed(feed: Feed) -> Option<Closed>
     ensures { IfSome result (λ c. c.ring ≡ feed.ring) }
 {
     match feed.close(Ending::Refused(FAULT)) {
@@ -110,13 +112,16 @@ fn closed(feed: Feed) -> Option<ClosedFeed>
     }
 }
 
-/// Whether the ending is there, after which the drain settles.
-fn settled(drain: Drain, closed: ClosedFeed) -> bool
+/// Whether the ending is there and nothing behind it, after which the drain settles.
+fn settled(drain: Drain, closed: Closed) -> bool
     requires { closed.ring ≡ drain.ring }
 {
     let mut drain = drain;
     match drain.take() {
         Some(Item::Ending(ending)) => {
+            if drain.take().is_some() {
+                return false;
+            }
             let _drained = drain.settle(closed);
             ending == Ending::Refused(FAULT)
         }
@@ -159,5 +164,62 @@ fn full_closes_later(alloc: Global) -> Result<bool, AllocError> {
 #[test]
 fn a_full_ring_is_closed_later(rt: HostRuntime) -> Result<(), Fail> {
     assert!(rt; full_closes_later(rt.alloc())?);
+    Ok(())
+}
+
+/// The drain of a ring of two items, which the block with this number and this ending fill.
+fn filled(alloc: Global, number: u32, ending: Ending) -> Result<Option<Drain>, AllocError>
+    ensures { IfOk result (λ made. IfSome made (λ drain. drain.taken ≡ [])) }
+{
+    let (mut feed, drain) = lane(alloc, 2)?;
+    if !puts(alloc, &mut feed, number)? {
+        return Ok(None);
+    }
+    match feed.close(ending) {
+        Ok(_) => Ok(Some(drain)),
+        Err(_) => Ok(None),
+    }
+}
+
+/// The endings of three such rings, the end of their merge, and its text behind `[`.
+type Merge = ([Ending; 3], MergeEnd, &'static str);
+
+const MERGES: &[Merge] = &[
+    (
+        [Ending::Closed, Ending::Closed, Ending::Closed],
+        MergeEnd::Complete,
+        r#"["t1.r_1.a":{"dimensions":{},"value":null},"t1.r_2.a":{"dimensions":{},"value":null},"t1.r_3.a":{"dimensions":{},"value":null}}}
+"#,
+    ),
+    (
+        [Ending::Closed, Ending::Refused(FAULT), Ending::Closed],
+        MergeEnd::Refused,
+        r#"["t1.r_1.a":{"dimensions":{},"value":null},"t1.r_2.a":{"dimensions":{},"value":null}"#,
+    ),
+];
+
+/// Whether three such rings are merged so.
+fn is_merged(rt: &(impl AllocGlobal + Wait), case: &Merge) -> Result<bool, AllocError> {
+    let ([first, second, third], end, text) = *case;
+    let alloc = rt.alloc();
+    let (Some(a), Some(b), Some(c)) = (
+        filled(alloc, 1, first)?,
+        filled(alloc, 2, second)?,
+        filled(alloc, 3, third)?,
+    ) else {
+        return Ok(false);
+    };
+    let mut faults = Vec::with_capacity(alloc, 3)?;
+    let mut document = Vec::new(alloc);
+    let sink = &mut Marked::new(&mut document);
+    let found = merge(rt, &mut [a, b, c], b"[", &mut faults, Layout::Compact, sink);
+    Ok(found == end && document.as_slice() == text.as_bytes())
+}
+
+#[test]
+fn three_full_rings_are_merged(rt: HostRuntime) -> Result<(), Fail> {
+    for case in MERGES {
+        assert!(rt; is_merged(&rt, case)?);
+    }
     Ok(())
 }

@@ -1,3 +1,4 @@
+use Rattle.std.proofs.Common.{refl}
 use Rattle.serde_json.specs.View.{view}
 use Rattle.oim_meta.specs.Value.{report_of}
 use Rattle.oim_meta.proofs.Placed.{all_placed}
@@ -10,4 +11,5 @@ new-requires c =
 
 pub returns : goal.returns
 unfolding report_of
-returns c = cc (c.in_ok-parts.ensures.info, c.in_ok-parts.ensures.level, c.in_ok-parts.ensures.templates, c.in_ok-parts.ensures.tables, c.in_ok-own.ensures, c.requires.namespaces)
+returns c =
+    rw (c.new.ensures, c.in_ok-parts.ensures.info, c.in_ok-parts.ensures.level, c.in_ok-parts.ensures.templates, c.in_ok-parts.ensures.tables, c.in_ok-own.ensures, c.requires.namespaces) refl

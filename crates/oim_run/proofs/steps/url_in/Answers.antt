@@ -1,4 +1,4 @@
-use Rattle.std.proofs.Common.{subst}
+use Rattle.std.proofs.Common.{option_map, string_bytes, subst, sym}
 use Rattle.oim_meta.specs.Reading.{IsUrlFault, SaysUrl}
 use Rattle.oim_run.specs.Conversion.{profile}
 use Rattle.oim_run.specs.Metadata.{url_result}
@@ -8,8 +8,9 @@ use Rattle.oim_run.proofs.steps.url_in.Goals as goal
 
 pub returns-in-Ok-clause-gives : goal.returns-in-Ok-clause-gives
 returns-in-Ok-clause-gives c =
-    looks_value (url_result profile c.args.metadata.now) c.in-Ok.url (says_url profile c.args.metadata.now c.in-Ok.url
-    (subst (λ l. SaysUrl l c.args.metadata.now c.in-Ok.url) c.profile.ensures c.in-Ok.ensures.value))
+    looks_value (url_result profile c.args.metadata.now) c.text_of.result (says_url profile c.args.metadata.now c.text_of.result
+    (subst (λ url. SaysUrl profile c.args.metadata.now url) (sym c.text_of.ensures)
+    (subst (λ l. SaysUrl l c.args.metadata.now (option_map string_bytes c.in-Ok.url)) c.profile.ensures c.in-Ok.ensures.value)))
 
 pub returns-in-Err-clause-gives : goal.returns-in-Err-clause-gives
 returns-in-Err-clause-gives c =
