@@ -22,6 +22,12 @@ pub mod FirstOfBoth
 pub mod LeastFault
 pub mod FirstFinding
 pub mod Joined
+pub mod FaultSteps
+pub mod TemplateFaults
+pub mod DocumentFaults
+pub mod TableFaults
+pub mod ReportFaults
+pub mod FirstFound
 pub mod TextLaws
 pub mod ShapeLaws
 pub mod PartLaws

@@ -1,5 +1,5 @@
 -- What is wrong with a metadata, and where, in the order of the walk (xBRL-CSV 1.0: documentInfo, links, metadata).
-use Rattle.std.specs.Prelude.{ℕ, List, [], ◌∷◌, ◌++◌, true, unwrap_or, option_map, codes}
+use Rattle.std.specs.Prelude.{ℕ, List, [], ◌∷◌, ◌++◌, true, unwrap_or, option_map, Option, Some, None, codes}
 use Rattle.serde_json.specs.Data.{Data}
 use Rattle.serde_json.specs.Find.{get}
 use Rattle.oim_names.specs.Bindings.{Bindings}
@@ -35,11 +35,16 @@ in_info i =
     ++ found BadTaxonomy (document_path ++ codes "baseURL" ∷ []) (if_there is_no_text (get (codes "baseURL") i))
     ++ found Unsupported (document_path ++ codes "extends" ∷ []) (if_there is_no_empty_list (get (codes "extends") i))
 
+-- the document information, if it is there
+unfoldable pub in_info_in : Option Data → List Finding
+in_info_in None = []
+in_info_in (Some i) = in_info i
+
 -- the document as a whole: its type, its information and its links
 unfoldable pub in_document : Data → List Finding
 in_document d =
     found NotReport (document_path ++ codes "documentType" ∷ []) (has_no_report d)
-    ++ unwrap_or (option_map in_info (get (codes "documentInfo") d)) []
+    ++ in_info_in (get (codes "documentInfo") d)
     ++ found Unsupported (codes "links" ∷ []) (if_there is_no_empty_object (get (codes "links") d))
 
 -- the parts of a metadata with these prefixes: what the report itself writes, its templates, tables and parameters

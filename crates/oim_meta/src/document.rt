@@ -1,13 +1,13 @@
 //! What is wrong with the document as a whole: its type, its namespaces, its taxonomy, and what is not supported.
 
-ghost use Rattle.std.specs.Prelude.{◌≡◌, ◌++◌, [], codes, true, OnOk, option_map, unwrap_or};
+ghost use Rattle.std.specs.Prelude.{◌≡◌, ◌++◌, codes, true, OnOk, option_map, unwrap_or};
 ghost use Rattle.serde_json.specs.Find.{get};
 ghost use Rattle.serde_json.specs.View.{view, items_view, members_view};
-ghost use Rattle.oim_meta.specs.Faults.{is_anything, is_csv, has_no_report, is_no_texts as not_texts};
+ghost use Rattle.oim_meta.specs.Faults.{is_anything, is_bad_prefix, is_csv, has_no_report, is_no_texts as not_texts};
 ghost use Rattle.oim_meta.specs.Faults.{is_no_empty_list as not_empty_list, is_no_empty_object as not_empty_object};
 ghost use Rattle.oim_meta.specs.Members.{any_item, any_member, if_there};
 ghost use Rattle.oim_meta.specs.Walk.{in_members};
-ghost use Rattle.oim_meta.specs.WalkReport.{in_document, in_info, in_namespaces, in_prefix};
+ghost use Rattle.oim_meta.specs.WalkReport.{in_document, in_info, in_info_in, in_namespaces, in_prefix};
 
 use crate::counts::count;
 use crate::fault::MetaFault;
@@ -40,16 +40,28 @@ pub(crate) fn no_report(report: &Value) -> bool
     }
 }
 
+fn bad_prefix(prefix: &str, uri: &Value) -> bool
+    ensures { result ≡ is_bad_prefix prefix.now (view uri.now) }
+{
+    !is_ncname(prefix) || !uri.is_string()
+}
+
+fn find_prefix<'v>(prefix: &'v str, uri: &Value, findings: &mut Findings<'v>)
+    ensures { findings.new ≡ findings.old ++ in_prefix prefix.now (view uri.now) }
+{
+    findings.add_if(
+        bad_prefix(prefix, uri),
+        MetaFault::BadNamespaces,
+        Part::Document.member("namespaces", prefix),
+    );
+}
+
 /// Adds the prefixes that are not NCNames, or whose URIs are not texts.
 fn find_prefixes<'v>(members: &'v Map<String, Value>, findings: &mut Findings<'v>)
     ensures { findings.new ≡ findings.old ++ in_members in_prefix (members_view members.now.entries) }
 {
     for (prefix, uri) in members.iter() {
-        findings.add_if(
-            !is_ncname(prefix.as_str()) || !uri.is_string(),
-            MetaFault::BadNamespaces,
-            Part::Document.member("namespaces", prefix.as_str()),
-        );
+        find_prefix(prefix.as_str(), uri, findings);
     }
 }
 
@@ -143,13 +155,13 @@ fn find_info<'v>(
     Ok(())
 }
 
+#[tactic(auto, unfolding(crate::specs::WalkReport::in_info_in))]
 fn find_info_in<'v>(
     alloc: Global,
     report: &'v Value,
     findings: &mut Findings<'v>,
 ) -> Result<(), AllocError>
-    ensures { OnOk result (findings.new
-        ≡ findings.old ++ unwrap_or (option_map in_info (get (codes "documentInfo") (view report.now))) []) }
+    ensures { OnOk result (findings.new ≡ findings.old ++ in_info_in (get (codes "documentInfo") (view report.now))) }
 {
     match report.get("documentInfo") {
         Some(info) => find_info(alloc, info, findings),

@@ -1,6 +1,6 @@
 //! The kinds of columns.
 
-ghost use Rattle.std.specs.Prelude.{◌≡◌, ℕ, List};
+ghost use Rattle.std.specs.Prelude.{◌≡◌, []};
 ghost use Rattle.serde_json.specs.View.{view};
 ghost use Rattle.oim_meta.specs.Faults.{is_comment as comment, is_mixed_column as mixed};
 ghost use Rattle.oim_meta.specs.Value.{kind_of as kind_in};
@@ -35,7 +35,7 @@ fn is_comment(column: &Value) -> bool
 
 /// Whether a column is of two or three of the kinds fact, property group and comment.
 pub(crate) fn is_mixed(column: &Value) -> bool
-    ensures { (name : List ℕ) → result ≡ mixed name (view column.now) }
+    ensures { result ≡ mixed [] (view column.now) }
 {
     let is_fact = column.get("dimensions").is_some();
     let is_groups = column.get("propertyGroups").is_some();

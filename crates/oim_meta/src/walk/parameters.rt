@@ -2,7 +2,7 @@
 
 ghost use Rattle.std.specs.Prelude.{◌≡◌, ◌++◌, IfOk, OnOk, codes};
 ghost use Rattle.serde_json.specs.View.{view, members_view};
-ghost use Rattle.oim_meta.specs.BadParameters.{is_no_plain_path as not_plain_path, has_bad_parameter_url};
+ghost use Rattle.oim_meta.specs.BadParameters.{is_bad_parameter, is_no_plain_path as not_plain_path, has_bad_parameter_url};
 ghost use Rattle.oim_meta.specs.Members.{map_members, section};
 ghost use Rattle.oim_meta.specs.Paths.{part_path};
 ghost use Rattle.oim_meta.specs.Value.{named_text};
@@ -41,6 +41,13 @@ pub(crate) fn bad_parameter_url(report: &Value) -> bool
     }
 }
 
+/// Whether a name is not an identifier, or its value is not a text.
+fn bad_parameter(name: &str, value: &Value) -> bool
+    ensures { result ≡ is_bad_parameter name.now (view value.now) }
+{
+    !is_identifier(name) || !value.is_string()
+}
+
 impl<'a> Walk<'a> {
     fn parameter<'v>(
         &self,
@@ -53,7 +60,7 @@ impl<'a> Walk<'a> {
         ensures found { OnOk result (findings.new ≡ findings.old ++ in_parameter (part_path here.entry) name.now (view value.now)) }
     {
         findings.add_if(
-            !is_identifier(name) || !value.is_string(),
+            bad_parameter(name, value),
             MetaFault::BadParameter,
             here.member("parameters", name),
         );
@@ -101,15 +108,22 @@ impl<'a> Walk<'a> {
         }
     }
 
+    fn find_given_name<'v>(&self, name: &'v str, value: &Value, findings: &mut Findings<'v>)
+        ensures { findings.new ≡ findings.old ++ in_given self.now.given.now name.now (view value.now) }
+    {
+        let _ = value;
+        findings.add_if(
+            self.given.has_name(name),
+            MetaFault::BadParameter,
+            Part::Report.member("parameters", name),
+        );
+    }
+
     fn find_given_in<'v>(&self, members: &'v Map<String, Value>, findings: &mut Findings<'v>)
         ensures { findings.new ≡ findings.old ++ in_members (in_given self.now.given.now) (members_view members.now.entries) }
     {
-        for (name, _) in members.iter() {
-            findings.add_if(
-                self.given.has_name(name.as_str()),
-                MetaFault::BadParameter,
-                Part::Report.member("parameters", name.as_str()),
-            );
+        for (name, value) in members.iter() {
+            self.find_given_name(name.as_str(), value, findings);
         }
     }
 

@@ -1,11 +1,14 @@
 //! Tables: what they say, and what is wrong with them.
 
-ghost use Rattle.std.specs.Prelude.{◌≡◌, ◌++◌, IfOk, OnOk, option_map, codes};
+ghost use Rattle.std.specs.Prelude.{◌≡◌, ◌++◌, ◌∷◌, [], IfOk, OnOk, option_map, codes};
 ghost use Rattle.serde_json.specs.Data.{no_members};
 ghost use Rattle.serde_json.specs.Find.{get};
 ghost use Rattle.serde_json.specs.View.{view, members_view};
 ghost use Rattle.oim_meta.specs.Faults.{lacks_template_of, lacks_url as without_url};
 ghost use Rattle.oim_meta.specs.Members.{map_members, section};
+ghost use Rattle.oim_meta.specs.declared.fault.MetaFault.TheVariants.{UnknownTemplate};
+ghost use Rattle.oim_meta.specs.Findings.{found};
+ghost use Rattle.oim_meta.specs.Paths.{table_path};
 ghost use Rattle.oim_meta.specs.Value.{table_of, tables_of};
 ghost use Rattle.oim_meta.specs.Walk.{in_members};
 ghost use Rattle.oim_meta.specs.WalkTables.{in_table, in_table_itself, in_tables};
@@ -52,6 +55,24 @@ impl<'v> Templates<'v> {
             None => true,
         }
     }
+}
+
+/// Adds the fault of a table whose template is not there.
+fn find_template<'v>(
+    templates: &Templates<'_>,
+    name: &'v str,
+    table: &Value,
+    findings: &mut Findings<'v>,
+)
+    ensures { findings.new ≡ findings.old
+        ++ found UnknownTemplate (table_path name.now ++ codes "template" ∷ [])
+        (lacks_template_of (option_map (λ v. view v.now) templates.now.value) name.now (view table.now)) }
+{
+    findings.add_if(
+        templates.lacks(name, table),
+        MetaFault::UnknownTemplate,
+        Part::Table(name).at("template"),
+    );
 }
 
 /// Adds what is wrong with a table itself.
@@ -106,14 +127,9 @@ impl<'a> Walk<'a> {
         ensures found { OnOk result (findings.new
             ≡ findings.old ++ in_table (option_map (λ v. view v.now) templates.now.value) name.now (view value.now)) }
     {
-        let here = Part::Table(name);
         find(name, value, findings);
-        findings.add_if(
-            templates.lacks(name, value),
-            MetaFault::UnknownTemplate,
-            here.at("template"),
-        );
-        let parameters = self.parameters(here, value, findings)?;
+        find_template(templates, name, value, findings);
+        let parameters = self.parameters(Part::Table(name), value, findings)?;
         let template = text_at(value, "template").unwrap_or(name);
         Ok(Table {
             id: Text::from_str(self.alloc, name)?,
