@@ -18,7 +18,6 @@ mod Examples
 mod ExamplesFaults
 mod ExamplesFiles
 mod ExamplesShapes
-pub mod FirstOfBoth
 pub mod LeastFault
 pub mod FirstFinding
 pub mod Joined
@@ -28,6 +27,7 @@ pub mod DocumentFaults
 pub mod TableFaults
 pub mod ReportFaults
 pub mod FirstFound
+pub mod Refused
 pub mod TextLaws
 pub mod ShapeLaws
 pub mod PartLaws

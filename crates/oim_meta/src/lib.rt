@@ -17,8 +17,6 @@
 #![tactic(auto)]
 
 mod build;
-mod check;
-mod columns;
 mod counts;
 mod decimals;
 mod document;
@@ -30,7 +28,6 @@ mod file_laws;
 mod finding_laws;
 mod findings;
 mod lookup;
-mod members;
 mod order;
 mod parameters;
 mod paths;
@@ -56,7 +53,7 @@ pub use oim_report::{
     TypedName, Types, Written, WrittenDecimals,
 };
 pub use parameters::read_parameters;
-pub use read::{parameter_url, read_report};
+pub use read::{parameter_url, read_report, read_report_at};
 pub use refusal::Refusal;
 pub use shape_laws::faults_of_shape_are_parts_without_it;
 pub use text_laws::a_text_writes_one_value;

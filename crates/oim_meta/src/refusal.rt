@@ -2,10 +2,12 @@
 
 ghost use Rattle.std.specs.Prelude.{◌≡◌, None, OnOk, IfErr};
 ghost use Rattle.oim_meta.specs.Findings.{first_of};
-ghost use Rattle.oim_meta.specs.Refusals.{IsFirstOf};
+ghost use Rattle.oim_meta.specs.Refusals.{IsFirstOf, fault_in, refusal_of};
 
+use crate::fault::MetaFault;
 use crate::findings::{Finding, Findings};
 use crate::place::keys;
+use oim_names::Items;
 use std::alloc::{AllocError, Global};
 
 /// Why a metadata is refused: its first finding, or memory ran out.
@@ -15,6 +17,31 @@ pub enum Refusal {
     Found(Finding),
     /// Memory ran out.
     Memory,
+}
+
+impl Refusal {
+    /// A fault of the metadata as a whole.
+    pub(crate) fn of_whole(alloc: Global, fault: MetaFault) -> Refusal
+        ensures { result ≡ refusal_of fault }
+    {
+        if matches!(fault, MetaFault::Memory) {
+            return Refusal::Memory;
+        }
+        Refusal::Found(Finding {
+            fault,
+            place: Items::new(alloc),
+        })
+    }
+
+    /// The fault.
+    pub fn fault(&self) -> MetaFault
+        ensures { result ≡ fault_in self.now }
+    {
+        match self {
+            Refusal::Found(finding) => finding.fault,
+            Refusal::Memory => MetaFault::Memory,
+        }
+    }
 }
 
 impl From<AllocError> for Refusal {
