@@ -1,8 +1,11 @@
--- A `Map` has as many members as entries, and a list with an item has some item.
+-- A `Map` has as many members as entries, a list with an item has some item, and an object with more than no members has some.
 use Rattle.std.proofs.Common.{◌≡◌, ◌≤◌, suc, List, [], ◌∷◌, String, Global, true, length, refl, ap, arith}
+use Rattle.std.specs.Prelude.{nat_lt}
+use Rattle.serde_json.specs.Data.{Members, no_members, member}
 use Rattle.serde_json.specs.View.{members_view, items_view}
 use Rattle.serde_json.specs.declared.value.Value.{Value}
-use Rattle.oim_meta.specs.Members.{any_item}
+use Rattle.oim_meta.specs.Members.{any_item, any_member}
+use Rattle.oim_meta.specs.Faults.{is_anything}
 use Rattle.oim_meta.specs.Counts.{count_of}
 
 pub count_is : (es : List (String Global × Value)) → count_of (members_view es) ≡ length es
@@ -12,3 +15,8 @@ count_is (e ∷ es) = ap suc (count_is es)
 pub some_item : (vs : List Value) → 1 ≤ length vs → true ≡ any_item (λ _. true) (items_view vs)
 some_item [] h = absurd (omega arith)
 some_item (v ∷ vs) h = refl
+
+-- an object has some member exactly where it has more than none
+pub any_is_counted : (ms : Members) → any_member is_anything ms ≡ nat_lt 0 (count_of ms)
+any_is_counted no_members = refl
+any_is_counted (member k d ms) = grind arith

@@ -18,8 +18,16 @@ mod Examples
 mod ExamplesFaults
 mod ExamplesFiles
 mod ExamplesShapes
-pub mod FirstOfBoth
 pub mod LeastFault
+pub mod FirstFinding
+pub mod Joined
+pub mod FaultSteps
+pub mod TemplateFaults
+pub mod DocumentFaults
+pub mod TableFaults
+pub mod ReportFaults
+pub mod FirstFound
+pub mod Refused
 pub mod TextLaws
 pub mod ShapeLaws
 pub mod PartLaws

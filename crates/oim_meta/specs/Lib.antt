@@ -8,6 +8,9 @@ pub mod Order
 pub mod Written
 pub mod Decimals
 pub mod FaultNames
+pub mod Paths
+pub mod Findings
+pub mod FindingPlaces
 pub mod PlainPath
 pub mod Faults
 pub mod Shapes
@@ -21,5 +24,9 @@ pub mod Counts
 pub mod UnknownColumn
 pub mod FirstFault
 pub mod FaultOrder
+pub mod Walk
+pub mod WalkTables
+pub mod WalkReport
 pub mod Value
 pub mod Reading
+pub mod Refusals

@@ -1,4 +1,4 @@
-//! Building a report from the JSON of its metadata.
+//! Building a report from the parts of its metadata.
 
 ghost use Rattle.std.specs.Prelude.{◌≡◌, ◌++◌, IfOk, false, codes};
 ghost use Rattle.serde_json.specs.Data.{null};
@@ -10,23 +10,18 @@ ghost use Rattle.oim_meta.specs.Order.{IsInOrder};
 ghost use Rattle.oim_meta.specs.Prefixes.{prefixes_of};
 ghost use Rattle.oim_meta.specs.UnknownColumn.{has_unknown_column};
 
-mod levels;
 pub(crate) mod made;
-mod names;
+pub(crate) mod names;
 pub(crate) mod namespaces;
-mod places;
-mod tables;
-mod templates;
+pub(crate) mod places;
 
-use crate::build::levels::level;
-use crate::build::made::{copied, list_from, texts_at};
-use crate::build::tables::tables;
+use crate::build::made::{copied, texts_at};
 use crate::lookup::text_at;
-use oim_names::{Items, Namespaces, Text};
-use oim_report::{Info, Level, Parameters, Report, Table, Template, Types};
+use crate::walk::report::Parts;
+use oim_names::Namespaces;
+use oim_report::{Info, Parameters, Report, Types};
 use serde_json::Value;
 use std::alloc::{AllocError, Global};
-pub(crate) use templates::kind_of;
 
 /// The document information, or nothing if there is none.
 fn document_of<'a>(value: &'a Value, nothing: &'a Value) -> &'a Value
@@ -45,55 +40,36 @@ fn info(alloc: Global, document: &Value) -> Result<Info, AllocError>
     })
 }
 
-/// The parts of a report that come from its JSON alone, apart from the prefixes.
-#[derive(Drop)]
-struct Parts {
-    info: Info,
-    level: Level,
-    templates: Items<Template>,
-    tables: Items<Table>,
-}
-
-fn built(alloc: Global, value: &Value) -> Result<Parts, AllocError>
-    ensures info { IfOk result (λ made. made.info ≡ info_of (document_info (view value.now))) }
-    ensures level { IfOk result (λ made. made.level ≡ level_of (view value.now)) }
-    ensures templates { IfOk result (λ made. made.templates ≡ templates_of (view value.now)) }
-    ensures tables { IfOk result (λ made. made.tables ≡ tables_of (view value.now)) }
-{
-    let nothing = Value::Null;
-    Ok(Parts {
-        info: info(alloc, document_of(value, &nothing))?,
-        level: level(alloc, value)?,
-        templates: list_from(alloc, value, "tableTemplates")?,
-        tables: tables(alloc, value)?,
-    })
-}
-
-/// The report of a metadata with these prefixes, each of whose names of templates and columns is known.
+/// The report of a metadata with these prefixes and parts, each of whose names of templates and columns is known.
 #[tactic(auto, unfolding(crate::specs::Value::report_of))]
 pub(crate) fn report(
     alloc: Global,
     value: &Value,
     namespaces: Namespaces,
+    parts: Parts,
     parameters: Parameters,
     types: Types,
 ) -> Result<Report, AllocError>
     requires namespaces { namespaces ≡ prefixes_of (view value.now) }
-    requires templates { has_unknown_template (view value.now) ≡ false }
-    requires columns { has_unknown_column (view value.now) ≡ false }
+    requires level { parts.level ≡ level_of (view value.now) }
+    requires templates { parts.templates ≡ templates_of (view value.now) }
+    requires tables { parts.tables ≡ tables_of (view value.now) }
+    requires parameters { parts.parameters ≡ map_members named_text (section (codes "parameters") (view value.now)) }
+    requires known_templates { has_unknown_template (view value.now) ≡ false }
+    requires known_columns { has_unknown_column (view value.now) ≡ false }
     requires order { IsInOrder (view value.now) }
     requires identifiers { has_bad_identifier (view value.now) ≡ false }
     ensures { IfOk result (λ r. r ≡ report_of parameters types (view value.now)) }
 {
-    let own: Items<(Text, Text)> = list_from(alloc, value, "parameters")?;
-    let parts = built(alloc, value)?;
+    let nothing = Value::Null;
+    let info = info(alloc, document_of(value, &nothing))?;
     Ok(Report::new(
-        parts.info,
+        info,
         namespaces,
         types,
         parts.level,
         parts.templates,
         parts.tables,
-        (own, parameters),
+        (parts.parameters, parameters),
     ))
 }

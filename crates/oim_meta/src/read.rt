@@ -1,38 +1,30 @@
-//! Reading a metadata: its first fault, or the report that it says.
+//! Reading a metadata: its first fault with its place, or the report that it says.
 
-ghost use Rattle.std.specs.Prelude.{◌≡◌, ◌⊎◌, codes, false, if◌then◌else◌, Some, None, Ok, Err, IfOk, OnOk, IfErr};
+ghost use Rattle.std.specs.Prelude.{◌≡◌, ◌++◌, [], codes, Some, None, IfOk, OnOk, IfErr, if◌then◌else◌, Err, Ok};
 ghost use Rattle.std.specs.Option.{option_map};
 ghost use Rattle.std.specs.String.{string_bytes};
-ghost use Rattle.serde_json.specs.Find.{get};
 ghost use Rattle.serde_json.specs.View.{view};
-ghost use Rattle.oim_meta.specs.declared.fault.MetaFault.TheVariants.{Memory};
-ghost use Rattle.oim_report.specs.declared.limits.Limits.{Limits as LimitsValue};
-ghost use Rattle.oim_meta.specs.Members.{if_there};
-ghost use Rattle.oim_meta.specs.Faults.{has_bad_identifier, has_bad_namespaces, has_no_report, has_unknown_template};
+ghost use Rattle.oim_meta.specs.Members.{map_members, section};
 ghost use Rattle.oim_meta.specs.Order.{IsInOrder};
 ghost use Rattle.oim_meta.specs.Prefixes.{prefixes_of};
-ghost use Rattle.oim_meta.specs.UnknownColumn.{has_unknown_column};
-ghost use Rattle.oim_meta.specs.FirstFault.{early_fault, first_fault, late_fault};
-ghost use Rattle.oim_report.specs.Parameters.{ParametersValue};
-ghost use Rattle.oim_report.specs.Types.{TypesValue};
-ghost use Rattle.oim_meta.specs.Value.{report_of};
+ghost use Rattle.oim_meta.specs.Findings.{first_of};
+ghost use Rattle.oim_meta.specs.FirstFault.{first_fault};
+ghost use Rattle.oim_meta.specs.Value.{level_of, named_text, report_of, tables_of, templates_of};
 ghost use Rattle.oim_meta.specs.Reading.{IsJson, IsNoJson, IsFaultOf, SaysReport, IsFault, SaysUrl, IsUrlFault, first_url_fault};
+ghost use Rattle.oim_meta.specs.Refusals.{IsFirstOf, IsNoValue, IsRefusal};
+ghost use Rattle.oim_meta.specs.WalkReport.{in_document, in_metadata};
 
 use crate::build;
 use crate::build::namespaces::prefixes;
-use crate::check::counts::too_many;
-use crate::check::decimals::bad_decimals;
-use crate::check::dimensions::bad_dimensions;
-use crate::check::document::{bad_namespaces_in, bad_taxonomy_in, no_report, unsupported};
-use crate::check::identifiers::bad_identifier;
-use crate::check::kinds::mixed_column;
-use crate::check::parameters::{bad_parameter, bad_parameter_url};
-use crate::check::shapes::bad_shape;
-use crate::check::templates::unknown_template;
-use crate::columns::unknown_column;
+use crate::document::{find_document, no_report};
 use crate::fault::MetaFault;
+use crate::findings::{Finding, Findings};
 use crate::lookup::text_at;
-use oim_names::Namespaces;
+use crate::refusal::{Refusal, refuse};
+use crate::walk::Walk;
+use crate::walk::parameters::bad_parameter_url;
+use crate::walk::report::Parts;
+use oim_names::{Items, Namespaces};
 use oim_report::{Limits, Parameters, Report, Types};
 use serde_json::{Error, Value};
 use std::alloc::Global;
@@ -61,107 +53,128 @@ fn parse(alloc: Global, bytes: &[u8]) -> Result<Value, MetaFault>
     }
 }
 
-/// Fails with a fault if it is there.
-fn refuse(is_there: bool, fault: MetaFault) -> Result<(), MetaFault>
-    ensures { result ≡ (if is_there then Err fault else Ok tt) }
+/// The JSON value of the bytes, or why they are refused.
+fn value_in(alloc: Global, bytes: &[u8]) -> Result<Value, Refusal>
+    ensures json { IfOk result (λ v. IsJson bytes.now (view v)) }
+    ensures order { IfOk result (λ v. IsInOrder (view v)) }
+    ensures none { IfErr result (IsNoValue bytes.now) }
 {
-    if is_there { Err(fault) } else { Ok(()) }
+    match parse(alloc, bytes) {
+        Ok(value) => Ok(value),
+        Err(fault) => Err(Refusal::of_whole(alloc, fault)),
+    }
 }
 
-/// Refuses what is not a report, and bad namespaces.
-fn check_namespaces(alloc: Global, report: &Value) -> Result<(), MetaFault>
-    ensures report { OnOk result (has_no_report (view report.now) ≡ false) }
-    ensures namespaces { OnOk result (if_there has_bad_namespaces (get (codes "documentInfo") (view report.now)) ≡ false) }
-    ensures fault { (limits : LimitsValue) (given : ParametersValue) (types : TypesValue)
-        → IfErr result (λ fault. (fault ≡ Memory) ⊎ (early_fault limits given types (view report.now) ≡ Some fault)) }
-{
-    refuse(no_report(report), MetaFault::NotReport)?;
-    refuse(bad_namespaces_in(alloc, report)?, MetaFault::BadNamespaces)
-}
-
-/// Refuses the first of the other faults that the metadata alone shows.
-fn check_parts(report: &Value) -> Result<(), MetaFault>
-    requires report { has_no_report (view report.now) ≡ false }
-    requires namespaces { if_there has_bad_namespaces (get (codes "documentInfo") (view report.now)) ≡ false }
-    ensures templates { OnOk result (has_unknown_template (view report.now) ≡ false) }
-    ensures columns { OnOk result (has_unknown_column (view report.now) ≡ false) }
-    ensures identifiers { OnOk result (has_bad_identifier (view report.now) ≡ false) }
-    ensures sound { (limits : LimitsValue) (given : ParametersValue) (types : TypesValue)
-        → OnOk result (early_fault limits given types (view report.now) ≡ None) }
-    ensures fault { (limits : LimitsValue) (given : ParametersValue) (types : TypesValue)
-        → IfErr result (λ fault. early_fault limits given types (view report.now) ≡ Some fault) }
-{
-    refuse(bad_taxonomy_in(report), MetaFault::BadTaxonomy)?;
-    refuse(unsupported(report), MetaFault::Unsupported)?;
-    refuse(bad_identifier(report), MetaFault::BadIdentifier)?;
-    refuse(bad_shape(report), MetaFault::BadTemplate)?;
-    refuse(mixed_column(report), MetaFault::ColumnKinds)?;
-    refuse(unknown_template(report), MetaFault::UnknownTemplate)?;
-    refuse(unknown_column(report), MetaFault::UnknownColumn)
-}
-
-/// Refuses the first of the faults that are looked for with the types, the parameters file's parameters
-/// and the limits.
-fn check_levels(
-    report: &Value,
-    names: &Namespaces,
-    parameters: &Parameters,
-    types: &Types,
-    limits: Limits,
-) -> Result<(), MetaFault>
-    requires namespaces { if_there has_bad_namespaces (get (codes "documentInfo") (view report.now)) ≡ false }
-    requires prefixes { names.now ≡ prefixes_of (view report.now) }
-    ensures sound { OnOk result (late_fault limits parameters.now types.now (view report.now) ≡ None) }
-    ensures fault { IfErr result (λ fault. late_fault limits parameters.now types.now (view report.now) ≡ Some fault) }
-{
-    refuse(
-        bad_dimensions(types, names, report),
-        MetaFault::BadDimension,
-    )?;
-    refuse(bad_decimals(report), MetaFault::BadDecimals)?;
-    refuse(bad_parameter(parameters, report), MetaFault::BadParameter)?;
-    refuse(too_many(limits, report), MetaFault::TooLarge)
-}
-
-/// The prefixes of a metadata. Refuses its first fault.
-fn check(
+/// The prefixes of a metadata, once its document is walked. Refuses the first finding of the document.
+fn names_in<'v>(
     alloc: Global,
-    report: &Value,
+    value: &'v Value,
+    findings: &mut Findings<'v>,
+) -> Result<Namespaces, Refusal>
+    requires { findings.old ≡ [] }
+    ensures names { IfOk result (λ names. names ≡ prefixes_of (view value.now)) }
+    ensures found { OnOk result (findings.new ≡ in_document (view value.now)) }
+    ensures fault { IfErr result (IsFirstOf (in_document (view value.now))) }
+{
+    find_document(alloc, value, findings)?;
+    refuse(alloc, findings)?;
+    Ok(prefixes(alloc, value)?)
+}
+
+/// The parts of a metadata. Refuses its first finding.
+#[tactic(auto, unfolding(crate::specs::WalkReport::in_metadata))]
+fn parts_in<'v>(
+    walk: &Walk<'_>,
+    value: &'v Value,
+    findings: &mut Findings<'v>,
+) -> Result<Parts, Refusal>
+    requires document { findings.old ≡ in_document (view value.now) }
+    requires prefixes { walk.now.names.now ≡ prefixes_of (view value.now) }
+    ensures level { IfOk result (λ made. made.level ≡ level_of (view value.now)) }
+    ensures templates { IfOk result (λ made. made.templates ≡ templates_of (view value.now)) }
+    ensures tables { IfOk result (λ made. made.tables ≡ tables_of (view value.now)) }
+    ensures parameters { IfOk result (λ made. made.parameters ≡ map_members named_text (section (codes "parameters") (view value.now))) }
+    ensures sound { OnOk result (first_of (in_metadata walk.now.limits walk.now.given.now walk.now.types.now (view value.now)) ≡ None) }
+    ensures fault { IfErr result (IsFirstOf (in_metadata walk.now.limits walk.now.given.now walk.now.types.now (view value.now))) }
+{
+    let parts = walk.parts(value, findings)?;
+    refuse(walk.alloc, findings)?;
+    Ok(parts)
+}
+
+/// The prefixes and the parts of a metadata. Refuses its first finding.
+fn walked(
+    alloc: Global,
+    value: &Value,
     parameters: &Parameters,
     types: &Types,
     limits: Limits,
-) -> Result<Namespaces, MetaFault>
-    ensures names { IfOk result (λ names. names ≡ prefixes_of (view report.now)) }
-    ensures templates { OnOk result (has_unknown_template (view report.now) ≡ false) }
-    ensures columns { OnOk result (has_unknown_column (view report.now) ≡ false) }
-    ensures identifiers { OnOk result (has_bad_identifier (view report.now) ≡ false) }
-    ensures sound { OnOk result (first_fault limits parameters.now types.now (view report.now) ≡ None) }
-    ensures fault { IfErr result (λ fault. (fault ≡ Memory)
-        ⊎ (first_fault limits parameters.now types.now (view report.now) ≡ Some fault)) }
+) -> Result<(Namespaces, Parts), Refusal>
+    ensures names { IfOk result (λ made. made.0 ≡ prefixes_of (view value.now)) }
+    ensures level { IfOk result (λ made. made.1.level ≡ level_of (view value.now)) }
+    ensures templates { IfOk result (λ made. made.1.templates ≡ templates_of (view value.now)) }
+    ensures tables { IfOk result (λ made. made.1.tables ≡ tables_of (view value.now)) }
+    ensures parameters { IfOk result (λ made. made.1.parameters ≡ map_members named_text (section (codes "parameters") (view value.now))) }
+    ensures sound { OnOk result (first_of (in_metadata limits parameters.now types.now (view value.now)) ≡ None) }
+    ensures fault { IfErr result (IsFirstOf (in_metadata limits parameters.now types.now (view value.now))) }
 {
-    check_namespaces(alloc, report)?;
-    check_parts(report)?;
-    let names = prefixes(alloc, report)?;
-    check_levels(report, &names, parameters, types, limits)?;
-    Ok(names)
+    let mut findings = Findings::new(&Items::new(alloc));
+    let names = names_in(alloc, value, &mut findings)?;
+    let walk = Walk {
+        alloc,
+        types,
+        names: &names,
+        given: parameters,
+        limits,
+    };
+    let parts = parts_in(&walk, value, &mut findings)?;
+    Ok((names, parts))
 }
 
-/// The report that a JSON value says. Refuses its first fault.
+/// The report that a JSON value says. Refuses its first finding.
 fn report_in(
     alloc: Global,
     value: &Value,
     parameters: Parameters,
     types: Types,
     limits: Limits,
-) -> Result<Report, MetaFault>
+) -> Result<Report, Refusal>
     requires { IsInOrder (view value.now) }
     ensures sound { OnOk result (first_fault limits parameters types (view value.now) ≡ None) }
     ensures value { IfOk result (λ r. r ≡ report_of parameters types (view value.now)) }
-    ensures fault { IfErr result (λ fault. (fault ≡ Memory)
-        ⊎ (first_fault limits parameters types (view value.now) ≡ Some fault)) }
+    ensures fault { IfErr result (IsFirstOf (in_metadata limits parameters types (view value.now))) }
 {
-    let namespaces = check(alloc, value, &parameters, &types, limits)?;
-    Ok(build::report(alloc, value, namespaces, parameters, types)?)
+    let (names, parts) = walked(alloc, value, &parameters, &types, limits)?;
+    Ok(build::report(
+        alloc, value, names, parts, parameters, types,
+    )?)
+}
+
+/// The report that a metadata says (xBRL-CSV 1.0, metadata), with the parameters of its parameters file and its types;
+/// or its first fault, and the keys that lead to the fault's place.
+///
+/// # Errors
+///
+/// The first finding of the metadata: `TooLarge` for the bytes, or `Syntax`, with no keys; else the first of the faults that
+/// `read_report` names, at the first of its places in the order of a walk over the metadata: the document information, links,
+/// and then what the report itself writes, its templates with their columns, its tables and its parameters, each in byte order
+/// of name. A place may name a key that is missing there. `Memory` if memory runs out, which may come in place of a fault: the
+/// parts of the metadata are made while it is walked.
+pub fn read_report_at(
+    alloc: Global,
+    bytes: &[u8],
+    parameters: Parameters,
+    types: Types,
+    limits: Limits,
+) -> Result<Report, Refusal>
+    ensures value { IfOk result (SaysReport limits parameters types bytes.now) }
+    ensures fault { IfErr result (IsRefusal limits parameters types bytes.now) }
+{
+    if bytes.len() > limits.metadata {
+        return Err(Refusal::of_whole(alloc, MetaFault::TooLarge));
+    }
+    let value = value_in(alloc, bytes)?;
+    report_in(alloc, &value, parameters, types, limits)
 }
 
 /// The report that a metadata says (xBRL-CSV 1.0, metadata), with the parameters of its parameters file
@@ -171,7 +184,7 @@ fn report_in(
 ///
 /// The first fault of the metadata: `TooLarge` for the bytes, then `Syntax` to `BadParameter` in the order
 /// of their numbers, then `TooLarge` for the tables and columns. `Memory` if memory runs out, which may
-/// come before a fault that is looked for later.
+/// come in place of a fault: the parts of the metadata are made while it is walked. `read_report_at` tells the place too.
 pub fn read_report(
     alloc: Global,
     bytes: &[u8],
@@ -182,11 +195,17 @@ pub fn read_report(
     ensures value { IfOk result (SaysReport limits parameters types bytes.now) }
     ensures fault { IfErr result (IsFault limits parameters types bytes.now) }
 {
-    if bytes.len() > limits.metadata {
-        return Err(MetaFault::TooLarge);
+    match read_report_at(alloc, bytes, parameters, types, limits) {
+        Ok(report) => Ok(report),
+        Err(refusal) => Err(refusal.fault()),
     }
-    let value = parse(alloc, bytes)?;
-    report_in(alloc, &value, parameters, types, limits)
+}
+
+/// Fails with a fault if it is there.
+fn refuse_if(is_there: bool, fault: MetaFault) -> Result<(), MetaFault>
+    ensures { result ≡ (if is_there then Err fault else Ok tt) }
+{
+    if is_there { Err(fault) } else { Ok(()) }
 }
 
 /// Refuses what is not a report, and a name of the parameters file that is not a plain path.
@@ -194,8 +213,8 @@ fn check_url(report: &Value) -> Result<(), MetaFault>
     ensures sound { OnOk result (first_url_fault (view report.now) ≡ None) }
     ensures fault { IfErr result (λ fault. first_url_fault (view report.now) ≡ Some fault) }
 {
-    refuse(no_report(report), MetaFault::NotReport)?;
-    refuse(bad_parameter_url(report), MetaFault::BadParameter)
+    refuse_if(no_report(report), MetaFault::NotReport)?;
+    refuse_if(bad_parameter_url(report), MetaFault::BadParameter)
 }
 
 /// The name of the parameters file that a metadata gives (xBRL-CSV 1.0, parameterURL), a plain path, or

@@ -54,7 +54,7 @@ pub(crate) fn list_from<T: FromMember + Drop>(
 }
 
 /// The text of a value, or the empty text if the value is not a text.
-fn text_of(alloc: Global, value: &Value) -> Result<Text, AllocError>
+pub(crate) fn text_of(alloc: Global, value: &Value) -> Result<Text, AllocError>
     ensures { IfOk result (λ made. made ≡ text_in (view value.now)) }
 {
     Text::from_str(alloc, value.as_str().unwrap_or(""))

@@ -6,10 +6,10 @@ use Rattle.oim_meta.proofs.build.report.Goals as goal
 
 pub new-requires : goal.new-requires
 new-requires c =
-    rw (c.in_ok-parts.ensures.level, c.in_ok-parts.ensures.templates, c.in_ok-parts.ensures.tables, c.in_ok-own.ensures)
-    (all_placed (view c.args.value.now) c.requires.templates c.requires.columns c.requires.order c.requires.identifiers)
+    rw (c.requires.level, c.requires.templates, c.requires.tables, c.requires.parameters)
+    (all_placed (view c.args.value.now) c.requires.known_templates c.requires.known_columns c.requires.order c.requires.identifiers)
 
 pub returns : goal.returns
 unfolding report_of
 returns c =
-    rw (c.new.ensures, c.in_ok-parts.ensures.info, c.in_ok-parts.ensures.level, c.in_ok-parts.ensures.templates, c.in_ok-parts.ensures.tables, c.in_ok-own.ensures, c.requires.namespaces) refl
+    rw (c.new.ensures, c.in_ok-info.ensures, c.requires.level, c.requires.templates, c.requires.tables, c.requires.parameters, c.requires.namespaces) refl

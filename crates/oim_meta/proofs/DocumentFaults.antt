@@ -1,0 +1,126 @@
+-- What a walk finds of each fault in the document as a whole: exactly what the test for the fault says.
+use Rattle.std.proofs.Common.{◌≡◌, ◌∙◌, ℕ, List, [], Option, Some, None, Bool, true, false, ◌||◌, ◌&&◌, refl, ap, codes}
+use Rattle.std.specs.Prelude.{option_map, option_and_then, unwrap_or}
+use Rattle.serde_json.specs.Data.{Data, null, boolean, number, string, array, object, Members, no_members}
+use Rattle.serde_json.specs.Find.{get, as_object}
+use Rattle.oim_meta.specs.declared.fault.MetaFault.{MetaFault}
+use Rattle.oim_meta.specs.declared.fault.MetaFault.TheVariants.{Syntax, NotReport, BadNamespaces, BadTaxonomy, Unsupported}
+use Rattle.oim_meta.specs.Members.{section, any_member, if_there, no_object_or}
+use Rattle.oim_meta.specs.Order.{repeats_text}
+use Rattle.oim_meta.specs.Faults.{has_no_report, has_bad_namespaces, has_bad_taxonomy, has_bad_prefix, info_at, is_unsupported, is_bad_prefix, is_no_object, is_no_text, is_no_texts, is_no_empty_list, is_no_empty_object}
+use Rattle.oim_meta.specs.FindingPlaces.{has}
+use Rattle.oim_meta.specs.WalkReport.{in_prefix, in_namespaces, in_info, in_info_in, in_document}
+use Rattle.oim_meta.proofs.FaultSteps.{w, two, here, each, none, nor, off, first, last, or-same}
+
+abbrev lacks_taxonomy : Data → Bool
+lacks_taxonomy i = unwrap_or (option_map is_no_texts (get (codes "taxonomy") i)) true
+
+abbrev extends_another : Data → Bool
+extends_another i = if_there is_no_empty_list (get (codes "extends") i)
+
+abbrev has_links : Data → Bool
+has_links d = if_there is_no_empty_object (get (codes "links") d)
+
+-- what a walk finds of a fault, as one test
+module _ (e : MetaFault) where
+  abbrev namespaces : Data → Bool
+  namespaces i =
+      (w e BadNamespaces && if_there is_no_object (get (codes "namespaces") i)) || any_member (λ k v. w e BadNamespaces && is_bad_prefix k v) (section (codes "namespaces") i)
+      || (w e BadNamespaces && repeats_text (section (codes "namespaces") i))
+
+  abbrev info : Data → Bool
+  info i =
+      namespaces i || (w e BadTaxonomy && lacks_taxonomy i) || (w e BadTaxonomy && if_there is_no_text (get (codes "baseURL") i))
+      || (w e Unsupported && extends_another i)
+
+  abbrev pub document : Data → Bool
+  document d =
+      (w e NotReport && has_no_report d) || unwrap_or (option_map info (get (codes "documentInfo") d)) false || (w e Unsupported && has_links d)
+
+  find_namespaces : (i : Data) → has e (in_namespaces i) ≡ namespaces i
+  unfolding in_namespaces
+  find_namespaces i =
+      two e _ _ _ _
+      (two e _ _ _ _ (here e BadNamespaces _ (if_there is_no_object (get (codes "namespaces") i)))
+      (each e in_prefix (λ k v. w e BadNamespaces && is_bad_prefix k v) (λ k v. here e BadNamespaces _ (is_bad_prefix k v)) (section (codes "namespaces") i)))
+      (here e BadNamespaces _ (repeats_text (section (codes "namespaces") i)))
+
+  find_info : (i : Data) → has e (in_info i) ≡ info i
+  unfolding in_info
+  find_info i =
+      two e _ _ _ _
+      (two e _ _ _ _ (two e _ _ _ _ (find_namespaces i) (here e BadTaxonomy _ (lacks_taxonomy i)))
+      (here e BadTaxonomy _ (if_there is_no_text (get (codes "baseURL") i)))) (here e Unsupported _ (extends_another i))
+
+  find_info_in : (o : Option Data) → has e (in_info_in o) ≡ unwrap_or (option_map info o) false
+  unfolding in_info_in
+  find_info_in None = refl
+  find_info_in (Some i) = find_info i
+
+  pub find_document : (d : Data) → has e (in_document d) ≡ document d
+  unfolding in_document
+  find_document d =
+      two e _ _ _ _ (two e _ _ _ _ (here e NotReport _ (has_no_report d)) (find_info_in (get (codes "documentInfo") d))) (here e Unsupported _ (has_links d))
+
+  -- a fault that documents do not have
+  no_namespaces : w e BadNamespaces ≡ false → (i : Data) → namespaces i ≡ false
+  no_namespaces n i = nor _ _ (nor _ _ (off _ _ n) (none _ (λ k v. off _ _ n) (section (codes "namespaces") i))) (off _ _ n)
+
+  no_info : w e BadNamespaces ≡ false → w e BadTaxonomy ≡ false → w e Unsupported ≡ false → (i : Data) → info i ≡ false
+  no_info n t u i = nor _ _ (nor _ _ (nor _ _ (no_namespaces n i) (off _ _ t)) (off _ _ t)) (off _ _ u)
+
+  no_info_in : w e BadNamespaces ≡ false → w e BadTaxonomy ≡ false → w e Unsupported ≡ false → (o : Option Data) → unwrap_or (option_map info o) false ≡ false
+  no_info_in n t u None = refl
+  no_info_in n t u (Some i) = no_info n t u i
+
+  pub no_document : w e NotReport ≡ false → w e BadNamespaces ≡ false → w e BadTaxonomy ≡ false → w e Unsupported ≡ false → (d : Data) → document d ≡ false
+  no_document r n t u d = nor _ _ (nor _ _ (off _ _ r) (no_info_in n t u (get (codes "documentInfo") d))) (off _ _ u)
+
+-- a value at a key that is no object, or some prefix of which is bad, or that repeats a URI
+prefixes_or : (o : Option Data)
+    → (let ms : Members = unwrap_or (option_and_then as_object o) no_members in if_there is_no_object o || any_member is_bad_prefix ms || repeats_text ms)
+    ≡ if_there (no_object_or has_bad_prefix) o
+prefixes_or None = refl
+prefixes_or (Some null) = refl
+prefixes_or (Some (boolean b)) = refl
+prefixes_or (Some (number n)) = refl
+prefixes_or (Some (string s)) = refl
+prefixes_or (Some (array ds)) = refl
+prefixes_or (Some (object ms)) = refl
+
+-- each fault of the document
+pub not_report : (d : Data) → document NotReport d ≡ has_no_report d
+not_report d = first _ _ refl ∙ first _ _ (no_info_in NotReport refl refl refl (get (codes "documentInfo") d))
+
+bad_namespaces_of : (i : Data) → info BadNamespaces i ≡ has_bad_namespaces i
+unfolding has_bad_namespaces
+bad_namespaces_of i = first _ _ refl ∙ first _ _ refl ∙ first _ _ refl ∙ prefixes_or (get (codes "namespaces") i)
+
+bad_namespaces_in : (o : Option Data) → unwrap_or (option_map (info BadNamespaces) o) false ≡ if_there has_bad_namespaces o
+bad_namespaces_in None = refl
+bad_namespaces_in (Some i) = bad_namespaces_of i
+
+pub bad_namespaces : (d : Data) → document BadNamespaces d ≡ if_there has_bad_namespaces (get (codes "documentInfo") d)
+bad_namespaces d = first _ _ refl ∙ bad_namespaces_in (get (codes "documentInfo") d)
+
+bad_taxonomy_of : (i : Data) → info BadTaxonomy i ≡ has_bad_taxonomy i
+unfolding has_bad_taxonomy
+bad_taxonomy_of i = first _ _ refl ∙ or-same _ _ _ _ (last _ _ (no_namespaces BadTaxonomy refl i)) refl
+
+bad_taxonomy_in : (o : Option Data) → unwrap_or (option_map (info BadTaxonomy) o) false ≡ if_there has_bad_taxonomy o
+bad_taxonomy_in None = refl
+bad_taxonomy_in (Some i) = bad_taxonomy_of i
+
+pub bad_taxonomy : (d : Data) → document BadTaxonomy d ≡ if_there has_bad_taxonomy (get (codes "documentInfo") d)
+bad_taxonomy d = first _ _ refl ∙ bad_taxonomy_in (get (codes "documentInfo") d)
+
+extends_of : (i : Data) → info Unsupported i ≡ extends_another i
+extends_of i = last _ _ (first _ _ refl ∙ first _ _ refl ∙ no_namespaces Unsupported refl i)
+
+extends_in : (o : Option Data) → unwrap_or (option_map (info Unsupported) o) false ≡ if_there is_no_empty_list (option_and_then (get (codes "extends")) o)
+extends_in None = refl
+extends_in (Some i) = extends_of i
+
+pub unsupported : (d : Data) → document Unsupported d ≡ is_unsupported d
+unfolding is_unsupported
+unsupported d = or-same _ _ _ _ (extends_in (get (codes "documentInfo") d)) refl

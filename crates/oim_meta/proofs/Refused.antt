@@ -1,0 +1,90 @@
+-- What a refusal with a place says of the fault that is first.
+use Rattle.std.proofs.Common.{◌≡◌, ◌∙◌, ◌≤◌, ◌⊎◌, inl, inr, ℕ, List, [], Option, Some, None, Bool, true, false, length, refl, sym}
+use Rattle.std.specs.Prelude.{codes}
+use Rattle.serde_json.specs.Data.{Data}
+use Rattle.serde_json.specs.Find.{get}
+use Rattle.oim_report.specs.declared.limits.Limits.{Limits}
+use Rattle.oim_report.specs.Parameters.{ParametersValue}
+use Rattle.oim_report.specs.Types.{TypesValue}
+use Rattle.oim_meta.specs.declared.fault.MetaFault.{MetaFault}
+use Rattle.oim_meta.specs.declared.fault.MetaFault.TheVariants as fault
+use Rattle.oim_meta.specs.declared.findings.Finding.{Finding}
+use Rattle.oim_meta.specs.declared.refusal.Refusal.{Refusal}
+use Rattle.oim_meta.specs.declared.refusal.Refusal.TheVariants.{Found, Memory}
+use Rattle.oim_meta.specs.Members.{if_there}
+use Rattle.oim_meta.specs.Faults.{has_bad_identifier, has_bad_namespaces, has_unknown_template}
+use Rattle.oim_meta.specs.UnknownColumn.{has_unknown_column}
+use Rattle.oim_meta.specs.FaultOrder.{IsLeastFault}
+use Rattle.oim_meta.specs.FirstFault.{first_fault, has_fault}
+use Rattle.oim_meta.specs.Findings.{finding, first_of}
+use Rattle.oim_meta.specs.Reading.{HasFirst, IsFault, IsJson, IsNoJson}
+use Rattle.oim_meta.specs.Refusals.{IsFirstOf, IsNoValue, IsFinding, IsRefusal, fault_in, refusal_of}
+use Rattle.oim_meta.specs.WalkReport.{in_document, in_metadata}
+use Rattle.oim_meta.proofs.LeastFault.{is_least}
+use Rattle.oim_meta.proofs.FirstFound.{document_is_first, first_found, none_is_first}
+use Rattle.oim_meta.proofs.ReportFaults.{all_found}
+use Rattle.oim_meta.proofs.DocumentFaults.{bad_namespaces, find_document}
+
+-- the bytes are no JSON text
+pub no_value : (bytes : List ℕ) (f : MetaFault) → IsNoJson bytes f → IsNoValue bytes (refusal_of f)
+no_value bytes fault.Syntax h = (h, refl)
+no_value bytes fault.Memory h = tt
+no_value bytes f h = absurd h
+
+-- the document's first finding is that of the metadata
+pub of_document : (limits : Limits) (given : ParametersValue) (types : TypesValue) (d : Data) (r : Refusal) → IsFirstOf (in_document d) r → IsFirstOf (in_metadata limits given types d) r
+of_document limits given types d (Found x) h = document_is_first limits given types d x h
+of_document limits given types d Memory h = tt
+
+-- a document without a finding has good namespaces
+pub good_namespaces : (d : Data) → first_of (in_document d) ≡ None → if_there has_bad_namespaces (get (codes "documentInfo") d) ≡ false
+good_namespaces d h =
+    sym (bad_namespaces d) ∙ sym (find_document fault.BadNamespaces d) ∙ none_is_first (in_document d) h fault.BadNamespaces
+
+module _ (limits : Limits) (given : ParametersValue) (types : TypesValue) (d : Data) where
+  -- a metadata without a finding has no fault
+  pub no_fault : first_of (in_metadata limits given types d) ≡ None → first_fault limits given types d ≡ None
+  no_fault h = first_found limits given types d None h
+
+  lacks : first_of (in_metadata limits given types d) ≡ None → (e : MetaFault) → has_fault limits given types d e ≡ false
+  lacks h e = sym (all_found limits given types d e) ∙ none_is_first (in_metadata limits given types d) h e
+
+  pub knows_templates : first_of (in_metadata limits given types d) ≡ None → has_unknown_template d ≡ false
+  knows_templates h = lacks h fault.UnknownTemplate
+
+  pub knows_columns : first_of (in_metadata limits given types d) ≡ None → has_unknown_column d ≡ false
+  knows_columns h = lacks h fault.UnknownColumn
+
+  pub has_identifiers : first_of (in_metadata limits given types d) ≡ None → has_bad_identifier d ≡ false
+  has_identifiers h = lacks h fault.BadIdentifier
+
+module _ (limits : Limits) (given : ParametersValue) (types : TypesValue) (bytes : List ℕ) where
+  -- the value's first finding is that of the bytes
+  pub of_value : (d : Data) (r : Refusal) → length bytes ≤ limits.metadata → IsJson bytes d → IsFirstOf (in_metadata limits given types d) r → IsRefusal limits given types bytes r
+  of_value d (Found x) fits json h = inr (fits, inr (d, json, h))
+  of_value d Memory fits json h = tt
+
+  pub of_text : (r : Refusal) → length bytes ≤ limits.metadata → IsNoValue bytes r → IsRefusal limits given types bytes r
+  of_text (Found x) fits h = inr (fits, inl h)
+  of_text Memory fits h = tt
+
+  never : (d : Data) → first_fault limits given types d ≡ Some fault.Syntax → ⊥
+  never d h = let least : IsLeastFault limits given types d (Some fault.Syntax) = rw h at is_least limits given types d in let no : false ≡ true = least.0 in absurd cc
+
+  of_first : (f : MetaFault) → HasFirst limits given types bytes f → IsFault limits given types bytes f
+  of_first fault.Syntax h = absurd (never h.1.0 h.1.1.1)
+  of_first fault.Memory h = tt
+  of_first fault.TooLarge h = inr h
+  of_first f h = h
+
+  of_finding : (x : Finding) → IsFinding limits given types bytes x → IsFault limits given types bytes x.fault
+  of_finding x (inl h) = rw h.1 (inl h.0)
+  of_finding x (inr h) = elim h.1 [
+    | inl no ↦ rw no.1 (h.0, no.0)
+    | inr found ↦ of_first x.fault (h.0, (found.0, found.1, first_found limits given types found.0 (Some x) found.2))
+  ]
+
+  -- the fault of a refusal is the first
+  pub of_refusal : (r : Refusal) → IsRefusal limits given types bytes r → IsFault limits given types bytes (fault_in r)
+  of_refusal (Found x) h = of_finding x h
+  of_refusal Memory h = tt

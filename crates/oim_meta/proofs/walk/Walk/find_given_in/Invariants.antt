@@ -1,0 +1,11 @@
+use Rattle.std.proofs.Common.{◌≡◌, ◌++◌}
+use Rattle.serde_json.specs.View.{members_view}
+use Rattle.oim_meta.specs.Walk.{in_members}
+use Rattle.oim_meta.specs.WalkTables.{in_given}
+use Rattle.oim_meta.proofs.walk.Walk.find_given_in.Given as goal
+
+-- what is found so far, and what the rest gives, are the whole
+abbrev pub invariant-loop-name : goal.invariant-loop-name
+invariant-loop-name l =
+    let wrong = in_given l.self.given.now in
+    l.findings ++ in_members wrong (members_view l.name-iterator) ≡ l.fn.findings ++ in_members wrong (members_view l.members.entries)

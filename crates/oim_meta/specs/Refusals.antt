@@ -1,0 +1,49 @@
+-- Why a metadata is refused, and where.
+use Rattle.std.specs.Prelude.{◌≡◌, ◌<◌, ◌≤◌, ◌⊎◌, ℕ, List, [], Some, length}
+use Rattle.serde_json.specs.Data.{Data}
+use Rattle.oim_meta.specs.declared.fault.MetaFault.{MetaFault}
+use Rattle.oim_meta.specs.declared.fault.MetaFault.TheVariants as fault
+use Rattle.oim_meta.specs.declared.findings.Finding.{Finding}
+use Rattle.oim_meta.specs.declared.refusal.Refusal.{Refusal}
+use Rattle.oim_meta.specs.declared.refusal.Refusal.TheVariants.{Found, Memory}
+use Rattle.oim_report.specs.declared.limits.Limits.{Limits}
+use Rattle.oim_report.specs.Parameters.{ParametersValue}
+use Rattle.oim_report.specs.Types.{TypesValue}
+use Rattle.oim_meta.specs.Findings.{finding, first_of}
+use Rattle.oim_meta.specs.Reading.{HasNoJson, IsJson}
+use Rattle.oim_meta.specs.WalkReport.{in_metadata}
+
+-- the fault, whatever its place
+abbrev pub fault_in : Refusal → MetaFault
+fault_in (Found x) = x.fault
+fault_in Memory = fault.Memory
+
+-- a fault of the whole, at no key
+abbrev pub refusal_of : MetaFault → Refusal
+refusal_of fault.Memory = Memory
+refusal_of f = Found (finding f [])
+
+-- the first finding; running out of memory says nothing about the metadata
+abbrev pub IsFirstOf : List Finding → Refusal → Type 0
+IsFirstOf xs (Found x) = first_of xs ≡ Some x
+IsFirstOf xs Memory = Unit {0}
+
+-- the bytes are not JSON text; so says the whole of them
+abbrev pub IsNoValue : List ℕ → Refusal → Type 0
+IsNoValue bytes (Found x) = HasNoJson bytes × (x ≡ finding fault.Syntax [])
+IsNoValue bytes Memory = Unit {0}
+
+-- the first finding of the value whose JSON text the bytes are
+abbrev pub FindsFirst : Limits → ParametersValue → TypesValue → List ℕ → Finding → Type 0
+FindsFirst limits given types bytes x = (d : Data) × IsJson bytes d × (first_of (in_metadata limits given types d) ≡ Some x)
+
+-- the first finding of the bytes: there are too many of them, or they are not JSON text, both at no key; or it is that of their value
+abbrev pub IsFinding : Limits → ParametersValue → TypesValue → List ℕ → Finding → Type 0
+IsFinding limits given types bytes x =
+    ((limits.metadata < length bytes) × (x ≡ finding fault.TooLarge []))
+    ⊎ ((length bytes ≤ limits.metadata) × ((HasNoJson bytes × (x ≡ finding fault.Syntax [])) ⊎ FindsFirst limits given types bytes x))
+
+-- why the bytes are refused; running out of memory says nothing about them
+abbrev pub IsRefusal : Limits → ParametersValue → TypesValue → List ℕ → Refusal → Type 0
+IsRefusal limits given types bytes (Found x) = IsFinding limits given types bytes x
+IsRefusal limits given types bytes Memory = Unit {0}

@@ -1,0 +1,27 @@
+//! How many members there are.
+
+ghost use Rattle.std.specs.Prelude.{◌≡◌};
+ghost use Rattle.serde_json.specs.View.{view, members_view};
+ghost use Rattle.oim_meta.specs.Members.{section};
+ghost use Rattle.oim_meta.specs.Counts.{count_of};
+
+use crate::lookup::object_at;
+use serde_json::{Map, Value};
+
+/// How many members there are.
+#[tactic(auto, using(crate::proofs::Counted::count_is))]
+pub(crate) fn count(members: &Map<String, Value>) -> usize
+    ensures { result ≡ count_of (members_view members.now.entries) }
+{
+    members.len()
+}
+
+/// How many members the object at a key has; none if there is no object.
+pub(crate) fn count_at(value: &Value, key: &str) -> usize
+    ensures { result ≡ count_of (section key.now (view value.now)) }
+{
+    match object_at(value, key) {
+        Some(members) => count(members),
+        None => 0,
+    }
+}

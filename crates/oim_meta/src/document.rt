@@ -1,0 +1,218 @@
+//! What is wrong with the document as a whole: its type, its namespaces, its taxonomy, and what is not supported.
+
+ghost use Rattle.std.specs.Prelude.{◌≡◌, ◌++◌, codes, true, OnOk, option_map, unwrap_or};
+ghost use Rattle.serde_json.specs.Find.{get};
+ghost use Rattle.serde_json.specs.View.{view, items_view, members_view};
+ghost use Rattle.oim_meta.specs.Faults.{is_anything, is_bad_prefix, is_csv, has_no_report, is_no_texts as not_texts};
+ghost use Rattle.oim_meta.specs.Faults.{is_no_empty_list as not_empty_list, is_no_empty_object as not_empty_object};
+ghost use Rattle.oim_meta.specs.Members.{any_item, any_member, if_there};
+ghost use Rattle.oim_meta.specs.Walk.{in_members};
+ghost use Rattle.oim_meta.specs.WalkReport.{in_document, in_info, in_info_in, in_namespaces, in_prefix};
+
+use crate::counts::count;
+use crate::fault::MetaFault;
+use crate::findings::Findings;
+use crate::lookup::{object_at, text_at};
+use crate::order::repeats_text;
+use crate::place::Part;
+use crate::shapes::{is_no_object_at, is_no_text_at, is_no_texts};
+use oim_names::is_ncname;
+use serde_json::{Map, Value};
+use std::alloc::{AllocError, Global};
+
+fn is_csv_type(info: &Value) -> bool
+    ensures { result ≡ is_csv (view info.now) }
+{
+    match text_at(info, "documentType") {
+        Some(text) => text == "https://xbrl.org/2021/xbrl-csv",
+        None => false,
+    }
+}
+
+/// Whether the document information is missing, or its document type is another.
+#[tactic(auto, unfolding(crate::specs::Faults::has_no_report))]
+pub(crate) fn no_report(report: &Value) -> bool
+    ensures { result ≡ has_no_report (view report.now) }
+{
+    match report.get("documentInfo") {
+        Some(info) => !is_csv_type(info),
+        None => true,
+    }
+}
+
+fn bad_prefix(prefix: &str, uri: &Value) -> bool
+    ensures { result ≡ is_bad_prefix prefix.now (view uri.now) }
+{
+    !is_ncname(prefix) || !uri.is_string()
+}
+
+fn find_prefix<'v>(prefix: &'v str, uri: &Value, findings: &mut Findings<'v>)
+    ensures { findings.new ≡ findings.old ++ in_prefix prefix.now (view uri.now) }
+{
+    findings.add_if(
+        bad_prefix(prefix, uri),
+        MetaFault::BadNamespaces,
+        Part::Document.member("namespaces", prefix),
+    );
+}
+
+/// Adds the prefixes that are not NCNames, or whose URIs are not texts.
+fn find_prefixes<'v>(members: &'v Map<String, Value>, findings: &mut Findings<'v>)
+    ensures { findings.new ≡ findings.old ++ in_members in_prefix (members_view members.now.entries) }
+{
+    for (prefix, uri) in members.iter() {
+        find_prefix(prefix.as_str(), uri, findings);
+    }
+}
+
+/// Adds what is wrong with the namespaces. Fails if memory runs out.
+#[tactic(auto, unfolding(crate::specs::WalkReport::in_namespaces))]
+fn find_namespaces<'v>(
+    alloc: Global,
+    info: &'v Value,
+    findings: &mut Findings<'v>,
+) -> Result<(), AllocError>
+    ensures { OnOk result (findings.new ≡ findings.old ++ in_namespaces (view info.now)) }
+{
+    findings.add_if(
+        is_no_object_at(info, "namespaces"),
+        MetaFault::BadNamespaces,
+        Part::Document.at("namespaces"),
+    );
+    match object_at(info, "namespaces") {
+        Some(members) => {
+            find_prefixes(members, findings);
+            findings.add_if(
+                repeats_text(alloc, members)?,
+                MetaFault::BadNamespaces,
+                Part::Document.at("namespaces"),
+            );
+            Ok(())
+        }
+        None => Ok(()),
+    }
+}
+
+fn lacks_taxonomy(info: &Value) -> bool
+    ensures { result ≡ unwrap_or (option_map not_texts (get (codes "taxonomy") (view info.now))) true }
+{
+    match info.get("taxonomy") {
+        Some(taxonomy) => is_no_texts(taxonomy),
+        None => true,
+    }
+}
+
+fn has_item(items: &[Value]) -> bool
+    ensures { result ≡ any_item (λ _. true) (items_view items.now) }
+{
+    matches!(items, [_, ..])
+}
+
+fn is_no_empty_list(value: &Value) -> bool
+    ensures { result ≡ not_empty_list (view value.now) }
+{
+    match value.as_array() {
+        Some(items) => has_item(items),
+        None => true,
+    }
+}
+
+/// Whether the document information extends another metadata.
+fn extends_another(info: &Value) -> bool
+    ensures { result ≡ if_there not_empty_list (get (codes "extends") (view info.now)) }
+{
+    match info.get("extends") {
+        Some(extended) => is_no_empty_list(extended),
+        None => false,
+    }
+}
+
+/// Adds what is wrong with the document information apart from its type. Fails if memory runs out.
+#[tactic(auto, unfolding(crate::specs::WalkReport::in_info))]
+fn find_info<'v>(
+    alloc: Global,
+    info: &'v Value,
+    findings: &mut Findings<'v>,
+) -> Result<(), AllocError>
+    ensures { OnOk result (findings.new ≡ findings.old ++ in_info (view info.now)) }
+{
+    find_namespaces(alloc, info, findings)?;
+    findings.add_if(
+        lacks_taxonomy(info),
+        MetaFault::BadTaxonomy,
+        Part::Document.at("taxonomy"),
+    );
+    findings.add_if(
+        is_no_text_at(info, "baseURL"),
+        MetaFault::BadTaxonomy,
+        Part::Document.at("baseURL"),
+    );
+    findings.add_if(
+        extends_another(info),
+        MetaFault::Unsupported,
+        Part::Document.at("extends"),
+    );
+    Ok(())
+}
+
+#[tactic(auto, unfolding(crate::specs::WalkReport::in_info_in))]
+fn find_info_in<'v>(
+    alloc: Global,
+    report: &'v Value,
+    findings: &mut Findings<'v>,
+) -> Result<(), AllocError>
+    ensures { OnOk result (findings.new ≡ findings.old ++ in_info_in (get (codes "documentInfo") (view report.now))) }
+{
+    match report.get("documentInfo") {
+        Some(info) => find_info(alloc, info, findings),
+        None => Ok(()),
+    }
+}
+
+#[tactic(auto, using(crate::proofs::Counted::any_is_counted))]
+fn has_member(members: &Map<String, Value>) -> bool
+    ensures { result ≡ any_member is_anything (members_view members.now.entries) }
+{
+    count(members) > 0
+}
+
+fn is_no_empty_object(value: &Value) -> bool
+    ensures { result ≡ not_empty_object (view value.now) }
+{
+    match value.as_object() {
+        Some(members) => has_member(members),
+        None => true,
+    }
+}
+
+fn has_links(report: &Value) -> bool
+    ensures { result ≡ if_there not_empty_object (get (codes "links") (view report.now)) }
+{
+    match report.get("links") {
+        Some(links) => is_no_empty_object(links),
+        None => false,
+    }
+}
+
+/// Adds what is wrong with the document as a whole. Fails if memory runs out.
+#[tactic(auto, unfolding(crate::specs::WalkReport::in_document))]
+pub(crate) fn find_document<'v>(
+    alloc: Global,
+    report: &'v Value,
+    findings: &mut Findings<'v>,
+) -> Result<(), AllocError>
+    ensures { OnOk result (findings.new ≡ findings.old ++ in_document (view report.now)) }
+{
+    findings.add_if(
+        no_report(report),
+        MetaFault::NotReport,
+        Part::Document.at("documentType"),
+    );
+    find_info_in(alloc, report, findings)?;
+    findings.add_if(
+        has_links(report),
+        MetaFault::Unsupported,
+        Part::Report.at("links"),
+    );
+    Ok(())
+}

@@ -1,0 +1,103 @@
+//! What a walk over a metadata finds wrong.
+
+ghost use Rattle.std.specs.Prelude.{◌≡◌, ◌++◌, ◌∷◌, [], option_map};
+ghost use Rattle.oim_meta.specs.Findings.{finding, found, first_of, seen_found};
+ghost use Rattle.oim_meta.specs.Paths.{place_path};
+
+use crate::fault::MetaFault;
+use crate::place::Place;
+use oim_names::{Items, Text};
+use std::marker::Model;
+use told::{Tells, Told};
+
+/// A fault, and the keys that lead to its place.
+#[derive(Drop)]
+pub struct Finding {
+    pub fault: MetaFault,
+    pub place: Items<Text>,
+}
+
+/// A fault at a place of the JSON value that is walked.
+#[derive(Clone, Copy, Debug)]
+pub(crate) struct Found<'v> {
+    pub(crate) fault: MetaFault,
+    pub(crate) place: Place<'v>,
+}
+
+/// The first of the faults that a walk has found so far: the one with the least number, and of those the earliest.
+/// It takes no memory. Contracts see all that were found, in the order of the walk.
+#[derive(Drop)]
+pub(crate) struct Findings<'v> {
+    first: Option<Found<'v>>,
+    all: Told<Items<Finding>>,
+}
+
+impl<'v> Model for Findings<'v> {
+    ghost use Rattle.std.specs.Prelude.{◌≡◌, List, option_map};
+    ghost use Rattle.oim_meta.specs.declared.findings.Finding.{Finding as FindingValue};
+    ghost use Rattle.oim_meta.specs.Findings.{first_of, seen_found};
+
+    ghost Value = { List FindingValue };
+
+    ghost view = { λ a. a.all.value };
+
+    ghost invariant = { λ a. option_map seen_found a.first ≡ first_of a.all.value };
+}
+
+/// The findings so far, and one more.
+#[derive(Drop)]
+struct OneMore<'a, 'v> {
+    before: &'a Told<Items<Finding>>,
+    last: &'a Found<'v>,
+}
+
+impl<'a, 'v> Tells<Items<Finding>> for OneMore<'a, 'v> {
+    ghost told = { λ t. t.before.now.value ++ seen_found t.last.now ∷ [] };
+}
+
+impl<'v> Findings<'v> {
+    /// Nothing is found yet.
+    pub(crate) fn new(nothing: &Items<Finding>) -> Findings<'v>
+        requires { nothing.now ≡ [] }
+        ensures { result ≡ [] }
+    {
+        Findings {
+            first: None,
+            all: Told::seen(nothing),
+        }
+    }
+
+    /// The first finding.
+    pub(crate) fn first(&self) -> Option<Found<'v>>
+        ensures { option_map seen_found result ≡ first_of self.now }
+    {
+        self.first
+    }
+
+    /// Adds a finding as the last.
+    pub(crate) fn add(&mut self, fault: MetaFault, place: Place<'v>)
+        ensures { self.new ≡ self.old ++ finding fault (place_path place.entry) ∷ [] }
+    {
+        let last = Found { fault, place };
+        let before = &self.all;
+        let all = Told::of(&OneMore {
+            before,
+            last: &last,
+        });
+        let is_sooner = match self.first {
+            Some(first) => last.fault.number() < first.fault.number(),
+            None => true,
+        };
+        let first = if is_sooner { Some(last) } else { self.first };
+        *self = Findings { first, all };
+    }
+
+    /// Adds a finding if the test passes.
+    pub(crate) fn add_if(&mut self, test: bool, fault: MetaFault, place: Place<'v>)
+        ensures { self.new ≡ self.old ++ found fault (place_path place.entry) test }
+    {
+        if test {
+            self.add(fault, place);
+        }
+    }
+}

@@ -1,0 +1,160 @@
+//! Dimensions: what they write, and what is wrong with them.
+
+ghost use Rattle.std.specs.Prelude.{◌≡◌, ◌++◌, IfOk, OnOk, codes};
+ghost use Rattle.serde_json.specs.View.{view, members_view};
+ghost use Rattle.oim_meta.specs.BadDimensions.{is_core as core_key, is_typed as typed, is_dimension as dimension_kind, kind_named, is_bad_meaning};
+ghost use Rattle.oim_meta.specs.BadDimensions.{name_in, is_bad_text, is_bad_dimension};
+ghost use Rattle.oim_meta.specs.Members.{map_members, section};
+ghost use Rattle.oim_meta.specs.Value.{named_dimension};
+ghost use Rattle.oim_meta.specs.Paths.{part_path};
+ghost use Rattle.oim_meta.specs.Walk.{in_dimension, in_dimensions, in_members};
+ghost use Rattle.oim_cells.specs.Cells.{meaning_of};
+
+use crate::fault::MetaFault;
+use crate::findings::Findings;
+use crate::lookup::object_at;
+use crate::place::Part;
+use crate::shapes::is_no_object_at;
+use crate::walk::Walk;
+use crate::written::{strip_back, strip_front, written};
+use oim_cells::{CellMeaning, meaning};
+use oim_names::{Items, Text, is_identifier, qname};
+use oim_report::{Kind, Written};
+use serde_json::{Map, Value};
+use std::alloc::AllocError;
+
+fn is_core(key: &str) -> bool
+    ensures { result ≡ core_key key.now }
+{
+    key == "concept" || key == "entity" || key == "period" || key == "unit" || key == "language"
+}
+
+fn is_typed(kind: Option<Kind>) -> bool
+    ensures { result ≡ typed kind }
+{
+    matches!(kind, Some(Kind::Typed))
+}
+
+fn is_dimension(kind: Option<Kind>) -> bool
+    ensures { result ≡ dimension_kind kind }
+{
+    matches!(kind, Some(Kind::Explicit | Kind::Typed))
+}
+
+fn bad_literal(kind: Option<Kind>, text: &str) -> bool
+    ensures { result ≡ is_bad_meaning kind (meaning_of text.now) }
+{
+    match meaning(text) {
+        CellMeaning::Absent | CellMeaning::Text(_) => false,
+        CellMeaning::Nil | CellMeaning::Empty => !is_typed(kind),
+        CellMeaning::Unknown => true,
+    }
+}
+
+#[tactic(auto, unfolding(crate::specs::BadDimensions::name_in))]
+fn name_of<'a>(key: &str, name: &'a str) -> &'a str
+    ensures { result.now ≡ name_in key.now name.now }
+{
+    if key != "period" {
+        return name;
+    }
+    if let Some(front) = strip_back(name, "@start") {
+        return front;
+    }
+    strip_back(name, "@end").unwrap_or(name)
+}
+
+fn bad_text(kind: Option<Kind>, key: &str, text: &str) -> bool
+    ensures { result ≡ is_bad_text kind key.now text.now }
+{
+    let Some(rest) = strip_front(text, "$") else {
+        return bad_literal(kind, text);
+    };
+    strip_front(rest, "$").is_none() && !is_identifier(name_of(key, rest))
+}
+
+impl<'a> Walk<'a> {
+    fn kind_of(&self, key: &str) -> Option<Kind>
+        ensures { result ≡ kind_named self.now.types.now self.now.names.now key.now }
+    {
+        match qname(self.names, key) {
+            Some((uri, local)) => self.types.kind_of(uri, local),
+            None => None,
+        }
+    }
+
+    #[tactic(auto, unfolding(crate::specs::BadDimensions::is_bad_dimension))]
+    fn is_bad(&self, key: &str, value: &Value) -> bool
+        ensures { result ≡ is_bad_dimension self.now.types.now self.now.names.now key.now (view value.now) }
+    {
+        let kind = self.kind_of(key);
+        if !is_core(key) && !is_dimension(kind) {
+            return true;
+        }
+        match value.as_str() {
+            Some(text) => bad_text(kind, key, text),
+            None => true,
+        }
+    }
+
+    fn dimension<'v>(
+        &self,
+        here: Part<'v>,
+        key: &'v str,
+        value: &Value,
+        findings: &mut Findings<'v>,
+    ) -> Result<(Text, Written), AllocError>
+        ensures value { IfOk result (λ made. made ≡ named_dimension key.now (view value.now)) }
+        ensures found { OnOk result (findings.new
+            ≡ findings.old ++ in_dimension self.now.types.now self.now.names.now (part_path here.entry) key.now (view value.now)) }
+    {
+        findings.add_if(
+            self.is_bad(key, value),
+            MetaFault::BadDimension,
+            here.member("dimensions", key),
+        );
+        let meaning = written(self.alloc, key, value.as_str().unwrap_or(""))?;
+        Ok((Text::from_str(self.alloc, key)?, meaning))
+    }
+
+    fn dimensions_in<'v>(
+        &self,
+        here: Part<'v>,
+        members: &'v Map<String, Value>,
+        findings: &mut Findings<'v>,
+    ) -> Result<Vec<(Text, Written)>, AllocError>
+        ensures value { IfOk result (λ made. made.items ≡ map_members named_dimension (members_view members.now.entries)) }
+        ensures found { OnOk result (findings.new
+            ≡ findings.old ++ in_members (in_dimension self.now.types.now self.now.names.now (part_path here.entry)) (members_view members.now.entries)) }
+    {
+        let mut made = Vec::with_capacity(self.alloc, members.len())?;
+        for (key, value) in members.iter() {
+            made.push(self.dimension(here, key.as_str(), value, findings)?)?;
+        }
+        Ok(made)
+    }
+
+    /// The dimensions of a part.
+    #[tactic(auto, unfolding(crate::specs::Walk::in_dimensions))]
+    pub(crate) fn dimensions<'v>(
+        &self,
+        here: Part<'v>,
+        part: &'v Value,
+        findings: &mut Findings<'v>,
+    ) -> Result<Items<(Text, Written)>, AllocError>
+        ensures value { IfOk result (λ made. made ≡ map_members named_dimension (section (codes "dimensions") (view part.now))) }
+        ensures found { OnOk result (findings.new
+            ≡ findings.old ++ in_dimensions self.now.types.now self.now.names.now (part_path here.entry) (view part.now)) }
+    {
+        let place = here.at("dimensions");
+        findings.add_if(
+            is_no_object_at(part, "dimensions"),
+            MetaFault::BadTemplate,
+            place,
+        );
+        match object_at(part, "dimensions") {
+            Some(members) => Ok(Items::from_vec(self.dimensions_in(here, members, findings)?)),
+            None => Ok(Items::new(self.alloc)),
+        }
+    }
+}

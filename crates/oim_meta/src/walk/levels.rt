@@ -1,0 +1,102 @@
+//! Levels: what they write, and what is wrong with them.
+
+ghost use Rattle.std.specs.Prelude.{◌≡◌, ◌++◌, IfOk, OnOk, option_map, codes};
+ghost use Rattle.serde_json.specs.Find.{get};
+ghost use Rattle.serde_json.specs.View.{view};
+ghost use Rattle.oim_meta.specs.Decimals.{decimals_of};
+ghost use Rattle.oim_meta.specs.BadDecimals.{is_decimals_text as decimals_text, is_decimals as decimals_value, has_bad_decimals_there};
+ghost use Rattle.oim_meta.specs.Value.{level_of, nothing_written};
+ghost use Rattle.oim_meta.specs.Paths.{part_path};
+ghost use Rattle.oim_meta.specs.Walk.{in_level};
+
+use crate::decimals::{whole, written_decimals};
+use crate::fault::MetaFault;
+use crate::findings::Findings;
+use crate::place::Part;
+use crate::walk::Walk;
+use crate::written::strip_front;
+use oim_names::{Items, is_identifier};
+use oim_report::{Level, WrittenDecimals};
+use serde_json::Value;
+use std::alloc::{AllocError, Global};
+
+fn is_decimals_text(text: &str) -> bool
+    ensures { result ≡ decimals_text text.now }
+{
+    match strip_front(text, "$") {
+        Some(name) => is_identifier(name),
+        None => text == "#none" || oim_cells::decimals(text).is_some(),
+    }
+}
+
+#[tactic(auto, unfolding(crate::specs::BadDecimals::is_decimals))]
+fn is_decimals(value: &Value) -> bool
+    ensures { result ≡ decimals_value (view value.now) }
+{
+    if whole(value).is_some() {
+        return true;
+    }
+    match value.as_str() {
+        Some(text) => is_decimals_text(text),
+        None => false,
+    }
+}
+
+/// Whether decimals of a level are not well-formed.
+pub(crate) fn bad_decimals(level: &Value) -> bool
+    ensures { result ≡ has_bad_decimals_there (view level.now) }
+{
+    match level.get("decimals") {
+        Some(decimals) => !is_decimals(decimals),
+        None => false,
+    }
+}
+
+/// The decimals of a level.
+pub(crate) fn decimals(
+    alloc: Global,
+    level: &Value,
+) -> Result<Option<WrittenDecimals>, AllocError>
+    ensures { IfOk result (λ made. made ≡ option_map decimals_of (get (codes "decimals") (view level.now))) }
+{
+    match level.get("decimals") {
+        Some(value) => Ok(Some(written_decimals(alloc, value)?)),
+        None => Ok(None),
+    }
+}
+
+/// A level that writes nothing.
+pub(crate) fn no_level(alloc: Global) -> Level
+    ensures { result ≡ nothing_written }
+{
+    Level {
+        dimensions: Items::new(alloc),
+        decimals: None,
+    }
+}
+
+impl<'a> Walk<'a> {
+    /// What one level writes.
+    #[tactic(auto, unfolding(crate::specs::Walk::in_level, crate::specs::Value::level_of))]
+    pub(crate) fn level<'v>(
+        &self,
+        here: Part<'v>,
+        value: &'v Value,
+        findings: &mut Findings<'v>,
+    ) -> Result<Level, AllocError>
+        ensures value { IfOk result (λ made. made ≡ level_of (view value.now)) }
+        ensures found { OnOk result (findings.new
+            ≡ findings.old ++ in_level self.now.types.now self.now.names.now (part_path here.entry) (view value.now)) }
+    {
+        let dimensions = self.dimensions(here, value, findings)?;
+        findings.add_if(
+            bad_decimals(value),
+            MetaFault::BadDecimals,
+            here.at("decimals"),
+        );
+        Ok(Level {
+            dimensions,
+            decimals: decimals(self.alloc, value)?,
+        })
+    }
+}
