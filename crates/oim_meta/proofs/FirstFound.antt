@@ -71,14 +71,14 @@ some_there e p ps (x ∷ xs) h = at (is_of e x) h (some_there e p ps xs)
     at false k rest = rest k
 
 -- what the first finding says of all
-none_is_first : (xs : List Finding) → first_of xs ≡ None → (e : MetaFault) → has e xs ≡ false
-none_is_first xs h e = let first : IsFirst xs None = rw h at is_first xs in none_there e xs (first e)
+pub none_is_first : (xs : List Finding) → first_of xs ≡ None → (e : MetaFault) → has e xs ≡ false
+none_is_first xs h e = let first : IsFirst xs None = rw h at (is_first xs) in none_there e xs (first e)
 
-has_first : (xs : List Finding) (x : Finding) → first_of xs ≡ Some x → has x.fault xs ≡ true
-has_first xs x h = let first : IsFirst xs (Some x) = rw h at is_first xs in some_there x.fault x.place first.0.0 xs first.0.1
+pub has_first : (xs : List Finding) (x : Finding) → first_of xs ≡ Some x → has x.fault xs ≡ true
+has_first xs x h = let first : IsFirst xs (Some x) = rw h at (is_first xs) in some_there x.fault x.place first.0.0 xs first.0.1
 
-none_is_lower : (xs : List Finding) (x : Finding) → first_of xs ≡ Some x → (e : MetaFault) → fault_number e < fault_number x.fault → has e xs ≡ false
-none_is_lower xs x h e less = let first : IsFirst xs (Some x) = rw h at is_first xs in none_there e xs (first.1 e less)
+pub none_is_lower : (xs : List Finding) (x : Finding) → first_of xs ≡ Some x → (e : MetaFault) → fault_number e < fault_number x.fault → has e xs ≡ false
+none_is_lower xs x h e less = let first : IsFirst xs (Some x) = rw h at (is_first xs) in none_there e xs (first.1 e less)
 
 -- a walk that goes on with no lower fault has the same first finding
 kept : (x : Finding) (ys : List Finding) → ((e : MetaFault) → fault_number e < fault_number x.fault → has e ys ≡ false) → fold sooner (Some x) ys ≡ Some x
@@ -96,8 +96,8 @@ kept x (y ∷ ys) h = at (nat_lt (fault_number y.fault) (fault_number x.fault)) 
     less_than m n k = grind arith
 
     here : (a b : Bool) → a ≡ true → (a || b) ≡ false → ⊥
-    here true b k no = absurd cc
-    here false b k no = absurd cc
+    here true b k l = absurd cc
+    here false b k l = absurd cc
 
     at : (b : Bool) → nat_lt (fault_number y.fault) (fault_number x.fault) ≡ b → fold sooner (Some x) ys ≡ Some x → fold sooner (if b then Some y else Some x) ys ≡ Some x
     at true is rest =
@@ -118,7 +118,7 @@ module _ (limits : Limits) (given : ParametersValue) (types : TypesValue) (d : D
   first_found o h = by o (first_fault limits given types d) h refl (is_least limits given types d)
     where
       clash : (b : Bool) → b ≡ true → b ≡ false → ⊥
-      clash b t f = let no : true ≡ false = sym t ∙ f in absurd cc
+      clash b t f = let same : true ≡ false = sym t ∙ f in absurd cc
 
       equal : (f : MetaFault) (x : Finding) → first_of (in_metadata limits given types d) ≡ Some x → fault_number f ≤ fault_number x.fault
           → has_fault limits given types d f ≡ true → (b : Bool) → nat_lt (fault_number f) (fault_number x.fault) ≡ b → f ≡ x.fault

@@ -69,10 +69,10 @@ module _ (limits : Limits) (given : ParametersValue) (types : TypesValue) (bytes
   of_text Memory fits h = tt
 
   never : (d : Data) → first_fault limits given types d ≡ Some fault.Syntax → ⊥
-  never d h = let least : IsLeastFault limits given types d (Some fault.Syntax) = rw h at is_least limits given types d in let no : false ≡ true = least.0 in absurd cc
+  never d h = let least : IsLeastFault limits given types d (Some fault.Syntax) = rw h at (is_least limits given types d) in let same : false ≡ true = least.0 in absurd cc
 
   of_first : (f : MetaFault) → HasFirst limits given types bytes f → IsFault limits given types bytes f
-  of_first fault.Syntax h = absurd (never h.1.0 h.1.1.1)
+  of_first fault.Syntax h = absurd (never h.1.0 h.1.2)
   of_first fault.Memory h = tt
   of_first fault.TooLarge h = inr h
   of_first f h = h
@@ -80,7 +80,7 @@ module _ (limits : Limits) (given : ParametersValue) (types : TypesValue) (bytes
   of_finding : (x : Finding) → IsFinding limits given types bytes x → IsFault limits given types bytes x.fault
   of_finding x (inl h) = rw h.1 (inl h.0)
   of_finding x (inr h) = elim h.1 [
-    | inl no ↦ rw no.1 (h.0, no.0)
+    | inl text ↦ rw text.1 (h.0, text.0)
     | inr found ↦ of_first x.fault (h.0, (found.0, found.1, first_found limits given types found.0 (Some x) found.2))
   ]
 

@@ -30,7 +30,7 @@ use Rattle.oim_meta.proofs.TableFaults.{own, tables, find_own, find_tables, no_o
 use Rattle.oim_meta.proofs.DocumentFaults.{document, find_document, no_document, not_report, bad_namespaces, bad_taxonomy, unsupported}
 
 wrong : (b : Bool) → b ≡ true → b ≡ false → ⊥
-wrong b h k = let no : true ≡ false = sym h ∙ k in absurd cc
+wrong b h k = let same : true ≡ false = sym h ∙ k in absurd cc
 
 -- the last two of three, exchanged
 swap-last : (a b c : Bool) → (a || b || c) ≡ (a || c || b)

@@ -12,4 +12,4 @@ new-requires c =
 pub returns : goal.returns
 unfolding report_of
 returns c =
-    rw (c.new.ensures, c.in_ok-info.ensures, c.requires.level, c.requires.templates, c.requires.tables, c.requires.parameters, c.requires.namespaces) refl
+    rw (c.new.ensures, c.in_ok-info.ensures, c.document_of.ensures, c.requires.level, c.requires.templates, c.requires.tables, c.requires.parameters, c.requires.namespaces) refl
