@@ -2,7 +2,6 @@
 use Rattle.std.specs.Prelude.{◌≡◌, ℕ, Bool, true, false, List, [], ◌∷◌, ◌++◌, Option, Some, None, Ok, Err, map}
 use Rattle.std.proofs.Common.{arith, refl, codes, inl, inr}
 use Rattle.std.specs.List.{IsDistinct}
-use Rattle.atomic_table.specs.Seated.{TableId}
 use Rattle.oim_json.specs.Document.{members, tail_text, text_after}
 use Rattle.oim_json.specs.JsonText.{decimals_text, dimension_text, escaped_byte, member_text, quoted, value_text}
 use Rattle.oim_json.specs.Sinks.{SinkView}
@@ -23,11 +22,9 @@ use Rattle.oim_rows.specs.Streams.{Stream}
 use Rattle.oim_rows.specs.declared.fault.TableFault.{TableFault}
 use Rattle.oim_rows.specs.declared.fault.TableKind.TheVariants as kind
 use Rattle.oim_convert.specs.Answer.{IsAnswer, histories_of, streams}
-use Rattle.oim_convert.specs.Claims.{Claiming, Drawer, Draws, fresh}
 use Rattle.oim_convert.specs.FaultNames.{name_of, number_of}
 use Rattle.oim_convert.specs.Histories.{AreUnserved, IsDecoded, IsStream}
 use Rattle.oim_convert.specs.Identifiers.{WriteOwnIds}
-use Rattle.oim_convert.specs.Numbers.{once_below, times}
 use Rattle.oim_convert.specs.Runs.{AreStreams, IsCut, early_fault}
 use Rattle.oim_convert.specs.Jobs.{Gives, placed}
 use Rattle.oim_convert.specs.Serial.{AreBelow, Leaves}
@@ -239,29 +236,6 @@ module _ (l : Layout) (report : ReportValue) (old new : SinkView) where
 
   not_complete : IsAnswer l report (whole ∷ broken ∷ []) old new (ragged ∷ []) end.Complete → ⊥
   not_complete answer = let e = answer.1.0 in cc
-
--- DRAWN NUMBERS
-
-drawn_twice : times 2 (2 ∷ 1 ∷ 2 ∷ []) ≡ 2
-drawn_twice = refl
-
-below_three : map (once_below 3) (0 ∷ 2 ∷ 3 ∷ 4 ∷ []) ≡ 1 ∷ 1 ∷ 0 ∷ 0 ∷ []
-below_three = refl
-
--- claims of two items
-abbrev two_items : TableId → Claiming ℕ
-two_items id = record { id = id; items = 5 ∷ 6 ∷ []; workers = 3 }
-
-module _ (id : TableId) where
-  -- the seat gets the item at the place of its number
-  second_item : Draws (fresh (two_items id)) (Some (1, 6)) (record (fresh (two_items id)) { numbers = 1 ∷ [] })
-  second_item = (refl, refl, omega arith, refl)
-
-  another_item : (after : Drawer ℕ) → Draws (fresh (two_items id)) (Some (1, 5)) after → ⊥
-  another_item after draws = let e = draws.1 in cc
-
-  none_left : Draws (fresh (two_items id)) None (record (fresh (two_items id)) { finished = true })
-  none_left = refl
 
 -- WRITING
 

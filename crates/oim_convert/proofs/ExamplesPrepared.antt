@@ -11,21 +11,21 @@ use Rattle.oim_ring.specs.declared.item.Ending.TheVariants.{Closed}
 use Rattle.oim_ring.specs.declared.item.Item.{Item}
 use Rattle.oim_ring.specs.declared.item.Item.TheVariants.{Ending}
 use Rattle.oim_rows.specs.declared.fault.TableFault.{TableFault}
-use Rattle.oim_convert.specs.Claims.{Claiming, Drawer, fresh}
+use Rattle.oim_crew.specs.Claims.{Claiming, Drawer, fresh}
 use Rattle.oim_convert.specs.Jobs.{IsLane, IsOpened}
 use Rattle.oim_convert.specs.Limits.{IsWorkerCount}
 use Rattle.oim_convert.specs.Preparing.{HasRun, IsReturnRoom}
 use Rattle.oim_convert.specs.Serial.{AreFew}
-use Rattle.oim_convert.specs.Shifts.{ArePosts, IsCrew, IsStation}
+use Rattle.oim_crew.specs.Shifts.{ArePosts, IsCrew, IsStation}
 use Rattle.oim_convert.specs.Working.{CanMerge}
-use Rattle.oim_convert.specs.declared.crew.Crew.{Crew}
-use Rattle.oim_convert.specs.declared.crew.Posts.{Posts}
+use Rattle.oim_crew.specs.declared.crew.Crew.{Crew}
+use Rattle.oim_crew.specs.declared.crew.Posts.{Posts}
 use Rattle.oim_convert.specs.declared.fault.ConvertFault.TheVariants as fault
 use Rattle.oim_convert.specs.declared.job.Job.{Job}
 use Rattle.oim_convert.specs.declared.job.Receipt.{Receipt}
 use Rattle.oim_convert.specs.declared.returning.ReturnRoom.{ReturnRoom}
 use Rattle.oim_convert.specs.declared.scope.Unmerged.{Unmerged}
-use Rattle.oim_convert.specs.declared.worker.Station.{Station}
+use Rattle.oim_crew.specs.declared.worker.Station.{Station}
 
 -- WORKERS: 1 to 64
 least_and_most_workers : IsWorkerCount 1 × IsWorkerCount 64

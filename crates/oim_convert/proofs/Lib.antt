@@ -1,13 +1,7 @@
 pub mod TableFiles
 pub mod StreamHistories
 pub mod SerialTables
-pub mod ViewSums
-pub mod ClaimSteps
-pub mod ViewShares
-pub mod PoppedSeats
-pub mod LongerLists
 pub mod SentFacts
-pub mod StoppedWorkers
 pub mod OpeningLanes
 pub mod SlotsAndLists
 pub mod WrittenBack

@@ -10,13 +10,13 @@ use Rattle.std.proofs.lemmas.List.Folds.{flat_map-map}
 use Rattle.std.proofs.lemmas.List.Sums.{sum_by-cons}
 use Rattle.oim_report.specs.ReportValue.{ReportValue}
 use Rattle.oim_ring.specs.Ends.{ClosedView}
-use Rattle.oim_convert.specs.Claims.{Claiming, Drawer}
+use Rattle.oim_crew.specs.Claims.{Claiming, Drawer}
 use Rattle.oim_convert.specs.Jobs.{Gives, placed, tables_promised, receipts_of}
-use Rattle.oim_convert.specs.Numbers.{EachOnceBelow, once_below, times}
-use Rattle.oim_convert.specs.Shifts.{IsIdle, IsServed, IsShift}
+use Rattle.oim_crew.specs.Numbers.{EachOnceBelow, once_below, times}
+use Rattle.oim_crew.specs.Shifts.{IsIdle, IsServed, IsShift}
 use Rattle.oim_convert.specs.declared.job.Job.{Job}
 use Rattle.oim_convert.specs.declared.job.Receipt.{Receipt}
-use Rattle.oim_convert.specs.declared.worker.Shift.{Shift}
+use Rattle.oim_crew.specs.declared.worker.Shift.{Shift}
 
 -- THE NUMBERS THAT THE SEATS HAVE DRAWN
 

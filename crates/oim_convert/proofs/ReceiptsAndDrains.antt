@@ -11,7 +11,7 @@ use Rattle.oim_ring.specs.declared.item.Ending.{Ending}
 use Rattle.oim_ring.specs.declared.item.Item.{Item}
 use Rattle.oim_ring.specs.declared.item.Item.TheVariants as items
 use Rattle.oim_convert.specs.Jobs.{CanServe, Each, Fulfills, Gives, IsEnded, IsKept, IsLane, IsOpened}
-use Rattle.oim_convert.specs.Shifts.{CanServeAll, IsServed}
+use Rattle.oim_crew.specs.Shifts.{CanServeAll, IsServed}
 use Rattle.oim_convert.specs.declared.job.Job.{Job}
 use Rattle.oim_convert.specs.declared.job.Receipt.{Receipt}
 

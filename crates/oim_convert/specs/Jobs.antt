@@ -10,7 +10,7 @@ use Rattle.oim_convert.specs.Histories.{IsDecoded, IsUnserved}
 use Rattle.oim_convert.specs.declared.job.Job.{Job}
 use Rattle.oim_convert.specs.declared.job.Receipt.{Receipt}
 use Rattle.oim_convert.specs.declared.server.Serving.{Serving}
-use Rattle.oim_convert.specs.declared.worker.Shift.{Shift}
+use Rattle.oim_crew.specs.declared.worker.Shift.{Shift}
 
 -- P of each element and its number, counted from n
 abbrev pub Each : {X : Type 0} → (ℕ → X → Type 0) → ℕ → List X → Type 0

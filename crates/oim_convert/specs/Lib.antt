@@ -4,11 +4,7 @@ pub mod Answer
 pub mod FaultNames
 pub mod Steps
 pub mod Serial
-pub mod Numbers
-pub mod Claims
-pub mod Views
 pub mod Histories
-pub mod Shifts
 pub mod Jobs
 pub mod Runs
 pub mod Identifiers

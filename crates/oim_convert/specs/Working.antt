@@ -3,10 +3,10 @@ use Rattle.std.specs.Prelude.{◌≡◌, ◌≤◌, ℕ, All, Option, List, [], 
 use Rattle.oim_json.specs.Sinks.{SinkView}
 use Rattle.oim_merge.specs.Merging.{EndEach, IsFresh, Merges, rings_of, taken_of}
 use Rattle.oim_report.specs.ReportValue.{ReportValue}
-use Rattle.oim_convert.specs.Claims.{Claiming}
+use Rattle.oim_crew.specs.Claims.{Claiming}
 use Rattle.oim_convert.specs.Jobs.{CanServe, gives_of}
-use Rattle.oim_convert.specs.Shifts.{ArePosts, CanServeAll, IsShift}
-use Rattle.oim_convert.specs.declared.crew.Posts.{Posts}
+use Rattle.oim_crew.specs.Shifts.{ArePosts, CanServeAll, IsShift}
+use Rattle.oim_crew.specs.declared.crew.Posts.{Posts}
 use Rattle.oim_convert.specs.declared.job.Job.{Job}
 use Rattle.oim_convert.specs.declared.job.Receipt.{Receipt}
 use Rattle.oim_convert.specs.declared.server.Serving.{Serving}

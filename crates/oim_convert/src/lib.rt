@@ -33,19 +33,10 @@
 //! facts of the defined answer have one identifier, and no two of those that the histories of a run
 //! write, also where tables were cut short or none was served (`specs/Identifiers.antt`).
 //!
-//! What is proved of `Claims`, with which threads share out numbered items:
-//!
-//! - a draw gives a number and the item at its place, and no seat draws that number again
-//!   (`specs/Claims.antt`);
-//! - once a seat was answered `None`, all seats together have drawn each number once
-//!   (`specs/Numbers.antt`).
-//!
 //! What only tests show: that workers run side by side, that each worker that started is joined, and
 //! that memory, threads and tokens are given.
 #![tactic(auto)]
 
-mod claims;
-mod crew;
 mod decode;
 mod fault;
 mod job;
@@ -55,23 +46,18 @@ mod limits;
 mod returning;
 mod run;
 mod scope;
-mod seat;
-mod seats;
 mod sending;
 mod serial;
 mod server;
 mod slots;
 mod threaded;
-mod view;
-mod worker;
 
-pub use claims::Claims;
 pub use fault::ConvertFault;
 pub use laws::written_identifiers_differ;
 pub use limits::MOST_WORKERS;
+pub use oim_crew::{Claims, Seat};
 pub use oim_json::Layout;
 pub use oim_ring::LARGEST_RING;
 pub use run::Run;
-pub use seat::Seat;
 pub use serial::convert_serial;
 pub use threaded::{convert, convert_with_starts};

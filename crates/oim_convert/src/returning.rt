@@ -4,16 +4,13 @@
 ghost use Rattle.std.specs.Prelude.{◌≡◌, ◌⊎◌, None, true, length, map, All, Any, IfNone, IfOk, IfSome, vec_len};
 ghost use Rattle.std.specs.List.{list_all};
 ghost use Rattle.oim_convert.specs.Jobs.{Each, Gives, IsEnded, IsTable, tables_promised, receipts_of};
-ghost use Rattle.oim_convert.specs.Numbers.{EachOnceBelow};
+ghost use Rattle.oim_crew.specs.Numbers.{EachOnceBelow};
 ghost use Rattle.oim_convert.specs.Preparing.{IsReturnRoom};
-ghost use Rattle.oim_convert.specs.Shifts.{IsShift};
+ghost use Rattle.oim_crew.specs.Shifts.{IsShift};
 
-use crate::claims::Claims;
-use crate::crew::all_idle;
 use crate::job::{Job, Receipt};
-use crate::seat::Seat;
 use crate::slots::{place_all, settle_all};
-use crate::worker::Shift;
+use oim_crew::{Claims, Seat, Shift, all_idle};
 use oim_report::{Limits, Report};
 use oim_ring::{Closed, Drain, Drained};
 use std::alloc::{AllocError, Global};

@@ -3,14 +3,12 @@
 ghost use Rattle.std.specs.Prelude.{◌≡◌, false, All, cond, length, vec_len};
 ghost use Rattle.oim_json.specs.Sinks.{sink_at};
 ghost use Rattle.oim_convert.specs.Jobs.{CanServe, Gives, gives_of};
-ghost use Rattle.oim_convert.specs.Shifts.{ArePosts, CanServeAll, IsCrew, IsShift};
+ghost use Rattle.oim_crew.specs.Shifts.{ArePosts, CanServeAll, IsCrew, IsShift};
 ghost use Rattle.oim_convert.specs.Working.{CanMerge, CanWork, HasWorked, IsMerged};
 
-use crate::claims::Claims;
-use crate::crew::{Crew, Posts, join_crew, start_crew};
 use crate::job::{Job, Receipt};
 use crate::server::Serving;
-use crate::worker::Shift;
+use oim_crew::{Claims, Crew, Posts, Shift, join_crew, start_crew};
 use oim_json::{Layout, Sink};
 use oim_merge::{MergeEnd, merge};
 use oim_report::{Limits, Report};

@@ -6,7 +6,7 @@ ghost use Rattle.oim_convert.specs.Histories.{IsUnserved};
 use crate::decode::{decode, refused};
 use crate::job::{Job, Receipt};
 use crate::sending::close_waiting;
-use crate::worker::Serve;
+use oim_crew::Serve;
 use oim_report::{Limits, Report};
 use oim_ring::Closed;
 use oim_rows::TableKind;

@@ -3,12 +3,10 @@
 
 ghost use Rattle.std.specs.Prelude.{◌≡◌, ◌≤◌, [], None, length, map, All, Contains, IfNone, IfSome, slice_set, vec_len, vec_capacity};
 ghost use Rattle.oim_convert.specs.Jobs.{Each, EachSlot, Fulfills, Gives, IsEnded, IsTable, placed, receipts_of};
-ghost use Rattle.oim_convert.specs.Shifts.{IsShift};
+ghost use Rattle.oim_crew.specs.Shifts.{IsShift};
 
-use crate::claims::Claims;
 use crate::job::{Job, Receipt};
-use crate::seat::Seat;
-use crate::worker::Shift;
+use oim_crew::{Claims, Seat, Shift};
 use oim_report::{Limits, Report};
 use oim_ring::{Closed, Drain, Drained};
 use std::io::Read;

@@ -11,7 +11,6 @@ ghost use Rattle.oim_json.specs.JsonText.{head_text};
 ghost use Rattle.oim_json.specs.Sinks.{sink_at};
 ghost use Rattle.oim_ring.specs.Limits.{IsRingSize};
 
-use crate::crew::{Crew, crew_of};
 use crate::fault::ConvertFault;
 use crate::job::{Job, Receipt};
 use crate::lanes::open_lanes;
@@ -20,6 +19,7 @@ use crate::returning::{ReturnRoom, finish, return_room};
 use crate::run::Run;
 use crate::scope::{Unmerged, Worked, work_crew};
 use crate::server::Serving;
+use oim_crew::{Crew, crew_of};
 use oim_json::{Layout, Sink, head};
 use oim_report::{Limits, Report};
 use oim_ring::LARGEST_RING;

@@ -4,7 +4,7 @@ use Rattle.std.specs.Vec.Iter.{into_iter_items}
 use Rattle.oim_ring.specs.Ends.{DrainView}
 use Rattle.oim_convert.specs.Jobs.{Each, IsLane, IsOpened}
 use Rattle.oim_convert.specs.declared.job.Job.{Job}
-use Rattle.oim_convert.proofs.LongerLists.{all-more}
+use Rattle.oim_crew.proofs.LongerLists.{all-more}
 use Rattle.oim_convert.proofs.SlotsAndLists.{each_more}
 use Rattle.oim_convert.proofs.OpeningLanes.{get_last, lanes_more, readers_more}
 use Rattle.oim_convert.proofs.lanes.open_lanes.Goals as goal

@@ -2,7 +2,7 @@ use Rattle.std.specs.Prelude.{◌≡◌, ◌⊎◌, true, false, Option, Some, N
 use Rattle.std.proofs.Common.{ap, sym, ◌∙◌, subst, inr}
 use Rattle.std.specs.List.{list_all}
 use Rattle.oim_convert.specs.Jobs.{tables_promised, receipts_of}
-use Rattle.oim_convert.specs.Numbers.{EachOnceBelow}
+use Rattle.oim_crew.specs.Numbers.{EachOnceBelow}
 use Rattle.oim_convert.specs.declared.job.Receipt.{Receipt}
 use Rattle.oim_convert.proofs.ReceiptCover.{covered, lost_receipt, seats_mine, some_finished}
 use Rattle.oim_convert.proofs.RunHistories.{replicate_len, slots_begin}

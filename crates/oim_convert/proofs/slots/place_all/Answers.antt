@@ -2,11 +2,11 @@ use Rattle.std.specs.Prelude.{◌≡◌, [], ◌++◌, map}
 use Rattle.std.specs.Vec.Iter.{into_iter_items}
 use Rattle.std.proofs.Common.{arith, ap, sym, ◌∙◌, append-nil}
 use Rattle.oim_convert.specs.Jobs.{Gives, placed, receipts_of}
-use Rattle.oim_convert.specs.Shifts.{IsShift}
+use Rattle.oim_crew.specs.Shifts.{IsShift}
 use Rattle.oim_convert.proofs.ReceiptCover.{placed_append}
 use Rattle.oim_convert.proofs.SlotsAndLists.{map_one}
 use Rattle.oim_convert.proofs.TableFiles.{nothing_left}
-use Rattle.oim_convert.proofs.LongerLists.{all-first}
+use Rattle.oim_crew.proofs.LongerLists.{all-first}
 use Rattle.oim_convert.proofs.slots.place_all.Goals as goal
 
 pub loop-shift-preserved : goal.loop-shift-preserved

@@ -1,7 +1,7 @@
 use Rattle.std.specs.Prelude.{◌≡◌, ◌≤◌, ◌+◌, ◌++◌, All, map, vec_capacity, vec_len}
 use Rattle.std.specs.Vec.Iter.{into_iter_items, into_iter_len}
 use Rattle.oim_convert.specs.Jobs.{EachSlot, Gives, placed, receipts_of}
-use Rattle.oim_convert.specs.Shifts.{IsShift}
+use Rattle.oim_crew.specs.Shifts.{IsShift}
 use Rattle.oim_convert.proofs.slots.place_all.Given as goal
 
 abbrev pub invariant-loop-shift : goal.invariant-loop-shift

@@ -4,7 +4,7 @@ use Rattle.std.proofs.Common.{ap, subst, sym, ◌∙◌}
 use Rattle.oim_convert.specs.Jobs.{Fulfills, placed}
 use Rattle.oim_convert.proofs.ReceiptsAndDrains.{receipts_fulfill}
 use Rattle.oim_convert.proofs.TableFiles.{nothing_left}
-use Rattle.oim_convert.proofs.LongerLists.{all-first}
+use Rattle.oim_crew.proofs.LongerLists.{all-first}
 use Rattle.oim_convert.proofs.slots.place_shift.Goals as goal
 
 pub loop-receipt-init : goal.loop-receipt-init

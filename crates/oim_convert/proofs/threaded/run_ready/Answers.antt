@@ -5,7 +5,7 @@ use Rattle.oim_json.specs.Sinks.{sink_at}
 use Rattle.oim_merge.specs.Merging.{EndEach, Merges, taken_of}
 use Rattle.oim_ring.specs.Ends.{DrainView}
 use Rattle.oim_ring.specs.declared.item.Item.{Item}
-use Rattle.oim_convert.specs.Claims.{Claiming}
+use Rattle.oim_crew.specs.Claims.{Claiming}
 use Rattle.oim_convert.specs.Jobs.{Each, IsEnded, IsTable}
 use Rattle.oim_convert.specs.Preparing.{IsReturnRoom}
 use Rattle.oim_convert.specs.declared.job.Job.{Job}

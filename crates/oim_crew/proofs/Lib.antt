@@ -1,0 +1,7 @@
+pub mod ViewSums
+pub mod ClaimSteps
+pub mod ViewShares
+pub mod PoppedSeats
+pub mod LongerLists
+pub mod StoppedWorkers
+mod Examples

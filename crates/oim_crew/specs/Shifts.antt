@@ -1,0 +1,56 @@
+-- What workers begin with, and what they hand back.
+use Rattle.std.specs.Prelude.{◌≡◌, ◌≤◌, ℕ, All, true, List, [], slice_get, length, MatchBool, Some, vec_len, vec_capacity}
+use Rattle.std.specs.List.{AllZip, list_all}
+use Rattle.std.specs.declared.thread.PromisedHandle.{PromisedHandle}
+use Rattle.oim_crew.specs.Claims.{Claiming, Drawer, fresh}
+use Rattle.oim_crew.specs.declared.crew.Crew.{Crew}
+use Rattle.oim_crew.specs.declared.crew.Posts.{Posts}
+use Rattle.oim_crew.specs.declared.worker.Shift.{Shift}
+use Rattle.oim_crew.specs.declared.worker.Station.{Station}
+use Rattle.oim_crew.specs.declared.worker.ShiftOf.{ShiftOf}
+
+-- each item can be served under the number of its place
+abbrev pub CanServeAll : {V : Type 0} → (ℕ → V → Type 0) → List V → Type 0
+CanServeAll {V} can items = (number : ℕ) (item : V) → slice_get items number ≡ Some item → can number item
+
+module _ {V O : Type 0} where
+  -- the result for the item under this number
+  abbrev pub IsServed : (ℕ → V → O → Type 0) → List V → ℕ → O → Type 0
+  IsServed gives items number out = (item : V) × (slice_get items number ≡ Some item) × gives number item out
+
+  -- a seat that has drawn nothing, with room for a result for each item
+  abbrev pub IsIdle : Claiming V → Drawer V → List O → ℕ → Type 0
+  IsIdle claims seat done room = (seat ≡ fresh claims) × (done ≡ []) × (length claims.items ≤ room)
+
+  abbrev pub IsStation : Claiming V → Station V O → Type 0
+  IsStation claims station = IsIdle claims station.seat station.done.items (vec_capacity station.done)
+
+  -- there is a result for each item that the seat drew, in order, and the seat has drawn until none were left, or has drawn nothing at all
+  pub record IsShift (gives : ℕ → V → O → Type 0) (claims : Claiming V) (shift : Shift V O) : Type 0 where
+    pub mine : shift.seat.claims ≡ claims
+    pub served : AllZip (IsServed gives claims.items) shift.seat.numbers shift.done.items
+    pub whole : MatchBool shift.stopped (IsIdle claims shift.seat shift.done.items (vec_capacity shift.done)) (shift.seat.finished ≡ true)
+
+  -- a thread that has promised a shift of these claims and this server
+  abbrev pub IsStarted : {S T C : Type 0} → S → C → Claiming V → PromisedHandle (Shift V O) (ShiftOf V S T C) → Type 0
+  IsStarted server shared claims handle = (handle.promise.server.value ≡ server) × (handle.promise.shared.value ≡ shared) × (handle.promise.claims.value ≡ claims)
+
+  -- the workers that were started have promised shifts by this server, and the others have handed theirs back
+  abbrev pub IsUnderWay : {S T C : Type 0} → (S → C → ℕ → V → O → Type 0) → S → C → Claiming V → List (PromisedHandle (Shift V O) (ShiftOf V S T C)) → List (Shift V O) → Type 0
+  IsUnderWay gives server shared claims started shifts = All (IsStarted server shared claims) started × All (IsShift (gives server shared) claims) shifts
+
+  -- no worker was started, and all were stopped before they drew
+  abbrev pub IsAlone : {S T C : Type 0} → List (PromisedHandle (Shift V O) (ShiftOf V S T C)) → List (Shift V O) → Type 0
+  IsAlone started shifts = (started ≡ []) × (list_all (λ (shift : Shift V O). shift.stopped) shifts ≡ true)
+
+  -- a station for each worker, room for all of them, and none was started yet
+  pub record ArePosts {S T C : Type 0} (claims : Claiming V) (posts : Posts V O S T C) : Type 0 where
+    pub stations : All (IsStation claims) posts.stations.items
+    pub count : vec_len posts.stations ≡ claims.workers
+    pub empty : (posts.room.started.items ≡ []) × (posts.room.shifts.items ≡ [])
+    pub room : (vec_len posts.stations ≤ vec_capacity posts.room.started) × (vec_len posts.stations ≤ vec_capacity posts.room.shifts)
+
+  -- everything that the workers need, with a flag for each of them
+  pub record IsCrew {S T C : Type 0} (crew : Crew V O S T C) : Type 0 where
+    pub posts : ArePosts crew.claims crew.posts
+    pub stops : length crew.stops.items ≡ crew.claims.workers

@@ -1,0 +1,246 @@
+//! A crew of workers: what it needs, how its workers are started, and how they are joined.
+
+ghost use Rattle.std.specs.Prelude.{◌≡◌, ◌≤◌, ◌<◌, ◌+◌, ◌^◌, [], false, All, IfOk, cond, length, replicate, vec_len, vec_capacity};
+ghost use Rattle.std.specs.List.{list_all};
+ghost use Rattle.oim_crew.specs.Claims.{fresh};
+ghost use Rattle.oim_crew.specs.Shifts.{CanServeAll, IsAlone, IsCrew, IsShift, IsStation, IsUnderWay};
+
+use crate::claims::Claims;
+use crate::seat::Seat;
+use crate::worker::{Serve, Shift, ShiftOf, Station, start, work};
+use std::alloc::{AllocError, Global};
+use std::sync::atomic::AtomicBool;
+use std::thread::{PromisedHandle, Scope, Threads};
+
+/// Room for the workers of a crew, made before any of them starts: the handles of those that were
+/// started, and the shifts of those that were not.
+#[derive(Drop)]
+pub struct Room<V, O, S: Serve<V, O, T, C>, T, C> {
+    pub started: Vec<PromisedHandle<Shift<V, O>, ShiftOf<V, S, T, C>>>,
+    pub shifts: Vec<Shift<V, O>>,
+}
+
+/// Starts a worker at each of the first `starts` stations, as far as threads can be made.
+fn start_each<
+    's,
+    E,
+    V: Drop + Send + 's,
+    O: Drop + Send + 's,
+    S: Serve<V, O, T, C> + Drop + Sync + 's,
+    T: Sync + 's,
+    C: Sync + 's,
+>(
+    scope: &Scope<'s, E>,
+    rt: &'s T,
+    shared: &'s C,
+    server: &'s S,
+    claims: &'s Claims<V>,
+    stations: Vec<Station<V, O>>,
+    stops: &'s [AtomicBool],
+    starts: usize,
+    room: &mut Room<V, O, S, T, C>,
+)
+    requires items { CanServeAll (S.can_serve server.now shared.now) claims.now.items }
+    requires stations { All (IsStation claims.now) stations.items }
+    requires stops { length stops.now ≡ vec_len stations }
+    requires empty { (room.old.started.items ≡ []) × (room.old.shifts.items ≡ []) }
+    requires room { (vec_len stations ≤ vec_capacity room.old.started) × (vec_len stations ≤ vec_capacity room.old.shifts) }
+    ensures under_way { IsUnderWay S.gives server.now shared.now claims.now room.new.started.items room.new.shifts.items }
+    ensures count { vec_len room.new.started + vec_len room.new.shifts ≡ vec_len stations }
+    ensures room { vec_len stations ≤ vec_capacity room.new.shifts }
+    ensures alone { starts ≡ 0 → IsAlone room.new.started.items room.new.shifts.items }
+{
+    let mut place = 0;
+    for station in stations {
+        let stop = &stops[place];
+        let may = place < starts;
+        match start(scope, rt, shared, server, claims, station, stop, may) {
+            Ok(handle) => room.started.push_reserved(handle),
+            Err(shift) => room.shifts.push_reserved(shift),
+        }
+        place += 1;
+    }
+}
+
+/// Whether every worker was stopped before it drew.
+pub fn all_idle<V, O>(shifts: &[Shift<V, O>]) -> bool
+    ensures { result ≡ list_all (λ shift. shift.stopped) shifts.now }
+{
+    shifts.iter().all(|shift| shift.stopped)
+}
+
+/// If no worker could be started, draws all items on this thread and serves each with the spare
+/// server. Tells whether the server is in use, and not the spare one. Only the clauses use `server`.
+fn spare_unless_started<V: Drop, O: Drop, S: Serve<V, O, T, C> + Drop, T, C>(
+    rt: &T,
+    shared: &C,
+    server: &S,
+    spare: &S,
+    claims: &Claims<V>,
+    room: &mut Room<V, O, S, T, C>,
+) -> bool
+    requires items { CanServeAll (S.can_serve spare.now shared.now) claims.now.items }
+    requires under_way { IsUnderWay S.gives server.now shared.now claims.now room.old.started.items room.old.shifts.items }
+    ensures under_way { IsUnderWay S.gives (cond result server.now spare.now) shared.now claims.now room.new.started.items room.new.shifts.items }
+    ensures count { (vec_len room.new.started ≡ vec_len room.old.started) × (vec_len room.new.shifts ≡ vec_len room.old.shifts) }
+    ensures room { vec_capacity room.new.shifts ≡ vec_capacity room.old.shifts }
+    ensures alone { IsAlone room.old.started.items room.old.shifts.items → result ≡ false }
+{
+    let _ = server;
+    if room.started.len() > 0 || !all_idle(room.shifts.as_slice()) {
+        return true;
+    }
+    let Some(shift) = room.shifts.pop() else {
+        return false;
+    };
+    let Shift {
+        seat,
+        done,
+        stopped: _,
+    } = shift;
+    let served = work(rt, shared, spare, claims, Station { seat, done });
+    room.shifts.push_reserved(served);
+    false
+}
+
+/// Starts workers at the first `starts` stations. If none could be started, serves all items on this
+/// thread with the spare server. Tells whether the server is in use, and not the spare one.
+pub fn start_crew<
+    's,
+    E,
+    V: Drop + Send + 's,
+    O: Drop + Send + 's,
+    S: Serve<V, O, T, C> + Drop + Sync + 's,
+    T: Sync + 's,
+    C: Sync + 's,
+>(
+    scope: &Scope<'s, E>,
+    rt: &'s T,
+    shared: &'s C,
+    server: &'s S,
+    spare: &S,
+    claims: &'s Claims<V>,
+    stations: Vec<Station<V, O>>,
+    stops: &'s [AtomicBool],
+    starts: usize,
+    room: &mut Room<V, O, S, T, C>,
+) -> bool
+    requires items { CanServeAll (S.can_serve server.now shared.now) claims.now.items × CanServeAll (S.can_serve spare.now shared.now) claims.now.items }
+    requires stations { All (IsStation claims.now) stations.items }
+    requires stops { length stops.now ≡ vec_len stations }
+    requires empty { (room.old.started.items ≡ []) × (room.old.shifts.items ≡ []) }
+    requires room { (vec_len stations ≤ vec_capacity room.old.started) × (vec_len stations ≤ vec_capacity room.old.shifts) }
+    ensures under_way { IsUnderWay S.gives (cond result server.now spare.now) shared.now claims.now room.new.started.items room.new.shifts.items }
+    ensures count { vec_len room.new.started + vec_len room.new.shifts ≡ vec_len stations }
+    ensures room { vec_len stations ≤ vec_capacity room.new.shifts }
+    ensures alone { starts ≡ 0 → result ≡ false }
+{
+    start_each(
+        scope, rt, shared, server, claims, stations, stops, starts, room,
+    );
+    spare_unless_started(rt, shared, server, spare, claims, room)
+}
+
+/// Joins the workers that were started, and gives the shifts of all workers. Only the clauses use the
+/// parameters other than `rt` and `room`.
+pub fn join_crew<V: Drop, O: Drop, S: Serve<V, O, T, C> + Drop, T: Threads, C>(
+    rt: &T,
+    shared: &C,
+    server: &S,
+    spare: &S,
+    used: bool,
+    claims: &Claims<V>,
+    room: Room<V, O, S, T, C>,
+) -> Vec<Shift<V, O>>
+    requires under_way { IsUnderWay S.gives (cond used server.now spare.now) shared.now claims.now room.started.items room.shifts.items }
+    requires room { vec_len room.started + vec_len room.shifts ≤ vec_capacity room.shifts }
+    ensures shifts { All (IsShift (S.gives (cond used server.now spare.now) shared.now) claims.now) result.items }
+    ensures count { vec_len result ≡ vec_len room.started + vec_len room.shifts }
+{
+    let _ = shared;
+    let _ = server;
+    let _ = spare;
+    let _ = used;
+    let _ = claims;
+    let Room {
+        started,
+        mut shifts,
+    } = room;
+    for handle in started {
+        shifts.push_reserved(handle.join(rt));
+    }
+    shifts
+}
+
+/// The stations at which the workers of a crew begin, and the room for the workers.
+#[derive(Drop)]
+pub struct Posts<V, O, S: Serve<V, O, T, C>, T, C> {
+    pub stations: Vec<Station<V, O>>,
+    pub room: Room<V, O, S, T, C>,
+}
+
+/// What a crew needs, made before any of its workers starts.
+#[derive(Drop)]
+pub struct Crew<V, O, S: Serve<V, O, T, C>, T, C> {
+    pub claims: Claims<V>,
+    pub posts: Posts<V, O, S, T, C>,
+    pub stops: Vec<AtomicBool>,
+}
+
+/// A flag for each worker.
+fn flags(alloc: Global, workers: usize) -> Result<Vec<AtomicBool>, AllocError>
+    ensures { IfOk result (λ stops. vec_len stops ≡ workers) }
+{
+    let mut stops = Vec::with_capacity(alloc, workers)?;
+    for _made in 0..workers {
+        stops.push_reserved(AtomicBool::new(false));
+    }
+    Ok(stops)
+}
+
+/// A station for each seat.
+fn stations_of<V: Drop, O: Drop>(
+    alloc: Global,
+    claims: &Claims<V>,
+    seats: Vec<Seat<V>>,
+    items: usize,
+) -> Result<Vec<Station<V, O>>, AllocError>
+    requires fresh { All (λ seat. seat ≡ fresh claims.now) seats.items }
+    requires items { items ≡ length claims.now.items }
+    ensures stations { IfOk result (λ made. All (IsStation claims.now) made.items) }
+    ensures count { IfOk result (λ made. vec_len made ≡ vec_len seats) }
+{
+    let mut made = Vec::with_capacity(alloc, seats.len())?;
+    for seat in seats {
+        let done: Vec<O> = Vec::with_capacity(alloc, items)?;
+        made.push_reserved(Station { seat, done });
+    }
+    Ok(made)
+}
+
+/// Claims of the items, and everything that this many workers need to serve them.
+pub fn crew_of<V: Drop, O: Drop, S: Serve<V, O, T, C> + Drop, T, C>(
+    alloc: Global,
+    items: Vec<V>,
+    workers: usize,
+) -> Result<Crew<V, O, S, T, C>, AllocError>
+    requires workers { 0 < workers }
+    requires room { vec_len items + workers < 2 ^ 64 }
+    ensures claims { IfOk result (λ crew. crew.claims.items ≡ items.items) }
+    ensures workers { IfOk result (λ crew. crew.claims.workers ≡ workers) }
+    ensures ready { IfOk result (λ crew. IsCrew crew) }
+{
+    let count = items.len();
+    let stops = flags(alloc, workers)?;
+    let room = Room {
+        started: Vec::with_capacity(alloc, workers)?,
+        shifts: Vec::with_capacity(alloc, workers)?,
+    };
+    let (claims, seats) = Claims::new(alloc, items, workers)?;
+    let stations = stations_of(alloc, &claims, seats, count)?;
+    Ok(Crew {
+        claims,
+        posts: Posts { stations, room },
+        stops,
+    })
+}

@@ -1,0 +1,28 @@
+//! Workers that share out numbered items. It knows nothing of reports.
+//!
+//! What is proved of `Claims`, with which threads share out the items:
+//!
+//! - a draw gives a number and the item at its place, and no seat draws that number again
+//!   (`specs/Claims.antt`);
+//! - once a seat was answered `None`, all seats together have drawn each number once
+//!   (`specs/Numbers.antt`).
+//!
+//! And of a crew, which serves the items:
+//!
+//! - `crew_of` makes all that its workers need before any of them starts; `start_crew` starts those for which there is a
+//!   thread, and serves all items on the caller's thread where there is none;
+//! - `join_crew` gives the shift of each worker: for each number that its seat drew, what the server gives of the item under
+//!   that number (`specs/Shifts.antt`).
+#![tactic(auto)]
+
+mod claims;
+mod crew;
+mod seat;
+mod seats;
+mod view;
+mod worker;
+
+pub use claims::Claims;
+pub use crew::{Crew, Posts, Room, all_idle, crew_of, join_crew, start_crew};
+pub use seat::Seat;
+pub use worker::{Serve, Shift, ShiftOf, Station};

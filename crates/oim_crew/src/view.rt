@@ -1,0 +1,91 @@
+//! The board on which the claims stand: what a seat at it knows, and the steps that it takes.
+
+use atomic_table::{Join, Play, Shared, Split, Table, TableRule};
+use std::alloc::Global;
+use std::collections::LinkedList;
+use std::snapshot::Snapshot;
+
+/// What a seat knows. It exists only in proofs: no code makes a value of it.
+pub struct View<V> {
+    /// The items at the start.
+    pub items: LinkedList<V>,
+    /// The number of seats at the start.
+    pub workers: usize,
+    /// The numbers that were drawn.
+    pub drawn: LinkedList<usize>,
+    /// The number of seats that this view stands for.
+    pub share: usize,
+    /// The number of these that found that no item is left.
+    pub finished: usize,
+}
+
+/// What the board is given when it is made.
+#[derive(Drop)]
+pub struct Plan<V> {
+    /// The items, which only proofs remember.
+    pub items: Snapshot<Vec<V>>,
+    /// The number of seats.
+    pub workers: usize,
+}
+
+/// The rule of the claims: each number below the word was drawn once, and every other item still waits.
+pub struct Drawing;
+
+impl<V> TableRule<Option<V>, View<V>, Plan<V>> for Drawing {
+    ghost use Rattle.oim_crew.specs.Views.{Claimed, opening_view};
+
+    ghost holds = { λ plan. Claimed plan.items.value.items plan.workers };
+
+    ghost first = { λ plan. opening_view plan.items.value.items plan.workers };
+}
+
+/// The word of the claims, and a slot for each item.
+pub type Board<V> = Table<Option<V>, View<V>, Plan<V>, Drawing, Global>;
+
+/// The part of the board that threads share.
+pub type Steps<V> = Shared<Option<V>, View<V>, Plan<V>, Drawing>;
+
+/// A seat at the board.
+pub type BoardSeat<V> = atomic_table::Seat<Option<V>, View<V>>;
+
+/// The step of a draw.
+pub struct Draw;
+
+impl<V> Play<Option<V>, View<V>> for Draw {
+    ghost use Rattle.oim_crew.specs.Views.{Told};
+
+    ghost then = { λ _. Told };
+}
+
+/// One of the seats that a view stands for gets a view of its own.
+pub struct Cut;
+
+impl<V> Split<View<V>> for Cut {
+    ghost use Rattle.oim_crew.specs.Views.{one_less, one_seat};
+
+    ghost left = { one_less };
+
+    ghost right = { one_seat };
+}
+
+/// The whole view moves to a seat that holds no slot.
+pub struct Shed;
+
+impl<V> Split<View<V>> for Shed {
+    ghost use Rattle.oim_crew.specs.Views.{spent};
+
+    ghost left = { λ _. spent };
+
+    ghost right = { λ v. v };
+}
+
+/// Two views become one.
+pub struct Gather;
+
+impl<V> Join<View<V>> for Gather {
+    ghost use Rattle.oim_crew.specs.Views.{joined, spent};
+
+    ghost both = { joined };
+
+    ghost spent = { spent };
+}
