@@ -9,6 +9,8 @@ mod cells;
 #[cfg(test)]
 mod conversions;
 #[cfg(test)]
+mod crews;
+#[cfg(test)]
 mod facts;
 #[cfg(test)]
 mod fast_rows;

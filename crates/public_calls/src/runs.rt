@@ -4,8 +4,9 @@ use crate::held::report;
 use oim_json::{Layout, Marked};
 use oim_meta::Limits;
 use oim_run::{
-    Folder, METADATA, Outcome, Settings, Source, TABLE, TYPES, Texts, convert_held, convert_report,
-    convert_texts, convert_to, job, line, run, run_to, status,
+    Folder, METADATA, Outcome, Request, Settings, Source, TABLE, TYPES, Texts, convert_held,
+    convert_report, convert_texts, convert_to, job, line, request_of, run, run_to, shown, status,
+    terminal_line,
 };
 use std::alloc::{AllocError, Global};
 use std::sync::Wait;
@@ -45,6 +46,18 @@ fn settings(alloc: Global) -> Result<Settings, Fail> {
         Ok(settings) => Ok(settings),
         Err(_) => Err(Fail::new("the words are refused")),
     }
+}
+
+/// What the words ask for beside the settings.
+fn asks(alloc: Global) -> bool {
+    let request = request_of(alloc, &["m.json", "--types", "t.csv", "--whole"]);
+    request.is_ok_and(|request: Request| request.whole && !request.progress)
+}
+
+/// A line for a terminal.
+fn says(alloc: Global) -> Result<bool, AllocError> {
+    let outcome = Outcome::CannotRead(shown(alloc, "m.json")?);
+    Ok(terminal_line(alloc, &outcome)?.as_str() == "xbrl-json: cannot read m.json\n")
 }
 
 /// Whether a report is refused for its types table.
@@ -109,6 +122,6 @@ fn converts_given(rt: &(impl AllocGlobal + Threads + Wait + Sync)) -> Result<boo
 fn calls_of_runs(rt: HostRuntime) -> Result<(), Fail> {
     let settings = settings(rt.alloc())?;
     assert!(rt; runs(&rt, &settings)? && runs_otherwise(&rt, &settings));
-    assert!(rt; converts_given(&rt)?);
+    assert!(rt; converts_given(&rt)? && asks(rt.alloc()) && says(rt.alloc())?);
     Ok(())
 }
