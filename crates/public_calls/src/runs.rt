@@ -5,8 +5,8 @@ use oim_json::{Layout, Marked};
 use oim_meta::Limits;
 use oim_run::{
     Conversion, Folder, METADATA, Outcome, Request, Settings, Source, TABLE, TYPES, Texts,
-    convert_as, convert_held, convert_report, convert_texts, convert_to, job, line, request_of, run,
-    run_to, shown, status, terminal_line,
+    convert_as, convert_held, convert_report, convert_texts, convert_to, job, line, request_of,
+    run, run_to, shown, status, terminal_line,
 };
 use std::alloc::{AllocError, Global};
 use std::sync::Wait;
