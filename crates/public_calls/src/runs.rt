@@ -4,9 +4,9 @@ use crate::held::report;
 use oim_json::{Layout, Marked};
 use oim_meta::Limits;
 use oim_run::{
-    Conversion, Folder, METADATA, Outcome, Request, Settings, Source, TABLE, TYPES, Texts,
-    convert_as, convert_held, convert_report, convert_texts, convert_to, job, line, request_of,
-    run, run_to, shown, status, terminal_line,
+    Folder, METADATA, Outcome, Request, Settings, Source, TABLE, TYPES, Texts, convert_held,
+    convert_report, convert_texts, convert_to, job, line, request_of, run, run_to, shown, status,
+    terminal_line,
 };
 use std::alloc::{AllocError, Global};
 use std::sync::Wait;
@@ -45,20 +45,6 @@ fn settings(alloc: Global) -> Result<Settings, Fail> {
     match job(alloc, &["m.json", "--types", "t.csv"]) {
         Ok(settings) => Ok(settings),
         Err(_) => Err(Fail::new("the words are refused")),
-    }
-}
-
-/// A conversion of a caller's own, which has standard output alone.
-#[derive(Drop)]
-struct ToNowhere;
-
-impl Conversion for ToNowhere {
-    fn to_standard_output<T: Threads + Wait + Sync>(&mut self, _threads: &T) -> Outcome {
-        Outcome::Done
-    }
-
-    fn to_file<T: Threads + Wait + Sync>(&mut self, _threads: &T, _path: &str) -> Option<Outcome> {
-        None
     }
 }
 
@@ -136,8 +122,6 @@ fn converts_given(rt: &(impl AllocGlobal + Threads + Wait + Sync)) -> Result<boo
 fn calls_of_runs(rt: HostRuntime) -> Result<(), Fail> {
     let settings = settings(rt.alloc())?;
     assert!(rt; runs(&rt, &settings)? && runs_otherwise(&rt, &settings));
-    let outcome = convert_as(&rt, rt.alloc(), &settings, &mut ToNowhere);
-    assert!(rt; status(&outcome) == 0);
     assert!(rt; converts_given(&rt)? && asks(rt.alloc()) && says(rt.alloc())?);
     Ok(())
 }
