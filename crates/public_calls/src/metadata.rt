@@ -1,9 +1,10 @@
 //! Calls of `oim_meta`.
 
 use oim_meta::{
-    Limits, MetaFault, Parameters, Report, a_text_writes_one_value, fault_is_of_earliest_record,
-    faults_of_shape_are_parts_without_it, first_fault_is_least, parameter_url, read_parameters,
-    read_report, read_types, types_are_of_all_records,
+    Finding, Limits, MetaFault, Parameters, Refusal, Report, Types, a_text_writes_one_value,
+    a_walk_finds_all_faults, fault_is_of_earliest_record, faults_of_shape_are_parts_without_it,
+    first_fault_is_least, first_finding_is_least, parameter_url, read_parameters, read_report,
+    read_report_at, read_types, types_are_of_all_records,
 };
 use oim_run::{METADATA, TYPES};
 use std::alloc::Global;
@@ -38,15 +39,33 @@ fn is_refused(alloc: Global) -> bool {
     }
 }
 
+/// Whether a finding is of the document type, at its key.
+fn is_of_document_type(finding: &Finding) -> bool {
+    finding.fault == MetaFault::NotReport
+        && finding.place.len() == 2
+        && finding.place[1].as_str() == "documentType"
+}
+
+/// The same with the place of the fault.
+fn is_refused_at(alloc: Global) -> bool {
+    let (parameters, types) = (Parameters::none(alloc), Types::none(alloc));
+    match read_report_at(alloc, b"{}", parameters, types, Limits::profile()) {
+        Err(Refusal::Found(finding)) => is_of_document_type(&finding),
+        _ => false,
+    }
+}
+
 #[test]
 fn calls_of_metadata(rt: HostRuntime) -> Result<(), Fail> {
     first_fault_is_least();
+    first_finding_is_least();
+    a_walk_finds_all_faults();
     fault_is_of_earliest_record();
     types_are_of_all_records();
     faults_of_shape_are_parts_without_it();
     a_text_writes_one_value();
     let report = Box::new(rt.alloc(), reads_a_report(rt.alloc())?)?;
     assert!(rt; report.tables() == 1 && reads_parameters(rt.alloc()) == Ok(true));
-    assert!(rt; is_refused(rt.alloc()));
+    assert!(rt; is_refused(rt.alloc()) && is_refused_at(rt.alloc()));
     Ok(())
 }
