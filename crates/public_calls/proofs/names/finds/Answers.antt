@@ -1,0 +1,7 @@
+use Rattle.std.specs.List.Sorted.{IsStrictlySortedBy}
+use Rattle.public_calls.proofs.names.finds.Goals as goal
+
+-- no name stands before another
+pub find_in_order-requires : goal.find_in_order-requires
+unfolding IsStrictlySortedBy
+find_in_order-requires c = tt
