@@ -4,8 +4,8 @@ use crate::file_id::FileId;
 use crate::paths::sync_folder;
 use std::alloc::{AllocError, Global};
 use std::fs::{File, Metadata};
-use std::{fs, io};
 use std::io::ErrorKind;
+use std::{fs, io};
 
 /// How many names are tried for a new file.
 const MOST_NAMES: u32 = 100;

@@ -172,9 +172,7 @@ fn convert_into<T: Threads + Wait + Sync>(
         return convert_over(rt, threads, alloc, request, path);
     }
     match fs::metadata(rt, path) {
-        Ok(old) if old.is_file() => {
-            convert_beside(rt, threads, alloc, request, path, Some(old))
-        }
+        Ok(old) if old.is_file() => { convert_beside(rt, threads, alloc, request, path, Some(old)) }
         Err(_) if fs::symlink_metadata(rt, path).is_err() => {
             convert_beside(rt, threads, alloc, request, path, None)
         }
