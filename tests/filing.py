@@ -163,6 +163,11 @@ def on_a_terminal(words, folder, program=None):
     return done.returncode, shown
 
 
+def worked():
+    """Seconds of processor time that this process and those that it ran have taken, which no other load makes more."""
+    return sum(os.times()[:4])
+
+
 def listing(folder):
     """All files of a folder with their bytes."""
     return {str(it.relative_to(folder)): it.read_bytes() for it in sorted(folder.rglob("*")) if it.is_file()}
@@ -1206,6 +1211,7 @@ def encodings(folder):
         ("a prefix without a namespace", "<a:b/>", "is not well-formed XML: unbound prefix (line 1)"),
         ("bytes of another encoding", b'<?xml version="1.0"?>\n<a b="\xff"/>', "is not well-formed XML: not well-formed (invalid token) (line 2)"),
         ("half a letter of shift_jis", b'<?xml version="1.0" encoding="shift_jis"?><a b="\x81\xff"/>', "is not in its encoding, shift_jis (line 1)"),
+        ("half a letter at its end", f"<?xml version='1.0' encoding='euc-kr'?>{schema()}".encode() + b"\xb0", "is not in its encoding, euc-kr (line 1)"),
         ("an encoding that is not known", '<?xml version="1.0" encoding="klingon"?><a/>', "is in an encoding that is not known: klingon"),
         ("an encoding that is none", '<?xml version="1.0" encoding="rot13"?><a/>', "is in an encoding that is not known: rot13"),
         ("another document", "<html/>", "is neither a schema nor a linkbase: its root is 'html'"),
@@ -1430,10 +1436,10 @@ def types_tables(folder):
         types='namespace,name,type2\n"http://a,b""c/",A,text\nhttp://d,Z,text\nhttp://d,a,text\nhttp://d,É,text\nhttp://e,A,text\n"http://f,g",A,text\n',
         taxonomies=[quoting],
     )
-    begun = time.monotonic()
+    begun = worked()
     elements = "".join(item(f"C{it:05}", "eg:T", 'id="x" nillable="true"') for it in range(20_000)) + derived("T", "xbrli:monetaryItemType")
     kinds_are(folder, "20,000 concepts", elements, *(f"C{it:05},decimal" for it in range(20_000)))
-    case("20,000 concepts take seconds", time.monotonic() - begun < 20, True)
+    case("20,000 concepts take seconds", worked() - begun < 20, True)
 
 
 def entry(name, mode=0):
@@ -1643,8 +1649,8 @@ def unpacked_packages(folder):
         (folder / path).unlink()
         os.mkfifo(folder / path)
         begun = time.monotonic()
-        status, out, err = start(["r", "--taxonomy", "t0"], folder, timeout=20)
-        case(f"a pipe in a package, {path}", (status, out, err.count("\n"), time.monotonic() - begun < 15), (1, b"", 1, True))
+        status, out, err = start(["r", "--taxonomy", "t0"], folder, timeout=100)
+        case(f"a pipe in a package, {path}", (status, out, err.count("\n"), time.monotonic() - begun < 90), (1, b"", 1, True))
         (folder / path).unlink()
         (folder / path).write_bytes(kept)
     shutil.rmtree(folder / "r")
@@ -2158,19 +2164,19 @@ def hearing_the_converter(folder):
     def begun():
         return subprocess.Popen([FILING, "r", "--taxonomy", "t0"], cwd=folder, env=settings, stderr=subprocess.PIPE, preexec_fn=heeding)
 
-    fake.write_text("#!/bin/sh\necho ready >&2\nsleep 30\n")
+    fake.write_text("#!/bin/sh\necho ready >&2\nsleep 60\n")
     done, since = begun(), time.monotonic()
     line = done.stderr.readline()
     done.send_signal(signal.SIGTERM)
     done.communicate(timeout=60)
-    case("a line while the program runs", (line, done.returncode, time.monotonic() - since < 25), (b"ready\n", -signal.SIGTERM, True))
+    case("a line while the program runs", (line, done.returncode, time.monotonic() - since < 50), (b"ready\n", -signal.SIGTERM, True))
     fake.write_text("#!/bin/sh\nyes 'much to say' | head -100000 >&2\nexit 3\n")
     done = begun()
     case("many lines", (done.communicate(timeout=60)[1] == b"much to say\n" * 100_000, done.returncode), (True, 3))
-    fake.write_text("#!/bin/sh\n(sleep 20; echo late >&2) &\necho said >&2\nexit 1\n")
+    fake.write_text("#!/bin/sh\n(sleep 60; echo late >&2) &\necho said >&2\nexit 1\n")
     done, since = begun(), time.monotonic()
     line = done.stderr.readline(), done.wait(timeout=60)
-    case("a program that leaves another behind", (line, time.monotonic() - since < 15), ((b"said\n", 1), True))
+    case("a program that leaves another behind", (line, time.monotonic() - since < 50), ((b"said\n", 1), True))
     done.stderr.close()
     fake.write_text("#!/bin/sh\nexec 2>&-\nsleep 0.3\nexit 4\n")
     done = begun()
@@ -2564,9 +2570,11 @@ def digests_of_contents(folder):
     kept = digests.BLOCK, digests.processors, digests.Thread, digests.Blocks.digest
     workers = set()
 
-    def slowly(blocks, *place):
-        workers.add(threading.get_ident())
-        time.sleep(0.005)
+    def together(blocks, *place):
+        """The first block of each thread waits for those of all others."""
+        if threading.get_ident() not in workers:
+            workers.add(threading.get_ident())
+            meeting.wait(60)
         return kept[3](blocks, *place)
 
     class NoThread(threading.Thread):
@@ -2578,12 +2586,17 @@ def digests_of_contents(folder):
         for number in (1, 2, 3, 8, 100):
             digests.processors = lambda: number
             case(f"digests of blocks on {number} processors", digests.digests_of(files), wanted)
-        digests.Blocks.digest = slowly
+        digests.Blocks.digest = together
         for number, used in ((1, 1), (3, 3), (100, digests.MOST_THREADS)):
             workers.clear()
+            meeting = threading.Barrier(used)
             digests.processors = lambda: number
             case(f"{number} processors", (digests.digests_of(files), len(workers), threading.active_count()), (wanted, used, 1))
-        case("no more threads than blocks", digests.digests_of(files[:1]), wanted[:1])
+        workers.clear()
+        meeting = threading.Barrier(2)
+        case("no more threads than blocks", (digests.digests_of(files[4:5]), len(workers)), (wanted[4:5], 2))
+        workers.clear()
+        meeting = threading.Barrier(1)
         digests.Thread = NoThread
         case("a system that gives no threads", digests.digests_of(files), wanted)
     finally:
@@ -2694,10 +2707,10 @@ def a_large_taxonomy(folder):
     pack(folder / "t.zip", files)
     write(folder / "r", REPORT)
     for turn, most in (("first", 15), ("second", 5)):
-        begun = time.monotonic()
+        begun = worked()
         status, out, err = start(["r", "--taxonomy", "t.zip", "--cache", "c"], folder)
         case(f"20,000 concepts, {turn} run", (status, list(json.loads(out)["facts"]), err), (0, ["t.r_1.cash"], ""))
-        case(f"20,000 concepts, {turn} run: time", time.monotonic() - begun < most, True)
+        case(f"20,000 concepts, {turn} run: time", worked() - begun < most, True)
     status, shown = on_a_terminal(["r", "--taxonomy", "t.zip"], folder)
     case("20,000 concepts on a terminal", (status, b"xbrl-filing: reading the taxonomy: 3 files, " in shown, shown.endswith(b"\r\x1b[K")), (0, True, True))
 
@@ -2733,30 +2746,30 @@ def endless_schemas(folder):
         ("a URL that is nearly too long", schema(include(edge)), refusals.printable(f"t0/reg/mod.xsd: no package has {edge} (import, line 1)")),
         ("a long relative URL", schema(near), url.format(len(HOST) + 5004, (HOST + "y" * 100)[:100])),
     ):
-        begun = time.monotonic()
+        begun = worked()
         refuses(folder, f"a schema with {name}", {"reg/mod.xsd": text}, line)
-        case(f"a schema with {name}: soon", time.monotonic() - begun < 20, True)
+        case(f"a schema with {name}: soon", worked() - begun < 20, True)
     reads(folder, "a hundred bases", {"reg/mod.xsd": schema('<a xml:base="a/">' * 99 + "</a>" * 99 + ELEMENTS, attributes='xml:base="b/"')}, TYPES)
     way = "<xs:simpleContent>" * deep + "<x>" + '<xs:restriction base="xbrli:dateItemType"/>' * deep + "</x>" + "</xs:simpleContent>" * deep
-    begun = time.monotonic()
+    begun = worked()
     reads(folder, "a type that is very deep", {"reg/mod.xsd": schema(f'<xs:complexType name="T">{way}</xs:complexType>' + ELEMENTS)}, TYPES)
-    case("a type that is very deep: soon", time.monotonic() - begun < 20, True)
+    case("a type that is very deep: soon", worked() - begun < 20, True)
     for name, body, word in long_chains(20_000):
-        begun = time.monotonic()
+        begun = worked()
         reads(folder, f"a long chain of {name}", {"reg/mod.xsd": schema(body)}, records(*sorted(f"{name}{it},{word}" for it in range(20_000))))
-        case(f"a long chain of {name}: soon", time.monotonic() - begun < 20, True)
+        case(f"a long chain of {name}: soon", worked() - begun < 20, True)
     many = {f"p{it}": f"http://p{it}/" for it in range(30_000)}
-    begun = time.monotonic()
+    begun = worked()
     twice = {"namespaces": {**many, "q": "http://p7/"}}
     makes(folder, "many prefixes", parts={"documentInfo/namespaces": twice["namespaces"]}, report={"reports/report.json": meta(twice)}, taxonomies=[])
-    case("many prefixes: soon", time.monotonic() - begun < 20, True)
+    case("many prefixes: soon", worked() - begun < 20, True)
     levels = 1500
     chain = {f"reg/n{it}.json": meta({"extends": [HOST + f"n{it + 1}.json"], "final": {"parameters": True}}) for it in range(levels)}
     chain[f"reg/n{levels}.json"] = MODULE
-    begun = time.monotonic()
+    begun = worked()
     report = {**REPORT, "reports/report.json": meta({"extends": [HOST + "n0.json"]})}
     makes(folder, "many levels that are all final", MERGED, report=report, taxonomies=[{**TAXONOMY, **chain}])
-    case("many levels that are all final: soon", time.monotonic() - begun < 20, True)
+    case("many levels that are all final: soon", worked() - begun < 20, True)
     pack(folder / "deep.zip", [*REPORT.items(), *((f"{number}/" + "a/" * 32_000 + "x", "x") for number in range(20))])
     write(folder, {f"t/{it}": text for it, text in TAXONOMY.items()})
     little = lambda: resource.setrlimit(resource.RLIMIT_DATA, (200 << 20, 200 << 20))
@@ -2766,9 +2779,9 @@ def endless_schemas(folder):
     many = {f"reg/x{number}.xsd": schema() for number in range(4000)}
     imports = "".join(include(f"x{number}.xsd") for number in range(4000))
     many.update({"META-INF/catalog.xml": catalog(starts + rewrite()), "reg/mod.xsd": schema(imports + ELEMENTS)})
-    begun = time.monotonic()
+    begun = worked()
     reads(folder, "many start strings and many files", many, TYPES)
-    case("many start strings and many files: soon", time.monotonic() - begun < 20, True)
+    case("many start strings and many files: soon", worked() - begun < 20, True)
 
 
 def a_long_schema(folder):
