@@ -607,6 +607,31 @@ def leaving_out(folder):
         stops(folder, f"links of the report {links}", f"{first}: has 'links', which cannot be carried over", **both({"links": links}, {}))
 
 
+def shapes_that_are_left(folder):
+    """What has a wrong shape inside of a part goes into the merged file as it is, and is left to the converter."""
+    column = lambda **more: {"t": {"columns": {"c": more}}}
+    for number, wrong_part in enumerate((
+        *({"tableTemplates": {"t": it}} for it in (1, [], None, "x", {"columns": []}, {"columns": 1}, {"columns": {"c": 7}}, {"columns": {"c": []}})),
+        *({"tableTemplates": column(propertyGroups=it)} for it in (1, [], {"g": 1}, {"g": []}, {"g": {"dimensions": 1}})),
+        *({"tableTemplates": column(dimensions=it)} for it in (1, [], None, "x", {"concept": 5}, {"concept": ["eg:Cash"]}, {"concept": {}}, {"unit": 1})),
+        *({"dimensions": {"concept": it}} for it in (5, ["x"], {}, None, True)),
+        *({"tables": {"t": it}} for it in (1, [], None, {"url": [], "template": "t"}, {"url": "t.csv", "template": "t", "parameters": []})),
+        *({"tables": {"t": {"url": "t.csv", "template": it}}} for it in (1, ["t"], {}, None)),
+        {"parameters": {"a": 1, "b": []}}, {"decimals": {}}, {"parameterURL": []},
+    )):
+        info = {"namespaces": {"eg": EG, "m": "http://mem/", "odd": 1, "list": []}}
+        whole = {"tables": {"t": {"url": "t.csv"}}, **wrong_part}
+        for own in (info, {**info, "namespaces": {**info["namespaces"], "n": "http://other/"}}):
+            above = {"extends": ["low.json"], "namespaces": {"other": "http://mem/"} if own is info else {"n": "http://other/"}}
+            files = {"r/a.json": meta(above), "r/low.json": meta(own, **whole)}
+            shutil.rmtree(folder / "r", ignore_errors=True)
+            write(folder, files)
+            seen = run(["r/a.json", "--prepare", f"o{number}{own is info}"], folder)
+            made = folder / f"o{number}{own is info}/meta.json"
+            value = json.loads(made.read_text()) if made.exists() else {}
+            case(f"the shape of {wrong_part}", (seen, {it: value.get(it) for it in wrong_part}), ((0, ""), wrong_part))
+
+
 def entry_points(folder):
     """The taxonomy's URLs and their base, and parts of a wrong shape."""
     second = SECOND
@@ -631,7 +656,7 @@ def entry_points(folder):
     )
     case("all of them are read", made["types.csv"].decode(), records("Branch,typed", "Cash,decimal", "Note,text", "O,text", "Region,explicit", "X,text"))
     makes(folder, "only the report's baseURL stands", parts={"documentInfo/baseURL": None}, **both({}, {}, {}, {"baseURL": HOST}))
-    makes(folder, "no taxonomy at all is left to the converter", parts={"documentInfo/taxonomy": None}, report={"reports/report.json": meta()}, taxonomies=[])
+    makes(folder, "no taxonomy at all is left to the converter", {"documentInfo": {"documentType": CSV}}, report={"reports/report.json": meta()}, taxonomies=[])
     text = meta({"extends": [HOST + "mod.json"]}).encode()
     makes(folder, "a byte-order mark", MERGED, report={**REPORT, "reports/report.json": b"\xef\xbb\xbf" + text})
     for name in ("tableTemplates", "tables", "dimensions", "parameters", "links"):
@@ -2295,6 +2320,10 @@ def several_packages(folder):
     for number in range(2):
         case("the same inputs", run(["r.zip", "--taxonomy", "t.zip", "--prepare", f"same{number}"], folder), (0, ""))
     case("give the same bytes", listing(folder / "same0"), listing(folder / "same1"))
+    turned = json.dumps(dict(reversed(list(json.loads(MODULE).items()))))
+    pack(folder / "turned.zip", {**TAXONOMY, "reg/mod.json": turned})
+    case("members in another order", (turned == MODULE, run(["r.zip", "--taxonomy", "turned.zip", "--prepare", "turned"], folder)), (False, (0, "")))
+    case("give the same bytes too", listing(folder / "turned"), listing(folder / "same0"))
 
 
 def outputs_that_are_inputs(folder):
@@ -2305,7 +2334,12 @@ def outputs_that_are_inputs(folder):
     write(
         folder,
         {
-            "alone/m.json": meta({**INFO, "extends": ["low.json"]}, tableTemplates={"t": TEMPLATE}, tables={"t": {"url": "t.csv"}}, parameterURL="p.csv"),
+            "alone/m.json": meta(
+                {**INFO, "extends": ["low.json"]},
+                tableTemplates={"t": TEMPLATE},
+                tables={"t": {"url": "t.csv"}, "u": {"url": "none.csv", "template": "t", "optional": True}},
+                parameterURL="p.csv",
+            ),
             "alone/low.json": meta(),
             "alone/mod.xsd": schema(ELEMENTS),
             "alone/t.csv": "cash\n1\n",
@@ -2337,6 +2371,7 @@ def outputs_that_are_inputs(folder):
         (["alone/m.json"], "alone/low.json", own),
         (["alone/m.json"], "alone/t.csv", own),
         (["alone/m.json"], "alone/p.csv", own),
+        (["alone/m.json"], "alone/none.csv", own),
         (["alone/m.json"], "alone/mod.xsd", own),
         (["alone/m.json"], "hard.xsd", own),
         (["alone/m.json"], "soft.xsd", own),
@@ -2347,12 +2382,13 @@ def outputs_that_are_inputs(folder):
         twice = ["--out", "no/x", "--out", out, "--workers", "1"], ["--out", out, "--out", "no/x"]
         for words_of_out in (["--out", out], [f"--out={out}"], *twice, ["--faults", out], [f"--faults={out}"]):
             case(f"{given} {words_of_out}", (run([*given, *words_of_out], folder), listing(folder) == before), ((3, line), True))
-        if given == ["alone/m.json"] and out != "alone/m.json":
+        if given == ["alone/m.json"] and out not in ("alone/m.json", "alone/none.csv"):
             line = f"xbrl-filing: {out}: cannot write (Not a directory)\n"
         case(f"{given} --prepare {out}", (run([*given, "--prepare", out], folder), listing(folder) == before), ((3, line), True))
     seen = run(["r", "--taxonomy", "t", "--cache", "t/cache", "--prepare", "o"], folder)
     case("a cache inside of a package", (seen, (folder / "t/cache").exists()), ((3, f"xbrl-filing: t/cache: cannot write ({inside})\n"), False))
-    for cache in ("o", "o/c", "./o/../o/c"):
+    case("a folder of nearly the name of a package", run(["r", "--taxonomy", "t", "--cache", "t-cache", "--prepare", "r-out"], folder), (0, ""))
+    for cache in ("o", "o/c", "./o/../o/c", f"{folder}/o/c"):
         seen = run(["r", "--taxonomy", "t", "--cache", cache, "--prepare", "o"], folder)
         line = f"xbrl-filing: {cache}: cannot write (the cache stands inside of the folder to prepare)\n"
         case(f"a cache in the prepared folder, {cache}", (seen, (folder / "o").exists()), ((3, line), False))
@@ -2811,6 +2847,7 @@ PARTS = (
     joining,
     joining_tables,
     leaving_out,
+    shapes_that_are_left,
     entry_points,
     chains,
     what_is_no_metadata,
