@@ -360,6 +360,9 @@ def catalogs(folder):
         spaced = entry.replace('="', '=" ').replace('"/>', ' "/>').replace('" ', ' " ').replace('=" ', '="\n ')
         by(f"a {kind} with blanks", rewrite() + spaced, "other")
     by("a URL that is shorter than a start string", rewrite() + rewrite(HOST + "mod.json/and/more", "../other/mod.json"), "reg")
+    inside = {"META-INF/catalog.xml": catalog(rewrite(prefix="reg/")), **{f"META-INF/{it}": text for it, text in TAXONOMY.items() if it.startswith("reg/")}}
+    for form in ("folder", "zip"):
+        makes(folder, f"a package that is all in META-INF, {form}", MERGED, taxonomies=[inside], form=form)
     by("an entry in a group", f"<group>{rewrite()}</group>", "reg")
     by("the base of a group", f'<group xml:base="../other/">{rewrite(prefix="")}</group>{rewrite("http://a/", "../reg/")}', "other")
     by("the base of a catalog", rewrite(prefix="./"), "other", attributes='xml:base="../other/"')
@@ -398,6 +401,10 @@ def catalogs_refused(folder):
     stops(folder, "a URL that leads outside", f"t0/META-INF/catalog.xml: leads {HOST}%2e%2e/%2E%2E/mod.json outside of the package", report=up)
     dots = {**REPORT, "reports/report.json": meta({"extends": [HOST + "a/../../../mod.json"]})}
     makes(folder, "dots that are written are resolved", MERGED, report=dots)
+    to_folder = {**REPORT, "reports/report.json": meta({"extends": [HOST + "sub"]})}
+    for form in ("folder", "zip"):
+        line = f"r/reports/report.json: no package has {HOST}sub (extends)"
+        stops(folder, f"a URL of a folder, {form}", line, report=to_folder, taxonomies=[{**TAXONOMY, "reg/sub/mod.json": MODULE}], form=form)
     line = f"r/reports/report.json: no package has {HOST}mod.json (extends; t0 has no META-INF/catalog.xml)"
     stops(folder, "a package without a catalog", line, taxonomies=[{"reg/mod.json": MODULE}])
     many = {"a.zip": "", "B.ZIP": "", "c/META-INF/catalog.xml": "", "d/x": "", "e.txt": ""}
@@ -2589,6 +2596,13 @@ def what_changes_meanwhile(folder):
     top = packages.FolderPackage(str(folder / "top")).digest()
     (folder / "top/other").mkdir()
     case("where the root is counts", packages.FolderPackage(str(folder / "top")).digest() == top, False)
+    write(folder, {"v/a": "1", "v/b": "2", "w/a": "1", "w/c": "2", "u/a": "2", "u/b": "1"})
+    for name, target in (("l1", "a"), ("l2", "b"), ("l3", None)):
+        write(folder, {f"{name}/a": "1", f"{name}/b": "2"})
+        if target:
+            (folder / name / "l").symlink_to(target)
+    case("targets of links count", len({packages.FolderPackage(str(folder / it)).digest() for it in ("l1", "l2", "l3")}), 3)
+    case("names of files count", len({packages.FolderPackage(str(folder / it)).digest() for it in "uvw"}), 3)
     case("files and links are told apart", (len(set(folders)), entries()), (3, before))
     zero, one = (os.fsdecode(digests.digest_of(it)) for it in (b"0", b"1"))
     write(folder, {"p/x": "0", "p/y": "1", "p/z": "3", f"q/{one}z": "3"})
@@ -2753,7 +2767,8 @@ def a_large_taxonomy(folder):
 
 def long_chains(length):
     """Schemas in which each of many elements or types rests on the next, to the last; and the kind that all of them have."""
-    yield "H", "".join(headed(f"H{it} {f'eg:H{it + 1}' if it < length - 1 else 'xbrli:item'}", more='type="xbrli:dateItemType"') for it in range(length)), "date"
+    dated = 'type="xbrli:dateItemType"'
+    yield "H", "".join(headed(f"H{it} {f'eg:H{it + 1}' if it < length - 1 else 'xbrli:item'}", more=dated) for it in range(length)), "date"
     yield "T", "".join(
         item(f"T{it}", f"eg:t{it}") + derived(f"t{it}", f"eg:t{it + 1}" if it < length - 1 else "xbrli:dateItemType") for it in range(length)
     ), "date"
