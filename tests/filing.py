@@ -401,6 +401,13 @@ def catalogs_refused(folder):
     stops(folder, "a URL that leads outside", f"t0/META-INF/catalog.xml: leads {HOST}%2e%2e/%2E%2E/mod.json outside of the package", report=up)
     dots = {**REPORT, "reports/report.json": meta({"extends": [HOST + "a/../../../mod.json"]})}
     makes(folder, "dots that are written are resolved", MERGED, report=dots)
+    for form in ("folder", "zip"):
+        line = f"r/reports/report.json: no package has {HOST}a%00.json (extends)"
+        stops(folder, f"a URL with a zero byte, {form}", line, report={**REPORT, "reports/report.json": meta({"extends": [HOST + "a%00.json"]})}, form=form)
+    for form, beside in (("folder", "r/reports"), ("zip", "r/reports"), ("top", "r/top/reports"), ("file", "r/reports")):
+        for name, shown in (("a%00.json", "a\\x00.json"), ("sub", "sub")):
+            own = {**REPORT, "reports/report.json": meta({"extends": [name]}), "reports/sub/x": ""}
+            stops(folder, f"a file beside, {name}, {form}", f"{beside}/report.json: there is no {beside}/{shown} (extends)", report=own, form=form)
     to_folder = {**REPORT, "reports/report.json": meta({"extends": [HOST + "sub"]})}
     for form in ("folder", "zip"):
         line = f"r/reports/report.json: no package has {HOST}sub (extends)"
@@ -1005,6 +1012,9 @@ def lost_prefixes(folder):
             stops(folder, f"a parameter {text} in a file, {form}", line, report=file, taxonomies=[module], form=form)
     file = {**named_report(parameterURL="p.csv"), "reports/p.csv": f'name,value\nlong,{"x" * 200_000}\nz,m:x\n'}
     stops(folder, "a parameter behind a very long one", lost.format("p.csv", "z", "m:x"), report=file, taxonomies=[module])
+    for name, text in (("three cells", b"name,value\nx,m:x,y\n"), ("bytes that are not UTF-8", b"name,value\nx,\xff\n")):
+        file = {**named_report(parameterURL="p.csv"), "reports/p.csv": text}
+        makes(folder, f"a parameters file with {name} is left", parts={"parameterURL": "p.csv"}, report=file, taxonomies=[module])
     kept = {"a": "n:x", "b": "am:x", "c": "m"}
     makes(folder, "parameters without it", parts={"parameters": kept}, report=named_report(parameters=kept), taxonomies=[module])
 
@@ -1626,6 +1636,12 @@ def damaged_zips(folder):
         status, err = run(["r.zip", "--taxonomy", "bad.zip", "--prepare", "o"], work)
         starts = err.startswith("xbrl-filing: " + (front or f"bad.zip/{name}: {damaged}"))
         case(f"a ZIP with {what}", (status, err.count("\n"), starts, listing(work) == before), (1, 1, True, True))
+    pack(folder / "empty.zip", {})
+    line = "xbrl-filing: empty.zip: has no xBRL-CSV report in 'reports' or a folder of it\n"
+    case("a ZIP of nothing", run(["empty.zip", "--prepare", "never"], folder), (1, line))
+    pack(folder / "whole.zip", {**REPORT, **TAXONOMY})
+    (folder / "marked.zip").write_bytes(b"PK\7\10" + (folder / "whole.zip").read_bytes())
+    case("a ZIP that begins with the mark of one in parts", run(["marked.zip", "--prepare", "marked"], folder), (0, ""))
     for method in (zipfile.ZIP_BZIP2, zipfile.ZIP_LZMA):
         pack(folder / f"{method}.zip", {**REPORT, **TAXONOMY}, method=method)
         seen = run([f"{method}.zip", "--prepare", f"o{method}"], folder)
@@ -1688,6 +1704,12 @@ def unpacked_packages(folder):
     shutil.rmtree(folder / "r")
     write(folder / "r", REPORT)
     write(folder / "t0", TAXONOMY) if (folder / "t0/reg").is_dir() else None
+    line = f"xbrl-filing: r/reports/report.json: no package has {HOST}mod.json (extends"
+    case("a folder with a slash behind it", run(["r/", "--prepare", "o"], folder), (1, f"{line}; there is no --taxonomy)\n"))
+    write(folder, {"ring/META-INF/catalog.xml": catalog(rewrite())})
+    (folder / "ring/reg").mkdir()
+    (folder / "ring/reg/mod.json").symlink_to("mod.json")
+    case("a link to itself", run(["r", "--taxonomy", "ring", "--prepare", "o"], folder), (1, f"{line})\n"))
     (folder / "r/reports/t.csv").rename(folder / "r/real.csv")
     (folder / "r/reports/t.csv").symlink_to("../real.csv")
     case("a link that stays inside", (run(["r", "--taxonomy", "t0", "--prepare", "o"], folder), (folder / "o/t.csv").read_text()), ((0, ""), "cash\n1\n"))
@@ -2601,6 +2623,14 @@ def what_changes_meanwhile(folder):
         write(folder, {f"{name}/a": "1", f"{name}/b": "2"})
         if target:
             (folder / name / "l").symlink_to(target)
+    (folder / "l1/out").symlink_to("../l2")
+    (folder / "l1/ring").symlink_to(".")
+    known = packages.FolderPackage(str(folder / "l1")).digest()
+    write(folder, {"l2/a": "3"})
+    case("what stands behind a link to a folder does not", packages.FolderPackage(str(folder / "l1")).digest(), known)
+    write(folder, {"l2/a": "1"})
+    (folder / "l1/out").unlink()
+    (folder / "l1/ring").unlink()
     case("targets of links count", len({packages.FolderPackage(str(folder / it)).digest() for it in ("l1", "l2", "l3")}), 3)
     case("names of files count", len({packages.FolderPackage(str(folder / it)).digest() for it in "uvw"}), 3)
     case("files and links are told apart", (len(set(folders)), entries()), (3, before))
