@@ -303,6 +303,9 @@ def forms_of_reports(folder):
         stops(folder, f"reports in folders of nearly the same name, {form}", line, report=two, form=form)
     made = makes(folder, "a report in a folder of reports", MERGED, report=deep)
     case("its table is the one beside it", made.get("t.csv"), b"cash\n1\n")
+    odd = {"reports/q%41 #?/report.json": meta({"extends": ["deep/low%2541.json"]}), "reports/q%41 #?/deep/low%41.json": meta(decimals=7)}
+    for form in ("folder", "zip"):
+        makes(folder, f"a folder of an odd name, {form}", parts={"decimals": 7}, report=odd, taxonomies=[], form=form)
     makes(folder, "a report in reports wins over one in a folder", MERGED, report={**REPORT, "reports/q/report.json": meta()})
     stops(folder, "two reports", "r: has several xBRL-CSV reports: reports/b.json, reports/report.json", report={**REPORT, "reports/b.json": meta()})
     two = {"reports/a/r.json": meta(), "reports/b/r.json": meta()}
