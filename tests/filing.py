@@ -315,6 +315,8 @@ def forms_of_reports(folder):
     line = "r: has no xBRL-CSV report in 'reports' or a folder of it; report.json is one, but does not stand there"
     for form in ("folder", "zip"):
         stops(folder, f"a report beside 'reports', {form}", line, report={"report.json": meta(), "b.json": "{}", "c.json": "x"}, form=form)
+    line = "r: has no xBRL-CSV report in 'reports' or a folder of it"
+    stops(folder, "JSON that says nothing of itself", line, report={"reports/a.json": "{}", "reports/b.json": "[]"})
     stops(folder, "no report", "r: has no xBRL-CSV report in 'reports' or a folder of it", report={"reports/a/b/r.json": meta()})
     line = "r: has no xBRL-CSV report in 'reports' or a folder of it; it is a taxonomy package"
     stops(folder, "a taxonomy package in the place of a report", line, report={**TAXONOMY, "META-INF/taxonomyPackage.xml": "<a/>"})
@@ -1967,8 +1969,8 @@ def what_cannot_be_read(folder):
     folder.chmod(0o755)
     as_nobody = {"user": 65534, "group": 65534} if os.getuid() == 0 else {}
     tables = {"t": {"url": "t.csv"}, "u": {"url": "sub/u.csv", "template": "t", "optional": True}}
-    write(folder, {"t/reg/mod.json": MODULE.replace(json.dumps(MERGED["tables"]), json.dumps(tables)), "r/reports/sub/u.csv": "cash\n1\n"})
-    for path in ("t/reg/mod.xsd", "t/reg/mod.json", "t/reg", "t/META-INF", "r/reports/report.json", "r/reports/sub", "r/reports", "r"):
+    write(folder, {"t/reg/mod.json": MODULE.replace(json.dumps(MERGED["tables"]), json.dumps(tables)), "r/reports/sub/u.csv": "cash\n1\n", "r/reports/other.json": "{}"})
+    for path in ("t/reg/mod.xsd", "t/reg/mod.json", "t/reg", "t/META-INF", "r/reports/report.json", "r/reports/other.json", "r/reports/sub", "r/reports", "r"):
         mode = (folder / path).stat().st_mode
         (folder / path).chmod(0)
         status, out, err = start(["r", "--taxonomy", "t"], folder, **as_nobody)
