@@ -11,9 +11,15 @@ pub use scarcity::{Answer, Call, ROOM, is_refused, refusals};
 #[cfg(test)]
 mod tests_blocks;
 #[cfg(test)]
+mod tests_cells;
+#[cfg(test)]
+mod tests_conversions;
+#[cfg(test)]
 mod tests_metadata;
 #[cfg(test)]
 mod tests_names;
+#[cfg(test)]
+mod tests_periods;
 #[cfg(test)]
 mod tests_rings;
 #[cfg(test)]
