@@ -82,13 +82,12 @@ class Content:
 
 
 def parse(pieces: Iterable[bytes], content: Content) -> None:
-    """Reads a file to its end. One that is not well-formed, or has a document type or an entity, is refused."""
+    """Reads a file to its end. One that is not well-formed, or has a document type (and so all that has an entity of its own), is refused."""
     pieces = iter(pieces)
     first = next(pieces, b"")
     encoding = encoding_of(first, content.label)
     parser = content.parser = expat.ParserCreate("utf-8" if encoding else None, " ")
     parser.StartDoctypeDeclHandler = lambda *_: refuse(content, "has a document type")
-    parser.EntityDeclHandler = lambda *_: refuse(content, "has an entity")
     parser.StartNamespaceDeclHandler = content.declare
     parser.EndNamespaceDeclHandler = content.forget
     parser.StartElementHandler = content.start

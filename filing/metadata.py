@@ -149,8 +149,7 @@ def check_parts(chain: Chain) -> None:
 def prune(merged: Merged) -> None:
     """Leaves out templates that no table uses, and members that the converter does not read."""
     value = merged.value
-    tables = value.get("tables", {})
-    used = [it.get("template", name) if isinstance(it, dict) else name for name, it in tables.items()]
+    used = [it.get("template", name) for name, it in objects(value, "tables")]
     named = {it for it in used if isinstance(it, str)}
     templates = value.get("tableTemplates", {})
     if templates:

@@ -64,7 +64,6 @@ class Files:
             new = reserved
             while new in taken:
                 new = "filed-" + new
-            taken.add(new)
             names.update({it: new + it[len(reserved) :] for it in urls if it.split("/")[0] == reserved})
         return names
 

@@ -41,4 +41,4 @@ def printable(text: str) -> str:
 
 def escaped(text: str) -> str:
     """A text whose control characters, line ends and broken bytes are written as escapes, so that a line stays one line."""
-    return "".join(it if it.isprintable() else it.encode("unicode_escape", "surrogatepass").decode() for it in text)
+    return "".join(it if it.isprintable() else it.encode("unicode_escape").decode() for it in text)

@@ -33,10 +33,11 @@ def report_by_itself(label: str) -> Found:
     """A metadata file that is in no package. One that is called as a package is not told as JSON alone where it is neither."""
     found = report_at(Beside(label), os.path.basename(label))
     if label.lower().endswith(PACKAGE_ENDINGS):
+        data = found.package.text(found.name)
         try:
-            read_json(found.package.text(found.name), label)
-        except Refusal as refusal:
-            raise wrong(label, "is neither a ZIP nor JSON") if refusal.status == WRONG else refusal from None
+            read_json(data, label)
+        except Refusal:
+            raise wrong(label, "is neither a ZIP nor JSON") from None
     return found
 
 

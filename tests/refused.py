@@ -118,7 +118,7 @@ def fault_of(seen, document, kind):
         if tables != sorted(set(tables)) or not names <= FAULTS[kind]:
             return f"lines {lines}"
         return None if out in document.cuts(tables[0]) else f"another text before {lines[0]}: {out!r}"
-    if kind == "memory" and err == UNSAID and status in (1, 3):
+    if kind == "memory" and err == "" and status in (1, 3):  # no memory was left for the line
         return None if out == b"" or any(out in document.cuts(it) for it in TABLES) else f"another text: {out!r}"
     if err in ENDS[kind] and status == (1 if err.endswith((" (16)\n", " (17)\n")) else 3):
         if "output" in err:
@@ -128,7 +128,6 @@ def fault_of(seen, document, kind):
 
 
 FAULTS = {"memory": {"Memory"}, "read": {"Read"}, "write": set(), "zero": set(), "open": {"Read"}, "stat": {"Read"}, "thread": {"NoThread"}}
-UNSAID = "xbrl-json: out of memory, and so the faults cannot be said\n"
 FILES = ["meta.json", "types.csv", "parameters.csv"]
 CANNOT_READ = {f"xbrl-json: cannot read {it}\n" for it in FILES}
 FAILED_READ = {f"xbrl-json: {it}: Read (17)\n" for it in ["report", "types", "parameters"]}

@@ -8,14 +8,11 @@ use oim_run::{Outcome, line, shown, status, terminal_line};
 use std::alloc::{AllocError, Global};
 use std::io::{Eprint, IsTerminal, Print};
 
-/// What is printed if memory runs out for the lines of an outcome.
-const UNSAID: &str = "xbrl-json: out of memory, and so the faults cannot be said\n";
-
 /// What is printed if standard output does not take the help or the version.
 const UNPRINTED: &str = "xbrl-json: output: Write (56)\n";
 
-/// Prints the lines of an outcome, and gives its exit status. What cannot be printed is left out. A
-/// terminal gets no control character of a path.
+/// Prints the lines of an outcome, and gives its exit status. What cannot be printed is left out: where
+/// memory runs out for the lines, nothing is printed. A terminal gets no control character of a path.
 pub fn told(rt: &HostRuntime, alloc: Global, outcome: &Outcome) -> u8
     ensures { result ≡ status_of outcome.now }
 {
@@ -24,10 +21,9 @@ pub fn told(rt: &HostRuntime, alloc: Global, outcome: &Outcome) -> u8
     } else {
         line(alloc, outcome)
     };
-    let _ = match lines {
-        Ok(lines) => rt.eprint(lines.as_str()),
-        Err(_) => rt.eprint(UNSAID),
-    };
+    if let Ok(lines) = lines {
+        let _ = rt.eprint(lines.as_str());
+    }
     status(outcome)
 }
 
