@@ -148,9 +148,9 @@ module _ (limits : Limits) (types : TypesValue) (names : Bindings) (e : MetaFaul
       (nor _ _ (off _ _ l)
       (none (column t)
       (λ n c. nor _ _
-          (nor _ _
-          (nor _ _ (nor _ _ (nor _ _ (nor _ _ (off _ _ i) (off _ _ s)) (off _ _ k)) (off _ _ s)) (nor _ _ (off _ _ s) (off _ _ u)))
-          (no_column_level s m d c)) (no_groups s m d c)) (section (codes "columns") t)))
+      (nor _ _
+      (nor _ _ (nor _ _ (nor _ _ (nor _ _ (off _ _ i) (off _ _ s)) (off _ _ k)) (off _ _ s)) (nor _ _ (off _ _ s) (off _ _ u)))
+      (no_column_level s m d c)) (no_groups s m d c)) (section (codes "columns") t)))
 
   pub no_templates : w e BadIdentifier ≡ false → w e BadTemplate ≡ false → w e ColumnKinds ≡ false → w e UnknownColumn ≡ false → w e BadDimension ≡ false
       → w e BadDecimals ≡ false → w e TooLarge ≡ false → (d : Data) → templates d ≡ false
@@ -165,7 +165,7 @@ module _ (limits : Limits) (types : TypesValue) (names : Bindings) where
       (first _ _ (no_level limits types names e refl refl refl t) ∙ first _ _ refl ∙ first _ _ refl ∙ first _ _ refl)
       (alike (column limits types names e t) is_bad_key
       (λ n c. first _ _ (no_groups limits types names e refl refl refl c) ∙ first _ _ (no_column_level limits types names e refl refl refl c) ∙ first _ _ refl
-          ∙ first _ _ refl ∙ first _ _ refl ∙ first _ _ refl) (section (codes "columns") t))
+      ∙ first _ _ refl ∙ first _ _ refl ∙ first _ _ refl) (section (codes "columns") t))
 
   kinds : (name : List ℕ) (t : Data) → template limits types names ColumnKinds name t ≡ any_member is_mixed_column (section (codes "columns") t)
   kinds name t =
@@ -196,7 +196,7 @@ module _ (limits : Limits) (types : TypesValue) (names : Bindings) where
       or-same _ _ _ _ (dimension_level t)
       (alike (column limits types names e t) (is_column_level (has_bad_dimension types names) (has_bad_dimension types names))
       (λ n c. or-same _ _ _ _ (first _ _ refl)
-          (alike (group limits types names e) (λ _ g. has_bad_dimension types names g) (λ m g. dimension_level g) (section (codes "propertyGroups") c)))
+      (alike (group limits types names e) (λ _ g. has_bad_dimension types names g) (λ m g. dimension_level g) (section (codes "propertyGroups") c)))
       (section (codes "columns") t))
 
   decimals : (name : List ℕ) (t : Data) → template limits types names BadDecimals name t ≡ is_template_level has_bad_decimals_there (λ c. is_fact c && has_bad_decimals_there c) name t
@@ -205,7 +205,7 @@ module _ (limits : Limits) (types : TypesValue) (names : Bindings) where
       or-same _ _ _ _ (decimals_level t)
       (alike (column limits types names e t) (is_column_level has_bad_decimals_there (λ c. is_fact c && has_bad_decimals_there c))
       (λ n c. or-same _ _ _ _ (last _ _ (no_dims limits types names e refl refl c))
-          (alike (group limits types names e) (λ _ g. has_bad_decimals_there g) (λ m g. decimals_level g) (section (codes "propertyGroups") c)))
+      (alike (group limits types names e) (λ _ g. has_bad_decimals_there g) (λ m g. decimals_level g) (section (codes "propertyGroups") c)))
       (section (codes "columns") t))
 
   too_many : (name : List ℕ) (t : Data) → template limits types names TooLarge name t ≡ has_too_many_columns limits.columns name t

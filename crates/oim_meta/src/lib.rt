@@ -44,9 +44,9 @@ mod written;
 
 pub use fault::MetaFault;
 pub use fault_laws::first_fault_is_least;
+pub use file_laws::{fault_is_of_earliest_record, types_are_of_all_records};
 pub use finding_laws::{a_walk_finds_all_faults, first_finding_is_least};
 pub use findings::Finding;
-pub use file_laws::{fault_is_of_earliest_record, types_are_of_all_records};
 pub use oim_records::{ReadFault, Records};
 pub use oim_report::{
     Column, ColumnKind, Info, Kind, Level, Limits, Parameters, Report, Side, Table, Template,

@@ -145,9 +145,7 @@ fn report_in(
     ensures fault { IfErr result (IsFirstOf (in_metadata limits parameters types (view value.now))) }
 {
     let (names, parts) = walked(alloc, value, &parameters, &types, limits)?;
-    Ok(build::report(
-        alloc, value, names, parts, parameters, types,
-    )?)
+    Ok(build::report(alloc, value, names, parts, parameters, types)?)
 }
 
 /// The report that a metadata says (xBRL-CSV 1.0, metadata), with the parameters of its parameters file and its types;

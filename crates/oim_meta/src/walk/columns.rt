@@ -31,16 +31,8 @@ fn find<'v>(template: &'v str, name: &'v str, column: &Value, findings: &mut Fin
         MetaFault::BadIdentifier,
         here.itself(),
     );
-    findings.add_if(
-        !column.is_object(),
-        MetaFault::BadTemplate,
-        here.itself(),
-    );
-    findings.add_if(
-        is_mixed(column),
-        MetaFault::ColumnKinds,
-        here.itself(),
-    );
+    findings.add_if(!column.is_object(), MetaFault::BadTemplate, here.itself());
+    findings.add_if(is_mixed(column), MetaFault::ColumnKinds, here.itself());
     findings.add_if(
         is_no_flag_at(column, "comment"),
         MetaFault::BadTemplate,

@@ -53,10 +53,7 @@ pub(crate) fn bad_decimals(level: &Value) -> bool
 }
 
 /// The decimals of a level.
-pub(crate) fn decimals(
-    alloc: Global,
-    level: &Value,
-) -> Result<Option<WrittenDecimals>, AllocError>
+pub(crate) fn decimals(alloc: Global, level: &Value) -> Result<Option<WrittenDecimals>, AllocError>
     ensures { IfOk result (λ made. made ≡ option_map decimals_of (get (codes "decimals") (view level.now))) }
 {
     match level.get("decimals") {

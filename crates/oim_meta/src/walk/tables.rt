@@ -86,11 +86,7 @@ fn find<'v>(name: &'v str, table: &Value, findings: &mut Findings<'v>)
         MetaFault::BadIdentifier,
         here.itself(),
     );
-    findings.add_if(
-        lacks_url(table),
-        MetaFault::BadTemplate,
-        here.at("url"),
-    );
+    findings.add_if(lacks_url(table), MetaFault::BadTemplate, here.at("url"));
     findings.add_if(
         is_no_text_at(table, "template"),
         MetaFault::BadTemplate,
