@@ -4,25 +4,21 @@ from __future__ import annotations
 
 import json
 import os
-import secrets
 from typing import Iterable, List, Optional, Sequence
 
+from .digests import contents_of_disk, digest_of, digests_of
 from .kinds import Kinds
-from .packages import Package, digest_of, pieces_of_disk
+from .packages import Package
 from .refusals import cannot_write
 
 
 def key_of(packages: Sequence[Package], entries: Sequence[str]) -> str:
     """The name under which kinds are kept: by the bytes of the packages, the entry points, and this program's own text."""
     own = os.path.dirname(os.path.abspath(__file__))
-    modules = sorted(it for it in os.listdir(own) if it.endswith(".py"))
-    program = [digest_of(pieces_of_disk(os.path.join(own, it), it)).hex() for it in modules]
+    modules = [os.path.join(own, it) for it in sorted(os.listdir(own)) if it.endswith(".py")]
+    program = [it.hex() for it in digests_of([contents_of_disk(it, os.path.getsize(it), it) for it in modules])]
     said = {"program": program, "packages": [it.digest().hex() for it in packages], "entries": list(entries)}
-    return digest_of_text(json.dumps(said, sort_keys=True).encode())
-
-
-def digest_of_text(text: bytes) -> str:
-    return digest_of(iter([text])).hex()
+    return digest_of(json.dumps(said, sort_keys=True).encode()).hex()
 
 
 class Cache:
@@ -40,7 +36,7 @@ class Cache:
         try:
             with open(self.path(key), "rb") as file:
                 digest, _, index = file.readline().rstrip(b"\n").partition(b" ")
-                if digest_of_text(index) != digest.decode():
+                if digest_of(index).hex() != digest.decode():
                     return None
                 blocks = json.loads(index)
                 start = file.tell()
@@ -48,7 +44,7 @@ class Cache:
                     offset, length, known = blocks[namespace]
                     file.seek(start + offset)
                     block = file.read(length)
-                    if digest_of_text(block) != known:
+                    if digest_of(block).hex() != known:
                         return None
                     lines = (line.partition(" ") for line in block.decode().split("\n"))
                     found[namespace] = {name: kind for name, _, kind in lines if kind}
@@ -63,16 +59,16 @@ class Cache:
         offset = 0
         for namespace in sorted(kinds):
             block = "".join(f"{name} {kind}\n" for name, kind in kinds[namespace].items()).encode()
-            blocks[namespace] = [offset, len(block), digest_of_text(block)]
+            blocks[namespace] = [offset, len(block), digest_of(block).hex()]
             offset += len(block)
             body.append(block)
         index = json.dumps(blocks).encode()
-        aside = f"{self.path(key)}.{secrets.token_hex(8)}"
+        aside = f"{self.path(key)}.{os.urandom(8).hex()}"
         try:
             os.makedirs(self.folder, exist_ok=True)
             try:
                 with open(aside, "xb") as file:
-                    file.writelines([digest_of_text(index).encode(), b" ", index, b"\n", *body])
+                    file.writelines([digest_of(index).hex().encode(), b" ", index, b"\n", *body])
                 os.replace(aside, self.path(key))
             finally:
                 if os.path.lexists(aside):

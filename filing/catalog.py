@@ -28,16 +28,16 @@ class Entries(Content):
         if XML_BASE in attributes:
             self.rebase(attributes[XML_BASE])
         if name == REWRITE and "uriStartString" in attributes:
-            self.rewrites.append((attributes["uriStartString"], self.target(attributes.get("rewritePrefix", ""))))
+            self.rewrites.append((attributes["uriStartString"].strip(), self.target(attributes.get("rewritePrefix", ""))))
         elif name == EXACT and "name" in attributes:
-            self.exact.append((attributes["name"], self.target(attributes.get("uri", ""))))
+            self.exact.append((attributes["name"].strip(), self.target(attributes.get("uri", ""))))
 
     def end(self, name: str) -> None:
         self.leave()
 
     def target(self, reference: str) -> str:
-        """The path in the package that an entry names; an entry that leads outside is refused."""
-        place = joined(self.base(), reference)
+        """The path in the package that an entry names; an entry that leads outside is refused. Blanks round a URI are none of it."""
+        place = joined(self.base(), reference.strip())
         if not place.local or place.text.startswith("/") or ".." in place.path().split("/"):
             raise wrong(self.label, f"has an entry that leads outside of the package: '{reference}' (line {self.line()})")
         return place.text

@@ -80,7 +80,7 @@ def read_metadata(found: Found) -> Metadata:
     metadata = Metadata(found, value)
     if metadata.part("links"):
         raise wrong(found.label, "has 'links', which cannot be carried over")
-    metadata.extends = list(dict.fromkeys(joined(found.place, it) for it in metadata.texts("extends")))
+    metadata.extends = [joined(found.place, it) for it in metadata.texts("extends")]
     return metadata
 
 
@@ -99,28 +99,28 @@ class Chain:
 
     def read_from(self, report: Found) -> None:
         """Walks depth first, without recursion; a file that comes back to itself is refused (xBRL-CSV 1.0, extends)."""
-        way: List[Tuple[Place, Iterator[Place]]] = []
+        way: Dict[Place, Iterator[Place]] = {}  # the files from the report's own to the one that is looked at, with what is left of each
         self.enter(report, way)
         while way:
-            at, rest = way[-1]
-            place = next(rest, None)
+            at = next(reversed(way))
+            place = next(way[at], None)
             if place is None:
-                way.pop()
+                del way[at]
                 continue
             asker, key = self.files[at].label, self.known(place)
-            if any(key == it for it, _ in way):
+            if key in way:
                 raise wrong(asker, f"extends itself, by way of {self.files[key].label}" if key != at else "extends itself")
             if key not in self.files:
                 self.enter(self.finder.find(place, asker, "extends"), way)
 
-    def enter(self, found: Found, way: List[Tuple[Place, Iterator[Place]]]) -> None:
+    def enter(self, found: Found, way: Dict[Place, Iterator[Place]]) -> None:
         metadata = read_metadata(found)
         key = self.known(found.place)
         self.files[key] = metadata
         self.down[key] = [self.known(it) for it in metadata.extends]
         for it in self.down[key]:
             self.up.setdefault(it, []).append(key)
-        way.append((key, iter(metadata.extends)))
+        way[key] = iter(metadata.extends)
 
     @staticmethod
     def known(place: Place) -> Place:
@@ -132,8 +132,8 @@ class Chain:
         return self.reached(metadata, self.down)
 
     def above(self, metadata: Metadata) -> List[Metadata]:
-        """All files that extend a file, directly or through others."""
-        return [it for it in self.reached(metadata, self.up) if it is not metadata]
+        """A file and all that extend it, directly or through others."""
+        return self.reached(metadata, self.up)
 
     def reached(self, metadata: Metadata, ways: Dict[Place, List[Place]]) -> List[Metadata]:
         """A file and all to which ways lead from it, in the order of the files."""

@@ -10,18 +10,20 @@ from typing import Dict, List, Optional, Tuple
 from .cache import Cache, key_of
 from .catalog import CATALOG
 from .chain import Chain
+from .converter_lines import ConverterLines
 from .final import check_final
 from .finding import Finder, Found
 from .kinds import REASONS, Kinds, kinds_of
-from .metadata import Merged, check_parts, merge
+from .metadata import check_parts, merge
+from .origins import Origins
 from .outputs import refuse_outputs
-from .packages import Beside, Package, open_package
+from .packages import Package, open_package
 from .parameters import check_parameters
 from .prefixes import Renaming, lost_prefixes
 from .prepared import META, TYPES, Files, move_into, write_files
 from .progress import Progress
 from .refusals import FILES, WRONG, Refusal, cannot_write, printable, wrong
-from .report import find_report, report_at
+from .report import find_report, report_by_itself
 from .schemas import Reference, read_schemas
 from .stopping import Stopped, Stopping, end_by_signal, run_program, temporary_folder
 from .types_table import types_table
@@ -87,22 +89,33 @@ def run(settings: Settings, program: str, progress: Progress, stopping: Stopping
     report, packages = open_inputs(settings)
     refuse_outputs(settings, packages, None)
     place = None if settings.prepare is None else place_of(settings.prepare)
-    merged, files, types = join(report, packages, settings, progress)
+    origins, files, types = join(report, packages, settings, progress)
     refuse_outputs(settings, packages, files)
     progress.say("preparing the tables")
-    if place is not None:
-        parent, name = place
-        with temporary_folder(parent, f".{name}-", stopping) as folder:
-            write_files(folder, files, types, copy=True)
-            os.chmod(folder, 0o777 & ~umask())
-            with stopping.held():
-                move_into(os.path.join(parent, name), folder)
-        progress.clear()
-        return 0
+    if place is None:
+        return convert(origins, files, types, settings, program, progress, stopping)
+    parent, name = place
+    with temporary_folder(parent, f".{name}-", stopping) as folder:
+        write_files(folder, files, types, copy=True)
+        os.chmod(folder, 0o777 & ~umask())
+        with stopping.held():
+            move_into(os.path.join(parent, name), folder)
+    progress.clear()
+    return 0
+
+
+def convert(origins: Origins, files: Files, types: bytes, settings: Settings, program: str, progress: Progress, stopping: Stopping) -> int:
+    """Runs xbrl-json over a temporary folder, and answers its status. On a terminal, the line of its --progress is its own."""
     with temporary_folder(temporary_place(), f"{NAME}-", stopping) as folder:
-        write_files(folder, files, types, copy=False)
+        lines = ConverterLines(origins, folder, write_files(folder, files, types, copy=False))
         progress.clear()
-        return run_program([program, os.path.join(folder, META), "--types", os.path.join(folder, TYPES), *settings.rest], stopping)
+        words = [program, os.path.join(folder, META), "--types", os.path.join(folder, TYPES), *settings.rest]
+        heard = "--explain" in settings.rest or "--progress" not in settings.rest
+        status = run_program(words, stopping, lines.hear if heard and sys.stderr else None)
+        more = lines.end()
+        if more:
+            tell(f"{NAME}: {printable(more)}")
+        return status
 
 
 def open_inputs(settings: Settings) -> Tuple[Found, List[Package]]:
@@ -115,12 +128,12 @@ def open_inputs(settings: Settings) -> Tuple[Found, List[Package]]:
             raise wrong(label, "is neither a ZIP nor a folder, so it is no taxonomy package")
         packages.append(taxonomy)
     if package is None:
-        return report_at(Beside(settings.report), os.path.basename(settings.report)), packages
+        return report_by_itself(settings.report), packages
     return find_report(package), [package, *packages]
 
 
-def join(report: Found, packages: List[Package], settings: Settings, progress: Progress) -> Tuple[Merged, Files, bytes]:
-    """The merged metadata, the report's files and the types table."""
+def join(report: Found, packages: List[Package], settings: Settings, progress: Progress) -> Tuple[Origins, Files, bytes]:
+    """Where the merged metadata comes from, the report's files with that metadata, and the types table."""
     finder = Finder(report.package, packages)
     chain = Chain(report, finder)
     check_parts(chain)
@@ -128,15 +141,15 @@ def join(report: Found, packages: List[Package], settings: Settings, progress: P
     check_final(chain, lost)
     namespaces = namespaces_of(chain)
     kinds = read_kinds(chain, finder, packages, settings, progress)
-    stands = {prefix: uri for prefix, uri in namespaces.items() if prefix not in lost}
-    renaming = Renaming(lost, lambda name: kind_of(name, stands, kinds) == "explicit")
+    renaming = Renaming(lost, lambda name: kind_of(name, namespaces, kinds) == "explicit")
     merged = merge(chain, renaming)
-    refuse_impossible_concepts(merged, stands, kinds)
-    refuse_unknown_dimensions(merged, stands, kinds)
+    origins = Origins(merged, chain, renaming)
+    refuse_impossible_concepts(origins, namespaces, kinds)
+    refuse_unknown_dimensions(origins, namespaces, kinds)
     files = Files(report, merged)
     files.require_parameters()
     check_parameters(merged, renaming, files)
-    return merged, files, types_table(kinds, stands.values())
+    return origins, files, types_table(kinds, namespaces.values())
 
 
 def namespaces_of(chain: Chain) -> Dict[str, str]:
@@ -168,23 +181,25 @@ def kind_of(name: str, namespaces: Dict[str, str], kinds: Kinds) -> Optional[str
     return kinds.get(namespaces.get(prefix, ""), {}).get(local)
 
 
-def refuse_impossible_concepts(merged: Merged, namespaces: Dict[str, str], kinds: Kinds) -> None:
+def refuse_impossible_concepts(origins: Origins, namespaces: Dict[str, str], kinds: Kinds) -> None:
     """Refuses metadata that names a concept of which the types table can say nothing."""
-    for concept, label, where in merged.concepts():
+    for concept, path in origins.merged.concepts():
         reason = REASONS.get(kind_of(concept, namespaces, kinds) or "")
         if reason:
-            raise wrong(label, f"names the concept '{concept}', which {reason} ({where})")
+            label, there = origins.own_path(path)
+            raise wrong(label, f"names the concept '{concept}', which {reason} ({'.'.join(there)})")
 
 
-def refuse_unknown_dimensions(merged: Merged, namespaces: Dict[str, str], kinds: Kinds) -> None:
+def refuse_unknown_dimensions(origins: Origins, namespaces: Dict[str, str], kinds: Kinds) -> None:
     """Refuses metadata that names a dimension of which the types table says nothing, as xbrl-json would, but by its name (Dimensions 1.0, section 2)."""
-    if "taxonomy" not in merged.value["documentInfo"]:
+    if "taxonomy" not in origins.merged.value["documentInfo"]:
         return
-    for dimension, label, where in merged.taxonomy_dimensions():
+    for dimension, path in origins.merged.taxonomy_dimensions():
         if kind_of(dimension, namespaces, kinds) not in ("explicit", "typed"):
             known = dimension.partition(":")[0] in namespaces
             reason = "which no schema that the taxonomy reaches has as one" if known else "whose prefix is not among 'namespaces'"
-            raise wrong(label, f"names the dimension '{dimension}', {reason} ({where})")
+            label, there = origins.own_path(path)
+            raise wrong(label, f"names the dimension '{there[-1]}', {reason} ({'.'.join(there)})")
 
 
 def place_of(prepare: str) -> Tuple[str, str]:

@@ -59,7 +59,7 @@ class Finder:
     def missing(self, place: Place, asker: str, how: str) -> Refusal:
         if place.local:
             return wrong(asker, f"there is no {self.report.shown(place.path())} ({how})")
-        without = "".join(f"; {it.label} has no {CATALOG}" for it in self.packages if it is not self.report and not it.has(CATALOG))
+        without = "".join(without_catalog(it) for it in self.packages if it is not self.report and not it.has(CATALOG))
         none = "" if any(it is not self.report for it in self.packages) else "; there is no --taxonomy"
         other = self.other_scheme(place)
         there = f"; one has {other.text}" if other and self.published(other) else ""
@@ -71,3 +71,11 @@ class Finder:
         scheme, colon, rest = place.text.partition(":")
         other = {"http": "https", "https": "http"}.get(scheme)
         return Place(other + colon + rest) if other else None
+
+
+def without_catalog(package: Package) -> str:
+    """What a line says of a package that has no catalog. It may be a collection of packages, as supervisors publish them in one ZIP."""
+    files, folders = package.children("")
+    inside = [it for it in files if it.lower().endswith(".zip")] + [it for it in folders if package.has(f"{it}/{CATALOG}")]
+    held = f", but packages, which --taxonomy takes one by one: {', '.join(inside)}" if inside else ""
+    return f"; {package.label} has no {CATALOG}{held}"

@@ -2,7 +2,7 @@
 
 from __future__ import annotations
 
-from typing import Dict, Optional, Set
+from typing import Callable, Dict, Optional, Set, TypeVar
 
 from .markup import Name
 from .schemas import Declared, Element
@@ -77,53 +77,59 @@ def known_word(name: Name) -> Optional[str]:
     return ENUMERATIONS.get(name)
 
 
+Known = TypeVar("Known")
+NOWHERE: Name = ("", "")
+
+
+def followed(
+    start: Optional[Name], kept: Dict[Name, Known], known: Callable[[Name], Optional[Known]], above: Callable[[Name], Optional[Name]], none: Known
+) -> Known:
+    """What is known of the first name of a chain of which anything is; `none` where it ends or runs in a ring. It is kept for all names on the way."""
+    way: Set[Name] = set()
+    at, end = start, None
+    while at is not None and at not in way:
+        end = kept.get(at) or known(at)
+        if end:
+            break
+        way.add(at)
+        at = above(at)
+    kept.update((it, end or none) for it in way)
+    return end or none
+
+
 class Chains:
-    """Follows the chains of substitution groups and of types. Answers are kept, since most elements say the same."""
+    """Follows the chains of substitution groups and of types. Answers are kept, since most elements say the same and chains may be long."""
 
     def __init__(self, declared: Declared) -> None:
         self.declared = declared
-        self.heads: Dict[Name, Optional[Name]] = {}
+        self.heads: Dict[Name, Name] = {}
+        self.types: Dict[Name, Name] = {}
         self.words: Dict[Name, str] = {}
         self.kinds: Dict[Element, Optional[str]] = {}
 
     def element(self, name: Name) -> Optional[Element]:
         return self.declared.elements.get(name[0], {}).get(name[1])
 
-    def known_head(self, start: Optional[Name]) -> Optional[Name]:
-        """The head that the standards name, at the end of a chain of substitution groups; a ring has none."""
-        way: Set[Name] = set()
-        at = start
-        while at is not None and at not in HEADS and at not in self.heads and at not in way:
-            way.add(at)
-            element = self.element(at)
-            at = element.head if element else None
-        end = at if at in HEADS else self.heads.get(at) if at is not None else None
-        self.heads.update((it, end) for it in way)
-        return end
+    def head_of(self, name: Name) -> Optional[Name]:
+        element = self.element(name)
+        return element.head if element else None
 
-    def type_of(self, element: Element) -> Optional[Name]:
+    def own_type(self, name: Name) -> Optional[Name]:
+        """The type that an element states; an element that is nowhere has none, and nothing is above it."""
+        element = self.element(name)
+        return element.type if element else NOWHERE
+
+    def known_head(self, start: Optional[Name]) -> Name:
+        """The head that the standards name, at the end of a chain of substitution groups."""
+        return followed(start, self.heads, lambda it: it if it in HEADS else None, self.head_of, NOWHERE)
+
+    def type_of(self, element: Element) -> Name:
         """An element's own type, else that of the head of its substitution group (XML Schema, part 1, section 3.3.2)."""
-        way: Set[Name] = set()
-        while element.type is None and element.head is not None and element.head not in way:
-            way.add(element.head)
-            above = self.element(element.head)
-            if above is None:
-                return None
-            element = above
-        return element.type
+        return element.type or followed(element.head, self.types, self.own_type, self.head_of, NOWHERE)
 
-    def word(self, start: Optional[Name]) -> str:
+    def word(self, start: Name) -> str:
         """The word of a type: its derivations are followed to a type that is known."""
-        way: Set[Name] = set()
-        at, word = start, None
-        while at is not None and at not in way:
-            word = self.words.get(at) or known_word(at)
-            if word:
-                break
-            way.add(at)
-            at = self.declared.types.get(at)
-        self.words.update((it, word or UNKNOWN) for it in way)
-        return word or UNKNOWN
+        return followed(start, self.words, known_word, self.declared.types.get, UNKNOWN)
 
     def kind(self, element: Element) -> Optional[str]:
         """What an element is, or None where no fact can have it (Dimensions 1.0, section 2; XBRL 2.1, section 5.1.1)."""

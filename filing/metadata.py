@@ -11,6 +11,7 @@ from .refusals import wrong
 from .strict_json import Json, Object, equal
 
 Path = Tuple[str, ...]
+ENTRIES: Path = ("documentInfo", "taxonomy")
 TABLE_MEMBERS = ("url", "template", "optional", "parameters")
 TEMPLATE_MEMBERS = ("columns", "rowIdColumn", "dimensions", "decimals")
 COLUMN_MEMBERS = ("comment", "dimensions", "decimals", "propertyGroups", "propertiesFrom")
@@ -66,23 +67,21 @@ class Merged:
             else:
                 self.put(("tables", name, member), value, label)
 
-    def concepts(self) -> Iterator[Tuple[str, str, str]]:
-        """Each concept that is named by a literal: its name, the file, and where it stands there."""
+    def concepts(self) -> Iterator[Tuple[str, Path]]:
+        """Each concept that is named by a literal, and where."""
         for path, level in levels(self.value):
             dimensions = level.get("dimensions")
             concept = dimensions.get("concept") if isinstance(dimensions, dict) else None
             if isinstance(concept, str):
-                at = path + ("dimensions", "concept")
-                yield concept, self.origin(at), ".".join(at)
+                yield concept, path + ("dimensions", "concept")
 
-    def taxonomy_dimensions(self) -> Iterator[Tuple[str, str, str]]:
-        """Each dimension of the taxonomy that is named: its name, the file, and where it stands there."""
+    def taxonomy_dimensions(self) -> Iterator[Tuple[str, Path]]:
+        """Each dimension of the taxonomy that is named, and where."""
         for path, level in levels(self.value):
             dimensions = level.get("dimensions")
             for name in dimensions if isinstance(dimensions, dict) else ():
                 if ":" in name:
-                    at = path + ("dimensions", name)
-                    yield name, self.origin(at), ".".join(at)
+                    yield name, path + ("dimensions", name)
 
     def text(self) -> bytes:
         """The file's bytes: compact, members in order of their names."""
@@ -117,9 +116,20 @@ def put_info(merged: Merged, metadata: Metadata, is_report: bool) -> None:
     base = metadata.base_url()
     if is_report and base is not None:
         merged.put(("documentInfo", "baseURL"), base, label)
-    info = merged.value["documentInfo"]
     if "taxonomy" in metadata.info:
-        info["taxonomy"] = list(dict.fromkeys([*info.get("taxonomy", ()), *(text for text, _ in metadata.taxonomy())]))
+        put_entries(merged, metadata)
+
+
+def put_entries(merged: Merged, metadata: Metadata) -> None:
+    """Adds a file's entry points to those that are there, each once."""
+    entries = merged.value["documentInfo"].setdefault("taxonomy", [])
+    merged.origins.setdefault(ENTRIES, metadata.label)
+    known = set(entries)
+    for text, _ in metadata.taxonomy():
+        if text not in known:
+            known.add(text)
+            merged.origins[(*ENTRIES, str(len(entries)))] = metadata.label
+            entries.append(text)
 
 
 def put_namespaces(merged: Merged, metadata: Metadata) -> None:

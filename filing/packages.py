@@ -3,7 +3,7 @@
 from __future__ import annotations
 
 import errno
-import hashlib
+import json
 import lzma
 import os
 import stat
@@ -12,9 +12,9 @@ import zipfile
 import zlib
 from abc import ABC, abstractmethod
 from contextlib import contextmanager
-from itertools import chain
 from typing import Dict, Iterable, Iterator, List, Optional, Tuple
 
+from .digests import Contents, contents_of_disk, digest_of, digests_of
 from .refusals import cannot_read, wrong
 from .zip_entries import Listing, checked_entries
 
@@ -70,9 +70,9 @@ class Package(ABC):
         return b"".join(kept)
 
     def find_root(self) -> None:
-        """Sets the root: the one folder at the top, or the top itself where `META-INF` or `reports` stands there."""
+        """Sets the root: the one folder at the top, which may have any name, or the top itself where `META-INF` or `reports` stands there."""
         folders = [it for it in self.children("")[1] if it != "__MACOSX"]
-        if "META-INF" not in folders and "reports" not in folders and len(folders) == 1:
+        if len(folders) == 1 and (folders[0] not in ("META-INF", "reports") or "META-INF" in self.children(folders[0])[1]):
             self.root = folders[0] + "/"
 
 
@@ -107,8 +107,8 @@ class ZipPackage(Package):
 
     def digest(self) -> bytes:
         """Of the file that is open: another one may have taken its name since."""
-        with damage_told(self.label):
-            return digest_of(os.pread(self.file.fileno(), PIECE, at) for at in range(0, os.fstat(self.file.fileno()).st_size, PIECE))
+        file = self.file.fileno()
+        return digests_of([Contents(lambda: os.dup(file), os.fstat(file).st_size, self.label)])[0]
 
 
 class FolderPackage(Package):
@@ -130,19 +130,24 @@ class FolderPackage(Package):
         return [it.name for it in found if not it.is_dir()], [it.name for it in found if it.is_dir()]
 
     def digest(self) -> bytes:
-        """Of all that the folder holds, also beside the root, where links may lead."""
-        return digest_of(chain([os.fsencode(self.root) + b"\0"], self.all_bytes("")))
-
-    def all_bytes(self, folder: str) -> Iterator[bytes]:
-        """Of each file and link its name and its content or target, in order; each as a digest, so that none runs into the next."""
-        for it in entries_of(os.path.join(self.top, folder), self.label):
-            name = folder + it.name
+        """Of all that the folder holds, also beside the root, where links may lead: names, contents of files, targets of links."""
+        links: List[Tuple[str, str]] = []
+        files: Dict[str, Contents] = {}
+        for name, it in self.all_entries(""):
             if it.is_symlink():
-                yield digest_of(iter([b"link ", os.fsencode(name)])) + digest_of(iter([os.fsencode(os.readlink(it.path))]))
-            elif it.is_dir():
-                yield from self.all_bytes(name + "/")
+                links.append((name, os.readlink(it.path)))
             elif it.is_file():
-                yield digest_of(iter([b"file ", os.fsencode(name)])) + digest_of(pieces_of_disk(it.path, f"{self.label}/{name}"))
+                files[name] = contents_of_disk(it.path, it.stat().st_size, f"{self.label}/{name}")
+        digests = [it.hex() for it in digests_of(list(files.values()))]
+        return digest_of(json.dumps([self.root, links, list(zip(files, digests))]).encode())
+
+    def all_entries(self, folder: str) -> Iterator[Tuple[str, os.DirEntry[str]]]:
+        """What stands in a folder and in those inside of it, but for the folders, with its name in the package's folder."""
+        for it in entries_of(os.path.join(self.top, folder), self.label):
+            if it.is_dir(follow_symlinks=False):
+                yield from self.all_entries(f"{folder}{it.name}/")
+            else:
+                yield folder + it.name, it
 
     def disk(self, name: str) -> str:
         """The path on the disk; a link that leads outside of the folder is refused."""
@@ -212,8 +217,8 @@ def damage_told(label: str) -> Iterator[None]:
     except DAMAGE as error:
         raise wrong(label, f"is damaged, or packed in a way that Python does not know ({error})") from None
     except OSError as error:
-        if error.errno is None:  # what bz2 says of bytes that are not its own
-            raise wrong(label, f"is damaged ({error})") from None
+        if error.errno in (None, errno.EINVAL):  # what bz2 says of bytes that are not its own, or a place before the file's begin
+            raise wrong(label, f"is damaged ({error.strerror or error})") from None
         raise cannot_read(label, error) from None
 
 
@@ -248,10 +253,3 @@ def pieces_of_disk(path: str, label: str) -> Iterator[bytes]:
     except OSError as error:
         raise cannot_read(label, error) from None
 
-
-def digest_of(pieces: Iterator[bytes]) -> bytes:
-    """A digest of bytes, by which they are known."""
-    digest = hashlib.blake2b(digest_size=32)
-    for piece in pieces:
-        digest.update(piece)
-    return digest.digest()

@@ -3,6 +3,7 @@
 from __future__ import annotations
 
 import re
+from collections import Counter
 from typing import Any, Callable, Dict, Iterable, Optional, Set
 
 from .chain import Metadata
@@ -19,8 +20,7 @@ def lost_prefixes(files: Iterable[Metadata]) -> Dict[str, str]:
     left: Set[str] = set()
     for metadata in files:
         own = [it for it in metadata.info_part("namespaces").items() if isinstance(it[1], str)]
-        uris = [uri for _, uri in own]
-        left.update(uri for uri in uris if uris.count(uri) > 1)
+        left.update(uri for uri, times in Counter(uri for _, uri in own).items() if times > 1)
         for prefix, uri in own:
             if first.setdefault(uri, prefix) != prefix:
                 lost[prefix] = uri

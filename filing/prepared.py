@@ -78,14 +78,18 @@ class Files:
             value["parameterURL"] = names.get(self.parameters, self.parameters)
 
 
-def write_files(folder: str, files: Files, types: bytes, copy: bool) -> None:
-    """Fills a folder. Files that stand on the disk are linked, or copied where the folder is kept."""
+def write_files(folder: str, files: Files, types: bytes, copy: bool) -> Dict[str, str]:
+    """Fills a folder, and answers how lines name what stands there. Files that stand on the disk are linked, or copied where the folder is kept."""
     names = files.new_names()
     files.rename(names)
+    shown: Dict[str, str] = {}
     for url in files.all():
-        put_file(os.path.join(folder, *names.get(url, url).split("/")), files.package, files.name(url), copy)
+        target, name = names.get(url, url), files.name(url)
+        shown[target] = files.package.shown(name)
+        put_file(os.path.join(folder, *target.split("/")), files.package, name, copy)
     fill(os.path.join(folder, TYPES), iter([types]))
     fill(os.path.join(folder, META), iter([files.merged.text()]))
+    return shown
 
 
 def put_file(target: str, package: Package, name: str, copy: bool) -> None:

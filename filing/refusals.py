@@ -33,7 +33,12 @@ def cannot_write(file: str, why: object) -> Refusal:
 
 
 def printable(text: str) -> str:
-    """A text whose control characters, line ends and broken bytes are written as escapes, so that a line stays one line; a very long one is cut."""
+    """A text as a line shows it: a very long one is cut."""
     if len(text) > LONGEST_LINE:
         text = f"{text[: LONGEST_LINE // 2]} .. {text[-LONGEST_LINE // 2 :]}"
+    return escaped(text)
+
+
+def escaped(text: str) -> str:
+    """A text whose control characters, line ends and broken bytes are written as escapes, so that a line stays one line."""
     return "".join(it if it.isprintable() else it.encode("unicode_escape", "surrogatepass").decode() for it in text)

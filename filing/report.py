@@ -2,16 +2,18 @@
 
 from __future__ import annotations
 
+import os
 from typing import List, Tuple
 from urllib.parse import quote
 
 from .chain import DOCUMENT_TYPE
 from .finding import Found
-from .packages import Package
+from .packages import Beside, Package
 from .refusals import WRONG, Refusal, wrong
 from .strict_json import Json, read_json
 from .urls import Place
 
+PACKAGE_ENDINGS = (".zip", ".xbr", ".xbri")
 PACKAGE_FILE = "META-INF/reportPackage.json"
 TAXONOMY_FILE = "META-INF/taxonomyPackage.xml"
 PACKAGE_TYPES = ["https://xbrl.org/report-package/2023" + it for it in ("", "/xbr", "/xbri")]
@@ -25,6 +27,17 @@ def document_type(value: Json) -> object:
 def report_at(package: Package, name: str) -> Found:
     """A file of the report, by its name in the package."""
     return Found(Place(quote(name, errors="surrogateescape"), True), package, name)
+
+
+def report_by_itself(label: str) -> Found:
+    """A metadata file that is in no package. One that is called as a package is not told as JSON alone where it is neither."""
+    found = report_at(Beside(label), os.path.basename(label))
+    if label.lower().endswith(PACKAGE_ENDINGS):
+        try:
+            read_json(found.package.text(found.name), label)
+        except Refusal as refusal:
+            raise wrong(label, "is neither a ZIP nor JSON") if refusal.status == WRONG else refusal from None
+    return found
 
 
 def find_report(package: Package) -> Found:
@@ -43,6 +56,7 @@ def find_report(package: Package) -> Found:
         raise broken
     others = "".join(f"; {name} has the document type {kind!r}" for name, kind in passed if kind)
     others += "; it is a taxonomy package" if package.has(TAXONOMY_FILE) else ""
+    others += "".join(f"; {name} is one, but does not stand there" for name in reports_in(package, "", []))
     raise wrong(package.label, f"has no xBRL-CSV report in 'reports' or a folder of it{others}")
 
 

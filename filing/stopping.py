@@ -3,18 +3,19 @@
 from __future__ import annotations
 
 import os
-import secrets
 import select
 import shutil
 import signal
 import subprocess
 from contextlib import contextmanager
-from typing import Iterator, List, Optional
+from typing import Callable, Iterator, List, Optional
 
 from .refusals import FILES, Refusal, cannot_write
 
+PIECE = 1 << 16
 LONGEST_WAIT = 1.0  # a caller may have blocked the signal that tells of the child's end
 SIGNALS = (signal.SIGINT, signal.SIGTERM, signal.SIGHUP)
+Hear = Callable[[bytes], None]
 
 
 class Stopped(BaseException):
@@ -76,7 +77,7 @@ class Stopping:
 @contextmanager
 def temporary_folder(parent: str, name: str, stopping: Stopping) -> Iterator[str]:
     """A new folder, gone at every end."""
-    path = os.path.join(parent, f"{name}{secrets.token_hex(8)}")
+    path = os.path.join(parent, f"{name}{os.urandom(8).hex()}")
     stopping.folders.append(path)
     try:
         try:
@@ -88,24 +89,41 @@ def temporary_folder(parent: str, name: str, stopping: Stopping) -> Iterator[str
         stopping.clear()
 
 
-def run_program(words: List[str], stopping: Stopping) -> int:
-    """Runs a program to its end and answers its status; a signal goes on to it."""
+def run_program(words: List[str], stopping: Stopping, hear: Optional[Hear] = None) -> int:
+    """Runs a program to its end and answers its status; a signal goes on to it. `hear` is told what it says on standard error."""
     child: Optional[subprocess.Popen[bytes]] = None
     try:
         with woken_by_signals() as reader:
-            with stopping.held():
-                child = subprocess.Popen(words)
-            while child.poll() is None:
-                if select.select([reader], [], [], LONGEST_WAIT)[0]:
-                    os.read(reader, 64)
+            try:
+                with stopping.held():
+                    child = subprocess.Popen(words, stderr=subprocess.PIPE if hear else None)
+                listen(child, reader, hear)
+            except Stopped as stopped:
+                if child is not None:
+                    child.send_signal(stopped.number)
+                    listen(child, reader, hear)
+                raise
     except OSError as error:
         raise Refusal(FILES, words[0], f"cannot run ({error.strerror})") from None
-    except Stopped as stopped:
-        if child is not None:
-            child.send_signal(stopped.number)
+    finally:
+        if child is not None and child.returncode is None:  # only after a fault of this program
+            child.kill()
             child.wait()
-        raise
     return child.returncode if child.returncode >= 0 else 128 - child.returncode
+
+
+def listen(child: subprocess.Popen[bytes], reader: int, hear: Optional[Hear]) -> None:
+    """Waits until a program has ended, and all is heard that it has said."""
+    said = [child.stderr.fileno()] if child.stderr else []
+    ended = False
+    while not ended:
+        ended = child.poll() is not None  # before it is listened to, so that nothing is missed
+        for it in select.select([reader, *said], [], [], 0 if ended else LONGEST_WAIT)[0]:
+            piece = os.read(it, PIECE)
+            if it != reader and hear:
+                ended = False
+                hear(piece)
+                said = said if piece else []
 
 
 @contextmanager

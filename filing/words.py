@@ -30,8 +30,10 @@ Nothing is ever fetched: a URL that no package has is an error. Inputs are not c
 Status 0: the document is written. 1: the report or its taxonomy is wrong, or xbrl-json found a fault. 2: the words are no
 command line. 3: a file is not there, or cannot be read or written. The variable XBRL_JSON may name another xbrl-json.
 """
-WITH_VALUE = ("--out", "--workers", "--ring", "--layout")
-WITHOUT_VALUE = ("--progress", "--version")
+# The words of xbrl-json, also those that it is to have.
+OUTPUTS = ("--out", "--faults")
+WITH_VALUE = (*OUTPUTS, "--workers", "--ring", "--layout")
+WITHOUT_VALUE = ("--progress", "--version", "--explain", "--whole")
 
 
 class Settings:
@@ -48,10 +50,10 @@ class Settings:
     def outputs(self) -> Iterator[str]:
         """The files that xbrl-json is told to write."""
         for word, after in zip(self.rest, self.rest[1:] + [""]):
-            if word == "--out" and after:
-                yield after
-            elif word.startswith("--out="):
-                yield word[len("--out=") :]
+            name, equals, value = word.partition("=")
+            output = value if equals else after
+            if name in OUTPUTS and output:
+                yield output
 
 
 def misuse(what: str) -> Refusal:

@@ -20,6 +20,7 @@ import struct
 import subprocess
 import sys
 import tempfile
+import threading
 import time
 import warnings
 import zipfile
@@ -30,7 +31,7 @@ EXAMPLE = TOP / "examples/filing"
 FILING = str(TOP / "xbrl-filing")
 sys.path.insert(0, str(TOP))
 
-from filing import command, packages, refusals, stopping, zip_entries  # noqa: E402
+from filing import command, digests, packages, refusals, stopping, zip_entries  # noqa: E402
 
 HOST = "http://reg.example/"
 CSV = "https://xbrl.org/2021/xbrl-csv"
@@ -147,11 +148,11 @@ def start(words, folder, **more):
     return done.returncode, done.stdout, done.stderr.decode(errors="replace")
 
 
-def on_a_terminal(words, folder):
+def on_a_terminal(words, folder, program=None):
     """Status of a run whose standard error is a terminal, and what that shows."""
     controller, terminal = pty.openpty()
     done = subprocess.run(
-        [FILING, *words], cwd=folder, env={**os.environ, "XBRL_JSON": PROGRAM}, stdout=subprocess.DEVNULL, stderr=terminal, timeout=100
+        [FILING, *words], cwd=folder, env={**os.environ, "XBRL_JSON": program or PROGRAM}, stdout=subprocess.DEVNULL, stderr=terminal, timeout=100
     )
     os.close(terminal)
     shown = b""
@@ -266,6 +267,12 @@ def forms_of_reports(folder):
     for form in ("folder", "zip", "top", "file"):
         makes(folder, f"a report as {form}", MERGED, TYPES, form=form)
     makes(folder, "__MACOSX beside the one folder", MERGED, report={"__MACOSX/x": "", **{f"top/{it}": text for it, text in REPORT.items()}})
+    said = json.dumps({"documentInfo": {"documentType": "https://xbrl.org/report-package/2023"}})
+    for top in ("reports", "META-INF", "top"):
+        named = {f"{top}/{it}": text for it, text in {**REPORT, "META-INF/reportPackage.json": said}.items()}
+        taxonomy = {f"{top}/{it}": text for it, text in TAXONOMY.items()}
+        for form in ("folder", "zip"):
+            makes(folder, f"a folder at the top that is called {top}, {form}", MERGED, report=named, taxonomies=[taxonomy], form=form)
     for kind in ("", "/xbr", "/xbri"):
         said = json.dumps({"documentInfo": {"documentType": "https://xbrl.org/report-package/2023" + kind}})
         makes(folder, f"a report package{kind}", MERGED, report={**REPORT, "META-INF/reportPackage.json": said})
@@ -297,6 +304,9 @@ def forms_of_reports(folder):
     stops(folder, "two reports in folders", "r: has several xBRL-CSV reports: reports/a/r.json, reports/b/r.json", report=two)
     apart = {f"top/{it}": text for it, text in REPORT.items()}
     stops(folder, "two folders at the top", "r: has no xBRL-CSV report in 'reports' or a folder of it", report={**apart, "z/x": ""})
+    line = "r: has no xBRL-CSV report in 'reports' or a folder of it; report.json is one, but does not stand there"
+    for form in ("folder", "zip"):
+        stops(folder, f"a report beside 'reports', {form}", line, report={"report.json": meta(), "b.json": "{}", "c.json": "x"}, form=form)
     stops(folder, "no report", "r: has no xBRL-CSV report in 'reports' or a folder of it", report={"reports/a/b/r.json": meta()})
     line = "r: has no xBRL-CSV report in 'reports' or a folder of it; it is a taxonomy package"
     stops(folder, "a taxonomy package in the place of a report", line, report={**TAXONOMY, "META-INF/taxonomyPackage.xml": "<a/>"})
@@ -306,6 +316,10 @@ def forms_of_reports(folder):
     stops(folder, "a broken report", "r/reports/r.json: is not JSON: Expecting value (line 1, column 2)", report={"reports/r.json": "[x"})
     write(folder, {"x.txt": "hello"})
     case("neither ZIP nor JSON", run(["x.txt", "--prepare", "o"], folder), (1, "xbrl-filing: x.txt: is not JSON: Expecting value (line 1, column 1)\n"))
+    for ending in ("zip", "ZIP", "xbr", "xbri"):
+        write(folder, {f"x.{ending}": "<html>", f"j.{ending}": meta()})
+        seen = run([f"x.{ending}", "--prepare", "o"], folder), run([f"j.{ending}", "--prepare", f"o {ending}"], folder)
+        case(f"neither ZIP nor JSON, called {ending}", seen, ((1, f"xbrl-filing: x.{ending}: is neither a ZIP nor JSON\n"), (0, "")))
     write(folder, {"m.json": meta()})
     seen = run(["m.json", "--taxonomy", "x.txt", "--prepare", "o"], folder)
     case("a package that is none", seen, (1, "xbrl-filing: x.txt: is neither a ZIP nor a folder, so it is no taxonomy package\n"))
@@ -334,6 +348,12 @@ def catalogs(folder):
     twice = f'<uri name="{HOST}mod.json" uri="../none/mod.json"/><uri name="{HOST}mod.json" uri="../other/mod.json"/>'
     by("a second exact entry of the same name", rewrite() + twice, "other")
     by("a second start string of the same text", rewrite(prefix="../none/") + rewrite(prefix="../other/") + rewrite(), "other")
+    by("a start string that is the whole URL", rewrite() + rewrite(HOST + "mod.json", "../other/mod.json"), "other")
+    for kind in ("rewriteURI", "uri"):
+        entry = {"rewriteURI": rewrite(HOST + "m", "../other/m"), "uri": f'<uri name="{HOST}mod.json" uri="../other/mod.json"/>'}[kind]
+        by(f"a {kind} of another namespace", rewrite() + entry.replace(f"<{kind} ", f'<{kind} xmlns="http://x/" '), "reg")
+        spaced = entry.replace('="', '=" ').replace('"/>', ' "/>').replace('" ', ' " ').replace('=" ', '="\n ')
+        by(f"a {kind} with blanks", rewrite() + spaced, "other")
     by("a URL that is shorter than a start string", rewrite() + rewrite(HOST + "mod.json/and/more", "../other/mod.json"), "reg")
     by("an entry in a group", f"<group>{rewrite()}</group>", "reg")
     by("the base of a group", f'<group xml:base="../other/">{rewrite(prefix="")}</group>{rewrite("http://a/", "../reg/")}', "other")
@@ -375,6 +395,10 @@ def catalogs_refused(folder):
     makes(folder, "dots that are written are resolved", MERGED, report=dots)
     line = f"r/reports/report.json: no package has {HOST}mod.json (extends; t0 has no META-INF/catalog.xml)"
     stops(folder, "a package without a catalog", line, taxonomies=[{"reg/mod.json": MODULE}])
+    many = {"a.zip": "", "B.ZIP": "", "c/META-INF/catalog.xml": "", "d/x": "", "e.txt": ""}
+    line = f"r/reports/report.json: no package has {HOST}mod.json (extends; t0 has no META-INF/catalog.xml, but packages, which --taxonomy takes one by one:"
+    for form in ("folder", "zip"):
+        stops(folder, f"a collection of packages, {form}", f"{line} B.ZIP, a.zip, c)", taxonomies=[many], form=form)
     line = f"r/reports/report.json: no package has {HOST}mod.json (extends; there is no --taxonomy)"
     stops(folder, "no package at all", line, taxonomies=[])
     stops(folder, "no package but the report's own", line, report={**REPORT, "META-INF/catalog.xml": catalog("")}, taxonomies=[])
@@ -427,6 +451,9 @@ def places(folder):
     write(folder / "alone", {"a/b/m.json": meta({"extends": ["../up.json"]}), "a/up.json": meta(decimals=1)})
     case("a metadata file reaches what lies above it", run(["a/b/m.json", "--prepare", "o"], folder / "alone"), (0, ""))
     case("and that is joined", json.loads((folder / "alone/o/meta.json").read_text())["decimals"], 1)
+    write(folder / "alone", {"root.json": meta({"extends": [f"{folder}/alone/a/up.json"]})})
+    line = f"xbrl-filing: root.json: '{folder}/alone/a/up.json' leads outside of root.json (extends)\n"
+    case("and none by its path from the root", run(["root.json", "--prepare", "never"], folder / "alone"), (1, line))
     for reference, shown in (("/etc/x.json", "/etc/x.json"), ("%2e%2e/%2e%2e/x.json", "reports/%2e%2e/%2e%2e/x.json")):
         line = f"r/reports/report.json: '{shown}' leads outside of r (extends)"
         stops(folder, f"a reference {reference}", line, report={**REPORT, "reports/report.json": meta({"extends": [reference]})})
@@ -588,6 +615,8 @@ def entry_points(folder):
     base["taxonomies"].append({"META-INF/catalog.xml": catalog(rewrite("http://filer.example/", "../f/")), "f/a/own.xsd": schema(item("O"))})
     bare = both({}, {}, {}, {"baseURL": HOST[:-1], "taxonomy": ["mod.xsd"]})
     makes(folder, "a baseURL without a path", parts={"documentInfo/taxonomy": [HOST + "mod.xsd"]}, types=TYPES, **bare)
+    below = both({}, {}, {}, {"baseURL": "d/e/", "taxonomy": ["../../mod.xsd"]})
+    makes(folder, "a baseURL that is relative", parts={"documentInfo/taxonomy": [HOST + "mod.xsd"]}, types=TYPES, **below)
     query = both({}, {}, {}, {"taxonomy": ["q.xsd?v=1"]})
     query["taxonomies"][0].update({"reg/q.xsd?v=1": schema(include("#a") + include("?v=2") + item("Q")), "reg/q.xsd?v=2": schema(item("R"))})
     makes(folder, "URLs with queries", parts={"documentInfo/taxonomy": [HOST + "q.xsd?v=1"]}, types=records("Q,text", "R,text"), **query)
@@ -621,6 +650,15 @@ def chains(folder):
         }
 
     base = {"META-INF/catalog.xml": catalog(rewrite())}
+    missing = {**base, **level("a", "none.json"), **level("b")}
+    line = f"t0/reg/a.json: no package has {HOST}none.json (extends)"
+    stops(folder, "a file of the second level that no package has", line, report=report, taxonomies=[missing])
+    spelled = {"reports/report.json": meta({"extends": ["../low.json", "x/../../l%6Fw.json", "../%6cow.json", "../mid.json"]})}
+    spelled.update({"low.json": meta(), "mid.json": meta({"extends": ["lo%77.json"]})})
+    write(folder / "spelled", spelled)
+    report_file, packages_given = command.open_inputs(command.read_words([str(folder / "spelled")]))
+    seen = [it.found.name for it in command.Chain(report_file, command.Finder(report_file.package, packages_given))]
+    case("a file is one by all its spellings", seen, ["reports/report.json", "low.json", "mid.json"])
     diamond = {
         **base,
         **level("a", "c.json"),
@@ -771,6 +809,18 @@ def final_parts(folder):
         report={**REPORT, "reports/report.json": meta({"extends": [HOST + "mod.json"]}, parameters={"b": "2"})},
         parts={"parameters": {"a": "1", "b": "2"}},
     )
+    two_below = {**below, "reg/mod.json": meta({**INFO, "final": {"parameters": True}, "extends": ["side.json", "low.json"]}, parameters={"a": "1"})}
+    two_below["reg/side.json"] = meta()
+    restated = {**REPORT, "reports/report.json": meta({"extends": [HOST + "mod.json"]}, parameters={"b": "2"})}
+    wanted = {"parameters": {"a": "1", "b": "2"}}
+    makes(folder, "what the second file below a final one has", taxonomies=[two_below], report=restated, parts=wanted)
+    ways = {"reg/one.json": meta({"extends": ["mod.json"]}), "reg/two.json": meta({"extends": ["mod.json"]}, parameters={"c": "3"})}
+    by_two = {**REPORT, "reports/report.json": meta({"extends": [HOST + "one.json", HOST + "two.json"]})}
+    line = f"t0/reg/two.json: adds 'c' to 'parameters', which is final in {low}"
+    stops(folder, "the second file that extends a final one", line, taxonomies=[{**below, **ways}], report=by_two)
+    beside = {"reports/report.json": meta({"extends": ["sub/base.json"], "taxonomy": ["own.xsd"]}), "reports/own.xsd": schema()}
+    beside["reports/sub/base.json"] = meta({"taxonomy": ["../own.xsd"], "final": {"taxonomy": True}})
+    makes(folder, "a final taxonomy by another reference", report=beside, parts={"documentInfo/taxonomy": ["own.xsd", "../own.xsd"]})
     other = {"namespaces": {"g": EG}, "taxonomy": ["mod.xsd"], "final": {"dimensions": True}}
     final = [{**TAXONOMY, "reg/mod.json": meta(other, dimensions={"g:Region": "g:x"})}]
     for dimension, line in (("Region", ""), ("Branch", f"xbrl-filing: {top}: adds 'eg:Branch' to 'dimensions', which is final in {low}\n")):
@@ -1048,16 +1098,13 @@ def reading_once(folder):
         {"reg/mod.xsd": schema("\n" + include("http://far.example/x.xsd#a"))},
         "t0/reg/mod.xsd: no package has http://far.example/x.xsd (import, line 2)",
     )
-    for host in ("notxbrl.org/x.xsd", "www.xbrl.org.far.example/x.xsd", "www.xbrl.org@far.example/x.xsd", "far.example/www.xbrl.org"):
+    for host in ("w3.org/x.xsd", "notxbrl.org/x.xsd", "www.xbrl.org.far.example/x.xsd", "www.xbrl.org@far.example/x.xsd", "far.example/www.xbrl.org"):
         url = f"http://{host}"
         line = f"t0/reg/mod.xsd: no package has {url} (import, line 1)"
         refuses(folder, f"an import of {url}", {"reg/mod.xsd": schema(include(url))}, line)
-    refuses(
-        folder,
-        "an import of a file",
-        {"reg/mod.xsd": schema(include("file:///etc/passwd"))},
-        "t0/reg/mod.xsd: no package has file:///etc/passwd (import, line 1)",
-    )
+    for url in ("file:///etc/passwd", "ftp://www.xbrl.org/x.xsd", "urn:www.xbrl.org"):
+        line = f"t0/reg/mod.xsd: no package has {url} (import, line 1)"
+        refuses(folder, f"an import of {url}", {"reg/mod.xsd": schema(include(url))}, line)
     stops(
         folder,
         "an entry point that no package has",
@@ -1084,6 +1131,8 @@ def including(folder):
         "reg/plain.xsd": plain,
     }
     both = {**two, "reg/mod.json": meta({**INFO, "namespaces": {"eg": EG, "two": "http://two/"}})}
+    undeclared = plain.replace(' type="T"', ' xmlns="" type="T"')
+    reads(folder, "one that says that it has no default namespace", {**two, "reg/plain.xsd": undeclared}, records("A,date"))
     reads(folder, "an included schema without a namespace", two, records("A,date"))
     reads(folder, "included by two", both, records("A,date") + "http://two/,A,date\nhttp://two/,B,text\n")
     reads(
@@ -1183,7 +1232,12 @@ KNOWN = [
     ("text", DTR + "non-numeric", "textBlock escaped xml xmlNodes"),
     ("text", DTR + "2022-03-31", "textBlock"),
     ("decimal", DTR + "numeric", "percent perShare area mass anythingAtAll"),
-    ("decimal", DTR + "2022-03-31", "percent perShare area volume mass energy power length memory noDecimalsMonetary ghgEmissions monetaryPerArea"),
+    ("decimal", DTR + "2022-03-31", "percent perShare area volume mass weight energy power length memory force frequency pressure temperature"),
+    ("decimal", DTR + "2022-03-31", "voltage electricCurrent electricCharge planeAngle ghgEmissions insolation irradiance speed flow massFlow"),
+    ("decimal", DTR + "2022-03-31", "noDecimalsMonetary nonNegativeMonetary nonNegativeNoDecimalsMonetary monetaryPerLength monetaryPerArea"),
+    ("decimal", DTR + "2022-03-31", "monetaryPerVolume monetaryPerDuration monetaryPerEnergy monetaryPerMass energyPerMonetary"),
+    ("decimal", DTR + "2022-03-31", "ghgEmissionsPerMonetary volumePerMonetary perUnit"),
+    ("other", DTR + "2024-01-31", "SQName SQNames prefixedContent"),
     ("qname", "http://xbrl.org/2014/extensible-enumerations", "enumeration"),
     ("qname", "http://xbrl.org/PWD/2016-10-12/extensible-enumerations-1.1", "enumeration"),
     ("qname", "http://xbrl.org/2020/extensible-enumerations-2.0", "enumeration"),
@@ -1343,6 +1397,11 @@ def what_no_fact_can_have(folder):
             line = f"t0/reg/mod.json: names the dimension '{name}', {reason} ({where.format(name)})"
             taxonomy = {**TAXONOMY, "reg/mod.json": module, "reg/mod.xsd": schema(nothing + item("Z"))}
             stops(folder, f"no dimension {name} at {where}", line, taxonomies=[taxonomy])
+    other = {"namespaces": {"g": EG}, "taxonomy": ["mod.xsd"]}
+    named = {**REPORT, "reports/report.json": meta({"extends": [HOST + "mod.json"], "namespaces": {"eg": EG}})}
+    module = {**TAXONOMY, "reg/mod.json": meta(other, dimensions={"g:None": "x"})}
+    line = f"t0/reg/mod.json: names the dimension 'g:None', {unknown} (dimensions.g:None)"
+    stops(folder, "a dimension by the name that the file has for it", line, report=named, taxonomies=[module])
     for name in ("A", "B", "C", "D", "E", "M", "nowhere"):
         made = prepared(
             folder, taxonomies=[{**TAXONOMY, "reg/mod.json": meta(INFO, dimensions={"concept": f"eg:{name}"}), "reg/mod.xsd": schema(nothing + ring)}]
@@ -1403,6 +1462,14 @@ def with_header(path, name, offset_local, offset_central, form, value):
         while data[start + at_name : start + at_name + len(name)] != name.encode():
             start = data.index(mark, start + 1)
         struct.pack_into(form, data, start + offset, value)
+    path.write_bytes(bytes(data))
+
+
+def with_end(path, offset, more):
+    """Adds to one field of the record that ends a ZIP."""
+    data = bytearray(path.read_bytes())
+    at = data.rindex(b"PK\5\6") + offset
+    struct.pack_into("<I", data, at, struct.unpack_from("<I", data, at)[0] + more)
     path.write_bytes(bytes(data))
 
 
@@ -1504,6 +1571,7 @@ def damaged_zips(folder):
     name, damaged = "reg/mod.json", "is damaged, or packed in a way that Python does not know ("
     for what, front, change in (
         ("cut short", "bad.zip: " + damaged + "File is not a zip file)\n", lambda it: it.write_bytes(it.read_bytes()[:-30])),
+        ("an entry before its begin", "bad.zip/META-INF/catalog.xml: is damaged", lambda it: with_end(it, 16, 1000)),
         ("a method that is not known", "", lambda it: with_header(it, name, 8, 10, "<H", 99)),
         ("a wrong check sum", "", lambda it: with_header(it, name, 14, 16, "<I", 12345)),
         ("too little declared", "", lambda it: with_header(it, name, 22, 24, "<I", 20)),
@@ -1727,12 +1795,13 @@ def temporary_files(folder):
             wanted = [f"{home}/meta.json", "--types", f"{home}/types.csv", "--out", "doc.json", "--progress", "--ring=7", str(folder), links, "700"]
             case(f"the words of xbrl-json, {report}, {end}", (status, lines, err), (int(end), wanted, "said\n"))
             case("the folder stands under TMPDIR, and is gone", (os.path.dirname(home), os.listdir(temporary)), (str(temporary), []))
-    for given in (["--ring", "7"], ["--layout", "lines"], ["--workers", "1"], ["--out", "doc.json"]):
+    for given in (["--ring", "7"], ["--layout", "lines"], ["--workers", "1"], ["--out", "doc.json"], ["--faults", "f.csv"], ["--explain", "--whole"]):
         seen = start([*given, "r", "--taxonomy", "t"], folder, env=settings)[1].decode().splitlines()
         case(f"words before REPORT {given}", seen[3:5], given)
     for given, passed in (
         (["--new", "x", "--flag", "--progress", "--out", "d"], ["--new", "x", "--flag", "--progress", "--out", "d"]),
         (["--out=d", "--layout", "lines"], ["--out=d", "--layout", "lines"]),
+        (["--out=", "--workers=1", "--faults", "--out"], ["--out=", "--workers=1", "--faults", "--out"]),
     ):
         seen = start(["r", "--taxonomy", "t", *given], folder, env=settings)[1].decode().splitlines()
         case(f"words that go on {given}", seen[3 : 3 + len(passed)], passed)
@@ -1749,6 +1818,11 @@ def temporary_files(folder):
     status, out, err = start(["r", "--taxonomy", "t"], folder, env={**settings, "TMPDIR": "none"})
     ends = err.startswith(f"xbrl-filing: {folder}/none/xbrl-filing-"), err.endswith(": cannot write (No such file or directory)\n")
     case("TMPDIR that is not there", (status, out, *ends, os.listdir(temporary)), (3, b"", True, True, []))
+    fake.write_text('#!/bin/sh\ndirname "$1"\n')
+    seen = start(["r", "--taxonomy", "t"], folder, env={**settings, "TMPDIR": ""})
+    case("TMPDIR that is empty", (seen[0], os.path.dirname(seen[1].decode())), (0, "/tmp"))
+    seen = start(["r", "--taxonomy", "t"], folder, env={**settings, "TMPDIR": "tmp"})
+    case("TMPDIR that is relative", (seen[0], os.path.dirname(seen[1].decode())), (0, str(temporary)))
     seen = start(["r", "--taxonomy", "t"], folder, env={**settings, "XBRL_JSON": "/nonexistent/x"})
     case("xbrl-json that is not there", (seen, os.listdir(temporary)), ((3, b"", "xbrl-filing: /nonexistent/x: cannot run (No such file or directory)\n"), []))
 
@@ -1861,8 +1935,8 @@ def a_signal_between_two_steps(folder):
     seen = []
 
     class Started(subprocess.Popen):
-        def __init__(self, given):
-            super().__init__(given)
+        def __init__(self, given, **more):
+            super().__init__(given, **more)
             seen.append(self)
             os.kill(os.getpid(), signal.SIGTERM)
 
@@ -1948,6 +2022,197 @@ def a_signal_at_each_step(folder):
         heeding()
 
 
+def joined_of(folder, report, taxonomies=(TAXONOMY,)):
+    """Where the merged metadata of a filing comes from, and the filing's files."""
+    labels = ["r"] + [f"t{number}" for number in range(len(taxonomies))]
+    for label, files in zip(labels, [report, *taxonomies]):
+        write(folder / label, files)
+    before = os.getcwd()
+    os.chdir(folder)
+    try:
+        given = command.read_words(["r", "--taxonomy", *labels[1:]])
+        origins, files, _ = command.join(*command.open_inputs(given), given, command.Progress())
+    finally:
+        os.chdir(before)
+    return origins, files
+
+
+def filed_in_parts():
+    """A report, a module and a file below it, each with parts of the merged metadata; the module has other prefixes than the report."""
+    columns = {"cash": {"dimensions": {"g:Region": "m:x", "concept": "g:Cash"}}, "g": {"propertyGroups": {"a/b~c": {"dimensions": {"g:Branch": "y"}}}}}
+    module = {
+        "namespaces": {"m": "http://mem/", "g": EG}, "taxonomy": ["mod.xsd", "two.xsd"], "extends": ["low.json"]
+    }
+    files = {
+        "reg/mod.json": meta(module, tableTemplates={"t": {"columns": columns}}, tables={"t": {"template": "t", "parameters": {"p": "1"}}}, decimals=0),
+        "reg/low.json": meta({"taxonomy": ["mod.xsd", "low.xsd"]}, parameters={"low": "2"}, dimensions={"entity": "m:1"}),
+        "reg/two.xsd": schema(item("Two")),
+        "reg/low.xsd": schema(item("Low")),
+    }
+    own = {"extends": [HOST + "mod.json"], "namespaces": {"eg": EG, "n": "http://mem/"}, "taxonomy": [HOST + "low.xsd"]}
+    tables = {"t": {"url": "meta.json", "parameters": {"q": "1"}}, "u": {"url": "filed-meta.json.csv", "template": "t", "optional": True}}
+    report = {"reports/report.json": meta(own, tables=tables, dimensions={"eg:Region": "n:y"}), "reports/meta.json": "cash\n1\n"}
+    return report, [{**TAXONOMY, **files}]
+
+
+ORIGINS = {
+    "/tableTemplates/t/columns/cash/dimensions/eg:Region": ("t0/reg/mod.json", "/tableTemplates/t/columns/cash/dimensions/g:Region"),
+    "/tableTemplates/t/columns/cash/dimensions/concept": ("t0/reg/mod.json", "/tableTemplates/t/columns/cash/dimensions/concept"),
+    "/tableTemplates/t/columns/cash/dimensions/eg:None": ("t0/reg/mod.json", "/tableTemplates/t/columns/cash/dimensions/eg:None"),
+    "/tableTemplates/t/columns/g/propertyGroups/a~1b~0c/dimensions/eg:Branch": (
+        "t0/reg/mod.json", "/tableTemplates/t/columns/g/propertyGroups/a~1b~0c/dimensions/g:Branch"
+    ),
+    "/tableTemplates/t/columns/g/propertyGroups/a~1b~0c/none/0": ("t0/reg/mod.json", "/tableTemplates/t/columns/g/propertyGroups/a~1b~0c/none/0"),
+    "/tableTemplates/u": ("t0/reg/mod.json", "/tableTemplates/u"),
+    "/tables/t": ("r/reports/report.json", "/tables/t"),
+    "/tables/t/url": ("r/reports/report.json", "/tables/t/url"),
+    "/tables/t/template": ("t0/reg/mod.json", "/tables/t/template"),
+    "/tables/t/parameters/p": ("t0/reg/mod.json", "/tables/t/parameters/p"),
+    "/tables/t/parameters/q": ("r/reports/report.json", "/tables/t/parameters/q"),
+    "/tables/t/parameters/none": ("r/reports/report.json", "/tables/t/parameters/none"),
+    "/dimensions/eg:Region": ("r/reports/report.json", "/dimensions/eg:Region"),
+    "/dimensions/entity": ("t0/reg/low.json", "/dimensions/entity"),
+    "/parameters/low": ("t0/reg/low.json", "/parameters/low"),
+    "/decimals": ("t0/reg/mod.json", "/decimals"),
+    "/documentInfo": ("r/reports/report.json", "/documentInfo"),
+    "/documentInfo/baseURL": ("r/reports/report.json", "/documentInfo/baseURL"),
+    "/documentInfo/namespaces/eg": ("r/reports/report.json", "/documentInfo/namespaces/eg"),
+    "/documentInfo/taxonomy": ("r/reports/report.json", "/documentInfo/taxonomy"),
+    "/documentInfo/taxonomy/0": ("r/reports/report.json", "/documentInfo/taxonomy/0"),
+    "/documentInfo/taxonomy/1": ("t0/reg/mod.json", "/documentInfo/taxonomy/0"),
+    "/documentInfo/taxonomy/2": ("t0/reg/mod.json", "/documentInfo/taxonomy/1"),
+    "/documentInfo/taxonomy/3": ("r/reports/report.json", "/documentInfo/taxonomy/3"),
+    "/documentInfo/taxonomy/x": ("r/reports/report.json", "/documentInfo/taxonomy/x"),
+    **{it: None for it in ("", "x", "tables", "/", "/none", "/tables/~2", "/tables/~", "//tables", "/parameterURL", "/etc/passwd")},
+}
+
+
+def where_metadata_came_from(folder):
+    """A place of the merged metadata is told in the file that it came from, by what that file calls it."""
+    origins, _ = joined_of(folder, *filed_in_parts())
+    for pointer, wanted in ORIGINS.items():
+        case(f"where {pointer!r} came from", origins.place(pointer), wanted)
+    case("the files in their order", origins.labels(), ["r/reports/report.json", "t0/reg/mod.json", "t0/reg/low.json"])
+
+
+def with_words(folder, said, words=(), status=1, report=None):
+    """Status and standard error of a run whose xbrl-json says this; `HOME` is the folder that it was given."""
+    fake = folder / "fake"
+    fake.write_text('#!/bin/sh\nHOME=$(dirname "$1")\ncat >&2 <<END\n' + said + f"END\nexit {status}\n")
+    fake.chmod(0o755)
+    report, taxonomies = report or filed_in_parts()
+    joined_of(folder, report, taxonomies)
+    seen = start(["r", "--taxonomy", "t0", *words], folder, env={"XBRL_JSON": str(fake)})
+    return seen[0], seen[2]
+
+
+def lines_of_the_converter(folder):
+    """The lines of xbrl-json come through, with places and files by their names in the filing."""
+    place, other = "/tableTemplates/t/columns/cash/dimensions/eg:Region", "t0/reg/mod.json: /tableTemplates/t/columns/cash/dimensions/g:Region"
+    fault, why = "xbrl-json: report: BadDimension (11)\n", "no explicit or typed dimension of this name is in the types table\n"
+    files = "xbrl-filing: 'report' is the metadata that was joined of r/reports/report.json, t0/reg/mod.json, t0/reg/low.json;"
+    files += " --prepare FOLDER writes it as one file\n"
+    apart = "xbrl-json: table t, row 2, column 1: BadNumber (40)\n"
+    for name, said, wanted in (
+        ("a place", f"{fault}    {place}\n    n:x\n    {why}", f"{fault}    {other}\n    n:x\n    {why}"),
+        ("a place behind a tab", f"{fault}\t{place}\n", f"{fault}\t{other}\n"),
+        ("two places", f"{fault}  {place}\n  /decimals\n", f"{fault}  {other}\n  t0/reg/mod.json: /decimals\n"),
+        ("a place below a table's fault", f"{apart}  {place}\n", f"{apart}  {other}\n"),
+        ("a place that is none", f"{fault}  /none\n  x {place}\n{place}\n", f"{fault}  /none\n  x {place}\n{place}\n{files}"),
+        ("no place", fault, fault + files),
+        ("the fault of a table", apart, apart),
+        ("a fault of the metadata in a value", f"{apart}  {fault}", f"{apart}  {fault}"),
+        ("a file", "  HOME/filed-meta.json, line 3\n".replace("HOME", "$HOME"), "  r/reports/meta.json, line 3\n"),
+        ("files in one line", "  $HOME/filed-meta.json.csv and $HOME/filed-meta.json $HOME\n", None),
+        ("a file that was made here", "cannot read $HOME/meta.json\n", None),
+        ("no line", "", ""),
+    ):
+        for words in ([], ["--explain"], ["--explain", "--progress"]):
+            status, err = with_words(folder, said, words)
+            if wanted is None and "line" in name:
+                ends = err.startswith("  r/reports/filed-meta.json.csv and r/reports/meta.json /"), err.endswith("\n")
+                case(f"{name}, {words}", (status, *ends), (1, True, True))
+            elif wanted is None:
+                case(f"{name}, {words}", (status, err.startswith("cannot read /"), err.endswith("/meta.json\n")), (1, True, True))
+            else:
+                case(f"{name}, {words}", (status, err), (1, wanted))
+    case("with --progress alone all is as it is", with_words(folder, f"{fault}  {place}\n", ["--progress"]), (1, f"{fault}  {place}\n"))
+    alone = ({"reports/report.json": meta(INFO), "reports/mod.xsd": schema()}, [TAXONOMY])
+    case("one file is named by nobody", with_words(folder, fault, report=alone), (1, fault))
+    (folder / "fake").write_text("#!/bin/sh\ncat said >&2\n")
+    for said in (b"a line without an end", b"one\nanother", b"\n\n", b"\rh\x1b[2K a\xff\xc3\xa9\0b\n", b"x" * 100_000):
+        (folder / "said").write_bytes(said)
+        settings = {**os.environ, "XBRL_JSON": str(folder / "fake")}
+        done = subprocess.run([FILING, "r", "--taxonomy", "t0"], cwd=folder, env=settings, stderr=subprocess.PIPE, timeout=60)
+        case(f"byte for byte: {said[:30]!r}", (done.returncode, done.stderr), (0, said))
+
+
+def hearing_the_converter(folder):
+    """Lines come as soon as they are said; many of them, and those of a program that is signalled or stays behind, keep nothing waiting."""
+    report, taxonomies = filed_in_parts()
+    joined_of(folder, report, taxonomies)
+    fake = folder / "fake"
+    settings = {**os.environ, "XBRL_JSON": str(fake)}
+    fake.touch(0o755)
+
+    def begun():
+        return subprocess.Popen([FILING, "r", "--taxonomy", "t0"], cwd=folder, env=settings, stderr=subprocess.PIPE, preexec_fn=heeding)
+
+    fake.write_text("#!/bin/sh\necho ready >&2\nsleep 30\n")
+    done, since = begun(), time.monotonic()
+    line = done.stderr.readline()
+    done.send_signal(signal.SIGTERM)
+    done.communicate(timeout=60)
+    case("a line while the program runs", (line, done.returncode, time.monotonic() - since < 25), (b"ready\n", -signal.SIGTERM, True))
+    fake.write_text("#!/bin/sh\nyes 'much to say' | head -100000 >&2\nexit 3\n")
+    done = begun()
+    case("many lines", (done.communicate(timeout=60)[1] == b"much to say\n" * 100_000, done.returncode), (True, 3))
+    fake.write_text("#!/bin/sh\n(sleep 20; echo late >&2) &\necho said >&2\nexit 1\n")
+    done, since = begun(), time.monotonic()
+    line = done.stderr.readline(), done.wait(timeout=60)
+    case("a program that leaves another behind", (line, time.monotonic() - since < 15), ((b"said\n", 1), True))
+    done.stderr.close()
+    fake.write_text("#!/bin/sh\nexec 2>&-\nsleep 0.3\nexit 4\n")
+    done = begun()
+    case("a program that closes its standard error", (done.communicate(timeout=60)[1], done.returncode), (b"", 4))
+    fake.write_text("#!/bin/sh\ntrap 'yes again | head -100000 >&2; exit 9' TERM\necho ready >&2\nwhile :; do sleep 0.02; done\n")
+    done = begun()
+    done.stderr.readline()
+    done.send_signal(signal.SIGTERM)
+    rest = done.communicate(timeout=60)[1]
+    case("much that is said after a signal", (rest == b"again\n" * 100_000, done.returncode), (True, -signal.SIGTERM))
+    fake.write_text("#!/bin/sh\nsleep 0.1\necho said >&2\nexit 5\n")
+    done = subprocess.run([FILING, "r", "--taxonomy", "t0"], cwd=folder, env=settings, preexec_fn=lambda: os.close(2), timeout=60)
+    case("nobody hears", done.returncode, 5)
+    with open("/dev/full", "wb") as full:
+        done = subprocess.run([FILING, "r", "--taxonomy", "t0"], cwd=folder, env=settings, stderr=full, timeout=60)
+    case("what cannot be handed on", done.returncode, 5)
+    fake.write_text("#!/bin/sh\nprintf 'xbrl-json: report: X (1)\\n  a\\033[2Jb\\n' >&2\nexit 1\n")
+    status, shown = on_a_terminal(["r", "--taxonomy", "t0"], folder, str(fake))
+    case("lines on a terminal", (status, b"X (1)\r\n  a\\x1b[2Jb\r\nxbrl-filing: 'report' is the metadata" in shown), (1, True))
+    fake.write_text("#!/bin/sh\ntest -t 2 && printf '\\rhow far\\r\\033[K' >&2\n")
+    status, shown = on_a_terminal(["r", "--taxonomy", "t0", "--progress"], folder, str(fake))
+    case("progress on a terminal is the program's own", (status, shown.endswith(b"\rhow far\r\x1b[K")), (0, True))
+    seen = []
+
+    class Heard(subprocess.Popen):
+        def __init__(self, *given, **more):
+            super().__init__(*given, **more)
+            seen.append(self)
+
+    def fails(_):
+        raise KeyError("a fault")
+
+    kept = stopping.subprocess.Popen
+    try:
+        stopping.subprocess.Popen = Heard
+        stopping.run_program(["sh", "-c", "echo a >&2; exec sleep 30"], stopping.Stopping(), fails)
+    except KeyError:
+        case("a fault of what hears leaves no program behind", seen[0].returncode, -signal.SIGKILL)
+    finally:
+        stopping.subprocess.Popen = kept
+
+
 def words(folder):
     """The words, the help, and outputs that are inputs."""
     write(folder, {**{f"r/{it}": text for it, text in REPORT.items()}, **{f"t/{it}": text for it, text in TAXONOMY.items()}})
@@ -1965,6 +2230,8 @@ def words(folder):
         (["r", "", "--taxonomy", "t"], "'' is one word too many"),
         (["r", "--progress", "yes"], "'yes' is one word too many"),
         (["r", "--out=x", "yes"], "'yes' is one word too many"),
+        (["r", "--explain", "yes"], "'yes' is one word too many"),
+        (["r", "--whole", "yes"], "'yes' is one word too many"),
         (["r", "--taxonomy", "t", "--types", "x"], "--types is made from the taxonomy and cannot be given"),
         (["r", "--types=x"], "--types is made from the taxonomy and cannot be given"),
         (["r", "--prepare"], "--prepare needs a value"),
@@ -1978,6 +2245,8 @@ def words(folder):
         case(f"words {given}", run(given, folder), (2, f"xbrl-filing: {what}{usage}"))
     version = subprocess.run([PROGRAM, "--version"], capture_output=True, timeout=60).stdout
     case("--version", start(["--version"], folder), (0, version, ""))
+    case("-h is --help", start(["-h"], folder), start(["--help"], folder))
+    case("-h is no word beside others", start(["r", "-h"], folder)[0], 2)
     status, out, err = start(["r", "--help"], folder)
     case("--help", (status, b"--taxonomy PACKAGE.." in out, b"It is not proved" in out, err), (0, True, True, ""))
     with open("/dev/full", "wb") as full:
@@ -2008,7 +2277,7 @@ def several_packages(folder):
     case(
         "control bytes in a name",
         run([escaped.name, "--prepare", "o"], folder),
-        (1, "xbrl-filing: a\\nb\\x1b.zip: is not JSON: Expecting value (line 1, column 1)\n"),
+        (1, "xbrl-filing: a\\nb\\x1b.zip: is neither a ZIP nor JSON\n"),
     )
     write(folder, {"long.json": json.dumps({"documentInfo": {"documentType": "y" * 100_000}})})
     line = f"long.json: is no xBRL-CSV metadata file: its document type is '{'y' * 100_000}'"
@@ -2069,7 +2338,8 @@ def outputs_that_are_inputs(folder):
     ):
         before = listing(folder)
         line = f"xbrl-filing: {out}: cannot write ({why})\n"
-        for words_of_out in (["--out", out], [f"--out={out}"], ["--out", "no/x", "--out", out, "--workers", "1"], ["--out", out, "--out", "no/x"]):
+        twice = ["--out", "no/x", "--out", out, "--workers", "1"], ["--out", out, "--out", "no/x"]
+        for words_of_out in (["--out", out], [f"--out={out}"], *twice, ["--faults", out], [f"--faults={out}"]):
             case(f"{given} {words_of_out}", (run([*given, *words_of_out], folder), listing(folder) == before), ((3, line), True))
         if given == ["alone/m.json"] and out != "alone/m.json":
             line = f"xbrl-filing: {out}: cannot write (Not a directory)\n"
@@ -2097,6 +2367,16 @@ def folders_to_prepare(folder):
         (3, "xbrl-filing: full: cannot write (the folder is not empty)\n"),
     )
     case("--prepare of a file", run([*good, "--prepare", "full/x"], folder), (3, "xbrl-filing: full/x: cannot write (Not a directory)\n"))
+    seen = run([*good, "--prepare", "full/x/y"], folder)
+    case("--prepare below a file", seen, (3, "xbrl-filing: full/x/y: cannot write (there is no folder to put it in)\n"))
+    (folder / "elsewhere").mkdir()
+    (folder / "to empty").symlink_to("elsewhere")
+    (folder / "to none").symlink_to("elsewhere/new")
+    for link, made in (("to none", "elsewhere/new"), ("to empty", None)):
+        if made is None:
+            shutil.rmtree(folder / "elsewhere/new")
+        seen = run([*good, "--prepare", link], folder), sorted(os.listdir(folder / (made or "elsewhere"))), (folder / link).is_symlink()
+        case(f"--prepare of a link {link}", seen, ((0, ""), ["meta.json", "t.csv", "types.csv"], True))
     case("--prepare where no folder is", run([*good, "--prepare", "no/o"], folder), (3, "xbrl-filing: no/o: cannot write (there is no folder to put it in)\n"))
     case(
         "--prepare of an empty folder",
@@ -2217,6 +2497,12 @@ def keys_of_the_cache(folder):
     write(folder, {"t3/META-INF/catalog.xml": catalog(rewrite()), "t3/reg/two.xsd": schema(item("Three"))})
     write(folder, {"r6/reports/report.json": meta({"namespaces": {"eg": EG}, "taxonomy": [HOST + "mod.xsd"]})})
     case("another entry point of the same packages", made("t", "r6"), ((0, ""), TYPES.replace("Note", "Nope")))
+    orders = [[HOST + "x.xsd", HOST + "y.xsd"], [HOST + "y.xsd", HOST + "x.xsd"]]
+    twice = {"x": schema(item("A", "xbrli:dateItemType")), "y": schema(item("A"))}
+    write(folder, {"t9/META-INF/catalog.xml": catalog(rewrite()), **{f"t9/reg/{name}.xsd": text for name, text in twice.items()}})
+    for number, urls in enumerate(orders):
+        write(folder, {f"r{number + 7}/reports/report.json": meta({"namespaces": {"eg": EG}, "taxonomy": urls})})
+    case("the order of entry points counts", [made("t9", it)[1] for it in ("r7", "r8")], [records("A,date"), records("A,text")])
     case("the order of packages counts", [made("t", "r", "t3")[1], made("t3", "r", "t")[1]], [records("Two,text"), records("Three,text")])
 
 
@@ -2262,10 +2548,86 @@ def what_changes_meanwhile(folder):
     (folder / "top/other").mkdir()
     case("where the root is counts", packages.FolderPackage(str(folder / "top")).digest() == top, False)
     case("files and links are told apart", (len(set(folders)), entries()), (3, before))
-    zero, one = (os.fsdecode(packages.digest_of(iter([it]))) for it in (b"0", b"1"))
+    zero, one = (os.fsdecode(digests.digest_of(it)) for it in (b"0", b"1"))
     write(folder, {"p/x": "0", "p/y": "1", "p/z": "3", f"q/{one}z": "3"})
     (folder / "q/x").symlink_to(zero + "y")
     case("no name runs into the next", len({packages.FolderPackage(str(folder / it)).digest() for it in "pq"}), 2)
+
+
+def digests_of_contents(folder):
+    """The digest of a file is that of the digests of its blocks, on any number of threads."""
+    texts = [b"", b"a", b"abcdef", b"abcdefg", b"abcdefgh", b"abcdefgabcdefg", b"abcdefgabcdefgh", b"x" * 70]
+    write(folder, {str(number): text for number, text in enumerate(texts)})
+    files = [digests.contents_of_disk(str(folder / str(number)), len(text), str(number)) for number, text in enumerate(texts)]
+    own = digests.digest_of
+    wanted = [own(b"".join(own(text[at : at + 7]) for at in range(0, len(text) or 1, 7))) for text in texts]
+    kept = digests.BLOCK, digests.processors, digests.Thread, digests.Blocks.digest
+    workers = set()
+
+    def slowly(blocks, *place):
+        workers.add(threading.get_ident())
+        time.sleep(0.005)
+        return kept[3](blocks, *place)
+
+    class NoThread(threading.Thread):
+        def start(self):
+            raise RuntimeError("can't start new thread")
+
+    try:
+        digests.BLOCK = 7
+        for number in (1, 2, 3, 8, 100):
+            digests.processors = lambda: number
+            case(f"digests of blocks on {number} processors", digests.digests_of(files), wanted)
+        digests.Blocks.digest = slowly
+        for number, used in ((1, 1), (3, 3), (100, digests.MOST_THREADS)):
+            workers.clear()
+            digests.processors = lambda: number
+            case(f"{number} processors", (digests.digests_of(files), len(workers), threading.active_count()), (wanted, used, 1))
+        case("no more threads than blocks", digests.digests_of(files[:1]), wanted[:1])
+        digests.Thread = NoThread
+        case("a system that gives no threads", digests.digests_of(files), wanted)
+    finally:
+        digests.BLOCK, digests.processors, digests.Thread, digests.Blocks.digest = kept
+    case("no files", digests.digests_of([]), [])
+    case("a file that has grown a little counts as it is", digests.digests_of([files[3]._replace(size=1)]), digests.digests_of(files[3:4]))
+
+
+def digests_that_fail(folder):
+    """Of several failures the first is told, in the order of the files; a signal ends the work of all threads."""
+    names = ["a", "b", "c", "d"]
+    write(folder, {"a": "1", "c": "1"})
+    files = [digests.contents_of_disk(str(folder / it), 1, it) for it in names] * 20
+
+    def seen(number):
+        digests.processors = lambda: number
+        try:
+            return digests.digests_of(files)
+        except refusals.Refusal as refusal:
+            return refusal.status, refusal.line
+        except (MemoryError, stopping.Stopped) as error:
+            return type(error)
+
+    kept, digest = digests.processors, digests.Blocks.digest
+    main_thread = threading.get_ident()
+
+    def signalled(blocks, *place):
+        if threading.get_ident() == main_thread:
+            os.kill(os.getpid(), signal.SIGTERM)
+        done.append(place)
+        time.sleep(0.01)
+        return b""
+
+    try:
+        for number in (1, 4):
+            case(f"what cannot be read, on {number} processors", seen(number), (3, "b: cannot read (No such file or directory)"))
+        digests.Blocks.digest = lambda *_: (_ for _ in ()).throw(MemoryError)
+        case("too little memory to digest", seen(4), MemoryError)
+        digests.Blocks.digest, done = signalled, []
+        heeded()
+        case("a signal while contents are digested", (seen(4), threading.active_count(), len(done) < 40), (stopping.Stopped, 1, True))
+    finally:
+        digests.processors, digests.Blocks.digest = kept, digest
+        heeding()
 
 
 def what_is_not_kept(folder):
@@ -2278,6 +2640,8 @@ def what_is_not_kept(folder):
     case("schemas of the report are not kept", (made("t", "r3")[1], entries()), (records("Own,text"), before))
     write(folder, {"r3/reports/own.xsd": schema(item("New"))})
     case("and so are read again", made("t", "r3")[1], records("New,text"))
+    write(folder, {"r3/reports/report.json": meta({"namespaces": {"eg": EG}, "taxonomy": [HOST + "mod.xsd", "own.xsd"]})})
+    case("nor among others", (made("t", "r3")[1], entries()), (records(*sorted([*TYPES.replace(f"{EG},", "").split()[1:], "New,text"])), before))
     own = {**REPORT, **TAXONOMY, "reg/mod.xsd": schema(item("Mine"))}
     write(folder / "r4", own)
     case("nor those of a report with a catalog", (made("t", "r4")[1], entries()), (records("Mine,text"), before))
@@ -2338,13 +2702,22 @@ def a_large_taxonomy(folder):
     case("20,000 concepts on a terminal", (status, b"xbrl-filing: reading the taxonomy: 3 files, " in shown, shown.endswith(b"\r\x1b[K")), (0, True, True))
 
 
+def long_chains(length):
+    """Schemas in which each of many elements or types rests on the next, to the last; and the kind that all of them have."""
+    yield "H", "".join(headed(f"H{it} {f'eg:H{it + 1}' if it < length - 1 else 'xbrli:item'}", more='type="xbrli:dateItemType"') for it in range(length)), "date"
+    yield "T", "".join(
+        item(f"T{it}", f"eg:t{it}") + derived(f"t{it}", f"eg:t{it + 1}" if it < length - 1 else "xbrli:dateItemType") for it in range(length)
+    ), "date"
+    yield "N", "".join(headed(f"N{it} eg:N{it + 1}") for it in range(length - 1)) + item(f"N{length - 1}", "xbrli:dateItemType"), "date"
+
+
 def endless_schemas(folder):
     """What would take all memory or all time: names, bases and tags that grow, many start strings. One line each, and soon."""
     deep, long = 100_000, "y" * (17 << 20)
     grows = '<a xml:base="aaaaaaaaa/">' * deep + "</a>" * deep
     tag, comment = f'<xs:element name="A" a="{long}"/>', f"<!--{long}-->"
     far, near = include("http://a.example/" + "y" * 5000), include("y" * 5000 + ".xsd")
-    has = "t0/reg/mod.xsd: has "
+    has, edge = "t0/reg/mod.xsd: has ", "http://a.example/" + "y" * (4096 - 17)
     url, shown = has + "a URL of {} characters; more than 4096 are not taken (import, line 1: {}..)", ("http://a.example/" + "y" * 100)[:100]
     for name, text, line in (
         ("bases that grow", schema(grows), has + "more than 100 elements with 'xml:base' inside of each other (line 1)"),
@@ -2357,6 +2730,7 @@ def endless_schemas(folder):
         ("a long tag", schema(tag), has + "a tag or a comment of more than 16777216 bytes, which is refused (line 1)"),
         ("a long comment", schema(comment), has + "a tag or a comment of more than 16777216 bytes, which is refused (line 1)"),
         ("a long URL", schema(far), url.format(5017, shown)),
+        ("a URL that is nearly too long", schema(include(edge)), refusals.printable(f"t0/reg/mod.xsd: no package has {edge} (import, line 1)")),
         ("a long relative URL", schema(near), url.format(len(HOST) + 5004, (HOST + "y" * 100)[:100])),
     ):
         begun = time.monotonic()
@@ -2367,6 +2741,15 @@ def endless_schemas(folder):
     begun = time.monotonic()
     reads(folder, "a type that is very deep", {"reg/mod.xsd": schema(f'<xs:complexType name="T">{way}</xs:complexType>' + ELEMENTS)}, TYPES)
     case("a type that is very deep: soon", time.monotonic() - begun < 20, True)
+    for name, body, word in long_chains(20_000):
+        begun = time.monotonic()
+        reads(folder, f"a long chain of {name}", {"reg/mod.xsd": schema(body)}, records(*sorted(f"{name}{it},{word}" for it in range(20_000))))
+        case(f"a long chain of {name}: soon", time.monotonic() - begun < 20, True)
+    many = {f"p{it}": f"http://p{it}/" for it in range(30_000)}
+    begun = time.monotonic()
+    twice = {"namespaces": {**many, "q": "http://p7/"}}
+    makes(folder, "many prefixes", parts={"documentInfo/namespaces": twice["namespaces"]}, report={"reports/report.json": meta(twice)}, taxonomies=[])
+    case("many prefixes: soon", time.monotonic() - begun < 20, True)
     levels = 1500
     chain = {f"reg/n{it}.json": meta({"extends": [HOST + f"n{it + 1}.json"], "final": {"parameters": True}}) for it in range(levels)}
     chain[f"reg/n{levels}.json"] = MODULE
@@ -2443,6 +2826,9 @@ PARTS = (
     signals,
     a_signal_between_two_steps,
     a_signal_at_each_step,
+    where_metadata_came_from,
+    lines_of_the_converter,
+    hearing_the_converter,
     a_full_disk,
     what_cannot_be_read,
     words,
@@ -2453,6 +2839,8 @@ PARTS = (
     refusals_of_the_cache,
     keys_of_the_cache,
     what_changes_meanwhile,
+    digests_of_contents,
+    digests_that_fail,
     what_is_not_kept,
     caches_of_several_runs,
     a_large_taxonomy,

@@ -2,7 +2,8 @@
  * program makes of it. REFUSE says which: KIND:N refuses the Nth call of a kind alone, KIND:N+ that and all after it, KIND:=MASK the
  * first 64 calls whose bits are set, KIND:short cuts each read or write to one byte, KIND:again has every other one say
  * that a signal came. Kinds: memory, read, write, zero (a write that
- * takes nothing), open, stat, thread. At the end the number of calls of each kind is written to the file that REFUSE_COUNT names.
+ * takes nothing), open, stat, thread, cut (a file that is made shorter), sync, rename. At the end the number of calls of each kind is
+ * written to the file that REFUSE_COUNT names.
  *
  *     cc -shared -fPIC -O1 -o refuse.so tests/refuse.c -ldl
  */
@@ -19,12 +20,12 @@
 #include <sys/syscall.h>
 #include <unistd.h>
 
-enum kind { MEMORY, READ, WRITE, OPEN, STAT, THREAD, KINDS };
+enum kind { MEMORY, READ, WRITE, OPEN, STAT, THREAD, CUT, SYNC, RENAME, KINDS };
 
 extern void *__libc_malloc(size_t);
 extern void *__libc_realloc(void *, size_t);
 
-static const char *const names[KINDS] = {"memory", "read", "write", "open", "stat", "thread"};
+static const char *const names[KINDS] = {"memory", "read", "write", "open", "stat", "thread", "cut", "sync", "rename"};
 static unsigned long calls[KINDS];
 static unsigned long from[KINDS], mask[KINDS];
 static int onward[KINDS], cut[KINDS], again[KINDS], zero;
@@ -79,6 +80,12 @@ int open(const char *path, int flags, ...) {
 int statx(int folder, const char *path, int flags, unsigned int wanted, struct statx *to) {
     return refuses(STAT) ? fails(EACCES) : (int)syscall(SYS_statx, folder, path, flags, wanted, to);
 }
+
+int ftruncate(int file, off_t size) { return refuses(CUT) ? fails(EIO) : (int)syscall(SYS_ftruncate, file, size); }
+
+int fsync(int file) { return refuses(SYNC) ? fails(EIO) : (int)syscall(SYS_fsync, file); }
+
+int rename(const char *from_, const char *to) { return refuses(RENAME) ? fails(EACCES) : (int)syscall(SYS_rename, from_, to); }
 
 int pthread_create(pthread_t *to, const pthread_attr_t *how, void *(*body)(void *), void *with) {
     int (*real)(pthread_t *, const pthread_attr_t *, void *(*)(void *), void *) = dlsym(RTLD_NEXT, "pthread_create");

@@ -6,7 +6,7 @@
 A report of three tables and a parameters file is converted once with nothing refused. Then each call that the system can refuse is
 refused, the first alone, then the second, and so on, and again with all that come after it. Whatever is refused, the program must
 end by itself, and what it has written must be a beginning of the whole document, cut only where the lines on standard error say:
-a refused table's line, or the run's own. Each case that is not so has a line; the last line counts. Needs cc, Python 3.9 and Linux.
+a refused table's line, or the run's own. With --whole the file has the whole document, or is as it was. Each case that is not so has a line; the last line counts. Needs cc, Python 3.9 and Linux.
 """
 import concurrent.futures
 import json
@@ -187,10 +187,11 @@ def one_worker_without_threads(folder, document, pool):
 
 
 def cut_short(folder, document, pool):
-    """Reads and writes of one byte each, and writes that a signal stops, change nothing."""
-    for refuse in ("read:short", "write:short", "write:again"):
-        seen = run(folder, refuse)
-        case(refuse, None if seen == (0, document.whole, "") else seen)
+    """Reads and writes of one byte each, and such that a signal stops, change nothing, in any file."""
+    for refuse in ("read:short", "write:short", "read:again", "write:again"):
+        for workers in ("1", "3"):
+            seen = run(folder, refuse, ["--workers", workers])
+            case(f"{refuse}, {workers} workers", None if seen == (0, document.whole, "") else seen)
 
 
 def each_open_refused_beside_an_output(folder, document, pool):
@@ -207,6 +208,50 @@ def each_open_refused_beside_an_output(folder, document, pool):
         else:
             case(f"open:{n}, --out", "printed" if printed else fault_of((status, held, err), document, "open"))
     case("one of the files is the output", None if not_made == 1 else not_made)
+
+
+OUT = ["--out", "out.json"]
+FAILED_WRITE = (3, b"", "xbrl-json: output: Write (56)\n")
+NOT_WRITTEN = (3, b"", "xbrl-json: cannot write out.json\n")
+
+
+def an_output_that_cannot_be_emptied(folder, document, pool):
+    """What was in the file stays, and so does a file of which the system does not say which one it is."""
+    out = folder / "out.json"
+    out.write_bytes(b"what was there")
+    seen = run(folder, "cut:1+", OUT)
+    case("cut:1+, --out", None if (seen, out.read_bytes()) == (FAILED_WRITE, b"what was there") else (seen, out.read_bytes()))
+    seen = run(folder, "stat:1", OUT)
+    case("stat:1, --out", None if (seen, out.read_bytes()) == (NOT_WRITTEN, b"what was there") else (seen, out.read_bytes()))
+    out.unlink()
+
+
+def a_whole_output_or_none(folder, document, pool):
+    """With --whole each refused call leaves the old file, or none where there was none, and no other beside it; else the whole document."""
+    out, path = folder / "out.json", str(folder / "counts")
+    words = [*OUT, "--whole", "--workers", "1"]
+    for old in (b"what was there", None):
+        for kind in ("read", "write", "zero", "open", "stat", "sync", "rename"):
+            out.unlink(missing_ok=True)
+            if old is not None:
+                out.write_bytes(old)
+            run(folder, "", words, path)
+            calls = {name: int(number) for name, number in map(str.split, Path(path).read_text().splitlines())}
+            calls["zero"] = calls["write"]
+            for n in range(1, calls[kind] + 1):
+                out.unlink(missing_ok=True)
+                if old is not None:
+                    out.write_bytes(old)
+                status, printed, err = run(folder, f"{kind}:{n}", words)
+                held = out.read_bytes() if out.exists() else None
+                left = sorted(it.name for it in folder.glob("out.json*"))
+                fine = held == (document.whole if status == 0 else old) and left == ["out.json"] * (held is not None) and not printed and (status == 0) == (err == "")
+                case(f"{kind}:{n}, --whole, {'an old file' if old else 'no file'}", None if fine else (status, printed, err, held, left))
+    for refuse in ("sync:1", "rename:1"):
+        out.write_bytes(b"what was there")
+        seen = run(folder, refuse, words)
+        case(f"{refuse}, --whole: a failed write", None if seen == FAILED_WRITE else seen)
+    out.unlink()
 
 
 def a_first_write_that_fails(folder, document, pool):
@@ -233,7 +278,7 @@ def main():
         status, whole, err = run(folder)
         case("nothing refused", None if (status, err) == (0, "") and len(json.loads(whole)["facts"]) == 18 else (status, err))
         document = Document(whole)
-        for part in (each_call_refused, some_threads_refused, one_worker_without_threads, cut_short, each_open_refused_beside_an_output, a_first_write_that_fails):
+        for part in (each_call_refused, some_threads_refused, one_worker_without_threads, cut_short, each_open_refused_beside_an_output, an_output_that_cannot_be_emptied, a_whole_output_or_none, a_first_write_that_fails):
             part(folder, document, pool)
     print(f"on a system that refuses: {count - len(failed)} as they must be, {len(failed)} not")
     sys.exit(1 if failed else 0)

@@ -8,11 +8,14 @@ folders or pipes, outputs that are full, closed, replaced or misnamed, few descr
 The last line counts. Python 3.9 or later and Linux are needed.
 """
 import concurrent.futures
+import hashlib
 import json
 import os
 import pty
 import re
 import resource
+import shutil
+import signal
 import stat
 import subprocess
 import sys
@@ -24,6 +27,8 @@ from pathlib import Path
 TOP = Path(__file__).resolve().parent.parent
 EXAMPLES = TOP / "examples"
 NOBODY = 65534
+UMASK = os.umask(0)
+os.umask(UMASK)
 
 failed = []
 count = 0
@@ -276,22 +281,188 @@ def endless_files(folder):
     case("a short table in as little memory", (status, err) == (0, "") and len(facts(out)) == 1, status, err)
 
 
+def full_report(folder):
+    """A report with a parameters file and two tables, one of them optional, each file beside its names: `hard.`, `soft.` and `folder/`."""
+    for it in folder.rglob("*"):
+        if not it.is_dir():
+            it.unlink()
+    report(folder, {"t1": {}, "t2": {"optional": True}})
+    meta = json.loads((folder / "meta.json").read_text())
+    (folder / "meta.json").write_text(json.dumps({**meta, "parameterURL": "parameters.csv"}))
+    (folder / "parameters.csv").write_text("name,value\na,1\n")
+    for table in ("t1", "t2"):
+        (folder / f"{table}.csv").write_text("cash\n1\n")
+    for name in INPUTS:
+        os.link(folder / name, folder / f"hard.{name}")
+        os.symlink(name, folder / f"soft.{name}")
+    (folder / "folder").mkdir(exist_ok=True)
+
+
+INPUTS = ["meta.json", "types.csv", "parameters.csv", "t1.csv", "t2.csv"]
+
+
+def held(folder):
+    """What each file of a folder holds."""
+    return {it.name: os.readlink(it) if it.is_symlink() else it.read_bytes() for it in folder.iterdir() if it.is_symlink() or it.is_file()}
+
+
 def outputs_over_inputs(folder):
-    """--out that names a file of the report in another way: the file is lost, and the run says what is wrong with it."""
-    for path, said in [
-        ("./meta.json", "xbrl-json: report: Syntax (1)\n"),
-        ("./types.csv", "xbrl-json: types: BadTypes (14)\n"),
-        ("parameters.csv", "xbrl-json: parameters: BadParameter (13)\n"),
-        ("t1.csv", TABLE_FAULT.format("t1", 0, 0, "NoHeader", 22)),
-    ]:
-        for workers in ("1", "4"):
-            report(folder, {"t1": {"optional": True}})
-            meta = json.loads((folder / "meta.json").read_text())
-            (folder / "meta.json").write_text(json.dumps({**meta, "parameterURL": "parameters.csv"}))
-            (folder / "parameters.csv").write_text("name,value\na,1\n")
-            (folder / "t1.csv").write_text("cash\n1\n")
-            seen = run([*WORDS, "--workers", workers, "--out", path], folder)
-            case(f"--out {path}, {workers} workers", seen == (1, b"", said), seen)
+    """--out that leads to a file of the report, by whatever path: it cannot be written, and nothing is touched."""
+    full_report(folder)
+    before = held(folder)
+    for name in INPUTS:
+        for path in (name, f"./{name}", f"{folder}/{name}", f"folder/../{name}", f"hard.{name}", f"soft.{name}", f"{folder}/soft.{name}"):
+            for words in ([], ["--workers", "1"], ["--whole"], ["--whole", "--progress"]):
+                seen = run([*WORDS, *words, "--out", path], folder)
+                said = seen[2].splitlines()[-1:] if "--progress" in words else [seen[2].rstrip("\n")]
+                case(f"--out {path} {words}", seen[:2] == (3, b"") and said == [f"xbrl-json: cannot write {path}"] and held(folder) == before, seen, held(folder))
+    for name, said in (("t1.csv", "table t1"), ("t2.csv", "table t2"), ("parameters.csv", "parameters")):
+        (folder / f"hard.{name}").unlink()
+        (folder / name).unlink()
+        before = held(folder)
+        for path in (name, f"./{name}", f"soft.{name}"):
+            seen = run([*WORDS, "--out", path], folder)
+            case(f"--out {path}, which is not there", seen == (3, b"", f"xbrl-json: cannot write {path}\n") and held(folder) == before, seen, held(folder))
+        full_report(folder)
+
+
+def outputs_of_runs_that_end_early(folder):
+    """Where the metadata has a fault, --out is emptied as ever, unless it is a file that the run reads."""
+    full_report(folder)
+    (folder / "meta.json").write_text("{")
+    for words in ([], ["--whole"]):
+        (folder / "out.json").write_text("what was there")
+        seen = run([*WORDS, *words, "--out", "out.json"], folder)
+        left = "what was there" if words else ""
+        case(f"--out {words} of bad metadata", seen == (1, b"", "xbrl-json: report: Syntax (1)\n") and (folder / "out.json").read_text() == left, seen, held(folder))
+    seen = run([*WORDS, "--out", "hard.types.csv"], folder)
+    case("--out that is the types table, bad metadata", seen == (3, b"", "xbrl-json: cannot write hard.types.csv\n") and text_of(folder / "types.csv") != "", seen)
+
+
+def whole_outputs(folder):
+    """--whole: the file has the whole document at status 0, and is else as it was; no other file is left."""
+    report(folder, {"t1": {}, "t2": {}})
+    for table in ("t1", "t2"):
+        (folder / f"{table}.csv").write_text("cash\n1\n")
+    document, out = run(WORDS, folder)[1], folder / "out.json"
+    names = sorted(it.name for it in folder.iterdir())
+    whole = [*WORDS, "--whole", "--out"]
+
+    def stands(name, seen, wanted, path, text, *more):
+        case(f"--whole: {name}", seen == wanted and path.read_bytes() == text and sorted(it.name for it in folder.iterdir()) == sorted([*names, *more]), seen, held(folder))
+
+    stands("a new file", run([*whole, "out.json"], folder), (0, b"", ""), out, document, "out.json")
+    case("--whole: the permissions of any new file", stat.S_IMODE(out.stat().st_mode) == 0o666 & ~UMASK, oct(out.stat().st_mode))
+    out.write_bytes(b"x" * 100_000)
+    out.chmod(0o640)
+    os.link(out, folder / "other.json")
+    stands("an old file", run([*whole, "./out.json"], folder), (0, b"", ""), out, document, "out.json", "other.json")
+    case("--whole: the old file's permissions, and another name of it", stat.S_IMODE(out.stat().st_mode) == 0o640 and (folder / "other.json").stat().st_size == 100_000)
+    (folder / "other.json").unlink()
+    out.rename(folder / "real.json")
+    os.symlink("real.json", out)
+    (folder / "real.json").write_bytes(b"old")
+    stands("through a link", run([*whole, "out.json"], folder), (0, b"", ""), folder / "real.json", document, "out.json", "real.json")
+    case("--whole: the link stays", out.is_symlink())
+    (folder / "real.json").unlink()
+    stands("a link that leads nowhere", run([*whole, "out.json"], folder), (0, b"", ""), folder / "real.json", document, "out.json", "real.json")
+    out.unlink()
+    (folder / "real.json").rename(out)
+    (folder / "out.json.new").write_bytes(b"another's")
+    stands("a name that is taken", run([*whole, "out.json"], folder), (0, b"", ""), out, document, "out.json", "out.json.new")
+    case("--whole: another's file stays", (folder / "out.json.new").read_bytes() == b"another's")
+    (folder / "out.json.new").unlink()
+    (folder / "t2.csv").write_text("cash\nx\n")
+    refused = (1, b"", TABLE_FAULT.format("t2", 1, 1, "BadNumber", 40))
+    stands("a refused table", run([*whole, "out.json"], folder), refused, out, document, "out.json")
+    out.unlink()
+    seen = run([*whole, "out.json"], folder)
+    case("--whole: a refused table, and no old file", seen == refused and sorted(it.name for it in folder.iterdir()) == names, seen)
+    (folder / "t2.csv").write_text("cash\n1\n")
+    for path in ("no/out.json", "."):
+        seen = run([*whole, path], folder)
+        case(f"--whole: --out {path}", seen == (3, b"", f"xbrl-json: cannot write {path}\n"), seen)
+    seen = run([*whole, "/dev/full"], folder)
+    case("--whole: no ordinary file is written straight", seen == (3, b"", "xbrl-json: output: Write (56)\n"), seen)
+    seen = run([*whole, "/dev/stdout"], folder)
+    case("--whole: standard output by its path", seen == (0, document, ""), seen)
+    seen = run([*WORDS, "--whole"], folder)
+    case("--whole without --out", seen == (2, b"", "error: --whole wants --out FILE\n"), seen)
+    seen = run([*whole, "out.json"], folder, preexec_fn=lambda: limited_files(64))
+    case("--whole: a file that may not be so long", seen == (3, b"", "xbrl-json: output: Write (56)\n") and sorted(it.name for it in folder.iterdir()) == names, seen)
+
+
+def limited_files(most):
+    """Limits the size of files to so many bytes, with the signal of that ignored."""
+    signal.signal(signal.SIGXFSZ, signal.SIG_IGN)
+    resource.setrlimit(resource.RLIMIT_FSIZE, (most, most))
+
+
+def files_that_may_not_be_so_long(folder):
+    """The limit on a file's size is a failed write: where the signal is ignored, and through ./xbrl-json, which ignores it."""
+    report(folder, {"t1": {}})
+    (folder / "t1.csv").write_text("cash\n" + "1\n" * 2000)
+    document = run(WORDS, folder)[1]
+    failed_write = (3, b"", "xbrl-json: output: Write (56)\n")
+    for words in ([], ["--workers", "1"]):
+        seen = run([*WORDS, *words, "--out", "out.json"], folder, preexec_fn=lambda: limited_files(5000))
+        written = (folder / "out.json").read_bytes()
+        case(f"a file that may not be so long {words}", seen == failed_write and len(written) == 5000 and document.startswith(written), seen, len(written))
+    with tempfile.TemporaryDirectory() as there:
+        top = launched(Path(there))
+
+        def limited():
+            signal.signal(signal.SIGXFSZ, signal.SIG_DFL)
+            resource.setrlimit(resource.RLIMIT_FSIZE, (5000, 5000))
+
+        done = subprocess.run([top / "xbrl-json", *WORDS, "--out", "out.json"], cwd=folder, stdin=subprocess.DEVNULL, capture_output=True, preexec_fn=limited)
+        case("./xbrl-json, a file that may not be so long", (done.returncode, done.stdout, done.stderr.decode()) == failed_write, done.returncode, done.stderr)
+
+
+def launched(top):
+    """A checkout whose ./xbrl-json runs the program that is tested: as the shipped one, of other sources."""
+    shutil.copy(TOP / "xbrl-json", top / "xbrl-json")
+    (top / "dist").mkdir()
+    shutil.copy(TOP / "dist/sources.sh", top / "dist/sources.sh")
+    shutil.copy(PROGRAM, top / "dist/xbrl-json")
+    lines = f"sources: {0:064}\nkit: none\nprogram: {0:064}\nxbrl-json: {hashlib.sha256(Path(PROGRAM).read_bytes()).hexdigest()}\n"
+    (top / "dist/SOURCES").write_text(f"{lines}note: {hashlib.sha256(lines.encode()).hexdigest()}\n")
+    for name in ("crates.txt", "HANDLES"):
+        shutil.copy(TOP / name, top / name)
+    return top
+
+
+def help_that_cannot_be_printed(folder):
+    """--help and --version to a full or closed standard output end with status 3 and a line."""
+    said = (3, "xbrl-json: output: Write (56)\n")
+    for word in ("--help", "-h", "--version", "-V"):
+        with open("/dev/full", "wb") as full:
+            status, _, err = run([word], folder, capture_output=False, stdout=full, stderr=subprocess.PIPE)
+        case(f"{word} on a full disk", (status, err) == said, status, err)
+        status, _, err = run([word], folder, preexec_fn=lambda: os.close(1))
+        case(f"{word} without standard output", (status, err) == said, status, err)
+        read, write = os.pipe()
+        os.close(read)
+        with os.fdopen(write, "wb") as closed:
+            status, _, err = run([word], folder, capture_output=False, stdout=closed, stderr=subprocess.PIPE)
+        case(f"{word} to a closed pipe", (status, err) == said, status, err)
+
+
+def lines_on_a_terminal(folder):
+    """A terminal gets no control character of a path or a word; to a pipe the lines are as they are."""
+    forged = "a\nxbrl-json: \x1b[31mb\x7f\u009bc\tdé"
+    plain = "a\\x0axbrl-json: \\x1b[31mb\\x7f\\x9bc\\x09dé"
+    report(folder, {"t1": {}})
+    for words, what in (([forged, "--types", "types.csv"], "read"), (["meta.json", "--types", forged], "read"), ([*WORDS, "--out", forged + "/o"], "write")):
+        path = forged + "/o" * (what == "write")
+        seen = run(words, folder)
+        case(f"cannot {what}, to a pipe", seen == (3, b"", f"xbrl-json: cannot {what} {path}\n"), seen)
+        seen = on_a_terminal(words, folder)
+        case(f"cannot {what}, on a terminal", seen == f"xbrl-json: cannot {what} {path.replace(forged, plain)}\r\n", repr(seen))
+    seen = on_a_terminal([*WORDS, "--layout", "a\x1b[31m\tb"], folder)
+    case("wrong words on a terminal", "'a\\x1b[31m\\x09b'" in seen and not re.search(r"[^\r\n -~]", seen) and seen.startswith("error: "), repr(seen))
+    seen = run([*WORDS, "--layout", "a\x1b[31m\tb"], folder)
+    case("wrong words to a pipe", seen[0] == 2 and "a\x1b[31m\tb" in seen[2], seen)
 
 
 def closed_descriptors(folder):
@@ -432,7 +603,8 @@ def a_fact_a_line(folder):
 
 def main():
     examples()
-    parts = words_of_the_command_line, layouts, bad_rows, files_that_are_not_read, a_table_that_may_not_be_read, few_descriptors, a_named_pipe, endless_files, a_fact_a_line, outputs, outputs_over_inputs, closed_descriptors, progress
+    parts = words_of_the_command_line, layouts, bad_rows, files_that_are_not_read, a_table_that_may_not_be_read, few_descriptors, a_named_pipe, endless_files, a_fact_a_line, outputs, outputs_over_inputs, outputs_of_runs_that_end_early
+    parts += whole_outputs, files_that_may_not_be_so_long, help_that_cannot_be_printed, lines_on_a_terminal, closed_descriptors, progress
     for part in parts:
         with tempfile.TemporaryDirectory() as folder:
             part(Path(folder))

@@ -8,6 +8,8 @@ mod tests_cells;
 #[cfg(test)]
 mod tests_copies;
 #[cfg(test)]
+mod tests_folders;
+#[cfg(test)]
 mod tests_members;
 #[cfg(test)]
 mod tests_rows;

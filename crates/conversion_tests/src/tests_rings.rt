@@ -1,6 +1,6 @@
 //! Rings at run time: what a full and an empty ring answer, and the merge of rings that are full.
 
-ghost use Rattle.std.specs.Prelude.{◌≡◌, [], IfOk, IfSome};
+ghost use Rattle.std.specs.Prelude.{◌≡◌, [], IfOk, IfSome, true};
 
 use oim_json::{Block, Layout, Marked, block_of};
 use oim_merge::{MergeEnd, merge};
@@ -112,6 +112,17 @@ fn closed(feed: Feed) -> Option<Closed>
     }
 }
 
+/// Whether a drain finds no item.
+fn finds_nothing(drain: &mut Drain) -> bool
+    ensures ring { drain.new.ring ≡ drain.old.ring }
+    ensures same { result ≡ true → drain.new.taken ≡ drain.old.taken }
+{
+    match drain.take() {
+        Some(_) => false,
+        None => true,
+    }
+}
+
 /// Whether the ending is there and nothing behind it, after which the drain settles.
 fn settled(drain: Drain, closed: Closed) -> bool
     requires { closed.ring ≡ drain.ring }
@@ -119,11 +130,11 @@ fn settled(drain: Drain, closed: Closed) -> bool
     let mut drain = drain;
     match drain.take() {
         Some(Item::Ending(ending)) => {
-            if drain.take().is_some() {
-                return false;
+            if finds_nothing(&mut drain) {
+                let _drained = drain.settle(closed);
+                return ending == Ending::Refused(FAULT);
             }
-            let _drained = drain.settle(closed);
-            ending == Ending::Refused(FAULT)
+            false
         }
         _ => false,
     }

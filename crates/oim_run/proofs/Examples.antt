@@ -32,7 +32,7 @@ use Rattle.oim_rows.specs.declared.fault.TableKind.TheVariants as table
 use Rattle.oim_run.specs.CommandLine.{AreLayouts, Words, command_line, is_given}
 use Rattle.oim_run.specs.Conversion.{flushed, profile}
 use Rattle.oim_run.specs.Folders.{Files, first_at}
-use Rattle.oim_run.specs.Lines.{line_of, status_of, words_status}
+use Rattle.oim_run.specs.Lines.{line_of, shown, status_of, terminal_line_of, unprinted_status, words_status}
 use Rattle.oim_run.specs.Metadata.{json_of, read_as, url_in}
 use Rattle.oim_run.specs.Naming.{outcome_at}
 use Rattle.oim_run.specs.Outcomes.{AreDefined, Gives, Leaves, refused_tables, table_ids}
@@ -57,7 +57,7 @@ abbrev least : List Text
 least = codes "m.json" ∷ codes "--types" ∷ codes "t.csv" ∷ []
 
 abbrev full : List Text
-full = codes "--out" ∷ codes "o.json" ∷ codes "--workers" ∷ codes "64" ∷ codes "--ring=2" ∷ codes "--layout" ∷ codes "lines" ∷ codes "--progress" ∷ least
+full = codes "--out" ∷ codes "o.json" ∷ codes "--workers" ∷ codes "64" ∷ codes "--ring=2" ∷ codes "--layout" ∷ codes "lines" ∷ codes "--progress" ∷ codes "--whole" ∷ least
 
 abbrev given : List Text → List Row
 given words = matches_of (command_line layouts) words
@@ -113,6 +113,14 @@ no_progress = refl
 full_progress : is_given (first_of (codes "progress") (given full)) ≡ true
 unfolding clap_on_literals command_line
 full_progress = refl
+
+least_whole : is_given (first_of (codes "whole") (given least)) ≡ false
+unfolding clap_on_literals command_line
+least_whole = refl
+
+full_whole : is_given (first_of (codes "whole") (given full)) ≡ true
+unfolding clap_on_literals command_line
+full_whole = refl
 
 least_taken : fault_of (command_line layouts) least ≡ []
 unfolding clap_on_literals command_line
@@ -342,6 +350,20 @@ lines_of_sources = refl
 lines_of_paths : map line_of (outcome.Done ∷ outcome.CannotRead (codes "t.csv") ∷ outcome.CannotWrite (codes "o.json") ∷ [])
     ≡ [] ∷ codes "xbrl-json: cannot read t.csv\n" ∷ codes "xbrl-json: cannot write o.json\n" ∷ []
 lines_of_paths = refl
+
+-- a name with a line of its own, and one that colours it; U+009B alone also begins an order
+lines_for_a_terminal : map terminal_line_of (outcome.CannotRead (codes "a\nb" ++ 27 ∷ codes "[31m") ∷ outcome.CannotWrite (codes "o" ++ 127 ∷ 194 ∷ 155 ∷ []) ∷ outcome.Run fault.Memory ∷ [])
+    ≡ codes "xbrl-json: cannot read a\\x0ab\\x1b[31m\n" ∷ codes "xbrl-json: cannot write o\\x7f\\x9b\n" ∷ codes "xbrl-json: run: Memory (53)\n" ∷ []
+unfolding chars encode digits
+lines_for_a_terminal = refl
+
+-- a letter of two bytes, and U+00A0, which comes behind the last control character
+shown_letters : shown (codes "a \\ z" ++ 195 ∷ 169 ∷ 194 ∷ 160 ∷ []) ≡ codes "a \\ z" ++ 195 ∷ 169 ∷ 194 ∷ 160 ∷ []
+unfolding chars encode
+shown_letters = refl
+
+unprinted_words : map unprinted_status (kind.DisplayHelp ∷ kind.DisplayVersion ∷ kind.OutOfMemory ∷ kind.UnknownArgument ∷ []) ≡ 3 ∷ 3 ∷ 3 ∷ 2 ∷ []
+unprinted_words = refl
 
 lines_of_the_run : map line_of (outcome.Run fault.Memory ∷ outcome.Output write.Failed ∷ []) ≡ codes "xbrl-json: run: Memory (53)\n" ∷ codes "xbrl-json: output: Write (56)\n" ∷ []
 unfolding digits

@@ -2,6 +2,7 @@ mod CommandLine
 mod Endings
 mod FolderFacts
 mod Names
+mod Beginnings
 mod Threads
 mod OneThread
 mod MetadataFacts

@@ -1,11 +1,12 @@
 -- The end of a conversion on one thread, as an outcome.
-use Rattle.std.specs.Prelude.{◌≡◌, ◌≢◌, ◌↔◌, ℕ, ◌+◌, Bool, true, false, ◌==◌, if◌then◌else◌, List, [], ◌∷◌, Option, Some, None, Result, Ok, Err, length}
+use Rattle.std.specs.Prelude.{◌≡◌, ◌≢◌, ◌↔◌, ℕ, ◌+◌, Bool, true, false, ◌==◌, if◌then◌else◌, List, [], ◌∷◌, Option, Some, None, Result, Ok, Err}
 use Rattle.std.proofs.Common.{refl, sym, ap, subst, inl, inr, append-nil, ◌∙◌}
 use Rattle.std.proofs.lemmas.Bool.{eq-eqb, eqb-true}
 use Rattle.oim_convert.proofs.RunHistories.{uncut_streams}
 use Rattle.oim_convert.proofs.StreamHistories.{streams_answer}
 use Rattle.oim_convert.specs.Answer.{IsAnswer, ending_of, histories_of, streams}
 use Rattle.oim_convert.specs.Histories.{AreDecoded}
+use Rattle.oim_convert.specs.Runs.{AreHistories}
 use Rattle.oim_convert.specs.Serial as serial
 use Rattle.oim_convert.specs.WrittenHistories.{WritesHistories}
 use Rattle.oim_convert.specs.declared.fault.ConvertFault.{ConvertFault}
@@ -19,12 +20,12 @@ use Rattle.oim_report.specs.ReportValue.{ReportValue}
 use Rattle.oim_ring.specs.declared.item.Item.TheVariants.{Block}
 use Rattle.oim_rows.specs.Streams.{Stream, facts_of}
 use Rattle.oim_rows.specs.declared.fault.TableFault.{TableFault}
+use Rattle.oim_run.proofs.Beginnings.{begun}
 use Rattle.oim_run.proofs.Names.{names_are}
 use Rattle.oim_run.proofs.Threads.{no_names, uncut}
 use Rattle.oim_run.specs.Naming.{outcome_alone, with_names}
 use Rattle.oim_run.specs.Outcomes.{AreDefined, EndsAs, Gives, Leaves, Refuses, table_ids}
 use Rattle.oim_run.specs.declared.outcome.Outcome.{Outcome}
-use Rattle.oim_run.specs.declared.outcome.Outcome.TheVariants as outcome
 
 -- the fault of settings in range, for this many readers and tables
 abbrev pub early_alone : ℕ → ℕ → Option ConvertFault
@@ -68,15 +69,19 @@ module _ (layout : Layout) (report : ReportValue) (limit : ℕ) (files : List (O
   said = streams report limit files
 
   gives : (faults : List TableFault) (e : MergeEnd) → IsAnswer layout report said old new faults e → Gives layout report said old new faults e
-  gives faults e is = record { written = record { histories = histories_of said; are = inl (decoded_streams 0 said); merged = is }; answer = λ _. is }
+  gives faults e is =
+      let written : WritesHistories (AreHistories said) layout report old new faults e = record { histories = histories_of said; are = inl (decoded_streams 0 said); merged = is } in
+      record { written = written; answer = λ _. is; begun = begun layout report said old new faults e written }
 
   refuses : (faults : List TableFault) → WritesHistories (AreDecoded 0 said) layout report old new faults end.Refused → Refuses layout report said old new (with_names names faults)
   refuses faults r =
+      let written : WritesHistories (AreHistories said) layout report old new faults end.Refused = record { histories = r.histories; are = inl r.are; merged = r.merged } in
       record {
         faults = faults;
         names = names_are report limit files r.histories names faults named (inl r.are) r.merged.0;
         given = record {
-          written = record { histories = r.histories; are = inl r.are; merged = r.merged };
+          written = written;
+          begun = begun layout report said old new faults end.Refused written;
           answer = λ all.
               let defined = subst (λ (l : List TableFault). AreDefined l) r.merged.0 all in
               streams_answer layout report said r.histories old new faults end.Refused (uncut_streams said r.histories (inl r.are) (uncut r.histories defined)) r.merged;

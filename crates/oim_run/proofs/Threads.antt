@@ -6,6 +6,7 @@ use Rattle.oim_convert.specs.Answer.{IsAnswer, streams}
 use Rattle.oim_convert.specs.Limits.{most_workers}
 use Rattle.oim_ring.specs.Limits.{largest_ring}
 use Rattle.oim_convert.specs.Runs.{AnswersFault, AreHistories, AreStreams, AreUncut, IsCut, IsRun, Writes, early_fault}
+use Rattle.oim_convert.specs.WrittenHistories.{WritesHistories}
 use Rattle.oim_convert.specs.declared.fault.ConvertFault.{ConvertFault}
 use Rattle.oim_convert.specs.declared.fault.ConvertFault.TheVariants as fault
 use Rattle.oim_convert.specs.declared.run.Run.{Run}
@@ -23,6 +24,7 @@ use Rattle.oim_ring.specs.declared.item.Item.{Item}
 use Rattle.oim_ring.specs.declared.item.Item.TheVariants.{Ending}
 use Rattle.oim_rows.specs.Streams.{Stream}
 use Rattle.oim_rows.specs.declared.fault.TableFault.{TableFault}
+use Rattle.oim_run.proofs.Beginnings.{begun}
 use Rattle.oim_run.proofs.Names.{faults_few, names_are}
 use Rattle.oim_run.specs.Naming.{outcome_at, outcome_by, with_names}
 use Rattle.oim_run.specs.Outcomes.{AreDefined, EndsAs, Gives, Leaves, refused_tables, table_ids}
@@ -73,8 +75,10 @@ module _ (layout : Layout) (report : ReportValue) (ss : List Stream) (old new : 
 
   run_gives : (run : Run) → AreHistories ss run.drains.items → Headline run → IsRun layout report (length report.tables) old new run → Gives layout report ss old new run.faults.items run.end
   run_gives run are headline is =
+      let written : WritesHistories (AreHistories ss) layout report old new run.faults.items run.end = record { histories = run.drains.items; are = are; merged = is.merged } in
       record {
-        written = record { histories = run.drains.items; are = are; merged = is.merged };
+        written = written;
+        begun = begun layout report ss old new run.faults.items run.end written;
         answer = λ all. (headline (uncut run.drains.items (subst (λ (l : List TableFault). AreDefined l) is.merged.0 all))).1;
       }
 

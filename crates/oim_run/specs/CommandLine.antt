@@ -13,6 +13,7 @@ use Rattle.oim_convert.specs.Limits.{most_workers}
 use Rattle.oim_json.specs.declared.layout.Layout.{Layout}
 use Rattle.oim_json.specs.declared.layout.Layout.TheVariants as layout
 use Rattle.oim_ring.specs.Limits.{largest_ring}
+use Rattle.oim_run.specs.declared.request.Request.{Request}
 use Rattle.oim_run.specs.declared.settings.Settings.{Settings}
 
 -- an argument that takes one value, and an option of this name
@@ -51,9 +52,10 @@ inputs = with_rule
 abbrev pub AreLayouts : Words → Type 0
 AreLayouts words = map (λ w. w.now) words.now ≡ codes "compact" ∷ codes "lines" ∷ []
 
--- META --types FILE [--workers N] [--ring K] [--out FILE] [--layout WORD] [--progress]
+-- META --types FILE [--workers N] [--ring K] [--out FILE] [--whole] [--layout WORD] [--progress]
 unfoldable pub command_line : Words → App
 command_line layouts = with_rule
+    (with_rule
     (with_rule
     (with_rule
     (with_rule
@@ -61,6 +63,7 @@ command_line layouts = with_rule
     (number_option (codes "workers") most_workers (codes "4")))
     (number_option (codes "ring") largest_ring (codes "1024")))
     (option (codes "out")))
+    (flag (codes "whole")))
     (word_option (codes "layout") layouts (codes "compact")))
     (flag (codes "progress"))
 
@@ -87,11 +90,16 @@ HasSettings rows s = (first_of (codes "meta") rows ≡ Some s.meta)
     × IsNumberOf (one_of (codes "ring") rows) s.ring
     × (first_of (codes "out") rows ≡ s.out)
     × IsLayoutOf (first_of (codes "layout") rows) s.layout
-    × (s.progress ≡ is_given (first_of (codes "progress") rows))
 
--- the answer to the words: the settings, or a refusal of one of the kinds that the command line gives
-pub record Answers (line : App) (words : List Text) (r : Result Settings Error) : Type 0 where
-  pub values : IfOk r (HasSettings (matches_of line words))
+-- the same, with the flags that are given of those that no setting of a run has
+abbrev pub HasRequest : List Row → Request → Type 0
+HasRequest rows q = HasSettings rows q.settings
+    × (q.whole ≡ is_given (first_of (codes "whole") rows))
+    × (q.progress ≡ is_given (first_of (codes "progress") rows))
+
+-- the answer to the words: a value that has what they give, or a refusal of one of the kinds that the command line gives
+pub record Answers {X : Type 0} (has : List Row → X → Type 0) (line : App) (words : List Text) (r : Result X Error) : Type 0 where
+  pub values : IfOk r (has (matches_of line words))
   pub fails : FailsBy (fault_of line words) r
 
 -- the path of an input file that the settings name

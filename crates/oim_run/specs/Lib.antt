@@ -5,5 +5,6 @@ pub mod Lines
 pub mod Metadata
 pub mod Naming
 pub mod Outcomes
+pub mod Outputs
 pub mod Runs
 pub mod Steps

@@ -1,5 +1,6 @@
 -- What the program says of each outcome: its exit status, and its lines on standard error.
-use Rattle.std.specs.Prelude.{ℕ, List, [], ◌∷◌, ◌++◌, codes}
+use Rattle.std.specs.Prelude.{ℕ, ◌+◌, ◌/◌, ◌%◌, nat_lt, if◌then◌else◌, List, [], ◌∷◌, ◌++◌, chars, codes, encode_utf8, flat_map}
+use Rattle.std.specs.Char.{is_control}
 use Rattle.std.specs.Fmt.{decimal}
 use Rattle.clap.specs.declared.error.kind.ErrorKind.{ErrorKind}
 use Rattle.clap.specs.declared.error.kind.ErrorKind.TheVariants as kind
@@ -27,6 +28,12 @@ words_status kind.DisplayHelp = 0
 words_status kind.DisplayVersion = 0
 words_status kind.OutOfMemory = 3
 words_status _ = 2
+
+-- the exit status where what the words ask for cannot be printed: the help and the version are then not given
+abbrev pub unprinted_status : ErrorKind → ℕ
+unprinted_status kind.DisplayHelp = 3
+unprinted_status kind.DisplayVersion = 3
+unprinted_status k = words_status k
 
 abbrev pub source_name : Source → List ℕ
 source_name source.Report = codes "report"
@@ -61,3 +68,27 @@ line_of (outcome.CannotRead path) = path_text (codes "read") path
 line_of (outcome.CannotWrite path) = path_text (codes "write") path
 line_of (outcome.Run f) = fault_text (codes "run") (convert_fault.name_of f) (convert_fault.number_of f)
 line_of (outcome.Output f) = codes "xbrl-json: output: Write (56)" ++ 10 ∷ []
+
+-- ---- on a terminal
+
+-- the hexadecimal digit of a number below 16
+abbrev pub hex_digit : ℕ → ℕ
+hex_digit n = if nat_lt n 10 then 48 + n else 87 + n
+
+-- \x and the two hexadecimal digits of a character's code
+abbrev pub escape_of : ℕ → List ℕ
+escape_of c = 92 ∷ 120 ∷ hex_digit (c / 16) ∷ hex_digit (c % 16) ∷ []
+
+-- a control character (U+0000 to U+001F, U+007F to U+009F) by its code, any other as itself
+abbrev pub shown_char : ℕ → List ℕ
+shown_char c = if is_control c then escape_of c else encode_utf8 c
+
+-- a text as a terminal is shown it: it gives no order, and no line ends in it
+abbrev pub shown : List ℕ → List ℕ
+shown text = flat_map shown_char (chars text)
+
+-- the lines for an outcome, where no path has a control character
+abbrev pub terminal_line_of : Outcome → List ℕ
+terminal_line_of (outcome.CannotRead path) = path_text (codes "read") (shown path)
+terminal_line_of (outcome.CannotWrite path) = path_text (codes "write") (shown path)
+terminal_line_of o = line_of o

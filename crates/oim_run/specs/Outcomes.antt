@@ -1,7 +1,9 @@
 -- What the outcome of a conversion means, for every number of workers and every ring size.
 -- xBRL-CSV 1.0 (a report is the facts of its tables), xBRL-JSON 1.0 (the document).
 use Rattle.std.specs.Prelude.{⊤, ◌≡◌, ◌⊎◌, map, slice_index_or, length, ℕ, List, [], ◌∷◌, Option, Some, None}
-use Rattle.oim_convert.specs.Answer.{IsAnswer}
+use mathlib.Core.List.{IsPrefix}
+use Rattle.std.specs.Io.KnownBytes.{Appends}
+use Rattle.oim_convert.specs.Answer.{IsAnswer, answer_text}
 use Rattle.oim_convert.specs.Runs.{AreHistories, IsLost, IsOuter}
 use Rattle.oim_convert.specs.WrittenHistories.{WritesHistories}
 use Rattle.oim_convert.specs.declared.fault.ConvertFault.{ConvertFault}
@@ -37,11 +39,18 @@ abbrev pub AreDefined : List TableFault → Type 0
 AreDefined [] = ⊤
 AreDefined (e ∷ faults) = (¬ IsOuter e.kind) × AreDefined faults
 
+-- what is written is a beginning of the text that the streams define, or all of it
+pub record Begins (layout : Layout) (report : ReportValue) (ss : List Stream) (old new : SinkView) : Type 0 where
+  pub text : List ℕ
+  pub first : IsPrefix text (answer_text layout report ss)
+  pub written : Appends old.told new.told text
+
 -- there are histories of these streams; the faults are theirs, in table order, and their document is written in this layout. If each fault
--- is a table's own, that is the answer that the streams define
+-- is a table's own, that is the answer that the streams define. Whatever the faults, it is a beginning of that answer's text
 pub record Gives (layout : Layout) (report : ReportValue) (ss : List Stream) (old new : SinkView) (faults : List TableFault) (e : MergeEnd) : Type 0 where
   pub written : WritesHistories (AreHistories ss) layout report old new faults e
   pub answer : AreDefined faults → IsAnswer layout report ss old new faults e
+  pub begun : Begins layout report ss old new
 
 -- the refused tables, and the unfinished document up to and including the first of them
 pub record Refuses (layout : Layout) (report : ReportValue) (ss : List Stream) (old new : SinkView) (named : List (List ℕ × TableFault)) : Type 0 where

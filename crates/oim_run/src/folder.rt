@@ -17,11 +17,15 @@ pub trait Folder<R: Read> {
         ensures same { files self.new ≡ files self.old }
         ensures opens { IfSome (files self.old) (λ at. IsFileOf R.remaining result (at path.now)) };
 
-    /// Looks for the file at the path without opening it: gives a reader of exactly its bytes, which may
-    /// open it at the first read, or `None` exactly if there is no such file.
+    /// Looks for the file at the path: gives a reader of exactly its bytes, or `None` exactly if there is
+    /// no such file. It opens the file, unless the folder has a way of its own: then the reader may open
+    /// it at its first read, so that not all files are open at once.
     fn find(&mut self, path: String) -> Option<R>
         ensures same { files self.new ≡ files self.old }
-        ensures finds { IfSome (files self.old) (λ at. IsFileOf R.remaining result (at (string_bytes path))) };
+        ensures finds { IfSome (files self.old) (λ at. IsFileOf R.remaining result (at (string_bytes path))) }
+    {
+        self.open(path.as_str())
+    }
 }
 
 /// Files in memory, each with its path. If two have the same path, the first counts.
@@ -52,10 +56,6 @@ impl<'a> Folder<&'a [u8]> for Texts<'a> {
 
     fn open(&mut self, path: &str) -> Option<&'a [u8]> {
         bytes_at(self.files, path)
-    }
-
-    fn find(&mut self, path: String) -> Option<&'a [u8]> {
-        bytes_at(self.files, path.as_str())
     }
 }
 

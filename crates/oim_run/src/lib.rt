@@ -3,10 +3,10 @@
 //!
 //! What is proved:
 //!
-//! - if `job` succeeds, the settings have the values that the words give, and the defaults for those
-//!   that they leave out, with 1 to 64 workers and a ring size of 1 to 65,536. Apart from running out
-//!   of memory, it fails for exactly the words that the definition of the command line refuses
-//!   (`specs/CommandLine.antt`);
+//! - if `job` or `request_of` succeeds, the settings have the values that the words give, and the defaults
+//!   for those that they leave out, with 1 to 64 workers and a ring size of 1 to 65,536. Apart from
+//!   running out of memory, they fail for exactly the words that the definition of the command line
+//!   refuses (`specs/CommandLine.antt`);
 //! - `run`, over any folder that tells its files honestly, ends as the files say (`specs/Runs.antt`). If
 //!   the metadata, the types table or the parameters file has a fault, the run ends with the first one,
 //!   in the order in which the files are read, and writes nothing (`specs/Steps.antt`). Otherwise it
@@ -19,8 +19,11 @@
 //!   (`specs/Conversion.antt`);
 //! - `run_to` and `convert_to` say the same of a writer behind a buffer: a flush that fails after a
 //!   document, whole or unfinished, is a failed write;
+//! - `convert_as` runs exactly one conversion, to the output that the settings name, and answers its
+//!   outcome, or none if that output is written as an input's path (`specs/Outputs.antt`);
 //! - `status` and `line` give the exit status and the lines on standard error of each outcome, with one
-//!   line for each refused table (`specs/Lines.antt`).
+//!   line for each refused table, and `terminal_line` the same without a path's control characters
+//!   (`specs/Lines.antt`).
 //!
 //! What only tests show: what the writer behind the buffer holds, and that memory and threads, where
 //! they are given, are enough.
@@ -31,14 +34,20 @@ mod conversion;
 mod folder;
 mod held;
 mod outcome;
+mod output;
+mod request;
 mod running;
 mod settings;
 mod steps;
+mod terminal;
 
 pub use buffered::{convert_to, run_to};
 pub use conversion::{convert_held, convert_report, convert_texts};
 pub use folder::{Folder, Texts};
 pub use held::{METADATA, TABLE, TYPES};
-pub use outcome::{Outcome, Source, line, status};
+pub use outcome::{Outcome, Source, line, status, terminal_line};
+pub use output::{Conversion, convert_as};
+pub use request::{Request, job, request_of};
 pub use running::run;
-pub use settings::{Settings, job};
+pub use settings::Settings;
+pub use terminal::shown;

@@ -1,8 +1,9 @@
 //! How a run ended, and the exit status and the lines on standard error for it.
 
 ghost use Rattle.std.specs.Prelude.{◌≡◌, IfOk, string_bytes};
-ghost use Rattle.oim_run.specs.Lines.{fault_text, line_of, path_text, source_name, status_of, table_text, tables_text};
+ghost use Rattle.oim_run.specs.Lines.{fault_text, line_of, path_text, source_name, status_of, table_text, tables_text, terminal_line_of};
 
+use crate::terminal::shown;
 use oim_convert::ConvertFault;
 use oim_json::WriteFault;
 use oim_meta::MetaFault;
@@ -121,5 +122,22 @@ pub fn line(alloc: Global, outcome: &Outcome) -> Result<String, AllocError>
         Outcome::CannotWrite(path) => path_line(alloc, "write", path.as_str()),
         Outcome::Run(fault) => fault_line(alloc, "run", fault.name(), fault.number()),
         Outcome::Output(_) => String::from_str(alloc, "xbrl-json: output: Write (56)\n"),
+    }
+}
+
+/// The lines on standard error where that is a terminal: those of `line`, with the control characters of a
+/// path escaped, so that no name of a file makes a line of its own or gives the terminal an order. Fails
+/// if memory runs out.
+pub fn terminal_line(alloc: Global, outcome: &Outcome) -> Result<String, AllocError>
+    ensures { IfOk result (λ s. string_bytes s ≡ terminal_line_of outcome.now) }
+{
+    match outcome {
+        Outcome::CannotRead(path) => {
+            path_line(alloc, "read", shown(alloc, path.as_str())?.as_str())
+        }
+        Outcome::CannotWrite(path) => {
+            path_line(alloc, "write", shown(alloc, path.as_str())?.as_str())
+        }
+        _ => line(alloc, outcome),
     }
 }

@@ -1,25 +1,21 @@
-//! The settings that the command line gives.
+//! The command line, as `clap` reads it, and the settings of a run that it gives.
 
-ghost use Rattle.std.specs.Prelude.{◌≡◌, ◌≤◌, ◌↔◌, IfOk, IfSome, IsTrue, codes, false, map, option_map};
-ghost use Rattle.clap.specs.Kinds.{FailsBy};
-ghost use Rattle.clap.specs.Words.{App, Rule, app_of, fault_of, first_of, found_of, matches_of, one_of, rows_of, rule_of, with_rule};
+ghost use Rattle.std.specs.Prelude.{◌≡◌, ◌≤◌, ◌↔◌, IfOk, IfSome, IsTrue, codes, false, option_map};
+ghost use Rattle.clap.specs.Words.{App, Rule, app_of, first_of, found_of, one_of, rows_of, rule_of, with_rule};
 ghost use Rattle.oim_convert.specs.Limits.{IsWorkerCount};
 ghost use Rattle.oim_ring.specs.Limits.{IsRingSize};
 ghost use Rattle.oim_run.specs.CommandLine as spec;
-ghost use Rattle.oim_run.specs.CommandLine.{Answers, AreLayouts, HasSettings, IsInput, IsLayoutOf, IsNumberOf, Words, command_line};
+ghost use Rattle.oim_run.specs.CommandLine.{HasSettings, IsInput, IsLayoutOf, IsNumberOf, command_line};
 
 use clap::builder::ValueParser;
-use clap::{Arg, ArgAction, ArgMatches, Command, Error};
+use clap::{Arg, ArgAction, ArgMatches, Command};
 use oim_convert::{LARGEST_RING, MOST_WORKERS};
 use oim_json::Layout;
 use oim_names::Text;
 use std::alloc::{AllocError, Global};
 
-/// The words of the layouts.
-const LAYOUTS: &[&str] = &["compact", "lines"];
-
 /// The program's version, and the kit that proves it, in the words of `rt version`.
-const VERSION: &str = "0.2.0 (proved with rattle-kit-13f logic dac8208d650f15bf)";
+const VERSION: &str = "0.3.0 (proved with rattle-kit-13f logic dac8208d650f15bf)";
 
 /// The help of each argument.
 const META_HELP: &str = "The metadata file of the report";
@@ -33,6 +29,8 @@ const RING_HELP: &str =
 
 const OUT_HELP: &str =
     "The file of the document, which is emptied first [default: standard output]";
+
+const WHOLE_HELP: &str = "FILE gets the document only once it is whole, and is else left as it was";
 
 const LAYOUT_HELP: &str = "The document on one line, or with a line for each fact";
 
@@ -71,8 +69,6 @@ pub struct Settings {
     pub out: Option<Text>,
     /// Whether the document is on one line, or has a line for each fact.
     pub layout: Layout,
-    /// Whether standard error shows how far the run is.
-    pub progress: bool,
 }
 
 impl Settings {
@@ -178,7 +174,7 @@ fn with<'a>(
 
 /// The program's arguments, as `clap` reads them, where `layouts` are the words of the layouts. Fails if
 /// memory runs out.
-fn command<'a>(alloc: Global, layouts: &'a [&'a str]) -> Result<Command<'a>, AllocError>
+pub(crate) fn command<'a>(alloc: Global, layouts: &'a [&'a str]) -> Result<Command<'a>, AllocError>
     ensures { IfOk result (λ c. app_of c ≡ command_line layouts.entry) }
 {
     let workers = number_option(alloc, "workers", MOST_WORKERS as u64, "4", WORKERS_HELP);
@@ -186,6 +182,8 @@ fn command<'a>(alloc: Global, layouts: &'a [&'a str]) -> Result<Command<'a>, All
     let ring = number_option(alloc, "ring", LARGEST_RING as u64, "1024", RING_HELP);
     let command = with(command, ring);
     let command = with(command, option(alloc, "out", "FILE", OUT_HELP));
+    let whole = flag(alloc, "whole", WHOLE_HELP);
+    let command = with(command, whole);
     let layout = word_option(alloc, "layout", layouts, "compact", LAYOUT_HELP);
     let command = with(command, layout);
     with(command, flag(alloc, "progress", PROGRESS_HELP))
@@ -199,7 +197,7 @@ fn value_of<'a>(matches: &ArgMatches<'a>, id: &str) -> Option<&'a str>
 }
 
 /// Whether the flag `id` is given.
-fn is_given(matches: &ArgMatches<'_>, id: &str) -> bool
+pub(crate) fn is_given(matches: &ArgMatches<'_>, id: &str) -> bool
     ensures { result ≡ spec.is_given (first_of id.now (rows_of (found_of matches.now))) }
 {
     match value_of(matches, id) {
@@ -236,7 +234,10 @@ fn layout_in(matches: &ArgMatches<'_>) -> Option<Layout>
 }
 
 /// The settings in the matches. A parse of `command` always has them. Fails if memory runs out.
-fn settings_in(alloc: Global, matches: &ArgMatches<'_>) -> Result<Option<Settings>, AllocError>
+pub(crate) fn settings_in(
+    alloc: Global,
+    matches: &ArgMatches<'_>,
+) -> Result<Option<Settings>, AllocError>
     ensures values { IfOk result (λ o. IfSome o (HasSettings (rows_of (found_of matches.now)))) }
     ensures workers { IfOk result (λ o. IfSome o (λ s. IsWorkerCount s.workers)) }
     ensures ring { IfOk result (λ o. IfSome o (λ s. IsRingSize s.ring)) }
@@ -261,43 +262,5 @@ fn settings_in(alloc: Global, matches: &ArgMatches<'_>) -> Result<Option<Setting
         ring,
         out,
         layout,
-        progress: is_given(matches, "progress"),
     }))
-}
-
-/// The settings that the words give, where the option `layout` has the words `layouts`.
-fn settings_by<'a>(
-    alloc: Global,
-    layouts: &'a [&'a str],
-    words: &'a [&'a str],
-) -> Result<Settings, Error>
-    ensures values { IfOk result (HasSettings (matches_of (command_line layouts.entry) (map (λ w. w.now) words.now))) }
-    ensures workers { IfOk result (λ s. IsWorkerCount s.workers) }
-    ensures ring { IfOk result (λ s. IsRingSize s.ring) }
-    ensures fails { FailsBy (fault_of (command_line layouts.entry) (map (λ w. w.now) words.now)) result }
-{
-    let matches = match command(alloc, layouts)?.try_get_matches_from(words) {
-        Ok(matches) => matches,
-        Err(error) => return Err(error),
-    };
-    match settings_in(alloc, &matches)? {
-        Some(settings) => Ok(settings),
-        // A parse that succeeds has every value, so this is never reached.
-        None => Err(Error::from(AllocError)),
-    }
-}
-
-/// Reads the words of the command line, without the program's name: `META --types FILE [--workers N]
-/// [--ring K] [--out FILE] [--layout compact|lines] [--progress]`, with 4 workers, rings of 1,024 blocks
-/// and the compact layout unless the words say otherwise. There are 1 to 64 workers, and a ring's size is
-/// 1 to 65,536 blocks.
-///
-/// Fails exactly if the definition of the command line refuses the words, with one of the kinds that it
-/// gives, if they ask for help or the version, or if memory runs out. The error has the text to show.
-pub fn job(alloc: Global, words: &[&str]) -> Result<Settings, Error>
-    ensures answers { (layouts : Words) × AreLayouts layouts × Answers (command_line layouts) (map (λ w. w.now) words.now) result }
-    ensures workers { IfOk result (λ s. IsWorkerCount s.workers) }
-    ensures ring { IfOk result (λ s. IsRingSize s.ring) }
-{
-    settings_by(alloc, LAYOUTS, words)
 }

@@ -1,7 +1,11 @@
 //! The files of the system. No contract says anything about them.
 
+ghost use Rattle.std.specs.Io.{ReadsAtMost};
+
+use crate::file_id::Written;
 use crate::progress::{Progress, Watched};
 use oim_run::Folder;
+use std::fs::OpenFile;
 use std::io::{ErrorKind, Read};
 use std::rt::{Clock, Files};
 use std::{fs, io};
@@ -15,6 +19,23 @@ pub enum DiskFile<'a, H: Files> {
     Named(&'a H, String),
 }
 
+/// Reads from a file. Where a signal came before anything was read, it asks again.
+fn read_through_signals<F: Read>(file: &mut F, buf: &mut [u8]) -> io::Result<usize>
+    ensures { ReadsAtMost result buf.new }
+{
+    for _ in 0..u64::MAX {
+        match file.read(buf) {
+            Ok(count) => return Ok(count),
+            Err(error) => {
+                if error.kind() != ErrorKind::Interrupted {
+                    return Err(error);
+                }
+            }
+        }
+    }
+    Err(io::Error::from(ErrorKind::Interrupted))
+}
+
 impl<'a, H: Files> Read for DiskFile<'a, H>
 where
     H::File: Read,
@@ -24,19 +45,21 @@ where
             *self = DiskFile::Open(fs::open(*rt, path.as_str())?);
         }
         match self {
-            DiskFile::Open(file) => file.read(buf),
+            DiskFile::Open(file) => read_through_signals(file, buf),
             DiskFile::Named(_, _) => Err(io::Error::from(ErrorKind::NotFound)),
         }
     }
 }
 
-/// The files of the system. A file that is opened at once and cannot be opened counts as missing. A
-/// file that is looked for counts as missing only if the system says that there is no such file; any
-/// other that cannot be opened fails at its first read.
+/// The files of the system. A file that is opened at once and cannot be opened counts as missing, and so
+/// does one that the run writes. A file that is looked for counts as missing only if the system says that
+/// there is no such file; any other that cannot be opened fails at its first read.
 #[derive(Drop)]
 pub struct Disk<'a, H> {
     /// The system.
     pub rt: &'a H,
+    /// The files that the run writes: each file of the report is compared with them.
+    pub written: &'a Written,
     /// Counts each file that is looked for as a table, if there is one.
     pub progress: Option<&'a Progress<'a, H>>,
 }
@@ -52,14 +75,19 @@ where
     H::File: Read,
 {
     fn open(&mut self, path: &str) -> Option<Watched<'a, H, DiskFile<'a, H>>> {
-        match fs::open(self.rt, path) {
-            Ok(file) => Some(Watched::new(DiskFile::Open(file), None)),
-            Err(_) => None,
+        let Ok(file) = fs::open(self.rt, path) else {
+            return None;
+        };
+        if self.written.look_at(&file.metadata()) {
+            return None;
         }
+        Some(Watched::new(DiskFile::Open(file), None))
     }
 
     fn find(&mut self, path: String) -> Option<Watched<'a, H, DiskFile<'a, H>>> {
-        let size = match fs::metadata(self.rt, path.as_str()) {
+        let metadata = fs::metadata(self.rt, path.as_str());
+        self.written.look_at(&metadata);
+        let size = match metadata {
             Ok(metadata) => metadata.len(),
             Err(error) if is_missing(&error) => {
                 if let Some(progress) = self.progress {

@@ -9,4 +9,4 @@ pub settle-drained-requires-clause-ended : goal.settle-drained-requires-clause-e
 settle-drained-requires-clause-ended c =
     let e = c.in-Some-Ending in
     let more : c.take.new.self.taken ≡ c.args.drain.taken ++ items.Ending e.ending ∷ [] = e.ensures.some ∙ ap (λ x. c.args.drain.taken ++ x ∷ []) e.field-0-is in
-    ap blocks_only more ∙ ended c.args.drain.taken e.ending
+    ap blocks_only (c.finds_nothing.ensures.same c.if-finds_nothing.true ∙ more) ∙ ended c.args.drain.taken e.ending

@@ -1,6 +1,6 @@
 use Rattle.oim_convert.specs.Runs.{early_fault}
 use Rattle.oim_json.specs.Sinks.{sink_at}
-use Rattle.std.proofs.Common.{length, rules, subst, vec_capacity, ◌≡◌, ap, sym}
+use Rattle.std.proofs.Common.{length, rules, subst, vec_capacity, ◌≡◌}
 use Rattle.oim_run.proofs.OneThread.{alone_ends, alone_leaves, early_alone}
 use Rattle.oim_run.proofs.Threads.{roomy}
 use Rattle.oim_run.proofs.Endings.{as_many, converted, converted_leaves}

@@ -1,5 +1,5 @@
 use Rattle.std.proofs.Common.{subst, length}
-use Rattle.oim_json.specs.Sinks.{SinkView, sink_at}
+use Rattle.oim_json.specs.Sinks.{sink_at}
 use Rattle.oim_convert.specs.Answer.{streams}
 use Rattle.oim_convert.specs.Runs.{early_fault}
 use Rattle.oim_run.specs.Outcomes.{EndsAs}

@@ -7,5 +7,6 @@ returns c =
     let one = c.with-command.ensures _ _ c.inputs.ensures c.number_option-workers.ensures.rule in
     let two = c.with-command-2.ensures _ _ one c.number_option-ring.ensures.rule in
     let three = c.with-command-3.ensures _ _ two c.option.ensures.rule in
-    let four = c.with-command-4.ensures _ _ three c.word_option-layout.ensures.rule in
-    c.with.ensures _ _ four c.flag.ensures.rule
+    let four = c.with-command-4.ensures _ _ three c.flag-whole.ensures.rule in
+    let five = c.with-command-5.ensures _ _ four c.word_option-layout.ensures.rule in
+    c.with.ensures _ _ five c.flag.ensures.rule

@@ -1,0 +1,92 @@
+//! What the words of the command line ask for: the settings of a run, and what stands round it.
+
+ghost use Rattle.std.specs.Prelude.{◌≡◌, IfOk, IfSome, map};
+ghost use Rattle.clap.specs.Kinds.{FailsBy};
+ghost use Rattle.clap.specs.Words.{fault_of, found_of, matches_of, rows_of};
+ghost use Rattle.oim_convert.specs.Limits.{IsWorkerCount};
+ghost use Rattle.oim_ring.specs.Limits.{IsRingSize};
+ghost use Rattle.oim_run.specs.CommandLine.{Answers, AreLayouts, HasRequest, HasSettings, Words, command_line};
+
+use crate::settings::{Settings, command, is_given, settings_in};
+use clap::{ArgMatches, Error};
+use std::alloc::{AllocError, Global};
+
+/// The words of the layouts.
+const LAYOUTS: &[&str] = &["compact", "lines"];
+
+/// What the words of the command line ask for.
+#[derive(Drop)]
+pub struct Request {
+    /// The settings of the run.
+    pub settings: Settings,
+    /// Whether the document's file gets the document only once it is whole (`--whole`).
+    pub whole: bool,
+    /// Whether standard error shows how far the run is (`--progress`).
+    pub progress: bool,
+}
+
+/// The request in the matches. A parse of `command` always has one. Fails if memory runs out.
+fn request_in(alloc: Global, matches: &ArgMatches<'_>) -> Result<Option<Request>, AllocError>
+    ensures values { IfOk result (λ o. IfSome o (HasRequest (rows_of (found_of matches.now)))) }
+    ensures workers { IfOk result (λ o. IfSome o (λ q. IsWorkerCount q.settings.workers)) }
+    ensures ring { IfOk result (λ o. IfSome o (λ q. IsRingSize q.settings.ring)) }
+{
+    match settings_in(alloc, matches)? {
+        Some(settings) => Ok(Some(Request {
+            settings,
+            whole: is_given(matches, "whole"),
+            progress: is_given(matches, "progress"),
+        })),
+        None => Ok(None),
+    }
+}
+
+/// The request that the words make, where the option `layout` has the words `layouts`.
+fn request_by<'a>(
+    alloc: Global,
+    layouts: &'a [&'a str],
+    words: &'a [&'a str],
+) -> Result<Request, Error>
+    ensures values { IfOk result (HasRequest (matches_of (command_line layouts.entry) (map (λ w. w.now) words.now))) }
+    ensures workers { IfOk result (λ q. IsWorkerCount q.settings.workers) }
+    ensures ring { IfOk result (λ q. IsRingSize q.settings.ring) }
+    ensures fails { FailsBy (fault_of (command_line layouts.entry) (map (λ w. w.now) words.now)) result }
+{
+    let matches = match command(alloc, layouts)?.try_get_matches_from(words) {
+        Ok(matches) => matches,
+        Err(error) => return Err(error),
+    };
+    match request_in(alloc, &matches)? {
+        Some(request) => Ok(request),
+        // A parse that succeeds has every value, so this is never reached.
+        None => Err(Error::from(AllocError)),
+    }
+}
+
+/// Reads the words of the command line, without the program's name: `META --types FILE [--workers N]
+/// [--ring K] [--out FILE] [--whole] [--layout compact|lines] [--progress]`, with 4 workers, rings of
+/// 1,024 blocks and the compact layout unless the words say otherwise. There are 1 to 64 workers, and a
+/// ring's size is 1 to 65,536 blocks.
+///
+/// Fails exactly if the definition of the command line refuses the words, with one of the kinds that it
+/// gives, if they ask for help or the version, or if memory runs out. The error has the text to show.
+pub fn request_of(alloc: Global, words: &[&str]) -> Result<Request, Error>
+    ensures answers { (layouts : Words) × AreLayouts layouts × Answers HasRequest (command_line layouts) (map (λ w. w.now) words.now) result }
+    ensures workers { IfOk result (λ q. IsWorkerCount q.settings.workers) }
+    ensures ring { IfOk result (λ q. IsRingSize q.settings.ring) }
+{
+    request_by(alloc, LAYOUTS, words)
+}
+
+/// The settings of the run for which the words of the command line ask, as `request_of` reads them. It
+/// fails as `request_of` does.
+pub fn job(alloc: Global, words: &[&str]) -> Result<Settings, Error>
+    ensures answers { (layouts : Words) × AreLayouts layouts × Answers HasSettings (command_line layouts) (map (λ w. w.now) words.now) result }
+    ensures workers { IfOk result (λ s. IsWorkerCount s.workers) }
+    ensures ring { IfOk result (λ s. IsRingSize s.ring) }
+{
+    match request_of(alloc, words) {
+        Ok(request) => Ok(request.settings),
+        Err(error) => Err(error),
+    }
+}

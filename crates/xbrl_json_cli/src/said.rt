@@ -1,0 +1,83 @@
+//! What the program prints when a run ends, and its exit status.
+
+ghost use Rattle.std.specs.Prelude.{◌≡◌, ◌⊎◌, if◌then◌else◌};
+ghost use Rattle.clap.specs.Values.{kind_of};
+ghost use Rattle.oim_run.specs.Lines.{status_of, unprinted_status, words_status};
+
+use oim_run::{Outcome, line, shown, status, terminal_line};
+use std::alloc::{AllocError, Global};
+use std::io::{Eprint, IsTerminal, Print};
+
+/// What is printed if memory runs out for the lines of an outcome.
+const UNSAID: &str = "xbrl-json: out of memory, and so the faults cannot be said\n";
+
+/// What is printed if standard output does not take the help or the version.
+const UNPRINTED: &str = "xbrl-json: output: Write (56)\n";
+
+/// Prints the lines of an outcome, and gives its exit status. What cannot be printed is left out. A
+/// terminal gets no control character of a path.
+pub fn told(rt: &HostRuntime, alloc: Global, outcome: &Outcome) -> u8
+    ensures { result ≡ status_of outcome.now }
+{
+    let lines = if rt.stderr().is_terminal() {
+        terminal_line(alloc, outcome)
+    } else {
+        line(alloc, outcome)
+    };
+    let _ = match lines {
+        Ok(lines) => rt.eprint(lines.as_str()),
+        Err(_) => rt.eprint(UNSAID),
+    };
+    status(outcome)
+}
+
+/// A text without control characters but the ends of its lines.
+fn lines_shown(alloc: Global, text: &str) -> Result<String, AllocError> {
+    let mut lines = String::new(alloc);
+    for line in text.lines() {
+        lines.push_str(shown(alloc, line)?.as_str())?;
+        lines.push('\n')?;
+    }
+    Ok(lines)
+}
+
+/// Prints on a terminal what there is to say about words that are refused.
+fn explained_there(rt: &HostRuntime, alloc: Global, error: &clap::Error) {
+    let text = match format!(in alloc; "{error}") {
+        Ok(text) => lines_shown(alloc, text.as_str()),
+        Err(error) => Err(error),
+    };
+    let _ = match text {
+        Ok(text) => rt.eprint(text.as_str()),
+        Err(_) => error.print(rt),
+    };
+}
+
+/// The exit status for words of this kind, as they were refused, or as they ask for help or the version.
+fn status_of_words(error: &clap::Error) -> u8
+    ensures { result ≡ words_status (kind_of error.now) }
+{
+    match error.kind() {
+        clap::error::ErrorKind::DisplayHelp | clap::error::ErrorKind::DisplayVersion => 0,
+        clap::error::ErrorKind::OutOfMemory => 3,
+        _ => 2,
+    }
+}
+
+/// Prints what there is to say about words that are refused, or that ask for help or the version, and
+/// gives the exit status: 3 if the help or the version cannot be printed.
+pub fn explained(rt: &HostRuntime, alloc: Global, error: &clap::Error) -> u8
+    ensures { (result ≡ words_status (kind_of error.now)) ⊎ (result ≡ unprinted_status (kind_of error.now)) }
+{
+    let status = status_of_words(error);
+    if status != 0 && rt.stderr().is_terminal() {
+        explained_there(rt, alloc, error);
+        return status;
+    }
+    let is_printed = error.print(rt).is_ok();
+    if is_printed || status != 0 {
+        return status;
+    }
+    let _ = rt.eprint(UNPRINTED);
+    3
+}

@@ -1,0 +1,109 @@
+"""Digests of contents, by which the cache knows files: BLAKE2b, block by block, on several threads."""
+
+from __future__ import annotations
+
+import hashlib
+import os
+from contextlib import suppress
+from itertools import count
+from threading import Thread
+from typing import Callable, List, NamedTuple, Sequence, Union
+
+from .refusals import cannot_read
+
+BLOCK = 1 << 20
+MOST_THREADS = 8
+
+
+class Contents(NamedTuple):
+    """A file whose bytes are to be known: what opens it, how many bytes it had when it was looked at, and how lines name it."""
+
+    opened: Callable[[], int]
+    size: int
+    label: str
+
+
+def digest_of(text: Union[bytes, memoryview]) -> bytes:
+    """The digest of bytes that are in memory."""
+    return hashlib.blake2b(text, digest_size=32).digest()
+
+
+def contents_of_disk(path: str, size: int, label: str) -> Contents:
+    return Contents(lambda: os.open(path, os.O_RDONLY | os.O_CLOEXEC), size, label)
+
+
+def digests_of(files: Sequence[Contents]) -> List[bytes]:
+    """The digest of each file, which is that of the digests of its blocks. The first file that cannot be read is refused."""
+    blocks = Blocks(files)
+    blocks.work_on_threads()
+    digests: List[List[bytes]] = [[] for _ in files]
+    for (number, _), found in zip(blocks.places, blocks.found):
+        if isinstance(found, OSError):
+            raise cannot_read(files[number].label, found)
+        if not isinstance(found, bytes):
+            raise found or MemoryError
+        digests[number].append(found)
+    return [digest_of(b"".join(it)) for it in digests]
+
+
+class Blocks:
+    """The blocks of some files. Each is read and digested by the thread that comes to it first; hashlib lets others run meanwhile."""
+
+    def __init__(self, files: Sequence[Contents]) -> None:
+        self.files = files
+        self.places = [(number, at) for number, it in enumerate(files) for at in range(0, it.size or 1, BLOCK)]
+        self.found: List[Union[bytes, Exception, None]] = [None] * len(self.places)
+        self.turns = count()
+        self.stopped = False
+
+    def work_on_threads(self) -> None:
+        """Works through all blocks, here and on as many threads as there are processors, or as the system gives."""
+        threads: List[Thread] = []
+        try:
+            with suppress(RuntimeError):  # the system gives no more threads
+                for _ in range(min(MOST_THREADS, processors(), len(self.places)) - 1):
+                    thread = Thread(target=self.help)
+                    thread.start()
+                    threads.append(thread)
+            self.work()
+        except BaseException:  # a signal: the others must not go on
+            self.stopped = True
+            raise
+        finally:
+            for thread in threads:
+                thread.join()
+
+    def help(self) -> None:
+        """The work of another thread. One that has no memory for it leaves it to the others."""
+        with suppress(MemoryError):
+            self.work()
+
+    def work(self) -> None:
+        """Digests one block after the other, until none is left."""
+        room = memoryview(bytearray(BLOCK))
+        for turn in self.turns:
+            if self.stopped or turn >= len(self.places):
+                return
+            try:
+                self.found[turn] = self.digest(*self.places[turn], room)
+            except Exception as error:  # it is told in the order of the files
+                self.found[turn] = error
+
+    def digest(self, number: int, at: int, room: memoryview) -> bytes:
+        """The digest of the block that begins at a byte of a file."""
+        file = self.files[number].opened()
+        try:
+            filled = 0
+            while filled < BLOCK:
+                more = os.preadv(file, [room[filled:]], at + filled)
+                if not more:
+                    break
+                filled += more
+            return digest_of(room[:filled])
+        finally:
+            os.close(file)
+
+
+def processors() -> int:
+    """How many processors this run may use."""
+    return len(os.sched_getaffinity(0)) if hasattr(os, "sched_getaffinity") else os.cpu_count() or 1

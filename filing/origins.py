@@ -1,0 +1,65 @@
+"""From a place of the merged metadata to the file that it came from, and its place there."""
+
+from __future__ import annotations
+
+import re
+from typing import Iterable, List, Optional, Tuple
+
+from .chain import Metadata
+from .metadata import ENTRIES, Merged, Path
+from .prefixes import Renaming
+from .strict_json import Json
+
+POINTER = re.compile(r"(?:/(?:[^~/]|~[01])*)+")
+
+
+class Origins:
+    """Where the parts of a merged file stand in the files that it was made of."""
+
+    def __init__(self, merged: Merged, files: Iterable[Metadata], renaming: Renaming) -> None:
+        self.merged = merged
+        self.renaming = renaming
+        self.files = {it.label: it for it in files}  # the report's own is the first
+
+    def labels(self) -> List[str]:
+        return list(self.files)
+
+    def place(self, pointer: str) -> Optional[Tuple[str, str]]:
+        """The file and the pointer there of a pointer of the merged file (RFC 6901); None for a text that is no pointer to a part of it."""
+        path = path_of(pointer)
+        if not path or path[0] not in self.merged.value:
+            return None
+        label, there = self.own_path(path)
+        return label, pointer_of(there)
+
+    def own_path(self, path: Path) -> Tuple[str, Path]:
+        """The file that gave a part of the merged file, or the part around it, and the path of it there."""
+        label = self.merged.origin(path)
+        file = self.files[label]
+        owner: Json = file.value
+        there: List[str] = []
+        for depth, name in enumerate(path):
+            there.append(self.own_name(file, owner, path[:depth], name))
+            owner = owner.get(there[-1]) if isinstance(owner, dict) else None
+        return label, tuple(there)
+
+    def own_name(self, file: Metadata, owner: Json, path: Path, name: str) -> str:
+        """What a file itself calls a member of one of its objects, or which of its entry points one is."""
+        if path == ENTRIES and name.isdecimal():
+            entries = self.merged.value["documentInfo"]["taxonomy"]
+            texts = [text for text, _ in file.taxonomy()]
+            return str(texts.index(entries[int(name)])) if int(name) < len(entries) else name
+        if not isinstance(owner, dict) or name in owner:
+            return name
+        return next((it for it in owner if self.renaming.qname(it) == name), name)
+
+
+def path_of(pointer: str) -> Optional[Path]:
+    """The names that a JSON pointer has (RFC 6901, section 4)."""
+    if not POINTER.fullmatch(pointer):
+        return None
+    return tuple(it.replace("~1", "/").replace("~0", "~") for it in pointer[1:].split("/"))
+
+
+def pointer_of(path: Iterable[str]) -> str:
+    return "".join("/" + it.replace("~", "~0").replace("/", "~1") for it in path)
