@@ -688,6 +688,42 @@ def identifiers_that_come_again(folder):
             converts(folder, f"{length} letters again", facts, lines("t1, row 3, column 1: RepeatedRowId (30)"), [(1, 1), (4, None)])
 
 
+# Texts of periods, each with the period that it means.
+PERIODS = """
+2021Q4 2021-10-01T00:00:00/2022-01-01T00:00:00
+2021H2 2021-07-01T00:00:00/2022-01-01T00:00:00
+2024-02 2024-02-01T00:00:00/2024-03-01T00:00:00
+2020W53 2020-12-28T00:00:00/2021-01-04T00:00:00
+2021W1 2021-01-04T00:00:00/2021-01-11T00:00:00
+2021W01 2021-01-04T00:00:00/2021-01-11T00:00:00
+2021-01-01..2021-12-31 2021-01-01T00:00:00/2022-01-01T00:00:00
+2021Q4@end 2022-01-01T00:00:00
+2021-12-31T24:00:00 2022-01-01T00:00:00
+9998 9998-01-01T00:00:00/9999-01-01T00:00:00
+9999-12-30 9999-12-30T00:00:00/9999-12-31T00:00:00
+9999-12-31T23:59:59 9999-12-31T23:59:59
+0001W1 0001-01-01T00:00:00/0001-01-08T00:00:00
+"""
+
+# Texts that are no periods.
+NO_PERIODS = """
+2021W53 2021W0 2021Q5 2021-02-29 2021-06-30..2021-06-29 2021-12-31T23:59:60 2021-12-31T00:00:00@end 2021-01-01T00:00:00/2021-01-01T00:00:00
+9999-12-31 9999-12 9999 9999W52 9999-12-31T24:00:00 0000
+"""
+
+
+def periods(folder):
+    """Periods that a column gives, each in a row of one table, and each text that is none in a table of its own."""
+    write(folder, {"t.csv": TYPES, "m.json": edited(TIMED)})
+    rows = [it.split() for it in PERIODS.strip().splitlines()]
+    write(folder, {"t1.csv": "cash,b\n" + "".join(f"1,{text}\n" for text, _ in rows)})
+    member = '"t1.r_{}.cash":{{"dimensions":{{"concept":"eg:Cash","entity":"eg:A1","period":"{}","unit":"iso4217:EUR"}},"value":"1"}}'
+    converts(folder, "periods", [member.format(i, period) for i, (_, period) in enumerate(rows, 1)])
+    for text in NO_PERIODS.split():
+        write(folder, {"t1.csv": f"cash,b\n1,{text}\n"})
+        converts(folder, f"the text {text}", "", lines("t1, row 1, column 1: BadPeriod (37)"), [(1, 1), (4, None)])
+
+
 def words_and_paths(folder):
     """The held report by other words and at other paths."""
     plain = document("compact", members(HELD))
@@ -853,6 +889,7 @@ PARTS = (
     types,
     wider_types,
     identifiers_that_come_again,
+    periods,
     words_and_paths,
     words_refused,
     early_ends,

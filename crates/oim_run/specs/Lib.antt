@@ -5,6 +5,5 @@ pub mod Lines
 pub mod Metadata
 pub mod Naming
 pub mod Outcomes
-pub mod Outputs
 pub mod Runs
 pub mod Steps

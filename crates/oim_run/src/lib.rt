@@ -19,8 +19,6 @@
 //!   (`specs/Conversion.antt`);
 //! - `run_to` and `convert_to` say the same of a writer behind a buffer: a flush that fails after a
 //!   document, whole or unfinished, is a failed write;
-//! - `convert_as` runs exactly one conversion, to the output that the settings name, and answers its
-//!   outcome, or none if that output is written as an input's path (`specs/Outputs.antt`);
 //! - `status` and `line` give the exit status and the lines on standard error of each outcome, with one
 //!   line for each refused table, and `terminal_line` the same without a path's control characters
 //!   (`specs/Lines.antt`).
@@ -34,7 +32,6 @@ mod conversion;
 mod folder;
 mod held;
 mod outcome;
-mod output;
 mod request;
 mod running;
 mod settings;
@@ -46,7 +43,6 @@ pub use conversion::{convert_held, convert_report, convert_texts};
 pub use folder::{Folder, Texts};
 pub use held::{METADATA, TABLE, TYPES};
 pub use outcome::{Outcome, Source, line, status, terminal_line};
-pub use output::{Conversion, convert_as};
 pub use request::{Request, job, request_of};
 pub use running::run;
 pub use settings::Settings;

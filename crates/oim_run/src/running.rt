@@ -93,7 +93,8 @@ fn run_tables<R: Read + Drop + Send, F: Folder<R>, T: Threads + Wait + Sync, W: 
 /// `Done` means that exactly the document of the files' bytes is written, in this layout. `Tables` means
 /// that these tables are refused, each with its first fault, in table order, and that the unfinished
 /// document up to and including the first of them is written. Both are the same for every number of
-/// workers, ring size and schedule. Running out of memory or threads and failed reads give `Memory`,
+/// workers, ring size and schedule. `Output` means that a write failed, and that a beginning of the
+/// defined document is written, whatever faults came. Running out of memory or threads and failed reads give `Memory`,
 /// `NoThread` and `Read`; a failed read of the metadata, the types table or the parameters file gives
 /// `Report` with its source. `Run` has `BadWorkers` exactly if there is no early fault, memory does not
 /// run out and the number of workers is not 1 to 64, `BadSize` if that number is but the ring's size is

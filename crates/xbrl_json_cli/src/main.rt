@@ -10,10 +10,9 @@
 //!
 //! - the exit status is that of the outcome, or of the kind of fault that the words have; 3 where the
 //!   help or the version that they ask for cannot be printed;
-//! - exactly one conversion is run, to the output that the words name, and its outcome is the one that is
-//!   told; none for an output that is written as the path of the metadata or of the types table
-//!   (`convert_apart`). That no other path leads to a file of the report is looked at by device and
-//!   inode, and only tests show it.
+//! - an output that is written as the path of the metadata or of the types table is refused
+//!   (`convert_as`). That no other path leads to a file of the report is looked at by device and inode,
+//!   and only tests show it.
 //!
 //! Nothing is claimed about what the system's files hold, what its output takes, what it says about the
 //! arguments, or the line that `--progress` shows.
@@ -30,7 +29,7 @@ mod said;
 
 use oim_convert::ConvertFault;
 use oim_run::{Outcome, convert_to, request_of};
-use output::{FromDisk, convert_apart};
+use output::convert_apart;
 use said::{explained, told};
 use std::alloc::Global;
 use std::io;
@@ -57,13 +56,7 @@ fn started<T: Threads + Wait + Sync>(
         let _ = rt.eprint("error: --whole wants --out FILE\n");
         return 2;
     }
-    let mut conversion = FromDisk {
-        rt,
-        alloc,
-        request: &request,
-    };
-    let outcome = convert_apart(rt, threads, alloc, &request.settings, &mut conversion);
-    told(rt, alloc, &outcome)
+    told(rt, alloc, &convert_apart(rt, threads, alloc, &request))
 }
 
 /// Runs with the arguments of the process, and gives the exit status.

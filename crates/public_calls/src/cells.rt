@@ -1,0 +1,25 @@
+//! Calls of `oim_cells`.
+
+use oim_cells::{
+    Accuracy, CellMeaning, NumberKind, decimals, is_boolean, meaning, split_numeral, trimmed,
+};
+use std::test::Fail;
+
+/// A number and the places that its suffix states.
+fn splits_a_numeral() -> bool {
+    split_numeral(NumberKind::Decimal, "1250.5d-2") == Some(("1250.5", Some(Accuracy::Places(-2))))
+}
+
+/// The other readers of a cell's text.
+fn reads_cells() -> bool {
+    meaning("##x") == CellMeaning::Text("#x")
+        && decimals("INF") == Some(Accuracy::Infinite)
+        && is_boolean("true")
+        && trimmed(" 7 ") == "7"
+}
+
+#[test]
+fn calls_of_cells(rt: HostRuntime) -> Result<(), Fail> {
+    assert!(rt; splits_a_numeral() && reads_cells());
+    Ok(())
+}

@@ -1,0 +1,61 @@
+//! Calls of `oim_crew`, but for those that need a scope of threads: `oim_convert` makes these.
+
+use oim_crew::{
+    Claims, Crew, Posts, Room, Seat, Serve, Shift, ShiftOf, Station, all_idle, crew_of,
+};
+use std::alloc::{AllocError, Global};
+use std::test::Fail;
+
+/// Two items, which one seat draws.
+fn draws(alloc: Global) -> Result<bool, Fail> {
+    let (claims, mut seats) = Claims::new(alloc, vec![in alloc; 'a', 'b']?, 1)?;
+    let mut seat: Seat<char> = seats.pop().ok_or("a seat")?;
+    let first = claims.draw(&mut seat);
+    let second = claims.draw(&mut seat);
+    if claims.draw(&mut seat).is_none() {
+        claims.close(vec![in alloc; seat]?);
+    }
+    Ok(first == Some((0, 'a')) && second == Some((1, 'b')))
+}
+
+/// A server that gives each item back.
+#[derive(Drop)]
+struct Echo;
+
+impl Serve<char, char, (), ()> for Echo {
+    ghost use Rattle.std.specs.Prelude.{◌≡◌};
+
+    ghost can_serve = { λ _ _ _ _. Unit {0} };
+
+    ghost gives = { λ _ _ _ item given. given ≡ item };
+
+    fn serve(&self, _rt: &(), _shared: &(), _number: usize, item: char) -> char {
+        item
+    }
+}
+
+/// The posts of a crew, and the room for its workers.
+fn stations_of(
+    posts: Posts<char, char, Echo, (), ()>,
+) -> (Vec<Station<char, char>>, Room<char, char, Echo, (), ()>) {
+    (posts.stations, posts.room)
+}
+
+/// What a worker hands back, and what it promises.
+fn results_of(shift: Shift<char, char>, _promise: &ShiftOf<char, Echo, (), ()>) -> Vec<char> {
+    shift.done
+}
+
+/// A crew of two workers for two items.
+fn is_ready(alloc: Global) -> Result<bool, AllocError> {
+    let items = vec![in alloc; 'a', 'b']?;
+    let crew: Crew<char, char, Echo, (), ()> = crew_of(alloc, items, 2)?;
+    let (stations, room) = stations_of(crew.posts);
+    Ok(stations.len() == 2 && crew.stops.len() == 2 && all_idle(room.shifts.as_slice()))
+}
+
+#[test]
+fn calls_of_crews(rt: HostRuntime) -> Result<(), Fail> {
+    assert!(rt; draws(rt.alloc())? && is_ready(rt.alloc())?);
+    Ok(())
+}

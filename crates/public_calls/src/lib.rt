@@ -1,0 +1,38 @@
+//! Each public name of each library in one call, in the form in which a caller from outside writes it. The first call of a file is the
+//! one that its library's own page shows (`tests/public_calls.py` compares them).
+#![tactic(auto)]
+
+#[cfg(test)]
+mod blocks;
+#[cfg(test)]
+mod cells;
+#[cfg(test)]
+mod conversions;
+#[cfg(test)]
+mod crews;
+#[cfg(test)]
+mod facts;
+#[cfg(test)]
+mod fast_rows;
+#[cfg(test)]
+mod held;
+#[cfg(test)]
+mod merges;
+#[cfg(test)]
+mod metadata;
+#[cfg(test)]
+mod names;
+#[cfg(test)]
+mod periods;
+#[cfg(test)]
+mod records;
+#[cfg(test)]
+mod reports;
+#[cfg(test)]
+mod rings;
+#[cfg(test)]
+mod rows;
+#[cfg(test)]
+mod runs;
+#[cfg(test)]
+mod told_values;

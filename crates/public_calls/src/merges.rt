@@ -1,0 +1,51 @@
+//! Calls of `oim_merge`.
+
+ghost use Rattle.std.specs.Prelude.{◌≡◌, [], IfOk};
+
+use crate::held::{NIL_FACT, nil_fact};
+use oim_json::{Block, Layout, Marked, block_of};
+use oim_merge::{DocumentWriter, MergeEnd, merge};
+use oim_ring::{Drain, Ending, lane};
+use std::alloc::{AllocError, Global};
+use std::sync::Wait;
+use std::test::Fail;
+
+/// The document of one table, which a ring holds.
+fn merges(rt: &(impl AllocGlobal + Wait), block: Block) -> Result<bool, AllocError> {
+    let mut drains = [filled(rt.alloc(), block)?];
+    let mut faults = Vec::with_capacity(rt.alloc(), 1)?;
+    let mut document = Vec::new(rt.alloc());
+    let sink = &mut Marked::new(&mut document);
+    let end = merge(rt, &mut drains, b"", &mut faults, Layout::Compact, sink);
+    Ok(end == MergeEnd::Complete && document.as_slice().starts_with(NIL_FACT))
+}
+
+/// The drain of a ring with a block and an ending.
+fn filled(alloc: Global, block: Block) -> Result<Drain, AllocError>
+    ensures { IfOk result (λ drain. drain.taken ≡ []) }
+{
+    let (mut feed, drain) = lane(alloc, 2)?;
+    let _ = feed.put(block);
+    let _ = feed.close(Ending::Closed);
+    Ok(drain)
+}
+
+/// The same document without a ring.
+fn writes(alloc: Global, block: &Block) -> Result<bool, AllocError> {
+    let mut faults = Vec::with_capacity(alloc, 1)?;
+    let mut document = Vec::new(alloc);
+    let sink = &mut Marked::new(&mut document);
+    let mut writer = DocumentWriter::begin(Layout::Compact, b"", sink);
+    writer.put(block, sink);
+    writer.end_table(Ending::Closed, &mut faults);
+    let is_fine = writer.fault().is_none();
+    let end = writer.finish(sink);
+    Ok(is_fine && end == MergeEnd::Complete && document.as_slice().starts_with(NIL_FACT))
+}
+
+#[test]
+fn calls_of_merges(rt: HostRuntime) -> Result<(), Fail> {
+    let block = block_of(rt.alloc(), &[nil_fact(rt.alloc())?])?;
+    assert!(rt; writes(rt.alloc(), &block)? && merges(&rt, block)?);
+    Ok(())
+}

@@ -1,0 +1,53 @@
+//! Calls of `oim_ring`.
+
+ghost use Rattle.std.specs.Prelude.{◌≡◌, IfOk};
+
+use crate::held::{NIL_FACT, nil_fact};
+use oim_json::{Block, block_of};
+use oim_ring::{CloseFault, Closed, Drain, Drained, Ending, Feed, Item, LARGEST_RING, Lanes, lane};
+use std::alloc::{AllocError, Global};
+use std::test::Fail;
+
+/// A block through a ring, and then the table's ending.
+fn hands_over(alloc: Global, block: Block) -> Result<bool, AllocError> {
+    let (mut feed, mut drain) = lane(alloc, 2)?;
+    let is_put = feed.put(block).is_ok();
+    let is_closed = feed.close(Ending::Closed).is_ok();
+    let is_taken = matches!(drain.take(), Some(Item::Block(block)) if block.bytes() == NIL_FACT);
+    Ok(is_put && is_closed && is_taken)
+}
+
+/// The token of a feed that was closed.
+fn closed(feed: Feed) -> Result<Closed, CloseFault>
+    ensures { IfOk result (λ closed. closed.ring ≡ feed.ring) }
+{
+    feed.close(Ending::Closed)
+}
+
+/// Whether a drain has taken the ending, and all that was sent.
+fn settles(drain: Drain, closed: Closed) -> Option<Drained>
+    requires { closed.ring ≡ drain.ring }
+{
+    let mut drain = drain;
+    match drain.take() {
+        Some(Item::Ending(_)) => Some(drain.settle(closed)),
+        _ => None,
+    }
+}
+
+/// The next ring of a report.
+fn opens_another(alloc: Global) -> Result<bool, AllocError> {
+    let mut lanes = Lanes::new(alloc, 4)?;
+    let (feed, drain) = lanes.open(alloc, LARGEST_RING)?;
+    match closed(feed) {
+        Ok(closed) => Ok(settles(drain, closed).is_some()),
+        Err(fault) => Ok(fault.number() == 66),
+    }
+}
+
+#[test]
+fn calls_of_rings(rt: HostRuntime) -> Result<(), Fail> {
+    let block = block_of(rt.alloc(), &[nil_fact(rt.alloc())?])?;
+    assert!(rt; hands_over(rt.alloc(), block)? && opens_another(rt.alloc())?);
+    Ok(())
+}

@@ -1,0 +1,127 @@
+//! Calls of `oim_run`.
+
+use crate::held::report;
+use oim_json::{Layout, Marked};
+use oim_meta::Limits;
+use oim_run::{
+    Folder, METADATA, Outcome, Request, Settings, Source, TABLE, TYPES, Texts, convert_held,
+    convert_report, convert_texts, convert_to, job, line, request_of, run, run_to, shown, status,
+    terminal_line,
+};
+use std::alloc::{AllocError, Global};
+use std::sync::Wait;
+use std::test::Fail;
+use std::thread::Threads;
+
+/// A folder of a caller's own: it opens the files of the held report.
+#[derive(Drop)]
+struct Held;
+
+impl Folder<&'static [u8]> for Held {
+    fn open(&mut self, path: &str) -> Option<&'static [u8]> {
+        match path {
+            "m.json" => Some(METADATA.as_bytes()),
+            "t.csv" => Some(TYPES.as_bytes()),
+            "t1.csv" => Some(TABLE.as_bytes()),
+            _ => None,
+        }
+    }
+}
+
+/// The document of a report in a folder, by the words of a command line.
+fn runs(
+    rt: &(impl AllocGlobal + Threads + Wait + Sync),
+    settings: &Settings,
+) -> Result<bool, AllocError> {
+    let mut document = Vec::new(rt.alloc());
+    let sink = &mut Marked::new(&mut document);
+    let outcome = run(rt, rt.alloc(), settings, &mut Held, sink);
+    let line = line(rt.alloc(), &outcome)?;
+    Ok(status(&outcome) == 0 && line.as_str() == "" && document.as_slice().ends_with(b"}}\n"))
+}
+
+/// The settings of these words.
+fn settings(alloc: Global) -> Result<Settings, Fail> {
+    match job(alloc, &["m.json", "--types", "t.csv"]) {
+        Ok(settings) => Ok(settings),
+        Err(_) => Err(Fail::new("the words are refused")),
+    }
+}
+
+/// What the words ask for beside the settings.
+fn asks(alloc: Global) -> bool {
+    let request = request_of(alloc, &["m.json", "--types", "t.csv", "--whole"]);
+    request.is_ok_and(|request: Request| request.whole && !request.progress)
+}
+
+/// A line for a terminal.
+fn says(alloc: Global) -> Result<bool, AllocError> {
+    let outcome = Outcome::CannotRead(shown(alloc, "m.json")?);
+    Ok(terminal_line(alloc, &outcome)?.as_str() == "xbrl-json: cannot read m.json\n")
+}
+
+/// Whether a report is refused for its types table.
+fn is_of_types(outcome: &Outcome) -> bool {
+    matches!(outcome, Outcome::Report(Source::Types, _)) && status(outcome) == 1
+}
+
+/// The other ways to run: to a writer behind a buffer, and without a folder.
+fn runs_otherwise(rt: &(impl AllocGlobal + Threads + Wait + Sync), settings: &Settings) -> bool {
+    let files = [("m.json", METADATA.as_bytes()), ("t.csv", b"".as_slice())];
+    let refused = run_to(
+        rt,
+        rt.alloc(),
+        settings,
+        &mut Texts { files: &files },
+        Vec::new(rt.alloc()),
+    );
+    let mut document = Vec::new(rt.alloc());
+    let held = convert_held(rt, rt.alloc(), &mut Marked::new(&mut document));
+    let whole = convert_to(rt, rt.alloc(), Vec::new(rt.alloc()));
+    is_of_types(&refused) && status(&held) == 0 && status(&whole) == 0
+}
+
+/// A report whose tables are given by readers, and one whose files are given by their bytes.
+fn converts_given(rt: &(impl AllocGlobal + Threads + Wait + Sync)) -> Result<bool, Fail> {
+    let report = report(rt.alloc())?;
+    let limits = Limits::profile();
+    let mut document = Vec::new(rt.alloc());
+    let mut same = Vec::new(rt.alloc());
+    let tables = vec![in rt.alloc(); Some(TABLE.as_bytes())]?;
+    let texts = vec![in rt.alloc(); Some(TABLE.as_bytes())]?;
+    let sink = &mut Marked::new(&mut document);
+    let first = convert_report(
+        rt,
+        rt.alloc(),
+        &report,
+        tables,
+        1,
+        1,
+        limits,
+        Layout::Compact,
+        sink,
+    );
+    let (metadata, types) = (METADATA.as_bytes(), TYPES.as_bytes());
+    let sink = &mut Marked::new(&mut same);
+    let second = convert_texts(
+        rt,
+        rt.alloc(),
+        metadata,
+        types,
+        texts,
+        2,
+        1,
+        limits,
+        Layout::Compact,
+        sink,
+    );
+    Ok(status(&first) == 0 && status(&second) == 0 && document.as_slice() == same.as_slice())
+}
+
+#[test]
+fn calls_of_runs(rt: HostRuntime) -> Result<(), Fail> {
+    let settings = settings(rt.alloc())?;
+    assert!(rt; runs(&rt, &settings)? && runs_otherwise(&rt, &settings));
+    assert!(rt; converts_given(&rt)? && asks(rt.alloc()) && says(rt.alloc())?);
+    Ok(())
+}

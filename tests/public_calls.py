@@ -1,0 +1,58 @@
+#!/usr/bin/env python3
+"""The libraries as a caller from outside sees them: each public name stands in the crate public_calls, which compiles and runs, and each
+library's own page shows a call of it, word for word.
+
+    tests/public_calls.py
+
+The libraries are those that the program stands on in crates.txt. Their names are those that `pub use` gives in their src/lib.rt. The
+call of a page is the lines between ``` in its first comment.
+"""
+import re
+import sys
+from pathlib import Path
+
+TOP = Path(__file__).resolve().parent.parent
+GIVEN = re.compile(r"^pub use ([\w:]+::)?(\{[^}]*\}|\w+);", re.M)
+# Calls that need a scope of threads, which oim_convert makes.
+ELSEWHERE = {"start_crew", "join_crew"}
+
+
+def libraries():
+    """The libraries of this repository that the program stands on."""
+    for line in (TOP / "crates.txt").read_text().splitlines():
+        name, _, below = line.partition(":")
+        if name.startswith("xbrl_json_cli"):
+            return [it for it in below.split() if (TOP / "crates" / it).is_dir()]
+    return []
+
+
+def names_of(page):
+    """The names that a page gives."""
+    return {name for _, names in GIVEN.findall(page) for name in re.findall(r"\w+", names)}
+
+
+def calls_of(page):
+    """The calls that a page shows, each as its lines."""
+    comment = "\n".join(line[4:] for line in page.splitlines() if line.startswith("//!"))
+    return re.findall(r"^```\n(.*?\n)```$", comment, re.M | re.S)
+
+
+def main():
+    calls = "\n".join(file.read_text() for file in sorted((TOP / "crates/public_calls/src").glob("*.rt")))
+    words = set(re.findall(r"\w+", re.sub(r"//.*", "", calls)))
+    right, wrong = 0, []
+    for library in libraries():
+        page = (TOP / "crates" / library / "src/lib.rt").read_text()
+        names, shown = names_of(page) - ELSEWHERE, calls_of(page)
+        missing = sorted(names - words)
+        wrong += [f"{library}: {name} is not called" for name in missing]
+        wrong += [f"{library}: not in public_calls: {it.splitlines()[0]}" for it in shown if it not in calls]
+        right += len(names) - len(missing) + sum(it in calls for it in shown)
+    for it in wrong:
+        print(it)
+    print(f"public names and calls: {right} as they must be, {len(wrong)} not")
+    sys.exit(1 if wrong or not right else 0)
+
+
+if __name__ == "__main__":
+    main()
