@@ -4,6 +4,9 @@
 //! - `read_report` answers a report exactly where the metadata has no fault, and then the report
 //!   that its JSON spells out (`specs/Value.antt`); else exactly its first fault, in the order of
 //!   `specs/FirstFault.antt`, one predicate for each fault number;
+//! - `read_report_at` answers the same, and with the fault the keys that lead to its place, the first in the order of one walk over
+//!   the metadata (`specs/Walk.antt` and its neighbours); the walk finds each fault exactly where its predicate holds
+//!   (`a_walk_finds_all_faults`), and the first finding is of the least fault (`first_finding_is_least`);
 //! - `parameter_url`, `read_parameters` and `read_types` answer a value exactly where there is no fault,
 //!   and else the first fault; that of a parameters file or types table is the fault of its earliest
 //!   bad record;

@@ -1,57 +1,16 @@
-//! Building lists from an object's members and from lists.
+//! Texts and truth values of a metadata.
 
-ghost use Rattle.std.specs.Prelude.{◌≡◌, ℕ, List, IfOk, OnOk, option_map};
-ghost use Rattle.serde_json.specs.Data.{Data};
+ghost use Rattle.std.specs.Prelude.{◌≡◌, IfOk, OnOk, option_map};
 ghost use Rattle.serde_json.specs.View.{view, items_view, members_view};
-ghost use Rattle.oim_meta.specs.Members.{section, items_at, map_members, map_items, text_of as text_in};
+ghost use Rattle.oim_meta.specs.Members.{items_at, map_members, map_items, text_of as text_in};
 ghost use Rattle.oim_meta.specs.Order.{names_of};
 ghost use Rattle.oim_report.specs.Rising.{IsRising};
-ghost use Rattle.oim_meta.specs.Value.{flag_at, named_text};
+ghost use Rattle.oim_meta.specs.Value.{flag_at, named_text as text_under};
 
-use crate::lookup::{list_at, object_at};
+use crate::lookup::list_at;
 use oim_names::{Items, Text};
 use serde_json::{Map, Value};
 use std::alloc::{AllocError, Global};
-
-/// A value that is made from an object's member.
-pub(crate) trait FromMember {
-    ghost of: { List ℕ → Data → Self };
-
-    fn from_member(alloc: Global, name: &str, value: &Value) -> Result<Self, AllocError>
-    where
-        Self: Sized,
-        ensures { IfOk result (λ made. made ≡ of name.now (view value.now)) };
-}
-
-/// What an object's members make, in byte order of name.
-pub(crate) fn vec_of<T: FromMember + Drop>(
-    alloc: Global,
-    members: &Map<String, Value>,
-) -> Result<Vec<T>, AllocError>
-    ensures made { IfOk result
-        (λ made. made.items ≡ map_members T.of (members_view members.now.entries)) }
-    ensures rising { OnOk result (IsRising (names_of (members_view members.now.entries))) }
-{
-    let mut made = Vec::with_capacity(alloc, members.len())?;
-    for (name, member) in members.iter() {
-        made.push(T::from_member(alloc, name.as_str(), member)?)?;
-    }
-    Ok(made)
-}
-
-/// What the members of the object at a key make, in their order.
-pub(crate) fn list_from<T: FromMember + Drop>(
-    alloc: Global,
-    value: &Value,
-    key: &str,
-) -> Result<Items<T>, AllocError>
-    ensures { IfOk result (λ made. made ≡ map_members T.of (section key.now (view value.now))) }
-{
-    match object_at(value, key) {
-        Some(members) => Ok(Items::from_vec(vec_of(alloc, members)?)),
-        None => Ok(Items::new(alloc)),
-    }
-}
 
 /// The text of a value, or the empty text if the value is not a text.
 pub(crate) fn text_of(alloc: Global, value: &Value) -> Result<Text, AllocError>
@@ -60,13 +19,26 @@ pub(crate) fn text_of(alloc: Global, value: &Value) -> Result<Text, AllocError>
     Text::from_str(alloc, value.as_str().unwrap_or(""))
 }
 
-impl FromMember for (Text, Text) {
-    ghost of = { named_text };
+fn named_text(alloc: Global, name: &str, value: &Value) -> Result<(Text, Text), AllocError>
+    ensures { IfOk result (λ made. made ≡ text_under name.now (view value.now)) }
+{
+    let name = Text::from_str(alloc, name)?;
+    Ok((name, text_of(alloc, value)?))
+}
 
-    fn from_member(alloc: Global, name: &str, value: &Value) -> Result<(Text, Text), AllocError> {
-        let name = Text::from_str(alloc, name)?;
-        Ok((name, text_of(alloc, value)?))
+/// The names of an object's members with their texts, in byte order of name.
+pub(crate) fn named_texts(
+    alloc: Global,
+    members: &Map<String, Value>,
+) -> Result<Vec<(Text, Text)>, AllocError>
+    ensures made { IfOk result (λ made. made.items ≡ map_members text_under (members_view members.now.entries)) }
+    ensures rising { OnOk result (IsRising (names_of (members_view members.now.entries))) }
+{
+    let mut made = Vec::with_capacity(alloc, members.len())?;
+    for (name, member) in members.iter() {
+        made.push(named_text(alloc, name.as_str(), member)?)?;
     }
+    Ok(made)
 }
 
 /// The truth value at a key, or false if there is none.

@@ -7,9 +7,9 @@ ghost use Rattle.oim_meta.specs.Members.{if_there, section};
 ghost use Rattle.oim_meta.specs.Faults.{has_bad_prefix, has_bad_namespaces};
 ghost use Rattle.oim_meta.specs.Prefixes.{bindings_of, prefixes_of};
 
-use crate::build::made::vec_of;
+use crate::build::made::named_texts;
 use crate::lookup::object_at;
-use oim_names::{Items, Namespaces, Text};
+use oim_names::{Items, Namespaces};
 use serde_json::{Map, Value};
 use std::alloc::{AllocError, Global};
 
@@ -19,7 +19,7 @@ fn namespaces(alloc: Global, members: &Map<String, Value>) -> Result<Namespaces,
     requires { has_bad_prefix (members_view members.now.entries) ≡ false }
     ensures { IfOk result (λ names. names ≡ bindings_of (members_view members.now.entries)) }
 {
-    let bindings: Vec<(Text, Text)> = vec_of(alloc, members)?;
+    let bindings = named_texts(alloc, members)?;
     Ok(Namespaces::from_bindings(alloc, Items::from_vec(bindings)))
 }
 

@@ -1,5 +1,0 @@
-use Rattle.oim_meta.proofs.Rising.{names_rise}
-use Rattle.oim_meta.proofs.build.made.vec_of.Goals as goal
-
-pub returns-clause-rising : goal.returns-clause-rising
-returns-clause-rising g c = names_rise c.args.members.now.entries c.len.ensures.ordered
