@@ -1,0 +1,5 @@
+pub mod Masks
+pub mod PassingRuns
+pub mod Quoted
+pub mod PlacedBytes
+pub mod Escapes

@@ -1,0 +1,155 @@
+//! Copies of many bytes at once.
+
+ghost use Rattle.std.specs.Prelude.{◌≡◌, ◌+◌, ◌*◌, ◌≤◌, length, map, take};
+ghost use Rattle.std.specs.List.{flat_map, prefix_len};
+ghost use Rattle.std.specs.Simd.Lanes.{mask_l};
+ghost use Rattle.oim_fast.specs.JsonText.{escaped_byte, is_escaped, is_unescaped};
+ghost use Rattle.oim_fast.specs.Places.{Placed};
+
+use crate::text::buffer::TextBuffer;
+use crate::text::escape::escape_of;
+use std::simd::prelude::*;
+
+/// How many bytes are copied at once, also behind the end of a text. Where so many can be read behind it, a text is copied
+/// fastest.
+pub(crate) const AT_ONCE: usize = 32;
+
+/// Copies the first 32 bytes of a text to a place.
+#[inline(always)]
+fn copy_chunk(room: &mut [u8], at: usize, text: &[u8])
+    requires text { 32 ≤ length text.now }
+    requires room { at + 32 ≤ length room.old }
+    ensures { Placed room.old room.new at (take 32 text.now) (at + 32) }
+{
+    u8x32::from_slice(text).copy_to_slice(&mut room[at..]);
+}
+
+/// Copies bytes one by one.
+#[cold]
+#[inline(never)]
+fn copy_exactly(room: &mut [u8], at: usize, text: &[u8]) -> usize
+    requires { at + length text.now ≤ length room.old }
+    ensures { Placed room.old room.new at text.now result }
+{
+    let end = at + text.len();
+    room[at..end].copy_from_slice(text);
+    end
+}
+
+/// Copies the first `len` bytes of a text to a place. Up to 32 bytes behind them may be written too. Answers where they end.
+#[inline(always)]
+pub(crate) fn copy(room: &mut [u8], at: usize, text: &[u8], len: usize) -> usize
+    requires text { len ≤ length text.now }
+    requires room { at + len + 32 ≤ length room.old }
+    ensures { Placed room.old room.new at (take len text.now) result }
+{
+    if text.len() - len < AT_ONCE {
+        return copy_exactly(room, at, &text[..len]);
+    }
+    let mut done = 0;
+    loop {
+        copy_chunk(room, at + done, &text[done..]);
+        done += AT_ONCE;
+        if done >= len {
+            return at + len;
+        }
+    }
+}
+
+/// The same of the whole of a text that grows.
+#[inline(always)]
+pub(crate) fn copy_text(room: &mut [u8], at: usize, text: &TextBuffer) -> usize
+    requires { at + length text.now.items + 32 ≤ length room.old }
+    ensures { Placed room.old room.new at text.now.items result }
+{
+    copy(room, at, text.room.as_slice(), text.len)
+}
+
+/// Marks the bytes that JSON escapes: bit k is set for byte k.
+#[inline(always)]
+fn escape_marks(bytes: u8x32) -> u64
+    ensures { result ≡ mask_l (map is_escaped bytes) }
+{
+    (bytes.simd_eq(u8x32::splat(b'"'))
+        | bytes.simd_eq(u8x32::splat(b'\\'))
+        | bytes.simd_lt(u8x32::splat(32))).to_bitmask()
+}
+
+/// How many of the first 32 bytes of a text stand for themselves in JSON, before the first that does not.
+#[inline(always)]
+fn unescaped_len(text: &[u8]) -> usize
+    requires { 32 ≤ length text.now }
+    ensures stand { result ≤ prefix_len is_unescaped text.now }
+    ensures most { result ≤ 32 }
+{
+    let marks = escape_marks(u8x32::from_slice(text));
+    if marks == 0 {
+        return AT_ONCE;
+    }
+    marks.trailing_zeros() as usize
+}
+
+/// Copies the first 32 bytes of a text to a place, and answers how many of them, `left` at most, stand for themselves in JSON.
+#[inline(always)]
+fn copy_run(room: &mut [u8], at: usize, text: &[u8], left: usize) -> usize
+    requires text { 32 ≤ length text.now }
+    requires room { at + 32 ≤ length room.old }
+    ensures bytes { Placed room.old room.new at (take result text.now) (at + result) }
+    ensures stand { result ≤ prefix_len is_unescaped text.now }
+    ensures within { (result ≤ left) × (result ≤ 32) }
+{
+    copy_chunk(room, at, text);
+    let run = unescaped_len(text);
+    if run < left { run } else { left }
+}
+
+/// Writes a byte as JSON has it. Six bytes may be written in all. Answers where it ends.
+#[inline(always)]
+fn copy_byte(room: &mut [u8], at: usize, byte: u8) -> usize
+    requires { at + 6 ≤ length room.old }
+    ensures bytes { Placed room.old room.new at (escaped_byte byte) result }
+    ensures within { result ≤ at + 6 }
+{
+    let (escape, size) = escape_of(byte);
+    room[at..at + 6].copy_from_slice(&escape);
+    at + size
+}
+
+/// The same of all bytes of a text.
+#[cold]
+#[inline(never)]
+fn copy_bytes(room: &mut [u8], from: usize, text: &[u8]) -> usize
+    requires { from + 6 * length text.now ≤ length room.old }
+    ensures { Placed room.old room.new from (flat_map escaped_byte text.now) result }
+{
+    let mut at = from;
+    for i in 0..text.len() {
+        at = copy_byte(room, at, text[i]);
+    }
+    at
+}
+
+/// Copies the first `len` bytes of a text to a place, with escapes as JSON has them. There is room for six times as many
+/// bytes and 32 more. Answers where they end.
+#[inline(always)]
+pub(crate) fn copy_escaped(room: &mut [u8], from: usize, text: &[u8], len: usize) -> usize
+    requires text { len ≤ length text.now }
+    requires room { from + 6 * len + 32 ≤ length room.old }
+    ensures { Placed room.old room.new from (flat_map escaped_byte (take len text.now)) result }
+{
+    if text.len() - len < AT_ONCE {
+        return copy_bytes(room, from, &text[..len]);
+    }
+    let mut at = from;
+    let mut done = 0;
+    while done < len {
+        let run = copy_run(room, at, &text[done..], len - done);
+        at += run;
+        done += run;
+        if run < AT_ONCE && done < len {
+            at = copy_byte(room, at, text[done]);
+            done += 1;
+        }
+    }
+    at
+}
