@@ -4,7 +4,7 @@ use Rattle.std.proofs.Common.{arith, refl, ap, sym, ◌∙◌, subst, inl, inr}
 use Rattle.oim_json.specs.Sinks.{SinkView}
 use Rattle.oim_json.specs.declared.layout.Layout.{Layout}
 use Rattle.oim_merge.specs.Histories.{all_of, refusals}
-use Rattle.oim_meta.specs.ReportValue.{ReportValue}
+use Rattle.oim_report.specs.ReportValue.{ReportValue}
 use Rattle.oim_resolve.specs.FactParts.{FactParts as Fact}
 use Rattle.oim_ring.specs.declared.item.Ending as Endings
 use Rattle.oim_ring.specs.declared.item.Ending.TheVariants.{Closed, Refused}

@@ -4,9 +4,9 @@ use Rattle.std.proofs.Common.{refl, sym, subst}
 use Rattle.std.specs.List.{list_any, position_from}
 use Rattle.std.specs.Str.{bytes_eq}
 use Rattle.csv.specs.Records.{field_at}
-use Rattle.oim_meta.specs.Grid.{Field, Record, grid}
-use Rattle.oim_meta.specs.Readers.{columns_of, table_of, template_of}
-use Rattle.oim_meta.specs.ReportValue.{ReportValue}
+use Rattle.oim_records.specs.Grids.{Field, Record, grid}
+use Rattle.oim_report.specs.Readers.{columns_of, table_of, template_of}
+use Rattle.oim_report.specs.ReportValue.{ReportValue}
 use Rattle.oim_names.specs.Names.{is_row_identifier}
 use Rattle.oim_resolve.specs.Cell.{cell_of}
 use Rattle.oim_resolve.specs.Facts.{cell_result}

@@ -4,7 +4,7 @@ use Rattle.std.proofs.Common.{arith, refl, sym, ap, ◌∙◌, subst, inl, inr}
 use Rattle.oim_json.specs.Sinks.{SinkView}
 use Rattle.oim_json.specs.declared.layout.Layout.{Layout}
 use Rattle.oim_merge.specs.Merging.{rings_of}
-use Rattle.oim_meta.specs.ReportValue.{ReportValue}
+use Rattle.oim_report.specs.ReportValue.{ReportValue}
 use Rattle.oim_resolve.specs.FactParts.{FactParts as Fact}
 use Rattle.oim_ring.specs.Ends.{ClosedView, DrainView}
 use Rattle.oim_ring.specs.declared.item.Ending as Endings

@@ -15,7 +15,7 @@ use Rattle.oim_merge.specs.Merging.{EndsWith}
 use Rattle.oim_merge.specs.Writers.{Continues, IsBroken, WriterView, given, whole_text}
 use Rattle.oim_merge.specs.declared.progress.MergeEnd.{MergeEnd}
 use Rattle.oim_merge.specs.declared.progress.MergeEnd.TheVariants as end
-use Rattle.oim_meta.specs.ReportValue.{ReportValue}
+use Rattle.oim_report.specs.ReportValue.{ReportValue}
 use Rattle.oim_resolve.specs.FactParts.{FactParts as Fact}
 use Rattle.oim_ring.proofs.TakenWhole.{blocks_more}
 use Rattle.oim_ring.specs.Items.{blocks_only}

@@ -9,7 +9,7 @@ use Rattle.oim_merge.proofs.Writing.{all_refusals, blocks_refusals}
 use Rattle.oim_merge.specs.Histories.{all_of, document, facts_before, refusals, tail_for}
 use Rattle.oim_merge.specs.Merging.{EndsWith, Merges}
 use Rattle.oim_merge.specs.declared.progress.MergeEnd.{MergeEnd}
-use Rattle.oim_meta.specs.ReportValue.{ReportValue}
+use Rattle.oim_report.specs.ReportValue.{ReportValue}
 use Rattle.oim_resolve.specs.FactParts.{FactParts as Fact}
 use Rattle.oim_ring.specs.Items.{blocks_only}
 use Rattle.oim_ring.specs.declared.item.Ending as Endings

@@ -1,8 +1,8 @@
 -- The files of tables: with a header that has a fault, and without a file.
 use Rattle.std.specs.Prelude.{◌≡◌, ℕ, List, [], ◌∷◌, Option, Some, None, length}
 use Rattle.std.proofs.Common.{refl, ap, arith}
-use Rattle.oim_meta.specs.Grid.{Record}
-use Rattle.oim_meta.specs.ReportValue.{ReportValue}
+use Rattle.oim_records.specs.Grids.{Record}
+use Rattle.oim_report.specs.ReportValue.{ReportValue}
 use Rattle.oim_rows.specs.Header.{file_header_fault}
 use Rattle.oim_rows.specs.Streams.{ending, stream_of}
 use Rattle.oim_rows.specs.declared.fault.TableFault.{TableFault}

@@ -2,7 +2,7 @@
 -- xBRL-CSV 1.0, the identifier of a fact.
 use Rattle.std.specs.Prelude.{◌<◌, ◌≤◌, ◌^◌, ℕ, List, Option, length}
 use Rattle.oim_merge.specs.Histories.{all_of, facts_before}
-use Rattle.oim_meta.specs.ReportValue.{ReportValue}
+use Rattle.oim_report.specs.ReportValue.{ReportValue}
 use Rattle.oim_ring.specs.declared.item.Item.{Item}
 use Rattle.oim_rows.specs.Identifiers.{HaveOwnIds}
 use Rattle.oim_convert.specs.Answer.{histories_of, streams}

@@ -6,7 +6,7 @@ use Rattle.oim_json.specs.Sinks.{SinkView, Unwritten}
 use Rattle.oim_json.specs.declared.layout.Layout.{Layout}
 use Rattle.oim_merge.specs.Merging.{EndEach, Merges}
 use Rattle.oim_merge.specs.declared.progress.MergeEnd.{MergeEnd}
-use Rattle.oim_meta.specs.ReportValue.{ReportValue}
+use Rattle.oim_report.specs.ReportValue.{ReportValue}
 use Rattle.oim_ring.specs.Limits.{largest_ring}
 use Rattle.oim_ring.specs.declared.item.Ending.TheVariants.{Refused}
 use Rattle.oim_ring.specs.declared.item.Item.{Item}

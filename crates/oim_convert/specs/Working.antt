@@ -2,7 +2,7 @@
 use Rattle.std.specs.Prelude.{◌≡◌, ◌≤◌, ℕ, All, Option, List, [], cond, false, length, vec_capacity, vec_len}
 use Rattle.oim_json.specs.Sinks.{SinkView}
 use Rattle.oim_merge.specs.Merging.{EndEach, IsFresh, Merges, rings_of, taken_of}
-use Rattle.oim_meta.specs.ReportValue.{ReportValue}
+use Rattle.oim_report.specs.ReportValue.{ReportValue}
 use Rattle.oim_convert.specs.Claims.{Claiming}
 use Rattle.oim_convert.specs.Jobs.{CanServe, gives_of}
 use Rattle.oim_convert.specs.Shifts.{ArePosts, CanServeAll, IsShift}

@@ -12,7 +12,7 @@ ghost use Rattle.oim_rows.specs.declared.fault.TableKind.TheVariants as kind;
 use crate::job::Job;
 use crate::sending::{close_waiting, put_waiting};
 use oim_decode::TableBlocks;
-use oim_meta::{Limits, Report};
+use oim_report::{Limits, Report};
 use oim_ring::{ClosedFeed, Ending, Feed};
 use oim_rows::{TableFault, TableKind};
 use std::alloc::Global;

@@ -2,7 +2,7 @@
 
 ghost use Rattle.oim_convert.specs.Identifiers.{AnswerIdsDiffer, RunIdsDiffer};
 
-use oim_meta::Report;
+use oim_report::Report;
 use oim_rows::fact_identifiers_differ;
 
 /// Whatever files a report's tables have, no two facts of the document have one identifier: neither in

@@ -14,7 +14,7 @@ use crate::job::{Job, Receipt};
 use crate::seat::Seat;
 use crate::slots::{place_all, settle_all};
 use crate::worker::Shift;
-use oim_meta::{Limits, Report};
+use oim_report::{Limits, Report};
 use oim_ring::{ClosedFeed, Drain, Drained};
 use std::alloc::{AllocError, Global};
 use std::io::Read;

@@ -13,7 +13,7 @@ use crate::server::Serving;
 use crate::worker::Shift;
 use oim_json::{Layout, Sink};
 use oim_merge::{MergeEnd, merge};
-use oim_meta::{Limits, Report};
+use oim_report::{Limits, Report};
 use oim_ring::Drain;
 use oim_rows::TableFault;
 use std::alloc::Global;

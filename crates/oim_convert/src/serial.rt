@@ -17,7 +17,7 @@ use crate::fault::ConvertFault;
 use oim_decode::TableBlocks;
 use oim_json::{Layout, Sink, WriteFault, head};
 use oim_merge::{DocumentWriter, MergeEnd};
-use oim_meta::{Limits, Report};
+use oim_report::{Limits, Report};
 use oim_ring::Ending;
 use oim_rows::{TableFault, TableKind};
 use std::alloc::Global;

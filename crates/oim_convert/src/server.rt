@@ -7,7 +7,7 @@ use crate::decode::{decode, refused};
 use crate::job::{Job, Receipt};
 use crate::sending::close_waiting;
 use crate::worker::Serve;
-use oim_meta::{Limits, Report};
+use oim_report::{Limits, Report};
 use oim_ring::ClosedFeed;
 use oim_rows::TableKind;
 use std::alloc::Global;

@@ -9,7 +9,7 @@ use crate::claims::Claims;
 use crate::job::{Job, Receipt};
 use crate::seat::Seat;
 use crate::worker::Shift;
-use oim_meta::{Limits, Report};
+use oim_report::{Limits, Report};
 use oim_ring::{ClosedFeed, Drain, Drained};
 use std::io::Read;
 

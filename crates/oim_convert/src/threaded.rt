@@ -21,7 +21,7 @@ use crate::run::Run;
 use crate::scope::{Unmerged, Worked, work_crew};
 use crate::server::Serving;
 use oim_json::{Layout, Sink, head};
-use oim_meta::{Limits, Report};
+use oim_report::{Limits, Report};
 use oim_ring::LARGEST_RING;
 use std::alloc::{AllocError, Global};
 use std::io::Read;

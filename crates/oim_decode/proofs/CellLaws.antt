@@ -7,10 +7,10 @@ use Rattle.std.proofs.lemmas.Grind.{flat_map-append}
 use Rattle.oim_cells.specs.Cells.{Meaning, meaning_of}
 use Rattle.oim_cells.specs.Cells as m
 use Rattle.oim_json.specs.JsonText.{quoted, escaped_byte, decimals_text, value_text, member_text}
-use Rattle.oim_meta.specs.Grid.{Record}
-use Rattle.oim_meta.specs.Readers.{column_of, columns_of, table_of}
-use Rattle.oim_meta.specs.ReportValue.{ReportValue}
-use Rattle.oim_meta.specs.declared.kind.Kind.{Kind}
+use Rattle.oim_records.specs.Grids.{Record}
+use Rattle.oim_report.specs.Readers.{column_of, columns_of, table_of}
+use Rattle.oim_report.specs.ReportValue.{ReportValue}
+use Rattle.oim_report.specs.declared.kind.Kind.{Kind}
 use Rattle.oim_resolve.specs.Cell.{Cell, column, meaning_at}
 use Rattle.oim_resolve.specs.Facts.{cell_result, cell_and_group_faults, concept_faults, concept_kind, rest_faults, fact_of, fact_meaning}
 use Rattle.oim_resolve.specs.Facts.{fact_value, fact_decimals, given, is_absent, is_unknown, names_no_group}

@@ -3,8 +3,8 @@ use Rattle.std.proofs.Common.{◌≡◌, ℕ, Bool, true, cond, List, [], ◌∷
 use Rattle.std.specs.Option.{option_map}
 use Rattle.std.specs.String.{string_bytes}
 use Rattle.oim_cells.specs.Cells.{meaning_of, Absent}
-use Rattle.oim_meta.specs.ReportValue.{ReportValue}
-use Rattle.oim_meta.specs.declared.data.Side.{Side}
+use Rattle.oim_report.specs.ReportValue.{ReportValue}
+use Rattle.oim_report.specs.declared.data.Side.{Side}
 use Rattle.oim_resolve.specs.declared.fact.CellFault.TheVariants.{NoConcept}
 use Rattle.oim_resolve.specs.declared.role.Role.{Role}
 use Rattle.oim_resolve.specs.declared.role.Role.TheVariants.{Concept, Entity, Period, Unit as AUnit, Language, Explicit, Typed}

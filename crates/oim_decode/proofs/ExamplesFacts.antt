@@ -10,15 +10,15 @@ use Rattle.oim_names.specs.QName.{qname_of, sqname_of}
 use Rattle.oim_cells.specs.Cells as m
 use Rattle.oim_cells.specs.Cells.{meaning_of}
 use Rattle.oim_json.specs.JsonText.{decimals_text, dimension_text, escaped_byte, member_text, quoted, value_text}
-use Rattle.oim_meta.specs.Grid.{Record}
-use Rattle.oim_meta.specs.Readers.{column_of, no_level}
-use Rattle.oim_meta.specs.ReportValue.{ReportValue}
-use Rattle.oim_meta.specs.declared.data.Column.{Column}
-use Rattle.oim_meta.specs.declared.data.ColumnKind.TheVariants as content
-use Rattle.oim_meta.specs.declared.data.Level.{Level}
-use Rattle.oim_meta.specs.declared.data.Written.{Written}
-use Rattle.oim_meta.specs.declared.data.Written.TheVariants as w
-use Rattle.oim_meta.specs.declared.kind.Kind.TheVariants as kind
+use Rattle.oim_records.specs.Grids.{Record}
+use Rattle.oim_report.specs.Readers.{column_of, no_level}
+use Rattle.oim_report.specs.ReportValue.{ReportValue}
+use Rattle.oim_report.specs.declared.data.Column.{Column}
+use Rattle.oim_report.specs.declared.data.ColumnKind.TheVariants as content
+use Rattle.oim_report.specs.declared.data.Level.{Level}
+use Rattle.oim_report.specs.declared.data.Written.{Written}
+use Rattle.oim_report.specs.declared.data.Written.TheVariants as w
+use Rattle.oim_report.specs.declared.kind.Kind.TheVariants as kind
 use Rattle.oim_resolve.specs.Cell.{Cell}
 use Rattle.oim_resolve.specs.FactParts.{FactParts as Fact}
 use Rattle.oim_resolve.specs.Facts.{cell_result, fact_of, rest_faults}

@@ -8,15 +8,15 @@ use Rattle.oim_cells.specs.declared.cells.Accuracy.TheVariants as accuracy
 use Rattle.oim_cells.specs.declared.cells.NumberKind.TheVariants.{Decimal}
 use Rattle.oim_json.specs.JsonText.{dimension_text, value_text, quoted, escaped_byte, decimals_text}
 use Rattle.oim_names.specs.Language.{language_of}
-use Rattle.oim_meta.specs.Readers.{no_level}
-use Rattle.oim_meta.specs.ReportValue.{ReportValue}
-use Rattle.oim_meta.specs.declared.data.Column.{Column}
-use Rattle.oim_meta.specs.declared.data.ColumnKind.TheVariants as content
-use Rattle.oim_meta.specs.declared.data.Side.TheVariants as side
-use Rattle.oim_meta.specs.declared.data.Written.{Written}
-use Rattle.oim_meta.specs.declared.data.Written.TheVariants as w
-use Rattle.oim_meta.specs.declared.data.WrittenDecimals.TheVariants as d
-use Rattle.oim_meta.specs.declared.kind.Kind.TheVariants as kind
+use Rattle.oim_report.specs.Readers.{no_level}
+use Rattle.oim_report.specs.ReportValue.{ReportValue}
+use Rattle.oim_report.specs.declared.data.Column.{Column}
+use Rattle.oim_report.specs.declared.data.ColumnKind.TheVariants as content
+use Rattle.oim_report.specs.declared.data.Side.TheVariants as side
+use Rattle.oim_report.specs.declared.data.Written.{Written}
+use Rattle.oim_report.specs.declared.data.Written.TheVariants as w
+use Rattle.oim_report.specs.declared.data.WrittenDecimals.TheVariants as d
+use Rattle.oim_report.specs.declared.kind.Kind.TheVariants as kind
 use Rattle.oim_period.specs.Calendar.{days_of_years, days_of_months, day_number, is_date, is_week, is_clock}
 use Rattle.oim_period.specs.Dates.{is_date_text}
 use Rattle.oim_period.specs.Digits.{one_at, two_at, four_at}

@@ -3,9 +3,9 @@ use Rattle.std.proofs.Common.{◌≡◌, ◌∷◌, [], List, false, codes, map,
 use Rattle.oim_cells.specs.Cells.{Meaning}
 use Rattle.oim_cells.specs.Cells as m
 use Rattle.oim_json.specs.JsonText.{value_text, quoted, escaped_byte}
-use Rattle.oim_meta.specs.Readers.{no_level}
-use Rattle.oim_meta.specs.ReportValue.{ReportValue}
-use Rattle.oim_meta.specs.declared.data.Side.TheVariants as side
+use Rattle.oim_report.specs.Readers.{no_level}
+use Rattle.oim_report.specs.ReportValue.{ReportValue}
+use Rattle.oim_report.specs.declared.data.Side.TheVariants as side
 use Rattle.oim_resolve.specs.declared.fact.CellFault.TheVariants.{UnknownSpecial, BadReference, BadValue}
 use Rattle.oim_resolve.specs.declared.role.Role.TheVariants as role
 use Rattle.oim_decode.specs.Facts.{lead_text}

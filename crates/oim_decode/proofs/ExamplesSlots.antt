@@ -12,13 +12,13 @@ use Rattle.oim_names.specs.Unit.{unit_of}
 use Rattle.oim_names.specs.Language.{language_of}
 use Rattle.oim_cells.specs.Cells.{Absent, Nil, Empty, Text, meaning_of, accuracy_of}
 use Rattle.oim_cells.specs.declared.cells.NumberKind.TheVariants as number
-use Rattle.oim_meta.specs.Grid.{Record}
-use Rattle.oim_meta.specs.ReportValue.{ReportValue}
-use Rattle.oim_meta.specs.Types.{TypesValue}
-use Rattle.oim_meta.specs.declared.data.Side.TheVariants as side
-use Rattle.oim_meta.specs.declared.kind.Kind.{Kind}
-use Rattle.oim_meta.specs.declared.kind.Kind.TheVariants as kind
-use Rattle.oim_meta.specs.declared.typed_name.TypedName.{TypedName}
+use Rattle.oim_records.specs.Grids.{Record}
+use Rattle.oim_report.specs.ReportValue.{ReportValue}
+use Rattle.oim_report.specs.Types.{TypesValue}
+use Rattle.oim_report.specs.declared.data.Side.TheVariants as side
+use Rattle.oim_report.specs.declared.kind.Kind.{Kind}
+use Rattle.oim_report.specs.declared.kind.Kind.TheVariants as kind
+use Rattle.oim_report.specs.declared.typed_name.TypedName.{TypedName}
 use Rattle.oim_resolve.specs.declared.fact.CellFault.TheVariants as fault
 use Rattle.oim_resolve.specs.declared.role.Role.TheVariants as role
 use Rattle.oim_json.specs.JsonText.{escaped_byte, quoted, value_text, decimals_text}

@@ -4,12 +4,12 @@ use Rattle.std.specs.List.{All}
 use Rattle.std.specs.Option.{option_map, option_map_or}
 use Rattle.oim_cells.specs.Cells.{Meaning}
 use Rattle.oim_cells.specs.Cells as m
-use Rattle.oim_meta.specs.Grid.{Record}
-use Rattle.oim_meta.specs.Readers.{column_of, columns_of}
-use Rattle.oim_meta.specs.ReportValue.{ReportValue}
-use Rattle.oim_meta.specs.declared.data.Level.{Level}
-use Rattle.oim_meta.specs.declared.data.Written.{Written}
-use Rattle.oim_meta.specs.declared.kind.Kind.{Kind}
+use Rattle.oim_records.specs.Grids.{Record}
+use Rattle.oim_report.specs.Readers.{column_of, columns_of}
+use Rattle.oim_report.specs.ReportValue.{ReportValue}
+use Rattle.oim_report.specs.declared.data.Level.{Level}
+use Rattle.oim_report.specs.declared.data.Written.{Written}
+use Rattle.oim_report.specs.declared.kind.Kind.{Kind}
 use Rattle.oim_json.specs.JsonText.{member_text}
 use Rattle.oim_resolve.specs.Cell.{Cell}
 use Rattle.oim_resolve.specs.Facts.{role_of, given, fact_meaning, fact_of, concept_kind, rest_faults, decimals_given, stated, stated_by}

@@ -4,13 +4,13 @@ use Rattle.std.proofs.lemmas.List.{take_more, map-append}
 use Rattle.std.proofs.Common.{◌≡◌, ◌<◌, ◌+◌, length, take, get_or, ℕ, List, [], ◌∷◌, ◌++◌, Bool, ◌||◌, None, drop, Option, refl, sym, ap, ◌∙◌}
 use Rattle.std.specs.List.{flat_map, list_any}
 use Rattle.std.specs.Option.{option_to_list}
-use Rattle.oim_meta.specs.Grid.{Record}
-use Rattle.oim_meta.specs.ReportValue.{ReportValue}
+use Rattle.oim_records.specs.Grids.{Record}
+use Rattle.oim_report.specs.ReportValue.{ReportValue}
 use Rattle.oim_resolve.specs.Faults.{least, fault_if}
 use Rattle.oim_resolve.specs.Facts.{is_unknown}
 use Rattle.oim_resolve.specs.declared.fact.CellFault.TheVariants.{UnknownSpecial, UnknownGroup}
 use Rattle.oim_cells.specs.Cells.{meaning_of}
-use Rattle.oim_meta.specs.Readers.{column_of}
+use Rattle.oim_report.specs.Readers.{column_of}
 use Rattle.oim_rows.specs.Header.{Header}
 use Rattle.oim_decode.specs.Facts.{groups_wrong}
 use Rattle.oim_decode.specs.Rows.{group_in, groups_in, group_places, group_texts, is_unknown_in, names_none, names_none_in}

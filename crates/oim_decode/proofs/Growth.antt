@@ -3,8 +3,8 @@ use Rattle.std.proofs.Common.{◌≡◌, ℕ, zero, suc, List, [], ◌∷◌, �
 use Rattle.std.specs.List.{slice_get, All}
 use Rattle.std.specs.Option.{option_map, option_and_then, is_some}
 use Rattle.std.proofs.lemmas.List.{map-append}
-use Rattle.oim_meta.specs.ReportValue.{ReportValue}
-use Rattle.oim_meta.specs.declared.data.WrittenDecimals.{WrittenDecimals}
+use Rattle.oim_report.specs.ReportValue.{ReportValue}
+use Rattle.oim_report.specs.declared.data.WrittenDecimals.{WrittenDecimals}
 use Rattle.oim_resolve.specs.Facts.{role_of}
 use Rattle.oim_resolve.specs.Values.{side_of}
 use Rattle.oim_rows.specs.Header.{Header}

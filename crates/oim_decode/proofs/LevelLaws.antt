@@ -7,11 +7,11 @@ use Rattle.std.specs.List.{All}
 use Rattle.std.specs.Option.{option_to_list}
 use Rattle.oim_cells.specs.Cells.{Meaning, meaning_of}
 use Rattle.oim_cells.specs.Cells as m
-use Rattle.oim_meta.specs.Grid.{Field}
-use Rattle.oim_meta.specs.InOrder.{PartsRise, LevelRises}
-use Rattle.oim_meta.specs.Readers.{column_of, template_of}
-use Rattle.oim_meta.specs.ReportValue.{ReportValue}
-use Rattle.oim_meta.specs.declared.data.Level.{Level}
+use Rattle.oim_records.specs.Grids.{Field}
+use Rattle.oim_report.specs.InOrder.{PartsRise, LevelRises}
+use Rattle.oim_report.specs.Readers.{column_of, template_of}
+use Rattle.oim_report.specs.ReportValue.{ReportValue}
+use Rattle.oim_report.specs.declared.data.Level.{Level}
 use Rattle.oim_resolve.specs.Written.{group_named}
 use Rattle.oim_resolve.proofs.LevelOrder.{report_rises, template_rises, column_level_rises, group_rises}
 use Rattle.oim_rows.specs.Header.{Header}

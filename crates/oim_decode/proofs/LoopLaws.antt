@@ -1,5 +1,5 @@
 -- The facts of a row, cell by cell.
-use Rattle.oim_meta.specs.Readers.{columns_of}
+use Rattle.oim_report.specs.Readers.{columns_of}
 use Rattle.std.proofs.Common.{Bool, true, false, cond, ◌≡◌, ◌<◌, ◌≤◌, ℕ, ◌+◌, List, [], ◌∷◌, ◌++◌, length, map, take, drop, get_or, codes, Option, Some, None, Result, Ok, Err}
 use Rattle.std.proofs.Common.{refl, sym, ap, subst, ◌∙◌, arith, zero, suc, append_assoc, append-nil, length-append}
 use Rattle.std.specs.List.{slice_get}
@@ -8,8 +8,8 @@ use Rattle.std.proofs.lemmas.List.{at_drop_more, at_drop_all, length-map, get_or
 use Rattle.oim_json.specs.Blocks.{behind_comma, behind_commas, ends_from}
 use Rattle.oim_json.specs.JsonText.{member_text}
 use Rattle.oim_json.proofs.Blocks.{texts_append, texts_push, ends_push}
-use Rattle.oim_meta.specs.Grid.{Record}
-use Rattle.oim_meta.specs.ReportValue.{ReportValue}
+use Rattle.oim_records.specs.Grids.{Record}
+use Rattle.oim_report.specs.ReportValue.{ReportValue}
 use Rattle.oim_resolve.specs.FactParts.{FactParts as Fact}
 use Rattle.oim_resolve.specs.declared.fact.Row.{Row}
 use Rattle.oim_rows.specs.Header.{Header}

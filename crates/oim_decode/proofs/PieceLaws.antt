@@ -6,9 +6,9 @@ use Rattle.std.proofs.lemmas.Grind.{flat_map-append}
 use Rattle.oim_cells.specs.Cells.{Meaning}
 use Rattle.oim_cells.specs.Cells as m
 use Rattle.oim_json.specs.JsonText.{dimension_text, member_text, joined, quoted, decimals_text, value_text}
-use Rattle.oim_meta.specs.declared.data.Side.TheVariants as side
-use Rattle.oim_meta.specs.declared.data.Written.{Written}
-use Rattle.oim_meta.specs.declared.kind.Kind.{Kind}
+use Rattle.oim_report.specs.declared.data.Side.TheVariants as side
+use Rattle.oim_report.specs.declared.data.Written.{Written}
+use Rattle.oim_report.specs.declared.kind.Kind.{Kind}
 use Rattle.oim_resolve.specs.declared.fact.CellFault.{CellFault}
 use Rattle.oim_resolve.specs.declared.role.Role.{Role}
 use Rattle.oim_resolve.specs.declared.role.Role.TheVariants as role

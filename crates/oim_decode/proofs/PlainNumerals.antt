@@ -16,9 +16,9 @@ use Rattle.oim_cells.specs.Cells as m
 use Rattle.oim_cells.specs.Numeral.{IsDecimal, IsDouble, IsInteger, IsNumeralOf, IsPointed, IsSplit, bare, no_power, pointed, power, suffixed}
 use Rattle.oim_cells.proofs.Values.{numeral_law}
 use Rattle.oim_json.specs.JsonText.{is_unescaped}
-use Rattle.oim_meta.specs.ReportValue.{ReportValue}
-use Rattle.oim_meta.specs.declared.kind.Kind.{Kind}
-use Rattle.oim_meta.specs.declared.kind.Kind.TheVariants as kind
+use Rattle.oim_report.specs.ReportValue.{ReportValue}
+use Rattle.oim_report.specs.declared.kind.Kind.{Kind}
+use Rattle.oim_report.specs.declared.kind.Kind.TheVariants as kind
 use Rattle.oim_resolve.specs.FactValues.{numeral_given, text_in, value_given}
 use Rattle.oim_resolve.specs.Facts.{is_numeric}
 

@@ -8,15 +8,15 @@ use Rattle.std.proofs.lemmas.List.FromFn.{get_or-map-range_with_len}
 use Rattle.std.proofs.lemmas.List.Quantifiers.{position-Some}
 use Rattle.oim_cells.specs.Cells.{Meaning, meaning_of}
 use Rattle.oim_cells.specs.Cells as m
-use Rattle.oim_meta.specs.Grid.{Record}
-use Rattle.oim_meta.specs.Readers.{columns_of, parameter_of}
-use Rattle.oim_meta.specs.ReportValue.{ReportValue}
-use Rattle.oim_meta.specs.declared.data.Column.{Column}
-use Rattle.oim_meta.specs.declared.data.Written.{Written}
-use Rattle.oim_meta.specs.declared.data.Written.TheVariants as w
-use Rattle.oim_meta.specs.declared.data.WrittenDecimals.{WrittenDecimals}
-use Rattle.oim_meta.specs.declared.data.WrittenDecimals.TheVariants as d
-use Rattle.oim_meta.specs.declared.kind.Kind.{Kind}
+use Rattle.oim_records.specs.Grids.{Record}
+use Rattle.oim_report.specs.Readers.{columns_of, parameter_of}
+use Rattle.oim_report.specs.ReportValue.{ReportValue}
+use Rattle.oim_report.specs.declared.data.Column.{Column}
+use Rattle.oim_report.specs.declared.data.Written.{Written}
+use Rattle.oim_report.specs.declared.data.Written.TheVariants as w
+use Rattle.oim_report.specs.declared.data.WrittenDecimals.{WrittenDecimals}
+use Rattle.oim_report.specs.declared.data.WrittenDecimals.TheVariants as d
+use Rattle.oim_report.specs.declared.kind.Kind.{Kind}
 use Rattle.oim_resolve.specs.Cell.{Cell, text_at}
 use Rattle.oim_resolve.specs.Facts.{role_of, stated_by}
 use Rattle.oim_resolve.specs.Faults.{least_of}
@@ -55,7 +55,7 @@ module _ (r : ReportValue) (t : ℕ) (h : Header) (n : ℕ) (row : Record) (c : 
       → not_empty (field_or_empty row (option_and_then (source_of_column h) o)) ≡ option_and_then (λ i. not_empty (text_at cell i)) o
   named_text name None e = refl
   named_text name (Some i) e =
-      ap not_empty (sym (text_is i (position-Some (λ (k : Column). bytes_eq k.id name) (columns_of r t) i Rattle.oim_meta.specs.Readers.no_column e).0))
+      ap not_empty (sym (text_is i (position-Some (λ (k : Column). bytes_eq k.id name) (columns_of r t) i Rattle.oim_report.specs.Readers.no_column e).0))
 
   -- the cell of a name, else its parameter, is what the cell's row gives
   pub named_is : (name : List ℕ) → cell_or_parameter (field_or_empty row (place_named r t h name)) (parameter_of r t name) ≡ referred cell name

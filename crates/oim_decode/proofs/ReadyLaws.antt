@@ -6,9 +6,9 @@ use Rattle.std.proofs.lemmas.Option.{slice_get_within, get_or_from_slice_get}
 use Rattle.oim_cells.specs.Cells.{Meaning}
 use Rattle.oim_cells.specs.Cells as m
 use Rattle.oim_json.specs.JsonText.{value_text, dimension_text, quoted}
-use Rattle.oim_meta.specs.ReportValue.{ReportValue}
-use Rattle.oim_meta.specs.declared.data.Side.{Side}
-use Rattle.oim_meta.specs.declared.kind.Kind.{Kind}
+use Rattle.oim_report.specs.ReportValue.{ReportValue}
+use Rattle.oim_report.specs.declared.data.Side.{Side}
+use Rattle.oim_report.specs.declared.kind.Kind.{Kind}
 use Rattle.oim_resolve.specs.Facts.{role_of, is_dropped, concept_faults_of, text_kind}
 use Rattle.oim_resolve.specs.Faults.{least, least_of}
 use Rattle.oim_resolve.specs.Values.{side_of}

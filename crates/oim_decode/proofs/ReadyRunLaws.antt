@@ -8,8 +8,8 @@ use Rattle.oim_cells.specs.Cells as m
 use Rattle.oim_cells.specs.declared.cells.NumberKind.{NumberKind}
 use Rattle.oim_cells.specs.declared.cells.NumberKind.TheVariants.{Integer}
 use Rattle.oim_json.specs.JsonText.{quoted}
-use Rattle.oim_meta.specs.declared.kind.Kind.{Kind}
-use Rattle.oim_meta.specs.declared.kind.Kind.TheVariants as kind
+use Rattle.oim_report.specs.declared.kind.Kind.{Kind}
+use Rattle.oim_report.specs.declared.kind.Kind.TheVariants as kind
 use Rattle.oim_resolve.specs.Facts.{entry_given, is_dropped, role_of, value_faults_of}
 use Rattle.oim_resolve.specs.Faults.{least, least_of}
 use Rattle.oim_resolve.proofs.LeastFaults.{least_of-assoc}

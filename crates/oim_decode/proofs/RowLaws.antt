@@ -1,8 +1,8 @@
 -- A row's facts, by what its table is read by and by what its rows are written by.
 use Rattle.std.proofs.Common.{◌≡◌, ℕ, List, Option, Some, None, Bool, true, false, Result, Ok, Err, IfOk, IfSome, option_map, ◌+◌, ◌++◌, refl, ap, sym, ◌∙◌, inl, inr}
-use Rattle.oim_meta.specs.Grid.{Field, Record}
-use Rattle.oim_meta.specs.Taking.{TakesRecord}
-use Rattle.oim_meta.specs.declared.records.ReadFault.{ReadFault}
+use Rattle.oim_records.specs.Grids.{Field, Record}
+use Rattle.oim_records.specs.Reads.{TakesRecord}
+use Rattle.oim_records.specs.declared.read_fault.ReadFault.{ReadFault}
 use Rattle.oim_resolve.specs.FactParts.{FactParts as Fact}
 use Rattle.oim_rows.specs.RowFacts.{Reading, checked, facts_from, id_place_of, ids_after, row_fault, row_of, row_result}
 use Rattle.oim_rows.specs.Streams.{OrNoMemory, Stream, IsOutside, early_row_answer, fault_of_read, stream_from}

@@ -1,7 +1,7 @@
 -- What a header cell gives, from what its cell gives.
 use Rattle.std.proofs.Common.{◌≡◌, ℕ, ◌+◌, Bool, true, false, cond, Option, Some, None, Result, Ok, ap}
-use Rattle.oim_meta.specs.Readers.{columns_of}
-use Rattle.oim_meta.specs.ReportValue.{ReportValue}
+use Rattle.oim_report.specs.Readers.{columns_of}
+use Rattle.oim_report.specs.ReportValue.{ReportValue}
 use Rattle.oim_resolve.specs.Cell.{cell_of}
 use Rattle.oim_resolve.specs.Facts.{cell_result}
 use Rattle.oim_resolve.specs.FactParts.{FactParts as Fact}

@@ -8,7 +8,7 @@ use Rattle.std.proofs.lemmas.Fmt.{decimal_is_IsNumeral}
 use Rattle.std.proofs.lemmas.List.{nil_from_length}
 use Rattle.oim_cells.specs.Cells.{nothing, plain, meaning_of, Absent, Text}
 use Rattle.oim_cells.proofs.Meanings.{meaning_law}
-use Rattle.oim_meta.specs.Grid.{Record}
+use Rattle.oim_records.specs.Grids.{Record}
 use Rattle.oim_rows.specs.RowFacts.{field_or_empty}
 use Rattle.oim_decode.specs.Slots.{Named, source_meaning}
 

@@ -1,7 +1,7 @@
 -- Variants keep their slots as slots are added.
 use Rattle.std.proofs.Common.{◌≡◌, ◌⊎◌, inl, inr, ℕ, List, [], get_or, map, sym, subst, arith}
 use Rattle.std.specs.List.{All}
-use Rattle.oim_meta.specs.ReportValue.{ReportValue}
+use Rattle.oim_report.specs.ReportValue.{ReportValue}
 use Rattle.oim_resolve.specs.Written.{written_decimals}
 use Rattle.oim_rows.specs.Header.{Header}
 use Rattle.oim_decode.specs.ReadyTable.{Grows}

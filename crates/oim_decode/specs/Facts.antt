@@ -4,9 +4,9 @@ use Rattle.std.specs.Option.{option_map, option_and_then}
 use Rattle.std.specs.List.{slice_get, All, list_any, flat_map}
 use Rattle.oim_json.specs.Blocks.{behind_commas, ends_from}
 use Rattle.oim_json.specs.JsonText.{escaped_byte, member_text}
-use Rattle.oim_meta.specs.Grid.{Record}
-use Rattle.oim_meta.specs.Readers.{column_of, columns_of, table_of}
-use Rattle.oim_meta.specs.ReportValue.{ReportValue}
+use Rattle.oim_records.specs.Grids.{Record}
+use Rattle.oim_report.specs.Readers.{column_of, columns_of, table_of}
+use Rattle.oim_report.specs.ReportValue.{ReportValue}
 use Rattle.oim_resolve.specs.Cell.{Cell}
 use Rattle.oim_resolve.specs.Facts.{cell_and_group_faults, cell_result, concept_faults, concept_kind, fact_meaning, fact_of, is_absent, rest_faults}
 use Rattle.oim_resolve.specs.Faults.{fault_if, least}

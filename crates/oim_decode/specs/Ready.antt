@@ -7,14 +7,14 @@ use Rattle.std.specs.Str.{bytes_eq}
 use Rattle.oim_cells.specs.Cells.{Meaning, meaning_of}
 use Rattle.oim_cells.specs.Cells as m
 use Rattle.oim_json.specs.JsonText.{quoted}
-use Rattle.oim_meta.specs.Readers.{columns_of, parameter_of}
-use Rattle.oim_meta.specs.ReportValue.{ReportValue}
-use Rattle.oim_meta.specs.declared.data.Side.{Side}
-use Rattle.oim_meta.specs.declared.data.Written.{Written}
-use Rattle.oim_meta.specs.declared.data.Written.TheVariants as w
-use Rattle.oim_meta.specs.declared.data.WrittenDecimals.{WrittenDecimals}
-use Rattle.oim_meta.specs.declared.data.WrittenDecimals.TheVariants as d
-use Rattle.oim_meta.specs.declared.kind.Kind.{Kind}
+use Rattle.oim_report.specs.Readers.{columns_of, parameter_of}
+use Rattle.oim_report.specs.ReportValue.{ReportValue}
+use Rattle.oim_report.specs.declared.data.Side.{Side}
+use Rattle.oim_report.specs.declared.data.Written.{Written}
+use Rattle.oim_report.specs.declared.data.Written.TheVariants as w
+use Rattle.oim_report.specs.declared.data.WrittenDecimals.{WrittenDecimals}
+use Rattle.oim_report.specs.declared.data.WrittenDecimals.TheVariants as d
+use Rattle.oim_report.specs.declared.kind.Kind.{Kind}
 use Rattle.oim_resolve.specs.Facts.{role_of, value_faults_of, entry_given, concept_faults_of, text_kind}
 use Rattle.oim_resolve.specs.Faults.{least, least_of}
 use Rattle.oim_resolve.specs.Values.{side_of}

@@ -1,8 +1,8 @@
 -- What is kept ready between rows.
 use Rattle.std.specs.Prelude.{◌≡◌, ℕ, List, ◌++◌, map}
 use Rattle.std.specs.Borrow.{Bor}
-use Rattle.oim_meta.specs.Grid.{Record}
-use Rattle.oim_meta.specs.ReportValue.{ReportValue}
+use Rattle.oim_records.specs.Grids.{Record}
+use Rattle.oim_report.specs.ReportValue.{ReportValue}
 use Rattle.oim_decode.specs.Slots.{SlotView, DecimalsView, source_meaning}
 
 -- a slot of a report has what row n gives

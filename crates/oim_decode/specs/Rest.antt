@@ -3,8 +3,8 @@ use Rattle.oim_json.specs.JsonText.{decimals_text, value_text}
 use Rattle.std.specs.Prelude.{ℕ, ℤ, List, ◌++◌, ◌-◌, length, take, nat_lt, codes, Option, if◌then◌else◌}
 use Rattle.oim_cells.specs.Cells.{Meaning}
 use Rattle.oim_cells.specs.declared.cells.Accuracy.{Accuracy}
-use Rattle.oim_meta.specs.ReportValue.{ReportValue}
-use Rattle.oim_meta.specs.declared.kind.Kind.{Kind}
+use Rattle.oim_report.specs.ReportValue.{ReportValue}
+use Rattle.oim_report.specs.declared.kind.Kind.{Kind}
 use Rattle.oim_resolve.specs.FactValues.{faults_in, value_given}
 use Rattle.oim_resolve.specs.Facts.{decimals_faults_of}
 use Rattle.oim_resolve.specs.Faults.{least}

@@ -1,7 +1,7 @@
 -- What is written of one row: the text of each of its facts, or its first fault.
 use Rattle.std.specs.Prelude.{⊤, ◌≡◌, ◌⊎◌, List, [], ◌++◌, ℕ, Result, Ok, Err}
-use Rattle.oim_meta.specs.Grid.{Record}
-use Rattle.oim_meta.specs.ReportValue.{ReportValue}
+use Rattle.oim_records.specs.Grids.{Record}
+use Rattle.oim_report.specs.ReportValue.{ReportValue}
 use Rattle.oim_resolve.specs.FactParts.{FactParts as Fact}
 use Rattle.oim_rows.specs.Header.{Header, file_fault}
 use Rattle.oim_rows.specs.RowFacts.{Reading, facts_from, row_of}

@@ -2,11 +2,11 @@
 use Rattle.std.specs.Prelude.{◌≡◌, ◌<◌, ℕ, List, [], ◌∷◌, ◌++◌, Bool, ◌||◌, Option, map, reverse, length, decimal, is_none}
 use Rattle.std.specs.Option.{option_to_list}
 use Rattle.oim_cells.specs.Cells.{meaning_of}
-use Rattle.oim_meta.specs.Grid.{Field, Record}
-use Rattle.oim_meta.specs.Readers.{column_of, template_of}
-use Rattle.oim_meta.specs.ReportValue.{ReportValue}
-use Rattle.oim_meta.specs.declared.data.Column.{Column}
-use Rattle.oim_meta.specs.declared.data.Level.{Level}
+use Rattle.oim_records.specs.Grids.{Field, Record}
+use Rattle.oim_report.specs.Readers.{column_of, template_of}
+use Rattle.oim_report.specs.ReportValue.{ReportValue}
+use Rattle.oim_report.specs.declared.data.Column.{Column}
+use Rattle.oim_report.specs.declared.data.Level.{Level}
 use Rattle.oim_names.specs.Lookup.{value_at}
 use Rattle.oim_cells.specs.Cells.{Meaning}
 use Rattle.oim_resolve.specs.Cell.{Cell, cell_of}

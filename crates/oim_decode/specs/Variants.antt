@@ -2,8 +2,8 @@
 use Rattle.std.specs.Prelude.{◌≡◌, ℕ, List, None, map, codes}
 use Rattle.std.specs.List.{All}
 use Rattle.std.specs.Option.{option_map}
-use Rattle.oim_meta.specs.Grid.{Record}
-use Rattle.oim_meta.specs.ReportValue.{ReportValue}
+use Rattle.oim_records.specs.Grids.{Record}
+use Rattle.oim_report.specs.ReportValue.{ReportValue}
 use Rattle.oim_resolve.specs.Written.{written, written_decimals}
 use Rattle.oim_rows.specs.Header.{Header}
 use Rattle.oim_decode.specs.declared.variant.Variant.{Variant}

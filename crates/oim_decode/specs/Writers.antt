@@ -1,6 +1,6 @@
 -- What the writer of a table's rows keeps from row to row.
 use Rattle.std.specs.Prelude.{◌≡◌, ◌<◌, ℕ, List, Option, length}
-use Rattle.oim_meta.specs.ReportValue.{ReportValue}
+use Rattle.oim_report.specs.ReportValue.{ReportValue}
 use Rattle.oim_rows.specs.Header.{Header}
 use Rattle.oim_decode.specs.declared.column.FactColumn.{FactColumn}
 use Rattle.oim_decode.specs.declared.ready_table.ReadyTable.{ReadyTable}

@@ -4,7 +4,7 @@ ghost use Rattle.std.specs.Prelude.{◌≡◌, ◌++◌, [], IfOk, OnOk, Some, N
 ghost use Rattle.std.specs.Option.{option_and_then, option_map};
 ghost use Rattle.oim_names.specs.QName.{qname_of};
 ghost use Rattle.oim_cells.specs.Cells.{seen_meaning, Text as a_text};
-ghost use Rattle.oim_meta.specs.Readers.{kind_of};
+ghost use Rattle.oim_report.specs.Readers.{kind_of};
 ghost use Rattle.oim_resolve.specs.declared.role.Role.TheVariants as role;
 ghost use Rattle.oim_resolve.specs.declared.fact.CellFault.TheVariants as fault;
 ghost use Rattle.oim_period.specs.Reads.{reading_of};
@@ -17,9 +17,9 @@ ghost use Rattle.oim_decode.specs.Slots.{piece_given, concept_given};
 use crate::append::{put, put_quoted};
 use crate::page::Page;
 use oim_cells::CellMeaning;
-use oim_meta::{Kind, Report, Side};
 use oim_names::{UnitKind, language, qname, sqname, unit};
 use oim_period::{Period, read};
+use oim_report::{Kind, Report, Side};
 use oim_resolve::{CellFault, Role};
 use std::alloc::{AllocError, Global};
 

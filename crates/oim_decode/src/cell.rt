@@ -5,7 +5,7 @@ ghost use Rattle.std.specs.List.{All, list_any};
 ghost use mathlib.Core.List.{IsPrefix};
 ghost use Rattle.csv.specs.Records.{fields_of};
 ghost use Rattle.oim_cells.specs.Cells.{meaning_of, seen_meaning};
-ghost use Rattle.oim_meta.specs.Readers.{column_of, columns_of};
+ghost use Rattle.oim_report.specs.Readers.{column_of, columns_of};
 ghost use Rattle.oim_resolve.specs.Facts.{fact_meaning, given};
 ghost use Rattle.oim_resolve.specs.declared.fact.CellFault.TheVariants.{Memory};
 ghost use Rattle.oim_resolve.specs.Facts.{is_absent as says_nothing};
@@ -28,7 +28,7 @@ use crate::row_at::RowAt;
 use crate::slot::Slot;
 use crate::variant::Variant;
 use oim_cells::{CellMeaning, meaning};
-use oim_meta::{Kind, Report};
+use oim_report::{Kind, Report};
 use oim_resolve::CellFault;
 use std::alloc::{AllocError, Global};
 

@@ -15,7 +15,7 @@ use crate::page::Page;
 use crate::ready_table::ReadyTable;
 use crate::row_at::RowAt;
 use crate::row_fault::RowFault;
-use oim_meta::Report;
+use oim_report::Report;
 use oim_resolve::CellFault;
 use oim_rows::{TableFault, TableKind};
 use std::alloc::{AllocError, Global};

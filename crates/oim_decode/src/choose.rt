@@ -3,8 +3,8 @@
 ghost use Rattle.std.specs.Prelude.{◌≡◌, ◌<◌, ◌++◌, ◌⊎◌, [], List, ℕ, None, Some, true, length, map, reverse, IfOk, OnOk};
 ghost use Rattle.std.specs.List.{All, slice_get};
 ghost use Rattle.csv.specs.Records.{fields_of};
-ghost use Rattle.oim_meta.specs.InOrder.{LevelRises};
-ghost use Rattle.oim_meta.specs.Readers.{columns_of};
+ghost use Rattle.oim_report.specs.InOrder.{LevelRises};
+ghost use Rattle.oim_report.specs.Readers.{columns_of};
 ghost use Rattle.oim_rows.specs.RowFacts.{field_or_empty};
 ghost use Rattle.oim_decode.specs.Facts.{groups_wrong};
 ghost use Rattle.oim_decode.specs.ReadyTable.{IsFresh, IsFreshDecimals, Grows, held};
@@ -21,8 +21,8 @@ use crate::row_at::RowAt;
 use crate::slot::Slot;
 use crate::variant::Variant;
 use crate::variant_index::{Hint, TRIES, VariantIndex};
-use oim_meta::{Level, Report};
 use oim_names::Text;
+use oim_report::{Level, Report};
 use std::alloc::{AllocError, Global};
 
 /// The levels of a column under the groups that a row names, the most specific first.

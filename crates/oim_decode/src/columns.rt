@@ -2,7 +2,7 @@
 
 ghost use Rattle.std.specs.Prelude.{◌≡◌, ◌<◌, ℕ, Option, Some, true, map, length, IfOk};
 ghost use Rattle.std.specs.Option.{option_map};
-ghost use Rattle.oim_meta.specs.Readers.{columns_of};
+ghost use Rattle.oim_report.specs.Readers.{columns_of};
 ghost use Rattle.oim_rows.specs.RowFacts.{holds_facts, is_fact_column, source_of_column};
 ghost use Rattle.oim_decode.specs.Facts.{AreFactColumns, IsFactColumn, fact_column, tail_text};
 ghost use Rattle.oim_decode.specs.declared.column.FactColumn.{FactColumn as FactColumnValue};
@@ -11,7 +11,7 @@ use crate::append::{put, put_escaped};
 use crate::column::FactColumn;
 use crate::page::Page;
 use crate::sources::place_in;
-use oim_meta::{Column, ColumnKind, Report};
+use oim_report::{Column, ColumnKind, Report};
 use std::alloc::{AllocError, Global};
 
 /// Columns of groups, each with its place in a header.

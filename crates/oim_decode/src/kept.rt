@@ -7,7 +7,7 @@ ghost use Rattle.oim_decode.specs.Kept.{IsKept, IsEmpty};
 use crate::answer::{Answer, answer_of, concept_of, nothing};
 use crate::page::Page;
 use oim_cells::meaning;
-use oim_meta::{Kind, Report, Side};
+use oim_report::{Kind, Report, Side};
 use oim_resolve::{CellFault, Role};
 use std::alloc::{AllocError, Global};
 

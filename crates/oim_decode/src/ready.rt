@@ -22,7 +22,7 @@ use crate::slot::Slot;
 use crate::slots::slot_for;
 use crate::sources::source_written;
 use oim_cells::CellMeaning;
-use oim_meta::{Kind, Report, Written};
+use oim_report::{Kind, Report, Written};
 use oim_resolve::{CellFault, Role, side_of};
 use std::alloc::{AllocError, Global};
 use std::marker::Model;

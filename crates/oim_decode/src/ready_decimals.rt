@@ -18,7 +18,7 @@ use crate::decimals_slot::DecimalsSlot;
 use crate::page::Page;
 use crate::settled::Stated;
 use oim_cells::{Accuracy, CellMeaning};
-use oim_meta::Kind;
+use oim_report::Kind;
 use oim_resolve::CellFault;
 use std::alloc::{AllocError, Global};
 use std::marker::Model;

@@ -3,7 +3,7 @@
 ghost use Rattle.std.specs.Prelude.{◌≡◌, ◌++◌, ◌∷◌, ◌<◌, [], List, None, length, IfOk, OnOk};
 ghost use Rattle.std.specs.List.{All};
 ghost use mathlib.Core.List.{IsPrefix};
-ghost use Rattle.oim_meta.specs.declared.kind.Kind.{Kind as KindValue};
+ghost use Rattle.oim_report.specs.declared.kind.Kind.{Kind as KindValue};
 ghost use Rattle.oim_resolve.specs.Facts.{value_faults_of};
 ghost use Rattle.oim_resolve.specs.Faults.{least};
 ghost use Rattle.oim_decode.specs.Ready.{EntryView};
@@ -16,7 +16,7 @@ use crate::page::Page;
 use crate::ready::ReadyEntry;
 use crate::slot::Slot;
 use oim_cells::NumberKind;
-use oim_meta::Kind;
+use oim_report::Kind;
 use oim_resolve::CellFault;
 use std::alloc::{AllocError, Global};
 use std::mem;

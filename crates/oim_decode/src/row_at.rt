@@ -3,13 +3,13 @@
 ghost use Rattle.std.specs.Prelude.{◌≡◌, ◌<◌, length, false};
 ghost use Rattle.std.specs.List.{list_any};
 ghost use Rattle.csv.specs.Records.{fields_of};
-ghost use Rattle.oim_meta.specs.Readers.{columns_of};
+ghost use Rattle.oim_report.specs.Readers.{columns_of};
 ghost use Rattle.oim_rows.specs.RowFacts.{field_or_empty};
 ghost use Rattle.oim_decode.specs.Rows.{IsRowAt, is_unknown_in, names_none_in};
 
 use crate::text_record::TextRecord;
 use oim_cells::{CellMeaning, meaning};
-use oim_meta::Report;
+use oim_report::Report;
 
 /// A row of a table: its record under the table's header, its number, and the number in digits.
 #[derive(Clone, Copy)]

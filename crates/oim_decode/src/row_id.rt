@@ -3,12 +3,12 @@
 ghost use Rattle.std.specs.Prelude.{◌≡◌, ◌<◌, OnOk, length};
 ghost use Rattle.std.specs.String.{string_bytes};
 ghost use Rattle.csv.specs.Records.{fields_of};
-ghost use Rattle.oim_meta.specs.Readers.{template_of};
+ghost use Rattle.oim_report.specs.Readers.{template_of};
 ghost use Rattle.oim_rows.specs.RowFacts.{IsNewId, ids_after, row_id_place, row_id_text};
 
 use crate::sources::place_in;
 use crate::text_record::TextRecord;
-use oim_meta::Report;
+use oim_report::Report;
 use oim_rows::{RowIds, push_row_number};
 use std::alloc::{AllocError, Global};
 

@@ -21,7 +21,7 @@ use crate::row_fault::RowFault;
 use crate::start::{lead_of, read_start};
 use crate::text_record::TextRecord;
 use itoa::Buffer;
-use oim_meta::Report;
+use oim_report::Report;
 use std::alloc::{AllocError, Global};
 use std::marker::Model;
 

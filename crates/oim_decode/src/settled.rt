@@ -6,7 +6,7 @@ ghost use Rattle.oim_decode.specs.Answers.{seen_stated};
 ghost use Rattle.oim_decode.specs.Ready.{parameter_meaning as parameter_by, settled_meaning as settled_by, settled_stated as stated_by};
 
 use oim_cells::{Accuracy, CellMeaning, meaning};
-use oim_meta::{Report, Written, WrittenDecimals};
+use oim_report::{Report, Written, WrittenDecimals};
 
 /// What written decimals state: an accuracy, or a meaning that is read as one.
 #[derive(Clone, Copy)]

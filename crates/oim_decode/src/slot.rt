@@ -16,7 +16,7 @@ use crate::kept::Kept;
 use crate::place::{PLACES, place_for};
 use crate::source::SourceOf;
 use crate::text_record::TextRecord;
-use oim_meta::{Kind, Report, Side};
+use oim_report::{Kind, Report, Side};
 use oim_resolve::{CellFault, Role};
 use std::alloc::{AllocError, Global};
 use std::marker::Model;

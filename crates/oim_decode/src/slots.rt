@@ -11,7 +11,7 @@ use crate::decimals_slot::DecimalsSlot;
 use crate::row_at::RowAt;
 use crate::slot::Slot;
 use crate::source::SourceOf;
-use oim_meta::{Report, Side};
+use oim_report::{Report, Side};
 use oim_resolve::Role;
 use std::alloc::{AllocError, Global};
 

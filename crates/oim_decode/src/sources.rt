@@ -8,7 +8,7 @@ ghost use Rattle.oim_decode.specs.Answers.{seen_source};
 ghost use Rattle.oim_decode.specs.Ready.{source_named as named_by, source_written as written_by, source_decimals as decimals_by};
 
 use crate::source::SourceOf;
-use oim_meta::{Report, Written, WrittenDecimals};
+use oim_report::{Report, Written, WrittenDecimals};
 
 fn is_place(place: Option<usize>, column: usize) -> bool
     ensures { result ≡ is_column column place }

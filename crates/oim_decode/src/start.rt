@@ -7,7 +7,7 @@ ghost use Rattle.oim_decode.specs.Facts.{lead_text};
 
 use crate::append::{put, put_escaped};
 use crate::page::Page;
-use oim_meta::Report;
+use oim_report::Report;
 use std::alloc::{AllocError, Global};
 
 /// The text of a table's facts up to the dot before the row's identifier.

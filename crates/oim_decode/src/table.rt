@@ -1,7 +1,7 @@
 //! The facts of one table, in blocks of text.
 
 ghost use Rattle.std.specs.Prelude.{◌≡◌, ◌⊎◌, ◌≤◌, ◌<◌, ◌+◌, [], IfErr, IfOk, IfSome, None, Some, false, length, true};
-ghost use Rattle.oim_meta.specs.Grid.{grid};
+ghost use Rattle.oim_records.specs.Grids.{grid};
 ghost use Rattle.oim_rows.specs.Header.{file_header_fault};
 ghost use Rattle.oim_rows.specs.Streams.{IsOutside, answer_of, facts_of_rows, stream_of};
 ghost use Rattle.oim_decode.specs.Blocks.{GivesBlock, KeepsAnswer};
@@ -9,7 +9,7 @@ ghost use Rattle.oim_decode.specs.Blocks.{GivesBlock, KeepsAnswer};
 use crate::batch::Batch;
 use crate::text_rows::TextRows;
 use oim_json::Block;
-use oim_meta::{Limits, Report};
+use oim_report::{Limits, Report};
 use oim_rows::{TableFault, TableKind, whole_fault};
 use std::alloc::Global;
 use std::io::Read;

@@ -2,7 +2,7 @@
 
 ghost use Rattle.std.specs.Prelude.{◌≡◌, ◌⊎◌, ◌≤◌, ◌<◌, ◌+◌, [], IfErr, IfOk, IfSome, None, OnOk, Some, length, option_map, true};
 ghost use Rattle.csv.specs.Records.{fields_of};
-ghost use Rattle.oim_meta.specs.Grid.{grid};
+ghost use Rattle.oim_records.specs.Grids.{grid};
 ghost use Rattle.oim_rows.specs.Header.{file_header_fault};
 ghost use Rattle.oim_rows.specs.RowFacts.{IsTextRecord, id_place_of, ids_after, row_fault, row_result};
 ghost use Rattle.oim_rows.specs.Streams.{IsOutside, early_row_answer, stream_of};
@@ -15,7 +15,8 @@ use crate::row_id::{id_place, keep_id, read_id};
 use crate::row_writer::RowWriter;
 use crate::text_record::TextRecord;
 use csv::ByteRecord;
-use oim_meta::{ReadFault, Records, Report};
+use oim_records::{ReadFault, Records};
+use oim_report::Report;
 use oim_rows::{RowForm, RowIds, TableFault, TableKind, fault_of_read, whole_fault};
 use std::alloc::Global;
 use std::io::Read;

@@ -15,7 +15,7 @@ use crate::append::{put, put_escaped};
 use crate::numeral::split;
 use crate::page::Page;
 use oim_cells::{Accuracy, CellMeaning};
-use oim_meta::{Kind, Report};
+use oim_report::{Kind, Report};
 use oim_resolve::{CellFault, FactValue, fact_value};
 use std::alloc::AllocError;
 

@@ -21,8 +21,8 @@ use crate::ready_runs::{KindRuns, ReadyRuns};
 use crate::slot::Slot;
 use crate::value::{put_value, read_value, suffix_of};
 use oim_cells::CellMeaning;
-use oim_meta::{Kind, Report};
 use oim_names::Text;
+use oim_report::{Kind, Report};
 use oim_resolve::CellFault;
 use std::alloc::AllocError;
 

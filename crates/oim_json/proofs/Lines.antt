@@ -7,7 +7,7 @@ use Rattle.std.specs.Char.{digit_char}
 use Rattle.std.specs.Fmt.{digits, digits_onto, digit_glyph, decimal, signed_decimal}
 use Rattle.oim_names.specs.QName.{Lacks}
 use Rattle.oim_names.proofs.Cut.{eqb_of}
-use Rattle.oim_meta.specs.ReportValue.{ReportValue}
+use Rattle.oim_report.specs.ReportValue.{ReportValue}
 use Rattle.oim_resolve.specs.FactParts.{FactParts as Fact}
 use Rattle.oim_json.specs.JsonText.{base_url_text, escaped_byte, head_text, namespace_text, quoted, value_text, dimension_text, decimals_text, joined, member_text}
 use Rattle.oim_json.specs.Document.{facts_text, members, placed_member, tail_text, text_after}

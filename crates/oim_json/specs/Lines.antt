@@ -1,7 +1,7 @@
 -- The text of facts stands on one line: a line feed in a fact is written `\n`. So a reader may cut a document in lines at its line feeds, and finds whole members.
 use Rattle.std.specs.Prelude.{◌≡◌, ◌==◌, ℕ, List, [], ◌∷◌, ◌++◌, map, codes}
 use Rattle.std.specs.List.{slice_split}
-use Rattle.oim_meta.specs.ReportValue.{ReportValue}
+use Rattle.oim_report.specs.ReportValue.{ReportValue}
 use Rattle.oim_names.specs.QName.{Lacks}
 use Rattle.oim_resolve.specs.FactParts.{FactParts as Fact}
 use Rattle.oim_json.specs.JsonText.{head_text, member_text}

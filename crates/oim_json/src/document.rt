@@ -6,8 +6,8 @@ ghost use Rattle.oim_json.specs.JsonText.{base_url_text, head_text};
 
 use crate::layout::Layout;
 use crate::write::{push_bindings, push_joined, push_text};
-use oim_meta::Report;
 use oim_names::Text;
+use oim_report::Report;
 use std::alloc::{AllocError, Global};
 
 /// What stands after the members of a compact document: two closing braces and a line feed.

@@ -5,7 +5,8 @@ use Rattle.oim_names.specs.Bindings.{HaveNames, IsNamespaces}
 use Rattle.oim_names.specs.Names.{is_ncname}
 use Rattle.oim_meta.specs.Members.{is_text, any_member}
 use Rattle.oim_meta.specs.Faults.{is_bad_prefix, has_bad_prefix}
-use Rattle.oim_meta.specs.Order.{IsRising, names_of}
+use Rattle.oim_meta.specs.Order.{names_of}
+use Rattle.oim_report.specs.Rising.{IsRising}
 use Rattle.oim_meta.specs.Prefixes.{bindings_of}
 use Rattle.oim_meta.proofs.Unrepeated.{left, right}
 use Rattle.oim_meta.proofs.OwnUris.{own_uris, in_order}

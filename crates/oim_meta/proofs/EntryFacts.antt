@@ -4,8 +4,8 @@ use Rattle.std.proofs.lemmas.Option.{IfSome_then}
 use Rattle.std.proofs.lemmas.Bool.{leb-false, lt-leb}
 use Rattle.std.specs.Option.{ok_or}
 use Rattle.oim_meta.specs.CsvFiles.{EntryFile, OrOutside, all_of}
-use Rattle.oim_meta.specs.Grid.{Record, grid}
-use Rattle.oim_meta.specs.Taking.{TakesRecord}
+use Rattle.oim_records.specs.Grids.{Record, grid}
+use Rattle.oim_records.specs.Reads.{TakesRecord}
 use Rattle.oim_meta.specs.declared.fault.MetaFault.{MetaFault}
 use Rattle.oim_meta.specs.declared.fault.MetaFault.TheVariants as fault
 

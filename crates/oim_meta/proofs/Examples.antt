@@ -3,15 +3,15 @@ use Rattle.std.proofs.Common.{◌≡◌, ℕ, List, [], ◌∷◌, Some, None, t
 use Rattle.serde_json.specs.Data.{Data, boolean, number, unsigned, negative, string, array, object, no_items, item, Members, no_members, member}
 use Rattle.oim_cells.specs.Cells.{meaning_of, accuracy_of}
 use Rattle.oim_cells.specs.declared.cells.Accuracy.TheVariants.{Infinite, Places}
-use Rattle.oim_meta.specs.declared.data.Column.{Column}
-use Rattle.oim_meta.specs.declared.data.ColumnKind.TheVariants.{Fact, Groups, Comment, Plain}
-use Rattle.oim_meta.specs.declared.data.Level.{Level}
-use Rattle.oim_meta.specs.declared.data.Side.TheVariants.{Whole, Start, End}
-use Rattle.oim_meta.specs.declared.data.Written.TheVariants as written
-use Rattle.oim_meta.specs.declared.data.WrittenDecimals.TheVariants as decimals
-use Rattle.oim_meta.specs.ReportValue.{ReportValue}
+use Rattle.oim_report.specs.declared.data.Column.{Column}
+use Rattle.oim_report.specs.declared.data.ColumnKind.TheVariants.{Fact, Groups, Comment, Plain}
+use Rattle.oim_report.specs.declared.data.Level.{Level}
+use Rattle.oim_report.specs.declared.data.Side.TheVariants.{Whole, Start, End}
+use Rattle.oim_report.specs.declared.data.Written.TheVariants as written
+use Rattle.oim_report.specs.declared.data.WrittenDecimals.TheVariants as decimals
+use Rattle.oim_report.specs.ReportValue.{ReportValue}
 use Rattle.oim_meta.specs.Prefixes.{prefixes_of}
-use Rattle.oim_meta.specs.Readers.{table_of as table_at, template_of as template_at, column_of as column_at, parameter_of}
+use Rattle.oim_report.specs.Readers.{table_of as table_at, template_of as template_at, column_of as column_at, parameter_of}
 use Rattle.oim_meta.specs.Written.{strip_front, strip_back, reference_of, written_of}
 use Rattle.oim_meta.specs.Decimals.{decimals_of, text_decimals}
 use Rattle.oim_meta.specs.Value.{kind_of, level_of, column_of, template_of, table_of, tables_of, templates_of, info_of, report_of}

@@ -13,10 +13,10 @@ use Rattle.oim_names.specs.QName.{qname_of}
 use Rattle.oim_meta.specs.declared.fault.MetaFault.{MetaFault}
 use Rattle.oim_meta.specs.declared.fault.MetaFault.TheVariants.{NotReport, BadNamespaces, BadTaxonomy, Unsupported, BadIdentifier, BadTemplate, ColumnKinds}
 use Rattle.oim_meta.specs.declared.fault.MetaFault.TheVariants.{UnknownTemplate, UnknownColumn, BadDimension, BadDecimals, BadParameter, TooLarge, Syntax, BadTypes, Memory, Read}
-use Rattle.oim_meta.specs.declared.kind.Kind.{Kind}
-use Rattle.oim_meta.specs.declared.typed_name.TypedName.{TypedName}
-use Rattle.oim_meta.specs.declared.kind.Kind.TheVariants.{Number, Text, Boolean, Date, Name, Other, Explicit, Typed}
-use Rattle.oim_meta.specs.Types.{TypesValue}
+use Rattle.oim_report.specs.declared.kind.Kind.{Kind}
+use Rattle.oim_report.specs.declared.typed_name.TypedName.{TypedName}
+use Rattle.oim_report.specs.declared.kind.Kind.TheVariants.{Number, Text, Boolean, Date, Name, Other, Explicit, Typed}
+use Rattle.oim_report.specs.Types.{TypesValue}
 use Rattle.oim_meta.specs.Written.{strip_front, strip_back}
 use Rattle.oim_meta.specs.PlainPath.{is_plain_path}
 use Rattle.oim_meta.specs.Faults.{has_no_report, has_bad_namespaces, has_bad_taxonomy, is_unsupported, has_bad_identifier, has_bad_shape, has_mixed_column, has_unknown_template}

@@ -11,27 +11,27 @@ use Rattle.csv.specs.Reading.{records_from, strip_bom}
 use Rattle.csv.specs.Records.{field_at}
 use Rattle.csv.specs.declared.error.ErrorKind.TheVariants as kind
 use Rattle.oim_meta.specs.CsvFiles.{EntryFile, all_of, fault_of_read, file_result, text_field}
-use Rattle.oim_meta.specs.ReadFaults.{fault_of_kind}
+use Rattle.oim_records.specs.ReadFaults.{fault_of_kind}
 use Rattle.oim_meta.specs.WholeFile.{kind_said, record_at}
-use Rattle.oim_meta.specs.declared.records.ReadFault.TheVariants as read
+use Rattle.oim_records.specs.declared.read_fault.ReadFault.TheVariants as read
 use Rattle.oim_meta.specs.declared.type_words.TypeWords.TheVariants.{Plain, Wider}
 use Rattle.oim_meta.specs.FaultNames.{fault_number, fault_name}
-use Rattle.oim_meta.specs.Grid.{Record, grid, records_left}
+use Rattle.oim_records.specs.Grids.{Record, grid, records_left}
 use Rattle.oim_meta.specs.ParametersFile.{parameters_file, parameters_result}
 use Rattle.oim_names.specs.Lookup.{value_at}
 use Rattle.oim_meta.specs.TypeWords.{Words, plain_words, wider_words, words_chosen, words_in}
 use Rattle.oim_meta.specs.TypesFile.{types_file, types_result}
-use Rattle.oim_meta.specs.Named.{value_under}
-use Rattle.oim_meta.specs.Types.{kind_in}
+use Rattle.oim_report.specs.Named.{value_under}
+use Rattle.oim_report.specs.Types.{kind_in}
 use Rattle.oim_meta.specs.Reading.{after_mark, first_url_fault}
 use Rattle.oim_meta.specs.Faults.{has_no_report}
 use Rattle.oim_meta.specs.BadParameters.{has_bad_parameter_url}
 use Rattle.oim_meta.specs.PlainPath.{is_plain_path}
 use Rattle.oim_meta.specs.declared.fault.MetaFault.TheVariants.{Syntax, NotReport, BadNamespaces, BadTaxonomy, Unsupported, BadIdentifier, BadTemplate, ColumnKinds, UnknownTemplate}
 use Rattle.oim_meta.specs.declared.fault.MetaFault.TheVariants.{UnknownColumn, BadDimension, BadDecimals, BadParameter, BadTypes, TooLarge, Memory, Read}
-use Rattle.oim_meta.specs.declared.kind.Kind.{Kind}
-use Rattle.oim_meta.specs.declared.typed_name.TypedName.{TypedName}
-use Rattle.oim_meta.specs.declared.kind.Kind.TheVariants.{Number, Text, Boolean, Date, Name, Other, Explicit, Typed}
+use Rattle.oim_report.specs.declared.kind.Kind.{Kind}
+use Rattle.oim_report.specs.declared.typed_name.TypedName.{TypedName}
+use Rattle.oim_report.specs.declared.kind.Kind.TheVariants.{Number, Text, Boolean, Date, Name, Other, Explicit, Typed}
 
 -- RECORDS (RFC 4180), after a byte-order mark: a quoted field with a quote, and a line without a character
 grids :

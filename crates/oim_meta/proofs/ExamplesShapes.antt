@@ -5,7 +5,7 @@ use lib.Utf8.{encode}
 use Rattle.serde_json.specs.Data.{Data, null, boolean, string, object, no_members, member}
 use Rattle.oim_names.specs.Names.{is_identifier, is_name_char, is_name_start, is_ncname, is_plain_char}
 use Rattle.oim_meta.specs.Shapes.{HasColumnKinds, HasIdentifiers, HasNamespaces, HasTemplates, IsOfOneKind}
-use Rattle.oim_meta.specs.declared.data.ColumnKind.TheVariants.{Fact, Groups, Comment, Plain}
+use Rattle.oim_report.specs.declared.data.ColumnKind.TheVariants.{Fact, Groups, Comment, Plain}
 
 abbrev nothing : Data
 nothing = object no_members

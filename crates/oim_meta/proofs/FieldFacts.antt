@@ -6,7 +6,7 @@ use Rattle.std.specs.Str.{is_utf8}
 use Rattle.std.proofs.lemmas.Str.{IsUtf8-from_is_utf8, is_utf8-from_IsUtf8}
 use Rattle.csv.specs.Records.{field_at}
 use Rattle.oim_meta.specs.CsvFiles.{text_field, text_of, three_texts, two_texts}
-use Rattle.oim_meta.specs.Grid.{Field, Record}
+use Rattle.oim_records.specs.Grids.{Field, Record}
 
 -- a field that is text, and one that is not
 pub text-there : (r : Record) (i : ℕ) (f t : Field) → Some f ≡ field_at r i → t ≡ f → IsUtf8 f → Some t ≡ text_field r i

@@ -5,10 +5,10 @@ use Rattle.std.proofs.lemmas.List.Folds.{find-append}
 use Rattle.serde_json.specs.Data.{Data}
 use Rattle.oim_meta.specs.declared.fault.MetaFault.{MetaFault}
 use Rattle.oim_meta.specs.declared.fault.MetaFault.TheVariants.{Memory}
-use Rattle.oim_meta.specs.declared.limits.Limits.{Limits}
+use Rattle.oim_report.specs.declared.limits.Limits.{Limits}
 use Rattle.oim_meta.specs.FirstFault.{has_fault, early_faults, late_faults, early_fault, late_fault, first_fault}
-use Rattle.oim_meta.specs.Parameters.{ParametersValue}
-use Rattle.oim_meta.specs.Types.{TypesValue}
+use Rattle.oim_report.specs.Parameters.{ParametersValue}
+use Rattle.oim_report.specs.Types.{TypesValue}
 
 both : (limits : Limits) (given : ParametersValue) (types : TypesValue) (d : Data)
     → first_fault limits given types d ≡ option_or (early_fault limits given types d) (late_fault limits given types d)

@@ -4,14 +4,15 @@ use Rattle.std.specs.Option.{is_none, ok_or, option_and_then, option_or}
 use Rattle.oim_names.specs.Lookup.{value_at}
 use Rattle.oim_names.specs.Names.{is_ncname}
 use Rattle.oim_meta.specs.CsvFiles.{all_of, three_texts, unless_bad}
-use Rattle.oim_meta.specs.Grid.{Field, Record}
-use Rattle.oim_meta.specs.Types.{TypesValue, kind_in}
+use Rattle.oim_records.specs.Grids.{Field, Record}
+use Rattle.oim_report.specs.Types.{TypesValue, kind_in}
 use Rattle.oim_meta.specs.TypeWords.{Words}
-use Rattle.oim_meta.specs.TypesFile.{most_types, type_after, types_file, with_kind, with_type}
+use Rattle.oim_meta.specs.TypesFile.{most_types, type_after, types_file, with_type}
+use Rattle.oim_report.specs.Types.{with_kind}
 use Rattle.oim_meta.specs.WholeFile.{kind_by, kind_said}
 use Rattle.oim_meta.specs.declared.fault.MetaFault.TheVariants as fault
-use Rattle.oim_meta.specs.declared.kind.Kind.{Kind}
-use Rattle.oim_meta.proofs.TypesKept.{or-none, said-more}
+use Rattle.oim_report.specs.declared.kind.Kind.{Kind}
+use Rattle.oim_report.proofs.TypesKept.{or-none, said-more}
 
 or-assoc : {A : Type 0} (a b c : Option A) → option_or (option_or a b) c ≡ option_or a (option_or b c)
 or-assoc None b c = refl

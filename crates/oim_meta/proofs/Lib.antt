@@ -1,17 +1,11 @@
-mod PlaceFacts
-pub mod GroupOrder
 pub mod Searches
-pub mod GridFacts
 pub mod Strips
 pub mod Rising
 pub mod Counted
 pub mod Bound
-pub mod NamedFacts
 pub mod FieldFacts
 pub mod EntryFacts
-pub mod ParameterFacts
 pub mod TypeFacts
-pub mod TypesKept
 pub mod WholeFileLaws
 pub mod KindLaws
 pub mod Unrepeated

@@ -9,15 +9,16 @@ use Rattle.std.specs.Cmp.Lexicographic.{slice_cmp}
 use Rattle.oim_names.specs.Names.{is_identifier}
 use Rattle.serde_json.specs.Data.{Data, null, boolean, number, string, array, object, Members, no_members, member}
 use Rattle.serde_json.specs.Find.{get, get_member, as_object}
-use Rattle.oim_meta.specs.declared.data.Column.{Column}
-use Rattle.oim_meta.specs.declared.data.ColumnKind.{ColumnKind}
-use Rattle.oim_meta.specs.declared.data.ColumnKind.TheVariants.{Fact, Groups, Comment, Plain}
-use Rattle.oim_meta.specs.declared.data.Table.{Table}
-use Rattle.oim_meta.specs.declared.data.Template.{Template}
+use Rattle.oim_report.specs.declared.data.Column.{Column}
+use Rattle.oim_report.specs.declared.data.ColumnKind.{ColumnKind}
+use Rattle.oim_report.specs.declared.data.ColumnKind.TheVariants.{Fact, Groups, Comment, Plain}
+use Rattle.oim_report.specs.declared.data.Table.{Table}
+use Rattle.oim_report.specs.declared.data.Template.{Template}
 use Rattle.oim_meta.specs.Members.{section, any_member, map_members}
 use Rattle.oim_meta.specs.Faults.{is_bad_key, any_column, has_bad_identifier}
-use Rattle.oim_meta.specs.Order.{names_of, IsRising, IsInOrder, AreInOrder}
-use Rattle.oim_meta.specs.InOrder.{LevelRises, ColumnRises, TemplateRises, PartsRise, AreIdentifiers, HaveIdentifiers}
+use Rattle.oim_meta.specs.Order.{names_of, IsInOrder, AreInOrder}
+use Rattle.oim_report.specs.Rising.{IsRising}
+use Rattle.oim_report.specs.InOrder.{LevelRises, ColumnRises, TemplateRises, PartsRise, AreIdentifiers, HaveIdentifiers}
 use Rattle.oim_meta.specs.Value.{named_text, named_dimension, named_level, level_of, kind_of, column_level, groups_of, column_of, columns_of, template_of, templates_of, table_of, tables_of}
 use Rattle.oim_meta.proofs.Unrepeated.{left, right}
 

@@ -6,9 +6,11 @@ use Rattle.std.specs.Map.{keys_of, values_of}
 use Rattle.std.specs.Cmp.Lexicographic.{slice_cmp}
 use Rattle.serde_json.specs.Data.{Members, no_members, member}
 use Rattle.oim_meta.specs.Members.{text_of, any_member, map_members}
-use Rattle.oim_meta.specs.Order.{names_of, IsRising, has_other, repeats_text}
+use Rattle.oim_meta.specs.Order.{names_of, has_other, repeats_text}
+use Rattle.oim_report.specs.Rising.{IsRising}
 use Rattle.oim_meta.specs.Value.{named_text}
-use Rattle.oim_meta.proofs.Unrepeated.{left, right, fewer, below-differs, unlike}
+use Rattle.oim_meta.proofs.Unrepeated.{left, right, fewer, unlike}
+use Rattle.oim_report.proofs.Searches.{below-differs}
 
 -- the text of a name below all others is not one of theirs
 no_text : (k t : List ℕ) (ms : Members) → AllByRecursion (λ l. slice_cmp nat_cmp k l ≡ Less) (names_of ms) → has_other k t ms ≡ false

@@ -12,8 +12,8 @@ use Rattle.oim_meta.specs.Faults.{has_bad_identifier, has_bad_namespaces, has_ba
 use Rattle.oim_meta.specs.Faults.{any_column, is_comment, is_fact, is_groups, is_mixed_column, lacks_template_of, template_name}
 use Rattle.oim_meta.specs.Shapes.{AllColumns, AllMembers, HasIdentifier, HasIdentifiers, HasNamespaces, HasColumnKinds, HasTemplate, HasTemplates}
 use Rattle.oim_meta.specs.Shapes.{HaveOwnUris, IsComment, IsOfOneKind, IsPrefix, Refutes}
-use Rattle.oim_meta.specs.declared.data.ColumnKind.{ColumnKind}
-use Rattle.oim_meta.specs.declared.data.ColumnKind.TheVariants.{Fact, Groups, Comment, Plain}
+use Rattle.oim_report.specs.declared.data.ColumnKind.{ColumnKind}
+use Rattle.oim_report.specs.declared.data.ColumnKind.TheVariants.{Fact, Groups, Comment, Plain}
 use Rattle.oim_meta.proofs.ShapeLaws.{absent, either, isnt, members, needed, optional, text, three}
 
 -- NAMESPACES

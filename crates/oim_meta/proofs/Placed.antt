@@ -9,12 +9,12 @@ use Rattle.std.proofs.lemmas.List.Elements.{All-from_recursion}
 use Rattle.std.proofs.lemmas.Map.Text.{is_eq-slice_cmp}
 use Rattle.serde_json.specs.Data.{Data, null, boolean, number, string, array, object, Items, no_items, item, Members, no_members, member}
 use Rattle.serde_json.specs.Find.{get, get_member, as_object, as_str}
-use Rattle.oim_meta.specs.declared.data.Column.{Column}
-use Rattle.oim_meta.specs.declared.data.ColumnKind.{ColumnKind}
-use Rattle.oim_meta.specs.declared.data.ColumnKind.TheVariants.{Fact, Groups, Comment, Plain}
-use Rattle.oim_meta.specs.declared.data.Table.{Table}
+use Rattle.oim_report.specs.declared.data.Column.{Column}
+use Rattle.oim_report.specs.declared.data.ColumnKind.{ColumnKind}
+use Rattle.oim_report.specs.declared.data.ColumnKind.TheVariants.{Fact, Groups, Comment, Plain}
+use Rattle.oim_report.specs.declared.data.Table.{Table}
 use Rattle.oim_meta.specs.Order.{IsInOrder}
-use Rattle.oim_meta.specs.Places.{HasColumns, IsReport}
+use Rattle.oim_report.specs.Places.{HasColumns, IsReport}
 use Rattle.oim_meta.specs.Members.{section, items_at, text_at, any_member, any_item, map_members, map_items, if_there}
 use Rattle.oim_meta.specs.Faults.{template_name, lacks_template_of, has_unknown_template, has_bad_identifier}
 use Rattle.oim_meta.specs.UnknownColumn.{is_fact, is_groups, column_at, lacks_column, lacks_groups, has_unknown_row_id, is_unknown_source, has_unknown_source, lacks_named_column, has_unknown_column}

@@ -6,7 +6,8 @@ use Rattle.std.specs.Map.{keys_of}
 use Rattle.std.specs.Cmp.Lexicographic.{slice_cmp}
 use Rattle.serde_json.specs.View.{members_view}
 use Rattle.serde_json.specs.declared.value.Value.{Value}
-use Rattle.oim_meta.specs.Order.{names_of, IsRising}
+use Rattle.oim_meta.specs.Order.{names_of}
+use Rattle.oim_report.specs.Rising.{IsRising}
 
 above : (x : String Global) (es : List (String Global × Value)) → AllByRecursion (λ y. string_cmp x y ≡ Less) (keys_of es)
     → AllByRecursion (λ y. slice_cmp nat_cmp (string_bytes x) y ≡ Less) (names_of (members_view es))

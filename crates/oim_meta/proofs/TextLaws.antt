@@ -15,11 +15,11 @@ use Rattle.oim_names.proofs.Cut.{name_lacks}
 use Rattle.oim_names.proofs.Truth.{two_true}
 use Rattle.oim_cells.specs.Cells.{Meaning, meaning_of}
 use Rattle.oim_cells.specs.Cells as meaning
-use Rattle.oim_meta.specs.declared.kind.Kind.{Kind}
-use Rattle.oim_meta.specs.declared.kind.Kind.TheVariants as kind
-use Rattle.oim_meta.specs.declared.data.Side.TheVariants.{Whole, Start, End}
-use Rattle.oim_meta.specs.declared.data.Written.{Written}
-use Rattle.oim_meta.specs.declared.data.Written.TheVariants.{Text}
+use Rattle.oim_report.specs.declared.kind.Kind.{Kind}
+use Rattle.oim_report.specs.declared.kind.Kind.TheVariants as kind
+use Rattle.oim_report.specs.declared.data.Side.TheVariants.{Whole, Start, End}
+use Rattle.oim_report.specs.declared.data.Written.{Written}
+use Rattle.oim_report.specs.declared.data.Written.TheVariants.{Text}
 use Rattle.oim_meta.specs.BadDimensions.{is_bad_meaning, front_name, name_in, is_bad_reference, is_bad_by_dollar, is_bad_text}
 use Rattle.oim_meta.specs.Writes.{IsLiteral, absent, nil, empty, text, Writes, literal, doubled, reference, at_start, at_end}
 use Rattle.oim_meta.specs.Written.{strip_front, strip_back, named, or_whole, reference_of, literal_by, unless_dollar, by_dollar, written_of}

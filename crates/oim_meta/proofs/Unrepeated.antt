@@ -28,9 +28,6 @@ differs_back t u h = at (bytes_eq u t) refl (bytes_eq-Decides u t)
     at false e d = refl
     at true e d = let same : u ≡ t = d.0 e in cc
 
-pub below-differs : (k l : List ℕ) → slice_cmp nat_cmp k l ≡ Less → bytes_eq k l ≡ false
-below-differs k l h = sym (is_eq-slice_cmp k l) ∙ ap is_eq h
-
 pub unlike : (a b : Bool) → a ≡ false → (not a && b) ≡ false → b ≡ false
 unlike true b e h = absurd cc
 unlike false b e h = h

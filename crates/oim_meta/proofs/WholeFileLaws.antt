@@ -1,7 +1,7 @@
 -- What a file of entries gives, of all its records at once.
 use Rattle.std.proofs.Common.{◌≡◌, ◌∙◌, ◌+◌, ℕ, zero, suc, List, [], ◌∷◌, take, Some, Result, Ok, Err, refl, add-zero, arith}
 use Rattle.oim_meta.specs.CsvFiles.{EntryFile, all_of, one_more, unless_bad}
-use Rattle.oim_meta.specs.Grid.{Record}
+use Rattle.oim_records.specs.Grids.{Record}
 use Rattle.oim_meta.specs.WholeFile.{IsEarliestBad, record_at}
 use Rattle.oim_meta.specs.declared.fault.MetaFault.{MetaFault}
 

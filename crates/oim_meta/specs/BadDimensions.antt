@@ -6,9 +6,9 @@ use Rattle.oim_names.specs.Names.{is_identifier}
 use Rattle.oim_names.specs.QName.{qname_of}
 use Rattle.oim_cells.specs.Cells.{Meaning, meaning_of}
 use Rattle.oim_cells.specs.Cells as meaning
-use Rattle.oim_meta.specs.Types.{TypesValue, kind_in}
-use Rattle.oim_meta.specs.declared.kind.Kind.{Kind}
-use Rattle.oim_meta.specs.declared.kind.Kind.TheVariants.{Number, Text, Boolean, Date, Name, Other, Explicit, Typed}
+use Rattle.oim_report.specs.Types.{TypesValue, kind_in}
+use Rattle.oim_report.specs.declared.kind.Kind.{Kind}
+use Rattle.oim_report.specs.declared.kind.Kind.TheVariants.{Number, Text, Boolean, Date, Name, Other, Explicit, Typed}
 use Rattle.oim_meta.specs.Members.{is_text, text_of, section, any_member}
 use Rattle.oim_meta.specs.Levels.{any_level}
 use Rattle.oim_meta.specs.Prefixes.{prefixes_of}

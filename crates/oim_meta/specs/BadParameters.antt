@@ -4,7 +4,7 @@ use Rattle.serde_json.specs.Data.{Data}
 use Rattle.serde_json.specs.Find.{get, as_str}
 use Rattle.oim_names.specs.Lookup.{value_at}
 use Rattle.oim_names.specs.Names.{is_identifier}
-use Rattle.oim_meta.specs.Parameters.{ParametersValue}
+use Rattle.oim_report.specs.Parameters.{ParametersValue}
 use Rattle.oim_meta.specs.Members.{is_text, section, any_member, if_there, no_object_or}
 use Rattle.oim_meta.specs.PlainPath.{is_plain_path}
 

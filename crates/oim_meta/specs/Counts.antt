@@ -1,7 +1,7 @@
 -- More tables, or more columns in a template, than the limits.
 use Rattle.std.specs.Prelude.{ℕ, suc, List, Bool, ◌||◌, nat_lt, codes}
 use Rattle.serde_json.specs.Data.{Data, Members, no_members, member}
-use Rattle.oim_meta.specs.declared.limits.Limits.{Limits}
+use Rattle.oim_report.specs.declared.limits.Limits.{Limits}
 use Rattle.oim_meta.specs.Members.{section, any_member}
 
 -- how many members there are

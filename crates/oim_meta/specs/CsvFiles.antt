@@ -4,11 +4,11 @@ use Rattle.std.specs.Borrow.{Bor}
 use Rattle.std.specs.Option.{ok_or, option_and_then, option_map_or}
 use Rattle.std.specs.Str.{is_utf8}
 use Rattle.csv.specs.Records.{field_at}
-use Rattle.oim_meta.specs.Grid.{Field, Record}
+use Rattle.oim_records.specs.Grids.{Field, Record}
 use Rattle.oim_meta.specs.declared.fault.MetaFault.{MetaFault}
 use Rattle.oim_meta.specs.declared.fault.MetaFault.TheVariants as fault
-use Rattle.oim_meta.specs.declared.records.ReadFault.{ReadFault}
-use Rattle.oim_meta.specs.declared.records.ReadFault.TheVariants as read
+use Rattle.oim_records.specs.declared.read_fault.ReadFault.{ReadFault}
+use Rattle.oim_records.specs.declared.read_fault.ReadFault.TheVariants as read
 
 -- the field at a place, if it is text
 abbrev pub text_of : Field → Option Field

@@ -8,8 +8,8 @@ use Rattle.oim_cells.specs.declared.cells.Accuracy.{Accuracy}
 use Rattle.oim_cells.specs.declared.cells.Accuracy.TheVariants.{Places}
 use Rattle.oim_meta.specs.Members.{text_of}
 use Rattle.oim_meta.specs.Written.{strip_front}
-use Rattle.oim_meta.specs.declared.data.WrittenDecimals.{WrittenDecimals}
-use Rattle.oim_meta.specs.declared.data.WrittenDecimals.TheVariants.{Absent, Fixed, RowNumber, Named}
+use Rattle.oim_report.specs.declared.data.WrittenDecimals.{WrittenDecimals}
+use Rattle.oim_report.specs.declared.data.WrittenDecimals.TheVariants.{Absent, Fixed, RowNumber, Named}
 
 abbrev pub fits_i32 : ℤ → Bool
 fits_i32 (pos n) = nat_lt n (2 ^ 31)

@@ -2,11 +2,11 @@
 use Rattle.std.specs.Prelude.{◌≡◌, ◌≤◌, Option, Some, None, true, false}
 use Rattle.serde_json.specs.Data.{Data}
 use Rattle.oim_meta.specs.declared.fault.MetaFault.{MetaFault}
-use Rattle.oim_meta.specs.declared.limits.Limits.{Limits}
+use Rattle.oim_report.specs.declared.limits.Limits.{Limits}
 use Rattle.oim_meta.specs.FaultNames.{fault_number}
 use Rattle.oim_meta.specs.FirstFault.{has_fault}
-use Rattle.oim_meta.specs.Parameters.{ParametersValue}
-use Rattle.oim_meta.specs.Types.{TypesValue}
+use Rattle.oim_report.specs.Parameters.{ParametersValue}
+use Rattle.oim_report.specs.Types.{TypesValue}
 
 -- a metadata has this fault and none with a lower number; or it has no fault at all
 abbrev pub IsLeastFault : Limits → ParametersValue → TypesValue → Data → Option MetaFault → Type 0

@@ -5,9 +5,9 @@ use Rattle.serde_json.specs.Find.{get}
 use Rattle.oim_meta.specs.declared.fault.MetaFault.{MetaFault}
 use Rattle.oim_meta.specs.declared.fault.MetaFault.TheVariants.{Syntax, NotReport, BadNamespaces, BadTaxonomy, Unsupported, BadIdentifier, BadTemplate, ColumnKinds, UnknownTemplate}
 use Rattle.oim_meta.specs.declared.fault.MetaFault.TheVariants.{UnknownColumn, BadDimension, BadDecimals, BadParameter, BadTypes, TooLarge, Memory, Read}
-use Rattle.oim_meta.specs.declared.limits.Limits.{Limits}
-use Rattle.oim_meta.specs.Parameters.{ParametersValue}
-use Rattle.oim_meta.specs.Types.{TypesValue}
+use Rattle.oim_report.specs.declared.limits.Limits.{Limits}
+use Rattle.oim_report.specs.Parameters.{ParametersValue}
+use Rattle.oim_report.specs.Types.{TypesValue}
 use Rattle.oim_meta.specs.Members.{if_there}
 use Rattle.oim_meta.specs.Faults.{has_no_report, has_bad_namespaces, has_bad_taxonomy, is_unsupported, has_bad_identifier, has_bad_shape, has_mixed_column, has_unknown_template}
 use Rattle.oim_meta.specs.UnknownColumn.{has_unknown_column}

@@ -1,12 +1,3 @@
-pub mod Types
-pub mod Parameters
-pub mod ReportValue
-pub mod Places
-pub mod Readers
-pub mod Grid
-pub mod Taking
-pub mod ReadFaults
-pub mod Named
 pub mod TypeWords
 pub mod TypesFile
 pub mod CsvFiles
@@ -14,7 +5,6 @@ pub mod ParametersFile
 pub mod WholeFile
 pub mod Members
 pub mod Order
-pub mod InOrder
 pub mod Written
 pub mod Decimals
 pub mod FaultNames

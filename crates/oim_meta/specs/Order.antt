@@ -4,17 +4,12 @@ use Rattle.std.specs.List.{AllByRecursion}
 use Rattle.std.specs.Ordering.{nat_cmp}
 use Rattle.std.specs.declared.cmp.Ordering.TheVariants.{Less}
 use Rattle.std.specs.Cmp.Lexicographic.{slice_cmp}
-use Rattle.std.specs.List.Sorted.{IsStrictlySortedBy}
 use Rattle.serde_json.specs.Data.{Data, null, boolean, number, string, array, object, Members, no_members, member}
 use Rattle.oim_names.specs.Lookup.{value_at}
 use Rattle.oim_meta.specs.Members.{text_of, any_member, map_members}
 
 abbrev pub names_of : Members → List (List ℕ)
 names_of = map_members (λ k _. k)
-
--- each name is below those after it, in byte order
-abbrev pub IsRising : List (List ℕ) → Type 0
-IsRising = IsStrictlySortedBy (slice_cmp nat_cmp)
 
 -- another name has this text
 abbrev pub has_other : List ℕ → List ℕ → Members → Bool

@@ -5,8 +5,8 @@ use Rattle.std.specs.Str.{bytes_eq}
 use Rattle.oim_names.specs.Lookup.{value_at}
 use Rattle.oim_names.specs.Names.{is_identifier}
 use Rattle.oim_meta.specs.CsvFiles.{EntryFile, file_result, two_texts}
-use Rattle.oim_meta.specs.Grid.{Field, Record}
-use Rattle.oim_meta.specs.Parameters.{ParametersValue}
+use Rattle.oim_records.specs.Grids.{Field, Record}
+use Rattle.oim_report.specs.Parameters.{ParametersValue}
 use Rattle.oim_meta.specs.declared.fault.MetaFault.{MetaFault}
 use Rattle.oim_meta.specs.declared.fault.MetaFault.TheVariants as fault
 

@@ -7,10 +7,10 @@ use Rattle.serde_json.specs.Errors.{IsMemory}
 use Rattle.serde_json.specs.declared.error.Error.{Error}
 use Rattle.oim_meta.specs.declared.fault.MetaFault.{MetaFault}
 use Rattle.oim_meta.specs.declared.fault.MetaFault.TheVariants.{Syntax, NotReport, BadParameter, TooLarge, Memory}
-use Rattle.oim_meta.specs.declared.limits.Limits.{Limits}
-use Rattle.oim_meta.specs.Parameters.{ParametersValue}
-use Rattle.oim_meta.specs.Types.{TypesValue}
-use Rattle.oim_meta.specs.ReportValue.{ReportValue}
+use Rattle.oim_report.specs.declared.limits.Limits.{Limits}
+use Rattle.oim_report.specs.Parameters.{ParametersValue}
+use Rattle.oim_report.specs.Types.{TypesValue}
+use Rattle.oim_report.specs.ReportValue.{ReportValue}
 use Rattle.oim_meta.specs.Members.{text_at}
 use Rattle.oim_meta.specs.Faults.{has_no_report}
 use Rattle.oim_meta.specs.BadParameters.{has_bad_parameter_url}

@@ -7,8 +7,8 @@ use Rattle.oim_names.specs.Names.{is_identifier, is_ncname}
 use Rattle.oim_meta.specs.Members.{section, text_at, text_of}
 use Rattle.oim_meta.specs.Faults.{info_at, template_name}
 use Rattle.oim_meta.specs.PlainPath.{is_plain_path}
-use Rattle.oim_meta.specs.declared.data.ColumnKind.{ColumnKind}
-use Rattle.oim_meta.specs.declared.data.ColumnKind.TheVariants.{Fact, Groups, Comment}
+use Rattle.oim_report.specs.declared.data.ColumnKind.{ColumnKind}
+use Rattle.oim_report.specs.declared.data.ColumnKind.TheVariants.{Fact, Groups, Comment}
 
 abbrev pub AllMembers : (List ℕ → Data → Type 0) → Members → Type 0
 AllMembers P no_members = ⊤

@@ -5,9 +5,9 @@ use Rattle.std.specs.Str.{bytes_eq}
 use Rattle.oim_names.specs.Lookup.{value_at}
 use Rattle.oim_cells.specs.declared.cells.NumberKind.TheVariants as number
 use Rattle.oim_meta.specs.CsvFiles.{three_texts}
-use Rattle.oim_meta.specs.Grid.{Field, Record}
-use Rattle.oim_meta.specs.declared.kind.Kind.{Kind}
-use Rattle.oim_meta.specs.declared.kind.Kind.TheVariants as kind
+use Rattle.oim_records.specs.Grids.{Field, Record}
+use Rattle.oim_report.specs.declared.kind.Kind.{Kind}
+use Rattle.oim_report.specs.declared.kind.Kind.TheVariants as kind
 use Rattle.oim_meta.specs.declared.type_words.TypeWords.{TypeWords}
 use Rattle.oim_meta.specs.declared.type_words.TypeWords.TheVariants.{Plain, Wider}
 

@@ -5,16 +5,12 @@ use Rattle.std.specs.Option.{option_and_then, option_map}
 use Rattle.oim_names.specs.Lookup.{value_at}
 use Rattle.oim_names.specs.Names.{is_ncname}
 use Rattle.oim_meta.specs.CsvFiles.{EntryFile, file_result, three_texts}
-use Rattle.oim_meta.specs.Grid.{Field, Record}
-use Rattle.oim_meta.specs.Types.{TypesValue, kind_in}
+use Rattle.oim_records.specs.Grids.{Field, Record}
+use Rattle.oim_report.specs.Types.{TypesValue, kind_in, with_kind}
 use Rattle.oim_meta.specs.TypeWords.{Words, words_chosen}
 use Rattle.oim_meta.specs.declared.fault.MetaFault.{MetaFault}
 use Rattle.oim_meta.specs.declared.fault.MetaFault.TheVariants as fault
-use Rattle.oim_meta.specs.declared.kind.Kind.{Kind}
-
--- the types with one more record, the last
-abbrev pub with_kind : TypesValue → List ℕ → List ℕ → Kind → TypesValue
-with_kind types uri local k = types ++ record { uri = uri; local = local; kind = k } ∷ []
+use Rattle.oim_report.specs.declared.kind.Kind.{Kind}
 
 -- a name is an NCName that no earlier record has in its namespace, and its type is one of the words
 abbrev pub with_type : Words → TypesValue → Field × Field × Field → Option TypesValue

@@ -3,8 +3,8 @@
 use Rattle.std.specs.Prelude.{ℕ, List, Bool, true, false, not, ◌||◌, ◌&&◌, Option, option_map, option_and_then, unwrap_or, is_none, codes}
 use Rattle.serde_json.specs.Data.{Data}
 use Rattle.serde_json.specs.Find.{get, as_str}
-use Rattle.oim_meta.specs.declared.data.ColumnKind.{ColumnKind}
-use Rattle.oim_meta.specs.declared.data.ColumnKind.TheVariants.{Fact, Groups, Comment, Plain}
+use Rattle.oim_report.specs.declared.data.ColumnKind.{ColumnKind}
+use Rattle.oim_report.specs.declared.data.ColumnKind.TheVariants.{Fact, Groups, Comment, Plain}
 use Rattle.oim_meta.specs.Members.{text_at, section, items_at, any_member, any_item, if_there}
 use Rattle.oim_meta.specs.Value.{kind_of}
 

@@ -4,17 +4,17 @@ use Rattle.std.specs.Prelude.{ℕ, suc, List, [], ◌∷◌, ◌++◌, Bool, fal
 use Rattle.std.specs.List.{list_any}
 use Rattle.serde_json.specs.Data.{Data, null, Items, Members, no_members, member}
 use Rattle.serde_json.specs.Find.{get, as_bool, as_str}
-use Rattle.oim_meta.specs.Types.{TypesValue}
-use Rattle.oim_meta.specs.Parameters.{ParametersValue}
-use Rattle.oim_meta.specs.ReportValue.{ReportValue}
-use Rattle.oim_meta.specs.declared.data.Info.{Info}
-use Rattle.oim_meta.specs.declared.data.Level.{Level}
-use Rattle.oim_meta.specs.declared.data.Column.{Column}
-use Rattle.oim_meta.specs.declared.data.ColumnKind.{ColumnKind}
-use Rattle.oim_meta.specs.declared.data.ColumnKind.TheVariants.{Fact, Groups, Comment, Plain}
-use Rattle.oim_meta.specs.declared.data.Table.{Table}
-use Rattle.oim_meta.specs.declared.data.Template.{Template}
-use Rattle.oim_meta.specs.declared.data.Written.{Written}
+use Rattle.oim_report.specs.Types.{TypesValue}
+use Rattle.oim_report.specs.Parameters.{ParametersValue}
+use Rattle.oim_report.specs.ReportValue.{ReportValue}
+use Rattle.oim_report.specs.declared.data.Info.{Info}
+use Rattle.oim_report.specs.declared.data.Level.{Level}
+use Rattle.oim_report.specs.declared.data.Column.{Column}
+use Rattle.oim_report.specs.declared.data.ColumnKind.{ColumnKind}
+use Rattle.oim_report.specs.declared.data.ColumnKind.TheVariants.{Fact, Groups, Comment, Plain}
+use Rattle.oim_report.specs.declared.data.Table.{Table}
+use Rattle.oim_report.specs.declared.data.Template.{Template}
+use Rattle.oim_report.specs.declared.data.Written.{Written}
 use Rattle.oim_meta.specs.Members.{text_of, text_at, section, items_at, map_members, map_items}
 use Rattle.oim_meta.specs.Faults.{template_name}
 use Rattle.oim_meta.specs.Prefixes.{prefixes_of}

@@ -3,11 +3,11 @@ use Rattle.std.specs.Prelude.{ℕ, ◌+◌, ◌≡◌, ◌&&◌, if◌then◌els
 use Rattle.std.specs.Option.{option_and_then, option_or}
 use Rattle.std.specs.Str.{bytes_eq}
 use Rattle.oim_meta.specs.CsvFiles.{EntryFile, all_of, one_more, three_texts}
-use Rattle.oim_meta.specs.Grid.{Field, Record}
+use Rattle.oim_records.specs.Grids.{Field, Record}
 use Rattle.oim_names.specs.Lookup.{value_at}
 use Rattle.oim_meta.specs.TypeWords.{Words}
 use Rattle.oim_meta.specs.declared.fault.MetaFault.{MetaFault}
-use Rattle.oim_meta.specs.declared.kind.Kind.{Kind}
+use Rattle.oim_report.specs.declared.kind.Kind.{Kind}
 
 -- the record at a place
 abbrev pub record_at : List Record → ℕ → Option Record

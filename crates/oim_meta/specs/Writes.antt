@@ -5,11 +5,11 @@ use Rattle.std.specs.List.{starts_with}
 use Rattle.oim_names.specs.Names.{is_identifier}
 use Rattle.oim_cells.specs.Cells.{Meaning, meaning_of}
 use Rattle.oim_cells.specs.Cells as meaning
-use Rattle.oim_meta.specs.declared.kind.Kind.{Kind}
-use Rattle.oim_meta.specs.declared.kind.Kind.TheVariants.{Typed}
-use Rattle.oim_meta.specs.declared.data.Side.TheVariants.{Whole, Start, End}
-use Rattle.oim_meta.specs.declared.data.Written.{Written}
-use Rattle.oim_meta.specs.declared.data.Written.TheVariants.{Absent, Nil, Empty, Text}
+use Rattle.oim_report.specs.declared.kind.Kind.{Kind}
+use Rattle.oim_report.specs.declared.kind.Kind.TheVariants.{Typed}
+use Rattle.oim_report.specs.declared.data.Side.TheVariants.{Whole, Start, End}
+use Rattle.oim_report.specs.declared.data.Written.{Written}
+use Rattle.oim_report.specs.declared.data.Written.TheVariants.{Absent, Nil, Empty, Text}
 use Rattle.oim_meta.specs.Written.{named}
 
 -- a literal by its meaning, for a dimension of this kind; nil and empty are values of typed dimensions only

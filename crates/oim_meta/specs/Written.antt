@@ -4,10 +4,10 @@ use Rattle.std.specs.Prelude.{ℕ, ◌-◌, List, bytes_eq, nat_eq, length, take
 use Rattle.std.specs.List.{starts_with, ends_with}
 use Rattle.oim_cells.specs.Cells.{Meaning, meaning_of}
 use Rattle.oim_cells.specs.Cells as meaning
-use Rattle.oim_meta.specs.declared.data.Side.{Side}
-use Rattle.oim_meta.specs.declared.data.Side.TheVariants.{Whole, Start, End}
-use Rattle.oim_meta.specs.declared.data.Written.{Written}
-use Rattle.oim_meta.specs.declared.data.Written.TheVariants.{Absent, Nil, Empty, Text, RowNumber, Named}
+use Rattle.oim_report.specs.declared.data.Side.{Side}
+use Rattle.oim_report.specs.declared.data.Side.TheVariants.{Whole, Start, End}
+use Rattle.oim_report.specs.declared.data.Written.{Written}
+use Rattle.oim_report.specs.declared.data.Written.TheVariants.{Absent, Nil, Empty, Text, RowNumber, Named}
 
 -- the text after the prefix p
 unfoldable pub strip_front : List ℕ → List ℕ → Option (List ℕ)

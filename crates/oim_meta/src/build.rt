@@ -21,12 +21,9 @@ mod templates;
 use crate::build::levels::level;
 use crate::build::made::{copied, list_from, texts_at};
 use crate::build::tables::tables;
-use crate::data::{Info, Level, Table, Template};
 use crate::lookup::text_at;
-use crate::parameters::Parameters;
-use crate::report::Report;
-use crate::types::Types;
 use oim_names::{Items, Namespaces, Text};
+use oim_report::{Info, Level, Parameters, Report, Table, Template, Types};
 use serde_json::Value;
 use std::alloc::{AllocError, Global};
 pub(crate) use templates::kind_of;
@@ -90,14 +87,13 @@ pub(crate) fn report(
 {
     let own: Items<(Text, Text)> = list_from(alloc, value, "parameters")?;
     let parts = built(alloc, value)?;
-    Ok(Report {
-        info: parts.info,
+    Ok(Report::new(
+        parts.info,
         namespaces,
         types,
-        level: parts.level,
-        templates: parts.templates,
-        tables: parts.tables,
-        parameters: own,
-        given: parameters,
-    })
+        parts.level,
+        parts.templates,
+        parts.tables,
+        (own, parameters),
+    ))
 }

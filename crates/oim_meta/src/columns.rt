@@ -7,8 +7,8 @@ ghost use Rattle.oim_meta.specs.UnknownColumn.{column_at as column_named, lacks_
 ghost use Rattle.oim_meta.specs.UnknownColumn.{has_unknown_source, lacks_named_column, has_unknown_column};
 
 use crate::build::kind_of;
-use crate::data::ColumnKind;
 use crate::lookup::{list_at, object_at, text_at};
+use oim_report::ColumnKind;
 use serde_json::{Map, Value};
 
 /// The column of a template with this name.

@@ -5,10 +5,10 @@ ghost use Rattle.serde_json.specs.View.{view};
 ghost use Rattle.oim_cells.specs.Cells.{accuracy_of};
 ghost use Rattle.oim_meta.specs.Decimals.{in_range as range_of, whole_of, named_decimals, fixed_by, text_decimals as decimals_in, decimals_of};
 
-use crate::data::WrittenDecimals;
 use crate::written::strip_front;
 use oim_cells::Accuracy;
 use oim_names::Text;
+use oim_report::WrittenDecimals;
 use serde_json::Value;
 use std::alloc::{AllocError, Global};
 

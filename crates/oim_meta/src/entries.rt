@@ -4,11 +4,11 @@ ghost use Rattle.std.specs.Prelude.{◌≡◌, ◌⊎◌, Option, Err, IfOk, IfS
 ghost use Rattle.std.specs.Option.{ok_or, option_map};
 ghost use Rattle.csv.specs.Records.{fields_of};
 ghost use Rattle.oim_meta.specs.CsvFiles.{EntryFile, OrOutside, all_of, file_result};
-ghost use Rattle.oim_meta.specs.Grid.{Record, grid};
+ghost use Rattle.oim_records.specs.Grids.{Record, grid};
 
 use crate::fault::MetaFault;
-use crate::records::Records;
 use csv::ByteRecord;
+use oim_records::Records;
 use std::alloc::{AllocError, Global};
 use std::io::Read;
 

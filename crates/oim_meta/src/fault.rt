@@ -4,7 +4,7 @@ ghost use Rattle.std.specs.Prelude.{◌≡◌};
 ghost use Rattle.oim_meta.specs.CsvFiles.{fault_of_read};
 ghost use Rattle.oim_meta.specs.FaultNames.{fault_number, fault_name};
 
-use crate::records::ReadFault;
+use oim_records::ReadFault;
 use std::alloc::AllocError;
 use std::error::Error;
 use std::fmt;

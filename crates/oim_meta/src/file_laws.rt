@@ -2,9 +2,9 @@
 
 ghost use Rattle.std.specs.Prelude.{◌≡◌, ◌↔◌, ℕ, List, [], Ok, Err};
 ghost use Rattle.oim_meta.specs.CsvFiles.{all_of};
-ghost use Rattle.oim_meta.specs.Grid.{Record};
+ghost use Rattle.oim_records.specs.Grids.{Record};
 ghost use Rattle.oim_meta.specs.ParametersFile.{parameters_file};
-ghost use Rattle.oim_meta.specs.Types.{TypesValue, kind_in};
+ghost use Rattle.oim_report.specs.Types.{TypesValue, kind_in};
 ghost use Rattle.oim_meta.specs.TypeWords.{Words};
 ghost use Rattle.oim_meta.specs.TypesFile.{types_file};
 ghost use Rattle.oim_meta.specs.WholeFile.{IsEarliestBad, kind_said};

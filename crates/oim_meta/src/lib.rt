@@ -21,46 +21,35 @@
 #![tactic(auto)]
 
 mod build;
-mod by_name;
 mod check;
-mod clone;
 mod columns;
-mod data;
 mod decimals;
 mod entries;
 mod fault;
 mod fault_laws;
 mod fields;
 mod file_laws;
-mod kind;
-mod limits;
 mod lookup;
 mod members;
-mod named;
 mod order;
 mod parameters;
 mod read;
-mod readers;
-mod records;
-mod report;
 mod shape_laws;
 mod text_laws;
 mod type_words;
-mod typed_name;
 mod types;
 mod written;
 
-pub use data::{Column, ColumnKind, Info, Level, Side, Table, Template, Written, WrittenDecimals};
 pub use fault::MetaFault;
 pub use fault_laws::first_fault_is_least;
 pub use file_laws::{fault_is_of_earliest_record, types_are_of_all_records};
-pub use kind::Kind;
-pub use limits::Limits;
-pub use parameters::{Parameters, read_parameters};
+pub use oim_records::{ReadFault, Records};
+pub use oim_report::{
+    Column, ColumnKind, Info, Kind, Level, Limits, Parameters, Report, Side, Table, Template,
+    TypedName, Types, Written, WrittenDecimals,
+};
+pub use parameters::read_parameters;
 pub use read::{parameter_url, read_report};
-pub use records::{ReadFault, Records};
-pub use report::Report;
 pub use shape_laws::faults_of_shape_are_parts_without_it;
 pub use text_laws::a_text_writes_one_value;
-pub use typed_name::TypedName;
-pub use types::{Types, read_types};
+pub use types::read_types;

@@ -4,7 +4,7 @@ ghost use Rattle.std.specs.Prelude.{◌≡◌, [], IfOk};
 ghost use Rattle.serde_json.specs.View.{members_view};
 ghost use Rattle.oim_meta.specs.Order.{repeats_seen, repeats_text as repeated};
 
-use crate::named::Named;
+use oim_report::Named;
 use serde_json::{Map, Value};
 use std::alloc::{AllocError, Global};
 

@@ -1,85 +1,18 @@
-//! The parameters of a report, and the parameters file.
+//! The parameters file.
 
-ghost use Rattle.std.specs.Prelude.{◌≡◌, ◌++◌, ◌∷◌, [], IfOk, IfSome, None, is_some};
-ghost use Rattle.std.specs.Option.{option_map};
-ghost use Rattle.oim_names.specs.Lookup.{value_at};
+ghost use Rattle.std.specs.Prelude.{IfSome};
 ghost use Rattle.oim_meta.specs.CsvFiles.{OrOutside};
-ghost use Rattle.oim_meta.specs.Grid.{grid};
+ghost use Rattle.oim_records.specs.Grids.{grid};
 ghost use Rattle.oim_meta.specs.ParametersFile.{parameters_result};
 
 use crate::entries::{Entries, read_file};
 use crate::fault::MetaFault;
 use crate::fields::texts_of_two;
-use crate::named::Named;
 use csv::ByteRecord;
-use oim_names::{Text, is_identifier};
+use oim_names::is_identifier;
+use oim_report::Parameters;
 use std::alloc::{AllocError, Global};
 use std::io::Read;
-use std::marker::Model;
-
-/// The parameters of a parameters file (xBRL-CSV 1.0, parameters). A contract sees the names with
-/// their values, in file order.
-#[derive(Drop)]
-pub struct Parameters {
-    entries: Named<Text>,
-}
-
-impl Model for Parameters {
-    ghost use Rattle.oim_meta.specs.Parameters.{ParametersValue};
-
-    ghost Value = { ParametersValue };
-
-    ghost view = { λ p. p.entries };
-}
-
-impl Clone for Parameters {
-    ghost is_clone = { λ v w. w ≡ v };
-
-    fn clone(&self) -> Result<Parameters, AllocError> {
-        Ok(Parameters {
-            entries: self.entries.clone()?,
-        })
-    }
-}
-
-impl Parameters {
-    /// No parameters. It takes no memory.
-    pub fn none(alloc: Global) -> Parameters
-        ensures { result ≡ [] }
-    {
-        Parameters {
-            entries: Named::new(alloc),
-        }
-    }
-
-    /// Whether a name is among them. It does not search through all names.
-    pub(crate) fn has_name(&self, name: &str) -> bool
-        ensures { result ≡ is_some (value_at name.now self.now) }
-    {
-        self.entries.get(name).is_some()
-    }
-
-    /// The value of a name. It does not search through all names.
-    pub(crate) fn value(&self, name: &str) -> Option<&Text>
-        ensures { option_map (λ t. t.now) result ≡ value_at name.now self.now }
-    {
-        if self.entries.is_empty() {
-            return None;
-        }
-        self.entries.get(name)
-    }
-
-    /// The same parameters and one more, the last.
-    fn with(self, alloc: Global, name: &str, value: &str) -> Result<Parameters, AllocError>
-        requires { value_at name.now self ≡ None }
-        ensures { IfOk result (λ more. more ≡ self ++ (name.now, value.now) ∷ []) }
-    {
-        let Parameters { mut entries } = self;
-        let value = Text::from_str(alloc, value)?;
-        entries.push(String::from_str(alloc, name)?, value)?;
-        Ok(Parameters { entries })
-    }
-}
 
 /// How many parameters a file may have.
 const MOST_PARAMETERS: usize = 65_536;

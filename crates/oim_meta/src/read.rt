@@ -4,15 +4,15 @@ ghost use Rattle.std.specs.Prelude.{◌≡◌, ◌⊎◌, codes, false, if◌the
 ghost use Rattle.serde_json.specs.Find.{get};
 ghost use Rattle.serde_json.specs.View.{view};
 ghost use Rattle.oim_meta.specs.declared.fault.MetaFault.TheVariants.{Memory};
-ghost use Rattle.oim_meta.specs.declared.limits.Limits.{Limits as LimitsValue};
+ghost use Rattle.oim_report.specs.declared.limits.Limits.{Limits as LimitsValue};
 ghost use Rattle.oim_meta.specs.Members.{if_there};
 ghost use Rattle.oim_meta.specs.Faults.{has_bad_identifier, has_bad_namespaces, has_no_report, has_unknown_template};
 ghost use Rattle.oim_meta.specs.Order.{IsInOrder};
 ghost use Rattle.oim_meta.specs.Prefixes.{prefixes_of};
 ghost use Rattle.oim_meta.specs.UnknownColumn.{has_unknown_column};
 ghost use Rattle.oim_meta.specs.FirstFault.{early_fault, first_fault, late_fault};
-ghost use Rattle.oim_meta.specs.Parameters.{ParametersValue};
-ghost use Rattle.oim_meta.specs.Types.{TypesValue};
+ghost use Rattle.oim_report.specs.Parameters.{ParametersValue};
+ghost use Rattle.oim_report.specs.Types.{TypesValue};
 ghost use Rattle.oim_meta.specs.Value.{report_of};
 ghost use Rattle.oim_meta.specs.Reading.{IsJson, IsNoJson, IsFaultOf, SaysReport, IsFault, SaysUrl, IsUrlFault, first_url_fault};
 
@@ -30,12 +30,9 @@ use crate::check::shapes::bad_shape;
 use crate::check::templates::unknown_template;
 use crate::columns::unknown_column;
 use crate::fault::MetaFault;
-use crate::limits::Limits;
 use crate::lookup::text_at;
-use crate::parameters::Parameters;
-use crate::report::Report;
-use crate::types::Types;
 use oim_names::{Namespaces, Text};
+use oim_report::{Limits, Parameters, Report, Types};
 use serde_json::{Error, Value};
 use std::alloc::Global;
 

@@ -1,8 +1,8 @@
 //! The law of what the texts of a metadata write.
 
 ghost use Rattle.std.specs.Prelude.{◌≡◌, ◌↔◌, ℕ, List, Option, true, false};
-ghost use Rattle.oim_meta.specs.declared.data.Written.{Written};
-ghost use Rattle.oim_meta.specs.declared.kind.Kind.{Kind};
+ghost use Rattle.oim_report.specs.declared.data.Written.{Written};
+ghost use Rattle.oim_report.specs.declared.kind.Kind.{Kind};
 ghost use Rattle.oim_meta.specs.BadDimensions.{is_bad_text};
 ghost use Rattle.oim_meta.specs.Writes.{Writes};
 ghost use Rattle.oim_meta.specs.Written.{written_of};

@@ -7,9 +7,9 @@ ghost use Rattle.oim_names.specs.Lookup.{value_at};
 ghost use Rattle.oim_meta.specs.TypeWords.{plain_words, tables_of_words, wider_words, words_chosen, words_in};
 
 use crate::fields::texts_of_three;
-use crate::kind::Kind;
 use csv::ByteRecord;
 use oim_cells::NumberKind;
+use oim_report::Kind;
 
 /// A table of words, as the header of a types table chooses it.
 #[derive(Clone, Copy)]

@@ -4,9 +4,9 @@ ghost use Rattle.std.specs.Prelude.{◌≡◌, IfOk, option_map};
 ghost use Rattle.oim_cells.specs.Cells.{meaning_of};
 ghost use Rattle.oim_meta.specs.Written.{strip_front as front_stripped, strip_back as back_stripped, named as named_of, reference_of, literal_by, written_of};
 
-use crate::data::{Side, Written};
 use oim_cells::{CellMeaning, meaning};
 use oim_names::Text;
+use oim_report::{Side, Written};
 use std::alloc::{AllocError, Global};
 
 pub(crate) fn strip_front<'a>(text: &'a str, front: &str) -> Option<&'a str>

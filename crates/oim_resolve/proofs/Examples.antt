@@ -18,21 +18,21 @@ use Rattle.oim_period.specs.Dates.{is_date_text}
 use Rattle.oim_period.specs.Digits.{one_at, two_at, four_at}
 use Rattle.oim_period.specs.Periods.{start_of, end_of, found, first_some, moment_by, moment_of, days_by, days_of, whole_days, in_order, pair_of}
 use Rattle.oim_period.specs.Periods.{duration_of, without, period_of, first_number, year_of, month_of, date_in_year, day_text, moment_text, period_text}
-use Rattle.oim_meta.specs.ReportValue.{ReportValue}
-use Rattle.oim_meta.specs.Types.{TypesValue}
-use Rattle.oim_meta.specs.declared.data.Column.{Column}
-use Rattle.oim_meta.specs.declared.data.ColumnKind.TheVariants as column
-use Rattle.oim_meta.specs.declared.data.Level.{Level}
-use Rattle.oim_meta.specs.declared.data.Side.TheVariants as side
-use Rattle.oim_meta.specs.declared.data.Table.{Table}
-use Rattle.oim_meta.specs.declared.data.Template.{Template}
-use Rattle.oim_meta.specs.declared.data.Written.{Written}
-use Rattle.oim_meta.specs.declared.data.Written.TheVariants as w
-use Rattle.oim_meta.specs.declared.data.WrittenDecimals.{WrittenDecimals}
-use Rattle.oim_meta.specs.declared.data.WrittenDecimals.TheVariants as d
-use Rattle.oim_meta.specs.declared.kind.Kind.{Kind}
-use Rattle.oim_meta.specs.declared.kind.Kind.TheVariants as kind
-use Rattle.oim_meta.specs.declared.typed_name.TypedName.{TypedName}
+use Rattle.oim_report.specs.ReportValue.{ReportValue}
+use Rattle.oim_report.specs.Types.{TypesValue}
+use Rattle.oim_report.specs.declared.data.Column.{Column}
+use Rattle.oim_report.specs.declared.data.ColumnKind.TheVariants as column
+use Rattle.oim_report.specs.declared.data.Level.{Level}
+use Rattle.oim_report.specs.declared.data.Side.TheVariants as side
+use Rattle.oim_report.specs.declared.data.Table.{Table}
+use Rattle.oim_report.specs.declared.data.Template.{Template}
+use Rattle.oim_report.specs.declared.data.Written.{Written}
+use Rattle.oim_report.specs.declared.data.Written.TheVariants as w
+use Rattle.oim_report.specs.declared.data.WrittenDecimals.{WrittenDecimals}
+use Rattle.oim_report.specs.declared.data.WrittenDecimals.TheVariants as d
+use Rattle.oim_report.specs.declared.kind.Kind.{Kind}
+use Rattle.oim_report.specs.declared.kind.Kind.TheVariants as kind
+use Rattle.oim_report.specs.declared.typed_name.TypedName.{TypedName}
 use Rattle.oim_resolve.specs.declared.fact.Row.{Row}
 use Rattle.oim_resolve.specs.FactParts.{FactParts as Fact}
 use Rattle.oim_resolve.specs.declared.fact.CellFault.{CellFault}

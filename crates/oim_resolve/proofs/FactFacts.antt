@@ -1,6 +1,6 @@
 -- The identifier of the fact of a cell: table, row and column.
 use Rattle.std.proofs.Common.{◌≡◌, ◌++◌, Bool, true, false, codes, Option, Some, None, Result, Ok, Err, refl, sym, ap, ◌∙◌}
-use Rattle.oim_meta.specs.Readers.{table_of}
+use Rattle.oim_report.specs.Readers.{table_of}
 use Rattle.oim_resolve.specs.FactParts.{FactParts as Fact}
 use Rattle.oim_resolve.specs.declared.fact.CellFault.{CellFault}
 use Rattle.oim_resolve.specs.Cell.{Cell, column}

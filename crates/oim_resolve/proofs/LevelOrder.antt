@@ -5,11 +5,11 @@ use Rattle.std.specs.List.{All, AllByRecursion}
 use Rattle.std.specs.List.Sorted.{IsStrictlySortedBy}
 use Rattle.std.specs.Str.{bytes_eq}
 use Rattle.oim_names.specs.Lookup.{value_at}
-use Rattle.oim_meta.specs.InOrder.{PartsRise, TemplateRises, LevelRises}
-use Rattle.oim_meta.specs.Readers.{column_of, table_of, template_of, no_template}
-use Rattle.oim_meta.specs.ReportValue.{ReportValue}
-use Rattle.oim_meta.specs.declared.data.Level.{Level}
-use Rattle.oim_meta.proofs.GroupOrder.{column_rises}
+use Rattle.oim_report.specs.InOrder.{PartsRise, TemplateRises, LevelRises}
+use Rattle.oim_report.specs.Readers.{column_of, table_of, template_of, no_template}
+use Rattle.oim_report.specs.ReportValue.{ReportValue}
+use Rattle.oim_report.specs.declared.data.Level.{Level}
+use Rattle.oim_report.proofs.GroupOrder.{column_rises}
 
 each_at : {X : Type 0} (P : X → Type 0) (xs : List X) (d : X) → AllByRecursion P xs → P d → (k : ℕ) → P (slice_index_or xs k d)
 each_at P [] d all other k = other

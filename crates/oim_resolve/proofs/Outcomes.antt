@@ -8,7 +8,7 @@ use Rattle.oim_resolve.specs.Faults.{least, unless, both}
 use Rattle.oim_resolve.specs.FactValues.{ValueParts, value_given, faults_in, text_in, accuracy_in}
 use Rattle.oim_resolve.specs.ProgramValues.{text_read}
 use Rattle.std.specs.List.{flat_map}
-use Rattle.oim_meta.specs.declared.kind.Kind.{Kind}
+use Rattle.oim_report.specs.declared.kind.Kind.{Kind}
 use Rattle.oim_resolve.specs.Written.{levels, names}
 use Rattle.oim_resolve.proofs.LeastFaults.{both_unless, pair}
 use Rattle.oim_cells.specs.Cells.{Meaning}

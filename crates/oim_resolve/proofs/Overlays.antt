@@ -15,10 +15,10 @@ use Rattle.std.proofs.lemmas.List.Sums.{fold-append}
 use Rattle.std.proofs.lemmas.Grind.{flat_map-append}
 use Rattle.std.proofs.lemmas.Slice.Eq.{bytes_eq-Decides}
 use Rattle.oim_names.specs.Lookup.{value_at}
-use Rattle.oim_meta.specs.ReportValue.{ReportValue}
-use Rattle.oim_meta.specs.Readers.{column_of, template_of}
-use Rattle.oim_meta.specs.declared.data.Level.{Level}
-use Rattle.oim_meta.specs.declared.data.Written.{Written}
+use Rattle.oim_report.specs.ReportValue.{ReportValue}
+use Rattle.oim_report.specs.Readers.{column_of, template_of}
+use Rattle.oim_report.specs.declared.data.Level.{Level}
+use Rattle.oim_report.specs.declared.data.Written.{Written}
 use Rattle.oim_resolve.specs.Cell.{Cell, column, meaning_at}
 use Rattle.oim_resolve.specs.ProgramLevels.{named, merged_at, merged_levels, written_names, put_levels}
 use Rattle.oim_resolve.specs.ProgramDimensions.{row_entries, written_entries}

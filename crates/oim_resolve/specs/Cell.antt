@@ -1,10 +1,10 @@
 -- A cell: a row of a table of a report, and the place of a column. (xBRL-CSV 1.0, tables: each cell of a fact column is a fact or none)
 use Rattle.std.specs.Prelude.{◌<◌, ◌≡◌, ℕ, List, [], length, slice_index_or}
 use Rattle.oim_cells.specs.Cells.{Meaning, meaning_of}
-use Rattle.oim_meta.specs.ReportValue.{ReportValue}
-use Rattle.oim_meta.specs.declared.data.Column.{Column}
-use Rattle.oim_meta.specs.declared.data.ColumnKind.TheVariants.{Fact}
-use Rattle.oim_meta.specs.Readers.{column_of, columns_of}
+use Rattle.oim_report.specs.ReportValue.{ReportValue}
+use Rattle.oim_report.specs.declared.data.Column.{Column}
+use Rattle.oim_report.specs.declared.data.ColumnKind.TheVariants.{Fact}
+use Rattle.oim_report.specs.Readers.{column_of, columns_of}
 use Rattle.oim_resolve.specs.declared.fact.Row.{Row}
 
 pub record Cell : Type 0 where

@@ -8,9 +8,9 @@ use Rattle.oim_cells.specs.Cells.{Meaning, numeral_of}
 use Rattle.oim_cells.specs.Cells as m
 use Rattle.oim_cells.specs.declared.cells.Accuracy.{Accuracy}
 use Rattle.oim_period.specs.Dates.{is_date_text}
-use Rattle.oim_meta.specs.declared.kind.Kind.{Kind}
-use Rattle.oim_meta.specs.declared.kind.Kind.TheVariants as kind
-use Rattle.oim_meta.specs.ReportValue.{ReportValue}
+use Rattle.oim_report.specs.declared.kind.Kind.{Kind}
+use Rattle.oim_report.specs.declared.kind.Kind.TheVariants as kind
+use Rattle.oim_report.specs.ReportValue.{ReportValue}
 use Rattle.oim_resolve.specs.declared.fact.CellFault.{CellFault}
 use Rattle.oim_resolve.specs.declared.fact.CellFault.TheVariants.{BadNumber, BadFactValue}
 

@@ -11,18 +11,18 @@ use Rattle.oim_names.specs.QName.{qname_of, sqname_of}
 use Rattle.oim_names.specs.Unit.{unit_of}
 use Rattle.oim_names.specs.Language.{language_of}
 use Rattle.oim_period.specs.Periods.{period_of, start_of, end_of, period_text}
-use Rattle.oim_meta.specs.Readers.{column_of, table_of, kind_of}
+use Rattle.oim_report.specs.Readers.{column_of, table_of, kind_of}
 use Rattle.oim_cells.specs.declared.cells.Accuracy.{Accuracy}
 use Rattle.oim_cells.specs.declared.cells.Accuracy.TheVariants.{Infinite, Places}
 use Rattle.oim_names.specs.declared.unit_kind.UnitKind.{UnitKind}
 use Rattle.oim_names.specs.declared.unit_kind.UnitKind.TheVariants as unit
 use Rattle.oim_period.specs.Periods.{Reading}
-use Rattle.oim_meta.specs.declared.kind.Kind.{Kind}
-use Rattle.oim_meta.specs.declared.kind.Kind.TheVariants as kind
-use Rattle.oim_meta.specs.ReportValue.{ReportValue}
-use Rattle.oim_meta.specs.declared.data.WrittenDecimals.{WrittenDecimals}
-use Rattle.oim_meta.specs.declared.data.Side.{Side}
-use Rattle.oim_meta.specs.declared.data.Side.TheVariants as side
+use Rattle.oim_report.specs.declared.kind.Kind.{Kind}
+use Rattle.oim_report.specs.declared.kind.Kind.TheVariants as kind
+use Rattle.oim_report.specs.ReportValue.{ReportValue}
+use Rattle.oim_report.specs.declared.data.WrittenDecimals.{WrittenDecimals}
+use Rattle.oim_report.specs.declared.data.Side.{Side}
+use Rattle.oim_report.specs.declared.data.Side.TheVariants as side
 use Rattle.oim_resolve.specs.FactParts.{FactParts as Fact}
 use Rattle.oim_resolve.specs.declared.fact.CellFault.{CellFault}
 use Rattle.oim_resolve.specs.declared.fact.CellFault.TheVariants.{UnknownSpecial, UnknownGroup, NoConcept, UnknownName, BadReference, BadValue, BadPeriod, NotDuration, BadDecimals}

@@ -5,9 +5,9 @@ use Rattle.std.specs.List.{flat_map, fold}
 use Rattle.std.specs.Option.{option_or, option_and_then, option_map_or}
 use Rattle.oim_cells.specs.Cells.{Meaning, meaning_of}
 use Rattle.oim_cells.specs.Cells as m
-use Rattle.oim_meta.specs.declared.data.Level.{Level}
-use Rattle.oim_meta.specs.declared.data.Written.{Written}
-use Rattle.oim_meta.specs.declared.kind.Kind.{Kind}
+use Rattle.oim_report.specs.declared.data.Level.{Level}
+use Rattle.oim_report.specs.declared.data.Written.{Written}
+use Rattle.oim_report.specs.declared.kind.Kind.{Kind}
 use Rattle.oim_resolve.specs.declared.fact.CellFault.{CellFault}
 use Rattle.oim_resolve.specs.declared.cell.place.Place.{Place}
 use Rattle.oim_resolve.specs.declared.plan.dimension.PlannedDimension.{PlannedDimension}

@@ -1,6 +1,6 @@
 -- A cell as the program holds it: places in range, and the number of the row in digits.
 use Rattle.std.specs.Prelude.{◌≡◌, ℕ, List, decimal}
-use Rattle.oim_meta.specs.ReportValue.{ReportValue}
+use Rattle.oim_report.specs.ReportValue.{ReportValue}
 use Rattle.oim_resolve.specs.declared.fact.Row.{Row}
 use Rattle.oim_resolve.specs.Cell.{IsCell, cell_of}
 

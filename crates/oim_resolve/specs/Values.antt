@@ -6,14 +6,14 @@ use Rattle.std.specs.Option.{option_or, option_and_then, option_map_or}
 use Rattle.std.specs.Str.{bytes_eq}
 use Rattle.oim_cells.specs.Cells.{Meaning, meaning_of}
 use Rattle.oim_cells.specs.Cells as m
-use Rattle.oim_meta.specs.Readers.{columns_of, parameter_of}
+use Rattle.oim_report.specs.Readers.{columns_of, parameter_of}
 use Rattle.oim_cells.specs.declared.cells.Accuracy.{Accuracy}
-use Rattle.oim_meta.specs.declared.data.Side.{Side}
-use Rattle.oim_meta.specs.declared.data.Side.TheVariants as side
-use Rattle.oim_meta.specs.declared.data.Written.{Written}
-use Rattle.oim_meta.specs.declared.data.Written.TheVariants as w
-use Rattle.oim_meta.specs.declared.data.WrittenDecimals.{WrittenDecimals}
-use Rattle.oim_meta.specs.declared.data.WrittenDecimals.TheVariants as d
+use Rattle.oim_report.specs.declared.data.Side.{Side}
+use Rattle.oim_report.specs.declared.data.Side.TheVariants as side
+use Rattle.oim_report.specs.declared.data.Written.{Written}
+use Rattle.oim_report.specs.declared.data.Written.TheVariants as w
+use Rattle.oim_report.specs.declared.data.WrittenDecimals.{WrittenDecimals}
+use Rattle.oim_report.specs.declared.data.WrittenDecimals.TheVariants as d
 use Rattle.oim_resolve.specs.Cell.{Cell, text_at}
 
 -- a text, unless it is empty

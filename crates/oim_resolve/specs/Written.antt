@@ -8,11 +8,11 @@ use Rattle.std.specs.Cmp.Lexicographic.{slice_cmp}
 use Rattle.oim_names.specs.Lookup.{value_at}
 use Rattle.oim_cells.specs.Cells.{Meaning, meaning_of}
 use Rattle.oim_cells.specs.Cells as m
-use Rattle.oim_meta.specs.Readers.{column_of, template_of}
-use Rattle.oim_meta.specs.declared.data.Column.{Column}
-use Rattle.oim_meta.specs.declared.data.Level.{Level}
-use Rattle.oim_meta.specs.declared.data.Written.{Written}
-use Rattle.oim_meta.specs.declared.data.WrittenDecimals.{WrittenDecimals}
+use Rattle.oim_report.specs.Readers.{column_of, template_of}
+use Rattle.oim_report.specs.declared.data.Column.{Column}
+use Rattle.oim_report.specs.declared.data.Level.{Level}
+use Rattle.oim_report.specs.declared.data.Written.{Written}
+use Rattle.oim_report.specs.declared.data.WrittenDecimals.{WrittenDecimals}
 use Rattle.oim_resolve.specs.Cell.{Cell, column, meaning_at}
 
 -- the group that a group cell names

@@ -9,7 +9,7 @@ mod overlay;
 mod reference;
 
 ghost use Rattle.std.specs.Prelude.{◌≡◌, ◌<◌, ◌⊎◌, length, IfOk, IfSome};
-ghost use Rattle.oim_meta.specs.Readers.{columns_of};
+ghost use Rattle.oim_report.specs.Readers.{columns_of};
 ghost use Rattle.oim_resolve.specs.Cell.{IsCell, cell_of};
 ghost use Rattle.oim_resolve.specs.Facts.{cell_result, early_result};
 ghost use Rattle.oim_resolve.specs.Order.{HasNamesInOrder};
@@ -26,7 +26,7 @@ pub(crate) use crate::plan::levels::decimals_in;
 pub(crate) use crate::plan::overlay::put_entries;
 pub(crate) use crate::plan::reference::Reference;
 use itoa::Buffer;
-use oim_meta::Report;
+use oim_report::Report;
 use std::alloc::{AllocError, Global};
 use std::marker::Model;
 

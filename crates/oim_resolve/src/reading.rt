@@ -7,9 +7,9 @@ ghost use Rattle.oim_resolve.specs.ProgramValues.{seen_reading, seen_value};
 
 use crate::fact::CellFault;
 use oim_cells::{Accuracy, CellMeaning, NumberKind, is_boolean, split_numeral, trimmed};
-use oim_meta::{Kind, Report};
 use oim_names::qname;
 use oim_period::is_date;
+use oim_report::{Kind, Report};
 
 /// What a cell gives its fact.
 #[derive(Clone, Copy)]

@@ -9,7 +9,7 @@ use Rattle.std.proofs.lemmas.List.Folds.{list_any-append}
 use Rattle.std.proofs.lemmas.Slice.Eq.{bytes_eq-Decides}
 use Rattle.std.proofs.lemmas.Str.Parse.{digit_at}
 use Rattle.std.specs.Str.Parse.{AllDigits}
-use Rattle.oim_meta.specs.declared.data.Column.{Column}
+use Rattle.oim_report.specs.declared.data.Column.{Column}
 use Rattle.oim_names.specs.QName.{Lacks}
 
 -- no byte of the text is a dot

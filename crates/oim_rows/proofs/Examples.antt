@@ -1,10 +1,10 @@
 -- The definitions, executed on worked cases.
 use Rattle.std.proofs.Common.{◌≡◌, ◌++◌, ◌∷◌, [], ap, arith, ℕ, List, Some, None, Ok, Err, Bool, true, false, codes, map, refl}
 use Rattle.std.proofs.lemmas.Fmt.{decimal_digit}
-use Rattle.oim_meta.specs.Readers.{no_level}
-use Rattle.oim_meta.specs.ReportValue.{ReportValue}
-use Rattle.oim_meta.specs.declared.data.Column.{Column}
-use Rattle.oim_meta.specs.declared.data.ColumnKind.TheVariants as content
+use Rattle.oim_report.specs.Readers.{no_level}
+use Rattle.oim_report.specs.ReportValue.{ReportValue}
+use Rattle.oim_report.specs.declared.data.Column.{Column}
+use Rattle.oim_report.specs.declared.data.ColumnKind.TheVariants as content
 use Rattle.std.specs.Str.{chars, is_utf8}
 use Rattle.csv.specs.Machine.{next_record}
 use Rattle.csv.specs.Reading.{records_from, strip_bom}
@@ -12,14 +12,14 @@ use Rattle.csv.specs.Records.{field_at}
 use Rattle.oim_names.specs.Names.{is_ncname, is_name_char, is_name_start, is_plain_char, is_row_identifier}
 use Rattle.oim_names.specs.QName.{qname_of}
 use Rattle.oim_cells.specs.Cells.{meaning_of}
-use Rattle.oim_meta.specs.Grid.{Record, records_left}
-use Rattle.oim_meta.specs.declared.data.Written.TheVariants as written
-use Rattle.oim_meta.specs.declared.kind.Kind.TheVariants as type
+use Rattle.oim_records.specs.Grids.{Record, records_left}
+use Rattle.oim_report.specs.declared.data.Written.TheVariants as written
+use Rattle.oim_report.specs.declared.kind.Kind.TheVariants as type
 use Rattle.oim_resolve.specs.Facts.{cell_result, fact_of, rest_faults}
 use Rattle.oim_resolve.specs.FactParts.{FactParts as Fact}
 use Rattle.oim_resolve.specs.declared.fact.CellFault.TheVariants as cell
 use Rattle.oim_rows.specs.FaultNames.{name_of, number_of}
-use Rattle.oim_meta.specs.declared.records.ReadFault.TheVariants as read
+use Rattle.oim_records.specs.declared.read_fault.ReadFault.TheVariants as read
 use Rattle.oim_rows.specs.Header.{fault_at, file_fault, file_header_fault, header_fault, header_of, is_column, names_row_id}
 use Rattle.oim_rows.specs.Identifiers.{facts_of_tables}
 use Rattle.oim_rows.specs.Progressing.{answered_of, left_of}

@@ -14,15 +14,15 @@ use Rattle.std.specs.List.Sorted.{IsStrictlySortedBy}
 use Rattle.std.specs.Cmp.Lexicographic.{slice_cmp}
 use Rattle.oim_names.specs.Names.{is_identifier, is_row_identifier}
 use Rattle.oim_names.proofs.Cut.{identifier_lacks_point, row_identifier_lacks_point}
-use Rattle.oim_meta.specs.Grid.{Field, Record, grid}
-use Rattle.oim_meta.specs.InOrder.{PartsRise, TemplateRises, HaveIdentifiers}
-use Rattle.oim_meta.specs.Order.{IsRising}
-use Rattle.oim_meta.proofs.Unrepeated.{below-differs}
-use Rattle.oim_meta.specs.Readers.{columns_of, no_column, no_table, no_template, table_of, template_of}
-use Rattle.oim_meta.specs.ReportValue.{ReportValue}
-use Rattle.oim_meta.specs.declared.data.Column.{Column}
-use Rattle.oim_meta.specs.declared.data.Table.{Table}
-use Rattle.oim_meta.specs.declared.data.Template.{Template}
+use Rattle.oim_records.specs.Grids.{Field, Record, grid}
+use Rattle.oim_report.specs.InOrder.{PartsRise, TemplateRises, HaveIdentifiers}
+use Rattle.oim_report.specs.Rising.{IsRising}
+use Rattle.oim_report.proofs.Searches.{below-differs}
+use Rattle.oim_report.specs.Readers.{columns_of, no_column, no_table, no_template, table_of, template_of}
+use Rattle.oim_report.specs.ReportValue.{ReportValue}
+use Rattle.oim_report.specs.declared.data.Column.{Column}
+use Rattle.oim_report.specs.declared.data.Table.{Table}
+use Rattle.oim_report.specs.declared.data.Template.{Template}
 use Rattle.oim_resolve.specs.Cell.{cell_of}
 use Rattle.oim_resolve.specs.Facts.{cell_result}
 use Rattle.oim_resolve.specs.declared.fact.CellFault.{CellFault}

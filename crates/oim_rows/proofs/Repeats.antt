@@ -9,8 +9,8 @@ use Rattle.std.proofs.lemmas.Bool.{eqb-true, eqb-false}
 use Rattle.std.proofs.lemmas.Grind.{get_or-set_at}
 use Rattle.std.proofs.Math.Seq.{drop-cons}
 use Rattle.std.proofs.lemmas.List.{get_or_default, get_or-replicate, get_or-set_other, length-replicate, length-set, take_more}
-use Rattle.oim_meta.specs.Grid.{Field, Record}
-use Rattle.oim_meta.specs.declared.data.Column.{Column}
+use Rattle.oim_records.specs.Grids.{Field, Record}
+use Rattle.oim_report.specs.declared.data.Column.{Column}
 use Rattle.oim_rows.specs.Header.{Header, header_of, is_column, named_column, place_of, repeat_from, repeats}
 
 -- the two words for the first place that passes a test

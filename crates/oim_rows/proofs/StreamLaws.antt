@@ -1,12 +1,12 @@
 -- One row more of a table's stream.
 use Rattle.std.proofs.Common.{◌≡◌, ◌⊎◌, ◌+◌, ℕ, Bool, List, [], ◌∷◌, true, false, Option, Some, None, Result, Ok, Err, refl, sym, ap, subst, inl, inr, option_map, IfOk, IfSome, MatchResult, OnSome}
-use Rattle.oim_meta.specs.Grid.{Field, Record, grid}
-use Rattle.oim_meta.specs.Taking.{TakesRecord}
+use Rattle.oim_records.specs.Grids.{Field, Record, grid}
+use Rattle.oim_records.specs.Reads.{TakesRecord}
 use Rattle.oim_resolve.specs.FactParts.{FactParts as Fact}
-use Rattle.oim_meta.specs.Readers.{columns_of}
-use Rattle.oim_meta.specs.ReportValue.{ReportValue}
-use Rattle.oim_meta.specs.declared.records.ReadFault.{ReadFault}
-use Rattle.oim_meta.specs.declared.records.ReadFault.TheVariants as read
+use Rattle.oim_report.specs.Readers.{columns_of}
+use Rattle.oim_report.specs.ReportValue.{ReportValue}
+use Rattle.oim_records.specs.declared.read_fault.ReadFault.{ReadFault}
+use Rattle.oim_records.specs.declared.read_fault.ReadFault.TheVariants as read
 use Rattle.oim_rows.specs.Header.{Header, file_fault, file_header_fault, header_fault, header_of}
 use Rattle.oim_rows.specs.declared.fault.TableKind.TheVariants as kind
 use Rattle.oim_rows.specs.RowFacts.{Reading, id_place_of, ids_after, row_result}

@@ -3,8 +3,8 @@ use Rattle.std.proofs.Common.{List, [], ◌∷◌, ◌++◌, ◌≡◌, ◌∙�
 use Rattle.std.proofs.lemmas.List.{append-nil, map-append}
 use Rattle.std.specs.Prelude.{◌↔◌, MatchOption, unwrap_or}
 use Rattle.csv.specs.Records.{field_at}
-use Rattle.oim_meta.specs.Grid.{Record, grid}
-use Rattle.oim_meta.specs.ReportValue.{ReportValue}
+use Rattle.oim_records.specs.Grids.{Record, grid}
+use Rattle.oim_report.specs.ReportValue.{ReportValue}
 use Rattle.oim_resolve.specs.FactParts.{FactParts as Fact}
 use Rattle.oim_rows.specs.Header.{header_fault}
 use Rattle.oim_rows.specs.RowFacts.{Reading, id_place_of, ids_after}

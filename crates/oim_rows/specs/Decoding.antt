@@ -1,8 +1,8 @@
 -- What is kept of a table while its rows are read.
 use Rattle.std.specs.Prelude.{◌≡◌, ◌<◌, List, ℕ, Option, map, length}
 use Rattle.std.specs.List.{range_with_len}
-use Rattle.oim_meta.specs.Readers.{columns_of}
-use Rattle.oim_meta.specs.declared.data.Column.{Column}
+use Rattle.oim_report.specs.Readers.{columns_of}
+use Rattle.oim_report.specs.declared.data.Column.{Column}
 use Rattle.oim_resolve.specs.ProgramPlan.{PlanOf}
 use Rattle.oim_rows.specs.RowFacts.{Reading, source_of_column}
 

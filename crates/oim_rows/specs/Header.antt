@@ -3,10 +3,10 @@
 use Rattle.std.specs.Prelude.{List, [], ◌∷◌, ◌++◌, ℕ, ◌+◌, ◌-◌, ◌^◌, min, Bool, true, false, not, ◌&&◌, ◌==◌, if◌then◌else◌, Option, Some, None, is_none, option_map, map}
 use Rattle.std.specs.List.{list_any, position_from}
 use Rattle.std.specs.Str.{bytes_eq}
-use Rattle.oim_meta.specs.Grid.{Field, Record}
-use Rattle.oim_meta.specs.Readers.{columns_of, template_of}
-use Rattle.oim_meta.specs.ReportValue.{ReportValue}
-use Rattle.oim_meta.specs.declared.data.Column.{Column}
+use Rattle.oim_records.specs.Grids.{Field, Record}
+use Rattle.oim_report.specs.Readers.{columns_of, template_of}
+use Rattle.oim_report.specs.ReportValue.{ReportValue}
+use Rattle.oim_report.specs.declared.data.Column.{Column}
 use Rattle.oim_rows.specs.declared.fault.TableFault.{TableFault}
 use Rattle.oim_rows.specs.declared.fault.TableKind.{TableKind}
 use Rattle.oim_rows.specs.declared.fault.TableKind.TheVariants as kind

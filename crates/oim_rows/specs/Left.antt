@@ -1,6 +1,6 @@
 -- The rows of a table that are left to a reader of it.
 use Rattle.std.specs.Prelude.{List, ℕ, Option}
-use Rattle.oim_meta.specs.Grid.{Record}
+use Rattle.oim_records.specs.Grids.{Record}
 use Rattle.oim_rows.specs.Streams.{Stream}
 use Rattle.oim_rows.specs.declared.fault.TableFault.{TableFault}
 

@@ -1,6 +1,6 @@
 -- What a reader of rows will answer.
 use Rattle.std.specs.Prelude.{List, ℕ, Option, Some, None, option_map}
-use Rattle.oim_meta.specs.Grid.{Field, Record}
+use Rattle.oim_records.specs.Grids.{Field, Record}
 use Rattle.oim_rows.specs.RowFacts.{Reading}
 use Rattle.oim_rows.specs.Streams.{Stream, stream_from}
 use Rattle.oim_rows.specs.declared.fault.TableFault.{TableFault}

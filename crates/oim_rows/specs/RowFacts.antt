@@ -7,12 +7,12 @@ use Rattle.std.specs.Option.{option_map_or}
 use Rattle.std.specs.Str.{bytes_eq, is_utf8}
 use Rattle.csv.specs.Records.{field_at}
 use Rattle.oim_names.specs.Names.{is_row_identifier}
-use Rattle.oim_meta.specs.Grid.{Field, Record}
-use Rattle.oim_meta.specs.Readers.{columns_of, template_of}
-use Rattle.oim_meta.specs.ReportValue.{ReportValue}
-use Rattle.oim_meta.specs.declared.data.Column.{Column}
-use Rattle.oim_meta.specs.declared.data.ColumnKind.{ColumnKind}
-use Rattle.oim_meta.specs.declared.data.ColumnKind.TheVariants as content
+use Rattle.oim_records.specs.Grids.{Field, Record}
+use Rattle.oim_report.specs.Readers.{columns_of, template_of}
+use Rattle.oim_report.specs.ReportValue.{ReportValue}
+use Rattle.oim_report.specs.declared.data.Column.{Column}
+use Rattle.oim_report.specs.declared.data.ColumnKind.{ColumnKind}
+use Rattle.oim_report.specs.declared.data.ColumnKind.TheVariants as content
 use Rattle.oim_resolve.specs.Cell.{cell_of}
 use Rattle.oim_resolve.specs.Facts.{cell_result}
 use Rattle.oim_resolve.specs.declared.fact.CellFault.{CellFault}

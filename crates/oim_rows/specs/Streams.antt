@@ -2,11 +2,11 @@
 -- xBRL-CSV 1.0, table files: the first record is the header, row n is the nth record after it.
 use Rattle.std.specs.Prelude.{⊤, List, [], ◌∷◌, ◌≡◌, ◌⊎◌, ℕ, ◌+◌, Bool, true, false, if◌then◌else◌, Option, Some, None, option_map, Result, Ok, Err}
 use Rattle.std.specs.List.{flat_map}
-use Rattle.oim_meta.specs.Grid.{Field, Record, grid}
-use Rattle.oim_meta.specs.Readers.{columns_of, table_of}
-use Rattle.oim_meta.specs.ReportValue.{ReportValue}
-use Rattle.oim_meta.specs.declared.records.ReadFault.{ReadFault}
-use Rattle.oim_meta.specs.declared.records.ReadFault.TheVariants as read
+use Rattle.oim_records.specs.Grids.{Field, Record, grid}
+use Rattle.oim_report.specs.Readers.{columns_of, table_of}
+use Rattle.oim_report.specs.ReportValue.{ReportValue}
+use Rattle.oim_records.specs.declared.read_fault.ReadFault.{ReadFault}
+use Rattle.oim_records.specs.declared.read_fault.ReadFault.TheVariants as read
 use Rattle.oim_resolve.specs.FactParts.{FactParts as Fact}
 use Rattle.oim_rows.specs.Header.{Header, file_fault, header_fault, header_of, unknown_fault}
 use Rattle.oim_rows.specs.RowFacts.{Reading, id_place_of, ids_after, row_fault, row_result}

@@ -2,8 +2,8 @@
 -- xBRL-CSV 1.0, table files: row n is the nth record after the header.
 use Rattle.std.specs.Prelude.{List, [], ◌∷◌, ◌++◌, ◌≡◌, ℕ, ◌+◌, zero, suc, Option, Some, None, MatchOption, Result, Ok, Err, length, map, take, unwrap_or}
 use Rattle.csv.specs.Records.{field_at}
-use Rattle.oim_meta.specs.Grid.{Field, Record, grid}
-use Rattle.oim_meta.specs.ReportValue.{ReportValue}
+use Rattle.oim_records.specs.Grids.{Field, Record, grid}
+use Rattle.oim_report.specs.ReportValue.{ReportValue}
 use Rattle.oim_resolve.specs.FactParts.{FactParts as Fact}
 use Rattle.oim_rows.specs.Header.{file_fault, header_fault}
 use Rattle.oim_rows.specs.RowFacts.{Reading, id_place_of, row_result}

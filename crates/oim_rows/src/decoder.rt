@@ -4,7 +4,7 @@ ghost use Rattle.std.specs.Prelude.{◌≡◌, ◌≤◌, ◌<◌, Err, IfOk, If
 ghost use Rattle.std.specs.List.{range_with_len};
 ghost use Rattle.std.specs.String.{string_bytes};
 ghost use Rattle.csv.specs.Records.{fields_of};
-ghost use Rattle.oim_meta.specs.Readers.{columns_of};
+ghost use Rattle.oim_report.specs.Readers.{columns_of};
 ghost use Rattle.oim_rows.specs.RowFacts.{IsNewId, IsTextRecord, fact_at, facts_from, field_or_empty, holds_facts};
 ghost use Rattle.oim_rows.specs.RowFacts.{id_place_of, ids_after, is_fact_column, row_fault, row_id_text, row_of, row_result, source_of_column};
 ghost use Rattle.oim_rows.specs.Streams.{OrNoMemory};
@@ -15,8 +15,8 @@ use crate::form::{RowForm, push_row_number};
 use crate::header::source_of;
 use crate::ids::RowIds;
 use csv::ByteRecord;
-use oim_meta::{Column, ColumnKind};
 use oim_names::{Items, Text};
+use oim_report::{Column, ColumnKind};
 use oim_resolve::{CellFault, Fact, Plan, Row, compile};
 use std::alloc::{AllocError, Global};
 use std::marker::Model;

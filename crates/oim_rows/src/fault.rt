@@ -6,7 +6,7 @@ ghost use Rattle.oim_rows.specs.FaultNames.{number_of, name_of};
 ghost use Rattle.oim_rows.specs.Header.{fault_at, file_fault};
 ghost use Rattle.oim_rows.specs.Streams.{fault_of_read};
 
-use oim_meta::ReadFault;
+use oim_records::ReadFault;
 use oim_resolve::CellFault;
 use std::error::Error;
 use std::fmt;

@@ -13,7 +13,8 @@ use crate::header::{read_header, source_of};
 use crate::ids::RowIds;
 use csv::ByteRecord;
 use itoa::Buffer;
-use oim_meta::{Records, Report};
+use oim_records::Records;
+use oim_report::Report;
 use std::alloc::{AllocError, Global};
 use std::io::Read;
 use std::marker::Model;
@@ -32,7 +33,7 @@ pub struct RowForm<'a> {
 
 impl<'a> Model for RowForm<'a> {
     ghost use Rattle.std.specs.Prelude.{◌≡◌, ◌<◌, length};
-    ghost use Rattle.oim_meta.specs.Readers.{template_of};
+    ghost use Rattle.oim_report.specs.Readers.{template_of};
     ghost use Rattle.oim_rows.specs.RowFacts.{Reading, row_id_place};
 
     ghost Value = { Reading };

@@ -1,14 +1,14 @@
 //! Laws over the definitions that the contracts cite.
 
 ghost use Rattle.std.specs.Prelude.{◌≡◌, ◌↔◌, List, ℕ, Option, []};
-ghost use Rattle.oim_meta.specs.Grid.{Record};
-ghost use Rattle.oim_meta.specs.ReportValue.{ReportValue};
+ghost use Rattle.oim_records.specs.Grids.{Record};
+ghost use Rattle.oim_report.specs.ReportValue.{ReportValue};
 ghost use Rattle.oim_rows.specs.Identifiers.{FactIdsDiffer};
 ghost use Rattle.oim_rows.specs.RowFacts.{Reading};
 ghost use Rattle.oim_rows.specs.Streams.{Stream, stream_from, table_stream};
 ghost use Rattle.oim_rows.specs.WholeTable.{IsStreamOf, IsTableStream};
 
-use oim_meta::Report;
+use oim_report::Report;
 
 /// The stream of a table's rows, said of all of them at once: it has the facts of each row before
 /// the first bad one, and that row's fault.

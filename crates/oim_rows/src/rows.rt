@@ -2,7 +2,7 @@
 
 ghost use Rattle.std.specs.Prelude.{◌≡◌, ◌⊎◌, ◌≤◌, ◌<◌, ◌+◌, ◌∷◌, [], IfOk, IfErr, IfSome, OnSome, None, Some, Ok, true, option_map, length};
 ghost use Rattle.csv.specs.Records.{fields_of};
-ghost use Rattle.oim_meta.specs.Grid.{grid};
+ghost use Rattle.oim_records.specs.Grids.{grid};
 ghost use Rattle.oim_rows.specs.Header.{file_header_fault};
 ghost use Rattle.oim_rows.specs.RowFacts.{id_place_of, ids_after, row_result};
 ghost use Rattle.oim_rows.specs.Streams.{GivesNext, IsOutside, OrNoMemory, answer_of, early_row_answer, row_answer, kept_answer, stream_from, stream_of};
@@ -13,8 +13,9 @@ use crate::fault::{TableFault, TableKind, fault_of_read, whole_fault};
 use crate::form::RowForm;
 use crate::ids::RowIds;
 use csv::ByteRecord;
-use oim_meta::{Limits, ReadFault, Records, Report};
 use oim_names::Items;
+use oim_records::{ReadFault, Records};
+use oim_report::{Limits, Report};
 use oim_resolve::Fact;
 use std::alloc::Global;
 use std::io::Read;

@@ -10,7 +10,7 @@ use Rattle.oim_convert.specs.declared.fault.ConvertFault.TheVariants as fault
 use Rattle.oim_convert.specs.declared.run.Run.{Run}
 use Rattle.oim_json.specs.declared.mark.WriteFault.TheVariants as write
 use Rattle.oim_merge.specs.declared.progress.MergeEnd.TheVariants as end
-use Rattle.oim_meta.specs.Grid.{records_left}
+use Rattle.oim_records.specs.Grids.{records_left}
 use Rattle.oim_meta.specs.declared.fault.MetaFault.TheVariants as refused
 use Rattle.oim_resolve.specs.declared.fact.CellFault.TheVariants as cell
 use Rattle.oim_rows.specs.Header.{fault_at}

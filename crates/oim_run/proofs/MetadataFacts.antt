@@ -9,14 +9,14 @@ use Rattle.serde_json.specs.Data.{Data}
 use Rattle.serde_json.specs.Read.{read}
 use Rattle.oim_meta.specs.FirstFault.{first_fault}
 use Rattle.oim_meta.specs.Members.{text_at}
-use Rattle.oim_meta.specs.Parameters.{ParametersValue}
+use Rattle.oim_report.specs.Parameters.{ParametersValue}
 use Rattle.oim_meta.specs.Reading.{IsJson, HasNoJson, SaysUrl, IsUrlFault, SaysReport, IsFault, after_mark, first_url_fault}
-use Rattle.oim_meta.specs.ReportValue.{ReportValue}
-use Rattle.oim_meta.specs.Types.{TypesValue}
+use Rattle.oim_report.specs.ReportValue.{ReportValue}
+use Rattle.oim_report.specs.Types.{TypesValue}
 use Rattle.oim_meta.specs.Value.{report_of}
 use Rattle.oim_meta.specs.declared.fault.MetaFault.{MetaFault}
 use Rattle.oim_meta.specs.declared.fault.MetaFault.TheVariants as meta
-use Rattle.oim_meta.specs.declared.limits.Limits.{Limits}
+use Rattle.oim_report.specs.declared.limits.Limits.{Limits}
 use Rattle.oim_run.specs.Metadata.{in_json, json_of, read_as, report_in, report_result, unless_fault, url_in, url_result}
 
 json_is : (bytes : List ℕ) (d : Data) → IsJson bytes d → json_of bytes ≡ Some d

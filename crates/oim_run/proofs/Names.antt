@@ -11,9 +11,9 @@ use Rattle.oim_convert.specs.Runs.{AreHistories}
 use Rattle.oim_merge.proofs.Writing.{all_refusals, blocks_refusals}
 use Rattle.oim_merge.specs.Histories.{all_of, refusals}
 use Rattle.oim_merge.specs.Merging.{EndEach}
-use Rattle.oim_meta.specs.Readers.{no_table, table_of}
-use Rattle.oim_meta.specs.ReportValue.{ReportValue}
-use Rattle.oim_meta.specs.declared.data.Table.{Table}
+use Rattle.oim_report.specs.Readers.{no_table, table_of}
+use Rattle.oim_report.specs.ReportValue.{ReportValue}
+use Rattle.oim_report.specs.declared.data.Table.{Table}
 use Rattle.oim_resolve.specs.FactParts.{FactParts as Fact}
 use Rattle.oim_ring.specs.Items.{EndsOnce}
 use Rattle.oim_ring.specs.declared.item.Ending as Endings

@@ -31,11 +31,11 @@ use Rattle.std.proofs.Common.{
 }
 use Rattle.oim_convert.specs.Files.{IsFileOf}
 use Rattle.oim_meta.specs.CsvFiles.{OrOutside}
-use Rattle.oim_meta.specs.Grid.{grid}
-use Rattle.oim_meta.specs.Parameters.{ParametersValue}
+use Rattle.oim_records.specs.Grids.{grid}
+use Rattle.oim_report.specs.Parameters.{ParametersValue}
 use Rattle.oim_meta.specs.ParametersFile.{parameters_result}
-use Rattle.oim_meta.specs.ReportValue.{ReportValue}
-use Rattle.oim_meta.specs.Types.{TypesValue}
+use Rattle.oim_report.specs.ReportValue.{ReportValue}
+use Rattle.oim_report.specs.Types.{TypesValue}
 use Rattle.oim_meta.specs.declared.fault.MetaFault.{MetaFault}
 use Rattle.oim_meta.specs.declared.fault.MetaFault.TheVariants as refused
 use Rattle.oim_run.proofs.MetadataFacts.{report_taken, url_taken}

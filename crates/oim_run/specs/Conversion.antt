@@ -2,13 +2,13 @@
 -- xBRL-CSV 1.0 (the metadata and the table files), xBRL-JSON 1.0 (the document).
 use Rattle.std.specs.Prelude.{◌≡◌, ◌⊎◌, length, ℕ, List, [], Option, Result, Ok, Err}
 use Rattle.oim_meta.specs.CsvFiles.{OrOutside}
-use Rattle.oim_meta.specs.Grid.{grid}
+use Rattle.oim_records.specs.Grids.{grid}
 use Rattle.oim_meta.specs.Reading.{SaysReport, IsFault}
-use Rattle.oim_meta.specs.ReportValue.{ReportValue}
-use Rattle.oim_meta.specs.Types.{TypesValue}
+use Rattle.oim_report.specs.ReportValue.{ReportValue}
+use Rattle.oim_report.specs.Types.{TypesValue}
 use Rattle.oim_meta.specs.TypesFile.{types_result}
 use Rattle.oim_meta.specs.declared.fault.MetaFault.{MetaFault}
-use Rattle.oim_meta.specs.declared.limits.Limits.{Limits}
+use Rattle.oim_report.specs.declared.limits.Limits.{Limits}
 use Rattle.oim_json.specs.Sinks.{SinkView, Unwritten}
 use Rattle.oim_json.specs.declared.layout.Layout.{Layout}
 use Rattle.oim_json.specs.declared.mark.Mark.TheVariants as «marks»

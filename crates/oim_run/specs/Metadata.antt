@@ -5,14 +5,14 @@ use Rattle.serde_json.specs.Data.{Data}
 use Rattle.serde_json.specs.Read.{read}
 use Rattle.oim_meta.specs.FirstFault.{first_fault}
 use Rattle.oim_meta.specs.Members.{text_at}
-use Rattle.oim_meta.specs.Parameters.{ParametersValue}
+use Rattle.oim_report.specs.Parameters.{ParametersValue}
 use Rattle.oim_meta.specs.Reading.{after_mark, first_url_fault}
-use Rattle.oim_meta.specs.ReportValue.{ReportValue}
-use Rattle.oim_meta.specs.Types.{TypesValue}
+use Rattle.oim_report.specs.ReportValue.{ReportValue}
+use Rattle.oim_report.specs.Types.{TypesValue}
 use Rattle.oim_meta.specs.Value.{report_of}
 use Rattle.oim_meta.specs.declared.fault.MetaFault.{MetaFault}
 use Rattle.oim_meta.specs.declared.fault.MetaFault.TheVariants as meta
-use Rattle.oim_meta.specs.declared.limits.Limits.{Limits}
+use Rattle.oim_report.specs.declared.limits.Limits.{Limits}
 
 -- the JSON value that the bytes are, after a byte order mark if there is one
 abbrev pub json_of : List ℕ → Option Data

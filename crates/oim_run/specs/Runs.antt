@@ -5,8 +5,8 @@ use Rattle.oim_convert.specs.Runs.{early_fault}
 use Rattle.oim_convert.specs.declared.fault.ConvertFault.{ConvertFault}
 use Rattle.oim_json.specs.Sinks.{SinkView, Unwritten}
 use Rattle.oim_json.specs.declared.layout.Layout.{Layout}
-use Rattle.oim_meta.specs.ReportValue.{ReportValue}
-use Rattle.oim_meta.specs.declared.data.Table.{Table}
+use Rattle.oim_report.specs.ReportValue.{ReportValue}
+use Rattle.oim_report.specs.declared.data.Table.{Table}
 use Rattle.oim_run.specs.Conversion.{profile}
 use Rattle.oim_run.specs.Folders.{Files, IsFolderOf}
 use Rattle.oim_run.specs.Outcomes.{EndsAs}

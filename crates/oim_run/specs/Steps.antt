@@ -2,11 +2,11 @@
 -- xBRL-CSV 1.0 (the metadata, the parameters file).
 use Rattle.std.specs.Prelude.{⊤, ◌≡◌, ◌⊎◌, ℕ, List, [], ◌∷◌, ◌++◌, Option, Some, None, Result, Ok, Err, unwrap_or}
 use Rattle.oim_convert.specs.declared.fault.ConvertFault.TheVariants as fault
-use Rattle.oim_meta.specs.Grid.{grid}
-use Rattle.oim_meta.specs.Parameters.{ParametersValue}
+use Rattle.oim_records.specs.Grids.{grid}
+use Rattle.oim_report.specs.Parameters.{ParametersValue}
 use Rattle.oim_meta.specs.ParametersFile.{parameters_result}
-use Rattle.oim_meta.specs.ReportValue.{ReportValue}
-use Rattle.oim_meta.specs.Types.{TypesValue}
+use Rattle.oim_report.specs.ReportValue.{ReportValue}
+use Rattle.oim_report.specs.Types.{TypesValue}
 use Rattle.oim_meta.specs.TypesFile.{types_result}
 use Rattle.oim_meta.specs.declared.fault.MetaFault.{MetaFault}
 use Rattle.oim_meta.specs.declared.fault.MetaFault.TheVariants as refused

@@ -14,10 +14,7 @@ ghost use Rattle.oim_meta.specs.declared.fault.MetaFault.TheVariants as refused;
 use crate::folder::Folder;
 use crate::outcome::{Outcome, Source};
 use oim_convert::ConvertFault;
-use oim_meta::{
-    Limits, MetaFault, Parameters, Report, Types, parameter_url, read_parameters, read_report,
-    read_types,
-};
+use oim_meta::{Limits, MetaFault, Parameters, Report, Types, parameter_url, read_parameters, read_report, read_types};
 use oim_names::Text;
 use std::alloc::{AllocError, Global};
 use std::io;

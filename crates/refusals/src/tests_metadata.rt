@@ -1,9 +1,7 @@
 //! Reading a report's metadata, types table and parameters file while memory runs out.
 
 use crate::{Answer, Call, ROOM, is_refused};
-use oim_meta::{
-    Limits, MetaFault, Report, parameter_url, read_parameters, read_report, read_types,
-};
+use oim_meta::{Limits, MetaFault, Report, parameter_url, read_parameters, read_report, read_types};
 use std::alloc::Global;
 use std::test::Fail;
 

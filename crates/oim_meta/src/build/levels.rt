@@ -6,10 +6,10 @@ ghost use Rattle.oim_meta.specs.Decimals.{decimals_of};
 ghost use Rattle.oim_meta.specs.Value.{named_dimension, named_level, level_of, nothing_written};
 
 use crate::build::made::{FromMember, list_from};
-use crate::data::{Level, Written, WrittenDecimals};
 use crate::decimals::written_decimals;
 use crate::written::written;
 use oim_names::{Items, Text};
+use oim_report::{Level, Written, WrittenDecimals};
 use serde_json::Value;
 use std::alloc::{AllocError, Global};
 

@@ -4,7 +4,8 @@ ghost use Rattle.std.specs.Prelude.{◌≡◌, ℕ, List, IfOk, OnOk, option_map
 ghost use Rattle.serde_json.specs.Data.{Data};
 ghost use Rattle.serde_json.specs.View.{view, items_view, members_view};
 ghost use Rattle.oim_meta.specs.Members.{section, items_at, map_members, map_items, text_of as text_in};
-ghost use Rattle.oim_meta.specs.Order.{names_of, IsRising};
+ghost use Rattle.oim_meta.specs.Order.{names_of};
+ghost use Rattle.oim_report.specs.Rising.{IsRising};
 ghost use Rattle.oim_meta.specs.Value.{flag_at, named_text};
 
 use crate::lookup::{list_at, object_at};

@@ -8,9 +8,9 @@ ghost use Rattle.oim_meta.specs.Value.{table_of, tables_of};
 
 use crate::build::made::{flag, list_from};
 use crate::build::names::Names;
-use crate::data::Table;
 use crate::lookup::{object_at, text_at};
 use oim_names::{Items, Text};
+use oim_report::Table;
 use serde_json::{Map, Value};
 use std::alloc::{AllocError, Global};
 

@@ -9,9 +9,9 @@ use crate::build::levels::{level, no_level};
 use crate::build::made::{FromMember, flag, list_from};
 use crate::build::names::Names;
 use crate::build::places::{place_at, places};
-use crate::data::{Column, ColumnKind, Level, Template};
 use crate::lookup::{list_at, object_at, text_at};
 use oim_names::{Items, Text};
+use oim_report::{Column, ColumnKind, Level, Template};
 use serde_json::{Map, Value};
 use std::alloc::{AllocError, Global};
 

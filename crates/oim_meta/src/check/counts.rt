@@ -5,9 +5,9 @@ ghost use Rattle.serde_json.specs.View.{view, members_view};
 ghost use Rattle.oim_meta.specs.Members.{section};
 ghost use Rattle.oim_meta.specs.Counts.{count_of, has_too_many};
 
-use crate::limits::Limits;
 use crate::lookup::object_at;
 use crate::members::{MemberTest, any_member_at};
+use oim_report::Limits;
 use serde_json::{Map, Value};
 
 #[tactic(auto, using(crate::proofs::Counted::count_is))]

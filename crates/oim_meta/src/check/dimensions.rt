@@ -8,12 +8,11 @@ ghost use Rattle.oim_meta.specs.Prefixes.{prefixes_of};
 ghost use Rattle.oim_cells.specs.Cells.{meaning_of};
 
 use crate::check::levels::{LevelTest, any_level};
-use crate::kind::Kind;
 use crate::members::{MemberTest, any_member_at};
-use crate::types::Types;
 use crate::written::{strip_back, strip_front};
 use oim_cells::{CellMeaning, meaning};
 use oim_names::{Namespaces, is_identifier, qname};
+use oim_report::{Kind, Types};
 use serde_json::Value;
 
 fn is_core(key: &str) -> bool

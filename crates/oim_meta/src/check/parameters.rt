@@ -6,8 +6,8 @@ ghost use Rattle.oim_meta.specs.BadParameters.{has_bad_parameters, is_no_plain_p
 
 use crate::check::paths::is_plain_path;
 use crate::members::{MemberTest, any_member_at, is_bad_object_at};
-use crate::parameters::Parameters;
 use oim_names::is_identifier;
+use oim_report::Parameters;
 use serde_json::Value;
 
 /// A name that is not an identifier, or a value that is not a text.

@@ -23,8 +23,8 @@ use crate::fact::{CellFault, Fact};
 use crate::least::{both, lesser};
 use crate::plan::{PlannedDimension, decimals_in, put_entries};
 use crate::reading::fact_value;
-use oim_meta::{Kind, Level, WrittenDecimals};
 use oim_names::{Items, Text};
+use oim_report::{Kind, Level, WrittenDecimals};
 use std::alloc::{AllocError, Global};
 
 /// A cell, with what its levels write.

@@ -7,8 +7,8 @@ use crate::cell::texts::not_empty;
 use crate::fact::Row;
 use crate::plan::{PlannedDimension, Reference};
 use oim_cells::{CellMeaning, meaning};
-use oim_meta::{Report, WrittenDecimals};
 use oim_names::Text;
+use oim_report::{Report, WrittenDecimals};
 use std::alloc::{AllocError, Global};
 
 /// A cell: a row of a table and the place of a column.

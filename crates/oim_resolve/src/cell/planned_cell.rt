@@ -5,7 +5,7 @@ ghost use Rattle.std.specs.List.{list_any};
 ghost use Rattle.std.specs.Option.{option_map};
 ghost use Rattle.oim_names.specs.Lookup.{value_at};
 ghost use Rattle.oim_cells.specs.Cells.{seen_meaning};
-ghost use Rattle.oim_meta.specs.Readers.{column_of, columns_of};
+ghost use Rattle.oim_report.specs.Readers.{column_of, columns_of};
 ghost use Rattle.oim_resolve.specs.Cell.{column, meaning_at};
 ghost use Rattle.oim_resolve.specs.Facts.{cell_and_group_faults, cell_result, concept_read, early_result, fact_meaning, given, is_absent, is_unknown, names_no_group};
 ghost use Rattle.oim_resolve.specs.Faults.{least};
@@ -22,7 +22,7 @@ use crate::dimension::read_concept;
 use crate::fact::{CellFault, Fact};
 use crate::plan::{PlannedColumn, PlannedDimension, PlannedGroup, find_dimension, find_group};
 use oim_cells::CellMeaning;
-use oim_meta::Kind;
+use oim_report::Kind;
 use std::alloc::Global;
 
 /// A cell, with the columns of its table made ready.

@@ -4,7 +4,7 @@ ghost use Rattle.std.specs.Prelude.{◌≡◌};
 ghost use Rattle.std.specs.Option.{option_map};
 ghost use Rattle.oim_resolve.specs.Values.{not_empty, side_of};
 
-use oim_meta::{Side, Written};
+use oim_report::{Side, Written};
 
 /// A text, where it is not empty.
 pub(crate) fn not_empty(text: &str) -> Option<&str>

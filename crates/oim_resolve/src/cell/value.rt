@@ -12,8 +12,8 @@ use crate::dimension::is_numeric;
 use crate::fact::CellFault;
 use crate::reading::FactValue;
 use oim_cells::{Accuracy, CellMeaning};
-use oim_meta::Kind;
 use oim_names::Text;
+use oim_report::Kind;
 use std::alloc::{AllocError, Global};
 
 /// The cell of a fact, with the kind of its concept.

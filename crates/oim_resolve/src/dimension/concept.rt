@@ -4,13 +4,13 @@ ghost use Rattle.std.specs.Prelude.{◌≡◌};
 ghost use Rattle.std.specs.Option.{option_and_then};
 ghost use Rattle.oim_names.specs.QName.{qname_of};
 ghost use Rattle.oim_cells.specs.Cells.{seen_meaning};
-ghost use Rattle.oim_meta.specs.Readers.{kind_of};
+ghost use Rattle.oim_report.specs.Readers.{kind_of};
 ghost use Rattle.oim_resolve.specs.Facts.{concept_read, concept_type_of, is_numeric};
 
 use crate::fact::CellFault;
 use oim_cells::CellMeaning;
-use oim_meta::{Kind, Report};
 use oim_names::qname;
+use oim_report::{Kind, Report};
 
 /// The kind of a declared QName.
 pub(crate) fn kind_of_name(report: &Report, text: &str) -> Option<Kind>

@@ -10,9 +10,9 @@ ghost use Rattle.oim_resolve.specs.Facts.{sided, value_read};
 use crate::fact::CellFault;
 use crate::role::Role;
 use oim_cells::CellMeaning;
-use oim_meta::{Report, Side};
 use oim_names::{Text, UnitKind, language, qname, sqname, unit};
 use oim_period::{Period, read};
+use oim_report::{Report, Side};
 use std::alloc::{AllocError, Global};
 
 /// What a dimension gives a fact: nothing, or nil (`Some(None)`), or a text.

@@ -1,15 +1,15 @@
 //! A column, made ready for the rows.
 
 ghost use Rattle.std.specs.Prelude.{◌≡◌, ◌<◌, map, length, IfOk};
-ghost use Rattle.oim_meta.specs.InOrder.{LevelRises};
-ghost use Rattle.oim_meta.specs.Readers.{columns_of};
+ghost use Rattle.oim_report.specs.InOrder.{LevelRises};
+ghost use Rattle.oim_report.specs.Readers.{columns_of};
 ghost use Rattle.oim_resolve.specs.ProgramPlan.{IsPlanned, planned_column, planned_levels, seen_keyed};
 
 use crate::plan::dimension::{PlannedDimension, plan_dimension};
 use crate::plan::group::{PlannedGroup, plan_groups};
 use crate::plan::levels;
-use oim_meta::{Level, Report};
 use oim_names::find;
+use oim_report::{Level, Report};
 use std::alloc::{AllocError, Global};
 
 /// A column: what it, its template and the report write, merged in byte order of name, and its

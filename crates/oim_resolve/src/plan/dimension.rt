@@ -9,8 +9,8 @@ use crate::cell::side_of;
 use crate::plan::literal::{Literal, literal_of};
 use crate::plan::reference::{Reference, reference_of};
 use crate::role::Role;
-use oim_meta::{Report, Side, Written};
 use oim_names::Text;
+use oim_report::{Report, Side, Written};
 use std::alloc::{AllocError, Global};
 
 /// A dimension that a level writes, with what is the same for all rows. It is a literal, a reference,

@@ -6,7 +6,7 @@ ghost use Rattle.oim_names.specs.Lookup.{value_at};
 ghost use Rattle.oim_resolve.specs.ProgramPlan.{group_in, planned_level, seen_group, seen_keyed};
 
 use crate::plan::dimension::{PlannedDimension, plan_dimension};
-use oim_meta::{Column, Level, Report};
+use oim_report::{Column, Level, Report};
 use std::alloc::{AllocError, Global};
 
 /// A property group.

@@ -3,13 +3,13 @@
 ghost use Rattle.std.specs.Prelude.{◌≡◌, ◌∷◌, ◌++◌, [], map, reverse, IfOk, OnOk};
 ghost use Rattle.std.specs.List.{All, fold};
 ghost use Rattle.std.specs.Option.{option_map};
-ghost use Rattle.oim_meta.specs.InOrder.{LevelRises};
+ghost use Rattle.oim_report.specs.InOrder.{LevelRises};
 ghost use Rattle.oim_resolve.specs.Order.{IsAscending};
 ghost use Rattle.oim_resolve.specs.ProgramCell.{held};
 ghost use Rattle.oim_resolve.specs.Written.{written, written_decimals, put_name, names};
 
-use oim_meta::{Level, Written, WrittenDecimals};
 use oim_names::find_in_order;
+use oim_report::{Level, Written, WrittenDecimals};
 use std::alloc::{AllocError, Global};
 
 /// What is written for a dimension, by the first level that writes it: the levels stand from the most

@@ -9,7 +9,7 @@ use crate::dimension::{Entry, read_concept, read_value};
 use crate::fact::CellFault;
 use crate::role::Role;
 use oim_cells::CellMeaning;
-use oim_meta::{Kind, Report, Side, Written};
+use oim_report::{Kind, Report, Side, Written};
 use std::alloc::{AllocError, Global};
 
 /// A literal, read beforehand.

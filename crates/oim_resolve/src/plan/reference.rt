@@ -4,7 +4,7 @@ ghost use Rattle.std.specs.Prelude.{◌≡◌, ◌<◌, length};
 ghost use Rattle.std.specs.Option.{option_map};
 ghost use Rattle.oim_resolve.specs.ProgramPlan.{reference_of, seen_reference};
 
-use oim_meta::{Report, Written};
+use oim_report::{Report, Written};
 
 /// What a reference names: the place of a column, and a parameter.
 #[derive(Clone, Copy)]

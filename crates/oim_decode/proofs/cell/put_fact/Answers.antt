@@ -1,7 +1,7 @@
 use Rattle.std.proofs.Common.{◌≡◌, Some, None, get_or, sym, ap, subst, ◌∙◌, inl, inr}
 use Rattle.csv.specs.Records.{fields_of}
 use Rattle.oim_cells.specs.Cells.{seen_meaning}
-use Rattle.oim_meta.specs.declared.kind.Kind.{Kind}
+use Rattle.oim_report.specs.declared.kind.Kind.{Kind}
 use Rattle.oim_resolve.specs.Facts.{rest_faults}
 use Rattle.oim_resolve.specs.Faults.{least}
 use Rattle.oim_decode.specs.Facts.{tail_text}

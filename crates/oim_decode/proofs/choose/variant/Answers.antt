@@ -1,8 +1,8 @@
 use Rattle.std.proofs.Common.{◌≡◌, List, codes, map, reverse, sym, ap, subst, ◌∙◌}
 use Rattle.std.specs.Borrow.{Bor}
 use Rattle.std.specs.Option.{option_map}
-use Rattle.oim_meta.specs.declared.data.Level.{Level}
-use Rattle.oim_meta.specs.declared.data.Written.{Written}
+use Rattle.oim_report.specs.declared.data.Level.{Level}
+use Rattle.oim_report.specs.declared.data.Written.{Written}
 use Rattle.oim_resolve.specs.Written.{written, written_decimals}
 use Rattle.csv.specs.Records.{fields_of}
 use Rattle.oim_decode.specs.Facts.{groups_wrong}

@@ -2,8 +2,8 @@ use Rattle.std.proofs.Common.{◌++◌, codes, sym, ap, ◌∙◌}
 use Rattle.std.specs.List.{flat_map}
 use Rattle.std.proofs.lemmas.Grind.{flat_map-append}
 use Rattle.oim_json.specs.JsonText.{escaped_byte}
-use Rattle.oim_meta.specs.Readers.{column_of}
-use Rattle.oim_meta.specs.declared.data.Column.{Column}
+use Rattle.oim_report.specs.Readers.{column_of}
+use Rattle.oim_report.specs.declared.data.Column.{Column}
 use Rattle.oim_decode.proofs.columns.tail_of.Goals as goal
 
 pub returns : goal.returns

@@ -2,7 +2,7 @@ use Rattle.std.proofs.Common.{◌≡◌, ◌∷◌, take}
 use Rattle.std.specs.List.{flat_map}
 use Rattle.std.specs.Option.{option_to_list}
 use Rattle.csv.specs.Records.{fields_of}
-use Rattle.oim_meta.specs.Readers.{column_of}
+use Rattle.oim_report.specs.Readers.{column_of}
 use Rattle.oim_decode.specs.ReadyTable.{held}
 use Rattle.oim_decode.specs.Rows.{group_in}
 use Rattle.oim_decode.proofs.compile.levels_of.Given as goal

@@ -1,7 +1,7 @@
 use Rattle.std.proofs.Common.{◌≡◌, ◌∙◌, ◌+◌, ◌++◌, ◌∷◌, [], ap, take}
 use Rattle.std.proofs.lemmas.List.{map-append}
 use Rattle.csv.specs.Records.{fields_of}
-use Rattle.oim_meta.specs.Readers.{columns_of}
+use Rattle.oim_report.specs.Readers.{columns_of}
 use Rattle.oim_rows.specs.Header.{named_column, header_of}
 use Rattle.oim_rows.proofs.Places.{take-field_at}
 use Rattle.oim_rows.proofs.header.columns_of.Goals as goal

@@ -1,7 +1,7 @@
 use Rattle.std.proofs.Common.{◌∙◌, sym}
 use Rattle.oim_rows.proofs.Places.{position_from-here, position_from-next}
 use Rattle.csv.specs.Records.{fields_of}
-use Rattle.oim_meta.specs.Readers.{columns_of}
+use Rattle.oim_report.specs.Readers.{columns_of}
 use Rattle.oim_rows.specs.Header.{is_unknown}
 use Rattle.oim_rows.proofs.header.first_unknown.Goals as goal
 

@@ -1,5 +1,5 @@
 use Rattle.std.proofs.Common.{◌∙◌}
-use Rattle.oim_meta.specs.Readers.{columns_of}
+use Rattle.oim_report.specs.Readers.{columns_of}
 use Rattle.oim_rows.proofs.Repeats.{place_is}
 use Rattle.oim_rows.proofs.header.place_of_cell.Goals as goal
 

@@ -1,7 +1,7 @@
 use Rattle.std.proofs.Common.{◌<◌, ◌∙◌, IfSome, length, subst, sym}
 use Rattle.std.specs.List.{All}
 use Rattle.csv.specs.Records.{fields_of}
-use Rattle.oim_meta.specs.Readers.{columns_of}
+use Rattle.oim_report.specs.Readers.{columns_of}
 use Rattle.oim_rows.specs.Header.{Header}
 use Rattle.oim_rows.proofs.Repeats.{header_below}
 use Rattle.oim_rows.proofs.header.take_header.Goals as goal

@@ -1,6 +1,6 @@
 use Rattle.std.proofs.Common.{arith, rules}
 use Rattle.std.proofs.lemmas.List.{map_more}
-use Rattle.oim_meta.specs.Readers.{no_table}
+use Rattle.oim_report.specs.Readers.{no_table}
 use Rattle.oim_run.proofs.conversion.names_of.Goals as goal
 
 pub loop-table-preserved : goal.loop-table-preserved

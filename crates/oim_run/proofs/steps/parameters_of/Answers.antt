@@ -1,5 +1,5 @@
 use Rattle.std.proofs.Common.{Err, Ok, rules}
-use Rattle.oim_meta.specs.Grid.{grid}
+use Rattle.oim_records.specs.Grids.{grid}
 use Rattle.oim_meta.specs.ParametersFile.{parameters_result}
 use Rattle.oim_run.specs.declared.outcome.Outcome.TheVariants as outcome
 use Rattle.oim_run.specs.declared.outcome.Source.TheVariants as source

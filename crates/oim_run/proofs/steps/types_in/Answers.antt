@@ -1,4 +1,4 @@
-use Rattle.oim_meta.specs.Grid.{grid}
+use Rattle.oim_records.specs.Grids.{grid}
 use Rattle.oim_meta.specs.TypesFile.{types_result}
 use Rattle.oim_run.specs.declared.outcome.Source.TheVariants as source
 use Rattle.oim_run.proofs.StepFacts.{reads_fault, reads_none, reads_value}

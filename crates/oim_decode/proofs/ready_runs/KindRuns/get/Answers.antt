@@ -1,5 +1,5 @@
 use Rattle.std.proofs.Common.{sym, subst}
-use Rattle.oim_meta.specs.declared.kind.Kind.{Kind}
+use Rattle.oim_report.specs.declared.kind.Kind.{Kind}
 use Rattle.oim_decode.specs.ReadyRuns.{AreRuns}
 use Rattle.oim_decode.proofs.ReadyRunLaws.{of_boolean, of_date, of_explicit, of_name, of_number, of_typed}
 use Rattle.oim_decode.proofs.ready_runs.KindRuns.get.Goals as goal

@@ -1,7 +1,7 @@
 use Rattle.std.proofs.Common.{◌≡◌, take, map}
 use Rattle.std.specs.List.{flat_map, fold}
 use Rattle.std.specs.Option.{option_to_list}
-use Rattle.oim_meta.specs.Readers.{column_of}
+use Rattle.oim_report.specs.Readers.{column_of}
 use Rattle.oim_resolve.specs.Cell.{meaning_at}
 use Rattle.oim_resolve.specs.ProgramCell.{cell_at, held}
 use Rattle.oim_resolve.specs.ProgramPlan.{put_entries, planned_column, seen_keyed}

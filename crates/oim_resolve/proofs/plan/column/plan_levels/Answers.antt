@@ -1,6 +1,6 @@
 use Rattle.std.specs.Borrow.{Bor}
-use Rattle.oim_meta.specs.InOrder.{LevelRises}
-use Rattle.oim_meta.specs.declared.data.Level.{Level}
+use Rattle.oim_report.specs.InOrder.{LevelRises}
+use Rattle.oim_report.specs.declared.data.Level.{Level}
 use Rattle.oim_resolve.proofs.LevelOrder.{all_two}
 use Rattle.oim_resolve.proofs.plan.column.plan_levels.Goals as goal
 

@@ -1,10 +1,10 @@
 use Rattle.std.proofs.Common.{List, ℕ, ap, sym, subst, ◌∙◌, arith}
 use Rattle.std.specs.Borrow.{Bor}
 use Rattle.std.specs.Map.{keys_of}
-use Rattle.oim_meta.specs.InOrder.{LevelRises}
-use Rattle.oim_meta.specs.Order.{IsRising}
-use Rattle.oim_meta.specs.declared.data.Level.{Level}
-use Rattle.oim_meta.specs.declared.data.Written.{Written}
+use Rattle.oim_report.specs.InOrder.{LevelRises}
+use Rattle.oim_report.specs.Rising.{IsRising}
+use Rattle.oim_report.specs.declared.data.Level.{Level}
+use Rattle.oim_report.specs.declared.data.Written.{Written}
 use Rattle.oim_names.specs.Lookup.{value_at}
 use Rattle.oim_resolve.proofs.Overrides.{found_written, none_written}
 use Rattle.oim_resolve.proofs.plan.levels.written.Goals as goal

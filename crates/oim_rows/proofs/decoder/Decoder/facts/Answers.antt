@@ -1,7 +1,7 @@
 use Rattle.std.proofs.Common.{◌∙◌, ap, length}
 use Rattle.std.proofs.lemmas.List.FromFn.{length-map-range_with_len}
 use Rattle.csv.specs.Records.{fields_of}
-use Rattle.oim_meta.specs.Readers.{columns_of}
+use Rattle.oim_report.specs.Readers.{columns_of}
 use Rattle.oim_resolve.specs.declared.fact.Row.{Row}
 use Rattle.oim_rows.specs.RowFacts.{cell_at}
 use Rattle.oim_rows.proofs.decoder.Decoder.facts.Goals as goal

@@ -1,5 +1,5 @@
 use Rattle.std.proofs.Common.{◌<◌, List, length, map, sym, subst, ap, ◌∙◌}
-use Rattle.oim_meta.specs.declared.data.Column.{Column}
+use Rattle.oim_report.specs.declared.data.Column.{Column}
 use Rattle.oim_resolve.specs.declared.plan.column.PlannedColumn.{PlannedColumn}
 use Rattle.oim_resolve.specs.ProgramCell.{cell_at, held}
 use Rattle.oim_resolve.specs.ProgramPlan.{Keyed, seen_keyed}

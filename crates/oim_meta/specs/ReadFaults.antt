@@ -1,9 +1,0 @@
--- Why a record could not be read, by the error of the CSV reader: memory ran out, or else the reader below it failed.
-use Rattle.csv.specs.declared.error.ErrorKind.{ErrorKind}
-use Rattle.csv.specs.declared.error.ErrorKind.TheVariants as kind
-use Rattle.oim_meta.specs.declared.records.ReadFault.{ReadFault}
-use Rattle.oim_meta.specs.declared.records.ReadFault.TheVariants.{Read, Memory}
-
-abbrev pub fault_of_kind : ErrorKind → ReadFault
-fault_of_kind kind.OutOfMemory = Memory
-fault_of_kind kind = Read

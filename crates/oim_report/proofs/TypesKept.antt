@@ -1,0 +1,57 @@
+-- One more record of a types table: what it says, and that a look-up by groups gives it.
+use Rattle.std.proofs.Common.{◌≡◌, ◌∙◌, ℕ, List, [], ◌∷◌, Option, Some, None, Bool, true, false, ◌&&◌, if◌then◌else◌, refl, sym, ap}
+use Rattle.std.proofs.lemmas.List.Folds.{find-append}
+use Rattle.std.specs.Option.{option_map, option_or}
+use Rattle.std.specs.List.{find}
+use Rattle.std.specs.Str.{bytes_eq}
+use Rattle.oim_report.specs.Named.{ExtendsUnder, Grouped, value_under}
+use Rattle.oim_report.specs.Types.{GivesKinds, TypesValue, is_of, kind_in}
+use Rattle.oim_report.specs.Types.{with_kind}
+use Rattle.oim_report.specs.declared.kind.Kind.{Kind}
+use Rattle.oim_report.specs.declared.typed_name.TypedName.{TypedName}
+use Rattle.oim_report.proofs.NamedFacts.{same-bytes}
+
+pub or-none : {A : Type 0} (o : Option A) → option_or o None ≡ o
+or-none None = refl
+or-none (Some x) = refl
+
+map-or : {A B : Type 0} (f : A → B) (a b : Option A) → option_map f (option_or a b) ≡ option_or (option_map f a) (option_map f b)
+map-or f None b = refl
+map-or f (Some x) b = refl
+
+-- the kinds after one more record
+pub said-more : (types : TypesValue) (u l uri local : List ℕ) (k : Kind)
+    → kind_in (with_kind types u l k) uri local ≡ option_or (kind_in types uri local) (if bytes_eq u uri && bytes_eq l local then Some k else None)
+said-more types u l uri local k =
+    ap (option_map kind) (find-append (is_of uri local) types (last ∷ []))
+    ∙ map-or kind (find (is_of uri local) types) (find (is_of uri local) (last ∷ []))
+    ∙ ap (option_or (kind_in types uri local)) (by (is_of uri local last))
+  where
+    kind : TypedName → Kind
+    kind name = name.kind
+
+    last : TypedName
+    last = record { uri = u; local = l; kind = k }
+
+    by : (b : Bool) → option_map kind (if b then Some last else None) ≡ (if b then Some k else None)
+    by true = refl
+    by false = refl
+
+both : (a b : Bool) → (a && b) ≡ true → (a ≡ true) × (b ≡ true)
+both true true h = (refl, refl)
+both true false h = cc h
+both false b h = cc h
+
+-- groups with one more kind give what the records and one more say
+pub kept-more : (groups more : Grouped Kind) (types : TypesValue) (u l : List ℕ) (k : Kind) → GivesKinds groups types → kind_in types u l ≡ None
+    → ExtendsUnder groups u l k more → GivesKinds more (with_kind types u l k)
+kept-more groups more types u l k kept none extends =
+    λ uri local. extends uri local ∙ by uri local (bytes_eq u uri && bytes_eq l local) refl ∙ sym (said-more types u l uri local k)
+  where
+    by : (uri local : List ℕ) (b : Bool) → (bytes_eq u uri && bytes_eq l local) ≡ b
+        → (if b then Some k else value_under groups uri local) ≡ option_or (kind_in types uri local) (if b then Some k else None)
+    by uri local true h =
+        let same = both (bytes_eq u uri) (bytes_eq l local) h in
+        let absent : kind_in types uri local ≡ None = rw (← same-bytes u uri same.0, ← same-bytes l local same.1) none in
+        rw absent refl
+    by uri local false h = kept uri local ∙ sym (or-none (kind_in types uri local))

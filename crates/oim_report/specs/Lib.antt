@@ -1,0 +1,8 @@
+pub mod Named
+pub mod Types
+pub mod Parameters
+pub mod Rising
+pub mod InOrder
+pub mod ReportValue
+pub mod Places
+pub mod Readers

@@ -1,0 +1,45 @@
+-- What the readers of a report answer. Places that are out of range have empty parts.
+use Rattle.std.specs.Prelude.{ℕ, List, [], Option, None, false, slice_index_or}
+use Rattle.std.specs.Option.{option_or}
+use Rattle.oim_names.specs.Lookup.{value_at}
+use Rattle.oim_report.specs.Types.{kind_in}
+use Rattle.oim_report.specs.ReportValue.{ReportValue}
+use Rattle.oim_report.specs.declared.data.Level.{Level}
+use Rattle.oim_report.specs.declared.data.Column.{Column}
+use Rattle.oim_report.specs.declared.data.ColumnKind.TheVariants.{Plain}
+use Rattle.oim_report.specs.declared.data.Table.{Table}
+use Rattle.oim_report.specs.declared.data.Template.{Template}
+use Rattle.oim_report.specs.declared.kind.Kind.{Kind}
+
+-- the parts at a place that is out of range
+abbrev pub no_level : Level
+no_level = record { dimensions = []; decimals = None }
+
+abbrev pub no_column : Column
+no_column = record { id = []; kind = Plain; level = no_level; groups = []; from = [] }
+
+abbrev pub no_template : Template
+no_template = record { id = []; columns = []; row_id_column = None; level = no_level }
+
+abbrev pub no_table : Table
+no_table = record { id = []; url = []; is_optional = false; template = 0; parameters = [] }
+
+abbrev pub table_of : ReportValue → ℕ → Table
+table_of r i = slice_index_or r.tables i no_table
+
+abbrev pub template_of : ReportValue → ℕ → Template
+template_of r i = slice_index_or r.templates (table_of r i).template no_template
+
+abbrev pub columns_of : ReportValue → ℕ → List Column
+columns_of r i = (template_of r i).columns
+
+abbrev pub column_of : ReportValue → ℕ → ℕ → Column
+column_of r i c = slice_index_or (columns_of r i) c no_column
+
+-- the table's parameter, else the report's
+abbrev pub parameter_of : ReportValue → ℕ → List ℕ → Option (List ℕ)
+parameter_of r i n = option_or (value_at n (table_of r i).parameters) (value_at n r.parameters)
+
+-- the kind of the concept or dimension of a URI and a local part
+abbrev pub kind_of : ReportValue → List ℕ → List ℕ → Option Kind
+kind_of r uri local = kind_in r.types uri local

@@ -1,0 +1,31 @@
+//! A report: what its metadata says, with its parameters and its types.
+//!
+//! What the crate promises:
+//! - the readers of a `Report` give its parts, and `clone` an equal report;
+//! - the parts of any `Report` are in byte order of name, and its tables, templates and columns have identifiers
+//!   (`stands_in_order`, `specs/InOrder.antt`), and each place that a part names is in range;
+//! - `Types::kind_of` gives the kind that the records of the types say, and `Parameters` their names and values.
+//!
+//! It knows nothing of JSON or of files.
+#![tactic(auto)]
+
+mod by_name;
+mod clone;
+mod data;
+mod kind;
+mod limits;
+mod named;
+mod parameters;
+mod readers;
+mod report;
+mod typed_name;
+mod types;
+
+pub use data::{Column, ColumnKind, Info, Level, Side, Table, Template, Written, WrittenDecimals};
+pub use kind::Kind;
+pub use limits::Limits;
+pub use named::Named;
+pub use parameters::Parameters;
+pub use report::Report;
+pub use typed_name::TypedName;
+pub use types::Types;

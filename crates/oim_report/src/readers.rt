@@ -1,0 +1,205 @@
+//! The readers of a report.
+
+ghost use Rattle.std.specs.Prelude.{◌≡◌, ◌<◌, length, IfOk, IfSome};
+ghost use Rattle.std.specs.List.{All, position};
+ghost use Rattle.std.specs.Option.{option_map};
+ghost use Rattle.std.specs.Str.{bytes_eq};
+ghost use Rattle.oim_names.specs.Lookup.{value_at};
+ghost use Rattle.oim_report.specs.InOrder.{PartsRise, HaveIdentifiers};
+ghost use Rattle.oim_report.specs.Places.{HasColumns};
+ghost use Rattle.oim_report.specs.Readers.{table_of, template_of, columns_of, column_of, parameter_of, kind_of};
+
+use crate::by_name::place_in_order;
+use crate::data::{Column, Info, Level, Table, Template};
+use crate::kind::Kind;
+use crate::report::Report;
+use oim_names::{Namespaces, Text, find_in_order};
+use std::alloc::AllocError;
+
+impl Report {
+    /// What the document says of itself: its base URL and its taxonomy.
+    pub fn info(&self) -> &Info
+        ensures { result.now ≡ self.now.info }
+    {
+        &self.info
+    }
+
+    /// The prefixes with their URIs.
+    pub fn namespaces(&self) -> &Namespaces
+        ensures { result.now ≡ self.now.namespaces }
+    {
+        &self.namespaces
+    }
+
+    /// How many tables there are.
+    pub fn tables(&self) -> usize
+        ensures { result ≡ length self.now.tables }
+    {
+        self.tables.len()
+    }
+
+    fn table(&self, i: usize) -> &Table
+        requires { i < length self.now.tables }
+        ensures { result.now ≡ table_of self.now i }
+    {
+        &self.tables.as_slice()[i]
+    }
+
+    #[tactic(auto, using(crate::proofs::PlaceFacts::template_is_there, crate::proofs::PlaceFacts::template_has_columns))]
+    fn template(&self, i: usize) -> &Template
+        requires { i < length self.now.tables }
+        ensures template { result.now ≡ template_of self.now i }
+        ensures places { HasColumns result.now }
+    {
+        &self.templates.as_slice()[self.table(i).template]
+    }
+
+    /// The identifier of the table at a place, counted from 0 in byte order of identifier.
+    pub fn table_id(&self, i: usize) -> &str
+        requires { i < length self.now.tables }
+        ensures { result.now ≡ (table_of self.now i).id }
+    {
+        self.table(i).id.as_str()
+    }
+
+    /// The URL of a table's file, a plain relative path.
+    pub fn table_url(&self, i: usize) -> &str
+        requires { i < length self.now.tables }
+        ensures { result.now ≡ (table_of self.now i).url }
+    {
+        self.table(i).url.as_str()
+    }
+
+    /// Whether a table's file may be missing.
+    pub fn is_optional(&self, i: usize) -> bool
+        requires { i < length self.now.tables }
+        ensures { result ≡ (table_of self.now i).is_optional }
+    {
+        self.table(i).is_optional
+    }
+
+    /// How many columns the template of a table has.
+    pub fn columns(&self, i: usize) -> usize
+        requires { i < length self.now.tables }
+        ensures { result ≡ length (columns_of self.now i) }
+    {
+        self.template(i).columns.len()
+    }
+
+    /// The columns of a table's template, in byte order of identifier.
+    pub fn template_columns(&self, i: usize) -> &[Column]
+        requires { i < length self.now.tables }
+        ensures { result.now ≡ columns_of self.now i }
+    {
+        self.template(i).columns.as_slice()
+    }
+
+    /// The place of the column with this identifier in a table's template, counted from 0 in byte order of
+    /// identifier, or `None` where there is none. It does not look through all columns.
+    #[tactic(auto, using(crate::proofs::GroupOrder::columns_rise))]
+    pub fn place_of_column(&self, i: usize, name: &[u8]) -> Option<usize>
+        requires { i < length self.now.tables }
+        ensures { result ≡ position (λ k. bytes_eq k.id name.now) (columns_of self.now i) }
+    {
+        self.stands_in_order();
+        place_in_order(self.template_columns(i), name)
+    }
+
+    /// The column at a place of a table's template.
+    #[tactic(auto, using(crate::proofs::PlaceFacts::from_is_there))]
+    pub fn column(&self, i: usize, c: usize) -> &Column
+        requires table { i < length self.now.tables }
+        requires column { c < length (columns_of self.now i) }
+        ensures column { result.now ≡ column_of self.now i c }
+        ensures places { All (λ k. k < length (columns_of self.now i)) result.now.from }
+    {
+        &self.template(i).columns.as_slice()[c]
+    }
+
+    /// The group of this name in a column of groups.
+    #[tactic(auto, using(crate::proofs::GroupOrder::groups_rise))]
+    pub fn group(&self, i: usize, c: usize, name: &str) -> Option<&Level>
+        requires table { i < length self.now.tables }
+        requires column { c < length (columns_of self.now i) }
+        ensures { option_map (λ l. l.now) result ≡ value_at name.now (column_of self.now i c).groups }
+    {
+        self.stands_in_order();
+        find_in_order(self.column(i, c).groups.as_slice(), name)
+    }
+
+    /// The place of the column of row identifiers, if the table's template names one.
+    #[tactic(auto, using(crate::proofs::PlaceFacts::row_id_is_there))]
+    pub fn row_id_column(&self, i: usize) -> Option<usize>
+        requires { i < length self.now.tables }
+        ensures column { result ≡ (template_of self.now i).row_id_column }
+        ensures place { IfSome result (λ c. c < length (columns_of self.now i)) }
+    {
+        self.template(i).row_id_column
+    }
+
+    /// What a table's template writes.
+    pub fn template_level(&self, i: usize) -> &Level
+        requires { i < length self.now.tables }
+        ensures { result.now ≡ (template_of self.now i).level }
+    {
+        &self.template(i).level
+    }
+
+    /// What the report writes.
+    pub fn report_level(&self) -> &Level
+        ensures { result.now ≡ self.now.level }
+    {
+        &self.level
+    }
+
+    /// The value of the report's parameter with this name.
+    #[tactic(auto, using(crate::proofs::PlaceFacts::own_parameters_rise, crate::proofs::ParameterFacts::value_in_both))]
+    fn own_parameter(&self, name: &str) -> Option<&Text>
+        ensures { option_map (λ t. t.now) result ≡ value_at name.now self.now.parameters }
+    {
+        match find_in_order(self.parameters.as_slice(), name) {
+            Some(text) => Some(text),
+            None => self.given.value(name),
+        }
+    }
+
+    /// The value of the table's parameter with this name, else of the report's. It does not look through all names.
+    #[tactic(auto, using(crate::proofs::GroupOrder::parameters_rise))]
+    pub fn parameter(&self, i: usize, name: &str) -> Option<&str>
+        requires { i < length self.now.tables }
+        ensures { option_map (λ t. t.now) result ≡ parameter_of self.now i name.now }
+    {
+        self.stands_in_order();
+        if let Some(text) = find_in_order(self.table(i).parameters.as_slice(), name) {
+            return Some(text.as_str());
+        }
+        match self.own_parameter(name) {
+            Some(text) => Some(text.as_str()),
+            None => None,
+        }
+    }
+
+    /// The kind of the concept or dimension with this namespace URI and local part.
+    pub fn kind_of(&self, uri: &str, local: &str) -> Option<Kind>
+        ensures { result ≡ kind_of self.now uri.now local.now }
+    {
+        self.types.kind_of(uri, local)
+    }
+
+    /// The parts of any report are in byte order of name, and its tables, templates and columns have
+    /// identifiers. The call does nothing.
+    #[tactic(auto, using(crate::proofs::PlaceFacts::parts_rise, crate::proofs::PlaceFacts::have_identifiers))]
+    pub fn stands_in_order(&self)
+        ensures order { PartsRise self.now.level self.now.templates self.now.tables }
+        ensures identifiers { HaveIdentifiers self.now.templates self.now.tables }
+    {
+        let _level = &self.level;
+    }
+
+    /// An equal report. This one stays as it is. Fails if memory runs out.
+    pub fn clone_report(&self) -> Result<Report, AllocError>
+        ensures { IfOk result (λ copy. copy ≡ self.now) }
+    {
+        self.clone()
+    }
+}

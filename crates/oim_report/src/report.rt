@@ -1,0 +1,82 @@
+//! A report: its metadata, parameters and types.
+
+ghost use Rattle.std.specs.Prelude.{◌≡◌, ◌++◌};
+ghost use Rattle.oim_report.specs.Places.{IsReport as are_parts};
+
+use crate::data::{Info, Level, Table, Template};
+use crate::parameters::Parameters;
+use crate::types::Types;
+use oim_names::{Items, Namespaces, Text};
+use std::marker::Model;
+
+/// The metadata of a report, with its parameters and its types. A contract sees all its parts.
+#[derive(Drop)]
+pub struct Report {
+    pub(crate) info: Info,
+    pub(crate) namespaces: Namespaces,
+    pub(crate) types: Types,
+    pub(crate) level: Level,
+    pub(crate) templates: Items<Template>,
+    pub(crate) tables: Items<Table>,
+    /// The parameters of the metadata, in byte order of name.
+    pub(crate) parameters: Items<(Text, Text)>,
+    /// The parameters of the parameters file, in its order.
+    pub(crate) given: Parameters,
+}
+
+impl Model for Report {
+    ghost use Rattle.std.specs.Prelude.{◌++◌};
+    ghost use Rattle.oim_report.specs.ReportValue.{ReportValue};
+    ghost use Rattle.oim_report.specs.Places.{IsReport};
+
+    ghost Value = { ReportValue };
+
+    ghost view = { λ r. record {
+      info = r.info;
+      namespaces = r.namespaces;
+      types = r.types;
+      level = r.level;
+      templates = r.templates;
+      tables = r.tables;
+      parameters = r.parameters ++ r.given;
+    } };
+
+    ghost invariant = { λ r. IsReport r.level r.templates r.tables r.parameters };
+}
+
+impl Report {
+    /// The report of these parts, each of whose places is in range and whose names are in order, with the parameters of the
+    /// metadata and those given beside it.
+    pub fn new(
+        info: Info,
+        namespaces: Namespaces,
+        types: Types,
+        level: Level,
+        templates: Items<Template>,
+        tables: Items<Table>,
+        parameters: (Items<(Text, Text)>, Parameters),
+    ) -> Report
+        requires { are_parts level templates tables parameters.0 }
+        ensures { result ≡ record {
+          info = info;
+          namespaces = namespaces;
+          types = types;
+          level = level;
+          templates = templates;
+          tables = tables;
+          parameters = parameters.0 ++ parameters.1;
+        } }
+    {
+        let (parameters, given) = parameters;
+        Report {
+            info,
+            namespaces,
+            types,
+            level,
+            templates,
+            tables,
+            parameters,
+            given,
+        }
+    }
+}

@@ -1,0 +1,105 @@
+//! The types of concepts and dimensions.
+
+ghost use Rattle.std.specs.Prelude.{◌≡◌, [], IfOk, None};
+ghost use Rattle.oim_report.specs.Types.{kind_in, with_kind};
+
+use crate::kind::Kind;
+use crate::named::Named;
+use crate::typed_name::TypedName;
+use oim_names::Items;
+use std::alloc::{AllocError, Global};
+use std::marker::Model;
+use told::{Tells, Told};
+
+/// The types of concepts and dimensions, which take the place of the taxonomy (XBRL 2.1, XBRL Dimensions 1.0).
+/// A contract sees the records of the types table, in file order.
+#[derive(Drop)]
+pub struct Types {
+    namespaces: Named<Named<Kind>>,
+    records: Told<Items<TypedName>>,
+}
+
+impl Model for Types {
+    ghost use Rattle.oim_report.specs.Types.{GivesKinds, TypesValue};
+
+    ghost Value = { TypesValue };
+
+    ghost view = { λ t. t.records.value };
+
+    ghost invariant = { λ t. GivesKinds t.namespaces t.records.value };
+}
+
+impl Clone for Types {
+    ghost is_clone = { λ v w. w ≡ v };
+
+    fn clone(&self) -> Result<Types, AllocError> {
+        Ok(Types {
+            namespaces: self.namespaces.clone()?,
+            records: self.records.again(),
+        })
+    }
+}
+
+/// The records of some types, and one more.
+#[derive(Drop)]
+struct OneMore<'a> {
+    before: &'a Told<Items<TypedName>>,
+    uri: &'a str,
+    local: &'a str,
+    kind: Kind,
+}
+
+impl Tells<Items<TypedName>> for OneMore<'_> {
+    ghost told = { λ t. with_kind t.before.now.value t.uri.now t.local.now t.kind };
+}
+
+impl Types {
+    /// The kind of the concept or dimension with this namespace URI and local part, or `None` if the table
+    /// does not name it. It takes no memory, and does not search through all names.
+    pub fn kind_of(&self, uri: &str, local: &str) -> Option<Kind>
+        ensures { result ≡ kind_in self.now uri.now local.now }
+    {
+        match self.namespaces.get(uri) {
+            Some(kinds) => kinds.get(local).copied(),
+            None => None,
+        }
+    }
+
+    /// No types. It takes no memory.
+    pub fn none(alloc: Global) -> Types
+        ensures { result ≡ [] }
+    {
+        Types {
+            namespaces: Named::new(alloc),
+            records: Told::seen(&Items::new(alloc)),
+        }
+    }
+
+    /// The same types and one more, the last.
+    pub fn with(
+        self,
+        alloc: Global,
+        uri: &str,
+        local: &str,
+        kind: Kind,
+    ) -> Result<Types, AllocError>
+        requires { kind_in self uri.now local.now ≡ None }
+        ensures { IfOk result (λ more. more ≡ with_kind self uri.now local.now kind) }
+    {
+        let Types {
+            mut namespaces,
+            records,
+        } = self;
+        namespaces.push_under(alloc, uri, local, kind)?;
+        let before = &records;
+        Ok(Types {
+            namespaces,
+            records: Told::of(&OneMore {
+                before,
+                uri,
+                local,
+                kind,
+            }),
+        })
+    }
+}
