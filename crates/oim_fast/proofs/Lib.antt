@@ -3,3 +3,4 @@ pub mod PassingRuns
 pub mod Quoted
 pub mod PlacedBytes
 pub mod Escapes
+pub mod Appends

@@ -1,13 +1,14 @@
 //! Copies of many bytes at once.
 
-ghost use Rattle.std.specs.Prelude.{◌≡◌, ◌+◌, ◌*◌, ◌≤◌, length, map, take};
+ghost use Rattle.std.specs.Prelude.{◌≡◌, ◌+◌, ◌++◌, ◌*◌, ◌≤◌, OnOk, if◌then◌else◌, is_ok, length, map, take};
 ghost use Rattle.std.specs.List.{flat_map, prefix_len};
 ghost use Rattle.std.specs.Simd.Lanes.{mask_l};
-ghost use Rattle.oim_fast.specs.JsonText.{escaped_byte, is_escaped, is_unescaped};
+ghost use Rattle.oim_fast.specs.JsonText.{escaped_byte, is_escaped, is_unescaped, quoted};
 ghost use Rattle.oim_fast.specs.Places.{Placed};
 
-use crate::text::buffer::TextBuffer;
+use crate::text::buffer::{TextBuffer, make_room};
 use crate::text::escape::escape_of;
+use std::alloc::AllocError;
 use std::simd::prelude::*;
 
 /// How many bytes are copied at once, also behind the end of a text. Where so many can be read behind it, a text is copied
@@ -152,4 +153,55 @@ pub(crate) fn copy_escaped(room: &mut [u8], from: usize, text: &[u8], len: usize
         }
     }
     at
+}
+
+/// How many bytes of a text are escaped with one test of the room.
+const PART: usize = 1024;
+
+/// Appends the first bytes of a text, escaped. Fails where memory is short, and then appends nothing.
+#[inline(always)]
+fn put_part(out: &mut TextBuffer, text: &[u8], len: usize) -> Result<(), AllocError>
+    requires text { len ≤ length text.now }
+    requires few { len ≤ 1024 }
+    ensures { out.new.items ≡ (if is_ok result then out.old.items ++ flat_map escaped_byte (take len text.now) else out.old.items) }
+{
+    make_room(&mut out.room, out.len, 6 * len + AT_ONCE)?;
+    let end = copy_escaped(&mut out.room, out.len, text, len);
+    out.len = end;
+    Ok(())
+}
+
+/// Appends the first `len` bytes of a text, escaped. Fails where memory is short.
+#[inline(always)]
+pub(crate) fn put_escaped_front(
+    out: &mut TextBuffer,
+    text: &[u8],
+    len: usize,
+) -> Result<(), AllocError>
+    requires { len ≤ length text.now }
+    ensures { OnOk result (out.new.items ≡ out.old.items ++ flat_map escaped_byte (take len text.now)) }
+{
+    let mut done = 0;
+    while len - done > PART {
+        put_part(out, &text[done..], PART)?;
+        done += PART;
+    }
+    put_part(out, &text[done..], len - done)
+}
+
+/// Appends the first `len` bytes of a text in quotes, escaped. Fails where memory is short.
+#[inline(always)]
+#[tactic(auto, using(std::proofs::Common::append_assoc), unfolding(crate::specs::JsonText::quoted))]
+pub(crate) fn put_quoted_front(
+    out: &mut TextBuffer,
+    text: &[u8],
+    len: usize,
+) -> Result<(), AllocError>
+    requires { len ≤ length text.now }
+    ensures { OnOk result (out.new.items ≡ out.old.items ++ quoted (take len text.now)) }
+{
+    out.push(b'"')?;
+    put_escaped_front(out, text, len)?;
+    out.push(b'"')?;
+    Ok(())
 }
