@@ -4,3 +4,7 @@ pub mod Quoted
 pub mod PlacedBytes
 pub mod Escapes
 pub mod Appends
+pub mod Texts
+pub mod AnswerLaws
+pub mod Refreshed
+pub mod Growth

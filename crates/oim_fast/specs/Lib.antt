@@ -1,3 +1,8 @@
 pub mod Buffers
 pub mod JsonText
 pub mod Places
+pub mod Rows
+pub mod Sources
+pub mod Answers
+pub mod References
+pub mod Groups

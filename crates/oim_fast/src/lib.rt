@@ -5,7 +5,9 @@
 //! `oim_json` the texts of the facts). So what it has to meet is one-sided: what it wrote is the texts of the facts that
 //! the definition gives.
 //!
+//! - `row`: a row under its header, and what its cells give the references and the columns of property groups;
 //! - `text`: texts that grow, copies, escapes, hashes.
 #![tactic(auto)]
 
+mod row;
 mod text;

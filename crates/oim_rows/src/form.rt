@@ -90,14 +90,14 @@ impl<'a> RowForm<'a> {
 
 impl<'a> RowForm<'a> {
     /// The report of the table.
-    pub(crate) fn report(&self) -> &'a Report
+    pub fn report(&self) -> &'a Report
         ensures { result.now ≡ (self.now).report }
     {
         self.report
     }
 
     /// The place in the header of the row identifier, where the table has a column for it.
-    pub(crate) fn id_place(&self) -> Option<usize>
+    pub fn id_place(&self) -> Option<usize>
         ensures { result ≡ id_place_of self.now }
     {
         self.id_place
