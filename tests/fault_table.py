@@ -1,10 +1,11 @@
 #!/usr/bin/env python3
-"""Compares docs/FAULTS.md with the sources: each fault that a crate numbers and names is in the table, and the other way round.
+"""Compares docs/FAULTS.md with the sources: each fault that a crate numbers and names is in the table, and the other way round,
+and each is explained in the sources by one sentence.
 
     tests/fault_table.py
 
-Reads each line `Type::Variant => 40,` and `Type::Variant => "BadNumber",` of crates/*/src, and each row `| 40 BadNumber |` of
-the table, which must stand in the order of the numbers within its section.
+Reads each line `Type::Variant => 40,`, `Type::Variant => "BadNumber",` and `Type::Variant => "a sentence of words",` of
+crates/*/src, and each row `| 40 BadNumber |` of the table, which must stand in the order of the numbers within its section.
 """
 import re
 import sys
@@ -12,16 +13,20 @@ from pathlib import Path
 
 TOP = Path(__file__).resolve().parent.parent
 ARM = re.compile(r'^\s*(\w+::\w+)(?:\([^)]*\)| \{[^}]*\})? => (?:(\d+)|"(\w+)"),$', re.M)
+EXPLAINED = re.compile(r'^\s*(\w+::\w+)(?:\([^)]*\)| \{[^}]*\})? =>\s*(?:\{\s*)?"(\w+ [^"]*)"', re.M)
 ROW = re.compile(r"^\| (\d+) (\w+) \|", re.M)
 
 
 def named_in_sources():
-    numbers, names = {}, {}
+    """The faults of the sources, and those of them that no sentence explains."""
+    numbers, names, explained = {}, {}, set()
     for file in sorted(TOP.glob("crates/*/src/**/*.rt")):
-        for variant, number, name in ARM.findall(file.read_text()):
-            crate = file.relative_to(TOP).parts[1]
+        crate, text = file.relative_to(TOP).parts[1], file.read_text()
+        for variant, number, name in ARM.findall(text):
             (numbers if number else names)[crate, variant] = int(number) if number else name
-    return {(numbers[it], names[it]) for it in numbers if it in names}
+        explained |= {(crate, variant) for variant, _ in EXPLAINED.findall(text)}
+    faults = {it: (numbers[it], names[it]) for it in numbers if it in names}
+    return set(faults.values()), {faults[it] for it in faults.keys() - explained}
 
 
 def main():
@@ -33,7 +38,8 @@ def main():
         if here != sorted(here):
             wrong.append(f"not in the order of the numbers: {here}")
         rows += here
-    sources = named_in_sources()
+    sources, unexplained = named_in_sources()
+    wrong += [f"not explained in the sources: {it}" for it in sorted(unexplained)]
     wrong += [f"not in docs/FAULTS.md: {it}" for it in sorted(sources - set(rows))]
     wrong += [f"not in the sources: {it}" for it in sorted(set(rows) - sources)]
     wrong += [f"twice: {it}" for it in sorted({it for it in rows if rows.count(it) > 1})]

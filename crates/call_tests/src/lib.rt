@@ -13,3 +13,5 @@ mod tests_members;
 mod tests_rows;
 #[cfg(test)]
 mod tests_runs;
+#[cfg(test)]
+mod tests_words;

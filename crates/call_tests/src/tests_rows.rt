@@ -2,7 +2,6 @@
 
 use crate::report::report_of;
 use oim_meta::{Limits, Report};
-use oim_resolve::CellFault;
 use oim_rows::{Rows, TableFault, TableKind};
 use std::alloc::Global;
 use std::io;
@@ -36,7 +35,7 @@ const FAULT: TableFault = TableFault {
     table: 0,
     row: 2,
     column: 1,
-    kind: TableKind::Cell(CellFault::BadNumber),
+    kind: TableKind::BadNumber,
 };
 
 #[test]

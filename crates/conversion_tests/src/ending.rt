@@ -6,7 +6,6 @@ use oim_convert::convert_with_starts;
 use oim_json::{Layout, Marked};
 use oim_merge::MergeEnd;
 use oim_meta::{Limits, Report};
-use oim_resolve::CellFault;
 use oim_rows::{TableFault, TableKind};
 use std::io::{Read, Write};
 use std::sync::Wait;
@@ -48,7 +47,7 @@ pub(crate) const REFUSED: [TableFault; 2] = [
         table: 1,
         row: 2,
         column: 1,
-        kind: TableKind::Cell(CellFault::BadNumber),
+        kind: TableKind::BadNumber,
     },
     TableFault {
         table: 2,

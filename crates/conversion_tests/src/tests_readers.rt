@@ -8,7 +8,6 @@ use oim_convert::{ConvertFault, convert_serial};
 use oim_json::{Layout, Marked};
 use oim_merge::MergeEnd;
 use oim_meta::{Limits, Report};
-use oim_resolve::CellFault;
 use oim_rows::{TableFault, TableKind};
 use std::alloc::{AllocError, Global};
 use std::io;
@@ -180,7 +179,7 @@ const CASES: &[Case<'static>] = &[
             table: 0,
             row: 2,
             column: 1,
-            kind: TableKind::Cell(CellFault::BadNumber),
+            kind: TableKind::BadNumber,
         }],
     ),
 ];

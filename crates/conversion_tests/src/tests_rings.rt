@@ -5,7 +5,7 @@ ghost use Rattle.std.specs.Prelude.{◌≡◌, IfSome};
 use oim_json::{Block, block_of};
 use oim_names::{Items, Text};
 use oim_resolve::Fact;
-use oim_ring::{CloseFault, ClosedFeed, Drain, Ending, Feed, Item, lane};
+use oim_ring::{CloseFault, Closed, Drain, Ending, Feed, Item, lane};
 use oim_rows::{TableFault, TableKind};
 use std::alloc::{AllocError, Global};
 use std::test::Fail;
@@ -101,7 +101,7 @@ fn not_closed(feed: Feed) -> Option<Feed>
 }
 
 /// The token of the feed, whose ring has room, once it is closed.
-fn closed(feed: Feed) -> Option<ClosedFeed>
+fn closed(feed: Feed) -> Option<Closed>
     ensures { IfSome result (λ c. c.ring ≡ feed.ring) }
 {
     match feed.close(Ending::Refused(FAULT)) {
@@ -111,7 +111,7 @@ fn closed(feed: Feed) -> Option<ClosedFeed>
 }
 
 /// Whether the ending is there, after which the drain settles.
-fn settled(drain: Drain, closed: ClosedFeed) -> bool
+fn settled(drain: Drain, closed: Closed) -> bool
     requires { closed.ring ≡ drain.ring }
 {
     let mut drain = drain;

@@ -13,7 +13,7 @@ use crate::job::Job;
 use crate::sending::{close_waiting, put_waiting};
 use oim_decode::TableBlocks;
 use oim_report::{Limits, Report};
-use oim_ring::{ClosedFeed, Ending, Feed};
+use oim_ring::{Closed, Ending, Feed};
 use oim_rows::{TableFault, TableKind};
 use std::alloc::Global;
 use std::io::Read;
@@ -39,7 +39,7 @@ pub(crate) fn decode<R: Read + Drop, T: Wait>(
     report: &Report,
     limits: Limits,
     job: Job<R>,
-) -> Option<ClosedFeed>
+) -> Option<Closed>
     requires place { job.table < length report.now.tables }
     requires rows { limits.rows ≤ 4294967294 }
     requires fresh { job.feed.sent ≡ [] }

@@ -29,8 +29,8 @@ pub enum ConvertFault {
 }
 
 impl ConvertFault {
-    /// What is wrong, as a message for people.
-    fn sentence(&self) -> &'static str {
+    /// What is wrong, as a sentence for people without capital and full stop.
+    pub fn explanation(&self) -> &'static str {
         match self {
             ConvertFault::BadWorkers => "the number of workers is not 1 to 64",
             ConvertFault::BadSize => "the size of the rings is not 1 to 65,536",
@@ -43,9 +43,10 @@ impl ConvertFault {
     }
 }
 
+/// A fault prints its name.
 impl Display for ConvertFault {
     fn fmt<W: fmt::Write>(&self, f: &mut Formatter<W>) -> fmt::Result {
-        f.write_str(self.sentence())
+        f.write_str(self.name())
     }
 }
 

@@ -1,6 +1,6 @@
 //! The job that a worker draws, and the receipt that it gives for it.
 
-use oim_ring::{ClosedFeed, Feed};
+use oim_ring::{Closed, Feed};
 
 /// A table to decode: its place in the report, its reader if it has a file, and the feed of its ring.
 #[derive(Drop)]
@@ -15,5 +15,5 @@ pub(crate) struct Job<R> {
 #[derive(Drop)]
 pub(crate) struct Receipt {
     pub(crate) table: usize,
-    pub(crate) closed: Option<ClosedFeed>,
+    pub(crate) closed: Option<Closed>,
 }

@@ -15,14 +15,14 @@ use crate::seat::Seat;
 use crate::slots::{place_all, settle_all};
 use crate::worker::Shift;
 use oim_report::{Limits, Report};
-use oim_ring::{ClosedFeed, Drain, Drained};
+use oim_ring::{Closed, Drain, Drained};
 use std::alloc::{AllocError, Global};
 use std::io::Read;
 
 /// Room for the tokens of all tables, for the seats of all workers, and for the settled drains.
 #[derive(Drop)]
 pub(crate) struct ReturnRoom<R> {
-    pub(crate) slots: Vec<Option<ClosedFeed>>,
+    pub(crate) slots: Vec<Option<Closed>>,
     pub(crate) seats: Vec<Seat<Job<R>>>,
     pub(crate) settled: Vec<Drained>,
 }

@@ -5,7 +5,7 @@ ghost use Rattle.oim_ring.specs.Items.{blocks_only};
 ghost use Rattle.oim_ring.specs.declared.item.Item.TheVariants as items;
 
 use oim_json::Block;
-use oim_ring::{CloseFault, ClosedFeed, Ending, Feed};
+use oim_ring::{CloseFault, Closed, Ending, Feed};
 use std::sync::Wait;
 
 /// Sends a block once it is the feed's turn, trying again while the ring is full.
@@ -26,7 +26,7 @@ pub(crate) fn put_waiting<T: Wait>(rt: &T, feed: &mut Feed, block: Block)
 }
 
 /// Closes a feed, trying again while the ring is full. `None` if the token is lost.
-pub(crate) fn close_waiting<T: Wait>(rt: &T, feed: Feed, ending: Ending) -> Option<ClosedFeed>
+pub(crate) fn close_waiting<T: Wait>(rt: &T, feed: Feed, ending: Ending) -> Option<Closed>
     ensures ring { IfSome result (λ closed. closed.ring ≡ feed.ring) }
     ensures sent { IfSome result (λ closed. closed.sent ≡ feed.sent ++ items.Ending ending ∷ []) }
     ensures blocks { IfSome result (λ closed. blocks_only feed.sent ≡ true) }

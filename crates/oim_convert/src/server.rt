@@ -8,7 +8,7 @@ use crate::job::{Job, Receipt};
 use crate::sending::close_waiting;
 use crate::worker::Serve;
 use oim_report::{Limits, Report};
-use oim_ring::ClosedFeed;
+use oim_ring::Closed;
 use oim_rows::TableKind;
 use std::alloc::Global;
 use std::io::Read;
@@ -44,7 +44,7 @@ impl<R: Read + Drop, T: Wait> Serve<Job<R>, Receipt, T, Report> for Serving {
 }
 
 /// Closes the feed of a table for which no thread could be made.
-fn refuse<R: Drop, T: Wait>(rt: &T, job: Job<R>) -> Option<ClosedFeed>
+fn refuse<R: Drop, T: Wait>(rt: &T, job: Job<R>) -> Option<Closed>
     requires { job.feed.sent ≡ [] }
     ensures ring { IfSome result (λ closed. closed.ring ≡ job.feed.ring) }
     ensures sent { IfSome result (λ closed. IsUnserved job.table closed.sent) }

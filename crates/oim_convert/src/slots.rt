@@ -10,7 +10,7 @@ use crate::job::{Job, Receipt};
 use crate::seat::Seat;
 use crate::worker::Shift;
 use oim_report::{Limits, Report};
-use oim_ring::{ClosedFeed, Drain, Drained};
+use oim_ring::{Closed, Drain, Drained};
 use std::io::Read;
 
 /// Puts the token of a receipt into the slot of its table.
@@ -20,7 +20,7 @@ fn place<R: Read>(
     served: bool,
     claims: &Claims<Job<R>>,
     receipt: Receipt,
-    slots: &mut [Option<ClosedFeed>],
+    slots: &mut [Option<Closed>],
 )
     requires receipt { Fulfills R.remaining report.now limits.rows served claims.now.items receipt }
     requires slots { EachSlot R.remaining report.now limits.rows served claims.now.items slots.old }
@@ -43,7 +43,7 @@ fn place_shift<R: Read + Drop>(
     served: bool,
     claims: &Claims<Job<R>>,
     shift: Shift<Job<R>, Receipt>,
-    slots: &mut [Option<ClosedFeed>],
+    slots: &mut [Option<Closed>],
 ) -> Seat<Job<R>>
     requires shift { IsShift (Gives R.remaining report.now limits.rows served) claims.now shift }
     requires slots { EachSlot R.remaining report.now limits.rows served claims.now.items slots.old }
@@ -70,7 +70,7 @@ pub(crate) fn place_all<R: Read + Drop>(
     served: bool,
     claims: &Claims<Job<R>>,
     shifts: Vec<Shift<Job<R>, Receipt>>,
-    slots: &mut [Option<ClosedFeed>],
+    slots: &mut [Option<Closed>],
     seats: Vec<Seat<Job<R>>>,
 ) -> Vec<Seat<Job<R>>>
     requires shifts { All (IsShift (Gives R.remaining report.now limits.rows served) claims.now) shifts.items }
@@ -96,7 +96,7 @@ pub(crate) fn settle_all<R: Read>(
     served: bool,
     claims: &Claims<Job<R>>,
     drains: Vec<Drain>,
-    slots: &mut [Option<ClosedFeed>],
+    slots: &mut [Option<Closed>],
     settled: Vec<Drained>,
 ) -> Option<Vec<Drained>>
     requires drains { Each (IsEnded claims.now.items) 0 drains.items }

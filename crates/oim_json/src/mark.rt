@@ -18,12 +18,11 @@ pub enum Mark {
 
 /// Why bytes could not be written.
 #[derive(Debug, Clone, Copy, PartialEq, Eq, Error)]
+#[error("{}", self.name())]
 pub enum WriteFault {
     /// A write answered an error.
-    #[error("a write failed")]
     Failed,
     /// A write answered 0.
-    #[error("a write took no bytes")]
     Zero,
 }
 
@@ -45,6 +44,14 @@ impl WriteFault {
         match self {
             WriteFault::Failed => "Failed",
             WriteFault::Zero => "Zero",
+        }
+    }
+
+    /// What is wrong, as a sentence for people without capital and full stop.
+    pub fn explanation(&self) -> &'static str {
+        match self {
+            WriteFault::Failed => "a write failed",
+            WriteFault::Zero => "a write took no bytes",
         }
     }
 }

@@ -101,8 +101,8 @@ impl MetaFault {
         }
     }
 
-    /// What is wrong, as a message for people.
-    fn sentence(&self) -> &'static str {
+    /// What is wrong, as a sentence for people without capital and full stop.
+    pub fn explanation(&self) -> &'static str {
         match self {
             MetaFault::Syntax => "the bytes are not well-formed JSON in UTF-8",
             MetaFault::NotReport => "the metadata is not an xBRL-CSV document",
@@ -133,9 +133,10 @@ impl MetaFault {
     }
 }
 
+/// A fault prints its name.
 impl Display for MetaFault {
     fn fmt<W: fmt::Write>(&self, f: &mut Formatter<W>) -> fmt::Result {
-        f.write_str(self.sentence())
+        f.write_str(self.name())
     }
 }
 

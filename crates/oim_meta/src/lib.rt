@@ -1,4 +1,4 @@
-//! The metadata of a report in xBRL-CSV 1.0, its parameters and its types.
+//! The metadata of a report in xBRL-CSV 1.0, its parameters and its types, read from their files into a `Report`.
 //!
 //! What the crate promises:
 //! - `read_report` answers a report exactly where the metadata has no fault, and then the report
@@ -11,11 +11,7 @@
 //!   the report has (`a_text_writes_one_value`, `specs/Writes.antt`);
 //! - a metadata has a fault of its document type, namespaces, taxonomy, extensions, identifiers, shape, kinds of
 //!   columns or templates exactly where a part is not what `specs/Shapes.antt` says it is
-//!   (`faults_of_shape_are_parts_without_it`);
-//! - the readers of a `Report` give its parts, and `clone_report` an equal report;
-//! - the parts of any `Report` are in byte order of name, and its tables, templates and columns have
-//!   identifiers (`stands_in_order`, `specs/InOrder.antt`);
-//! - `Records` gives the records of a CSV file one at a time, after one byte-order mark.
+//!   (`faults_of_shape_are_parts_without_it`).
 //!
 //! All this holds apart from running out of memory and readers that fail. The layers above never meet a half-checked report.
 #![tactic(auto)]

@@ -1,6 +1,8 @@
 //! Reading a metadata: its first fault, or the report that it says.
 
 ghost use Rattle.std.specs.Prelude.{◌≡◌, ◌⊎◌, codes, false, if◌then◌else◌, Some, None, Ok, Err, IfOk, OnOk, IfErr};
+ghost use Rattle.std.specs.Option.{option_map};
+ghost use Rattle.std.specs.String.{string_bytes};
 ghost use Rattle.serde_json.specs.Find.{get};
 ghost use Rattle.serde_json.specs.View.{view};
 ghost use Rattle.oim_meta.specs.declared.fault.MetaFault.TheVariants.{Memory};
@@ -17,7 +19,6 @@ ghost use Rattle.oim_meta.specs.Value.{report_of};
 ghost use Rattle.oim_meta.specs.Reading.{IsJson, IsNoJson, IsFaultOf, SaysReport, IsFault, SaysUrl, IsUrlFault, first_url_fault};
 
 use crate::build;
-use crate::build::made::copied;
 use crate::build::namespaces::prefixes;
 use crate::check::counts::too_many;
 use crate::check::decimals::bad_decimals;
@@ -31,7 +32,7 @@ use crate::check::templates::unknown_template;
 use crate::columns::unknown_column;
 use crate::fault::MetaFault;
 use crate::lookup::text_at;
-use oim_names::{Namespaces, Text};
+use oim_names::Namespaces;
 use oim_report::{Limits, Parameters, Report, Types};
 use serde_json::{Error, Value};
 use std::alloc::Global;
@@ -204,14 +205,21 @@ fn check_url(report: &Value) -> Result<(), MetaFault>
 ///
 /// `TooLarge` for the bytes, `Syntax`, `NotReport`, or `BadParameter` if the name is not a text or not a
 /// plain path; no other fault is looked for. `Memory` if memory runs out.
-pub fn parameter_url(alloc: Global, bytes: &[u8], limits: Limits) -> Result<Option<Text>, MetaFault>
-    ensures value { IfOk result (SaysUrl limits bytes.now) }
-    ensures fault { IfErr result (IsUrlFault limits bytes.now) }
+pub fn parameter_url(
+    alloc: Global,
+    bytes: &[u8],
+    limits: &Limits,
+) -> Result<Option<String>, MetaFault>
+    ensures value { IfOk result (λ url. SaysUrl limits.now bytes.now (option_map string_bytes url)) }
+    ensures fault { IfErr result (IsUrlFault limits.now bytes.now) }
 {
     if bytes.len() > limits.metadata {
         return Err(MetaFault::TooLarge);
     }
     let value = parse(alloc, bytes)?;
     check_url(&value)?;
-    Ok(copied(alloc, text_at(&value, "parameterURL"))?)
+    match text_at(&value, "parameterURL") {
+        Some(url) => Ok(Some(String::from_str(alloc, url)?)),
+        None => Ok(None),
+    }
 }

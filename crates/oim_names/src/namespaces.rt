@@ -14,7 +14,7 @@ use thiserror::Error;
 
 /// Why a prefix cannot be bound to a URI.
 #[derive(Clone, Copy, Debug, PartialEq, Eq, Error)]
-#[error("{}", self.sentence())]
+#[error("{}", self.name())]
 pub enum NameFault {
     /// The prefix is not an NCName.
     BadPrefix,
@@ -47,8 +47,8 @@ impl NameFault {
         }
     }
 
-    /// What is wrong, as a message for people.
-    fn sentence(&self) -> &'static str {
+    /// What is wrong, as a sentence for people without capital and full stop.
+    pub fn explanation(&self) -> &'static str {
         match self {
             NameFault::BadPrefix => "the prefix is not a name without a colon",
             NameFault::Repeated => "the prefix or the URI is already bound",

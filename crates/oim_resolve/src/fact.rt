@@ -136,8 +136,8 @@ pub enum CellFault {
 }
 
 impl CellFault {
-    /// What is wrong, as a message for people.
-    fn sentence(&self) -> &'static str {
+    /// What is wrong, as a sentence for people without capital and full stop.
+    pub fn explanation(&self) -> &'static str {
         match self {
             CellFault::UnknownSpecial => "a text begins with # and is not a special value",
             CellFault::UnknownGroup => "a cell names no property group of its column",
@@ -156,9 +156,10 @@ impl CellFault {
     }
 }
 
+/// A fault prints its name.
 impl Display for CellFault {
     fn fmt<W: fmt::Write>(&self, f: &mut Formatter<W>) -> fmt::Result {
-        f.write_str(self.sentence())
+        f.write_str(self.name())
     }
 }
 

@@ -2,12 +2,12 @@
 use denote.Param.Send.{IsSend}
 use Rattle.oim_ring.proofs.drain.Drain.TheSendSync as drain
 use Rattle.oim_ring.proofs.drain.Drained.TheSendSync as drained
-use Rattle.oim_ring.proofs.feed.ClosedFeed.TheSendSync as closed
+use Rattle.oim_ring.proofs.feed.Closed.TheSendSync as closed
 use Rattle.oim_ring.proofs.feed.Feed.TheSendSync as feed
 use Rattle.oim_ring.proofs.item.Item.TheSendSync as item
 use Rattle.oim_ring.specs.contracts.drain.Drain as Drain
 use Rattle.oim_ring.specs.contracts.drain.Drained as Drained
-use Rattle.oim_ring.specs.contracts.feed.ClosedFeed as ClosedFeed
+use Rattle.oim_ring.specs.contracts.feed.Closed as Closed
 use Rattle.oim_ring.specs.contracts.feed.Feed as Feed
 use Rattle.oim_ring.specs.contracts.item.Item as Item
 
@@ -17,7 +17,7 @@ item_send = item.the_send
 pub feed_send : IsSend Feed.the_row
 feed_send = feed.the_send
 
-pub closed_send : IsSend ClosedFeed.the_row
+pub closed_send : IsSend Closed.the_row
 closed_send = closed.the_send
 
 pub drain_send : IsSend Drain.the_row

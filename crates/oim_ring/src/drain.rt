@@ -6,7 +6,7 @@ ghost use Rattle.oim_ring.specs.Ends.{taker_ring};
 ghost use Rattle.oim_ring.specs.Items.{blocks_only};
 
 use crate::backlog::BacklogHandle;
-use crate::feed::ClosedFeed;
+use crate::feed::Closed;
 use crate::item::Item;
 use crate::waiting::DrainWaiting;
 use oim_json::Block;
@@ -93,13 +93,13 @@ impl Drain {
 
     /// Shows that the items taken are all the items sent, once the ending was taken. The token must come
     /// from the feed of the same ring. It allocates no memory and does not wait.
-    pub fn settle(self, closed: ClosedFeed) -> Drained
+    pub fn settle(self, closed: Closed) -> Drained
         requires one_ring { closed.ring ≡ self.ring }
         requires ended { blocks_only self.taken ≡ false }
         ensures sent { result ≡ closed.sent }
         ensures taken { result ≡ self.taken }
     {
-        let ClosedFeed { mut finished } = closed;
+        let Closed { mut finished } = closed;
         let Drain {
             mut consumer,
             waiting: _,

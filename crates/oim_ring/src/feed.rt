@@ -42,11 +42,11 @@ impl Model for Feed {
 /// The token of a feed that was closed. Contracts see its ring and all items sent, of which only the
 /// last is an ending.
 #[derive(Drop)]
-pub struct ClosedFeed {
+pub struct Closed {
     pub(crate) finished: Finished<Item>,
 }
 
-impl Model for ClosedFeed {
+impl Model for Closed {
     ghost use Rattle.rtrb.specs.Ring.{all_sent};
     ghost use Rattle.oim_ring.specs.Items.{EndsOnce};
     ghost use Rattle.oim_ring.specs.Ends.{ClosedView, finished_ring};
@@ -85,6 +85,14 @@ impl CloseFault {
         match self {
             CloseFault::Full(_, _) => "Full",
             CloseFault::Lost => "Lost",
+        }
+    }
+
+    /// What is wrong, as a sentence for people without capital and full stop.
+    pub fn explanation(&self) -> &'static str {
+        match self {
+            CloseFault::Full(_, _) => "the ring is full and the feed was not closed",
+            CloseFault::Lost => "the ending was sent but the feed's token is lost",
         }
     }
 }
@@ -134,7 +142,7 @@ impl Feed {
     /// and the ending back unchanged, if the ring is full; it is not while fewer items were sent than its
     /// size. Fails with `Lost` if the ending was sent but there is no token. It allocates no memory and
     /// does not wait.
-    pub fn close(self, ending: Ending) -> Result<ClosedFeed, CloseFault>
+    pub fn close(self, ending: Ending) -> Result<Closed, CloseFault>
         ensures { Closes self ending result }
     {
         let Feed {
@@ -157,7 +165,7 @@ impl Feed {
         let finished = producer.finish();
         waiting.wake();
         match finished {
-            Some(finished) => Ok(ClosedFeed { finished }),
+            Some(finished) => Ok(Closed { finished }),
             None => Err(CloseFault::Lost),
         }
     }

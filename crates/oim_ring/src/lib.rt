@@ -29,7 +29,7 @@ mod opening;
 mod waiting;
 
 pub use drain::{Drain, Drained};
-pub use feed::{CloseFault, ClosedFeed, Feed};
+pub use feed::{CloseFault, Closed, Feed};
 pub use item::{Ending, Item};
 pub use opening::{LARGEST_RING, Lanes, lane};
 

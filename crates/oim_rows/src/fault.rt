@@ -47,11 +47,47 @@ pub enum TableKind {
     NoThread,
 }
 
+/// The faults of a cell, each under its own name. As a pattern each is the same as `Cell(..)`.
+impl TableKind {
+    /// 31: a text begins with a single `#` and is not a special value.
+    pub const UnknownSpecial: TableKind = TableKind::Cell(CellFault::UnknownSpecial);
+
+    /// 32: a group cell names no property group of its column.
+    pub const UnknownGroup: TableKind = TableKind::Cell(CellFault::UnknownGroup);
+
+    /// 33: no concept is given.
+    pub const NoConcept: TableKind = TableKind::Cell(CellFault::NoConcept);
+
+    /// 34: the concept is not the name of a concept in the types table.
+    pub const UnknownName: TableKind = TableKind::Cell(CellFault::UnknownName);
+
+    /// 35: a dimension that is not typed is nil or empty.
+    pub const BadReference: TableKind = TableKind::Cell(CellFault::BadReference);
+
+    /// 36: an entity, a unit, a language or a member of an explicit dimension is not well-formed.
+    pub const BadValue: TableKind = TableKind::Cell(CellFault::BadValue);
+
+    /// 37: a period is not well-formed.
+    pub const BadPeriod: TableKind = TableKind::Cell(CellFault::BadPeriod);
+
+    /// 38: the start or the end of an instant is asked for.
+    pub const NotDuration: TableKind = TableKind::Cell(CellFault::NotDuration);
+
+    /// 39: decimals are neither an integer nor `INF`.
+    pub const BadDecimals: TableKind = TableKind::Cell(CellFault::BadDecimals);
+
+    /// 40: the cell of a number is not a numeral.
+    pub const BadNumber: TableKind = TableKind::Cell(CellFault::BadNumber);
+
+    /// 44: the cell of a boolean, a date or a name is not well-formed.
+    pub const BadFactValue: TableKind = TableKind::Cell(CellFault::BadFactValue);
+}
+
 impl Error for TableKind {}
 
 impl TableKind {
-    /// What is wrong, as a message for people, but for the cell's own fault.
-    fn sentence(&self) -> &'static str {
+    /// What is wrong, as a sentence for people without capital and full stop; a cell's fault has its own.
+    pub fn explanation(&self) -> &'static str {
         match self {
             TableKind::NoFile => "a table that is not optional has no file",
             TableKind::Read => "the reader failed",
@@ -67,17 +103,15 @@ impl TableKind {
             TableKind::RepeatedRowId => "an earlier row of the table has the same row identifier",
             TableKind::Memory => "memory ran out",
             TableKind::NoThread => "no worker could be started",
-            TableKind::Cell(_) => "a cell has a fault",
+            TableKind::Cell(fault) => fault.explanation(),
         }
     }
 }
 
+/// A kind prints its name.
 impl Display for TableKind {
     fn fmt<W: fmt::Write>(&self, f: &mut Formatter<W>) -> fmt::Result {
-        match self {
-            TableKind::Cell(fault) => fault.fmt(f),
-            _ => f.write_str(self.sentence()),
-        }
+        f.write_str(self.name())
     }
 }
 
@@ -157,6 +191,11 @@ impl TableFault {
         ensures { result.now ≡ name_of (self.now).kind }
     {
         self.kind.name()
+    }
+
+    /// What is wrong, as its kind explains it.
+    pub fn explanation(&self) -> &'static str {
+        self.kind.explanation()
     }
 }
 

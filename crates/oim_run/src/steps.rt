@@ -14,7 +14,10 @@ ghost use Rattle.oim_meta.specs.declared.fault.MetaFault.TheVariants as refused;
 use crate::folder::Folder;
 use crate::outcome::{Outcome, Source};
 use oim_convert::ConvertFault;
-use oim_meta::{Limits, MetaFault, Parameters, Report, Types, parameter_url, read_parameters, read_report, read_types};
+use oim_meta::{
+    Limits, MetaFault, Parameters, Report, Types, parameter_url, read_parameters, read_report,
+    read_types,
+};
 use oim_names::Text;
 use std::alloc::{AllocError, Global};
 use std::io;
@@ -168,13 +171,23 @@ fn parameters_in<R: Read + Drop, F: Folder<R>>(
     }
 }
 
+/// A string as a text, if there is one. It takes no memory.
+fn text_of(string: Option<String>) -> Option<Text>
+    ensures { result ≡ option_map string_bytes string }
+{
+    match string {
+        Some(string) => Some(Text::new(string)),
+        None => None,
+    }
+}
+
 /// The URL of the parameters file, if the metadata has one.
 fn url_in(alloc: Global, metadata: &[u8]) -> Result<Option<Text>, Outcome>
     ensures gives { Takes (looking (url_result profile metadata.now) ∷ []) (λ u. url_result profile metadata.now ≡ Ok u) result }
     ensures early { IfErr result IsEarly }
 {
-    match parameter_url(alloc, metadata, Limits::profile()) {
-        Ok(url) => Ok(url),
+    match parameter_url(alloc, metadata, &Limits::profile()) {
+        Ok(url) => Ok(text_of(url)),
         Err(fault) => Err(Outcome::Report(Source::Report, fault)),
     }
 }

@@ -1,8 +1,7 @@
 //! Tests of calls that run out of memory.
 //!
 //! Each call is made without any memory left, then with a little more, and so on until it has enough. So its first
-//! allocation is refused, then its second, and so on. The crate has these tests, what they need, and a test of the words
-//! that faults print.
+//! allocation is refused, then its second, and so on. The crate has these tests and what they need.
 #![tactic(auto)]
 
 mod scarcity;
@@ -19,5 +18,3 @@ mod tests_names;
 mod tests_rings;
 #[cfg(test)]
 mod tests_rows;
-#[cfg(test)]
-mod tests_words;

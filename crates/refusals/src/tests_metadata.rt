@@ -46,7 +46,7 @@ struct ReadsUrl;
 
 impl Call for ReadsUrl {
     fn make(&mut self, alloc: Global) -> Answer {
-        match parameter_url(alloc, METADATA.as_bytes(), Limits::profile()) {
+        match parameter_url(alloc, METADATA.as_bytes(), &Limits::profile()) {
             Ok(Some(url)) if url.as_str() == "parameters.csv" => Answer::Enough,
             Ok(_) => Answer::Wrong,
             Err(fault) => of_fault(fault),

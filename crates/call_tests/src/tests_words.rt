@@ -1,4 +1,4 @@
-//! The words that faults print for people.
+//! The words of faults: each prints its name, and explains itself in a sentence for people.
 
 use oim_meta::MetaFault;
 use oim_names::NameFault;
@@ -14,7 +14,7 @@ fn prints<F: Display>(alloc: Global, fault: &F, words: &str) -> Result<bool, All
     Ok(printed.as_str() == words)
 }
 
-/// What each fault of namespaces prints.
+/// How each fault of namespaces is explained.
 const NAMES: &[(NameFault, &str)] = &[
     (
         NameFault::BadPrefix,
@@ -28,14 +28,15 @@ const NAMES: &[(NameFault, &str)] = &[
 ];
 
 #[test]
-fn faults_of_namespaces_print_sentences(rt: HostRuntime) -> Result<(), Fail> {
+fn faults_of_namespaces_have_names_and_explanations(rt: HostRuntime) -> Result<(), Fail> {
     for (fault, words) in NAMES {
-        assert!(rt; prints(rt.alloc(), fault, words)?);
+        assert!(rt; prints(rt.alloc(), fault, fault.name())?);
+        assert!(rt; fault.explanation() == *words);
     }
     Ok(())
 }
 
-/// What each fault of a metadata, a parameters file and a types table prints.
+/// How each fault of a metadata, a parameters file and a types table is explained.
 const METADATA: &[(MetaFault, &str)] = &[
     (
         MetaFault::Syntax,
@@ -99,14 +100,15 @@ const METADATA: &[(MetaFault, &str)] = &[
 ];
 
 #[test]
-fn faults_of_metadata_print_sentences(rt: HostRuntime) -> Result<(), Fail> {
+fn faults_of_metadata_have_names_and_explanations(rt: HostRuntime) -> Result<(), Fail> {
     for (fault, words) in METADATA {
-        assert!(rt; prints(rt.alloc(), fault, words)?);
+        assert!(rt; prints(rt.alloc(), fault, fault.name())?);
+        assert!(rt; fault.explanation() == *words);
     }
     Ok(())
 }
 
-/// What each fault of a table prints, apart from those of its cells.
+/// How each fault of a table is explained, apart from those of its cells.
 const TABLES: &[(TableKind, &str)] = &[
     (
         TableKind::NoFile,
@@ -156,21 +158,22 @@ const PLACED: TableFault = TableFault {
     table: 1,
     row: 2,
     column: 3,
-    kind: TableKind::Cell(CellFault::BadNumber),
+    kind: TableKind::BadNumber,
 };
 
-const PLACED_WORDS: &str = "table 1, row 2, column 3: the cell of a number is not a numeral";
+const PLACED_WORDS: &str = "table 1, row 2, column 3: BadNumber";
 
 #[test]
-fn faults_of_tables_print_sentences(rt: HostRuntime) -> Result<(), Fail> {
+fn faults_of_tables_have_names_and_explanations(rt: HostRuntime) -> Result<(), Fail> {
     for (kind, words) in TABLES {
-        assert!(rt; prints(rt.alloc(), kind, words)?);
+        assert!(rt; prints(rt.alloc(), kind, kind.name())?);
+        assert!(rt; kind.explanation() == *words);
     }
     assert!(rt; prints(rt.alloc(), &PLACED, PLACED_WORDS)?);
     Ok(())
 }
 
-/// What each fault of a cell prints.
+/// How each fault of a cell is explained.
 const CELLS: &[(CellFault, &str)] = &[
     (
         CellFault::UnknownSpecial,
@@ -214,9 +217,26 @@ const CELLS: &[(CellFault, &str)] = &[
 ];
 
 #[test]
-fn faults_of_cells_print_sentences(rt: HostRuntime) -> Result<(), Fail> {
+fn faults_of_cells_have_names_and_explanations(rt: HostRuntime) -> Result<(), Fail> {
     for (fault, words) in CELLS {
-        assert!(rt; prints(rt.alloc(), fault, words)?);
+        assert!(rt; prints(rt.alloc(), fault, fault.name())?);
+        assert!(rt; fault.explanation() == *words);
     }
+    Ok(())
+}
+
+/// Whether a kind is that of a number's cell, by its name as a pattern and in a comparison.
+fn is_of_number(kind: TableKind) -> bool {
+    match kind {
+        TableKind::BadNumber => true,
+        TableKind::UnknownSpecial | TableKind::BadFactValue => false,
+        _ => kind == TableKind::BadNumber,
+    }
+}
+
+#[test]
+fn a_cells_fault_has_a_name_as_a_tables_kind(rt: HostRuntime) -> Result<(), Fail> {
+    assert!(rt; is_of_number(PLACED.kind) && is_of_number(TableKind::Cell(CellFault::BadNumber)));
+    assert!(rt; !is_of_number(TableKind::BadFactValue) && !is_of_number(TableKind::Memory));
     Ok(())
 }
