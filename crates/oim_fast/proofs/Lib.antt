@@ -1,8 +1,5 @@
-pub mod Masks
-pub mod PassingRuns
-pub mod Quoted
 pub mod PlacedBytes
-pub mod Escapes
+pub mod Escaping
 pub mod Appends
 pub mod Texts
 pub mod AnswerLaws

@@ -1,5 +1,5 @@
 pub mod Buffers
-pub mod JsonText
+pub mod Escapes
 pub mod Places
 pub mod Rows
 pub mod Sources

@@ -3,7 +3,8 @@
 ghost use Rattle.std.specs.Prelude.{◌≡◌, ◌+◌, ◌++◌, ◌*◌, ◌≤◌, OnOk, if◌then◌else◌, is_ok, length, map, take};
 ghost use Rattle.std.specs.List.{flat_map, prefix_len};
 ghost use Rattle.std.specs.Simd.Lanes.{mask_l};
-ghost use Rattle.oim_fast.specs.JsonText.{escaped_byte, is_escaped, is_unescaped, quoted};
+ghost use Rattle.oim_fast.specs.Escapes.{is_escaped};
+ghost use Rattle.oim_json.specs.JsonText.{escaped_byte, is_unescaped, quoted};
 ghost use Rattle.oim_fast.specs.Places.{Placed};
 
 use crate::text::buffer::{TextBuffer, make_room};
@@ -191,7 +192,7 @@ pub(crate) fn put_escaped_front(
 
 /// Appends the first `len` bytes of a text in quotes, escaped. Fails where memory is short.
 #[inline(always)]
-#[tactic(auto, using(std::proofs::Common::append_assoc), unfolding(crate::specs::JsonText::quoted))]
+#[tactic(auto, using(std::proofs::Common::append_assoc), unfolding(oim_json::specs::JsonText::quoted))]
 pub(crate) fn put_quoted_front(
     out: &mut TextBuffer,
     text: &[u8],

@@ -4,7 +4,7 @@ ghost use Rattle.std.specs.Prelude.{◌≡◌, ◌++◌, ◌∷◌, ◌<◌, ◌
 ghost use Rattle.std.specs.Char.{digit_char};
 ghost use Rattle.std.specs.List.{flat_map, list_all};
 ghost use mathlib.Core.List.{IsPrefix};
-ghost use Rattle.oim_fast.specs.JsonText.{escaped_byte, is_unescaped, quoted};
+ghost use Rattle.oim_json.specs.JsonText.{escaped_byte, is_unescaped, quoted};
 
 use crate::text::buffer::TextBuffer;
 use std::alloc::AllocError;
@@ -49,7 +49,7 @@ fn code_escape(byte: u8) -> Escape
 }
 
 /// A byte as JSON has it.
-#[tactic(auto, unfolding(crate::specs::JsonText::escaped_byte))]
+#[tactic(auto, unfolding(oim_json::specs::JsonText::escaped_byte))]
 pub(crate) fn escape_of(byte: u8) -> Escape
     ensures text { take result.1 result.0 ≡ escaped_byte byte }
     ensures within { result.1 ≤ 6 }
@@ -125,7 +125,7 @@ pub(crate) fn put_escaped(out: &mut TextBuffer, text: &str) -> Result<(), AllocE
 /// Appends a text in quotes, escaped. Fails where memory is short; what was there stays at the
 /// front.
 #[inline]
-#[tactic(auto, using(std::proofs::Common::append_assoc), unfolding(crate::specs::JsonText::quoted))]
+#[tactic(auto, using(std::proofs::Common::append_assoc), unfolding(oim_json::specs::JsonText::quoted))]
 pub(crate) fn put_quoted(out: &mut TextBuffer, text: &str) -> Result<(), AllocError>
     ensures quoted { OnOk result (out.new.items ≡ out.old.items ++ quoted text.now) }
     ensures stays { IsPrefix out.old.items out.new.items }

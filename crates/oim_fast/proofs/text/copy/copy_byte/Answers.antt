@@ -1,5 +1,5 @@
 use Rattle.std.proofs.Common.{◌≡◌, ◌+◌, ◌-◌, ◌∙◌, ap, take, arith}
-use Rattle.oim_fast.specs.JsonText.{escaped_byte}
+use Rattle.oim_json.specs.JsonText.{escaped_byte}
 use Rattle.oim_fast.proofs.PlacedBytes.{Placed-put_mid}
 use Rattle.oim_fast.proofs.text.copy.copy_byte.Goals as goal
 

@@ -1,5 +1,5 @@
 use Rattle.std.proofs.Common.{arith}
-use Rattle.oim_fast.proofs.Escapes.{byte_copied}
+use Rattle.oim_fast.proofs.Escaping.{byte_copied}
 use Rattle.oim_fast.proofs.text.copy.copy_bytes.Goals as goal
 
 pub loop-i-preserved : goal.loop-i-preserved

@@ -1,6 +1,6 @@
 use Rattle.std.proofs.Common.{◌+◌, arith}
 use Rattle.std.proofs.lemmas.List.{take_rest}
-use Rattle.oim_fast.proofs.Escapes.{byte_copied, run_copied}
+use Rattle.oim_fast.proofs.Escaping.{byte_copied, run_copied}
 use Rattle.oim_fast.proofs.text.copy.copy_escaped.Goals as goal
 
 pub loop-done-preserved-then-done-len : goal.loop-done-preserved-then-done-len

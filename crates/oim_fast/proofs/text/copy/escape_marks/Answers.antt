@@ -1,7 +1,8 @@
 use Rattle.std.proofs.Common.{arith}
 use Rattle.std.proofs.lemmas.Simd.{zip2_splat}
-use Rattle.oim_fast.specs.JsonText.{is_escaped}
-use Rattle.oim_fast.proofs.Masks.{hit, below, either, masked}
+use Rattle.oim_fast.specs.Escapes.{is_escaped}
+use Rattle.oim_records.proofs.Masks.{hit, either, masked}
+use Rattle.oim_fast.proofs.Escaping.{below}
 use Rattle.oim_fast.proofs.text.copy.escape_marks.Goals as goal
 
 pub returns : goal.returns

@@ -1,7 +1,7 @@
 use Rattle.std.proofs.Common.{◌≡◌, ◌+◌, ◌-◌, ◌++◌, ap, ◌∙◌, arith, take, drop}
 use Rattle.std.specs.List.{flat_map}
 use Rattle.std.proofs.lemmas.List.{take_rest}
-use Rattle.oim_fast.specs.JsonText.{escaped_byte}
+use Rattle.oim_json.specs.JsonText.{escaped_byte}
 use Rattle.oim_fast.proofs.Appends.{appended, spelled_more}
 use Rattle.oim_fast.proofs.text.copy.put_escaped_front.Goals as goal
 

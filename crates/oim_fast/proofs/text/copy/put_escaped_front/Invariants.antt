@@ -1,6 +1,6 @@
 use Rattle.std.proofs.Common.{◌≡◌, ◌≤◌, ◌++◌, ◌-◌, take}
 use Rattle.std.specs.List.{flat_map}
-use Rattle.oim_fast.specs.JsonText.{escaped_byte}
+use Rattle.oim_json.specs.JsonText.{escaped_byte}
 use Rattle.oim_fast.proofs.text.copy.put_escaped_front.Given as goal
 
 abbrev pub invariant-loop-done : goal.invariant-loop-done

@@ -1,7 +1,7 @@
 use Rattle.std.proofs.Common.{◌<◌, arith, map, take}
 use lib.Lanes.{mask_l}
-use Rattle.oim_fast.specs.JsonText.{is_escaped}
-use Rattle.oim_fast.proofs.Escapes.{no_marks, some_marks}
+use Rattle.oim_fast.specs.Escapes.{is_escaped}
+use Rattle.oim_fast.proofs.Escaping.{no_marks, some_marks}
 use Rattle.oim_fast.proofs.text.copy.unescaped_len.Goals as goal
 
 pub returns-then-marks-eq0-clause-stand : goal.returns-then-marks-eq0-clause-stand

@@ -1,5 +1,5 @@
 use Rattle.std.proofs.Common.{rules, sym, ◌∙◌}
-use Rattle.oim_fast.proofs.Quoted.{all_unescaped}
+use Rattle.oim_json.proofs.Quoted.{all_unescaped}
 use Rattle.oim_fast.proofs.text.escape.put_escaped.Goals as goal
 
 pub returns-then-needs_no_escape-clause-escaped : goal.returns-then-needs_no_escape-clause-escaped

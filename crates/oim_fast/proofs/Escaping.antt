@@ -1,5 +1,5 @@
 -- A text that is escaped part by part.
-use Rattle.std.proofs.Common.{◌≡◌, ℕ, zero, suc, ◌+◌, ◌<◌, ◌≤◌, List, [], ◌∷◌, ◌++◌, Bool, true, false, cond, ◌&&◌, length, take, drop, get_or, map, not, length-take-le, refl, ap, ◌∙◌, arith, append-nil, take-add}
+use Rattle.std.proofs.Common.{◌≡◌, ℕ, zero, suc, ◌+◌, ◌<◌, ◌≤◌, List, [], ◌∷◌, ◌++◌, Bool, true, false, cond, ltb, ◌&&◌, length, take, drop, get_or, map, not, length-take-le, refl, ap, ◌∙◌, arith, append-nil, take-add}
 use Rattle.std.specs.List.{flat_map, list_all, prefix_len}
 use Rattle.std.proofs.lemmas.List.{take_more}
 use Rattle.std.proofs.lemmas.List.Sums.{prefix_len-le-length}
@@ -7,11 +7,16 @@ use Rattle.std.proofs.lemmas.Grind.{flat_map-append}
 use Rattle.std.proofs.lemmas.Simd.{trailing_mask_l}
 use lib.Lanes.{mask_l}
 use lib.Count.{count_trailing_zeros}
-use Rattle.oim_fast.specs.JsonText.{escaped_byte, is_escaped, is_unescaped}
+use Rattle.oim_json.specs.JsonText.{escaped_byte, is_unescaped}
+use Rattle.oim_fast.specs.Escapes.{is_escaped}
 use Rattle.oim_fast.specs.Places.{Placed}
-use Rattle.oim_fast.proofs.PassingRuns.{not-not, run_stops, run_through}
+use Rattle.oim_records.proofs.PassingRuns.{not-not, run_stops, run_through}
 use Rattle.oim_fast.proofs.PlacedBytes.{Placed-then}
-use Rattle.oim_fast.proofs.Quoted.{all_unescaped}
+use Rattle.oim_json.proofs.Quoted.{all_unescaped}
+
+-- 255 where a byte is below another, as a vector compares them
+abbrev pub below : ℕ → ℕ → ℕ
+below a b = cond (ltb a b) 255 0
 
 one_passes : (b : Bool) (n m : ℕ) (rest : Bool) → suc n ≤ cond b (1 + m) 0 → (n ≤ m → rest ≡ true) → (b && rest) ≡ true
 one_passes true n m rest le more = more (omega arith)
