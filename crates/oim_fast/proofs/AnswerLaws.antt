@@ -1,12 +1,11 @@
 -- What an answer says of a value: nothing where it is silent; of no value; of a text in a typed dimension.
-use Rattle.std.proofs.Common.{◌≡◌, ℕ, Bool, true, false, List, [], ◌++◌, Option, Some, None, Ok, IfSome, codes, is_ok, refl, sym, ap, ◌∙◌}
+use Rattle.std.proofs.Common.{◌≡◌, ℕ, true, List, [], ◌++◌, Option, Some, None, Ok, IfSome, codes, refl, ◌∙◌}
 use Rattle.oim_cells.specs.Cells.{Meaning, Absent, Text}
 use Rattle.oim_json.specs.JsonText.{decimals_text, quoted, value_text}
 use Rattle.oim_report.specs.ReportValue.{ReportValue}
 use Rattle.oim_report.specs.declared.data.Side.{Side}
 use Rattle.oim_report.specs.declared.kind.Kind.{Kind}
 use Rattle.oim_resolve.specs.Facts.{concept_read}
-use Rattle.oim_resolve.specs.declared.role.Role.{Role}
 use Rattle.oim_resolve.specs.declared.role.Role.TheVariants.{Concept, Entity, Period, Unit as AUnit, Language, Explicit, Typed}
 use Rattle.oim_fast.specs.Answers.{IsAnswer, IsSilent, is_sound_for, is_typed_purpose, json_for}
 use Rattle.oim_fast.specs.declared.row.answer.Answer.{Answer}

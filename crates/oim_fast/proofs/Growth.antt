@@ -24,3 +24,8 @@ all_push P (y ∷ xs) x p q (suc k) d h = all_push P xs x (λ j e b. p (suc j) e
 pub slice_get-last : {A : Type 0} (xs : List A) (x : A) → slice_get (xs ++ x ∷ []) (length xs) ≡ Some x
 slice_get-last [] x = refl
 slice_get-last (y ∷ xs) x = slice_get-last xs x
+
+pub all_append : {A : Type 0} (P : A → Type 0) (xs ys : List A) → All P xs → All P ys → All P (xs ++ ys)
+all_append P [] ys p q k d h = q k d h
+all_append P (x ∷ xs) ys p q zero d h = p zero d (omega arith)
+all_append P (x ∷ xs) ys p q (suc k) d h = all_append P xs ys (λ j e b. p (suc j) e (omega arith)) q k d (omega arith)

@@ -5,3 +5,7 @@ pub mod Texts
 pub mod AnswerLaws
 pub mod Refreshed
 pub mod Growth
+pub mod Fields
+pub mod GroupLaws
+pub mod ReadLaws
+pub mod KeptLaws

@@ -1,5 +1,5 @@
 -- What a row says in the columns of property groups. (xBRL-CSV 1.0, property groups)
-use Rattle.std.specs.Prelude.{⊤, ◌≡◌, ◌<◌, ℕ, List, Bool, false, ◌||◌, Option, Some, None, is_none, length}
+use Rattle.std.specs.Prelude.{⊤, ◌≡◌, ◌<◌, ℕ, List, Bool, false, ◌||◌, Option, None, is_none, length}
 use Rattle.std.specs.List.{slice_get}
 use Rattle.std.specs.Map.{keys_of}
 use Rattle.std.specs.Option.{option_map}

@@ -127,11 +127,7 @@ impl<'a> GroupCells<'a> {
         self.list.push(GroupCell {
             column,
             place: place_in(form.header(), column),
-            groups: form
-                .report()
-                .column(form.table(), column)
-                .groups
-                .as_slice(),
+            groups: form.report().column(form.table(), column).groups.as_slice(),
             choice: Choice::Unknown,
         })?;
         Ok(place)

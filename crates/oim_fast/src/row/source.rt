@@ -29,8 +29,8 @@ impl<'a> Source<'a> {
             (Source::RowNumber, Source::RowNumber) => true,
             (Source::Column(place, parameter), Source::Column(other_place, other_parameter)) =>
                 place == other_place && parameter == other_parameter,
-            (Source::RowNumber, Source::Column(_, _))
-            | (Source::Column(_, _), Source::RowNumber) => false,
+            (Source::RowNumber, Source::Column(_, _)) | (Source::Column(_, _), Source::RowNumber) =>
+                false,
         }
     }
 
@@ -71,7 +71,9 @@ pub(crate) fn place_in(header: &[Option<usize>], column: usize) -> Option<usize>
 fn named<'a>(form: &RowForm<'a>, name: &str) -> Option<Source<'a>>
     ensures { option_map seen_source result ≡ source_named form.now name.now }
 {
-    let column = form.report().place_of_column(form.table(), name.as_bytes())?;
+    let column = form
+        .report()
+        .place_of_column(form.table(), name.as_bytes())?;
     let place = place_in(form.header(), column)?;
     match form.report().parameter(form.table(), name) {
         Some(text) => Some(Source::Column(place, text)),
