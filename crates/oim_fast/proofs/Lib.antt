@@ -9,3 +9,5 @@ pub mod Fields
 pub mod GroupLaws
 pub mod ReadLaws
 pub mod KeptLaws
+pub mod PartLaws
+pub mod FrameTextLaws

@@ -6,3 +6,6 @@ pub mod Sources
 pub mod Answers
 pub mod References
 pub mod Groups
+pub mod Pieces
+pub mod Parts
+pub mod FrameTexts
