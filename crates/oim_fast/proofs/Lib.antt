@@ -11,3 +11,5 @@ pub mod ReadLaws
 pub mod KeptLaws
 pub mod PartLaws
 pub mod FrameTextLaws
+pub mod RowLaws
+pub mod PieceLaws

@@ -1,9 +1,10 @@
 -- The references of a table, and what they give in a row.
-use Rattle.std.specs.Prelude.{◌≡◌, ◌<◌, ◌++◌, ℕ, List, [], IfSome, length}
+use Rattle.std.specs.Prelude.{◌≡◌, ◌<◌, ◌++◌, ℕ, Bool, false, List, [], IfSome, length}
+use Rattle.std.specs.Option.{option_map_or}
 use Rattle.std.specs.List.{All, slice_get}
 use Rattle.oim_cells.specs.Cells.{Meaning, meaning_of}
 use Rattle.oim_report.specs.ReportValue.{ReportValue}
-use Rattle.oim_fast.specs.Answers.{IsAnswer, IsCached}
+use Rattle.oim_fast.specs.Answers.{IsAnswer, IsCached, is_sound_for, json_for}
 use Rattle.oim_fast.specs.Rows.{RowValue}
 use Rattle.oim_fast.specs.Sources.{SourceValue, source_text}
 use Rattle.oim_fast.specs.declared.row.cached_answer.CachedAnswer.{CachedAnswer}
@@ -34,6 +35,13 @@ IsOfReport report r = r.report ≡ report
 pub record IsFresh (x : RowValue) (r : ReferenceValue) : Type 0 where
   pub report : r.report ≡ x.form.report
   pub text : r.text ≡ source_text x r.key.source
+
+-- what the reference at a place gives the text of a fact, and whether it has no fault
+abbrev pub given_by : List ReferenceValue → ℕ → List ℕ
+given_by rs i = option_map_or (λ r. json_for r.report r.key.purpose (meaning_at_hand r)) (slice_get rs i) []
+
+abbrev pub is_sound_by : List ReferenceValue → ℕ → Bool
+is_sound_by rs i = option_map_or (λ r. is_sound_for r.report r.key.purpose (meaning_at_hand r)) (slice_get rs i) false
 
 -- what is kept for a reference: each text with its answer, and at a place the answer to the text at hand
 pub record IsKept (r : ReportValue) (p : Purpose) (text : List ℕ) (current : ℕ) (answers : List CachedAnswer) : Type 0 where
