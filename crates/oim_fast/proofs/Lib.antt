@@ -13,3 +13,5 @@ pub mod PartLaws
 pub mod FrameTextLaws
 pub mod RowLaws
 pub mod PieceLaws
+pub mod WriteLaws
+pub mod Examples

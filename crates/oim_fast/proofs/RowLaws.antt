@@ -66,7 +66,9 @@ module _ (x : RowValue) (c : ℕ) where
       referred_at n (Some at.0) at.1 ∙ by_text (field_or_empty x.fields (Some at.0)) (parameter n) ∙ ap (λ q. meaning_of (source_text x q)) (sym at.2)
 
   numbered : (s : SourceValue) → x.number < 2 ^ 32 → Some RowNumber ≡ Some s → m.Text (decimal x.number) ≡ meaning_of (source_text x s)
-  numbered s few e = sym (number_meaning x.number (omega arith)) ∙ ap (λ q. meaning_of (source_text x q)) (cc e)
+  numbered s few e =
+      let same : RowNumber ≡ s = cc e in
+      sym (number_meaning x.number (omega arith)) ∙ ap (λ q. meaning_of (source_text x q)) same
 
   -- dimensions
   pub value_constant : (e : Written) → source_written x.form e ≡ None → value cell e ≡ constant_meaning x.form e

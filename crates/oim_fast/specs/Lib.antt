@@ -9,3 +9,4 @@ pub mod Groups
 pub mod Pieces
 pub mod Parts
 pub mod FrameTexts
+pub mod Writing

@@ -4,3 +4,4 @@ pub(crate) mod constant;
 pub(crate) mod frame_decimals;
 pub(crate) mod frame_text;
 pub(crate) mod part;
+pub(crate) mod write;
