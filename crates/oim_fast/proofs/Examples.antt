@@ -3,19 +3,19 @@ use Rattle.std.proofs.Common.{◌≡◌, ℕ, zero, suc, true, false, List, [], 
 use Rattle.std.proofs.lemmas.Fmt.{decimal_digit}
 use Rattle.csv.specs.Records.{field_at}
 use Rattle.oim_cells.specs.Cells.{Text}
-use Rattle.oim_json.specs.JsonText.{decimals_text, escaped_byte, quoted, value_text}
+use Rattle.oim_json.specs.JsonText.{escaped_byte, quoted, value_text}
 use Rattle.oim_report.specs.Readers.{no_column, no_level}
 use Rattle.oim_report.specs.declared.data.Column.{Column as AColumn}
 use Rattle.oim_report.specs.declared.data.Level.{Level}
 use Rattle.oim_report.specs.declared.kind.Kind.TheVariants as kind
 use Rattle.oim_rows.specs.RowFacts.{Reading}
-use Rattle.oim_fast.specs.Answers.{dimension_json, is_typed_purpose}
+use Rattle.oim_fast.specs.Answers.{dimension_json}
 use Rattle.oim_fast.specs.Escapes.{is_escaped}
-use Rattle.oim_fast.specs.FrameTexts.{FrameValue, Segment, frame_dimensions}
+use Rattle.oim_fast.specs.FrameTexts.{FrameValue, frame_dimensions}
 use Rattle.oim_fast.specs.Groups.{group_at, names_none}
 use Rattle.oim_fast.specs.Pieces.{behind, name_text}
 use Rattle.oim_fast.specs.Rows.{RowValue}
-use Rattle.oim_fast.specs.Sources.{Column, RowNumber, cell_or_parameter, source_text}
+use Rattle.oim_fast.specs.Sources.{Column, RowNumber, source_text}
 use Rattle.oim_fast.specs.declared.frame.frame_decimals.FrameDecimals.TheVariants.{Settled}
 use Rattle.oim_fast.specs.declared.row.group_cells.Choice.TheVariants as choice
 
@@ -108,4 +108,3 @@ a_group_is_named = refl
 
 no_group_is_named : names_none column (Text (codes "us")) ≡ true
 no_group_is_named = refl
-

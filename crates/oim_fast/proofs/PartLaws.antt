@@ -1,5 +1,5 @@
 -- What is kept ready of a dimension and of decimals, by what was read for them.
-use Rattle.std.proofs.Common.{◌≡◌, ℕ, true, List, [], ◌∷◌, ◌++◌, Option, Some, None, IfSome, is_ok, map, refl, sym, ap, ◌∙◌, subst}
+use Rattle.std.proofs.Common.{◌≡◌, ℕ, List, [], Option, Some, None, IfSome, map, refl, sym, ap, ◌∙◌}
 use Rattle.std.specs.List.{slice_get}
 use Rattle.std.specs.Option.{option_map}
 use Rattle.std.proofs.lemmas.Option.{slice_get-map}
@@ -7,19 +7,17 @@ use Rattle.oim_cells.specs.Cells.{Meaning}
 use Rattle.oim_cells.specs.Cells as m
 use Rattle.oim_json.specs.JsonText.{decimals_text}
 use Rattle.oim_report.specs.declared.data.Written.{Written}
-use Rattle.oim_resolve.specs.Facts.{stated_read}
 use Rattle.oim_resolve.specs.Values.{Read}
 use Rattle.oim_rows.specs.RowFacts.{Reading}
 use Rattle.oim_fast.specs.Answers.{IsAnswer}
-use Rattle.oim_fast.specs.Parts.{IsPartValue, IsReferred, IsStated, PutsAnswer, purpose_of}
+use Rattle.oim_fast.specs.Parts.{IsPartValue, IsStated, PutsAnswer, purpose_of}
 use Rattle.oim_fast.specs.Pieces.{behind, constant_meaning, name_text}
 use Rattle.oim_fast.specs.References.{Key, ReferenceValue, key_of}
-use Rattle.oim_fast.specs.Sources.{SourceValue, seen_source, source_written}
+use Rattle.oim_fast.specs.Sources.{source_written}
 use Rattle.oim_fast.specs.declared.frame.frame_decimals.FrameDecimals.TheVariants as decimals
 use Rattle.oim_fast.specs.declared.frame.part.PartValue.{PartValue}
 use Rattle.oim_fast.specs.declared.frame.part.PartValue.TheVariants as part
 use Rattle.oim_fast.specs.declared.row.answer.Answer.{Answer}
-use Rattle.oim_fast.specs.declared.row.source.Source.{Source}
 
 -- a dimension that means the same in each row
 pub constant_value : (f : Reading) (keys : List Key) (n : List ℕ) (w : Written) (a : Answer) (old new : List ℕ) (v : PartValue) → source_written f w ≡ None

@@ -1,5 +1,5 @@
 -- A dimension that is added to a frame gives a row's facts what its levels write.
-use Rattle.std.proofs.Common.{◌≡◌, ◌<◌, ◌^◌, ℕ, zero, suc, Bool, true, false, ◌||◌, List, [], ◌∷◌, ◌++◌, map, Option, Some, None, refl, sym, ap, subst, ◌∙◌, append_assoc, append-nil}
+use Rattle.std.proofs.Common.{◌≡◌, ◌<◌, ◌^◌, ℕ, zero, suc, Bool, true, false, ◌||◌, List, [], ◌∷◌, ◌++◌, map, Some, refl, sym, ap, subst, ◌∙◌, append_assoc, append-nil}
 use Rattle.std.specs.List.{All, flat_map, slice_get}
 use Rattle.std.specs.Option.{option_map_or}
 use Rattle.std.specs.Prelude.{if◌then◌else◌}
@@ -10,11 +10,10 @@ use Rattle.oim_report.specs.ReportValue.{ReportValue}
 use Rattle.oim_report.specs.declared.data.Written.{Written}
 use Rattle.oim_resolve.specs.Facts.{entry_given, is_dropped, role_of}
 use Rattle.oim_resolve.specs.Values.{side_of, value}
-use Rattle.oim_resolve.specs.declared.role.Role.{Role}
 use Rattle.oim_fast.specs.Answers.{dimension_json, json_for}
 use Rattle.oim_fast.specs.FrameTexts.{FrameValue, Segment, frame_dimensions, is_known, is_ready, segment_text, with_part, with_value}
 use Rattle.oim_fast.specs.Parts.{IsPart, IsPartValue}
-use Rattle.oim_fast.specs.Pieces.{behind, constant_meaning, dimension_piece, name_text}
+use Rattle.oim_fast.specs.Pieces.{behind, dimension_piece, name_text}
 use Rattle.oim_fast.specs.References.{IsFresh, Key, ReferenceValue, given_by, key_of, meaning_at_hand}
 use Rattle.oim_fast.specs.Rows.{RowValue, cell_in}
 use Rattle.oim_fast.specs.Sources.{source_text}

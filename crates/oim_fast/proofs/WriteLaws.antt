@@ -1,12 +1,9 @@
 -- What is written of a frame, run after run.
-use Rattle.std.proofs.Common.{◌≡◌, ◌<◌, ◌≤◌, ◌+◌, ◌-◌, ◌*◌, ℕ, zero, suc, true, List, [], ◌∷◌, ◌++◌, length, take, drop, get_or, Option, Some, None, IfSome, refl, sym, ap, subst, ◌∙◌, arith, append_assoc, append-nil, take-add, take-append-drop, drop-drop}
+use Rattle.std.proofs.Common.{◌≡◌, ◌<◌, ◌≤◌, ◌+◌, ◌-◌, ◌*◌, ℕ, zero, suc, true, List, [], ◌∷◌, ◌++◌, length, take, drop, IfSome, refl, sym, ap, ◌∙◌, arith, take-add, take-append-drop, drop-drop}
 use Rattle.std.specs.Prelude.{slice_range}
 use Rattle.std.specs.List.{slice_get}
-use Rattle.std.specs.Option.{option_map_or}
-use Rattle.std.proofs.lemmas.Option.{slice_get-get_or}
-use Rattle.oim_fast.specs.Answers.{IsAnswer, is_sound_for, json_for}
+use Rattle.oim_fast.specs.Answers.{IsAnswer}
 use Rattle.oim_fast.specs.Pieces.{behind}
-use Rattle.oim_fast.specs.Places.{Placed}
 use Rattle.oim_fast.specs.References.{ReferenceValue, given_by, is_sound_by, meaning_at_hand}
 use Rattle.oim_fast.specs.declared.row.answer.Answer.{Answer}
 use Rattle.oim_fast.proofs.FrameTextLaws.{range_more}

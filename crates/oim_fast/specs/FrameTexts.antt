@@ -1,5 +1,5 @@
 -- The text of a column's facts that is the same in each row, with places for what references give.
-use Rattle.std.specs.Prelude.{◌≡◌, ◌+◌, ◌≤◌, ◌++◌, ℕ, Bool, true, false, ◌||◌, List, [], ◌∷◌, codes, drop, flat_map, length, slice_range, take, if◌then◌else◌}
+use Rattle.std.specs.Prelude.{◌≡◌, ◌+◌, ◌≤◌, ◌++◌, ℕ, Bool, true, false, ◌||◌, List, [], ◌∷◌, codes, drop, flat_map, length, slice_range, if◌then◌else◌}
 use Rattle.oim_report.specs.declared.kind.Kind.{Kind}
 use Rattle.oim_resolve.specs.Facts.{is_dropped}
 use Rattle.oim_fast.specs.Pieces.{behind}

@@ -1,5 +1,5 @@
 -- What is kept ready of a dimension that a level writes, and of decimals.
-use Rattle.std.specs.Prelude.{⊤, ◌≡◌, ℕ, true, List, [], Option, Some, None, Ok, IfSome, is_ok}
+use Rattle.std.specs.Prelude.{⊤, ◌≡◌, ℕ, true, List, [], Some, None, Ok, IfSome, is_ok}
 use Rattle.std.specs.List.{slice_get}
 use Rattle.std.specs.Option.{option_and_then}
 use Rattle.oim_json.specs.JsonText.{decimals_text}

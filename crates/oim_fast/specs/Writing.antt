@@ -1,5 +1,5 @@
 -- What is written of a frame in a row.
-use Rattle.std.specs.Prelude.{◌≡◌, ◌+◌, ◌-◌, ◌≤◌, ◌++◌, ℕ, true, List, flat_map, length, slice_range}
+use Rattle.std.specs.Prelude.{◌≡◌, ◌+◌, ◌-◌, ◌≤◌, ◌++◌, ℕ, true, List, flat_map, slice_range}
 use Rattle.std.specs.List.{All}
 use Rattle.oim_fast.specs.FrameTexts.{rest_from, segment_text, segments_from}
 use Rattle.oim_fast.specs.Pieces.{behind}

@@ -1,4 +1,4 @@
-use Rattle.std.proofs.Common.{◌≡◌, Some, None, sym, ap, ◌∙◌, refl}
+use Rattle.std.proofs.Common.{sym, ap, ◌∙◌, refl}
 use Rattle.oim_rows.specs.RowFacts.{Reading}
 use Rattle.oim_fast.specs.Sources.{seen_source, source_decimals}
 use Rattle.oim_fast.proofs.PartLaws.{key_there, no_decimals}

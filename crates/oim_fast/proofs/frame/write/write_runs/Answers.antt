@@ -1,4 +1,4 @@
-use Rattle.std.proofs.Common.{◌≡◌, ◌<◌, ◌+◌, ◌++◌, ◌∷◌, ℕ, true, List, length, drop, get_or, sym, ap, subst, ◌∙◌, arith, append_assoc}
+use Rattle.std.proofs.Common.{◌≡◌, ◌+◌, ◌++◌, ◌∷◌, true, List, length, drop, get_or, sym, ap, subst, ◌∙◌, arith, append_assoc}
 use Rattle.std.specs.Prelude.{slice_range}
 use Rattle.std.specs.List.{flat_map}
 use Rattle.std.proofs.lemmas.List.{drop_more, get_or_default}
@@ -49,7 +49,7 @@ loop-i-preserved c =
     let later = flat_map spelled (segments_from text run.named left) in
     let last = rest_from text run.named left in
     let whole = subst (λ (q : List Run). so.written ++ (flat_map spelled (segments_from text c.loop-i.from q) ++ rest_from text c.loop-i.from q)
-        ≡ flat_map spelled (segments_from text c.args.start runs) ++ rest_from text c.args.start runs) here so.whole in
+    ≡ flat_map spelled (segments_from text c.args.start runs) ++ rest_from text c.args.start runs) here so.whole in
     record {
       runs = h.2;
       written = so.written ++ more;

@@ -1,4 +1,4 @@
-use Rattle.std.proofs.Common.{◌≡◌, ◌++◌, ◌∷◌, [], false, List, ℕ, length, refl, sym, ap, ◌∙◌, subst}
+use Rattle.std.proofs.Common.{◌≡◌, ◌++◌, ◌∷◌, [], false, List, ℕ, refl, sym, ap, ◌∙◌, subst}
 use Rattle.oim_resolve.specs.Facts.{is_dropped}
 use Rattle.oim_fast.specs.FrameTexts.{FrameValue, IsLaidOut, with_value}
 use Rattle.oim_fast.specs.declared.frame.frame_text.Run.{Run}

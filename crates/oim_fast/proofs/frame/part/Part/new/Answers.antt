@@ -1,4 +1,4 @@
-use Rattle.std.proofs.Common.{◌≡◌, Some, sym, ap, ◌∙◌, subst, refl}
+use Rattle.std.proofs.Common.{◌≡◌, Some, sym, ap, ◌∙◌}
 use Rattle.oim_report.specs.ReportValue.{ReportValue}
 use Rattle.oim_report.specs.declared.data.Side.{Side}
 use Rattle.oim_resolve.specs.Facts.{role_of}
