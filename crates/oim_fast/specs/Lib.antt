@@ -10,3 +10,5 @@ pub mod Pieces
 pub mod Parts
 pub mod FrameTexts
 pub mod Writing
+pub mod Facts
+pub mod Frames
