@@ -1,0 +1,74 @@
+-- The dimensions of a frame in a row are the pieces of what its levels write. (Not checked yet.)
+use Rattle.std.proofs.Common.{◌≡◌, ◌<◌, ◌^◌, ℕ, zero, suc, Bool, true, false, ◌||◌, List, [], ◌∷◌, ◌++◌, length, map, codes, Option, Some, None, refl, sym, ap, subst, ◌∙◌, append_assoc, append-nil, arith}
+use Rattle.std.specs.List.{All, flat_map}
+use Rattle.std.specs.Option.{option_map_or, option_to_list}
+use Rattle.std.specs.Prelude.{if◌then◌else◌, reverse}
+use Rattle.oim_cells.specs.Cells.{Meaning, meaning_of}
+use Rattle.oim_json.specs.JsonText.{dimension_text, quoted, value_text}
+use Rattle.oim_report.specs.declared.data.Level.{Level}
+use Rattle.oim_report.specs.declared.data.Written.{Written}
+use Rattle.oim_report.specs.declared.kind.Kind.{Kind}
+use Rattle.oim_resolve.specs.Cell.{Cell, text_at}
+use Rattle.oim_resolve.specs.Facts.{is_dropped}
+use Rattle.oim_resolve.specs.Written.{group_named, levels, named_groups}
+use Rattle.oim_rows.specs.RowFacts.{Reading, field_or_empty, source_of_column}
+use Rattle.oim_fast.specs.Answers.{dimension_json}
+use Rattle.oim_fast.specs.FrameTexts.{FrameValue, frame_dimensions, with_part, with_value}
+use Rattle.oim_fast.specs.Frames.{Chooses, are_ready, entry_of, groups_chosen, levels_chosen, with_parts}
+use Rattle.oim_fast.specs.Groups.{Names, Says, group_at}
+use Rattle.oim_fast.specs.Parts.{IsPart}
+use Rattle.oim_fast.specs.Pieces.{behind, name_text, written_pieces}
+use Rattle.oim_fast.specs.References.{IsFresh, ReferenceValue, given_by, key_of}
+use Rattle.oim_fast.specs.Rows.{RowValue, cell_in, column_in, columns_in}
+use Rattle.oim_fast.specs.declared.frame.part.Part.{Part}
+use Rattle.oim_fast.specs.declared.frame.part.PartValue.{PartValue}
+use Rattle.oim_fast.specs.declared.frame.part.PartValue.TheVariants as part
+use Rattle.oim_fast.specs.declared.row.group_cells.Choice.{Choice}
+use Rattle.oim_fast.specs.declared.row.group_cells.Choice.TheVariants as choice
+use Rattle.oim_fast.proofs.PieceLaws.{part_added}
+use Rattle.oim_fast.proofs.RowLaws.{text_is}
+
+-- A PART KEEPS THE KIND
+
+by_value : (t : FrameValue) (text : List ℕ) (v : PartValue) → (with_value t text v).kind ≡ t.kind
+by_value t text part.Nothing = refl
+by_value t text part.Text = refl
+by_value t text (part.Reference i) = refl
+by_value t text part.Unknown = refl
+
+pub kind_kept : (t : FrameValue) (p : Part) → (with_part t p).kind ≡ t.kind
+kind_kept t p = by (is_dropped t.kind p.role)
+  where
+    by : (b : Bool) → (if b then t else with_value t p.text.items p.value).kind ≡ t.kind
+    by true = refl
+    by false = by_value t p.text.items p.value
+
+-- ALL PARTS
+
+module _ (x : RowValue) (c : ℕ) (few : x.number < 2 ^ 32) (rs : List ReferenceValue) (fresh : All (IsFresh x) rs) where
+  pub parts_added : (t : FrameValue) (ps : List Part) → All (IsPart x.form (map key_of rs)) ps → are_ready t ps
+      → frame_dimensions (given_by rs) (with_parts t ps) ≡ frame_dimensions (given_by rs) t ++ written_pieces (cell_in x c) t.kind (map entry_of ps)
+  parts_added t [] are ready = sym (append-nil (frame_dimensions (given_by rs) t))
+  parts_added t (p ∷ ps) are ready =
+      let one : IsPart x.form (map key_of rs) p = are 0 p (omega arith) in
+      let more = parts_added (with_part t p) ps (λ k d lt. are (suc k) d (omega arith)) ready.1 in
+      more
+      ∙ ap (λ q. q ++ written_pieces (cell_in x c) (with_part t p).kind (map entry_of ps)) (part_added x c few rs fresh t p one ready.0)
+      ∙ ap (λ (k : Kind). (frame_dimensions (given_by rs) t ++ _) ++ written_pieces (cell_in x c) k (map entry_of ps)) (kind_kept t p)
+      ∙ append_assoc (frame_dimensions (given_by rs) t) _ (written_pieces (cell_in x c) t.kind (map entry_of ps))
+
+-- THE LEVELS
+
+module _ (x : RowValue) (c : ℕ) where
+  said : (col : ℕ) (v : Meaning) (o : Choice) → Says (column_in x.form col) v o → ((o ≡ choice.Unknown) → ⊥) → group_named (column_in x.form col) v ≡ group_at (column_in x.form col).groups o
+  said col v choice.Nothing h known = h.group
+  said col v (choice.Group g) h known = h.group
+  said col v choice.Unknown h known = absurd (known refl)
+
+-- ONE PIECE
+
+-- a dimension with a comma behind it
+pub piece_text : (n : List ℕ) (v : Option (List ℕ)) → behind (name_text n) (dimension_json (Some v)) ≡ dimension_text (n, v) ++ codes ","
+unfolding dimension_text value_text quoted
+piece_text n None = ?
+piece_text n (Some t) = ?
