@@ -8,13 +8,14 @@ use Rattle.oim_json.specs.JsonText.{dimension_text, quoted, value_text}
 use Rattle.oim_report.specs.declared.data.Level.{Level}
 use Rattle.oim_report.specs.declared.data.Written.{Written}
 use Rattle.oim_report.specs.declared.kind.Kind.{Kind}
-use Rattle.oim_resolve.specs.Cell.{Cell, text_at}
+use Rattle.oim_report.specs.Readers.{template_of}
+use Rattle.oim_resolve.specs.Cell.{Cell, meaning_at}
 use Rattle.oim_resolve.specs.Facts.{is_dropped}
-use Rattle.oim_resolve.specs.Written.{group_named, levels, named_groups}
+use Rattle.oim_resolve.specs.Written.{group_named, levels}
 use Rattle.oim_rows.specs.RowFacts.{Reading, field_or_empty, source_of_column}
 use Rattle.oim_fast.specs.Answers.{dimension_json}
 use Rattle.oim_fast.specs.FrameTexts.{FrameValue, frame_dimensions, with_part, with_value}
-use Rattle.oim_fast.specs.Frames.{Chooses, are_ready, entry_of, groups_chosen, levels_chosen, with_parts}
+use Rattle.oim_fast.specs.Frames.{Chooses, are_ready, entry_of, groups_chosen, is_known_choice, levels_chosen, with_parts}
 use Rattle.oim_fast.specs.Groups.{Names, Says, group_at}
 use Rattle.oim_fast.specs.Parts.{IsPart}
 use Rattle.oim_fast.specs.Pieces.{behind, name_text, written_pieces}
@@ -65,10 +66,30 @@ module _ (x : RowValue) (c : ℕ) where
   said col v (choice.Group g) h known = h.group
   said col v choice.Unknown h known = absurd (known refl)
 
+  known : (o : Choice) → is_known_choice o ≡ true → (o ≡ choice.Unknown) → ⊥
+  known o e is = absurd (cc (ap is_known_choice (sym is) ∙ e))
+
+  -- the groups that a row's cells name are those that are chosen
+  groups_are : (gs : List ℕ) (os : List Choice) → All (λ g. g < length (columns_in x.form)) gs → Chooses x gs os
+      → flat_map (λ g. option_to_list (group_named (column_in x.form g) (meaning_at (cell_in x c) g))) gs ≡ groups_chosen x.form gs os
+  groups_are [] [] within h = refl
+  groups_are [] (o ∷ os) within h = absurd h
+  groups_are (g ∷ gs) [] within h = absurd h
+  groups_are (g ∷ gs) (o ∷ os) within h =
+      let text = text_is x c g (within 0 g (omega arith)) in
+      let one = ap (λ t. group_named (column_in x.form g) (meaning_of t)) text ∙ said g _ o h.1 (known o h.0) in
+      ap (λ q. option_to_list q ++ flat_map (λ k. option_to_list (group_named (column_in x.form k) (meaning_at (cell_in x c) k))) gs) one
+      ∙ ap (λ q. option_to_list (group_at (column_in x.form g).groups o) ++ q) (groups_are gs os (λ k d lt. within (suc k) d (omega arith)) h.2)
+
+  pub levels_are : (os : List Choice) → All (λ g. g < length (columns_in x.form)) (column_in x.form c).from → Chooses x (column_in x.form c).from os
+      → levels (cell_in x c) ≡ levels_chosen x.form c os
+  levels_are os within h =
+      ap (λ gs. x.form.report.level ∷ (template_of x.form.report x.form.table).level ∷ (reverse gs ++ (column_in x.form c).level ∷ [])) (groups_are (column_in x.form c).from os within h)
+
 -- ONE PIECE
 
 -- a dimension with a comma behind it
 pub piece_text : (n : List ℕ) (v : Option (List ℕ)) → behind (name_text n) (dimension_json (Some v)) ≡ dimension_text (n, v) ++ codes ","
 unfolding dimension_text value_text quoted
-piece_text n None = ?
-piece_text n (Some t) = ?
+piece_text n None = sym (append_assoc (name_text n) (codes "null") (codes ","))
+piece_text n (Some t) = sym (append_assoc (name_text n) (quoted t) (codes ","))
