@@ -1,13 +1,16 @@
 //! What makes the frames of a table.
 
-ghost use Rattle.std.specs.Prelude.{◌≡◌, IfOk, codes, map, reverse};
+ghost use Rattle.std.specs.Prelude.{◌≡◌, IfOk, map, reverse, true};
 ghost use Rattle.std.specs.List.{All};
+ghost use Rattle.oim_report.specs.InOrder.{LevelRises};
 ghost use Rattle.oim_resolve.specs.ProgramCell.{held};
 ghost use Rattle.oim_fast.specs.Columns.{IsFactColumn};
-ghost use Rattle.oim_fast.specs.Frames.{Chooses, IsFrameText, levels_chosen};
-ghost use Rattle.oim_fast.specs.KeptFrames.{IsFrame, kind_code};
-ghost use Rattle.oim_fast.specs.Parts.{IsPart};
-ghost use Rattle.oim_fast.specs.References.{Grows, IsFresh, key_of};
+ghost use Rattle.oim_fast.specs.Frames.{levels_chosen};
+ghost use Rattle.oim_fast.specs.Groups.{IsGroupCell};
+ghost use Rattle.oim_fast.specs.KeptFrames.{IsBody, IsFrame, kind_code};
+ghost use Rattle.oim_fast.specs.Making.{AddsEntries, IsConcept, IsMaker, IsOpening, choices_in};
+ghost use Rattle.oim_fast.specs.Pieces.{written_entries};
+ghost use Rattle.oim_fast.specs.References.{Grows, key_of};
 
 use crate::frame::fact_column::{FactColumn, kind_number};
 use crate::frame::frame::{Body, Frame};
@@ -38,7 +41,11 @@ fn levels_of<'a>(
     row: &TableRow<'a, '_>,
     column: &FactColumn<'a>,
     cells: &GroupCells<'a>,
-) -> Result<Vec<&'a Level>, AllocError> {
+) -> Result<Vec<&'a Level>, AllocError>
+    requires cells { All (IsGroupCell row.now.form) cells.now.list.items }
+    requires column { IsFactColumn row.now.form cells.now.list.items column.now }
+    ensures { IfOk result (λ v. reverse (held v.items) ≡ levels_chosen row.now.form column.now.column (choices_in cells.now.list.items column.now.groups.items)) }
+{
     let mut levels = Vec::with_capacity(alloc, 8)?;
     levels.push(column.level)?;
     for i in 0..column.groups.len() {
@@ -76,7 +83,14 @@ impl<'a> FrameMaker<'a> {
         alloc: Global,
         row: &TableRow<'a, '_>,
         levels: &[&'a Level],
-    ) -> Result<Concept, AllocError> {
+    ) -> Result<Concept, AllocError>
+        requires maker { IsMaker row.now self.old }
+        requires rise { All (λ l. LevelRises l.now) levels.now }
+        ensures concept { IfOk result (λ v. IsConcept row.now.form (map key_of self.new.references) (reverse (held levels.now)) v) }
+        ensures maker { IsMaker row.now self.new }
+        ensures grows { Grows self.old.references self.new.references }
+        ensures cells { self.new.cells ≡ self.old.cells }
+    {
         let Some(concept) = written(levels, "concept") else {
             return Ok(Concept::Unknown);
         };
@@ -101,7 +115,13 @@ impl<'a> FrameMaker<'a> {
         column: &FactColumn<'a>,
         levels: &[&'a Level],
         kind: Kind,
-    ) -> Result<FrameText, AllocError> {
+    ) -> Result<FrameText, AllocError>
+        requires { IsMaker row.now self.old }
+        ensures opening { IfOk result (λ t. IsOpening row.now.form (map key_of self.new.references) (reverse (held levels.now)) kind column.now.lead.items t) }
+        ensures maker { IsMaker row.now self.new }
+        ensures grows { Grows self.old.references self.new.references }
+        ensures cells { self.new.cells ≡ self.old.cells }
+    {
         let mut settled = TextBuffer::new(alloc);
         let mut decimals = FrameDecimals::Settled;
         if let Kind::Number(_) = kind {
@@ -126,7 +146,14 @@ impl<'a> FrameMaker<'a> {
         row: &TableRow<'a, '_>,
         levels: &[&'a Level],
         text: &mut FrameText,
-    ) -> Result<bool, AllocError> {
+    ) -> Result<bool, AllocError>
+        requires maker { IsMaker row.now self.old }
+        requires rise { All (λ l. LevelRises l.now) levels.now }
+        ensures added { IfOk result (λ added. added ≡ true → AddsEntries row.now.form (map key_of self.new.references) (written_entries (reverse (held levels.now))) text.old text.new) }
+        ensures maker { IsMaker row.now self.new }
+        ensures grows { Grows self.old.references self.new.references }
+        ensures cells { self.new.cells ≡ self.old.cells }
+    {
         let names = names(alloc, levels)?;
         for i in 0..names.len() {
             let name = names[i];
@@ -151,7 +178,14 @@ impl<'a> FrameMaker<'a> {
         row: &TableRow<'a, '_>,
         column: &FactColumn<'a>,
         kind: Option<Kind>,
-    ) -> Result<Body, AllocError> {
+    ) -> Result<Body, AllocError>
+        requires maker { IsMaker row.now self.old }
+        requires column { IsFactColumn row.now.form self.old.cells.list.items column.now }
+        ensures body { IfOk result (λ b. IsBody row.now.form (map key_of self.new.references) column.now.column (choices_in self.old.cells.list.items column.now.groups.items) (kind_code kind) b) }
+        ensures maker { IsMaker row.now self.new }
+        ensures grows { Grows self.old.references self.new.references }
+        ensures cells { self.new.cells ≡ self.old.cells }
+    {
         let levels = levels_of(alloc, row, column, &self.cells)?;
         let kind = match kind {
             Some(kind) => kind,
@@ -176,7 +210,15 @@ impl<'a> FrameMaker<'a> {
         row: &TableRow<'a, '_>,
         column: &FactColumn<'a>,
         kind: Option<Kind>,
-    ) -> Result<Frame, AllocError> {
+    ) -> Result<Frame, AllocError>
+        requires maker { IsMaker row.now self.old }
+        requires column { IsFactColumn row.now.form self.old.cells.list.items column.now }
+        ensures frame { IfOk result (λ v. IsFrame row.now.form (map key_of self.new.references) v) }
+        ensures serves { IfOk result (λ v. (v.column ≡ column.now.column) × (v.kind ≡ kind_code kind) × (v.choices.items ≡ choices_in self.old.cells.list.items column.now.groups.items)) }
+        ensures maker { IsMaker row.now self.new }
+        ensures grows { Grows self.old.references self.new.references }
+        ensures cells { self.new.cells ≡ self.old.cells }
+    {
         let body = self.body(alloc, row, column, kind)?;
         let mut choices = Vec::with_capacity(alloc, column.groups.len())?;
         for i in 0..column.groups.len() {

@@ -45,7 +45,9 @@ fn is_for(
     column: &FactColumn<'_>,
     cells: &GroupCells<'_>,
     kind: Option<Kind>,
-) -> bool {
+) -> bool
+    ensures { result ≡ true → (frame.now.column ≡ column.now.column) × (frame.now.kind ≡ kind_code kind) × (frame.now.choices.items ≡ choices_in cells.now.list.items column.now.groups.items) × All (λ o. is_known_choice o ≡ true) frame.now.choices.items }
+{
     if frame.column != column.column || frame.kind != kind_number(kind) {
         return false;
     }
@@ -150,7 +152,15 @@ impl Frames {
         row: &TableRow<'a, '_>,
         column: &mut FactColumn<'a>,
         maker: &mut FrameMaker<'a>,
-    ) -> Result<Option<&FrameText>, AllocError> {
+    ) -> Result<Option<&FrameText>, AllocError>
+        requires maker { IsMaker row.now maker.old }
+        requires column { IsFactColumn row.now.form maker.old.cells.list.items column.old }
+        requires frames { All (IsFrame row.now.form (map key_of maker.old.references)) self.old.list.items }
+        ensures text { IfOk result (λ o. IfSome o (λ t. IsTextFor row.now (map key_of maker.new.references) column.old.column t.now)) }
+        ensures maker { IsMaker row.now maker.new }
+        ensures frames { All (IsFrame row.now.form (map key_of maker.new.references)) self.new.list.items }
+        ensures column { IsFactColumn row.now.form maker.new.cells.list.items column.new }
+    {
         if !self.is_at(column.last, column, &maker.cells, None) {
             if column.has_unknown(&maker.cells) {
                 return Ok(None);
