@@ -46,6 +46,7 @@ def main():
         names, shown = names_of(page) - ELSEWHERE, calls_of(page)
         missing = sorted(names - words)
         wrong += [f"{library}: {name} is not called" for name in missing]
+        wrong += [f"{library}: no call on its page"] if not shown else []
         wrong += [f"{library}: not in public_calls: {it.splitlines()[0]}" for it in shown if it not in calls]
         right += len(names) - len(missing) + sum(it in calls for it in shown)
     for it in wrong:

@@ -9,6 +9,15 @@
 //! - [`is_boolean`] is true exactly of the four boolean values, and [`trimmed`] takes the blanks off both ends of a text.
 //!
 //! The calls take no memory and never fail.
+//!
+//! A call:
+//!
+//! ```
+//! /// A number and the places that its suffix states.
+//! fn splits_a_numeral() -> bool {
+//!     split_numeral(NumberKind::Decimal, "1250.5d-2") == Some(("1250.5", Some(Accuracy::Places(-2))))
+//! }
+//! ```
 #![tactic(auto)]
 
 mod blanks;

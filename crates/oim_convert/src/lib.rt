@@ -35,6 +35,26 @@
 //!
 //! What only tests show: that workers run side by side, that each worker that started is joined, and
 //! that memory, threads and tokens are given.
+//!
+//! A call:
+//!
+//! ```
+//! /// The document of a report with one table, on one thread.
+//! fn converts(alloc: Global, report: &Report, file: &[u8]) -> Result<Vec<u8>, ConvertFault> {
+//!     let readers = vec![in alloc; Some(file)].map_err(|_| ConvertFault::Memory)?;
+//!     let mut document = Vec::new(alloc);
+//!     let sink = &mut Marked::new(&mut document);
+//!     convert_serial(
+//!         alloc,
+//!         report,
+//!         readers,
+//!         Limits::profile(),
+//!         Layout::Compact,
+//!         sink,
+//!     )?;
+//!     Ok(document)
+//! }
+//! ```
 #![tactic(auto)]
 
 mod decode;

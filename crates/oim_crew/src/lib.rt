@@ -13,6 +13,17 @@
 //!   thread, and serves all items on the caller's thread where there is none;
 //! - `join_crew` gives the shift of each worker: for each number that its seat drew, what the server gives of the item under
 //!   that number (`specs/Shifts.antt`).
+//!
+//! A call:
+//!
+//! ```
+//! /// Two items, and a seat that has drawn none of them.
+//! fn shares_out(alloc: Global) -> Result<bool, AllocError> {
+//!     let items = vec![in alloc; 'a', 'b']?;
+//!     let made: (Claims<char>, Vec<Seat<char>>) = Claims::new(alloc, items, 1)?;
+//!     Ok(made.1.len() == 1)
+//! }
+//! ```
 #![tactic(auto)]
 
 mod claims;

@@ -11,6 +11,22 @@
 //! Two words are used all through. A *slot* is a reference of the metadata to a cell of the row, together with what the
 //! cell's text gives a fact; it is read once for each row. A *variant* is a column of facts under one choice of property
 //! groups. All of its text that is the same in each row is kept ready, in pieces between its slots.
+//!
+//! A call:
+//!
+//! ```
+//! /// The number of facts in the first block of a report's first table, whose file has these bytes.
+//! fn first_block(alloc: Global, report: &Report, file: &[u8]) -> Result<usize, TableFault> {
+//!     if report.tables() == 0 {
+//!         return Ok(0);
+//!     }
+//!     let mut table = TableBlocks::open(alloc, report, 0, file, Limits::profile())?;
+//!     match table.next_block(Vec::new(alloc))? {
+//!         Some(block) => Ok(block.count()),
+//!         None => Ok(0),
+//!     }
+//! }
+//! ```
 #![tactic(auto)]
 
 mod answer;

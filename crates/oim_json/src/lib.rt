@@ -9,6 +9,18 @@
 //! - `write_members`, if it is Ok, has written the members of a block in the layout asked for;
 //! - `write_all_of`, if it is Ok, has written all of its bytes; else it has written a beginning of them,
 //!   and the sink's mark is the fault that it answers.
+//!
+//! A call:
+//!
+//! ```
+//! /// The text of facts, with commas between them.
+//! fn text_of(alloc: Global, facts: &[Fact]) -> Result<Option<Block>, AllocError> {
+//!     if facts.is_empty() || facts.len() > 256 {
+//!         return Ok(None);
+//!     }
+//!     Ok(Some(block_of(alloc, facts)?))
+//! }
+//! ```
 #![tactic(auto)]
 
 mod block;

@@ -18,6 +18,20 @@
 //!   beginning of the text, and the fault is the sink's mark.
 //!
 //! It waits, and it is not proved that it returns.
+//!
+//! A call:
+//!
+//! ```
+//! /// The document of one table, which a ring holds.
+//! fn merges(rt: &(impl AllocGlobal + Wait), block: Block) -> Result<bool, AllocError> {
+//!     let mut drains = [filled(rt.alloc(), block)?];
+//!     let mut faults = Vec::with_capacity(rt.alloc(), 1)?;
+//!     let mut document = Vec::new(rt.alloc());
+//!     let sink = &mut Marked::new(&mut document);
+//!     let end = merge(rt, &mut drains, b"", &mut faults, Layout::Compact, sink);
+//!     Ok(end == MergeEnd::Complete && document.as_slice().starts_with(NIL_FACT))
+//! }
+//! ```
 #![tactic(auto)]
 
 mod merging;

@@ -1,5 +1,5 @@
 -- What a refusal with a place says of the fault that is first.
-use Rattle.std.proofs.Common.{◌≡◌, ◌∙◌, ◌≤◌, ◌⊎◌, inl, inr, ℕ, List, [], Option, Some, None, Bool, true, false, length, refl, sym}
+use Rattle.std.proofs.Common.{◌≡◌, ◌∙◌, ◌≤◌, inl, inr, ℕ, List, Some, None, true, false, length, refl, sym}
 use Rattle.std.specs.Prelude.{codes}
 use Rattle.serde_json.specs.Data.{Data}
 use Rattle.serde_json.specs.Find.{get}
@@ -16,7 +16,7 @@ use Rattle.oim_meta.specs.Faults.{has_bad_identifier, has_bad_namespaces, has_un
 use Rattle.oim_meta.specs.UnknownColumn.{has_unknown_column}
 use Rattle.oim_meta.specs.FaultOrder.{IsLeastFault}
 use Rattle.oim_meta.specs.FirstFault.{first_fault, has_fault}
-use Rattle.oim_meta.specs.Findings.{finding, first_of}
+use Rattle.oim_meta.specs.Findings.{first_of}
 use Rattle.oim_meta.specs.Reading.{HasFirst, IsFault, IsJson, IsNoJson}
 use Rattle.oim_meta.specs.Refusals.{IsFirstOf, IsNoValue, IsFinding, IsRefusal, fault_in, refusal_of}
 use Rattle.oim_meta.specs.WalkReport.{in_document, in_metadata}

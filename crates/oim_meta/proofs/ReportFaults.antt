@@ -1,8 +1,7 @@
 -- A walk finds a fault in a metadata exactly where the test for the fault passes.
-use Rattle.std.proofs.Common.{◌≡◌, ◌∙◌, ◌≤◌, ◌<◌, ℕ, List, [], Bool, true, false, ◌||◌, ◌&&◌, refl, sym, ap, arith, codes}
+use Rattle.std.proofs.Common.{◌≡◌, ◌∙◌, ◌≤◌, ◌<◌, [], Bool, true, false, ◌||◌, refl, sym, ap, arith, codes}
 use Rattle.std.specs.Prelude.{nat_lt}
 use Rattle.serde_json.specs.Data.{Data}
-use Rattle.serde_json.specs.Find.{get}
 use Rattle.oim_names.specs.Bindings.{Bindings}
 use Rattle.oim_report.specs.declared.limits.Limits.{Limits}
 use Rattle.oim_report.specs.Parameters.{ParametersValue}
@@ -10,16 +9,15 @@ use Rattle.oim_report.specs.Types.{TypesValue}
 use Rattle.oim_meta.specs.declared.fault.MetaFault.{MetaFault}
 use Rattle.oim_meta.specs.declared.fault.MetaFault.TheVariants.{Syntax, NotReport, BadNamespaces, BadTaxonomy, Unsupported, BadIdentifier, BadTemplate, ColumnKinds, UnknownTemplate}
 use Rattle.oim_meta.specs.declared.fault.MetaFault.TheVariants.{UnknownColumn, BadDimension, BadDecimals, BadParameter, BadTypes, TooLarge, Memory, Read}
-use Rattle.oim_meta.specs.Members.{section, any_member, if_there, no_object_or}
+use Rattle.oim_meta.specs.Members.{section, any_member}
 use Rattle.oim_meta.specs.FaultNames.{fault_number}
 use Rattle.oim_meta.specs.Prefixes.{prefixes_of}
-use Rattle.oim_meta.specs.Faults.{any_column, has_bad_identifier, has_bad_section, has_bad_shape, has_mixed_column, is_bad_key, is_bad_table, is_bad_template, is_fact, is_mixed_column}
-use Rattle.oim_meta.specs.Levels.{any_level}
-use Rattle.oim_meta.specs.BadDimensions.{has_bad_dimension, has_bad_dimensions}
-use Rattle.oim_meta.specs.BadDecimals.{has_bad_decimals, has_bad_decimals_there}
+use Rattle.oim_meta.specs.Faults.{any_column, has_bad_identifier, has_bad_shape, has_mixed_column, is_bad_key}
+use Rattle.oim_meta.specs.BadDimensions.{has_bad_dimensions}
+use Rattle.oim_meta.specs.BadDecimals.{has_bad_decimals}
 use Rattle.oim_meta.specs.BadParameters.{has_bad_parameters, is_given, has_bad_parameter_url, has_bad_parameter}
 use Rattle.oim_meta.specs.Counts.{count_of, has_too_many, has_too_many_columns}
-use Rattle.oim_meta.specs.UnknownColumn.{has_unknown_column, lacks_named_column}
+use Rattle.oim_meta.specs.UnknownColumn.{has_unknown_column}
 use Rattle.oim_meta.specs.FirstFault.{has_fault}
 use Rattle.oim_meta.specs.FindingPlaces.{has}
 use Rattle.oim_meta.specs.WalkReport.{in_document, in_parts, in_metadata}

@@ -1,5 +1,5 @@
 -- What a walk finds of each fault in tables and parameters: exactly what the test for the fault says.
-use Rattle.std.proofs.Common.{◌≡◌, ◌∙◌, ℕ, List, [], ◌∷◌, Option, Bool, true, false, not, ◌||◌, ◌&&◌, refl, ap, codes}
+use Rattle.std.proofs.Common.{◌≡◌, ◌∙◌, ℕ, List, [], Option, Bool, false, not, ◌||◌, ◌&&◌, refl, codes}
 use Rattle.std.specs.Prelude.{nat_lt}
 use Rattle.serde_json.specs.Data.{Data}
 use Rattle.serde_json.specs.Find.{get}
@@ -15,7 +15,7 @@ use Rattle.oim_meta.specs.Faults.{has_unknown_template, is_bad_key, is_bad_table
 use Rattle.oim_meta.specs.FindingPlaces.{has}
 use Rattle.oim_meta.specs.Paths.{Path, table_path}
 use Rattle.oim_meta.specs.WalkTables.{in_parameter, in_parameters, in_given, in_own_parameters, in_table_itself, in_table, in_tables}
-use Rattle.oim_meta.proofs.FaultSteps.{w, two, here, each, alike, none, nor, off, first, last, or-same, object_or}
+use Rattle.oim_meta.proofs.FaultSteps.{w, two, here, each, alike, none, nor, off, first, or-same, object_or}
 
 -- what a walk finds of a fault, as one test
 module _ (e : MetaFault) where

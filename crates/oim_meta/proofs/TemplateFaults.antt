@@ -17,7 +17,7 @@ use Rattle.oim_meta.specs.BadDecimals.{has_bad_decimals_there}
 use Rattle.oim_meta.specs.UnknownColumn.{has_unknown_row_id, has_unknown_source, lacks_named_column}
 use Rattle.oim_meta.specs.FindingPlaces.{has}
 use Rattle.oim_meta.specs.Paths.{Path, template_path, column_path, group_path}
-use Rattle.oim_meta.specs.Walk.{in_members, in_dimension, in_dimensions, in_level, in_group, in_groups, in_column_itself, in_sources, in_column_level, in_column, lacks_columns}
+use Rattle.oim_meta.specs.Walk.{in_dimension, in_dimensions, in_level, in_group, in_groups, in_column_itself, in_sources, in_column_level, in_column, lacks_columns}
 use Rattle.oim_meta.specs.Walk.{in_columns, in_template_itself, in_template, in_templates}
 use Rattle.oim_meta.proofs.FaultSteps.{w, two, here, each, alike, none, nor, off, first, last, or-same, object_or, needed_or}
 

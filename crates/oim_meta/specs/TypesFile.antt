@@ -1,6 +1,6 @@
 -- The types table, a CSV file (RFC 4180) with a record for each concept and dimension: its namespace, its name and its
 -- type. It takes the place of the taxonomy (XBRL 2.1, XBRL Dimensions 1.0).
-use Rattle.std.specs.Prelude.{ℕ, List, [], ◌∷◌, ◌++◌, ◌&&◌, Option, Some, None, is_none, if◌then◌else◌, Result}
+use Rattle.std.specs.Prelude.{ℕ, List, [], ◌&&◌, Option, Some, None, is_none, if◌then◌else◌, Result}
 use Rattle.std.specs.Option.{option_and_then, option_map}
 use Rattle.oim_names.specs.Lookup.{value_at}
 use Rattle.oim_names.specs.Names.{is_ncname}
@@ -10,7 +10,6 @@ use Rattle.oim_report.specs.Types.{TypesValue, kind_in, with_kind}
 use Rattle.oim_meta.specs.TypeWords.{Words, words_chosen}
 use Rattle.oim_meta.specs.declared.fault.MetaFault.{MetaFault}
 use Rattle.oim_meta.specs.declared.fault.MetaFault.TheVariants as fault
-use Rattle.oim_report.specs.declared.kind.Kind.{Kind}
 
 -- a name is an NCName that no earlier record has in its namespace, and its type is one of the words
 abbrev pub with_type : Words → TypesValue → Field × Field × Field → Option TypesValue

@@ -14,6 +14,23 @@
 //!   (`faults_of_shape_are_parts_without_it`).
 //!
 //! All this holds apart from running out of memory and readers that fail. The layers above never meet a half-checked report.
+//!
+//! A call:
+//!
+//! ```
+//! /// The report of a metadata file and a types table, without a parameters file.
+//! fn reads_a_report(alloc: Global) -> Result<Report, MetaFault> {
+//!     let types = read_types(alloc, TYPES.as_bytes())?;
+//!     let parameters = Parameters::none(alloc);
+//!     read_report(
+//!         alloc,
+//!         METADATA.as_bytes(),
+//!         parameters,
+//!         types,
+//!         Limits::profile(),
+//!     )
+//! }
+//! ```
 #![tactic(auto)]
 
 mod build;

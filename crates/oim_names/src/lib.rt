@@ -11,6 +11,17 @@
 //!   value of the grammar. They also equal short functions, which the contracts of the crates above cite.
 //!
 //! `add`, `language` and the calls that copy or grow a text, a list or namespaces take memory. The others take none.
+//!
+//! A call:
+//!
+//! ```
+//! /// The concept that a name with a prefix names.
+//! fn names_a_concept(alloc: Global) -> Result<bool, NameFault> {
+//!     let mut names = Namespaces::new(alloc);
+//!     names.add("eg", "http://example.com/eg")?;
+//!     Ok(qname(&names, "eg:Cash") == Some(("http://example.com/eg", "Cash")))
+//! }
+//! ```
 #![tactic(auto)]
 
 mod languages;

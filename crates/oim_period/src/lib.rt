@@ -15,6 +15,20 @@
 //!
 //! `read`, `is_date` and the sides take no memory. `specs/Periods.antt` has the same rules as functions, which the contracts of
 //! other crates cite.
+//!
+//! A call:
+//!
+//! ```
+//! /// The last quarter of a year, as documents write it.
+//! fn writes_a_quarter(alloc: Global) -> Result<bool, AllocError> {
+//!     match read("2021Q4") {
+//!         Some(quarter) => Ok(
+//!             quarter.text(alloc)?.as_str() == "2021-10-01T00:00:00/2022-01-01T00:00:00",
+//!         ),
+//!         None => Ok(false),
+//!     }
+//! }
+//! ```
 #![tactic(auto)]
 
 mod calendar;

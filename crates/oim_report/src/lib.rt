@@ -7,6 +7,20 @@
 //! - `Types::kind_of` gives the kind that the records of the types say, and `Parameters` their names and values.
 //!
 //! It knows nothing of JSON or of files.
+//!
+//! A call:
+//!
+//! ```
+//! /// The first table of a report, and its first column.
+//! fn has_a_table(report: &Report) -> bool {
+//!     report.tables() == 1
+//!         && report.table_id(0) == "t1"
+//!         && report.table_url(0) == "t1.csv"
+//!         && report.columns(0) == 2
+//!         && report.column(0, 0).id.as_str() == "cash"
+//!         && report.column(0, 0).kind == ColumnKind::Fact
+//! }
+//! ```
 #![tactic(auto)]
 
 mod by_name;

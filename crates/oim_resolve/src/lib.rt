@@ -15,6 +15,21 @@
 //!
 //! In `specs/`, the files without `Program` in their names hold the standard's rules; those with it
 //! describe what the program keeps, and are read beside the code.
+//!
+//! A call:
+//!
+//! ```
+//! /// The fact of a row's first cell.
+//! fn fact_of(alloc: Global, report: &Report, row: &Row) -> Result<Option<Fact>, CellFault> {
+//!     if report.tables() == 0 || report.columns(0) == 0 || row.cells.len() != report.columns(0) {
+//!         return Ok(None);
+//!     }
+//!     if report.column(0, 0).kind != ColumnKind::Fact {
+//!         return Ok(None);
+//!     }
+//!     resolve(alloc, report, 0, row, 0)
+//! }
+//! ```
 #![tactic(auto)]
 
 mod cell;

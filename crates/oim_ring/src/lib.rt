@@ -19,6 +19,19 @@
 //!
 //! What only tests show: that a ring holds no more items than its size, that `take` finds what was put,
 //! that `close` gives the token while the drain is there, and that a wait ends.
+//!
+//! A call:
+//!
+//! ```
+//! /// A block through a ring, and then the table's ending.
+//! fn hands_over(alloc: Global, block: Block) -> Result<bool, AllocError> {
+//!     let (mut feed, mut drain) = lane(alloc, 2)?;
+//!     let is_put = feed.put(block).is_ok();
+//!     let is_closed = feed.close(Ending::Closed).is_ok();
+//!     let is_taken = matches!(drain.take(), Some(Item::Block(block)) if block.bytes() == NIL_FACT);
+//!     Ok(is_put && is_closed && is_taken)
+//! }
+//! ```
 #![tactic(auto)]
 
 mod backlog;

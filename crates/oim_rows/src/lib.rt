@@ -8,6 +8,19 @@
 //! it answers the same again and reads nothing. A table ends at the limit of rows at the latest.
 //!
 //! Table files are those of xBRL-CSV 1.0.
+//!
+//! A call:
+//!
+//! ```
+//! /// The facts of the first row of a report's first table, whose file has these bytes.
+//! fn first_row(alloc: Global, report: &Report, file: &[u8]) -> Result<Option<RowFacts>, TableFault> {
+//!     if report.tables() == 0 {
+//!         return Ok(None);
+//!     }
+//!     let mut rows = Rows::open(alloc, report, 0, file, Limits::profile())?;
+//!     rows.next()
+//! }
+//! ```
 #![tactic(auto)]
 
 mod cells;

@@ -25,6 +25,22 @@
 //!
 //! What only tests show: what the writer behind the buffer holds, and that memory and threads, where
 //! they are given, are enough.
+//!
+//! A call:
+//!
+//! ```
+//! /// The document of a report in a folder, by the words of a command line.
+//! fn runs(
+//!     rt: &(impl AllocGlobal + Threads + Wait + Sync),
+//!     settings: &Settings,
+//! ) -> Result<bool, AllocError> {
+//!     let mut document = Vec::new(rt.alloc());
+//!     let sink = &mut Marked::new(&mut document);
+//!     let outcome = run(rt, rt.alloc(), settings, &mut Held, sink);
+//!     let line = line(rt.alloc(), &outcome)?;
+//!     Ok(status(&outcome) == 0 && line.as_str() == "" && document.as_slice().ends_with(b"}}\n"))
+//! }
+//! ```
 #![tactic(auto)]
 
 mod buffered;
