@@ -148,11 +148,16 @@ def start(words, folder, **more):
     return done.returncode, done.stdout, done.stderr.decode(errors="replace")
 
 
-def on_a_terminal(words, folder, program=None):
-    """Status of a run whose standard error is a terminal, and what that shows."""
+# What starts the tool so that it shows each step at once, however fast it is.
+AT_ONCE = "import sys; sys.path.insert(0, {!r}); from filing import command, progress; progress.EVERY = 0; sys.exit(command.main(sys.argv[2:], {!r}))"
+
+
+def on_a_terminal(words, folder, program=None, at_once=False):
+    """Status of a run whose standard error is a terminal, and what that shows; with `at_once` each step of its progress."""
     controller, terminal = pty.openpty()
+    start = [sys.executable, "-c", AT_ONCE.format(str(TOP), program or PROGRAM)] if at_once else []
     done = subprocess.run(
-        [FILING, *words], cwd=folder, env={**os.environ, "XBRL_JSON": program or PROGRAM}, stdout=subprocess.DEVNULL, stderr=terminal, timeout=100
+        [*start, FILING, *words], cwd=folder, env={**os.environ, "XBRL_JSON": program or PROGRAM}, stdout=subprocess.DEVNULL, stderr=terminal, timeout=100
     )
     os.close(terminal)
     shown = b""
@@ -2796,7 +2801,7 @@ def a_large_taxonomy(folder):
         status, out, err = start(["r", "--taxonomy", "t.zip", "--cache", "c"], folder)
         case(f"20,000 concepts, {turn} run", (status, list(json.loads(out)["facts"]), err), (0, ["t.r_1.cash"], ""))
         case(f"20,000 concepts, {turn} run: time", worked() - begun < most, True)
-    status, shown = on_a_terminal(["r", "--taxonomy", "t.zip"], folder)
+    status, shown = on_a_terminal(["r", "--taxonomy", "t.zip"], folder, at_once=True)
     case("20,000 concepts on a terminal", (status, b"xbrl-filing: reading the taxonomy: 3 files, " in shown, shown.endswith(b"\r\x1b[K")), (0, True, True))
 
 
