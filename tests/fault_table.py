@@ -1,6 +1,6 @@
 #!/usr/bin/env python3
 """Compares docs/FAULTS.md with the sources: each fault that a crate numbers and names is in the table, and the other way round,
-and each is explained in the sources by one sentence.
+each is explained in the sources by one sentence, and each sentence of `--explain` is there, word for word, and no other.
 
     tests/fault_table.py
 
@@ -14,6 +14,8 @@ from pathlib import Path
 TOP = Path(__file__).resolve().parent.parent
 ARM = re.compile(r'^\s*(\w+::\w+)(?:\([^)]*\)| \{[^}]*\})? => (?:(\d+)|"(\w+)"),$', re.M)
 EXPLAINED = re.compile(r'^\s*(\w+::\w+)(?:\([^)]*\)| \{[^}]*\})? =>\s*(?:\{\s*)?"(\w+ [^"]*)"', re.M)
+SENTENCE = re.compile(r'"(\w+ [^"\\\\]*[^"\\\\ ,:])"')
+SENTENCE_ROW = re.compile(r"^\| (?:all|[\d, ]+) \| (.*) \|$", re.M)
 ROW = re.compile(r"^\| (\d+) (\w+) \|", re.M)
 
 
@@ -27,6 +29,14 @@ def named_in_sources():
         explained |= {(crate, variant) for variant, _ in EXPLAINED.findall(text)}
     faults = {it: (numbers[it], names[it]) for it in numbers if it in names}
     return set(faults.values()), {faults[it] for it in faults.keys() - explained}
+
+
+def sentences_in_sources():
+    """What `--explain` says is wrong at a place: the texts of several words of its own, and how a fault of a table explains itself."""
+    own = [file.read_text() for file in (TOP / "crates/oim_run/src/explain").glob("*.rt")]
+    tables = [(TOP / "crates" / it).read_text() for it in ("oim_rows/src/fault.rt", "oim_resolve/src/fact.rt")]
+    said = {it for text in own for it in SENTENCE.findall(text) if "{" not in it}
+    return said | {it for text in tables for _, it in EXPLAINED.findall(text)}
 
 
 def main():
@@ -43,6 +53,9 @@ def main():
     wrong += [f"not in docs/FAULTS.md: {it}" for it in sorted(sources - set(rows))]
     wrong += [f"not in the sources: {it}" for it in sorted(set(rows) - sources)]
     wrong += [f"twice: {it}" for it in sorted({it for it in rows if rows.count(it) > 1})]
+    said = set(SENTENCE_ROW.findall(next((it for it in sections if it.startswith("What `--explain` says")), "")))
+    wrong += [f"said by --explain and not in docs/FAULTS.md: {it}" for it in sorted(sentences_in_sources() - said)]
+    wrong += [f"not said by --explain: {it}" for it in sorted(said - sentences_in_sources())]
     for it in wrong:
         print(it)
     print(f"docs/FAULTS.md: {len(sources & set(rows))} as they must be, {len(wrong)} not")

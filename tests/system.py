@@ -118,6 +118,7 @@ def words_of_the_command_line(folder):
     case("--version", status == 0 and out.startswith(b"xbrl-json ") and err == "", status, out, err)
     wrong = [["meta.json"], ["--types", "types.csv"], [*WORDS, "--workers", "0"], [*WORDS, "--workers", "65"], [*WORDS, "--ring", "0"], [*WORDS, "--ring", "65537"]]
     wrong += [[*WORDS, "--layout", "pretty"], [*WORDS, "--layout"], [*WORDS, "--progress", "yes"], [*WORDS, "--progress=yes"]]
+    wrong += [[*WORDS, "--explain", "yes"], [*WORDS, "--explain=yes"]]
     wrong += [[*WORDS, "--workers", "two"], [*WORDS, "--colour"], [*WORDS, "more"], [*WORDS, "--types", "types.csv"]]
     for words in wrong:
         status, out, err = run(words, folder)
@@ -223,6 +224,49 @@ def a_named_pipe(folder):
     writer.start()
     status, out, err = run(WORDS, folder)
     case("a named pipe as a table", status == 0 and len(facts(out)) == 2, status, err)
+
+
+def short_tables(folder, rows):
+    """A report of tables of so many rows each, and its document as one worker writes it."""
+    names = [f"t{at:04}" for at in range(len(rows))]
+    report(folder, {name: {} for name in names})
+    for name, count in zip(names, rows):
+        (folder / f"{name}.csv").write_text("cash\n" + "1\n" * count)
+    return run([*WORDS, "--workers", "1"], folder)[1]
+
+
+def switches_of(words, folder):
+    """How often the threads of a run gave their processor up to wait, and the document."""
+    with tempfile.TemporaryFile() as out:
+        with subprocess.Popen([PROGRAM, *words], cwd=folder, stdin=subprocess.DEVNULL, stdout=out) as running:
+            usage = os.wait4(running.pid, 0)[2]
+            running.returncode = 0
+        out.seek(0)
+        return usage.ru_nvcsw, out.read()
+
+
+def few_switches(folder):
+    """Threads that cannot go on are not woken: what is counted is how often they sleep, and no time."""
+    for rows, most in [([1] * 1024, 4), ([300] * 256, 16)]:
+        document = short_tables(folder, rows)
+        for workers, ring in [(2, 1), (16, 1), (64, 1), (64, 4), (64, 1024)]:
+            count, seen = switches_of([*WORDS, "--workers", str(workers), "--ring", str(ring)], folder)
+            name = f"{len(rows)} tables of {rows[0]} rows, {workers} workers, ring {ring}"
+            case(name, seen == document and count <= most * len(rows), count, len(seen))
+
+
+def late_tables(folder):
+    """Tables that come late, by named pipes, while all rings are full: the run ends, and its document is the same."""
+    rows = [600] * 12
+    document = short_tables(folder, rows)
+    late = ["t0000", "t0005", "t0006"]
+    for workers, ring in [(1, 1), (2, 1), (3, 2), (16, 1), (64, 4)]:
+        for name in late:
+            (folder / f"{name}.csv").unlink()
+            os.mkfifo(folder / f"{name}.csv")
+            written_late(folder / f"{name}.csv", [0.02] + [0] * 598)
+        seen = run([*WORDS, "--workers", str(workers), "--ring", str(ring)], folder)
+        case(f"late tables, {workers} workers, ring {ring}", seen == (0, document, ""), seen[0], len(seen[1]), seen[2])
 
 
 def outputs(folder):
@@ -603,7 +647,7 @@ def a_fact_a_line(folder):
 
 def main():
     examples()
-    parts = words_of_the_command_line, layouts, bad_rows, files_that_are_not_read, a_table_that_may_not_be_read, few_descriptors, a_named_pipe, endless_files, a_fact_a_line, outputs, outputs_over_inputs, outputs_of_runs_that_end_early
+    parts = words_of_the_command_line, layouts, bad_rows, files_that_are_not_read, a_table_that_may_not_be_read, few_descriptors, a_named_pipe, few_switches, late_tables, endless_files, a_fact_a_line, outputs, outputs_over_inputs, outputs_of_runs_that_end_early
     parts += whole_outputs, files_that_may_not_be_so_long, help_that_cannot_be_printed, lines_on_a_terminal, closed_descriptors, progress
     for part in parts:
         with tempfile.TemporaryDirectory() as folder:

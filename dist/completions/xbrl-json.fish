@@ -2,10 +2,11 @@
 
 complete -c xbrl-json -l types -rF -d 'The types table: the type of each concept and dimension'
 complete -c xbrl-json -l workers -x -d 'How many tables are read at once'
-complete -c xbrl-json -l ring -x -d 'How many blocks of up to 256 facts may wait for one table; for all tables, about four times as many'
+complete -c xbrl-json -l ring -x -d 'How many blocks of up to 256 facts may wait for one table; for all tables, about five times as many'
 complete -c xbrl-json -l out -rF -d 'The file of the document, which is emptied first'
 complete -c xbrl-json -l whole -d 'FILE gets the document only once it is whole, and is else left as it was'
 complete -c xbrl-json -l layout -x -a 'compact lines' -d 'The document on one line, or with a line for each fact'
 complete -c xbrl-json -l progress -d 'Show on standard error how much is read and written'
+complete -c xbrl-json -l explain -d 'Say below each fault where it is and what stands there'
 complete -c xbrl-json -s h -l help -d 'Print help'
 complete -c xbrl-json -s V -l version -d 'Print version'

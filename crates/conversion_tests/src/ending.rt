@@ -2,7 +2,7 @@
 
 ghost use Rattle.std.specs.Prelude.{◌≤◌};
 
-use oim_convert::convert_with_starts;
+use oim_convert::{convert, convert_with_starts};
 use oim_json::{Layout, Marked};
 use oim_merge::MergeEnd;
 use oim_meta::{Limits, Report};
@@ -57,7 +57,8 @@ pub(crate) const REFUSED: [TableFault; 2] = [
     },
 ];
 
-/// Converts a report to a writer. Tells whether these tables are refused and the merge ends so.
+/// Converts a report to a writer, by the call that names how many workers are started where these are not all. Tells whether these
+/// tables are refused and the merge ends so.
 pub(crate) fn ends_so<R: Read + Drop + Send, W: Write>(
     rt: &(impl AllocGlobal + Threads + Wait + Sync),
     report: &Report,
@@ -70,19 +71,19 @@ pub(crate) fn ends_so<R: Read + Drop + Send, W: Write>(
 ) -> bool
     requires { limits.rows ≤ 4294967294 }
 {
+    let (alloc, layout) = (rt.alloc(), Layout::Compact);
+    let (workers, starts, ring) = (way.workers, way.starts, way.ring);
     let sink = &mut Marked::new(writer);
-    match convert_with_starts(
-        rt,
-        rt.alloc(),
-        report,
-        readers,
-        way.workers,
-        way.starts,
-        way.ring,
-        limits,
-        Layout::Compact,
-        sink,
-    ) {
+    let answer = if starts == workers {
+        convert(
+            rt, alloc, report, readers, workers, ring, limits, layout, sink,
+        )
+    } else {
+        convert_with_starts(
+            rt, alloc, report, readers, workers, starts, ring, limits, layout, sink,
+        )
+    };
+    match answer {
         Ok(run) => run.end == end && run.faults.as_slice() == faults,
         Err(_) => false,
     }

@@ -28,11 +28,12 @@ fn writes(
     Ok(is_ended && document.as_slice() == expected)
 }
 
-/// The number of workers, and how many of them are started.
+/// The number of workers, and how many are to be started: more than there are are all of them.
 const CREWS: &[(usize, usize)] = &[
     (3, 1),
     (3, 2),
     (3, 3),
+    (3, 4),
     (8, 1),
     (8, 2),
     (8, 3),

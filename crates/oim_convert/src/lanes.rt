@@ -8,8 +8,11 @@ use crate::job::Job;
 use oim_ring::{Drain, Lanes};
 use std::alloc::{AllocError, Global};
 
-/// As many blocks as fill this many rings may wait in all rings together.
+/// As many facts as fill this many rings may wait in all rings together.
 const FULL_RINGS: usize = 4;
+
+/// How many facts a full block has.
+const FULL_BLOCK: usize = 256;
 
 /// A job and a drain for each reader, in order. Nothing was sent or taken yet.
 pub(crate) fn open_lanes<R: Drop>(
@@ -24,7 +27,7 @@ pub(crate) fn open_lanes<R: Drop>(
     ensures count { IfOk result (λ r. length r.1.items ≡ length r.0.items) }
     ensures sizes { IfOk result (λ r. All (λ job. job.feed.size ≡ size) r.0.items) }
 {
-    let mut lanes = Lanes::new(alloc, size.saturating_mul(FULL_RINGS))?;
+    let mut lanes = Lanes::new(alloc, size.saturating_mul(FULL_RINGS * FULL_BLOCK))?;
     let mut jobs = Vec::new(alloc);
     let mut drains = Vec::new(alloc);
     for reader in readers {

@@ -12,8 +12,8 @@
 //! - `WrongReaders` is answered exactly if the number of readers is not the number of tables; with it
 //!   and with `Memory` nothing is written.
 //!
-//! What is proved of `convert`, which works on threads, for every number of workers, ring size and
-//! schedule:
+//! What is proved of `convert`, which works on threads, where it returns, for every number of workers,
+//! ring size and schedule:
 //!
 //! - the history of each table is the table's stream, or a beginning of it that a failed read or
 //!   running out of memory ended; `NoThread` ends all tables or none (`specs/Histories.antt`);
@@ -24,17 +24,18 @@
 //!   defined answer of the report (`specs/Runs.antt`);
 //! - `BadWorkers`, `BadSize` and `WrongReaders` are answered exactly if each is the first that applies.
 //!   With them and with `Memory` nothing is written, and `Lost` is answered after the document of some
-//!   histories, one for each table.
+//!   histories, one for each table, or a beginning of it.
 //!
-//! A run is answered only after its claims were closed with all their seats, so the workers gave one
-//! receipt for each table (`finish` in `src/returning.rt`).
+//! Inside, a run is answered only after its claims were closed with all their seats, so the workers gave
+//! one receipt for each table (`finish` in `src/returning.rt`), and a worker that was started has promised
+//! tables that are decoded, so none is refused for want of a thread where one was started.
 //!
 //! What is proved of the facts (`written_identifiers_differ`): whatever files the tables have, no two
 //! facts of the defined answer have one identifier, and no two of those that the histories of a run
 //! write, also where tables were cut short or none was served (`specs/Identifiers.antt`).
 //!
-//! What only tests show: that workers run side by side, that each worker that started is joined, and
-//! that memory, threads and tokens are given.
+//! What only tests show: that workers are started at all and run side by side, that each worker that
+//! started is joined, and that memory, threads and tokens are given.
 //!
 //! A call:
 //!

@@ -187,15 +187,16 @@ fn write_tables<R: Read + Drop, W: Sink>(
 }
 
 /// Converts a report on one thread: reads each table with its reader, in table order, and writes the
-/// document of all facts to the sink in the given layout (xBRL-CSV 1.0, xBRL-JSON 1.0). A table without
-/// a reader has no file. `limits.rows` is at most 4,294,967,294.
+/// document of all facts to the sink in the given layout (xBRL-CSV 1.0, tables and table templates;
+/// xBRL-JSON 1.0, the report object and the facts object). A table without a reader has no file.
+/// `limits.rows` is at most 4,294,967,294.
 ///
 /// Fails with `WrongReaders` exactly if the number of readers is not the number of tables, and with
 /// `Memory` if memory runs out before anything is written; in both cases nothing is written. Fails with
 /// `Tables` if tables have faults, with the first fault of each such table in table order: all tables
 /// are then read, and the unfinished document has the facts up to the first of these faults. A table
 /// whose reader fails or for which memory runs out is refused too. Fails with `Write` if a write failed:
-/// a beginning of the document is then written, and nothing more is read.
+/// a beginning of the document is then written.
 pub fn convert_serial<R: Read + Drop, W: Sink>(
     alloc: Global,
     report: &Report,

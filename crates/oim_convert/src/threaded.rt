@@ -128,26 +128,29 @@ fn run_ready<R: Read + Drop + Send, T: Threads + Wait + Sync, W: Sink>(
     }
 }
 
-/// Converts a report on threads (xBRL-CSV 1.0, xBRL-JSON 1.0). `workers` workers draw the tables and
-/// decode each into a ring of its own, of size `size`, while the caller's thread writes the document of
-/// all facts to the sink, in table order and in the given layout. A table without a reader has no file.
-/// `limits.rows` is at most 4,294,967,294. It waits for its workers.
+/// Converts a report on threads (xBRL-CSV 1.0, tables and table templates; xBRL-JSON 1.0, the report
+/// object and the facts object). `workers` workers draw the tables and decode each into a ring of its own,
+/// of size `size`, while the caller's thread writes the document of all facts to the sink, in table order
+/// and in the given layout. A table without a reader has no file. `limits.rows` is at most 4,294,967,294. It
+/// waits for its workers, and it is not proved that it returns.
 ///
 /// The answer is the same for every number of workers, ring size and schedule: if no reader failed and
 /// neither memory nor threads ran out, each history is its table's defined facts, and bytes and end are
 /// the defined answer.
 ///
 /// Each history is its table's stream, or a beginning of it that a failed read (`Read`) or running out
-/// of memory (`Memory`) ended. If no worker could be started, every table is refused with `NoThread`;
-/// otherwise none is. The run has the fault of each refused table, in table order, however it ends. The
-/// end is `Complete` if no table is refused; `Refused` if one is, and then the document is unfinished
-/// after the facts of the first refused table; or `Write` if a write failed before that, and then a
-/// beginning of the document is written.
+/// of memory (`Memory`) ended; or every table is refused with `NoThread`, and never only some are. They
+/// all are if no worker could be started. That they are in no other case no clause of this call can say,
+/// since nothing tells it which threads the system gave. The run has the fault of each refused table, in
+/// table order, however it ends. The end is `Complete` if no table is refused; `Refused` if one is, and
+/// then the document is unfinished after the facts of the first refused table; or `Write` if a write failed
+/// before that, and then a beginning of the document is written.
 ///
 /// Fails with `BadWorkers` if the number of workers is not 1 to 64, else with `BadSize` if the ring's
 /// size is not 1 to 65,536, else with `WrongReaders` if the number of readers is not the number of
 /// tables, and with `Memory` if memory runs out before anything is written; in these cases nothing is
-/// written. Fails with `Lost` if the end of a ring is lost, after everything is written.
+/// written. Fails with `Lost` if the end of a ring is lost: the document of some histories is then
+/// written, one for each table, or a beginning of it, and no clause says that they are the tables' own.
 pub fn convert<R: Read + Drop + Send, T: Threads + Wait + Sync, W: Sink>(
     rt: &T,
     alloc: Global,
@@ -161,7 +164,7 @@ pub fn convert<R: Read + Drop + Send, T: Threads + Wait + Sync, W: Sink>(
 ) -> Result<Run, ConvertFault>
     requires { limits.rows ≤ 4294967294 }
 
-    // The headline, if the readers tell their bytes: the histories of the tables; NoThread ends all of
+    // The headline, if all readers tell their bytes: the histories of the tables; NoThread ends all of
     // them or none; and if none was cut short, each is its table's stream, and end and bytes are the
     // defined answer.
     ensures histories { (files : List (Option (List ℕ))) → AreFilesOf R.remaining readers.items files

@@ -1,12 +1,14 @@
 -- Rows that are read from a table's stream, one after another.
-use Rattle.std.proofs.Common.{◌≡◌, ℕ, List, [], ◌∷◌, ◌++◌, true, false, Option, Some, None, Ok, Err, IfSome, IsSome, refl, ap, sym, subst, ◌∙◌, inl, inr, append-nil, append_assoc}
+use Rattle.std.proofs.Common.{◌≡◌, ◌⊎◌, ◌≤◌, ◌<◌, ◌+◌, ◌-◌, ℕ, arith, drop, List, [], ◌∷◌, ◌++◌, true, false, Option, Some, None, Ok, Err, IfSome, IsSome, refl, ap, sym, subst, ◌∙◌, inl, inr, append-nil, append_assoc}
 use Rattle.std.proofs.lemmas.Grind.{flat_map-append}
+use Rattle.std.proofs.lemmas.List.{drop-drop}
+use Rattle.oim_records.specs.Grids.{Record}
 use Rattle.oim_resolve.specs.FactParts.{FactParts as Fact}
 use Rattle.oim_rows.specs.Header.{file_fault}
 use Rattle.oim_rows.specs.Streams.{GivesNext, IsOutside, Stream, ending, facts_of_rows}
 use Rattle.oim_rows.specs.declared.fault.TableFault.{TableFault}
 use Rattle.oim_rows.specs.declared.fault.TableKind.TheVariants as kind
-use Rattle.oim_decode.specs.Blocks.{AddsRow, GivesBlock, ReadsRows}
+use Rattle.oim_decode.specs.Blocks.{AddsRow, GivesBlock, IsBehind, ReadsRows, TakesOne}
 
 -- these rows were read, and with their facts these are pending
 abbrev pub HasRead : ℕ → Stream → List Fact → List Fact → Option Stream → Type 0
@@ -120,3 +122,47 @@ memory_given table first before pending after left left' e reads none short over
 pub no_answer : {A : Type 0} (o : Option A) → None ≡ o → IsSome o → ⊥
 no_answer None none some = cc some
 no_answer (Some x) none some = cc none
+
+-- WHAT IS LEFT UNREAD
+
+more_dropped : (n : ℕ) (rs : List Record) → drop 1 (drop n rs) ≡ drop (n + 1) rs
+more_dropped n rs = drop-drop 1 n rs
+
+-- a row more
+pub behind_row : (table k given next : ℕ) (old now after : Option (List Record)) → k ≤ given → next ≡ given + 1 → IfSome old (λ rs. IsBehind table rs (given - k) None now)
+    → IfSome now (λ us. TakesOne table us (Ok true) after) → IfSome old (λ rs. IsBehind table rs (next - k) None after)
+behind_row table k given next None now after le is so takes = tt
+behind_row table k given next (Some rs) now after le is so takes =
+    let one : next - k ≡ (given - k) + 1 = omega (arith, le, is) in
+    rw so at takes ∙ ap Some (more_dropped (given - k) rs ∙ ap (λ m. drop m rs) (sym one))
+
+-- the end
+pub behind_end : (table k given next : ℕ) (old now after : Option (List Record)) → next ≡ given → IfSome old (λ rs. IsBehind table rs (given - k) None now)
+    → IfSome now (λ us. TakesOne table us (Ok false) after) → IfSome old (λ rs. IsBehind table rs (next - k) (Some None) after)
+behind_end table k given next None now after is so takes = tt
+behind_end table k given next (Some rs) now after is so takes =
+    let took : TakesOne table (drop (given - k) rs) (Ok false) after = rw so at takes in (ap (λ i. drop (i - k) rs) is ∙ took.0, took.1)
+
+-- a fault
+pub behind_fault : (table k given next : ℕ) (old now after : Option (List Record)) (e : TableFault) → next ≡ given → IfSome old (λ rs. IsBehind table rs (given - k) None now)
+    → IfSome now (λ us. TakesOne table us (Err e) after) → IfSome old (λ rs. IsBehind table rs (next - k) (Some (Some e)) after)
+behind_fault table k given next None now after e is so takes = tt
+behind_fault table k given next (Some rs) now after e is so takes = by (rw so at takes)
+  where
+    by : TakesOne table (drop (given - k) rs) (Err e) after → IsBehind table rs (next - k) (Some (Some e)) after
+    by (inl one) = inl (one ∙ ap Some (more_dropped (given - k) rs) ∙ ap (λ i. Some (drop ((i - k) + 1) rs)) (sym is))
+    by (inr (outside, none)) = inr (outside, inr none)
+
+-- no row came
+pub stays : (k given next : ℕ) (before now after : List Fact) → next ≡ given → after ≡ now → (k < given) ⊎ (now ≡ before) → (k < next) ⊎ (after ≡ before)
+stays k given next before now after is same (inl more) = inl (omega (arith, more, is))
+stays k given next before now after is same (inr so) = inr (same ∙ so)
+
+-- memory was refused for a block of what waited
+pub behind_short : (table n : ℕ) (old : Option (List Record)) (answered : Option (Option TableFault)) (unread : Option (List Record)) (e : TableFault) → e ≡ file_fault table kind.Memory
+    → IfSome old (λ rs. IsBehind table rs n answered unread) → IfSome old (λ rs. IsBehind table rs n (Some (Some e)) unread)
+behind_short table n None answered unread e short so = tt
+behind_short table n (Some rs) None unread e short so = inr (inr short, inl so)
+behind_short table n (Some rs) (Some None) unread e short so = inr (inr short, inr so.1)
+behind_short table n (Some rs) (Some (Some f)) unread e short (inl one) = inl one
+behind_short table n (Some rs) (Some (Some f)) unread e short (inr (outside, left)) = inr (inr short, left)

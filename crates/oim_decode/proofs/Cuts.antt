@@ -1,5 +1,5 @@
 -- Texts of facts that are written, cut and moved.
-use Rattle.std.proofs.Common.{◌≡◌, ℕ, ◌+◌, ◌-◌, ◌≤◌, List, [], ◌∷◌, ◌++◌, Bool, true, false, Some, None, length, take, drop, get_or, map, refl, ap, sym, ◌∙◌, arith, append-nil, length-append}
+use Rattle.std.proofs.Common.{◌≡◌, ℕ, ◌+◌, ◌-◌, ◌≤◌, List, [], ◌∷◌, ◌++◌, Bool, true, false, Some, None, Result, Ok, Err, IfOk, length, take, drop, get_or, map, refl, ap, sym, ◌∙◌, arith, append-nil, length-append}
 use mathlib.Core.List.{IsPrefix}
 use Rattle.std.specs.List.{position_from}
 use Rattle.std.specs.Str.{is_utf8}
@@ -7,14 +7,35 @@ use Rattle.std.proofs.lemmas.List.{take_at, drop_at, length-take-le, take-append
 use Rattle.std.proofs.lemmas.Str.{IsUtf8-from_is_utf8}
 use Rattle.csv.specs.Records.{AllText}
 use Rattle.oim_resolve.specs.FactParts.{FactParts as Fact}
+use Rattle.oim_fast.specs.Facts.{WritesFacts}
+use Rattle.oim_fast.specs.Rows.{RowValue}
 use Rattle.oim_rows.specs.RowFacts.{is_not_text}
+use Rattle.oim_rows.specs.declared.fault.TableFault.{TableFault}
 use Rattle.oim_json.specs.Blocks.{behind_comma, behind_commas, ends_from}
 use Rattle.oim_json.proofs.Blocks.{texts_append, texts_cut, ends_append, ends_length, read_end}
 
 -- FRONTS
 
-pub prefix_same : (xs ys : List ℕ) → ys ≡ xs → IsPrefix xs ys
-prefix_same xs ys e = ([], append-nil xs ∙ sym e)
+-- what came behind a front is taken off again
+pub taken_back : (old new : List ℕ) (n : ℕ) → n ≡ length old → IsPrefix old new → take n new ≡ old
+taken_back old new n here front = ap (take n) (sym front.1) ∙ take_at old front.0 n (sym here)
+
+pub front_of : (old cut new : List ℕ) → cut ≡ old → IsPrefix cut new → IsPrefix old new
+front_of old cut new same front = (front.0, ap (λ t. t ++ front.0) (sym same) ∙ front.1)
+
+-- a row was written behind what was there
+pub written_behind : (x : RowValue) (old cut new noted cuts notes : List ℕ) → cut ≡ old → cuts ≡ noted → WritesFacts x cut new cuts notes → WritesFacts x old new noted notes
+written_behind x old cut new noted cuts notes same kept w = record {
+  facts = w.facts;
+  are = w.are;
+  text = w.text ∙ ap (λ t. t ++ behind_commas w.facts) same;
+  ends = w.ends ∙ ap (λ t. t ++ ends_from (length cut) w.facts) kept ∙ ap (λ t. noted ++ ends_from (length t) w.facts) same;
+}
+
+pub written_ok : (x : RowValue) (r : Result (Unit {0}) TableFault) (old cut new noted cuts notes : List ℕ) → cut ≡ old → cuts ≡ noted
+    → IfOk r (λ _. WritesFacts x cut new cuts notes) → IfOk r (λ _. WritesFacts x old new noted notes)
+written_ok x (Ok u) old cut new noted cuts notes same kept w = written_behind x old cut new noted cuts notes same kept w
+written_ok x (Err e) old cut new noted cuts notes same kept w = tt
 
 -- RECORDS OF TEXT
 

@@ -1,17 +1,15 @@
 -- The definitions, executed on worked cases.
-use Rattle.std.proofs.Common.{◌≡◌, [], ◌∷◌, Some, None, Ok, Err, true, false, refl, ap, arith, codes, map, inl, inr}
-use Rattle.oim_cells.specs.declared.cells.NumberKind.TheVariants as number
-use Rattle.oim_resolve.specs.declared.fact.CellFault.TheVariants as cell_fault
+use Rattle.std.proofs.Common.{◌≡◌, ℕ, List, Option, [], ◌∷◌, Some, None, Ok, Err, true, false, refl, ap, arith, codes, map, inl, inr}
+use Rattle.oim_records.specs.Grids.{Record}
 use Rattle.oim_resolve.specs.FactParts.{FactParts as Fact}
 use Rattle.oim_rows.specs.FaultNames.{number_of}
-use Rattle.oim_rows.specs.Header.{file_fault}
+use Rattle.oim_rows.specs.Header.{fault_at, file_fault}
 use Rattle.oim_rows.specs.Streams.{ending}
 use Rattle.oim_rows.specs.declared.fault.TableFault.{TableFault}
 use Rattle.oim_rows.specs.declared.fault.TableKind.TheVariants as kind
-use Rattle.oim_decode.specs.Answers.{piece_in}
-use Rattle.oim_decode.specs.Blocks.{AnswersFacts, ReadsRows, answered_of, has_row, left_of, turns_left}
-use Rattle.oim_decode.specs.Digits.{begins_with_sign, takes_point}
-use Rattle.oim_decode.specs.declared.table.Progress.TheVariants as progress
+use Rattle.oim_decode.specs.RowTexts.{AddsFacts, facts_in}
+use Rattle.oim_decode.specs.Blocks.{AddsNone, AnswersFacts, CountsRow, GivesFound, IsBehind, LeavesNone, ReadsRows, TakesOne, answered_of, has_row, left_of, turns_left}
+use Rattle.oim_decode.specs.declared.table.table_blocks.Progress.TheVariants as progress
 
 abbrev a : Fact
 a = record { id = codes "a"; value = None; decimals = None; dimensions = [] }
@@ -79,12 +77,70 @@ an_early_fault h =
 facts_lost_for_memory : AnswersFacts 0 (a ∷ []) (Err (file_fault 0 kind.Memory)) [] (Some (ending (Some (file_fault 0 kind.Memory))))
 facts_lost_for_memory = (refl, refl, inr refl)
 
--- PIECES AND NUMERALS
-pieces_written : (piece_in (record { fault = None; is_written = true }) (codes "null") ≡ Some (codes "null")) × (piece_in (record { fault = Some cell_fault.BadValue; is_written = false }) [] ≡ None)
-pieces_written = (refl, refl)
+-- ROWS. The facts of an answer are added to others; none are with a fault
+a_row_added : (facts_in (Ok (a ∷ b ∷ [])) ≡ a ∷ b ∷ []) × (facts_in (Err failed) ≡ [])
+a_row_added = (refl, refl)
 
-signs : map begins_with_sign (codes "-1" ∷ codes "+1" ∷ codes "1" ∷ codes ".1" ∷ codes ",1" ∷ codes "*1" ∷ codes "1-" ∷ [] ∷ []) ≡ true ∷ true ∷ false ∷ false ∷ false ∷ false ∷ false ∷ false ∷ []
-signs = refl
+two_facts_added : AddsFacts 0 (Ok (a ∷ b ∷ [])) (b ∷ []) (b ∷ a ∷ b ∷ []) (Ok tt)
+two_facts_added = (refl, refl)
 
-points : map takes_point (number.Integer ∷ number.Decimal ∷ number.Double ∷ []) ≡ false ∷ true ∷ true ∷ []
-points = refl
+one_of_them_lost : AddsFacts 0 (Ok (a ∷ b ∷ [])) [] (a ∷ []) (Ok tt) → ⊥
+one_of_them_lost h = absurd (cc h.1)
+
+no_facts_of_a_bad_row : AddsFacts 0 (Err failed) (b ∷ []) (b ∷ []) (Err failed)
+no_facts_of_a_bad_row = (refl, inr refl)
+
+a_bad_row_taken : AddsFacts 0 (Err failed) [] [] (Ok tt) → ⊥
+a_bad_row_taken h = absurd (cc h.0)
+
+abbrev number_found : Option TableFault → ℕ
+number_found None = 0
+number_found (Some f) = number_of f.kind
+
+-- READING. Of three records one was read as a row, and the next has a fault: the third is left. The end comes where none is left
+abbrev three : List Record
+three = ([] ∷ []) ∷ ([] ∷ []) ∷ (codes "c" ∷ []) ∷ []
+
+abbrev twice : TableFault
+twice = fault_at 0 2 1 kind.RepeatedRowId
+
+left_behind_a_fault : IsBehind 0 three 1 (Some (Some twice)) (Some ((codes "c" ∷ []) ∷ []))
+left_behind_a_fault = inl refl
+
+read_on_behind_a_fault : IsBehind 0 three 1 (Some (Some twice)) (Some []) → ⊥
+read_on_behind_a_fault (inl e) = absurd (cc e)
+read_on_behind_a_fault (inr (inl e, left)) = let numbers : 30 ≡ 21 = ap (λ (f : TableFault). number_of f.kind) e in absurd (omega (arith, numbers))
+read_on_behind_a_fault (inr (inr e, left)) = let numbers : 30 ≡ 42 = ap (λ (f : TableFault). number_of f.kind) e in absurd (omega (arith, numbers))
+
+left_behind_an_end : IsBehind 0 three 3 (Some None) (Some [])
+left_behind_an_end = (refl, refl)
+
+an_end_too_early : IsBehind 0 three 2 (Some None) (Some []) → ⊥
+an_end_too_early h = absurd (cc h.0)
+
+left_to_read : IsBehind 0 three 2 None (Some ((codes "c" ∷ []) ∷ []))
+left_to_read = refl
+
+-- one record at a time
+one_more_record : TakesOne 0 three (Ok true) (Some (([] ∷ []) ∷ (codes "c" ∷ []) ∷ []))
+one_more_record = refl
+
+rows_counted : CountsRow 2 (Ok true) 1 2 × (CountsRow 2 (Ok false) 2 2 × (CountsRow 2 (Err twice) 1 2 → ⊥))
+rows_counted = ((refl, omega arith), (refl, λ h. absurd (omega (arith, h))))
+
+facts_only_with_a_row : AddsNone (Err twice) (a ∷ []) (a ∷ [])
+facts_only_with_a_row = refl
+
+-- what was found is given once nothing waits, and nothing waits behind it
+found_and_given : GivesFound 0 [] (Some twice) (Err twice) (Some (Some twice))
+found_and_given = inl (refl, refl)
+
+found_and_forgotten : GivesFound 0 (a ∷ []) (Some twice) (Ok (Some (a ∷ []))) (Some None) → ⊥
+found_and_forgotten h = absurd (cc h)
+
+another_fault : GivesFound 0 [] (Some twice) (Err failed) (Some (Some failed)) → ⊥
+another_fault (inl h) = let numbers : 30 ≡ 21 = ap number_found h.0 in absurd (omega (arith, numbers))
+another_fault (inr h) = absurd (omega (arith, h.1))
+
+waits_for_ever : LeavesNone (Err failed) (a ∷ []) → ⊥
+waits_for_ever h = absurd (cc h)

@@ -1,43 +1,59 @@
--- A row's facts, by what its table is read by and by what its rows are written by.
-use Rattle.std.proofs.Common.{◌≡◌, ℕ, List, Option, Some, None, Bool, true, false, Result, Ok, Err, IfOk, IfSome, option_map, ◌+◌, ◌++◌, refl, ap, sym, ◌∙◌, inl, inr}
+-- A row's facts, and what a read record adds.
+use Rattle.std.proofs.Common.{◌≡◌, ℕ, List, [], ◌∷◌, drop, MatchResult, Option, Some, None, Bool, true, false, Result, Ok, Err, IfOk, IfSome, option_map, ◌+◌, ◌++◌, refl, ap, sym, subst, ◌∙◌, inl, inr}
 use Rattle.oim_records.specs.Grids.{Field, Record}
 use Rattle.oim_records.specs.Reads.{TakesRecord}
 use Rattle.oim_records.specs.declared.read_fault.ReadFault.{ReadFault}
 use Rattle.oim_resolve.specs.FactParts.{FactParts as Fact}
-use Rattle.oim_rows.specs.RowFacts.{Reading, checked, facts_from, id_place_of, ids_after, row_fault, row_of, row_result}
+use Rattle.oim_fast.specs.Facts.{WritesFacts, facts_of_row}
+use Rattle.oim_fast.specs.Rows.{RowValue}
+use Rattle.oim_rows.specs.RowFacts.{IsNewId, IsTextRecord, field_or_empty, Reading, checked, facts_from, id_fault, id_place_of, ids_after, is_not_text, limit_fault, ragged_fault, row_fault, row_of, row_result, text_fault}
+use Rattle.oim_rows.specs.Header.{fault_at, or_else}
+use Rattle.oim_rows.specs.declared.fault.TableKind.TheVariants as kind
+use Rattle.std.specs.List.{list_any, position_from}
+use Rattle.std.specs.Str.{bytes_eq}
 use Rattle.oim_rows.specs.Streams.{OrNoMemory, Stream, IsOutside, early_row_answer, fault_of_read, stream_from}
 use Rattle.oim_rows.proofs.StreamLaws.{gives_end, gives_fault, gives_row, outside}
 use Rattle.oim_rows.specs.declared.fault.TableFault.{TableFault}
-use Rattle.oim_decode.specs.Blocks.{AddsRow, has_row}
-use Rattle.oim_decode.specs.Facts.{IsRowFault}
-use Rattle.oim_decode.specs.RowTexts.{AddsFacts, IsAnswer, Writing, facts_in, row_facts, table_fault, writing_of}
-use Rattle.oim_decode.specs.declared.row_fault.RowFault.{RowFault}
-use Rattle.oim_decode.specs.declared.row_fault.RowFault.TheVariants as row_fault_of
+use Rattle.oim_decode.specs.Blocks.{AddsNone, AddsRow, CountsRow, TakesOne, has_row}
+use Rattle.oim_decode.specs.RowTexts.{AddsFacts, facts_in}
 
 pub known : {A : Type 0} (o : Option A) → IfSome o (λ _. Unit {0})
 known None = tt
 known (Some x) = tt
 
 -- apart from its cells a row has no fault
-pub row_answer : (g : Reading) (w : Writing) (n : ℕ) (ids : List Field) (r : Record) → row_fault g n ids r ≡ None → w ≡ writing_of g → row_result g n ids r ≡ row_facts w n r
-row_answer g w n ids r none is = ap (λ o. checked o (facts_from g.report g.table (row_of g n r) 0 g.header)) none ∙ ap (λ x. row_facts x n r) (sym is)
+pub adds_answer : (x : RowValue) (ids : List Field) (before after : List Fact) (result : Result (Unit {0}) TableFault) → row_fault x.form x.number ids x.fields ≡ None
+    → AddsFacts x.form.table (facts_of_row x) before after result → AddsFacts x.form.table (row_result x.form x.number ids x.fields) before after result
+adds_answer x ids before after result none adds =
+    subst (λ (a : Result (List Fact) TableFault). AddsFacts x.form.table a before after result) (sym (ap (λ o. checked o (facts_of_row x)) none)) adds
 
--- a row's fault is its answer
-pub fault_answer : (w : Writing) (n : ℕ) (r : Record) (f : RowFault) → IsRowFault w.report w.table w.header n r f → IsAnswer (row_facts w n r) (Err f)
-fault_answer w n r row_fault_of.Memory fault = tt
-fault_answer w n r (row_fault_of.Cell e) fault = fault
+-- a row without a fault of its own is text
+second_none : (a b c : Option TableFault) → or_else a (or_else b c) ≡ None → b ≡ None
+second_none None None c none = refl
+second_none None (Some x) c none = cc none
+second_none (Some x) b c none = cc none
 
--- facts that are a row's are those of its answer
-pub row_added : (table : ℕ) (answer texts : Result (List Fact) TableFault) (before after : List Fact) → answer ≡ texts → texts ≡ Ok (facts_in texts) → after ≡ before ++ facts_in texts
-    → AddsFacts table answer before after (Ok tt)
-row_added table answer texts before after same given added =
-    (same ∙ given ∙ ap (λ a. Ok (facts_in a)) (sym same), added ∙ ap (λ a. before ++ facts_in a) (sym same))
+pub text_row : (g : Reading) (n : ℕ) (ids : List Field) (r : Record) → row_fault g n ids r ≡ None → IsTextRecord r
+text_row g n ids r none =
+    by (position_from is_not_text 0 r) (second_none (ragged_fault g n r) (text_fault g n r) (or_else (limit_fault g n) (id_fault g (id_place_of g) n ids r)) none)
+  where
+    by : (o : Option ℕ) → option_map (λ p. fault_at g.table n (p + 1) kind.NotUtf8) o ≡ None → o ≡ None
+    by None that = refl
+    by (Some p) that = cc that
 
--- why a row gives no facts: its answer, or memory was refused
-pub row_refused : (table : ℕ) (answer texts : Result (List Fact) TableFault) (before after : List Fact) (f : RowFault) (e : TableFault) → answer ≡ texts → e ≡ table_fault table f
-    → IsAnswer texts (Err f) → after ≡ before → AddsFacts table answer before after (Err e)
-row_refused table answer texts before after row_fault_of.Memory e same is given nothing = (nothing, inl is)
-row_refused table answer texts before after (row_fault_of.Cell x) e same is given nothing = (nothing, inr (same ∙ given ∙ ap (λ y. Err y) (sym is)))
+-- the identifier at a place
+pub new_id : (o : Option ℕ) (p : ℕ) (ids : List Field) (r : Record) (id : Field) → o ≡ Some p → id ≡ field_or_empty r (Some p) → IsNewId o ids r → list_any (bytes_eq id) ids ≡ false
+new_id o p ids r id is text new = rw text (rw is at new)
+
+pub kept_id : (o : Option ℕ) (p : ℕ) (ids after : List Field) (r : Record) (id : Field) → o ≡ Some p → id ≡ field_or_empty r (Some p) → after ≡ ids ++ id ∷ [] → after ≡ ids_after o ids r
+kept_id o p ids after r id is text more = more ∙ ap (λ (x : Field). ids ++ x ∷ []) text ∙ ap (λ q. ids_after q ids r) (sym is)
+
+pub no_id : (o : Option ℕ) (ids : List Field) (r : Record) → o ≡ None → ids ≡ ids_after o ids r
+no_id o ids r is = sym (ap (λ q. ids_after q ids r) is)
+
+-- facts that are an answer are those in it
+pub is_given : (answer : Result (List Fact) TableFault) (facts : List Fact) → answer ≡ Ok facts → answer ≡ Ok (facts_in answer)
+is_given answer facts is = is ∙ ap (λ a. Ok (facts_in a)) (sym is)
 
 -- what a read record adds
 pub adds_end : (table n : ℕ) (g : Reading) (ids : List Field) (before : List Fact) (old new : Option (List Record)) (r : Record) (after : Option Stream) → TakesRecord old false r new
@@ -62,14 +78,26 @@ adds_row n g ids ids2 before now None new r took added kept = tt
 adds_row n g ids ids2 before now (Some rs) new r took added kept =
     (facts_in (row_result g n ids r), added.1, gives_row n g ids ids2 (Some rs) new r (facts_in (row_result g n ids r)) took (inr (sym added.0)) kept)
 
--- a fault of a row that has none but for its cells
-pub why_failed : (table : ℕ) (answer : Result (List Fact) TableFault) (before after : List Fact) (e : TableFault) → AddsFacts table answer before after (Err e) → OrNoMemory table (Err e) answer
-why_failed table answer before after e (same, inl short) = inl (ap (λ x. Err x) short)
-why_failed table answer before after e (same, inr is) = inr (sym is)
-
 -- a row's own fault is its answer
 pub own_fault : (g : Reading) (n : ℕ) (ids : List Field) (r : Record) (e : TableFault) → row_fault g n ids r ≡ Some e → OrNoMemory g.table (Err e) (row_result g n ids r)
 own_fault g n ids r e is = inr (sym (ap (λ o. checked o (facts_from g.report g.table (row_of g n r) 0 g.header)) is))
+
+-- the record that was read is the first of those left
+pub one_taken : (rs : List Record) (r : Record) (new : Option (List Record)) → TakesRecord (Some rs) true r new → new ≡ Some (drop 1 rs)
+one_taken [] r new took = cc took.0
+one_taken (x ∷ rest) r new took = took.2
+
+none_taken : (rs : List Record) (r : Record) (new : Option (List Record)) → TakesRecord (Some rs) false r new → (rs ≡ []) × (new ≡ Some [])
+none_taken [] r new took = (refl, took.1)
+none_taken (x ∷ rest) r new took = cc took.0
+
+pub row_taken : (table : ℕ) (old new : Option (List Record)) (r : Record) → TakesRecord old true r new → IfSome old (λ rs. TakesOne table rs (Ok true) new)
+row_taken table None new r took = tt
+row_taken table (Some rs) new r took = one_taken rs r new took
+
+pub bad_row_taken : (table : ℕ) (old new : Option (List Record)) (r : Record) (e : TableFault) → TakesRecord old true r new → IfSome old (λ rs. TakesOne table rs (Err e) new)
+bad_row_taken table None new r e took = tt
+bad_row_taken table (Some rs) new r e took = inl (one_taken rs r new took)
 
 -- an answer that a row has before its cells are read: the reader's fault, the end, or a fault of the row itself
 module _ (n : ℕ) (g : Reading) (ids : List Field) (r : Record) (answer : Result Bool TableFault) where
@@ -91,15 +119,42 @@ module _ (n : ℕ) (g : Reading) (ids : List Field) (r : Record) (answer : Resul
           let same : answer ≡ Err e = cc is in
           rw same (adds_fault n g ids before before old new r e after took refl (own_fault g n ids r e own))
 
-  -- and then no row is given
-  pub no_row_early : (found : Result Bool ReadFault) (P : Type 0) → Some answer ≡ option_map has_row (early_row_answer g n ids found r) → IfOk answer (λ more. more ≡ true → P)
-  no_row_early (Err f) P is = let same : answer ≡ Err (fault_of_read g.table f) = cc is in rw same tt
-  no_row_early (Ok false) P is = let same : answer ≡ Ok false = cc is in rw same (λ h. absurd (cc h))
-  no_row_early (Ok true) P is = by (row_fault g n ids r) is
+  -- then no row is counted
+  pub none_counted : (found : Result Bool ReadFault) (limit given : ℕ) → Some answer ≡ option_map has_row (early_row_answer g n ids found r) → CountsRow limit answer given given
+  none_counted (Err f) limit given is = let same : answer ≡ Err (fault_of_read g.table f) = cc is in rw same refl
+  none_counted (Ok false) limit given is = let same : answer ≡ Ok false = cc is in rw same refl
+  none_counted (Ok true) limit given is = by (row_fault g n ids r) is
     where
-      by : (o : Option TableFault) → Some answer ≡ option_map has_row (option_map Err o) → IfOk answer (λ more. more ≡ true → P)
+      by : (o : Option TableFault) → Some answer ≡ option_map has_row (option_map Err o) → CountsRow limit answer given given
       by None is = absurd (cc is)
-      by (Some e) is = let same : answer ≡ Err e = cc is in rw same tt
+      by (Some e) is = let same : answer ≡ Err e = cc is in rw same refl
+
+  pub none_added : (found : Result Bool ReadFault) (facts : List Fact) → Some answer ≡ option_map has_row (early_row_answer g n ids found r) → AddsNone answer facts facts
+  none_added (Err f) facts is = let same : answer ≡ Err (fault_of_read g.table f) = cc is in rw same refl
+  none_added (Ok false) facts is = let same : answer ≡ Ok false = cc is in rw same refl
+  none_added (Ok true) facts is = by (row_fault g n ids r) is
+    where
+      by : (o : Option TableFault) → Some answer ≡ option_map has_row (option_map Err o) → AddsNone answer facts facts
+      by None is = absurd (cc is)
+      by (Some e) is = let same : answer ≡ Err e = cc is in rw same refl
+
+  -- and nothing was read behind the record at hand
+  pub early_unread : (found : Result Bool ReadFault) (old new : Option (List Record)) → MatchResult found (λ b. TakesRecord old b r new) (λ _. new ≡ Some [])
+      → Some answer ≡ option_map has_row (early_row_answer g n ids found r) → IfSome old (λ rs. TakesOne g.table rs answer new)
+  early_unread found None new took is = tt
+  early_unread (Err f) (Some rs) new took is =
+      let same : answer ≡ Err (fault_of_read g.table f) = cc is in
+      subst (λ a. TakesOne g.table rs a new) (sym same) (inr (outside g.table f, took))
+  early_unread (Ok false) (Some rs) new took is =
+      let same : answer ≡ Ok false = cc is in
+      subst (λ a. TakesOne g.table rs a new) (sym same) (none_taken rs r new took)
+  early_unread (Ok true) (Some rs) new took is = by (row_fault g n ids r) is
+    where
+      by : (o : Option TableFault) → Some answer ≡ option_map has_row (option_map Err o) → TakesOne g.table rs answer new
+      by None is = absurd (cc is)
+      by (Some e) is =
+          let same : answer ≡ Err e = cc is in
+          subst (λ a. TakesOne g.table rs a new) (sym same) (inl (one_taken rs r new took))
 
 -- a row without such an answer was read, and has no fault of its own
 pub not_early : (n : ℕ) (g : Reading) (ids : List Field) (r : Record) (found : Result Bool ReadFault) → option_map has_row (early_row_answer g n ids found r) ≡ None
@@ -111,3 +166,23 @@ not_early n g ids r (Ok true) is = (refl, by (row_fault g n ids r) is)
     by : (o : Option TableFault) → option_map has_row (option_map Err o) ≡ None → o ≡ None
     by None is = refl
     by (Some e) is = absurd (cc is)
+
+-- the facts of the row that was read are added, or none of them
+pub row_adds : (x : RowValue) (g : Reading) (n : ℕ) (ids ids2 : List Field) (t r : Record) (before now : List Fact) (old new : Option (List Record))
+    → x ≡ record { form = g; number = n; fields = t } → t ≡ r → TakesRecord old true r new
+    → AddsFacts x.form.table (row_result x.form x.number ids x.fields) before now (Ok tt) → ids2 ≡ ids_after (id_place_of x.form) ids x.fields
+    → IfSome (option_map (stream_from g n ids) old) (λ s. AddsRow g.table s before now (Ok true) (option_map (stream_from g (n + 1) ids2) new))
+row_adds x g n ids ids2 t r before now old new is same took adds kept =
+    let row : x ≡ record { form = g; number = n; fields = r } = is ∙ ap (λ (s : Record). record { form = g; number = n; fields = s }) same in
+    adds_row n g ids ids2 before now old new r took
+    (subst (λ (y : RowValue). AddsFacts y.form.table (row_result y.form y.number ids y.fields) before now (Ok tt)) row adds)
+    (subst (λ (y : RowValue). ids2 ≡ ids_after (id_place_of y.form) ids y.fields) row kept)
+
+pub row_fails : (x : RowValue) (g : Reading) (n : ℕ) (ids : List Field) (t r : Record) (before now : List Fact) (old new : Option (List Record)) (e : TableFault) (after : Option Stream)
+    → x ≡ record { form = g; number = n; fields = t } → t ≡ r → TakesRecord old true r new
+    → AddsFacts x.form.table (row_result x.form x.number ids x.fields) before now (Err e)
+    → IfSome (option_map (stream_from g n ids) old) (λ s. AddsRow g.table s before now (Err e) after)
+row_fails x g n ids t r before now old new e after is same took adds =
+    let row : x ≡ record { form = g; number = n; fields = r } = is ∙ ap (λ (s : Record). record { form = g; number = n; fields = s }) same in
+    let there = subst (λ (y : RowValue). AddsFacts y.form.table (row_result y.form y.number ids y.fields) before now (Err e)) row adds in
+    adds_fault n g ids before now old new r e after took there.0 there.1

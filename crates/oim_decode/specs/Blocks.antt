@@ -1,24 +1,28 @@
 -- What a reader of a table's blocks answers: the table's facts in order, block after block, and then its end or its first fault.
-use Rattle.std.specs.Prelude.{⊤, ◌≡◌, ◌⊎◌, Bool, true, false, List, [], ◌++◌, ℕ, suc, Option, Some, None, Result, Ok, Err}
+use Rattle.std.specs.Prelude.{⊤, ◌≡◌, ◌⊎◌, ◌+◌, ◌-◌, ◌<◌, ◌≤◌, Bool, true, false, List, [], ◌++◌, drop, length, ℕ, suc, Option, Some, None, IfSome, Result, Ok, Err}
 use Rattle.std.specs.Option.{is_some}
 use mathlib.Core.List.{IsPrefix}
+use Rattle.oim_records.specs.Grids.{Record}
 use Rattle.oim_resolve.specs.FactParts.{FactParts as Fact}
 use Rattle.oim_rows.specs.Header.{file_fault}
 use Rattle.oim_rows.specs.RowFacts.{Reading}
 use Rattle.oim_rows.specs.Streams.{GivesNext, IsOutside, Stream, ending, facts_of_rows}
 use Rattle.oim_rows.specs.declared.fault.TableFault.{TableFault}
 use Rattle.oim_rows.specs.declared.fault.TableKind.TheVariants as kind
-use Rattle.oim_decode.specs.declared.table.Progress.{Progress}
-use Rattle.oim_decode.specs.declared.table.Progress.TheVariants as progress
+use Rattle.oim_decode.specs.declared.table.table_blocks.Progress.{Progress}
+use Rattle.oim_decode.specs.declared.table.table_blocks.Progress.TheVariants as progress
 
--- how a table is read, how many of its rows are read, and the stream of the others, where the reader tells its bytes
+-- how a table is read, how many of its rows are read, and, where the reader tells its bytes, the stream of the others and the records
+-- that are not read yet
 pub record RowsUnread : Type 0 where
   pub reading : Reading
   pub given : ℕ
   pub left : Option Stream
+  pub unread : Option (List Record)
 
 -- what is left of a table. `given` counts the rows that are read, `pending` are those of their facts that are not given yet.
--- `left` is the stream behind them, where it is known. Once a table is settled, `answered` is what a call answers that finds nothing pending
+-- `left` is the stream behind them, where it is known, and `unread` are the records that are left in the reader. Once a table is settled,
+-- `answered` is what a call answers that finds nothing pending
 pub record BlocksLeft : Type 0 where
   pub table : ℕ
   pub limit : ℕ
@@ -26,6 +30,7 @@ pub record BlocksLeft : Type 0 where
   pub pending : List Fact
   pub answered : Option (Option TableFault)
   pub left : Option Stream
+  pub unread : Option (List Record)
 
 abbrev pub answered_of : Progress → Option (Option TableFault)
 answered_of progress.Reading = None
@@ -47,6 +52,7 @@ blocks_left rows facts p = record {
   pending = facts;
   answered = answered_of p;
   left = left_of p rows.left;
+  unread = rows.unread;
 }
 
 -- one more row was read, and its facts joined those that are pending; or none was, and these are the same
@@ -54,6 +60,25 @@ abbrev pub AddsRow : ℕ → Stream → List Fact → List Fact → Result Bool 
 AddsRow table s before after (Ok true) left = (facts : List Fact) × (after ≡ before ++ facts) × GivesNext table s (Ok (Some facts)) left
 AddsRow table s before after (Ok false) left = (after ≡ before) × GivesNext table s (Ok None) left
 AddsRow table s before after (Err e) left = (after ≡ before) × GivesNext table s (Err e) left
+
+-- one more record of those that are left was read as a row; or none is left; or one was read that settles the table, or the reader failed or
+-- had no more memory, and then none is left
+abbrev pub TakesOne : ℕ → List Record → Result Bool TableFault → Option (List Record) → Type 0
+TakesOne table rs (Ok true) unread = unread ≡ Some (drop 1 rs)
+TakesOne table rs (Ok false) unread = (rs ≡ []) × (unread ≡ Some [])
+TakesOne table rs (Err e) unread = (unread ≡ Some (drop 1 rs)) ⊎ (IsOutside table e × (unread ≡ Some []))
+
+-- one row more is counted where one was read, and at most as many as the limit says
+abbrev pub CountsRow : ℕ → Result Bool TableFault → ℕ → ℕ → Type 0
+CountsRow limit (Ok true) before after = (after ≡ before + 1) × (after ≤ limit)
+CountsRow limit (Ok false) before after = after ≡ before
+CountsRow limit (Err e) before after = after ≡ before
+
+-- facts come to others only with a row
+abbrev pub AddsNone : Result Bool TableFault → List Fact → List Fact → Type 0
+AddsNone (Ok true) before after = ⊤
+AddsNone (Ok false) before after = after ≡ before
+AddsNone (Err e) before after = after ≡ before
 
 -- an answer for a row, without its facts: whether there is one, or the fault
 abbrev pub has_row : Result (Option (List Fact)) TableFault → Result Bool TableFault
@@ -84,6 +109,34 @@ abbrev pub KeepsAnswer : Result (Option (List Fact)) TableFault → Option (Opti
 KeepsAnswer (Ok (Some block)) answered = ⊤
 KeepsAnswer (Ok None) answered = answered ≡ Some None
 KeepsAnswer (Err e) answered = answered ≡ Some (Some e)
+
+-- the records that are left where n of these were read as rows: those behind them; none at the end, which comes only where none is left; at a fault
+-- those behind the record with it, unless the reader failed or memory was refused
+abbrev pub IsBehind : ℕ → List Record → ℕ → Option (Option TableFault) → Option (List Record) → Type 0
+IsBehind table rs n None unread = unread ≡ Some (drop n rs)
+IsBehind table rs n (Some None) unread = (drop n rs ≡ []) × (unread ≡ Some [])
+IsBehind table rs n (Some (Some e)) unread = (unread ≡ Some (drop (n + 1) rs)) ⊎ (IsOutside table e × ((unread ≡ Some (drop n rs)) ⊎ (unread ≡ Some [])))
+
+-- what was read of a table that was not settled: its rows, and nothing behind the record that settled it
+abbrev pub ReadsBehind : BlocksLeft → BlocksLeft → Type 0
+ReadsBehind old new = IfSome old.unread (λ rs. IsBehind old.table rs (new.given - old.given) new.answered new.unread)
+
+-- no fact waits after an end or a fault
+abbrev pub LeavesNone : Result (Option (List Fact)) TableFault → List Fact → Type 0
+LeavesNone (Ok (Some block)) pending = ⊤
+LeavesNone (Ok None) pending = pending ≡ []
+LeavesNone (Err e) pending = pending ≡ []
+
+-- an answer once an end or a fault was found, where these facts waited: the first of them, and what was found is kept; or that itself where none
+-- waited; or that memory was refused for those that waited
+abbrev pub GivesFound : ℕ → List Fact → Option TableFault → Result (Option (List Fact)) TableFault → Option (Option TableFault) → Type 0
+GivesFound table pending found (Ok (Some block)) answered = answered ≡ Some found
+GivesFound table pending found (Ok None) answered = (found ≡ None) × (pending ≡ [])
+GivesFound table pending found (Err e) answered = ((found ≡ Some e) × (pending ≡ [])) ⊎ ((e ≡ file_fault table kind.Memory) × (1 ≤ length pending))
+
+-- a settled table gives what was found, and reads nothing
+abbrev pub KeepsFound : BlocksLeft → Result (Option (List Fact)) TableFault → BlocksLeft → Type 0
+KeepsFound old result new = IfSome old.answered (λ found. GivesFound old.table old.pending found result new.answered × (new.given ≡ old.given) × (new.unread ≡ old.unread))
 
 -- how many records are looked for yet, where there are at most n rows more
 abbrev pub turns_left : Option (Option TableFault) → ℕ → ℕ

@@ -5,12 +5,10 @@
 //! table's first fault. A row with any fault gives no fact. A failed read, or running out of memory, may end a table at
 //! any row. After the end or a fault it answers the same again and reads nothing.
 //!
-//! No fact lies in memory as a value: a row's cells are written as text, and the list of the facts is remembered for
-//! contracts alone.
-//!
-//! Two words are used all through. A *slot* is a reference of the metadata to a cell of the row, together with what the
-//! cell's text gives a fact; it is read once for each row. A *variant* is a column of facts under one choice of property
-//! groups. All of its text that is the same in each row is kept ready, in pieces between its slots.
+//! A row goes one of two ways. The fast way (`oim_fast`) writes the texts of its facts straight from the bytes of its cells,
+//! or leaves the row alone. Such a row, and so each row with a fault, goes the plain way: `oim_rows` gives its facts as values
+//! or its first fault, and `oim_json` writes them. No fact of the fast way lies in memory as a value, and the list of the
+//! facts is kept for contracts alone.
 //!
 //! A call:
 //!
@@ -29,44 +27,8 @@
 //! ```
 #![tactic(auto)]
 
-mod answer;
-mod append;
-mod batch;
-mod cell;
-mod cells;
-mod choose;
-mod column;
-mod columns;
-mod compile;
-mod decimals;
-mod decimals_slot;
-mod kept;
-mod kept_decimals;
-mod least;
-mod numeral;
-mod page;
-mod place;
-mod ready;
-mod ready_decimals;
-mod ready_runs;
-mod ready_table;
-mod refresh;
-mod remember;
-mod row_at;
-mod row_fault;
-mod row_id;
-mod row_writer;
-mod settled;
-mod slot;
-mod slots;
-mod source;
-mod sources;
-mod start;
+mod laws;
 mod table;
-mod text_record;
-mod text_rows;
-mod value;
-mod variant;
-mod variant_index;
 
-pub use table::TableBlocks;
+pub use laws::settled_tables_stay;
+pub use table::table_blocks::TableBlocks;

@@ -1,6 +1,11 @@
 //! Laws over the definitions that the contracts cite.
 
+ghost use Rattle.std.specs.Prelude.{◌≡◌};
+ghost use Rattle.oim_json.specs.Document.{tail_text};
 ghost use Rattle.oim_json.specs.Lines.{FactListsAreOneLine, FactsAreOneLine, LinesAreMembers};
+ghost use Rattle.oim_json.specs.declared.layout.Layout.TheVariants.{Compact};
+
+use crate::document::TAIL;
 
 /// No text of a fact holds a line feed.
 pub fn facts_are_one_line()
@@ -16,4 +21,9 @@ pub fn fact_lists_are_one_line()
 /// order, and where it is finished the closing braces on the last line.
 pub fn lines_are_members()
     ensures { LinesAreMembers }
+{}
+
+/// `TAIL` is the tail of a compact document.
+fn tail_is_compact()
+    ensures { TAIL.now ≡ tail_text Compact }
 {}

@@ -40,6 +40,13 @@ impl<W: Write> Marked<W> {
             mark: Mark::Fine,
         }
     }
+
+    /// The writer, which holds what the sink holds. It writes and flushes nothing.
+    pub fn into_writer(self) -> W
+        ensures { W.contents result ≡ ⟦<Marked<W> as Sink>⟧.told self }
+    {
+        self.writer
+    }
 }
 
 impl<W: Write> Sink for Marked<W> {
@@ -48,7 +55,8 @@ impl<W: Write> Sink for Marked<W> {
     ghost mark = { λ s. s.mark };
 
     /// Asks the writer once, offers it all the bytes and answers what it answered, also where a write has
-    /// failed before. How often a writer is asked stands in no clause: a test counts it.
+    /// failed before. The clause says what is known of one write of these bytes, and the mark. That the
+    /// writer is asked once and that the answer is its own stands in no clause: a test shows it.
     fn write_some(&mut self, bytes: &[u8]) -> io::Result<usize> {
         let answer = self.writer.write(bytes);
         match &answer {

@@ -1,7 +1,6 @@
 //! Building a report from the parts of its metadata.
 
 ghost use Rattle.std.specs.Prelude.{◌≡◌, ◌++◌, IfOk, false, codes};
-ghost use Rattle.serde_json.specs.Data.{null};
 ghost use Rattle.serde_json.specs.View.{view};
 ghost use Rattle.oim_meta.specs.Members.{section, map_members};
 ghost use Rattle.oim_meta.specs.Value.{document_info, info_of, level_of, named_text, report_of, tables_of, templates_of};
@@ -15,54 +14,58 @@ pub(crate) mod names;
 pub(crate) mod namespaces;
 pub(crate) mod places;
 
-use crate::build::made::{copied, texts_at};
+use crate::build::made::{copied, take_texts};
 use crate::lookup::text_at;
 use crate::walk::report::Parts;
-use oim_names::Namespaces;
+use oim_names::{Items, Namespaces};
 use oim_report::{Info, Parameters, Report, Types};
 use serde_json::Value;
 use std::alloc::{AllocError, Global};
 
-/// The document information, or nothing if there is none.
-fn document_of<'a>(value: &'a Value, nothing: &'a Value) -> &'a Value
-    requires { view nothing.now ≡ null }
-    ensures { view result.now ≡ document_info (view value.now) }
+/// What the document says of itself; its texts are taken out of it.
+fn info(alloc: Global, document: &mut Value) -> Result<Info, AllocError>
+    ensures { IfOk result (λ made. made ≡ info_of (view document.old)) }
 {
-    value.get("documentInfo").unwrap_or(nothing)
+    let base_url = copied(alloc, text_at(document, "baseURL"))?;
+    let taxonomy = take_texts(alloc, document, "taxonomy")?;
+    Ok(Info { base_url, taxonomy })
 }
 
-fn info(alloc: Global, document: &Value) -> Result<Info, AllocError>
-    ensures { IfOk result (λ made. made ≡ info_of (view document.now)) }
+/// What a metadata's document says of itself, or nothing if there is none.
+fn info_in(alloc: Global, mut value: Value) -> Result<Info, AllocError>
+    ensures { IfOk result (λ made. made ≡ info_of (document_info (view value))) }
 {
-    Ok(Info {
-        base_url: copied(alloc, text_at(document, "baseURL"))?,
-        taxonomy: texts_at(alloc, document, "taxonomy")?,
-    })
+    match value.get_mut("documentInfo") {
+        Some(document) => info(alloc, document),
+        None => Ok(Info {
+            base_url: None,
+            taxonomy: Items::new(alloc),
+        }),
+    }
 }
 
 /// The report of a metadata with these prefixes and parts, each of whose names of templates and columns is known.
 #[tactic(auto, unfolding(crate::specs::Value::report_of))]
 pub(crate) fn report(
     alloc: Global,
-    value: &Value,
+    value: Value,
     namespaces: Namespaces,
     parts: Parts,
     parameters: Parameters,
     types: Types,
 ) -> Result<Report, AllocError>
-    requires namespaces { namespaces ≡ prefixes_of (view value.now) }
-    requires level { parts.level ≡ level_of (view value.now) }
-    requires templates { parts.templates ≡ templates_of (view value.now) }
-    requires tables { parts.tables ≡ tables_of (view value.now) }
-    requires parameters { parts.parameters ≡ map_members named_text (section (codes "parameters") (view value.now)) }
-    requires known_templates { has_unknown_template (view value.now) ≡ false }
-    requires known_columns { has_unknown_column (view value.now) ≡ false }
-    requires order { IsInOrder (view value.now) }
-    requires identifiers { has_bad_identifier (view value.now) ≡ false }
-    ensures { IfOk result (λ r. r ≡ report_of parameters types (view value.now)) }
+    requires namespaces { namespaces ≡ prefixes_of (view value) }
+    requires level { parts.level ≡ level_of (view value) }
+    requires templates { parts.templates ≡ templates_of (view value) }
+    requires tables { parts.tables ≡ tables_of (view value) }
+    requires parameters { parts.parameters ≡ map_members named_text (section (codes "parameters") (view value)) }
+    requires known_templates { has_unknown_template (view value) ≡ false }
+    requires known_columns { has_unknown_column (view value) ≡ false }
+    requires order { IsInOrder (view value) }
+    requires identifiers { has_bad_identifier (view value) ≡ false }
+    ensures { IfOk result (λ r. r ≡ report_of parameters types (view value)) }
 {
-    let nothing = Value::Null;
-    let info = info(alloc, document_of(value, &nothing))?;
+    let info = info_in(alloc, value)?;
     Ok(Report::new(
         info,
         namespaces,

@@ -19,6 +19,7 @@ use crate::build::namespaces::prefixes;
 use crate::document::{find_document, no_report};
 use crate::fault::MetaFault;
 use crate::findings::{Finding, Findings};
+use crate::glance::url_at_a_glance;
 use crate::lookup::text_at;
 use crate::refusal::{Refusal, refuse};
 use crate::walk::Walk;
@@ -134,17 +135,17 @@ fn walked(
 /// The report that a JSON value says. Refuses its first finding.
 fn report_in(
     alloc: Global,
-    value: &Value,
+    value: Value,
     parameters: Parameters,
     types: Types,
     limits: Limits,
 ) -> Result<Report, Refusal>
-    requires { IsInOrder (view value.now) }
-    ensures sound { OnOk result (first_fault limits parameters types (view value.now) ≡ None) }
-    ensures value { IfOk result (λ r. r ≡ report_of parameters types (view value.now)) }
-    ensures fault { IfErr result (IsFirstOf (in_metadata limits parameters types (view value.now))) }
+    requires { IsInOrder (view value) }
+    ensures sound { OnOk result (first_fault limits parameters types (view value) ≡ None) }
+    ensures value { IfOk result (λ r. r ≡ report_of parameters types (view value)) }
+    ensures fault { IfErr result (IsFirstOf (in_metadata limits parameters types (view value))) }
 {
-    let (names, parts) = walked(alloc, value, &parameters, &types, limits)?;
+    let (names, parts) = walked(alloc, &value, &parameters, &types, limits)?;
     Ok(build::report(alloc, value, names, parts, parameters, types)?)
 }
 
@@ -172,7 +173,7 @@ pub fn read_report_at(
         return Err(Refusal::of_whole(alloc, MetaFault::TooLarge));
     }
     let value = value_in(alloc, bytes)?;
-    report_in(alloc, &value, parameters, types, limits)
+    report_in(alloc, value, parameters, types, limits)
 }
 
 /// The report that a metadata says (xBRL-CSV 1.0, metadata), with the parameters of its parameters file
@@ -232,6 +233,9 @@ pub fn parameter_url(
 {
     if bytes.len() > limits.metadata {
         return Err(MetaFault::TooLarge);
+    }
+    if let Ok(url) = url_at_a_glance(alloc, bytes) {
+        return Ok(url);
     }
     let value = parse(alloc, bytes)?;
     check_url(&value)?;

@@ -8,3 +8,4 @@ pub mod Cut
 pub mod Colons
 pub mod Examples
 pub mod Searches
+pub mod AsciiNames

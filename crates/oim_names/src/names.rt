@@ -1,11 +1,13 @@
 //! Names by their characters: NCNames, identifiers and row identifiers.
 
-ghost use Rattle.std.specs.Prelude.{◌≡◌};
+ghost use Rattle.std.specs.Prelude.{◌≡◌, ◌&&◌, nat_lt, IsTrue};
+ghost use Rattle.std.specs.List.{list_all};
 ghost use Rattle.oim_names.specs.Names.{is_name_start as name_start, is_name_char as name_char, is_plain_char as plain_char, is_ncname as ncname};
 ghost use Rattle.oim_names.specs.Names.{is_identifier as identifier, is_row_identifier as row_identifier};
 
 /// Whether a character may begin a name.
 #[tactic(auto, unfolding(crate::specs::Names::is_name_start))]
+#[inline(always)]
 fn is_name_start(c: char) -> bool
     ensures { result ≡ name_start c }
 {
@@ -20,6 +22,7 @@ fn is_name_start(c: char) -> bool
 
 /// Whether a character may stand in a name.
 #[tactic(auto, unfolding(crate::specs::Names::is_name_char))]
+#[inline(always)]
 fn is_name_char(c: char) -> bool
     ensures { result ≡ name_char c }
 {
@@ -29,16 +32,83 @@ fn is_name_char(c: char) -> bool
 
 /// Whether a character may stand in an identifier: it may stand in a name and is not a point.
 #[tactic(auto, unfolding(crate::specs::Names::is_plain_char))]
+#[inline(always)]
 fn is_plain_char(c: char) -> bool
     ensures { result ≡ plain_char c }
 {
     is_name_char(c) && c != '.'
 }
 
-/// Whether a text is an NCName, a name without a colon (Namespaces in XML 1.0, NCName; XML 1.0 fifth edition, section 2.3).
-///
-/// Its first character may begin a name, and the others may stand in one. It takes no memory.
-pub fn is_ncname(text: &str) -> bool
+/// Whether a byte is an ASCII character that may begin a name.
+#[inline(always)]
+fn is_ascii_name_start(byte: u8) -> bool
+    ensures { result ≡ (nat_lt byte 128 && name_start byte) }
+{
+    byte < 128 && is_name_start(byte as char)
+}
+
+/// Whether a byte is an ASCII character that may stand in a name.
+#[inline(always)]
+fn is_ascii_name_char(byte: u8) -> bool
+    ensures { result ≡ (nat_lt byte 128 && name_char byte) }
+{
+    byte < 128 && is_name_char(byte as char)
+}
+
+/// Whether a byte is an ASCII character that may stand in an identifier.
+#[inline(always)]
+fn is_ascii_plain_char(byte: u8) -> bool
+    ensures { result ≡ (nat_lt byte 128 && plain_char byte) }
+{
+    byte < 128 && is_plain_char(byte as char)
+}
+
+/// Whether all bytes are ASCII characters that may stand in a name.
+fn are_name_chars(bytes: &[u8]) -> bool
+    ensures { result ≡ list_all (λ c. nat_lt c 128 && name_char c) bytes.now }
+{
+    bytes.iter().all(|byte| is_ascii_name_char(*byte))
+}
+
+/// Whether all bytes are ASCII characters that may stand in an identifier.
+fn are_plain_chars(bytes: &[u8]) -> bool
+    ensures { result ≡ list_all (λ c. nat_lt c 128 && plain_char c) bytes.now }
+{
+    bytes.iter().all(|byte| is_ascii_plain_char(*byte))
+}
+
+/// Whether a text is an NCName of ASCII characters.
+fn is_ascii_ncname(text: &str) -> bool
+    ensures { IsTrue result → IsTrue (ncname text.now) }
+{
+    match text.as_bytes() {
+        [first, others @ ..] => is_ascii_name_start(*first) && are_name_chars(others),
+        [] => false,
+    }
+}
+
+/// Whether a text is an identifier of ASCII characters.
+fn is_ascii_identifier(text: &str) -> bool
+    ensures { IsTrue result → IsTrue (identifier text.now) }
+{
+    match text.as_bytes() {
+        [first, others @ ..] => is_ascii_name_start(*first) && are_plain_chars(others),
+        [] => false,
+    }
+}
+
+/// Whether a text is the identifier of a row, of ASCII characters.
+fn is_ascii_row_identifier(text: &str) -> bool
+    ensures { IsTrue result → IsTrue (row_identifier text.now) }
+{
+    match text.as_bytes() {
+        [first, others @ ..] => is_ascii_plain_char(*first) && are_plain_chars(others),
+        [] => false,
+    }
+}
+
+/// Whether a text is an NCName, by its characters.
+fn is_ncname_by_chars(text: &str) -> bool
     ensures { result ≡ ncname text.now }
 {
     let mut rest = text.chars();
@@ -48,10 +118,8 @@ pub fn is_ncname(text: &str) -> bool
     }
 }
 
-/// Whether a text is an identifier, as tables, templates, columns and parameters have (xBRL-CSV 1.0, identifiers).
-///
-/// An identifier is an NCName without a point. It takes no memory.
-pub fn is_identifier(text: &str) -> bool
+/// Whether a text is an identifier, by its characters.
+fn is_identifier_by_chars(text: &str) -> bool
     ensures { result ≡ identifier text.now }
 {
     let mut rest = text.chars();
@@ -61,10 +129,8 @@ pub fn is_identifier(text: &str) -> bool
     }
 }
 
-/// Whether a text is the identifier of a row (xBRL-CSV 1.0, row identifiers).
-///
-/// It is one or more characters that may stand in a name, none of them a point. It takes no memory.
-pub fn is_row_identifier(text: &str) -> bool
+/// Whether a text is the identifier of a row, by its characters.
+fn is_row_identifier_by_chars(text: &str) -> bool
     ensures { result ≡ row_identifier text.now }
 {
     let mut rest = text.chars();
@@ -72,4 +138,31 @@ pub fn is_row_identifier(text: &str) -> bool
         Some(first) => is_plain_char(first) && rest.all(|c| is_plain_char(c)),
         None => false,
     }
+}
+
+/// Whether a text is an NCName, a name without a colon (Namespaces in XML 1.0, NCName; XML 1.0 fifth edition, section 2.3).
+///
+/// Its first character may begin a name, and the others may stand in one. It takes no memory.
+pub fn is_ncname(text: &str) -> bool
+    ensures { result ≡ ncname text.now }
+{
+    is_ascii_ncname(text) || is_ncname_by_chars(text)
+}
+
+/// Whether a text is an identifier, as tables, templates, columns and parameters have (xBRL-CSV 1.0, identifiers).
+///
+/// An identifier is an NCName without a point. It takes no memory.
+pub fn is_identifier(text: &str) -> bool
+    ensures { result ≡ identifier text.now }
+{
+    is_ascii_identifier(text) || is_identifier_by_chars(text)
+}
+
+/// Whether a text is the identifier of a row (xBRL-CSV 1.0, row identifiers).
+///
+/// It is one or more characters that may stand in a name, none of them a point. It takes no memory.
+pub fn is_row_identifier(text: &str) -> bool
+    ensures { result ≡ row_identifier text.now }
+{
+    is_ascii_row_identifier(text) || is_row_identifier_by_chars(text)
 }

@@ -58,7 +58,7 @@ impl Text {
         Ok(Text::new(String::from_str(alloc, text)?))
     }
 
-    /// Shares the text, so that its clones take no more memory. Fails with `AllocError` where memory runs out.
+    /// Shares the text, so that its clones need not copy it. Fails with `AllocError` where memory runs out.
     pub fn share(self) -> Result<Text, AllocError>
         ensures { IfOk result (λ t. t ≡ self) }
     {

@@ -62,7 +62,7 @@ impl Report {
         self.table(i).id.as_str()
     }
 
-    /// The URL of a table's file, a plain relative path.
+    /// The URL of a table's file: a plain relative path where `oim_meta` read the report.
     pub fn table_url(&self, i: usize) -> &str
         requires { i < length self.now.tables }
         ensures { result.now ≡ (table_of self.now i).url }

@@ -2,7 +2,7 @@
 //!
 //! A cell gives exactly what `cell_result` of `specs/Facts.antt` says, apart from running out of
 //! memory: no fact if the cell says nothing, else the fault with the least number of the first step
-//! that has a fault, else the fact. `compile` makes the `Plan` of a table. It reads once what is the
+//! that has a fault, else the fact. `compile` makes the `Plan` of a table, which keeps what is the
 //! same for all rows: the merged map of each column, each property group, what each name stands for,
 //! what each literal gives or what is wrong with it, and which column and which parameter each
 //! reference names. `Plan::resolve` finds the fact of one cell; `resolve` does both for a single

@@ -71,8 +71,8 @@ impl Drain {
     {
         self.backlog.take_turn();
         let item = self.consumer.pop().ok()?;
-        if let Item::Block(_) = item {
-            self.backlog.less();
+        if let Item::Block(block) = &item {
+            self.backlog.less(block.count());
         }
         self.waiting.wake();
         Some(item)

@@ -1,6 +1,6 @@
 //! The sending end of a ring.
 
-ghost use Rattle.std.specs.Prelude.{◌≡◌, ◌<◌, [], ◌∷◌, ◌++◌, true, length, IsOk, OnOk, IfErr};
+ghost use Rattle.std.specs.Prelude.{◌≡◌, ◌<◌, ◌-◌, [], ◌∷◌, ◌++◌, true, length, IsOk, OnOk, IfErr};
 ghost use Rattle.rtrb.specs.Ring.{sent, producer_capacity};
 ghost use Rattle.oim_ring.specs.Closing.{Closes};
 ghost use Rattle.oim_ring.specs.Ends.{sender_ring};
@@ -12,7 +12,7 @@ use crate::backlog::BacklogHandle;
 use crate::item::{Ending, Item};
 use crate::waiting::FeedWaiting;
 use oim_json::Block;
-use rtrb::{Finished, Producer, PushError};
+use rtrb::{Finished, Producer};
 use std::alloc::Global;
 use std::marker::Model;
 use std::sync::Wait;
@@ -22,19 +22,21 @@ use std::sync::Wait;
 #[derive(Drop)]
 pub struct Feed {
     producer: Producer<Item>,
+    /// How many slots of the ring no block takes, since they are kept for the ending.
+    kept: usize,
     waiting: FeedWaiting,
     backlog: BacklogHandle,
 }
 
 impl Model for Feed {
-    ghost use Rattle.std.specs.Prelude.{◌≡◌, true};
+    ghost use Rattle.std.specs.Prelude.{◌≡◌, ◌-◌, true};
     ghost use Rattle.rtrb.specs.Ring.{sent, producer_capacity};
     ghost use Rattle.oim_ring.specs.Items.{blocks_only};
     ghost use Rattle.oim_ring.specs.Ends.{FeedView, sender_ring};
 
     ghost Value = { FeedView };
 
-    ghost view = { λ f. record { ring = sender_ring f.producer; size = producer_capacity f.producer; sent = sent f.producer } };
+    ghost view = { λ f. record { ring = sender_ring f.producer; size = producer_capacity f.producer - f.kept; sent = sent f.producer } };
 
     ghost invariant = { λ f. blocks_only (sent f.producer) ≡ true };
 }
@@ -100,14 +102,16 @@ impl CloseFault {
 impl Feed {
     pub(crate) fn new(
         producer: Producer<Item>,
+        kept: usize,
         waiting: FeedWaiting,
         backlog: BacklogHandle,
     ) -> Feed
         requires { sent producer ≡ [] }
-        ensures { (result.ring ≡ sender_ring producer) × (result.size ≡ producer_capacity producer) × (result.sent ≡ []) }
+        ensures { (result.ring ≡ sender_ring producer) × (result.size ≡ producer_capacity producer - kept) × (result.sent ≡ []) }
     {
         Feed {
             producer,
+            kept,
             waiting,
             backlog,
         }
@@ -123,19 +127,15 @@ impl Feed {
         ensures room { length self.old.sent < self.old.size → IsOk result }
         ensures open { blocks_only self.new.sent ≡ true }
     {
-        self.backlog.more();
-        match self.producer.push(Item::Block(block)) {
-            Ok(()) => {
-                self.waiting.tell();
-                Ok(())
-            }
-            Err(PushError::Full(Item::Block(block))) => {
-                self.backlog.less();
-                self.waiting.wake();
-                Err(block)
-            }
-            Err(PushError::Full(Item::Ending(_))) => unreachable!(),
+        if self.producer.slots() <= self.kept {
+            self.waiting.wake();
+            return Err(block);
         }
+        let facts = block.count();
+        self.backlog.more(facts);
+        self.producer.push_reserved(Item::Block(block));
+        self.waiting.tell(facts);
+        Ok(())
     }
 
     /// Sends the ending and gives the token of the finished feed. Fails with `Full`, which gives the feed
@@ -147,6 +147,7 @@ impl Feed {
     {
         let Feed {
             mut producer,
+            kept,
             mut waiting,
             backlog,
         } = self;
@@ -156,6 +157,7 @@ impl Feed {
                 waiting.wake();
                 let feed = Feed {
                     producer,
+                    kept,
                     waiting,
                     backlog,
                 };
@@ -176,7 +178,7 @@ impl Feed {
         self.waiting.wait(rt);
     }
 
-    /// Waits while the report's rings together hold as many blocks as they may and the writer has not
+    /// Waits while the report's rings together hold as many facts as they may and the writer has not
     /// reached this feed's table. Call it before a block is put. The items sent stay the same.
     pub fn wait_for_turn<R: Wait>(&self, rt: &R) {
         self.backlog.wait(rt);

@@ -1,6 +1,6 @@
 //! Opening new rings.
 
-ghost use Rattle.std.specs.Prelude.{◌≡◌, [], IfOk};
+ghost use Rattle.std.specs.Prelude.{◌≡◌, ◌≤◌, [], IfOk};
 ghost use Rattle.oim_ring.specs.Limits.{IsRingSize};
 
 use crate::backlog::{Backlog, BacklogHandle};
@@ -15,7 +15,7 @@ use std::sync::Arc;
 /// The largest size of a ring, in blocks.
 pub const LARGEST_RING: usize = 65_536;
 
-/// Opens the rings of one report, in table order. Once as many blocks wait in them together as may, a
+/// Opens the rings of one report, in table order. Once as many facts wait in them together as may, a
 /// feed that waits for its turn is held back, apart from that of the table that the writer takes.
 #[derive(Drop)]
 pub struct Lanes {
@@ -24,7 +24,7 @@ pub struct Lanes {
 }
 
 impl Lanes {
-    /// Opens no ring yet. `most` blocks may wait in all rings together. Fails if memory runs out.
+    /// Opens no ring yet. `most` facts may wait in all rings together. Fails if memory runs out.
     pub fn new(alloc: Global, most: usize) -> Result<Lanes, AllocError> {
         Ok(Lanes {
             backlog: Backlog::new(alloc, most)?,
@@ -32,18 +32,36 @@ impl Lanes {
         })
     }
 
-    /// The two ends of the next table's ring, with room for `size` items, 1 to `LARGEST_RING`. Nothing
-    /// was sent or taken yet. Fails if memory runs out.
+    /// The two ends of the next table's ring, with room for `size` blocks, 1 to `LARGEST_RING`, and
+    /// beside them for the ending, so that `close` does not find it full. Nothing was sent or taken yet.
+    /// Fails if memory runs out.
     pub fn open(&mut self, alloc: Global, size: usize) -> Result<(Feed, Drain), AllocError>
         requires { IsRingSize size }
         ensures feed { IfOk result (λ r. (r.0.size ≡ size) × (r.0.sent ≡ [])) }
         ensures drain { IfOk result (λ r. r.1.taken ≡ []) }
         ensures one_ring { IfOk result (λ r. r.1.ring ≡ r.0.ring) }
     {
+        self.open_keeping(alloc, size, 1)
+    }
+
+    /// The same, where so many slots are kept for the ending: none or one.
+    fn open_keeping(
+        &mut self,
+        alloc: Global,
+        size: usize,
+        kept: usize,
+    ) -> Result<(Feed, Drain), AllocError>
+        requires size { IsRingSize size }
+        requires kept { kept ≤ 1 }
+        ensures feed { IfOk result (λ r. (r.0.size ≡ size) × (r.0.sent ≡ [])) }
+        ensures drain { IfOk result (λ r. r.1.taken ≡ []) }
+        ensures one_ring { IfOk result (λ r. r.1.ring ≡ r.0.ring) }
+    {
         let (sending, taking) = both_ends(alloc, size)?;
-        let (producer, consumer) = RingBuffer::<Item>::new(alloc, size)?;
+        let (producer, consumer) = RingBuffer::<Item>::new(alloc, size + kept)?;
         let feed = Feed::new(
             producer,
+            kept,
             sending,
             BacklogHandle::of(&self.backlog, self.opened)?,
         );
@@ -65,5 +83,5 @@ pub fn lane(alloc: Global, size: usize) -> Result<(Feed, Drain), AllocError>
     ensures drain { IfOk result (λ r. r.1.taken ≡ []) }
     ensures one_ring { IfOk result (λ r. r.1.ring ≡ r.0.ring) }
 {
-    Lanes::new(alloc, usize::MAX)?.open(alloc, size)
+    Lanes::new(alloc, usize::MAX)?.open_keeping(alloc, size, 0)
 }

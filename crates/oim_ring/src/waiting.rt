@@ -1,4 +1,23 @@
-//! How the two ends of a ring wait for each other.
+//! How the two ends of a ring wait for each other, and why each wait ends.
+//!
+//! A worker waits in two places, for room in its ring and for its turn (`backlog`). The writer waits
+//! for an item. That these waits end is not proved. It rests on the following.
+//!
+//! - The writer sleeps for some milliseconds at most and then looks again. So it needs no wake; one
+//!   only comes earlier.
+//! - The writer never waits for anything but the table that it has reached, and that table's feed is
+//!   never held back. So it waits only while the table's reader gives nothing, or until a thread runs
+//!   again that can run.
+//! - The table that the writer has reached is drawn, or is the next one to be drawn. For tables are
+//!   drawn in order, so a later one cannot be drawn before; and the workers of all tables before it are
+//!   done with them and draw again. A worker that could not be started draws nothing. Where none was,
+//!   the caller's thread closes all feeds before it writes, and a ring that is opened has room for its
+//!   ending.
+//! - A writer that failed takes items as before, up to the ending of each table.
+//! - **Room in its ring.** A feed that found its ring full sleeps on its Parker until it is given the
+//!   token. The drain first takes an item and then gives the token, which stays until a sleep takes it.
+//!   So a feed that sleeps has found the ring full after the last item was taken. The writer reaches
+//!   the table, takes one of these items, and the feed goes on.
 
 use std::alloc::{AllocError, Global};
 use std::sync::atomic::{AtomicU64, Ordering};
@@ -6,8 +25,11 @@ use std::sync::{Arc, Wait};
 use std::thread::Parker;
 use std::time::Duration;
 
-/// The most items that a feed sends before it wakes its drain.
-const MOST_UNTOLD: usize = 8;
+/// The most facts that a feed sends before it wakes its drain, as eight full blocks have.
+const MOST_UNTOLD: usize = 2_048;
+
+/// Half of the facts of a full block.
+const HALF_BLOCK: usize = 128;
 
 /// How long a drain sleeps at most at first, in milliseconds.
 const SHORT_SLEEP: u64 = 1;
@@ -26,9 +48,9 @@ struct Parkers {
 #[derive(Drop)]
 pub(crate) struct FeedWaiting {
     parkers: Arc<Parkers>,
-    /// How many items are sent for each wake.
+    /// How many facts are sent for each wake.
     stride: usize,
-    /// How many items were sent since the last wake.
+    /// How many facts were sent since the last wake.
     untold: usize,
 }
 
@@ -52,7 +74,7 @@ pub(crate) fn both_ends(
     let parkers = Arc::new(alloc, both)?;
     let feed = FeedWaiting {
         parkers: Arc::try_clone(&parkers)?,
-        stride: MOST_UNTOLD.min(size / 2),
+        stride: MOST_UNTOLD.min(size.saturating_mul(HALF_BLOCK)),
         untold: 0,
     };
     let drain = DrainWaiting {
@@ -63,10 +85,10 @@ pub(crate) fn both_ends(
 }
 
 impl FeedWaiting {
-    /// Notes that an item was sent, and wakes the drain if enough were sent since it was last woken. A
-    /// drain that is not woken finds the items once its sleep ends.
-    pub(crate) fn tell(&mut self) {
-        self.untold = self.untold.saturating_add(1);
+    /// Notes that a block of so many facts was sent, and wakes the drain if enough were sent since it was
+    /// last woken. A drain that is not woken finds the blocks once its sleep ends.
+    pub(crate) fn tell(&mut self, facts: usize) {
+        self.untold = self.untold.saturating_add(facts);
         if self.untold >= self.stride {
             self.wake();
         }

@@ -2,7 +2,6 @@ mod Places
 mod Repeats
 mod FactLists
 pub mod StreamLaws
-mod TextRecords
 mod ReadCells
 mod WholeLaw
 mod DotFacts

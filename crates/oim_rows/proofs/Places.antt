@@ -1,6 +1,6 @@
 -- One turn of a loop over the places of a list.
 use Rattle.std.proofs.Common.{◌≡◌, ◌≤◌, ◌+◌, ℕ, zero, suc, List, [], ◌∷◌, ◌++◌, length, take, drop, Some, None, Bool, true, false, refl, ap, arith, map, add-zero}
-use Rattle.std.specs.List.{list_any, position_from, range_with_len}
+use Rattle.std.specs.List.{list_any, position_from, range_with_len, slice_get}
 use Rattle.std.specs.Str.{is_utf8}
 use Rattle.std.specs.Prelude.{IsUtf8, ◌||◌}
 use Rattle.std.proofs.lemmas.Str.{IsUtf8-from_is_utf8}
@@ -25,6 +25,13 @@ take-field_at (f ∷ fs) (suc i) x e = rw (suc-add i) (ap (λ (t : List (List �
   where
     suc-add : (n : ℕ) → suc n + 1 ≡ suc (n + 1)
     suc-add n = omega arith
+
+-- the field at a place is the item there
+pub field_there : (xs : List (List ℕ)) (i : ℕ) → field_at xs i ≡ slice_get xs i
+unfolding field_at
+field_there [] i = refl
+field_there (f ∷ fs) zero = refl
+field_there (f ∷ fs) (suc i) = field_there fs i
 
 -- a place below the length has a field
 pub field_at-none : (xs : List (List ℕ)) (i : ℕ) → field_at xs i ≡ None → length xs ≤ i

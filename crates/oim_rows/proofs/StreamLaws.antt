@@ -1,7 +1,7 @@
 -- One row more of a table's stream.
 use Rattle.std.proofs.Common.{◌≡◌, ◌⊎◌, ◌+◌, ℕ, Bool, List, [], ◌∷◌, true, false, Option, Some, None, Result, Ok, Err, refl, sym, ap, subst, inl, inr, option_map, IfOk, IfSome, MatchResult, OnSome}
 use Rattle.oim_records.specs.Grids.{Field, Record, grid}
-use Rattle.oim_records.specs.Reads.{TakesRecord}
+use Rattle.oim_records.specs.Reads.{StartsFile, TakesRecord}
 use Rattle.oim_resolve.specs.FactParts.{FactParts as Fact}
 use Rattle.oim_report.specs.Readers.{columns_of}
 use Rattle.oim_report.specs.ReportValue.{ReportValue}
@@ -9,7 +9,7 @@ use Rattle.oim_records.specs.declared.read_fault.ReadFault.{ReadFault}
 use Rattle.oim_records.specs.declared.read_fault.ReadFault.TheVariants as read
 use Rattle.oim_rows.specs.Header.{Header, file_fault, file_header_fault, header_fault, header_of}
 use Rattle.oim_rows.specs.declared.fault.TableKind.TheVariants as kind
-use Rattle.oim_rows.specs.RowFacts.{Reading, id_place_of, ids_after, row_result}
+use Rattle.oim_rows.specs.RowFacts.{Reading, checked, facts_from, id_place_of, ids_after, row_fault, row_of, row_result}
 use Rattle.oim_rows.specs.Streams.{GivesNext, IsOutside, OrNoMemory, Stream, early_header_fault, early_row_answer, fault_of_read, row_answer, TakesHeader, stream_from, stream_of}
 use Rattle.oim_rows.specs.declared.fault.TableFault.{TableFault}
 
@@ -44,6 +44,13 @@ gives_fault n g ids (Some (y ∷ rs)) new r x after h (inr o) = inr (rw (← h.1
 pub outside : (table : ℕ) (f : ReadFault) → IsOutside table (fault_of_read table f)
 outside table read.Read = inl refl
 outside table read.Memory = inr refl
+
+-- the answer for the cells of a row that has no other fault is the answer for the row
+pub cells_answer : (g p : Reading) (n : ℕ) (ids : List Field) (r : Record) (result : Result (List Fact) TableFault) → row_fault g n ids r ≡ None → p ≡ g
+    → OrNoMemory p.table result (facts_from p.report p.table (row_of p n r) 0 p.header) → OrNoMemory g.table result (row_result g n ids r)
+cells_answer g p n ids r result none same given =
+    subst (λ o. OrNoMemory g.table result (checked o (facts_from g.report g.table (row_of g n r) 0 g.header))) (sym none)
+    (subst (λ (q : Reading). OrNoMemory q.table result (facts_from q.report q.table (row_of q n r) 0 q.header)) same given)
 
 known_or_not : {A : Type 0} (o : Option A) (P : A → Type 0) → ((a : A) → P a) → IfSome o P
 known_or_not None P h = tt
@@ -140,7 +147,7 @@ opened_at report table limit [] new h took = absurd took
 opened_at report table limit (r ∷ rows) new h took = (rw (took.2, took.1, took.0) refl, took.0)
 
 -- the rows under a header with no fault are those of the table's stream
-pub opened_stream : (report : ReportValue) (table limit : ℕ) (known : Option (List ℕ)) (old new : Option (List Record)) (h : Header) (g : Reading) (ids : List Field) → old ≡ option_map grid known
+pub opened_stream : (report : ReportValue) (table limit : ℕ) (known : Option (List ℕ)) (old new : Option (List Record)) (h : Header) (g : Reading) (ids : List Field) → StartsFile known old
     → TakesHeader report table old h new → g ≡ record { report = report; table = table; limit = limit; header = h } → ids ≡ []
     → IfSome known (λ bytes. (option_map (stream_from g 1 ids) new ≡ Some (stream_of report table limit (grid bytes))) × (file_header_fault report table (grid bytes) ≡ None))
 opened_stream report table limit None old new h g ids e took reading none = tt
@@ -152,12 +159,18 @@ when_ok (Ok a) P Q h = h
 when_ok (Err e) P Q h = tt
 
 -- a header was refused, seen from the bytes of the file
-pub refused_header : (report : ReportValue) (table : ℕ) (file : Option (List ℕ)) (records : Option (List Record)) (e : TableFault) → records ≡ option_map grid file
+pub refused_header : (report : ReportValue) (table : ℕ) (file : Option (List ℕ)) (records : Option (List Record)) (e : TableFault) → StartsFile file records
     → IsOutside table e ⊎ IfSome records (λ rs. file_header_fault report table rs ≡ Some e)
     → IfSome file (λ bytes. IsOutside table e ⊎ (file_header_fault report table (grid bytes) ≡ Some e))
 refused_header report table None records e is h = tt
 refused_header report table (Some bytes) records e is (inl o) = inl o
 refused_header report table (Some bytes) records e is (inr h) = inr (subst (λ x. IfSome x (λ rs. file_header_fault report table rs ≡ Some e)) is h)
+
+-- the reader failed at the start of a file, or memory was refused there
+pub refused_start : (report : ReportValue) (table : ℕ) (file : Option (List ℕ)) (f : ReadFault) (e : TableFault) → e ≡ fault_of_read table f
+    → IfSome file (λ bytes. IsOutside table e ⊎ (file_header_fault report table (grid bytes) ≡ Some e))
+refused_start report table None f e is = tt
+refused_start report table (Some bytes) f e is = inl (subst (λ x. IsOutside table x) (sym is) (outside table f))
 
 -- memory was refused for a table, whatever its file
 pub refused_memory : (report : ReportValue) (table : ℕ) (file : Option (List ℕ)) (e : TableFault) → e ≡ file_fault table kind.Memory

@@ -1,16 +1,15 @@
 //! The cells of a record.
 
 ghost use Rattle.std.specs.Prelude.{◌≡◌, ◌<◌, Some, length};
-ghost use Rattle.std.specs.List.{position_from};
-ghost use Rattle.csv.specs.Records.{field_at, fields_of};
-ghost use Rattle.oim_rows.specs.RowFacts.{IsTextRecord, field_or_empty, is_not_text};
+ghost use Rattle.csv.specs.Records.{field_at};
+ghost use Rattle.oim_rows.specs.RowFacts.{IsTextRecord, field_or_empty};
 
-use csv::ByteRecord;
+use oim_records::Fields;
 
 /// The cell at a place.
-pub(crate) fn field(row: &ByteRecord, i: usize) -> &[u8]
-    requires { i < length (fields_of row.now) }
-    ensures { field_at (fields_of row.now) i ≡ Some result.now }
+pub(crate) fn field<'a>(row: &Fields<'a>, i: usize) -> &'a [u8]
+    requires { i < length row.now }
+    ensures { field_at row.now i ≡ Some result.now }
 {
     match row.get(i) {
         Some(cell) => cell,
@@ -18,43 +17,10 @@ pub(crate) fn field(row: &ByteRecord, i: usize) -> &[u8]
     }
 }
 
-/// Whether a cell is not UTF-8.
-fn is_not_text(cell: &[u8]) -> bool
-    ensures { result ≡ is_not_text cell.now }
-{
-    match str::from_utf8(cell) {
-        Ok(_) => false,
-        Err(_) => true,
-    }
-}
-
-/// The place of the first cell that is not UTF-8. Most records are of ASCII alone, which is tested at once.
-pub(crate) fn first_not_text(row: &ByteRecord) -> Option<usize>
-    ensures { result ≡ position_from is_not_text 0 (fields_of row.now) }
-{
-    if row.as_slice().is_ascii() {
-        return None;
-    }
-    first_bad_cell(row)
-}
-
-/// The same, each cell tested by itself.
-#[inline(never)]
-fn first_bad_cell(row: &ByteRecord) -> Option<usize>
-    ensures { result ≡ position_from is_not_text 0 (fields_of row.now) }
-{
-    for i in 0..row.len() {
-        if is_not_text(field(row, i)) {
-            return Some(i);
-        }
-    }
-    None
-}
-
 /// The text of a cell, or the empty text where there is none.
-pub(crate) fn text_at(row: &ByteRecord, place: Option<usize>) -> &str
-    requires { IsTextRecord (fields_of row.now) }
-    ensures { result.now ≡ field_or_empty (fields_of row.now) place }
+pub(crate) fn text_at<'a>(row: &Fields<'a>, place: Option<usize>) -> &'a str
+    requires { IsTextRecord row.now }
+    ensures { result.now ≡ field_or_empty row.now place }
 {
     match place {
         Some(i) => match row.get(i) {

@@ -2,18 +2,16 @@
 
 ghost use Rattle.std.specs.Prelude.{◌≡◌, ◌⊎◌, ◌<◌, IfOk, IfErr, IfSome, OnOk, length};
 ghost use Rattle.std.specs.String.{string_bytes};
-ghost use Rattle.csv.specs.Records.{fields_of};
 ghost use Rattle.oim_rows.specs.Header.{file_header_fault};
 ghost use Rattle.oim_rows.specs.RowFacts.{id_place_of, row_fault, row_id_place};
 ghost use Rattle.oim_rows.specs.Streams.{IsOutside, TakesHeader};
 
-use crate::cells::{first_not_text, text_at};
+use crate::cells::text_at;
 use crate::fault::{TableFault, TableKind, fault_at_place, fault_of_whole_row};
 use crate::header::{read_header, source_of};
 use crate::ids::RowIds;
-use csv::ByteRecord;
 use itoa::Buffer;
-use oim_records::Records;
+use oim_records::{Fields, RecordReader};
 use oim_report::Report;
 use std::alloc::{AllocError, Global};
 use std::io::Read;
@@ -54,26 +52,24 @@ fn place_of_id(header: &[Option<usize>], column: Option<usize>) -> Option<usize>
 }
 
 impl<'a> RowForm<'a> {
-    /// Reads the header of a table, the first record of its file, into `row`. The rows are at most
-    /// `limit`.
+    /// Reads the header of a table, the first record of its file. The rows are at most `limit`.
     ///
     /// Fails with the header's first fault, in this order: NoHeader, UnknownHeader, RepeatedHeader,
     /// NoRowIdColumn. Fails with Read where the reader failed, and with Memory where memory is
     /// short.
-    pub fn read<R: Read>(
+    pub fn read<R: Read + Drop>(
         alloc: Global,
         report: &'a Report,
         table: usize,
         limit: u32,
-        records: &mut Records<R>,
-        row: &mut ByteRecord,
+        records: &mut RecordReader<R>,
     ) -> Result<RowForm<'a>, TableFault>
         requires { table < length report.now.tables }
         ensures form { IfOk result (λ f. f ≡ record { report = report.now; table = table; limit = limit; header = f.header }) }
-        ensures header { IfOk result (λ f. TakesHeader report.now table records.old f.header records.new) }
-        ensures fault { IfErr result (λ e. IsOutside table e ⊎ IfSome records.old (λ rs. file_header_fault report.now table rs ≡ Some e)) }
+        ensures header { IfOk result (λ f. TakesHeader report.now table records.old.left f.header records.new.left) }
+        ensures fault { IfErr result (λ e. IsOutside table e ⊎ IfSome records.old.left (λ rs. file_header_fault report.now table rs ≡ Some e)) }
     {
-        let header = match read_header(alloc, report, table, records, row) {
+        let header = match read_header(alloc, report, table, records) {
             Ok(header) => header,
             Err(fault) => return Err(fault),
         };
@@ -90,14 +86,14 @@ impl<'a> RowForm<'a> {
 
 impl<'a> RowForm<'a> {
     /// The report of the table.
-    pub(crate) fn report(&self) -> &'a Report
+    pub fn report(&self) -> &'a Report
         ensures { result.now ≡ (self.now).report }
     {
         self.report
     }
 
     /// The place in the header of the row identifier, where the table has a column for it.
-    pub(crate) fn id_place(&self) -> Option<usize>
+    pub fn id_place(&self) -> Option<usize>
         ensures { result ≡ id_place_of self.now }
     {
         self.id_place
@@ -120,13 +116,13 @@ impl<'a> RowForm<'a> {
 
     /// The first fault of row `number` apart from those of its cells, where `ids` are the identifiers of
     /// the rows before it: Ragged, NotUtf8, TooManyRows, MissingRowId, BadRowId or RepeatedRowId.
-    pub fn fault_of_row(&self, number: u32, ids: &RowIds, row: &ByteRecord) -> Option<TableFault>
-        ensures { result ≡ row_fault self.now number ids.now (fields_of row.now) }
+    pub fn fault_of_row(&self, number: u32, ids: &RowIds, row: &Fields<'_>) -> Option<TableFault>
+        ensures { result ≡ row_fault self.now number ids.now row.now }
     {
         if row.len() != self.header.len() {
             return Some(fault_of_whole_row(self.table, number, TableKind::Ragged));
         }
-        if let Some(place) = first_not_text(row) {
+        if let Some(place) = row.first_not_text() {
             return Some(fault_at_place(self.table, number, place, TableKind::NotUtf8));
         }
         if number > self.limit {

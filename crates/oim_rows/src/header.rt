@@ -2,15 +2,13 @@
 
 ghost use Rattle.std.specs.Prelude.{◌≡◌, ◌<◌, ◌⊎◌, [], IfOk, IfErr, IfSome, None, Some, Ok, Err, true, take, length};
 ghost use Rattle.std.specs.List.{All, list_any, position_from};
-ghost use Rattle.csv.specs.Records.{field_at, fields_of};
 ghost use Rattle.oim_report.specs.Readers.{columns_of as columns_in, template_of};
 ghost use Rattle.oim_rows.specs.Header.{columns_fault, named_column, file_fault, file_header_fault, header_fault, header_of, is_column, is_unknown, names_row_id, place_of, repeat_from};
 ghost use Rattle.oim_rows.specs.Streams.{IsOutside, TakesHeader, early_header_fault};
 
 use crate::cells::field;
 use crate::fault::{TableFault, TableKind, fault_at_place, fault_of_read, whole_fault};
-use csv::ByteRecord;
-use oim_records::{ReadFault, Records};
+use oim_records::{Fields, ReadFault, RecordReader};
 use oim_report::Report;
 use std::alloc::{AllocError, Global};
 use std::io::Read;
@@ -43,9 +41,9 @@ fn is_unknown_cell(report: &Report, table: usize, cell: &[u8]) -> bool
 }
 
 /// The place of the first header cell that is not empty and does not name a column.
-fn first_unknown(report: &Report, table: usize, row: &ByteRecord) -> Option<usize>
+fn first_unknown(report: &Report, table: usize, row: &Fields<'_>) -> Option<usize>
     requires { table < length report.now.tables }
-    ensures { result ≡ position_from (is_unknown (columns_in report.now table)) 0 (fields_of row.now) }
+    ensures { result ≡ position_from (is_unknown (columns_in report.now table)) 0 row.now }
 {
     for i in 0..row.len() {
         if is_unknown_cell(report, table, field(row, i)) {
@@ -60,10 +58,10 @@ fn columns_of(
     alloc: Global,
     report: &Report,
     table: usize,
-    row: &ByteRecord,
+    row: &Fields<'_>,
 ) -> Result<Vec<Option<usize>>, AllocError>
     requires { table < length report.now.tables }
-    ensures { IfOk result (λ h. h.items ≡ header_of (columns_in report.now table) (fields_of row.now)) }
+    ensures { IfOk result (λ h. h.items ≡ header_of (columns_in report.now table) row.now) }
 {
     let mut header = Vec::new(alloc);
     for i in 0..row.len() {
@@ -151,13 +149,13 @@ fn take_header(
     report: &Report,
     table: usize,
     found: Result<bool, ReadFault>,
-    row: &ByteRecord,
+    row: &Fields<'_>,
 ) -> Result<Vec<Option<usize>>, TableFault>
     requires { table < length report.now.tables }
-    ensures early { IfSome (early_header_fault report.now table found (fields_of row.now)) (λ e. result ≡ Err e) }
-    ensures header { IfOk result (λ h. (found ≡ Ok true) × (header_fault report.now table (fields_of row.now) ≡ None)
-        × (h.items ≡ header_of (columns_in report.now table) (fields_of row.now))) }
-    ensures fault { found ≡ Ok true → IfErr result (λ e. (e ≡ file_fault table TableKind.Memory) ⊎ (header_fault report.now table (fields_of row.now) ≡ Some e)) }
+    ensures early { IfSome (early_header_fault report.now table found row.now) (λ e. result ≡ Err e) }
+    ensures header { IfOk result (λ h. (found ≡ Ok true) × (header_fault report.now table row.now ≡ None)
+        × (h.items ≡ header_of (columns_in report.now table) row.now)) }
+    ensures fault { found ≡ Ok true → IfErr result (λ e. (e ≡ file_fault table TableKind.Memory) ⊎ (header_fault report.now table row.now ≡ Some e)) }
 {
     match found {
         Ok(true) => {}
@@ -178,17 +176,16 @@ fn take_header(
 }
 
 /// The columns of a table's header, the first record.
-pub(crate) fn read_header<R: Read>(
+pub(crate) fn read_header<R: Read + Drop>(
     alloc: Global,
     report: &Report,
     table: usize,
-    records: &mut Records<R>,
-    row: &mut ByteRecord,
+    records: &mut RecordReader<R>,
 ) -> Result<Vec<Option<usize>>, TableFault>
     requires { table < length report.now.tables }
-    ensures header { IfOk result (λ h. TakesHeader report.now table records.old h.items records.new) }
-    ensures fault { IfErr result (λ e. IsOutside table e ⊎ IfSome records.old (λ rs. file_header_fault report.now table rs ≡ Some e)) }
+    ensures header { IfOk result (λ h. TakesHeader report.now table records.old.left h.items records.new.left) }
+    ensures fault { IfErr result (λ e. IsOutside table e ⊎ IfSome records.old.left (λ rs. file_header_fault report.now table rs ≡ Some e)) }
 {
-    let found = records.read(row);
-    take_header(alloc, report, table, found, row)
+    let found = records.read();
+    take_header(alloc, report, table, found, &records.fields())
 }

@@ -1,7 +1,6 @@
 //! The rows of one table, one at a time.
 
 ghost use Rattle.std.specs.Prelude.{◌≡◌, ◌⊎◌, ◌≤◌, ◌<◌, ◌+◌, ◌∷◌, [], IfOk, IfErr, IfSome, OnSome, None, Some, Ok, true, option_map, length};
-ghost use Rattle.csv.specs.Records.{fields_of};
 ghost use Rattle.oim_records.specs.Grids.{grid};
 ghost use Rattle.oim_rows.specs.Header.{file_header_fault};
 ghost use Rattle.oim_rows.specs.RowFacts.{id_place_of, ids_after, row_result};
@@ -12,9 +11,8 @@ use crate::decoder::Decoder;
 use crate::fault::{TableFault, TableKind, fault_of_read, whole_fault};
 use crate::form::RowForm;
 use crate::ids::RowIds;
-use csv::ByteRecord;
 use oim_names::Items;
-use oim_records::{ReadFault, Records};
+use oim_records::{Fields, ReadFault, RecordReader};
 use oim_report::{Limits, Report};
 use oim_resolve::Fact;
 use std::alloc::Global;
@@ -36,17 +34,16 @@ enum Progress {
 /// place, the limit, how many rows were given, what is answered again once it is settled, the
 /// stream that is left where the reader tells its bytes, and the records that are unread.
 #[derive(Drop)]
-pub struct Rows<'a, R: Read> {
+pub struct Rows<'a, R: Read + Drop> {
     alloc: Global,
     decoder: Decoder<'a>,
-    records: Records<R>,
-    row: ByteRecord,
+    records: RecordReader<R>,
     ids: RowIds,
     given: u32,
     progress: Progress,
 }
 
-impl<'a, R: Read> Model for Rows<'a, R> {
+impl<'a, R: Read + Drop> Model for Rows<'a, R> {
     ghost use Rattle.std.specs.Prelude.{◌≤◌, ◌<◌, ◌^◌, ◌-◌, ◌+◌};
     ghost use Rattle.oim_rows.specs.Left.{RowsLeft};
 
@@ -59,8 +56,8 @@ impl<'a, R: Read> Model for Rows<'a, R> {
       limit = a.decoder.limit;
       given = a.given;
       answered = answered_of a.progress;
-      left = left_of a.progress a.decoder (a.given + 1) a.ids a.records;
-      unread = a.records;
+      left = left_of a.progress a.decoder (a.given + 1) a.ids a.records.left;
+      unread = a.records.left;
     } };
 
     ghost invariant = { λ a. (a.given ≤ a.decoder.limit) × (a.decoder.limit < 2 ^ 32 - 1) };
@@ -71,13 +68,13 @@ fn take_row(
     alloc: Global,
     decoder: &Decoder,
     found: Result<bool, ReadFault>,
-    row: &ByteRecord,
+    row: &Fields<'_>,
     ids: &mut RowIds,
     number: u32,
 ) -> Result<Option<RowFacts>, TableFault>
-    ensures early { IfSome (early_row_answer decoder.now number ids.old found (fields_of row.now)) (λ answer. result ≡ answer) }
-    ensures row { found ≡ Ok true → OrNoMemory (decoder.now).table result (row_answer (row_result decoder.now number ids.old (fields_of row.now))) }
-    ensures ids { IfOk result (λ o. OnSome o (ids.new ≡ ids_after (id_place_of decoder.now) ids.old (fields_of row.now))) }
+    ensures early { IfSome (early_row_answer decoder.now number ids.old found row.now) (λ answer. result ≡ answer) }
+    ensures row { found ≡ Ok true → OrNoMemory (decoder.now).table result (row_answer (row_result decoder.now number ids.old row.now)) }
+    ensures ids { IfOk result (λ o. OnSome o (ids.new ≡ ids_after (id_place_of decoder.now) ids.old row.now)) }
     ensures within { IfOk result (λ o. OnSome o (number ≤ (decoder.now).limit)) }
 {
     match found {
@@ -91,19 +88,18 @@ fn take_row(
 }
 
 /// The facts of row `number`, if there is one.
-fn read_row<R: Read>(
+fn read_row<R: Read + Drop>(
     alloc: Global,
     decoder: &Decoder,
-    records: &mut Records<R>,
-    row: &mut ByteRecord,
+    records: &mut RecordReader<R>,
     ids: &mut RowIds,
     number: u32,
 ) -> Result<Option<RowFacts>, TableFault>
-    ensures next { IfSome records.old (λ rs. GivesNext (decoder.now).table (stream_from decoder.now number ids.old rs) result (option_map (stream_from decoder.now (number + 1) ids.new) records.new)) }
+    ensures next { IfSome records.old.left (λ rs. GivesNext (decoder.now).table (stream_from decoder.now number ids.old rs) result (option_map (stream_from decoder.now (number + 1) ids.new) records.new.left)) }
     ensures within { IfOk result (λ o. OnSome o (number ≤ (decoder.now).limit)) }
 {
-    let found = records.read(row);
-    take_row(alloc, decoder, found, row, ids, number)
+    let found = records.read();
+    take_row(alloc, decoder, found, &records.fields(), ids, number)
 }
 
 impl<'a, R: Read + Drop> Rows<'a, R> {
@@ -133,9 +129,11 @@ impl<'a, R: Read + Drop> Rows<'a, R> {
         // Its fault, unless the reader failed or memory ran out.
         ensures fault { IfSome (R.remaining reader) (λ bytes. IfErr result (λ e. IsOutside table e ⊎ (file_header_fault report.now table (grid bytes) ≡ Some e))) }
     {
-        let mut records = Records::new(alloc, reader);
-        let mut row = ByteRecord::new(alloc);
-        let form = match RowForm::read(alloc, report, table, limits.rows, &mut records, &mut row) {
+        let mut records = match RecordReader::open(alloc, reader) {
+            Ok(records) => records,
+            Err(fault) => return Err(fault_of_read(table, fault)),
+        };
+        let form = match RowForm::read(alloc, report, table, limits.rows, &mut records) {
             Ok(form) => form,
             Err(fault) => return Err(fault),
         };
@@ -146,7 +144,6 @@ impl<'a, R: Read + Drop> Rows<'a, R> {
             alloc,
             decoder,
             records,
-            row,
             ids: RowIds::new(alloc),
             given: 0,
             progress: Progress::Reading,
@@ -177,7 +174,6 @@ impl<'a, R: Read + Drop> Rows<'a, R> {
             self.alloc,
             &self.decoder,
             &mut self.records,
-            &mut self.row,
             &mut self.ids,
             number,
         ) {

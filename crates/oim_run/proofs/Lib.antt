@@ -1,5 +1,8 @@
 mod CommandLine
 mod Endings
+mod Excerpts
+mod Findings
+mod ExamplesExplain
 mod FolderFacts
 mod Names
 mod Beginnings

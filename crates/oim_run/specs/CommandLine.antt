@@ -52,9 +52,10 @@ inputs = with_rule
 abbrev pub AreLayouts : Words → Type 0
 AreLayouts words = map (λ w. w.now) words.now ≡ codes "compact" ∷ codes "lines" ∷ []
 
--- META --types FILE [--workers N] [--ring K] [--out FILE] [--whole] [--layout WORD] [--progress]
+-- META --types FILE [--workers N] [--ring K] [--out FILE] [--whole] [--layout WORD] [--progress] [--explain]
 unfoldable pub command_line : Words → App
 command_line layouts = with_rule
+    (with_rule
     (with_rule
     (with_rule
     (with_rule
@@ -65,7 +66,8 @@ command_line layouts = with_rule
     (option (codes "out")))
     (flag (codes "whole")))
     (word_option (codes "layout") layouts (codes "compact")))
-    (flag (codes "progress"))
+    (flag (codes "progress")))
+    (flag (codes "explain"))
 
 -- the option has a text, which is n in decimal digits
 abbrev pub IsNumberOf : Option Text → ℕ → Type 0
@@ -96,6 +98,7 @@ abbrev pub HasRequest : List Row → Request → Type 0
 HasRequest rows q = HasSettings rows q.settings
     × (q.whole ≡ is_given (first_of (codes "whole") rows))
     × (q.progress ≡ is_given (first_of (codes "progress") rows))
+    × (q.explain ≡ is_given (first_of (codes "explain") rows))
 
 -- the answer to the words: a value that has what they give, or a refusal of one of the kinds that the command line gives
 pub record Answers {X : Type 0} (has : List Row → X → Type 0) (line : App) (words : List Text) (r : Result X Error) : Type 0 where

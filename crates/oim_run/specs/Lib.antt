@@ -1,6 +1,8 @@
 pub mod CommandLine
 pub mod Conversion
+pub mod Explanations
 pub mod Folders
+pub mod LineNumbers
 pub mod Lines
 pub mod Metadata
 pub mod Naming

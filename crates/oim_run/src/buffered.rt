@@ -41,8 +41,10 @@ fn after_flush(outcome: Outcome, flush: io::Result<()>) -> Outcome
     }
 }
 
-/// Runs over the files of a folder, writes the document to a writer through a buffer, and flushes it.
-/// The answer is how the run ended; a failed flush is a failed write.
+/// Runs over the files of a folder as [`run`] does, writes the document to a writer through a buffer, and
+/// flushes it. The answer is how the run ended; a failed flush after a document is a failed write. What the
+/// writer then holds stands in no clause: tests show it. Whoever wants one gives [`run`] a `Marked` of the
+/// writer, and takes it out by `into_writer`.
 pub fn run_to<R: Read + Drop + Send, F: Folder<R>, T: Threads + Wait + Sync, W: Write + Drop>(
     rt: &T,
     alloc: Global,

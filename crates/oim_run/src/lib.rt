@@ -17,7 +17,7 @@
 //! - `convert_report` says the same of a report whose tables are given by readers, `convert_texts` of
 //!   one whose files are given by their bytes, and `convert_held` of the built-in report
 //!   (`specs/Conversion.antt`);
-//! - `run_to` and `convert_to` say the same of a writer behind a buffer: a flush that fails after a
+//! - `run_to` and `convert_to` say how a run through a buffer ended: a flush that fails after a
 //!   document, whole or unfinished, is a failed write;
 //! - `status` and `line` give the exit status and the lines on standard error of each outcome, with one
 //!   line for each refused table, and `terminal_line` the same without a path's control characters
@@ -45,6 +45,7 @@
 
 mod buffered;
 mod conversion;
+mod explain;
 mod folder;
 mod held;
 mod outcome;
@@ -56,9 +57,12 @@ mod terminal;
 
 pub use buffered::{convert_to, run_to};
 pub use conversion::{convert_held, convert_report, convert_texts};
+pub use explain::{
+    Explanation, explain_metadata, explain_report, explain_table, explanation_text, report_again,
+};
 pub use folder::{Folder, Texts};
 pub use held::{METADATA, TABLE, TYPES};
-pub use outcome::{Outcome, Source, line, status, terminal_line};
+pub use outcome::{Outcome, Source, line, status, table_line, terminal_line};
 pub use request::{Request, job, request_of};
 pub use running::run;
 pub use settings::Settings;

@@ -78,8 +78,9 @@ fn fault_line(alloc: Global, place: &str, name: &str, number: u32) -> Result<Str
     format!(in alloc; "xbrl-json: {place}: {name} ({number})\n")
 }
 
-/// The line for a fault of a table.
-fn table_line(alloc: Global, id: &str, fault: &TableFault) -> Result<String, AllocError>
+/// The line on standard error for a fault of the table with this identifier, with its line feed. Fails if
+/// memory runs out.
+pub fn table_line(alloc: Global, id: &str, fault: &TableFault) -> Result<String, AllocError>
     ensures { IfOk result (λ s. string_bytes s ≡ table_text id.now fault.now) }
 {
     let row = fault.row;

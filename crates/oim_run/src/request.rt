@@ -23,6 +23,8 @@ pub struct Request {
     pub whole: bool,
     /// Whether standard error shows how far the run is (`--progress`).
     pub progress: bool,
+    /// Whether standard error explains each fault to a person (`--explain`).
+    pub explain: bool,
 }
 
 /// The request in the matches. A parse of `command` always has one. Fails if memory runs out.
@@ -36,6 +38,7 @@ fn request_in(alloc: Global, matches: &ArgMatches<'_>) -> Result<Option<Request>
             settings,
             whole: is_given(matches, "whole"),
             progress: is_given(matches, "progress"),
+            explain: is_given(matches, "explain"),
         })),
         None => Ok(None),
     }
@@ -64,9 +67,9 @@ fn request_by<'a>(
 }
 
 /// Reads the words of the command line, without the program's name: `META --types FILE [--workers N]
-/// [--ring K] [--out FILE] [--whole] [--layout compact|lines] [--progress]`, with 4 workers, rings of
-/// 1,024 blocks and the compact layout unless the words say otherwise. There are 1 to 64 workers, and a
-/// ring's size is 1 to 65,536 blocks.
+/// [--ring K] [--out FILE] [--whole] [--layout compact|lines] [--progress] [--explain]`, with 4 workers,
+/// rings of 1,024 blocks and the compact layout unless the words say otherwise. There are 1 to 64
+/// workers, and a ring's size is 1 to 65,536 blocks.
 ///
 /// Fails exactly if the definition of the command line refuses the words, with one of the kinds that it
 /// gives, if they ask for help or the version, or if memory runs out. The error has the text to show.

@@ -79,10 +79,11 @@ fn run_tables<R: Read + Drop + Send, F: Folder<R>, T: Threads + Wait + Sync, W: 
 }
 
 /// Converts the report whose metadata file is at `settings.meta`, with the types table at
-/// `settings.types` (xBRL-CSV 1.0), and writes its document in xBRL-JSON 1.0 to the sink, in the layout
+/// `settings.types` (xBRL-CSV 1.0, metadata, parameters, tables and table templates), and writes its
+/// document (xBRL-JSON 1.0, the report object and the facts object) to the sink, in the layout
 /// `settings.layout`, with `settings.workers` workers and rings of `settings.ring` blocks. The path of
 /// each table's file and of the parameters file is the folder of the metadata's path followed by their
-/// URL. It waits for its workers.
+/// URL. With more than one worker it waits for them, and it is not proved that it returns.
 ///
 /// The answer is how the run ended. If the metadata, the types table or the parameters file has a fault,
 /// it is the first one, in the order in which the files are read, and nothing is written. Otherwise it is
@@ -98,7 +99,8 @@ fn run_tables<R: Read + Drop + Send, F: Folder<R>, T: Threads + Wait + Sync, W: 
 /// `NoThread` and `Read`; a failed read of the metadata, the types table or the parameters file gives
 /// `Report` with its source. `Run` has `BadWorkers` exactly if there is no early fault, memory does not
 /// run out and the number of workers is not 1 to 64, `BadSize` if that number is but the ring's size is
-/// not 1 to 65,536, and `Lost` if the token of a ring was lost, after everything was written.
+/// not 1 to 65,536, and `Lost` if the token of a ring was lost: the document of some facts is then
+/// written, or a beginning of it, and no clause says of which.
 pub fn run<R: Read + Drop + Send, F: Folder<R>, T: Threads + Wait + Sync, W: Sink>(
     rt: &T,
     alloc: Global,

@@ -15,7 +15,7 @@ use oim_names::Text;
 use std::alloc::{AllocError, Global};
 
 /// The program's version, and the kit that proves it, in the words of `rt version`.
-const VERSION: &str = "0.3.0 (proved with rattle-kit-13f logic dac8208d650f15bf)";
+const VERSION: &str = "0.4.0 (proved with rattle-kit-13b logic dac8208d650f15bf)";
 
 /// The help of each argument.
 const META_HELP: &str = "The metadata file of the report";
@@ -25,7 +25,7 @@ const TYPES_HELP: &str = "The types table: the type of each concept and dimensio
 const WORKERS_HELP: &str = "How many tables are read at once";
 
 const RING_HELP: &str =
-    "How many blocks of up to 256 facts may wait for one table; for all tables, about four times as many";
+    "How many blocks of up to 256 facts may wait for one table; for all tables, about five times as many";
 
 const OUT_HELP: &str =
     "The file of the document, which is emptied first [default: standard output]";
@@ -35,6 +35,8 @@ const WHOLE_HELP: &str = "FILE gets the document only once it is whole, and is e
 const LAYOUT_HELP: &str = "The document on one line, or with a line for each fact";
 
 const PROGRESS_HELP: &str = "Show on standard error how much is read and written";
+
+const EXPLAIN_HELP: &str = "Say below each fault where it is and what stands there";
 
 /// The end of the help.
 const MORE_HELP: &str = r#"Example:
@@ -186,7 +188,9 @@ pub(crate) fn command<'a>(alloc: Global, layouts: &'a [&'a str]) -> Result<Comma
     let command = with(command, whole);
     let layout = word_option(alloc, "layout", layouts, "compact", LAYOUT_HELP);
     let command = with(command, layout);
-    with(command, flag(alloc, "progress", PROGRESS_HELP))
+    let progress = flag(alloc, "progress", PROGRESS_HELP);
+    let command = with(command, progress);
+    with(command, flag(alloc, "explain", EXPLAIN_HELP))
 }
 
 /// The value that the argument `id` has.

@@ -92,7 +92,7 @@ fn bytes_of<R: Read + Drop>(alloc: Global, reader: R) -> Result<Vec<u8>, Outcome
 }
 
 /// The bytes of the metadata file, up to one byte past the limit.
-fn metadata_at<R: Read + Drop, F: Folder<R>>(
+pub(crate) fn metadata_at<R: Read + Drop, F: Folder<R>>(
     alloc: Global,
     folder: &mut F,
     path: &str,
@@ -109,7 +109,7 @@ fn metadata_at<R: Read + Drop, F: Folder<R>>(
 }
 
 /// The types of the types table.
-fn types_in<R: Read + Drop, F: Folder<R>>(
+pub(crate) fn types_in<R: Read + Drop, F: Folder<R>>(
     alloc: Global,
     folder: &mut F,
     path: &str,
@@ -154,7 +154,7 @@ fn parameters_of<R: Read + Drop, F: Folder<R>>(
 }
 
 /// The parameters of the named parameters file, or no parameters if no file is named.
-fn parameters_in<R: Read + Drop, F: Folder<R>>(
+pub(crate) fn parameters_in<R: Read + Drop, F: Folder<R>>(
     alloc: Global,
     folder: &mut F,
     base: &str,
@@ -182,7 +182,7 @@ fn text_of(string: Option<String>) -> Option<Text>
 }
 
 /// The URL of the parameters file, if the metadata has one.
-fn url_in(alloc: Global, metadata: &[u8]) -> Result<Option<Text>, Outcome>
+pub(crate) fn url_in(alloc: Global, metadata: &[u8]) -> Result<Option<Text>, Outcome>
     ensures gives { Takes (looking (url_result profile metadata.now) ∷ []) (λ u. url_result profile metadata.now ≡ Ok u) result }
     ensures early { IfErr result IsEarly }
 {

@@ -18,7 +18,7 @@ fn digit(n: u32) -> char
 }
 
 /// Puts a control character behind a text, as `\x` and two hexadecimal digits.
-fn put_control(out: &mut String, c: char) -> Result<(), AllocError>
+pub(crate) fn put_control(out: &mut String, c: char) -> Result<(), AllocError>
     requires { c < 256 }
     ensures { IfOk result (λ u. string_bytes out.new ≡ string_bytes out.old ++ escape_of c) }
 {
@@ -29,7 +29,7 @@ fn put_control(out: &mut String, c: char) -> Result<(), AllocError>
 }
 
 /// Puts a character behind a text, as a terminal is shown it.
-fn put_shown(out: &mut String, c: char) -> Result<(), AllocError>
+pub(crate) fn put_shown(out: &mut String, c: char) -> Result<(), AllocError>
     ensures { IfOk result (λ u. string_bytes out.new ≡ string_bytes out.old ++ shown_char c) }
 {
     if c.is_control() {

@@ -21,7 +21,8 @@ fn text_of(alloc: Global, facts: &[Fact]) -> Result<Option<Block>, AllocError> {
 /// Whether a fact's text is that of a block of it alone.
 fn is_member(alloc: Global, fact: &Fact, block: &Block) -> Result<bool, AllocError> {
     let member: Member = member_of(alloc, fact)?;
-    Ok(block.count() == 1 && block.bytes() == NIL_FACT && member.bytes() == NIL_FACT)
+    let is_block = block.count() == 1 && block.text(0) == NIL_FACT && block.bytes() == NIL_FACT;
+    Ok(is_block && member.bytes() == NIL_FACT)
 }
 
 /// A document of one block, written to a vector.

@@ -95,6 +95,25 @@ fn shares_out(alloc: Global) -> Result<bool, AllocError> {
     Ok(made.1.len() == 1)
 }
 
+/// The same, where the seat draws until it finds nothing, and the claims are closed with it.
+fn draws_all(alloc: Global) -> Result<bool, AllocError> {
+    let items = vec![in alloc; 'a', 'b']?;
+    let (claims, mut seats) = Claims::new(alloc, items, 1)?;
+    let Some(mut seat) = seats.pop() else {
+        return Ok(false);
+    };
+    let (first, second, last) = (
+        claims.draw(&mut seat),
+        claims.draw(&mut seat),
+        claims.draw(&mut seat),
+    );
+    if last.is_some() {
+        return Ok(false);
+    }
+    claims.close(vec![in alloc; seat]?);
+    Ok(first == Some((0, 'a')) && second == Some((1, 'b')))
+}
+
 #[test]
 fn calls_of_conversions(rt: HostRuntime) -> Result<(), Fail> {
     let report = report(rt.alloc())?;
@@ -103,6 +122,6 @@ fn calls_of_conversions(rt: HostRuntime) -> Result<(), Fail> {
         Ok(document) => assert!(rt; end_so(&rt, &report, document.as_slice())),
         Err(_) => assert!(rt; false),
     }
-    assert!(rt; shares_out(rt.alloc())?);
+    assert!(rt; shares_out(rt.alloc())? && draws_all(rt.alloc())?);
     Ok(())
 }

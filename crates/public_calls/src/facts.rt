@@ -29,28 +29,37 @@ fn row_of(alloc: Global, cash: &str) -> Result<Row, AllocError> {
     Ok(Row::new(1, id, Items::from(cells)))
 }
 
+/// The same by the plan of the table, which many cells can ask.
+fn planned_fact_of(alloc: Global, report: &Report, row: &Row) -> Result<Option<Fact>, CellFault> {
+    if report.tables() == 0 || report.columns(0) == 0 || row.cells.len() != report.columns(0) {
+        return Ok(None);
+    }
+    if report.column(0, 0).kind != ColumnKind::Fact {
+        return Ok(None);
+    }
+    let plan: Plan<'_> = compile(alloc, report, 0)?;
+    plan.resolve(alloc, row, 0)
+}
+
+/// Whether an answer is a fact of this value, or the fault of this name.
+fn is_of(answer: Result<Option<Fact>, CellFault>, expected: &str) -> bool {
+    match answer {
+        Ok(Some(fact)) => fact.value().is_some_and(|value| value.as_str() == expected),
+        Ok(None) => false,
+        Err(fault) => fault.name() == expected,
+    }
+}
+
 /// Whether a row gives this value, or this fault.
 fn gives(alloc: Global, report: &Report, cash: &str, expected: &str) -> Result<bool, AllocError> {
     let row = row_of(alloc, cash)?;
-    match fact_of(alloc, report, &row) {
-        Ok(Some(fact)) => Ok(fact.value().is_some_and(|value| value.as_str() == expected)),
-        Ok(None) => Ok(false),
-        Err(fault) => Ok(fault.name() == expected),
-    }
+    let is_planned = is_of(planned_fact_of(alloc, report, &row), expected);
+    Ok(is_planned && is_of(fact_of(alloc, report, &row), expected))
 }
 
 /// The parts of a fact.
 fn has_parts(fact: &Fact) -> bool {
     fact.id() == "t1.r_1.note" && fact.decimals().is_none() && fact.dimensions().is_empty()
-}
-
-/// The plan of a table, which many cells ask.
-fn is_planned(alloc: Global, report: &Report) -> Result<bool, AllocError> {
-    if report.tables() == 0 {
-        return Ok(false);
-    }
-    let _plan: Plan<'_> = compile(alloc, report, 0)?;
-    Ok(true)
 }
 
 /// What a fact cell says, and what its concept is.
@@ -84,7 +93,7 @@ fn calls_of_cells_and_facts(rt: HostRuntime) -> Result<(), Fail> {
     assert!(rt;
         gives(rt.alloc(), &report, "12", "12")? && gives(rt.alloc(), &report, "x", "BadNumber")?
     );
-    assert!(rt; has_parts(&nil_fact(rt.alloc())?) && is_planned(rt.alloc(), &report)?);
+    assert!(rt; has_parts(&nil_fact(rt.alloc())?));
     assert!(rt; reads_cells(&report) && reads_a_unit(rt.alloc(), &report)?);
     assert!(rt;
         has_names(rt.alloc(), report.report_level())? && side_of(&Written::Nil) == Side::Whole

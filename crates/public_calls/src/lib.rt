@@ -35,4 +35,6 @@ mod rows;
 #[cfg(test)]
 mod runs;
 #[cfg(test)]
+mod tables;
+#[cfg(test)]
 mod told_values;

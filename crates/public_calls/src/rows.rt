@@ -1,11 +1,12 @@
 //! Calls of `oim_rows`.
 
 use crate::held::report;
-use csv::ByteRecord;
-use oim_meta::{Limits, ReadFault, Records, Report};
+use oim_meta::{Limits, ReadFault, Report};
+use oim_records::{Fields, RecordReader};
 use oim_rows::{
-    RowFacts, RowForm, RowIds, Rows, TableFault, TableKind, fact_identifiers_differ, fault_of_read,
-    push_row_number, stream_is_of_all_rows, table_stream_is_of_all_rows, whole_fault,
+    RowFacts, RowForm, RowIds, RowPlan, Rows, TableFault, TableKind, fact_identifiers_differ,
+    fault_of_read, push_row_number, stream_is_of_all_rows, table_stream_is_of_all_rows,
+    whole_fault,
 };
 use std::alloc::{AllocError, Global};
 use std::test::Fail;
@@ -35,15 +36,29 @@ fn is_no_number(fault: &TableFault) -> bool {
         && fault.number() == 40
 }
 
-/// The header of a file.
-fn header_of(alloc: Global, report: &Report, file: &[u8]) -> Result<usize, TableFault> {
+/// How many cells a file's header has, and how many facts its first row.
+fn counts_of(alloc: Global, report: &Report, file: &[u8]) -> Result<(usize, usize), TableFault> {
     if report.tables() == 0 {
-        return Ok(0);
+        return Ok((0, 0));
     }
-    let mut records = Records::new(alloc, file);
-    let mut row = ByteRecord::new(alloc);
-    let form = RowForm::read(alloc, report, 0, 10, &mut records, &mut row)?;
-    Ok(form.header().len())
+    let mut records = RecordReader::open(alloc, file).map_err(|fault| fault_of_read(0, fault))?;
+    let form = RowForm::read(alloc, report, 0, 10, &mut records)?;
+    records.read().map_err(|fault| fault_of_read(0, fault))?;
+    Ok((
+        form.header().len(),
+        planned_facts(alloc, &form, &records.fields())?,
+    ))
+}
+
+/// How many facts the first row has by the plan of its table, which many rows can ask.
+fn planned_facts(alloc: Global, form: &RowForm<'_>, row: &Fields<'_>) -> Result<usize, TableFault> {
+    let Ok(plan) = RowPlan::new(alloc, form) else {
+        return Err(whole_fault(form.table(), TableKind::Memory));
+    };
+    match row.first_not_text() {
+        Some(_) => Ok(0),
+        None => Ok(plan.facts(alloc, form, 1, row)?.len()),
+    }
 }
 
 /// The identifiers of a table's rows.
@@ -62,6 +77,8 @@ fn calls_of_rows(rt: HostRuntime) -> Result<(), Fail> {
     fact_identifiers_differ(&report);
     let failed = fault_of_read(0, ReadFault::Read);
     assert!(rt; reads_rows(rt.alloc(), &report) && failed == whole_fault(0, TableKind::Read));
-    assert!(rt; header_of(rt.alloc(), &report, b"cash\n") == Ok(1) && has_identifiers(rt.alloc())?);
+    assert!(rt;
+        counts_of(rt.alloc(), &report, b"cash\n7\n") == Ok((1, 1)) && has_identifiers(rt.alloc())?
+    );
     Ok(())
 }

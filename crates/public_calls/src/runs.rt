@@ -2,11 +2,13 @@
 
 use crate::held::report;
 use oim_json::{Layout, Marked};
-use oim_meta::Limits;
+use oim_meta::{Limits, MetaFault, Parameters, Types};
+use oim_rows::{TableFault, TableKind};
 use oim_run::{
-    Folder, METADATA, Outcome, Request, Settings, Source, TABLE, TYPES, Texts, convert_held,
-    convert_report, convert_texts, convert_to, job, line, request_of, run, run_to, shown, status,
-    terminal_line,
+    Explanation, Folder, METADATA, Outcome, Request, Settings, Source, TABLE, TYPES, Texts,
+    convert_held, convert_report, convert_texts, convert_to, explain_metadata, explain_report,
+    explain_table, explanation_text, job, line, report_again, request_of, run, run_to, shown,
+    status, table_line, terminal_line,
 };
 use std::alloc::{AllocError, Global};
 use std::sync::Wait;
@@ -51,13 +53,76 @@ fn settings(alloc: Global) -> Result<Settings, Fail> {
 /// What the words ask for beside the settings.
 fn asks(alloc: Global) -> bool {
     let request = request_of(alloc, &["m.json", "--types", "t.csv", "--whole"]);
-    request.is_ok_and(|request: Request| request.whole && !request.progress)
+    request.is_ok_and(|request: Request| request.whole && !request.progress && !request.explain)
 }
 
 /// A line for a terminal.
 fn says(alloc: Global) -> Result<bool, AllocError> {
     let outcome = Outcome::CannotRead(shown(alloc, "m.json")?);
     Ok(terminal_line(alloc, &outcome)?.as_str() == "xbrl-json: cannot read m.json\n")
+}
+
+/// A fault of a metadata, explained: over its bytes, and over a folder.
+fn explains(alloc: Global, settings: &Settings) -> Result<bool, AllocError> {
+    let (parameters, types) = (Parameters::none(alloc), Types::none(alloc));
+    let given = explain_metadata(
+        alloc,
+        "m.json",
+        b"{}",
+        parameters,
+        types,
+        MetaFault::NotReport,
+    )?;
+    let Some(
+        Explanation {
+            place,
+            found,
+            cause,
+        },
+    ) = given
+    else {
+        return Ok(false);
+    };
+    let given = Explanation {
+        place,
+        found,
+        cause,
+    };
+    let files = [("m.json", b"{}".as_slice()), ("t.csv", TYPES.as_bytes())];
+    let folder = &mut Texts { files: &files };
+    let again = explain_report(
+        alloc,
+        settings,
+        folder,
+        Source::Report,
+        MetaFault::NotReport,
+    )?;
+    Ok(explanation_text(alloc, &given)?.as_str() == again.as_str())
+}
+
+/// A fault of a table, with its line, explained over a folder.
+fn explains_a_table(alloc: Global, settings: &Settings) -> Result<bool, AllocError> {
+    let files = [
+        ("m.json", METADATA.as_bytes()),
+        ("t.csv", TYPES.as_bytes()),
+        ("t1.csv", b"cash\nx\n".as_slice()),
+    ];
+    let folder = &mut Texts { files: &files };
+    let Ok(report) = report_again(alloc, settings, folder) else {
+        return Ok(false);
+    };
+    let fault = TableFault {
+        table: 0,
+        row: 1,
+        column: 1,
+        kind: TableKind::BadNumber,
+    };
+    let line = table_line(alloc, "t1", &fault)?;
+    let text = explain_table(alloc, settings, folder, &report, &fault)?;
+    Ok(
+        line.as_str().ends_with("column 1: BadNumber (40)\n")
+            && text.as_str().starts_with("    t1.csv, line 2, cell 1\n"),
+    )
 }
 
 /// Whether a report is refused for its types table.
@@ -123,5 +188,6 @@ fn calls_of_runs(rt: HostRuntime) -> Result<(), Fail> {
     let settings = settings(rt.alloc())?;
     assert!(rt; runs(&rt, &settings)? && runs_otherwise(&rt, &settings));
     assert!(rt; converts_given(&rt)? && asks(rt.alloc()) && says(rt.alloc())?);
+    assert!(rt; explains(rt.alloc(), &settings)? && explains_a_table(rt.alloc(), &settings)?);
     Ok(())
 }

@@ -9,12 +9,26 @@ mod scarcity;
 pub use scarcity::{Answer, Call, ROOM, is_refused, refusals};
 
 #[cfg(test)]
+mod compared;
+#[cfg(test)]
+mod report;
+#[cfg(test)]
 mod tests_blocks;
+#[cfg(test)]
+mod tests_cells;
+#[cfg(test)]
+mod tests_claims;
+#[cfg(test)]
+mod tests_conversions;
 #[cfg(test)]
 mod tests_metadata;
 #[cfg(test)]
 mod tests_names;
 #[cfg(test)]
+mod tests_periods;
+#[cfg(test)]
 mod tests_rings;
 #[cfg(test)]
 mod tests_rows;
+#[cfg(test)]
+mod tests_runs;

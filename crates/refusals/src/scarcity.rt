@@ -22,6 +22,17 @@ pub enum Answer {
     Wrong,
 }
 
+impl Answer {
+    /// What a call did that was not refused memory, if this tells whether it answered as with ample memory.
+    pub fn same(is_same: bool) -> Answer {
+        if is_same {
+            Answer::Enough
+        } else {
+            Answer::Wrong
+        }
+    }
+}
+
 /// A call that can be made again after it was refused memory.
 pub trait Call {
     /// Makes the call. Nothing else in it allocates memory.

@@ -1,43 +1,44 @@
 //! Reading a table in blocks while memory runs out.
 
-use crate::tests_metadata::report;
+use crate::report::{FIRST, of_fault, report, text_of};
 use crate::{Answer, Call, ROOM, is_refused};
 use oim_decode::TableBlocks;
+use oim_json::Block;
 use oim_meta::{Limits, Report};
-use oim_rows::{TableFault, TableKind};
 use std::alloc::Global;
 use std::test::Fail;
 
-/// A table of two rows.
-const TABLE: &[u8] = b"cash,note,g\n100,first,x\n200,second,x\n";
-
-/// What a call did that can give a fault of a table, if it was not refused.
-fn of_fault(fault: TableFault) -> Answer {
-    if fault.kind == TableKind::Memory {
-        Answer::Refused
-    } else {
-        Answer::Wrong
-    }
+/// Reads the first table of a report in blocks, whose facts have this text.
+#[derive(Drop)]
+struct ReadsBlocks<'a> {
+    report: &'a Report,
+    text: &'a str,
 }
 
-/// What reading all blocks did. Facts that were read before memory was refused may come first.
-fn read_blocks(alloc: Global, blocks: &mut TableBlocks<'_, &[u8]>) -> Answer {
-    let mut facts = 0usize;
+/// What is left of a text, and whether a block's text begins what is left, behind a comma if it is not the first.
+fn without<'a>(left: &'a [u8], whole: &[u8], block: &Block) -> Option<&'a [u8]> {
+    let left = if left.len() == whole.len() {
+        left
+    } else {
+        left.strip_prefix(b",".as_slice())?
+    };
+    left.strip_prefix(block.bytes())
+}
+
+/// What reading all blocks did, if their facts have this text. Facts that were read before memory was refused may come first.
+fn read_blocks(alloc: Global, blocks: &mut TableBlocks<'_, &[u8]>, whole: &[u8]) -> Answer {
+    let mut left = whole;
     for _ in 0..5u32 {
         match blocks.next_block(Vec::new(alloc)) {
-            Ok(Some(block)) => facts = facts.saturating_add(block.count()),
-            Ok(None) if facts == 4 => return Answer::Enough,
-            Ok(None) => return Answer::Wrong,
+            Ok(Some(block)) => match without(left, whole, &block) {
+                Some(rest) => left = rest,
+                None => return Answer::Wrong,
+            },
+            Ok(None) => return Answer::same(left.is_empty()),
             Err(fault) => return of_fault(fault),
         }
     }
     Answer::Wrong
-}
-
-/// Reads a table of a report in blocks.
-#[derive(Drop)]
-struct ReadsBlocks<'a> {
-    report: &'a Report,
 }
 
 impl Call for ReadsBlocks<'_> {
@@ -45,8 +46,8 @@ impl Call for ReadsBlocks<'_> {
         if self.report.tables() == 0 {
             return Answer::Wrong;
         }
-        match TableBlocks::open(alloc, self.report, 0, TABLE, Limits::profile()) {
-            Ok(mut blocks) => read_blocks(alloc, &mut blocks),
+        match TableBlocks::open(alloc, self.report, 0, FIRST, Limits::profile()) {
+            Ok(mut blocks) => read_blocks(alloc, &mut blocks, self.text.as_bytes()),
             Err(fault) => of_fault(fault),
         }
     }
@@ -55,13 +56,11 @@ impl Call for ReadsBlocks<'_> {
 #[test]
 fn blocks_without_memory(rt: HostRuntime) -> Result<(), Fail> {
     let report = report(rt.alloc())?;
-    assert!(rt;
-        is_refused(
-            rt.alloc(),
-            4 * ROOM,
-            50,
-            &mut ReadsBlocks { report: &report }
-        )
-    );
+    let text = text_of(rt.alloc(), 4)?;
+    let mut call = ReadsBlocks {
+        report: &report,
+        text: text.as_str(),
+    };
+    assert!(rt; is_refused(rt.alloc(), 4 * ROOM, 50, &mut call));
     Ok(())
 }

@@ -1,28 +1,10 @@
 //! Reading a report's metadata, types table and parameters file while memory runs out.
 
+use crate::report::{METADATA, report};
 use crate::{Answer, Call, ROOM, is_refused};
-use oim_meta::{
-    Limits, MetaFault, Report, parameter_url, read_parameters, read_report, read_types,
-};
+use oim_meta::{Limits, MetaFault, Report, parameter_url};
 use std::alloc::Global;
 use std::test::Fail;
-
-/// A metadata of one table, in the JSON of xBRL-CSV 1.0.
-pub(crate) const METADATA: &str =
-    r##"{"documentInfo":{"documentType":"https://xbrl.org/2021/xbrl-csv",
-"namespaces":{"eg":"http://example.com/eg"},"taxonomy":["http://example.com/eg.xsd"]},
-"parameterURL":"parameters.csv","parameters":{"c":"eg:Cash"},
-"dimensions":{"entity":"eg:A1","period":"2021"},
-"tableTemplates":{"p":{"columns":{
-"cash":{"dimensions":{"concept":"$c","eg:Branch":"#nil"},"decimals":0,"propertiesFrom":["g"]},
-"g":{"propertyGroups":{"x":{"dimensions":{"language":"en"}}}},
-"note":{"dimensions":{"concept":"eg:Note"}}}}},
-"tables":{"t1":{"url":"t1.csv","template":"p","parameters":{"d":"1"}}}}
-"##;
-
-/// The types of its concepts and dimensions.
-pub(crate) const TYPES: &str =
-    "namespace,name,type\nhttp://example.com/eg,Cash,integer\nhttp://example.com/eg,Note,text\nhttp://example.com/eg,Branch,typed\n";
 
 /// What a call did that can give a fault of the metadata, if it was not refused.
 fn of_fault(fault: MetaFault) -> Answer {
@@ -33,22 +15,13 @@ fn of_fault(fault: MetaFault) -> Answer {
     }
 }
 
-/// The report of the metadata and the types.
-pub(crate) fn report(alloc: Global) -> Result<Box<Report>, MetaFault> {
-    let types = read_types(alloc, TYPES.as_bytes())?;
-    let parameters = read_parameters(alloc, b"name,value\ne,2\n".as_slice())?;
-    let bytes = METADATA.as_bytes();
-    let report = read_report(alloc, bytes, parameters, types, Limits::profile())?;
-    Box::new(alloc, report).map_err(|_| MetaFault::Memory)
-}
-
 /// Reads the URL of the parameters file.
 #[derive(Drop)]
 struct ReadsUrl;
 
 impl Call for ReadsUrl {
     fn make(&mut self, alloc: Global) -> Answer {
-        match parameter_url(alloc, METADATA.as_bytes(), &Limits::profile()) {
+        match parameter_url(alloc, METADATA, &Limits::profile()) {
             Ok(Some(url)) if url.as_str() == "parameters.csv" => Answer::Enough,
             Ok(_) => Answer::Wrong,
             Err(fault) => of_fault(fault),

@@ -1,7 +1,7 @@
-//! Namespaces and texts while memory runs out, and `add` with ample memory.
+//! Namespaces, languages and texts while memory runs out, and `add` with ample memory.
 
 use crate::{Answer, Call, ROOM, is_refused, refusals};
-use oim_names::{NameFault, Namespaces, Text};
+use oim_names::{NameFault, Namespaces, Text, language};
 use std::alloc::Global;
 use std::test::Fail;
 
@@ -67,6 +67,25 @@ fn add_without_memory(rt: HostRuntime) -> Result<(), Fail> {
     };
     assert!(rt; is_refused(rt.alloc(), ROOM, 3, &mut Binds { names }));
     Ok(())
+}
+
+/// Writes a language in lower case.
+#[derive(Drop)]
+struct Lowers;
+
+impl Call for Lowers {
+    fn make(&mut self, alloc: Global) -> Answer {
+        match language(alloc, "en-GB") {
+            Ok(Some(text)) if text.as_str() == "en-gb" => Answer::Enough,
+            Ok(_) => Answer::Wrong,
+            Err(_) => Answer::Refused,
+        }
+    }
+}
+
+#[test]
+fn a_language_without_memory(rt: HostRuntime) {
+    assert!(rt; is_refused(rt.alloc(), ROOM, 1, &mut Lowers));
 }
 
 /// Copies a shared text.

@@ -1,26 +1,14 @@
 //! The rows of a table, their cells and their texts while memory runs out.
 
-use crate::tests_metadata::report;
+use crate::report::{FACTS, FIRST, HEAD, is_row, of_fault, report, text_of};
 use crate::{Answer, Call, ROOM, is_refused};
 use oim_json::{block_of, head, member_of};
 use oim_meta::{Limits, Report};
 use oim_names::Items;
 use oim_resolve::Fact;
-use oim_rows::{Rows, TableFault, TableKind};
+use oim_rows::{Rows, TableFault};
 use std::alloc::Global;
 use std::test::Fail;
-
-/// A table of two rows.
-const TABLE: &[u8] = b"cash,note,g\n100,first,x\n200,second,x\n";
-
-/// What a call did that can give a fault of a table, if it was not refused.
-fn of_fault(fault: TableFault) -> Answer {
-    if fault.kind == TableKind::Memory {
-        Answer::Refused
-    } else {
-        Answer::Wrong
-    }
-}
 
 /// Whether a reader of rows that was refused memory answers the same again.
 fn is_settled(rows: &mut Rows<'_, &[u8]>, fault: TableFault) -> bool {
@@ -32,11 +20,10 @@ fn is_settled(rows: &mut Rows<'_, &[u8]>, fault: TableFault) -> bool {
 
 /// What reading two rows did.
 fn read_rows(rows: &mut Rows<'_, &[u8]>) -> Answer {
-    let mut given = 0u32;
-    for _ in 0..3u32 {
+    for place in 0..3usize {
         match rows.next() {
-            Ok(Some(facts)) if facts.len() == 2 => given = given.saturating_add(1),
-            Ok(None) if given == 2 => return Answer::Enough,
+            Ok(Some(facts)) if is_row(facts.as_slice(), place) => {}
+            Ok(None) if place == 2 => return Answer::Enough,
             Ok(_) => return Answer::Wrong,
             Err(fault) => {
                 if is_settled(rows, fault) {
@@ -60,7 +47,7 @@ impl Call for ReadsTable<'_> {
         if self.report.tables() == 0 {
             return Answer::Wrong;
         }
-        match Rows::open(alloc, self.report, 0, TABLE, Limits::profile()) {
+        match Rows::open(alloc, self.report, 0, FIRST, Limits::profile()) {
             Ok(mut rows) => read_rows(&mut rows),
             Err(fault) => of_fault(fault),
         }
@@ -70,29 +57,58 @@ impl Call for ReadsTable<'_> {
 #[test]
 fn a_table_without_memory(rt: HostRuntime) -> Result<(), Fail> {
     let report = report(rt.alloc())?;
-    assert!(rt; is_refused(rt.alloc(), ROOM, 50, &mut ReadsTable { report: &report }));
+    assert!(rt; is_refused(rt.alloc(), 4 * ROOM, 50, &mut ReadsTable { report: &report }));
     Ok(())
 }
 
-/// Writes the head of a document, and the text of a fact and of a block.
+/// Writes the head of a report's document.
 #[derive(Drop)]
-struct WritesTexts<'a> {
+struct WritesHead<'a> {
     report: &'a Report,
-    facts: &'a Items<Fact>,
 }
 
-impl Call for WritesTexts<'_> {
+impl Call for WritesHead<'_> {
+    fn make(&mut self, alloc: Global) -> Answer {
+        match head(alloc, self.report) {
+            Ok(head) => Answer::same(head.as_slice() == HEAD.as_bytes()),
+            Err(_) => Answer::Refused,
+        }
+    }
+}
+
+/// Writes the text of the first row's first fact.
+#[derive(Drop)]
+struct WritesFact<'a> {
+    facts: &'a [Fact],
+}
+
+impl Call for WritesFact<'_> {
+    fn make(&mut self, alloc: Global) -> Answer {
+        let Some(fact) = self.facts.first() else {
+            return Answer::Wrong;
+        };
+        match member_of(alloc, fact) {
+            Ok(member) => Answer::same(member.bytes() == FACTS[0].as_bytes()),
+            Err(_) => Answer::Refused,
+        }
+    }
+}
+
+/// Writes the text of the first row's facts.
+#[derive(Drop)]
+struct WritesBlock<'a> {
+    facts: &'a [Fact],
+    text: &'a str,
+}
+
+impl Call for WritesBlock<'_> {
     fn make(&mut self, alloc: Global) -> Answer {
         if self.facts.len() != 2 {
             return Answer::Wrong;
         }
-        let is_head = head(alloc, self.report).is_ok();
-        let is_member = member_of(alloc, self.facts.get(0)).is_ok();
-        let is_block = block_of(alloc, self.facts.as_slice()).is_ok();
-        if is_head && is_member && is_block {
-            Answer::Enough
-        } else {
-            Answer::Refused
+        match block_of(alloc, self.facts) {
+            Ok(block) => Answer::same(block.bytes() == self.text.as_bytes() && block.count() == 2),
+            Err(_) => Answer::Refused,
         }
     }
 }
@@ -102,7 +118,7 @@ fn first_row(alloc: Global, report: &Report) -> Result<Items<Fact>, Fail> {
     if report.tables() == 0 {
         return Err(Fail::new("no table"));
     }
-    let Ok(mut rows) = Rows::open(alloc, report, 0, TABLE, Limits::profile()) else {
+    let Ok(mut rows) = Rows::open(alloc, report, 0, FIRST, Limits::profile()) else {
         return Err(Fail::new("no rows"));
     };
     match rows.next() {
@@ -112,13 +128,20 @@ fn first_row(alloc: Global, report: &Report) -> Result<Items<Fact>, Fail> {
 }
 
 #[test]
+fn a_head_without_memory(rt: HostRuntime) -> Result<(), Fail> {
+    let report = report(rt.alloc())?;
+    assert!(rt; is_refused(rt.alloc(), ROOM, 10, &mut WritesHead { report: &report }));
+    Ok(())
+}
+
+#[test]
 fn texts_without_memory(rt: HostRuntime) -> Result<(), Fail> {
     let report = report(rt.alloc())?;
     let facts = first_row(rt.alloc(), &report)?;
-    let mut call = WritesTexts {
-        report: &report,
-        facts: &facts,
-    };
-    assert!(rt; is_refused(rt.alloc(), ROOM, 20, &mut call));
+    let text = text_of(rt.alloc(), 2)?;
+    let facts = facts.as_slice();
+    let text = text.as_str();
+    assert!(rt; is_refused(rt.alloc(), ROOM, 10, &mut WritesFact { facts }));
+    assert!(rt; is_refused(rt.alloc(), ROOM, 20, &mut WritesBlock { facts, text }));
     Ok(())
 }

@@ -77,6 +77,7 @@ impl<T> Drop for Told<T> {
     }
 }
 
+// A `Told` owns nothing, whatever `T` is: `proofs/Sent.antt` proves both.
 unsafe impl<T> Send for Told<T> {}
 
 unsafe impl<T> Sync for Told<T> {}

@@ -1,7 +1,7 @@
 //! `xbrl-json`: converts a report in xBRL-CSV 1.0 to xBRL-JSON 1.0.
 //!
 //! `xbrl-json META --types FILE [--workers N] [--ring K] [--out FILE] [--whole] [--layout
-//! compact|lines] [--progress]` converts the report whose metadata file is META, to standard output or
+//! compact|lines] [--progress] [--explain]` converts the report whose metadata file is META, to standard output or
 //! to the file given by `--out`. Without any words the program converts its built-in report to standard
 //! output.
 //!
@@ -20,6 +20,7 @@
 
 mod disk;
 mod emptied;
+mod explain;
 mod file_id;
 mod new_file;
 mod output;
@@ -30,7 +31,7 @@ mod said;
 use oim_convert::ConvertFault;
 use oim_run::{Outcome, convert_to, request_of};
 use output::convert_apart;
-use said::{explained, told};
+use said::{explained, told, told_with_places};
 use std::alloc::Global;
 use std::io;
 use std::io::ErrorKind;
@@ -56,7 +57,11 @@ fn started<T: Threads + Wait + Sync>(
         let _ = rt.eprint("error: --whole wants --out FILE\n");
         return 2;
     }
-    told(rt, alloc, &convert_apart(rt, threads, alloc, &request))
+    let outcome = convert_apart(rt, threads, alloc, &request);
+    if !request.explain {
+        return told(rt, alloc, &outcome);
+    }
+    told_with_places(rt, alloc, &request.settings, &outcome)
 }
 
 /// Runs with the arguments of the process, and gives the exit status.

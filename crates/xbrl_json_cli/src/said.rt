@@ -4,7 +4,8 @@ ghost use Rattle.std.specs.Prelude.{◌≡◌, ◌⊎◌, if◌then◌else◌};
 ghost use Rattle.clap.specs.Values.{kind_of};
 ghost use Rattle.oim_run.specs.Lines.{status_of, unprinted_status, words_status};
 
-use oim_run::{Outcome, line, shown, status, terminal_line};
+use crate::explain::{explain_fault, explain_tables};
+use oim_run::{Outcome, Settings, line, shown, status, terminal_line};
 use std::alloc::{AllocError, Global};
 use std::io::{Eprint, IsTerminal, Print};
 
@@ -25,6 +26,25 @@ pub fn told(rt: &HostRuntime, alloc: Global, outcome: &Outcome) -> u8
         let _ = rt.eprint(lines.as_str());
     }
     status(outcome)
+}
+
+/// Prints the lines of an outcome as `told` does, and below the line of each fault where it is, and gives
+/// the exit status.
+pub fn told_with_places(
+    rt: &HostRuntime,
+    alloc: Global,
+    settings: &Settings,
+    outcome: &Outcome,
+) -> u8
+    ensures { result ≡ status_of outcome.now }
+{
+    if let Outcome::Tables(tables) = outcome {
+        explain_tables(rt, alloc, settings, tables.as_slice());
+        return status(outcome);
+    }
+    let status = told(rt, alloc, outcome);
+    explain_fault(rt, alloc, settings, outcome);
+    status
 }
 
 /// A text without control characters but the ends of its lines.

@@ -1,14 +1,15 @@
 //! Building lists from an object's members and from lists.
 
-ghost use Rattle.std.specs.Prelude.{◌≡◌, ℕ, List, IfOk, OnOk, option_map};
-ghost use Rattle.serde_json.specs.Data.{Data};
+ghost use Rattle.std.specs.Prelude.{◌≡◌, ℕ, List, IfOk, OnOk, option_map, unwrap_or};
+ghost use Rattle.serde_json.specs.Data.{Data, no_items};
+ghost use Rattle.serde_json.specs.Find.{as_array};
 ghost use Rattle.serde_json.specs.View.{view, items_view, members_view};
 ghost use Rattle.oim_meta.specs.Members.{section, items_at, map_members, map_items, text_of as text_in};
 ghost use Rattle.oim_meta.specs.Order.{names_of};
 ghost use Rattle.oim_report.specs.Rising.{IsRising};
 ghost use Rattle.oim_meta.specs.Value.{flag_at, named_text};
 
-use crate::lookup::{list_at, object_at};
+use crate::lookup::object_at;
 use oim_names::{Items, Text};
 use serde_json::{Map, Value};
 use std::alloc::{AllocError, Global};
@@ -76,22 +77,46 @@ pub(crate) fn flag(value: &Value, key: &str) -> bool
     value.get(key).and_then(Value::as_bool).unwrap_or(false)
 }
 
-fn texts(alloc: Global, items: &[Value]) -> Result<Vec<Text>, AllocError>
-    ensures { IfOk result (λ made. made.items ≡ map_items text_in (items_view items.now)) }
+/// The text of a value, which is moved, or the empty text if the value is not a text.
+fn into_text(alloc: Global, value: Value) -> Text
+    ensures { result ≡ text_in (view value) }
 {
-    let mut made = Vec::new(alloc);
+    match value {
+        Value::String(text) => Text::new(text),
+        _ => Text::new(String::new(alloc)),
+    }
+}
+
+fn texts(alloc: Global, items: Vec<Value>) -> Result<Vec<Text>, AllocError>
+    ensures { IfOk result (λ made. made.items ≡ map_items text_in (items_view items.items)) }
+{
+    let mut made = Vec::with_capacity(alloc, items.len())?;
     for item in items {
-        made.push(text_of(alloc, item)?)?;
+        made.push(into_text(alloc, item))?;
     }
     Ok(made)
 }
 
-/// The texts of the list at a key, in its order.
-pub(crate) fn texts_at(alloc: Global, value: &Value, key: &str) -> Result<Items<Text>, AllocError>
-    ensures { IfOk result (λ made. made ≡ map_items text_in (items_at key.now (view value.now))) }
+/// The texts of a list, which are moved, in its order.
+fn into_texts(alloc: Global, value: Value) -> Result<Items<Text>, AllocError>
+    ensures { IfOk result (λ made. made ≡ map_items text_in (unwrap_or (as_array (view value)) no_items)) }
 {
-    match list_at(value, key) {
-        Some(items) => Ok(Items::from_vec(texts(alloc, items)?)),
+    match value {
+        Value::Array(items) => Ok(Items::from_vec(texts(alloc, items)?)),
+        _ => Ok(Items::new(alloc)),
+    }
+}
+
+/// The texts of the list at a key, which are taken out of it, in its order.
+pub(crate) fn take_texts(
+    alloc: Global,
+    value: &mut Value,
+    key: &str,
+) -> Result<Items<Text>, AllocError>
+    ensures { IfOk result (λ made. made ≡ map_items text_in (items_at key.now (view value.old))) }
+{
+    match value.get_mut(key) {
+        Some(list) => into_texts(alloc, list.take()),
         None => Ok(Items::new(alloc)),
     }
 }

@@ -3,7 +3,7 @@ use Rattle.std.proofs.lemmas.Option.{IfSome_then}
 use Rattle.oim_convert.specs.Histories.{facts_in}
 use Rattle.oim_convert.proofs.SentFacts.{opened_given, unopened_given}
 use Rattle.oim_convert.proofs.decode.send_file.Goals as goal
-use Rattle.oim_convert.proofs.decode.send_file.Goals.{in-Some+in-Ok-1, in-Some+in-Err-1, in-None-1}
+use Rattle.oim_convert.proofs.decode.send_file.Goals.{in-Some-1, in-None-1}
 
 pub returns-in-Err-clause-given : goal.returns-in-Err-clause-given
 returns-in-Err-clause-given g c =
@@ -13,10 +13,7 @@ returns-in-Err-clause-given g c =
 pub returns-in-Ok-clause-given : goal.returns-in-Ok-clause-given
 returns-in-Ok-clause-given g c =
     elim c.match-blocks.branch [
-      | in-Some+in-Ok-1 w ↦ opened_given c.args.report.now c.args.table c.in-Ok.blocks.table c.args.limits.rows (g.R.Read.remaining c.args.reader)
-          c.in-Ok.blocks.left (facts_in c.send_blocks.new.feed.sent) c.send_blocks.result c.in-Ok.ensures.start.0 c.in-Ok.ensures.stream
-          c.send_blocks.ensures.given
-      | in-Some+in-Err-1 w ↦ opened_given c.args.report.now c.args.table c.in-Ok.blocks.table c.args.limits.rows (g.R.Read.remaining c.args.reader)
+      | in-Some-1 w ↦ opened_given c.args.report.now c.args.table c.in-Ok.blocks.table c.args.limits.rows (g.R.Read.remaining c.args.reader)
           c.in-Ok.blocks.left (facts_in c.send_blocks.new.feed.sent) c.send_blocks.result c.in-Ok.ensures.start.0 c.in-Ok.ensures.stream
           c.send_blocks.ensures.given
       | in-None-1 w ↦ opened_given c.args.report.now c.args.table c.in-Ok.blocks.table c.args.limits.rows (g.R.Read.remaining c.args.reader)

@@ -1,6 +1,5 @@
 use Rattle.std.proofs.Common.{◌≡◌, ◌∙◌, ◌+◌, ◌++◌, ◌∷◌, [], ap, take}
 use Rattle.std.proofs.lemmas.List.{map-append}
-use Rattle.csv.specs.Records.{fields_of}
 use Rattle.oim_report.specs.Readers.{columns_of}
 use Rattle.oim_rows.specs.Header.{named_column, header_of}
 use Rattle.oim_rows.proofs.Places.{take-field_at}
@@ -8,7 +7,7 @@ use Rattle.oim_rows.proofs.header.columns_of.Goals as goal
 
 pub loop-i-preserved : goal.loop-i-preserved
 loop-i-preserved c =
-    let fields = fields_of c.args.row.now in
+    let fields = c.args.row.now in
     let columns = columns_of c.args.report.now c.args.table in
     let more = take-field_at fields c.loop-i.i c.field.result.now c.field.ensures in
     let joined : header_of columns (take (c.loop-i.i + 1) fields) ≡ header_of columns (take c.loop-i.i fields) ++ named_column columns c.field.result.now ∷ [] =

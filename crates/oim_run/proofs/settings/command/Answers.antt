@@ -9,4 +9,5 @@ returns c =
     let three = c.with-command-3.ensures _ _ two c.option.ensures.rule in
     let four = c.with-command-4.ensures _ _ three c.flag-whole.ensures.rule in
     let five = c.with-command-5.ensures _ _ four c.word_option-layout.ensures.rule in
-    c.with.ensures _ _ five c.flag.ensures.rule
+    let six = c.with-command-6.ensures _ _ five c.flag-progress.ensures.rule in
+    c.with.ensures _ _ six c.flag.ensures.rule

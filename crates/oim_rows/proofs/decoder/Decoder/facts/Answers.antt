@@ -1,12 +1,13 @@
-use Rattle.std.proofs.Common.{◌∙◌, ap, length}
-use Rattle.std.proofs.lemmas.List.FromFn.{length-map-range_with_len}
-use Rattle.csv.specs.Records.{fields_of}
-use Rattle.oim_report.specs.Readers.{columns_of}
-use Rattle.oim_resolve.specs.declared.fact.Row.{Row}
-use Rattle.oim_rows.specs.RowFacts.{cell_at}
+use Rattle.std.proofs.Common.{Ok, Err, sym, ◌∙◌}
+use Rattle.oim_rows.proofs.StreamLaws.{cells_answer}
 use Rattle.oim_rows.proofs.decoder.Decoder.facts.Goals as goal
 
-pub facts_of_row-requires : goal.facts_of_row-requires
-facts_of_row-requires c =
-    ap (λ (r : Row). length r.cells) c.in-Ok.ensures
-    ∙ length-map-range_with_len (cell_at c.args.self.now.header (fields_of c.args.row.now)) 0 (length (columns_of c.args.self.now.report c.args.self.now.table))
+pub returns-in-Err-clause-facts : goal.returns-in-Err-clause-facts
+returns-in-Err-clause-facts c =
+    rw (← c.self.view_is)
+    (cells_answer c.self.inside.form c.self.inside.plan c.args.number c.args.ids.now c.args.row.now (Err c.in-Err.fault) (sym c.fault_of_row.ensures ∙ c.in_default.is) c.self.invariant c.in-Err.ensures)
+
+pub returns-else-is_err-clause-facts : goal.returns-else-is_err-clause-facts
+returns-else-is_err-clause-facts c =
+    rw (← c.self.view_is)
+    (cells_answer c.self.inside.form c.self.inside.plan c.args.number c.args.ids.now c.args.row.now (Ok c.in-Ok.facts) (sym c.fault_of_row.ensures ∙ c.in_default.is) c.self.invariant c.in-Ok.ensures)

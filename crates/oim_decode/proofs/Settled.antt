@@ -1,0 +1,77 @@
+-- What is answered of a table in which an end or a fault was found, and what is left to read of it.
+use Rattle.std.proofs.Common.{◌≡◌, ◌⊎◌, ◌<◌, ◌≤◌, ◌-◌, ℕ, List, [], length, Option, Some, None, Ok, Err, IfSome, IsSome, refl, ap, subst, sym, ◌∙◌, inl, inr}
+use Rattle.std.specs.Option.{is_some}
+use Rattle.oim_resolve.specs.FactParts.{FactParts as Fact}
+use Rattle.oim_rows.specs.Header.{file_fault}
+use Rattle.oim_rows.specs.declared.fault.TableFault.{TableFault}
+use Rattle.oim_rows.specs.declared.fault.TableKind.TheVariants as kind
+use Rattle.oim_decode.specs.Blocks.{BlocksLeft, GivesFound, IsBehind, KeepsFound, ReadsBehind}
+use Rattle.oim_decode.proofs.Advances.{behind_short}
+
+-- A call fills up first, which changes nothing where the table is settled.
+module _ (old filled new : BlocksLeft) (again : IsSome old.answered → filled ≡ old) (given : new.given ≡ filled.given) (unread : new.unread ≡ filled.unread) where
+  -- the first of the facts that wait
+  pub found_block : (block : List Fact) → new.answered ≡ filled.answered → KeepsFound old (Ok (Some block)) new
+  found_block block answered = by old.answered refl
+    where
+      by : (o : Option (Option TableFault)) → old.answered ≡ o
+          → IfSome o (λ found. GivesFound old.table old.pending found (Ok (Some block)) new.answered × (new.given ≡ old.given) × (new.unread ≡ old.unread))
+      by None e = tt
+      by (Some found) e =
+          let same : filled ≡ old = again (ap is_some e) in
+          (answered ∙ ap (λ (b : BlocksLeft). b.answered) same ∙ e, given ∙ ap (λ (b : BlocksLeft). b.given) same, unread ∙ ap (λ (b : BlocksLeft). b.unread) same)
+
+  -- the end, or the fault, behind them
+  pub found_end : filled.answered ≡ Some None → filled.pending ≡ [] → KeepsFound old (Ok None) new
+  found_end answered none = by old.answered refl
+    where
+      by : (o : Option (Option TableFault)) → old.answered ≡ o
+          → IfSome o (λ found. GivesFound old.table old.pending found (Ok None) new.answered × (new.given ≡ old.given) × (new.unread ≡ old.unread))
+      by None e = tt
+      by (Some found) e =
+          let same : filled ≡ old = again (ap is_some e) in
+          let is : Some found ≡ Some None = sym e ∙ sym (ap (λ (b : BlocksLeft). b.answered) same) ∙ answered in
+          let that : found ≡ None = cc is in
+          ((that, sym (ap (λ (b : BlocksLeft). b.pending) same) ∙ none), given ∙ ap (λ (b : BlocksLeft). b.given) same, unread ∙ ap (λ (b : BlocksLeft). b.unread) same)
+
+  pub found_fault : (f : TableFault) → filled.answered ≡ Some (Some f) → filled.pending ≡ [] → KeepsFound old (Err f) new
+  found_fault f answered none = by old.answered refl
+    where
+      by : (o : Option (Option TableFault)) → old.answered ≡ o
+          → IfSome o (λ found. GivesFound old.table old.pending found (Err f) new.answered × (new.given ≡ old.given) × (new.unread ≡ old.unread))
+      by None e = tt
+      by (Some found) e =
+          let same : filled ≡ old = again (ap is_some e) in
+          let is : Some found ≡ Some (Some f) = sym e ∙ sym (ap (λ (b : BlocksLeft). b.answered) same) ∙ answered in
+          let that : found ≡ Some f = cc is in
+          (inl (that, sym (ap (λ (b : BlocksLeft). b.pending) same) ∙ none), given ∙ ap (λ (b : BlocksLeft). b.given) same, unread ∙ ap (λ (b : BlocksLeft). b.unread) same)
+
+  -- or memory was refused for those that wait
+  pub found_short : (f : TableFault) → f ≡ file_fault old.table kind.Memory → 1 ≤ length filled.pending → KeepsFound old (Err f) new
+  found_short f short some = by old.answered refl
+    where
+      by : (o : Option (Option TableFault)) → old.answered ≡ o
+          → IfSome o (λ found. GivesFound old.table old.pending found (Err f) new.answered × (new.given ≡ old.given) × (new.unread ≡ old.unread))
+      by None e = tt
+      by (Some found) e =
+          let same : filled ≡ old = again (ap is_some e) in
+          (inr (short, subst (λ (b : BlocksLeft). 1 ≤ length b.pending) same some), given ∙ ap (λ (b : BlocksLeft). b.given) same, unread ∙ ap (λ (b : BlocksLeft). b.unread) same)
+
+  -- what is left unread
+  pub behind_same : new.answered ≡ filled.answered → ReadsBehind old filled → ReadsBehind old new
+  behind_same answered so =
+      subst (λ a. IfSome old.unread (λ rs. IsBehind old.table rs (new.given - old.given) a new.unread)) (sym answered)
+      (subst (λ u. IfSome old.unread (λ rs. IsBehind old.table rs (new.given - old.given) filled.answered u)) (sym unread)
+      (subst (λ (n : ℕ). IfSome old.unread (λ rs. IsBehind old.table rs (n - old.given) filled.answered filled.unread)) (sym given) so))
+
+  pub behind_memory : (f : TableFault) → f ≡ file_fault old.table kind.Memory → new.answered ≡ Some (Some f) → ReadsBehind old filled → ReadsBehind old new
+  behind_memory f short answered so =
+      subst (λ a. IfSome old.unread (λ rs. IsBehind old.table rs (new.given - old.given) a new.unread)) (sym answered)
+      (subst (λ u. IfSome old.unread (λ rs. IsBehind old.table rs (new.given - old.given) (Some (Some f)) u)) (sym unread)
+      (subst (λ (n : ℕ). IfSome old.unread (λ rs. IsBehind old.table rs (n - old.given) (Some (Some f)) filled.unread)) (sym given)
+      (behind_short old.table (filled.given - old.given) old.unread filled.answered filled.unread f short so)))
+
+-- a block has facts that waited, or rows were read
+pub moved : (before given : ℕ) (old filled : List Fact) → (before < given) ⊎ (filled ≡ old) → 1 ≤ length filled → (before < given) ⊎ (1 ≤ length old)
+moved before given old filled (inl more) some = inl more
+moved before given old filled (inr same) some = inr (subst (λ (fs : List Fact). 1 ≤ length fs) same some)

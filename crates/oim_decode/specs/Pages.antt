@@ -1,6 +1,0 @@
--- What contracts see of a text that grows.
-use Rattle.std.specs.Prelude.{ℕ, List}
-
--- its bytes
-pub record PageText : Type 0 where
-  pub items : List ℕ

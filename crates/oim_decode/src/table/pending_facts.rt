@@ -1,0 +1,187 @@
+//! The texts of facts that wait to be given.
+
+ghost use Rattle.std.specs.Prelude.{◌≡◌, ◌≤◌, [], IfOk, OnErr, OnOk, drop, length, take};
+ghost use Rattle.oim_fast.specs.Facts.{facts_of_row};
+ghost use Rattle.oim_rows.specs.RowFacts.{IsTextRecord};
+ghost use Rattle.oim_decode.specs.RowTexts.{AddsFacts, facts_in};
+
+use crate::table::fact_list::{first, none, rest, then};
+use crate::table::row_texts::RowTexts;
+use oim_fast::{TableRow, TextBuffer};
+use oim_json::Block;
+use oim_names::Items;
+use oim_records::Fields;
+use oim_resolve::Fact;
+use oim_rows::TableFault;
+use std::alloc::{AllocError, Global};
+use std::marker::Model;
+use std::mem;
+use told::{Tells, Told};
+
+/// The texts of facts, each behind a comma. A contract sees the list of facts, which no code holds.
+#[derive(Drop)]
+pub(crate) struct PendingFacts {
+    bytes: TextBuffer,
+    // where each text ends
+    ends: Vec<usize>,
+    facts: Told<Items<Fact>>,
+}
+
+impl Model for PendingFacts {
+    ghost use Rattle.std.specs.Prelude.{◌≡◌, List};
+    ghost use Rattle.oim_resolve.specs.FactParts.{FactParts as FactValue};
+    ghost use Rattle.oim_json.specs.Blocks.{behind_commas, ends_from};
+
+    ghost Value = { List FactValue };
+
+    ghost view = { λ b. b.facts.value };
+
+    ghost invariant = { λ b. (b.bytes.items ≡ behind_commas b.facts.value) × (b.ends.items ≡ ends_from 0 b.facts.value) };
+}
+
+/// A row of a table, by which its facts are told.
+#[derive(Drop)]
+struct RowNote<'a, 'b, 'r> {
+    row: &'b TableRow<'a, 'r>,
+}
+
+impl Tells<Items<Fact>> for RowNote<'_, '_, '_> {
+    ghost told = { λ t. facts_in (facts_of_row t.row.now) };
+}
+
+impl PendingFacts {
+    /// No facts. It takes no memory.
+    pub(crate) fn new(alloc: Global) -> PendingFacts
+        ensures { result ≡ [] }
+    {
+        PendingFacts {
+            bytes: TextBuffer::new(alloc),
+            ends: Vec::new(alloc),
+            facts: none(),
+        }
+    }
+
+    /// How many facts there are.
+    pub(crate) fn count(&self) -> usize
+        ensures { result ≡ length self.now }
+    {
+        self.ends.len()
+    }
+
+    /// Adds the facts of a row.
+    ///
+    /// Fails with the fault of the row's first cell that has one, and with Memory where memory is short. Then nothing is added.
+    pub(crate) fn push_row<'a>(
+        &mut self,
+        alloc: Global,
+        texts: &mut RowTexts<'a>,
+        row: &TableRow<'a, '_>,
+        fields: &Fields<'_>,
+    ) -> Result<(), TableFault>
+        requires form { row.now.form ≡ texts.old }
+        requires fields { fields.now ≡ row.now.fields }
+        requires texts { IsTextRecord fields.now }
+        ensures facts { AddsFacts row.now.form.table (facts_of_row row.now) self.old self.new result }
+        ensures same { texts.new ≡ texts.old }
+    {
+        let facts = then(&self.facts, &RowNote { row });
+        let length = self.bytes.len();
+        let count = self.ends.len();
+        match texts.put_row(alloc, row, fields, &mut self.bytes, &mut self.ends) {
+            Ok(()) => {
+                self.facts = facts;
+                Ok(())
+            }
+            Err(fault) => {
+                self.bytes.truncate(length);
+                self.ends.truncate(count);
+                Err(fault)
+            }
+        }
+    }
+
+    /// Takes the first `count` facts as a block. The texts that stay are moved to `room`. Fails where
+    /// memory is short, and then nothing is taken.
+    pub(crate) fn take_block(
+        &mut self,
+        alloc: Global,
+        count: usize,
+        room: Vec<u8>,
+    ) -> Result<Block, AllocError>
+        requires some { 1 ≤ count }
+        requires most { count ≤ 256 }
+        requires there { count ≤ length self.old }
+        ensures block { IfOk result (λ b. b ≡ take count self.old) }
+        ensures left { OnOk result (self.new ≡ drop count self.old) }
+        ensures same { OnErr result (self.new ≡ self.old) }
+    {
+        let left = self.from_place(alloc, count, room)?;
+        let all = mem::replace(self, left);
+        Ok(all.into_block(count))
+    }
+
+    // The facts from a place on, whose texts stand in `room`.
+    fn from_place(
+        &self,
+        alloc: Global,
+        count: usize,
+        room: Vec<u8>,
+    ) -> Result<PendingFacts, AllocError>
+        requires some { 1 ≤ count }
+        requires there { count ≤ length self.now }
+        ensures { IfOk result (λ b. b ≡ drop count self.now) }
+    {
+        let start = self.ends[count - 1];
+        let mut bytes = TextBuffer::within(room, self.bytes.len())?;
+        bytes.put(after(self.bytes.as_slice(), start))?;
+        Ok(PendingFacts {
+            bytes,
+            ends: counted_from(alloc, behind(self.ends.as_slice(), count), start)?,
+            facts: rest(&self.facts, count),
+        })
+    }
+
+    // The block of the first facts.
+    fn into_block(self, count: usize) -> Block
+        requires some { 1 ≤ count }
+        requires most { count ≤ 256 }
+        requires there { count ≤ length self }
+        ensures { result ≡ take count self }
+    {
+        let PendingFacts {
+            mut bytes,
+            mut ends,
+            facts,
+        } = self;
+        bytes.truncate(ends[count - 1]);
+        ends.truncate(count);
+        Block::from_parts(bytes.into_vec(), ends, first(&facts, count))
+    }
+}
+
+ghost use Rattle.std.specs.Prelude.{◌-◌, map};
+
+fn after(text: &[u8], start: usize) -> &[u8]
+    requires { start ≤ length text.now }
+    ensures { result.now ≡ drop start text.now }
+{
+    &text[start..]
+}
+
+fn behind(ends: &[usize], count: usize) -> &[usize]
+    requires { count ≤ length ends.now }
+    ensures { result.now ≡ drop count ends.now }
+{
+    &ends[count..]
+}
+
+// The same ends, counted from a place.
+fn counted_from(alloc: Global, ends: &[usize], start: usize) -> Result<Vec<usize>, AllocError>
+    ensures { IfOk result (λ counted. counted.items ≡ map (λ end. end - start) ends.now) }
+{
+    let mut counted = Vec::with_capacity(alloc, ends.len())?;
+    for end in ends {
+        counted.push(end.saturating_sub(start))?;
+    }
+    Ok(counted)
+}

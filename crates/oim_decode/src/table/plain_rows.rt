@@ -1,0 +1,123 @@
+//! The plain way from a row to the texts of its facts.
+
+ghost use Rattle.std.specs.Prelude.{◌≡◌, ◌++◌, ◌∷◌, [], Err, IfErr, IfOk, OnOk, length};
+ghost use mathlib.Core.List.{IsPrefix};
+ghost use Rattle.oim_fast.specs.Facts.{WritesFacts, facts_of_row};
+ghost use Rattle.oim_json.specs.Blocks.{behind_commas, ends_from};
+ghost use Rattle.oim_rows.specs.RowFacts.{IsTextRecord};
+ghost use Rattle.oim_rows.specs.Streams.{OrNoMemory};
+
+use oim_fast::{TableRow, TextBuffer};
+use oim_json::member_of;
+use oim_names::Items;
+use oim_records::Fields;
+use oim_resolve::Fact;
+use oim_rows::{RowForm, RowPlan, TableFault, TableKind, whole_fault};
+use std::alloc::{AllocError, Global};
+use std::marker::Model;
+use std::snapshot::Snapshot;
+
+/// The rows of a table by the plain way, whose plan is made for the first of them. A contract sees what the rows are read by.
+#[derive(Drop)]
+pub(crate) struct PlainRows<'a> {
+    plan: Option<RowPlan<'a>>,
+    form: Snapshot<RowForm<'a>>,
+}
+
+impl<'a> Model for PlainRows<'a> {
+    ghost use Rattle.std.specs.Prelude.{◌≡◌, IfSome};
+    ghost use Rattle.oim_rows.specs.RowFacts.{Reading};
+
+    ghost Value = { Reading };
+
+    ghost view = { λ a. a.form.value };
+
+    ghost invariant = { λ a. IfSome a.plan (λ plan. plan ≡ a.form.value) };
+}
+
+/// Appends the text of each fact behind a comma, and notes where each of them ends.
+fn put_facts(
+    alloc: Global,
+    facts: &Items<Fact>,
+    out: &mut TextBuffer,
+    ends: &mut Vec<usize>,
+) -> Result<(), AllocError>
+    ensures texts { OnOk result (out.new.items ≡ out.old.items ++ behind_commas facts.now) }
+    ensures ends { OnOk result (ends.new.items ≡ ends.old.items ++ ends_from (length out.old.items) facts.now) }
+    ensures front { IsPrefix out.old.items out.new.items × IsPrefix ends.old.items ends.new.items }
+{
+    for fact in facts.as_slice() {
+        let member = member_of(alloc, fact)?;
+        out.push(b',')?;
+        out.put(member.bytes())?;
+        ends.push(out.len())?;
+    }
+    Ok(())
+}
+
+impl<'a> PlainRows<'a> {
+    /// The rows of a form. It takes no memory.
+    pub(crate) fn new(form: &RowForm<'a>) -> PlainRows<'a>
+        ensures { result ≡ form.now }
+    {
+        PlainRows {
+            plan: None,
+            form: Snapshot::of(form),
+        }
+    }
+
+    /// The facts of a row. The plan of the table is made where it is not yet.
+    fn facts(
+        &mut self,
+        alloc: Global,
+        row: &TableRow<'a, '_>,
+        fields: &Fields<'_>,
+    ) -> Result<Items<Fact>, TableFault>
+        requires form { row.now.form ≡ self.old }
+        requires fields { fields.now ≡ row.now.fields }
+        requires texts { IsTextRecord fields.now }
+        ensures facts { OrNoMemory row.now.form.table result (facts_of_row row.now) }
+        ensures same { self.new ≡ self.old }
+    {
+        if let Some(plan) = &self.plan {
+            return plan.facts(alloc, row.form(), row.number(), fields);
+        }
+        let Ok(plan) = RowPlan::new(alloc, row.form()) else {
+            return Err(whole_fault(row.table(), TableKind::Memory));
+        };
+        let facts = plan.facts(alloc, row.form(), row.number(), fields);
+        self.plan = Some(plan);
+        facts
+    }
+
+    /// Appends the texts of a row's facts in header order, each behind a comma, and notes where each of them ends.
+    ///
+    /// Fails with the fault of the row's first cell that has one, and with Memory where memory is short. What was there stays
+    /// then, with anything behind it.
+    #[cold]
+    pub(crate) fn put_row(
+        &mut self,
+        alloc: Global,
+        row: &TableRow<'a, '_>,
+        fields: &Fields<'_>,
+        out: &mut TextBuffer,
+        ends: &mut Vec<usize>,
+    ) -> Result<(), TableFault>
+        requires form { row.now.form ≡ self.old }
+        requires fields { fields.now ≡ row.now.fields }
+        requires texts { IsTextRecord fields.now }
+        ensures facts { IfOk result (λ _. WritesFacts row.now out.old.items out.new.items ends.old.items ends.new.items) }
+        ensures fault { IfErr result (λ e. OrNoMemory row.now.form.table (Err e) (facts_of_row row.now)) }
+        ensures front { IsPrefix out.old.items out.new.items × IsPrefix ends.old.items ends.new.items }
+        ensures same { self.new ≡ self.old }
+    {
+        let facts = match self.facts(alloc, row, fields) {
+            Ok(facts) => facts,
+            Err(fault) => return Err(fault),
+        };
+        match put_facts(alloc, &facts, out, ends) {
+            Ok(()) => Ok(()),
+            Err(_) => Err(whole_fault(row.table(), TableKind::Memory)),
+        }
+    }
+}

@@ -1,0 +1,76 @@
+//! A row of a table to the texts of its facts, by one of two ways.
+
+ghost use Rattle.std.specs.Prelude.{◌≡◌, Err, IfErr, IfOk};
+ghost use mathlib.Core.List.{IsPrefix};
+ghost use Rattle.oim_fast.specs.Facts.{WritesFacts, facts_of_row};
+ghost use Rattle.oim_rows.specs.RowFacts.{IsTextRecord};
+ghost use Rattle.oim_rows.specs.Streams.{OrNoMemory};
+
+use crate::table::plain_rows::PlainRows;
+use oim_fast::{RowWriter, TableRow, TextBuffer};
+use oim_records::Fields;
+use oim_rows::{RowForm, TableFault, TableKind, whole_fault};
+use std::alloc::{AllocError, Global};
+use std::marker::Model;
+
+/// How the rows of a table become the texts of their facts. A contract sees what the rows are read by.
+#[derive(Drop)]
+pub(crate) struct RowTexts<'a> {
+    fast: RowWriter<'a>,
+    plain: PlainRows<'a>,
+}
+
+impl<'a> Model for RowTexts<'a> {
+    ghost use Rattle.std.specs.Prelude.{◌≡◌};
+    ghost use Rattle.oim_rows.specs.RowFacts.{Reading};
+
+    ghost Value = { Reading };
+
+    ghost view = { λ a. a.fast };
+
+    ghost invariant = { λ a. a.plain ≡ a.fast };
+}
+
+impl<'a> RowTexts<'a> {
+    /// The rows of a form. Fails where memory is short.
+    pub(crate) fn new(alloc: Global, form: &RowForm<'a>) -> Result<RowTexts<'a>, AllocError>
+        ensures { IfOk result (λ texts. texts ≡ form.now) }
+    {
+        Ok(RowTexts {
+            fast: RowWriter::new(alloc, form)?,
+            plain: PlainRows::new(form),
+        })
+    }
+
+    /// Appends the texts of a row's facts in header order, each behind a comma, and notes where each of them ends.
+    ///
+    /// Fails with the fault of the row's first cell that has one, and with Memory where memory is short. What was there stays
+    /// then, with anything behind it.
+    pub(crate) fn put_row(
+        &mut self,
+        alloc: Global,
+        row: &TableRow<'a, '_>,
+        fields: &Fields<'_>,
+        out: &mut TextBuffer,
+        ends: &mut Vec<usize>,
+    ) -> Result<(), TableFault>
+        requires form { row.now.form ≡ self.old }
+        requires fields { fields.now ≡ row.now.fields }
+        requires texts { IsTextRecord fields.now }
+        ensures facts { IfOk result (λ _. WritesFacts row.now out.old.items out.new.items ends.old.items ends.new.items) }
+        ensures fault { IfErr result (λ e. OrNoMemory row.now.form.table (Err e) (facts_of_row row.now)) }
+        ensures front { IsPrefix out.old.items out.new.items × IsPrefix ends.old.items ends.new.items }
+        ensures same { self.new ≡ self.old }
+    {
+        let length = out.len();
+        let count = ends.len();
+        match self.fast.put_row(alloc, row, out, ends) {
+            Ok(true) => return Ok(()),
+            Ok(false) => {}
+            Err(_) => return Err(whole_fault(row.table(), TableKind::Memory)),
+        }
+        out.truncate(length);
+        ends.truncate(count);
+        self.plain.put_row(alloc, row, fields, out, ends)
+    }
+}

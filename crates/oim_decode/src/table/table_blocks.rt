@@ -1,0 +1,189 @@
+//! The facts of one table, in blocks of text.
+
+ghost use Rattle.std.specs.Prelude.{◌≡◌, ◌⊎◌, ◌≤◌, ◌<◌, ◌+◌, [], IfErr, IfOk, IfSome, None, Some, false, length, true};
+ghost use Rattle.oim_records.specs.Grids.{grid};
+ghost use Rattle.oim_rows.specs.Header.{file_header_fault};
+ghost use Rattle.oim_rows.specs.Streams.{IsOutside, answer_of, facts_of_rows, stream_of};
+ghost use Rattle.oim_decode.specs.Blocks.{GivesBlock, KeepsAnswer, KeepsFound, LeavesNone, ReadsBehind};
+
+use crate::table::pending_facts::PendingFacts;
+use crate::table::text_rows::TextRows;
+use oim_json::Block;
+use oim_report::{Limits, Report};
+use oim_rows::{TableFault, TableKind, whole_fault};
+use std::alloc::Global;
+use std::io::Read;
+use std::marker::Model;
+
+/// How many facts a block has at most.
+const MOST: usize = 256;
+
+/// What comes after the facts that are read.
+#[derive(Clone, Copy)]
+enum Progress {
+    Reading,
+    Ended,
+    Failed(TableFault),
+}
+
+/// The facts of one table that are left, as blocks of text. It borrows the table's report. A contract
+/// sees the table's place, the limit, how many rows were read, the facts that are read and not given,
+/// the stream behind them where the reader tells its bytes, and what is answered again once the
+/// table is settled.
+#[derive(Drop)]
+pub struct TableBlocks<'a, R: Read + Drop> {
+    alloc: Global,
+    rows: TextRows<'a, R>,
+    facts: PendingFacts,
+    progress: Progress,
+}
+
+impl<'a, R: Read + Drop> Model for TableBlocks<'a, R> {
+    ghost use Rattle.oim_decode.specs.Blocks.{BlocksLeft, blocks_left};
+
+    ghost Value = { BlocksLeft };
+
+    ghost view = { λ a. blocks_left a.rows a.facts a.progress };
+}
+
+impl<'a, R: Read + Drop> TableBlocks<'a, R> {
+    /// Reads the header of the table at this place of a report, past one byte-order mark. The rows
+    /// are at most `limits.rows`, itself at most 4,294,967,294.
+    ///
+    /// Fails with the header's first fault, in this order: NoHeader, UnknownHeader, RepeatedHeader,
+    /// NoRowIdColumn. Fails with Read where the reader failed, and with Memory where memory is
+    /// short.
+    pub fn open(
+        alloc: Global,
+        report: &'a Report,
+        table: usize,
+        reader: R,
+        limits: Limits,
+    ) -> Result<TableBlocks<'a, R>, TableFault>
+        requires place { table < length report.now.tables }
+        requires rows { limits.rows ≤ 4294967294 }
+
+        // The facts of the table, where its header has no fault.
+        ensures start { IfOk result (λ blocks. (blocks.table ≡ table) × (blocks.limit ≡ limits.rows) × (blocks.given ≡ 0) × (blocks.pending ≡ []) × (blocks.answered ≡ None)) }
+        ensures stream { IfSome (R.remaining reader) (λ bytes. IfOk result (λ blocks. blocks.left ≡ Some (stream_of report.now table limits.rows (grid bytes)))) }
+        ensures header { IfSome (R.remaining reader) (λ bytes. IfOk result (λ _. file_header_fault report.now table (grid bytes) ≡ None)) }
+
+        // Its fault, unless the reader failed or memory was refused.
+        ensures fault { IfSome (R.remaining reader) (λ bytes. IfErr result (λ e. IsOutside table e ⊎ (file_header_fault report.now table (grid bytes) ≡ Some e))) }
+    {
+        match TextRows::open(alloc, report, table, reader, limits.rows) {
+            Ok(rows) => Ok(TableBlocks {
+                alloc,
+                rows,
+                facts: PendingFacts::new(alloc),
+                progress: Progress::Reading,
+            }),
+            Err(fault) => Err(fault),
+        }
+    }
+}
+
+ghost use Rattle.std.specs.Prelude.{◌++◌, IsSome, List, OnSome};
+ghost use Rattle.oim_resolve.specs.FactParts.{FactParts as FactValue};
+ghost use Rattle.oim_decode.specs.Blocks.{ReadsRows};
+
+impl<R: Read + Drop> TableBlocks<'_, R> {
+    /// The next facts in header order and row by row, 1 to 256 of them, or None at the end. A block
+    /// has whole rows where they fit. `room` is where further texts are put, and may be that of an
+    /// earlier block. After the end or a fault it answers the same again and reads nothing.
+    ///
+    /// Fails, where the facts of all rows before were given, with the first fault of the first bad
+    /// row, in this order: Ragged, NotUtf8, TooManyRows, MissingRowId, BadRowId, RepeatedRowId, then
+    /// the faults of its cells from left to right. Fails with Read where the reader failed, and with
+    /// Memory where memory is short.
+    pub fn next_block(&mut self, room: Vec<u8>) -> Result<Option<Block>, TableFault>
+        ensures next { IfSome self.old.left (λ s. GivesBlock self.old.table self.old.pending s result self.new.pending self.new.left) }
+        ensures kept { KeepsAnswer result self.new.answered }
+        ensures again { IfSome self.old.answered (λ kept. self.old.pending ≡ [] → (result ≡ answer_of kept) × (self.new ≡ self.old)) }
+
+        // What holds of any reader.
+        ensures none { LeavesNone result self.new.pending }
+        ensures found { KeepsFound self.old result self.new }
+        ensures behind { self.old.answered ≡ None → ReadsBehind self.old self.new }
+        ensures counts { (self.old.given ≤ self.new.given) × (self.new.given ≤ self.new.limit) }
+        ensures moves { IfOk result (λ o. OnSome o ((self.old.given < self.new.given) ⊎ (1 ≤ length self.old.pending))) }
+
+        ensures same { (self.new.table ≡ self.old.table) × (self.new.limit ≡ self.old.limit) }
+    {
+        let whole = self.fill();
+        let count = self.facts.count();
+        if count == 0 {
+            return match self.progress {
+                Progress::Failed(fault) => Err(fault),
+                Progress::Reading | Progress::Ended => Ok(None),
+            };
+        }
+        match self.facts.take_block(self.alloc, share(count, whole), room) {
+            Ok(block) => Ok(Some(block)),
+            Err(_) => {
+                let fault = whole_fault(self.rows.table(), TableKind::Memory);
+                self.facts = PendingFacts::new(self.alloc);
+                self.progress = Progress::Failed(fault);
+                Err(fault)
+            }
+        }
+    }
+
+    // Reads rows until one more might have more facts than a block has room for, and says how many
+    // facts were there before the last row.
+    fn fill(&mut self) -> usize
+        ensures reads { IfSome self.old.left (λ s. (rows : List (List FactValue)) × ReadsRows self.old.table s rows self.new.left × (self.new.pending ≡ self.old.pending ++ facts_of_rows rows)) }
+        ensures settled { self.new.answered ≡ None → 1 ≤ length self.new.pending }
+        ensures behind { self.old.answered ≡ None → ReadsBehind self.old self.new }
+        ensures counts { (self.old.given ≤ self.new.given) × (self.new.given ≤ self.new.limit) }
+        ensures moves { (self.old.given < self.new.given) ⊎ (self.new.pending ≡ self.old.pending) }
+        ensures again { IsSome self.old.answered → self.new ≡ self.old }
+        ensures same { (self.new.table ≡ self.old.table) × (self.new.limit ≡ self.old.limit) }
+        ensures whole { result ≤ 256 }
+    {
+        let mut whole = 0;
+        let width = self.rows.width();
+        while has_room(self.facts.count(), width) {
+            match self.progress {
+                Progress::Reading => {}
+                Progress::Ended | Progress::Failed(_) => return whole,
+            }
+            whole = self.facts.count();
+            match self.rows.next_row(&mut self.facts) {
+                Ok(true) => {}
+                Ok(false) => self.progress = Progress::Ended,
+                Err(fault) => self.progress = Progress::Failed(fault),
+            }
+        }
+        whole
+    }
+}
+
+// Whether a row of this many cells is read before the facts that are there are given: where there are
+// none, or where a block has room for one more of each cell.
+fn has_room(count: usize, width: usize) -> bool
+    ensures some { result ≡ false → 1 ≤ count }
+    ensures full { result ≡ false → 256 < count + width }
+    ensures most { result ≡ true → count ≤ 256 }
+    ensures room { result ≡ true → 1 ≤ count → count + width ≤ 256 }
+{
+    count == 0 || (width <= MOST && count <= MOST - width)
+}
+
+// How many of these facts make the next block, where `whole` of them stood before the last row: all
+// where they fit, else those of the whole rows, else as many as fit.
+fn share(count: usize, whole: usize) -> usize
+    requires some { 1 ≤ count }
+    requires whole { whole ≤ 256 }
+    ensures some { 1 ≤ result }
+    ensures most { result ≤ 256 }
+    ensures there { result ≤ count }
+    ensures all { count ≤ 256 → result ≡ count }
+    ensures rows { 256 < count → 1 ≤ whole → result ≡ whole }
+    ensures cut { 256 < count → whole ≡ 0 → result ≡ 256 }
+{
+    if count <= MOST {
+        return count;
+    }
+    if whole > 0 { whole } else { MOST }
+}

@@ -1,0 +1,199 @@
+//! The rows of one table that are not read yet.
+
+ghost use Rattle.std.specs.Prelude.{◌≡◌, ◌⊎◌, ◌≤◌, ◌<◌, ◌+◌, [], IfErr, IfOk, IfSome, None, OnOk, Some, length, option_map, true};
+ghost use Rattle.oim_records.specs.Grids.{grid};
+ghost use Rattle.oim_rows.specs.Header.{file_header_fault};
+ghost use Rattle.oim_rows.specs.RowFacts.{IsNewId, id_place_of, ids_after, row_fault, row_result};
+ghost use Rattle.oim_rows.specs.Streams.{IsOutside, early_row_answer, stream_of};
+ghost use Rattle.oim_decode.specs.Blocks.{AddsNone, AddsRow, CountsRow, TakesOne, has_row};
+ghost use Rattle.oim_decode.specs.RowTexts.{AddsFacts};
+
+use crate::table::pending_facts::PendingFacts;
+use crate::table::row_texts::RowTexts;
+use itoa::Buffer;
+use oim_fast::TableRow;
+use oim_records::{Fields, ReadFault, RecordReader};
+use oim_report::Report;
+use oim_rows::{RowForm, RowIds, TableFault, TableKind, fault_of_read, whole_fault};
+use std::alloc::{AllocError, Global};
+use std::io::Read;
+use std::marker::Model;
+
+/// The rows of one table that are not read yet. A contract sees how they are read, how many were, the stream of those left, where
+/// the reader tells its bytes, and the records left in the reader.
+#[derive(Drop)]
+pub(crate) struct TextRows<'a, R: Read + Drop> {
+    alloc: Global,
+    form: RowForm<'a>,
+    texts: RowTexts<'a>,
+    records: RecordReader<R>,
+    ids: RowIds,
+    given: u32,
+}
+
+impl<'a, R: Read + Drop> Model for TextRows<'a, R> {
+    ghost use Rattle.std.specs.Prelude.{◌≡◌, ◌≤◌, ◌<◌, ◌^◌, ◌-◌, ◌+◌, option_map};
+    ghost use Rattle.oim_rows.specs.Streams.{stream_from};
+    ghost use Rattle.oim_decode.specs.Blocks.{RowsUnread};
+
+    ghost Value = { RowsUnread };
+
+    ghost view = { λ a. record {
+      reading = a.form;
+      given = a.given;
+      left = option_map (stream_from a.form (a.given + 1) a.ids) a.records.left;
+      unread = a.records.left;
+    } };
+
+    ghost invariant = { λ a. (a.texts ≡ a.form) × (a.given ≤ a.form.limit) × (a.form.limit < 2 ^ 32 - 1) };
+}
+
+impl<'a, R: Read + Drop> TextRows<'a, R> {
+    /// Reads the header of a table. The rows are at most `limit`.
+    ///
+    /// Fails with the header's first fault, with Read where the reader failed, and with Memory where
+    /// memory is short.
+    pub(crate) fn open(
+        alloc: Global,
+        report: &'a Report,
+        table: usize,
+        reader: R,
+        limit: u32,
+    ) -> Result<TextRows<'a, R>, TableFault>
+        requires place { table < length report.now.tables }
+        requires rows { limit ≤ 4294967294 }
+        ensures start { IfOk result (λ rows. (rows.reading.table ≡ table) × (rows.reading.limit ≡ limit) × (rows.given ≡ 0)) }
+        ensures stream { IfSome (R.remaining reader) (λ bytes. IfOk result (λ rows. rows.left ≡ Some (stream_of report.now table limit (grid bytes)))) }
+        ensures header { IfSome (R.remaining reader) (λ bytes. IfOk result (λ _. file_header_fault report.now table (grid bytes) ≡ None)) }
+        ensures fault { IfSome (R.remaining reader) (λ bytes. IfErr result (λ e. IsOutside table e ⊎ (file_header_fault report.now table (grid bytes) ≡ Some e))) }
+    {
+        let mut records = match RecordReader::open(alloc, reader) {
+            Ok(records) => records,
+            Err(fault) => return Err(fault_of_read(table, fault)),
+        };
+        let form = match RowForm::read(alloc, report, table, limit, &mut records) {
+            Ok(form) => form,
+            Err(fault) => return Err(fault),
+        };
+        let Ok(texts) = RowTexts::new(alloc, &form) else {
+            return Err(whole_fault(table, TableKind::Memory));
+        };
+        Ok(TextRows {
+            alloc,
+            form,
+            texts,
+            records,
+            ids: RowIds::new(alloc),
+            given: 0,
+        })
+    }
+}
+
+impl<R: Read + Drop> TextRows<'_, R> {
+    /// How many cells a row has, and so at most how many facts.
+    pub(crate) fn width(&self) -> usize
+        ensures value { result ≡ length (self.now).reading.header }
+        ensures within { (self.now).given ≤ (self.now).reading.limit }
+    {
+        self.form.header().len()
+    }
+
+    /// The place of the table in its report.
+    pub(crate) fn table(&self) -> usize
+        ensures { result ≡ (self.now).reading.table }
+    {
+        self.form.table()
+    }
+
+    /// Adds the facts of the next row to others. False at the end: then nothing is added.
+    ///
+    /// Fails with the row's first fault, with Read where the reader failed, and with Memory where
+    /// memory is short, and then nothing is added.
+    pub(crate) fn next_row(&mut self, facts: &mut PendingFacts) -> Result<bool, TableFault>
+        ensures next { IfSome self.old.left (λ s. AddsRow self.old.reading.table s facts.old facts.new result self.new.left) }
+        ensures reading { self.new.reading ≡ self.old.reading }
+        ensures counts { CountsRow self.old.reading.limit result self.old.given self.new.given }
+        ensures none { AddsNone result facts.old facts.new }
+        ensures unread { IfSome self.old.unread (λ rs. TakesOne self.old.reading.table rs result self.new.unread) }
+    {
+        let found = self.records.read();
+        let number = self.given + 1;
+        let fields = self.records.fields();
+        if let Some(answer) = early_answer(&self.form, number, &self.ids, found, &fields) {
+            return answer;
+        }
+        let Some(texts) = self.records.text_fields() else {
+            unreachable!()
+        };
+        let mut buffer = Buffer::new();
+        let row = TableRow::new(&self.form, number, buffer.format(number), &texts);
+        match add_row(
+            self.alloc,
+            &mut self.texts,
+            &mut self.ids,
+            &row,
+            &fields,
+            facts,
+        ) {
+            Ok(()) => {
+                self.given = number;
+                Ok(true)
+            }
+            Err(fault) => Err(fault),
+        }
+    }
+}
+
+/// What the reader's answer for row `number` gives without memory: the reader's own fault, the end, or a
+/// fault of the row itself. None where the row's cells are to be read.
+fn early_answer(
+    form: &RowForm<'_>,
+    number: u32,
+    ids: &RowIds,
+    found: Result<bool, ReadFault>,
+    row: &Fields<'_>,
+) -> Option<Result<bool, TableFault>>
+    ensures { result ≡ option_map has_row (early_row_answer form.now number ids.now found row.now) }
+{
+    match found {
+        Ok(true) => {
+            let fault = form.fault_of_row(number, ids, row)?;
+            Some(Err(fault))
+        }
+        Ok(false) => Some(Ok(false)),
+        Err(fault) => Some(Err(fault_of_read(form.table(), fault))),
+    }
+}
+
+/// Adds the identifier of a row to those before it, where its table has a column for them. Fails where memory is short.
+fn keep_id(alloc: Global, row: &TableRow<'_, '_>, ids: &mut RowIds) -> Result<(), AllocError>
+    requires { IsNewId (id_place_of row.now.form) ids.old row.now.fields }
+    ensures { OnOk result (ids.new ≡ ids_after (id_place_of row.now.form) ids.old row.now.fields) }
+{
+    if let Some(place) = row.form().id_place() {
+        ids.push(alloc, row.text_at(Some(place)))?;
+    }
+    Ok(())
+}
+
+/// Adds the facts of a row to others. Apart from its cells the row has no fault.
+fn add_row<'a>(
+    alloc: Global,
+    texts: &mut RowTexts<'a>,
+    ids: &mut RowIds,
+    row: &TableRow<'a, '_>,
+    fields: &Fields<'_>,
+    facts: &mut PendingFacts,
+) -> Result<(), TableFault>
+    requires form { row.now.form ≡ texts.old }
+    requires fields { fields.now ≡ row.now.fields }
+    requires row { row_fault row.now.form row.now.number ids.old row.now.fields ≡ None }
+    ensures facts { AddsFacts row.now.form.table (row_result row.now.form row.now.number ids.old row.now.fields) facts.old facts.new result }
+    ensures ids { OnOk result (ids.new ≡ ids_after (id_place_of row.now.form) ids.old row.now.fields) }
+    ensures same { texts.new ≡ texts.old }
+{
+    if keep_id(alloc, row, ids).is_err() {
+        return Err(whole_fault(row.table(), TableKind::Memory));
+    }
+    facts.push_row(alloc, texts, row, fields)
+}

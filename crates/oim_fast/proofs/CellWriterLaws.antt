@@ -1,0 +1,161 @@
+-- What is ready for the cells of a table's rows, and what is written of a cell.
+use Rattle.std.proofs.Common.{◌≡◌, ◌<◌, ◌^◌, ℕ, zero, suc, Bool, true, false, List, [], ◌∷◌, ◌++◌, length, map, set, get_or, Option, Some, None, IfSome, Result, Ok, Err, codes, refl, sym, ap, subst, ◌∙◌, arith, append-nil, append_assoc}
+use Rattle.std.specs.List.{All, list_all, slice_get}
+use Rattle.std.specs.Prelude.{if◌then◌else◌}
+use Rattle.std.proofs.lemmas.List.{get_or-map, length-map}
+use Rattle.std.proofs.lemmas.Option.{slice_get_within}
+use Rattle.oim_cells.specs.Cells.{Meaning, meaning_of}
+use Rattle.oim_json.specs.JsonText.{is_unescaped}
+use Rattle.oim_report.specs.ReportValue.{ReportValue}
+use Rattle.oim_report.specs.declared.data.Level.{Level}
+use Rattle.oim_report.specs.declared.data.WrittenDecimals.{WrittenDecimals}
+use Rattle.oim_report.specs.declared.kind.Kind.{Kind}
+use Rattle.oim_resolve.specs.FactValues.{text_in, value_given}
+use Rattle.oim_resolve.specs.Facts.{cell_result, fact_meaning, fact_of, is_absent, is_dropped, is_numeric}
+use Rattle.oim_resolve.specs.Written.{levels}
+use Rattle.oim_rows.specs.RowFacts.{Reading, field_or_empty}
+use Rattle.oim_fast.specs.CellValues.{IsValue}
+use Rattle.oim_fast.specs.CellWriters.{IsCellWriter, IsInRow, PutsCell, column_at}
+use Rattle.oim_fast.specs.Columns.{AreFactColumns, IsFactColumn}
+use Rattle.oim_fast.specs.FactTexts.{AddsFact, IsOfReferences, IsWithin, PutsFact, object_text, value_of}
+use Rattle.oim_fast.specs.Facts.{WritesFact, fact_text, start_text}
+use Rattle.oim_resolve.specs.FactParts.{FactParts as Fact}
+use mathlib.Core.List.{IsPrefix}
+use Rattle.oim_fast.specs.declared.table.cell_writer.CellWriter.{CellWriter}
+use Rattle.oim_fast.proofs.MakerLaws.{ready_again}
+use Rattle.oim_fast.specs.FrameTexts.{FrameValue, Segment, with_part, with_value}
+use Rattle.oim_fast.specs.Frames.{AreFrameDecimals, IsTextOf, no_dimensions, with_parts}
+use Rattle.oim_fast.specs.KeptFrames.{IsTextFor}
+use Rattle.oim_fast.specs.Parts.{IsPart, IsPartValue}
+use Rattle.oim_fast.specs.References.{IsFresh, Key, ReferenceValue, key_of}
+use Rattle.oim_fast.specs.Rows.{RowValue, cell_in, column_in, columns_in}
+use Rattle.oim_fast.specs.declared.frame.fact_column.FactColumn.{FactColumn}
+use Rattle.oim_fast.specs.declared.frame.frame_decimals.FrameDecimals.{FrameDecimals}
+use Rattle.oim_fast.specs.declared.frame.frame_decimals.FrameDecimals.TheVariants as decimals
+use Rattle.oim_fast.specs.declared.frame.part.Part.{Part}
+use Rattle.oim_fast.specs.declared.frame.part.PartValue.{PartValue}
+use Rattle.oim_fast.specs.declared.frame.part.PartValue.TheVariants as part
+use Rattle.oim_fast.specs.declared.frame.value.Value.{Value}
+use Rattle.oim_fast.specs.declared.row.group_cells.GroupCell.{GroupCell}
+use Rattle.oim_fast.proofs.FoundLaws.{absent_given, fact_given, text_given}
+use Rattle.oim_fast.proofs.FrameLaws.{levels_are}
+use Rattle.oim_fast.proofs.Growth.{all_push}
+use Rattle.oim_fast.proofs.PlainNumerals.{given_is_plain}
+use Rattle.oim_fast.proofs.Refreshed.{set_all, set_map}
+use Rattle.oim_fast.proofs.RowLaws.{text_is}
+use Rattle.oim_fast.proofs.SoundLaws.{chosen_sound}
+
+-- THE REFERENCES OF A FRAME
+
+module _ (f : Reading) (rs : List ReferenceValue) where
+  abbrev HasReference : Segment → Type 0
+  HasReference s = s.reference < length rs
+
+  key_within : (i : ℕ) (k : Key) → slice_get (map key_of rs) i ≡ Some k → i < length rs
+  key_within i k e = omega (arith, slice_get_within (map key_of rs) i k e, length-map rs key_of)
+
+  value_within : (t : FrameValue) (n text : List ℕ) (w : Rattle.oim_report.specs.declared.data.Written.Written) (v : PartValue) → IsPartValue f (map key_of rs) n w text v → All HasReference t.segments
+      → All HasReference (with_value t text v).segments
+  value_within t n text w part.Nothing h all = all
+  value_within t n text w part.Text h all = all
+  value_within t n text w (part.Reference i) (to, is) all = all_push HasReference t.segments (record { alone = t.rest; name = text; reference = i }) all (key_within i _ to.there)
+  value_within t n text w part.Unknown h all = all
+
+  part_within : (t : FrameValue) (p : Part) → IsPart f (map key_of rs) p → All HasReference t.segments → All HasReference (with_part t p).segments
+  part_within t p is all = by (is_dropped t.kind p.role)
+    where
+      by : (b : Bool) → All HasReference (if b then t else with_value t p.text.items p.value).segments
+      by true = all
+      by false = value_within t p.name.now p.text.items p.written.now p.value is.value all
+
+  parts_within : (t : FrameValue) (ps : List Part) → All (IsPart f (map key_of rs)) ps → All HasReference t.segments → All HasReference (with_parts t ps).segments
+  parts_within t [] are all = all
+  parts_within t (p ∷ ps) are all = parts_within (with_part t p) ps (λ k d lt. are (suc k) d (omega arith)) (part_within t p (are 0 p (omega arith)) all)
+
+  decimals_within : (o : Option WrittenDecimals) (text : List ℕ) (d : FrameDecimals) → AreFrameDecimals f (map key_of rs) o text d → IsWithin (length rs) d
+  decimals_within o text decimals.Settled h = tt
+  decimals_within None text (decimals.Reference i) h = absurd (cc (h.1))
+  decimals_within (Some w) text (decimals.Reference i) (none, source, is, at) = key_within i _ at
+  decimals_within o text decimals.Unknown h = tt
+
+  pub of_references : (ls : List Level) (lead : List ℕ) (t : FrameValue) → IsTextOf f (map key_of rs) ls lead t → IsOfReferences (length rs) t
+  of_references ls lead t h = record {
+    dimensions = subst (λ (q : FrameValue). All HasReference q.segments) (sym h.text)
+        (parts_within (no_dimensions t.kind t.lead t.settled t.decimals) h.parts h.are (λ k d lt. absurd (omega arith)));
+    decimals = λ number. decimals_within _ t.settled t.decimals (h.decimals.numbers number);
+    others = h.decimals.others;
+  }
+
+-- a number's value needs no escape
+pub value_is_plain : (r : ReportValue) (k : Kind) (m : Meaning) (v : Value) → IsValue r k m v → is_numeric k ≡ true → IfSome (value_of v) (λ t. list_all is_unescaped t ≡ true)
+value_is_plain r k m v h number = subst (λ (o : Option (List ℕ)). IfSome o (λ t. list_all is_unescaped t ≡ true)) (ap text_in h.given) (given_is_plain r k m number)
+
+-- A CELL
+
+-- what a cell of a column means
+pub cell_meaning : (x : RowValue) (cells : List GroupCell) (c : FactColumn) → IsFactColumn x.form cells c → meaning_of (field_or_empty x.fields (Some c.place)) ≡ fact_meaning (cell_in x c.column)
+cell_meaning x cells c h = ap meaning_of (ap (field_or_empty x.fields) (sym h.there) ∙ sym (text_is x c.column c.column h.range))
+
+pub nothing_written : (x : RowValue) (c : ℕ) (text : List ℕ) → is_absent (fact_meaning (cell_in x c)) ≡ true → WritesFact (cell_result (cell_in x c)) text text
+nothing_written x c text e = record { fact = None; is = absent_given (cell_in x c) e; text = sym (append-nil text) }
+
+module _ (x : RowValue) (cells : List GroupCell) (c : FactColumn) (rs : List ReferenceValue) (t : FrameValue) (v : Value) (start old new : List ℕ)
+    (few : x.number < 2 ^ 32) (column : IsFactColumn x.form cells c) (fresh : All (IsFresh x) rs) (text : IsTextFor x (map key_of rs) c.column t)
+    (value : IsValue x.form.report t.kind (fact_meaning (cell_in x c.column)) v) (begins : start ≡ start_text x) where
+  adds_fact : AddsFact rs t v start old new → WritesFact (cell_result (cell_in x c.column)) old new
+  adds_fact adds =
+      let here = cell_in x c.column in
+      let levels_is : IsTextOf x.form (map key_of rs) (levels here) (Rattle.oim_fast.specs.Facts.column_lead x.form c.column) t =
+      subst (λ (ls : List Level). IsTextOf x.form (map key_of rs) ls (Rattle.oim_fast.specs.Facts.column_lead x.form c.column) t) (sym (levels_are x c.column text.choices column.from text.chosen)) text.text in
+      record {
+        fact = Some (fact_of here);
+        is = fact_given x c.column few rs fresh t v levels_is text.concept value adds.dimensions adds.decimals value.known (chosen_sound x c.column (column_in x.form c.column).from text.choices column.from text.chosen);
+        text = adds.text ∙ ap (λ q. old ++ (q ++ object_text rs t v)) begins ∙ ap (λ q. old ++ q) (text_given x c.column few rs fresh t v levels_is text.concept value adds.dimensions adds.decimals);
+      }
+
+  pub puts_fact : {E : Type 0} (r : Result Bool E) → PutsFact rs t v start old new r → PutsCell x c.column old new r
+  puts_fact (Ok true) h = adds_fact h
+  puts_fact (Ok false) h = h
+  puts_fact (Err e) h = h
+
+-- THE COLUMNS
+
+pub column_there : (f : Reading) (cells : List GroupCell) (cs : List FactColumn) (i : ℕ) (c : FactColumn) → AreFactColumns f cells cs → i < length cs → c ≡ get_or cs i c → c.column ≡ column_at f i
+column_there f cells cs i c h lt is =
+    ap (λ (k : FactColumn). k.column) is ∙ sym (get_or-map (λ (k : FactColumn). k.column) cs i c 0 lt) ∙ ap (λ ys. get_or ys i 0) h.columns
+
+pub columns_length : (f : Reading) (cells : List GroupCell) (cs : List FactColumn) → AreFactColumns f cells cs → length cs ≡ length (Rattle.oim_fast.specs.Columns.fact_columns_in f f.header)
+columns_length f cells cs h = sym (length-map cs (λ (k : FactColumn). k.column)) ∙ ap length h.columns
+
+-- a column was looked up
+pub column_set : (f : Reading) (cells later : List GroupCell) (cs : List FactColumn) (i : ℕ) (c new : FactColumn) → AreFactColumns f cells cs → i < length cs → c ≡ get_or cs i c
+    → later ≡ cells → new.column ≡ c.column → IsFactColumn f later new → AreFactColumns f later (set cs i new)
+column_set f cells later cs i c new h lt is kept same column = record {
+  columns = set_map (λ (k : FactColumn). k.column) cs i c new lt is same ∙ h.columns;
+  are = set_all (IsFactColumn f later) cs i new (subst (λ (gs : List GroupCell). All (IsFactColumn f gs) cs) (sym kept) h.are) column;
+}
+
+-- what is ready in a row is ready for the rows of its form
+pub again : (x : RowValue) (w : CellWriter) → IsInRow x w → IsCellWriter x.form w
+again x w h = record { columns = h.columns; maker = ready_again x w.maker h.maker; frames = h.frames; lead = h.lead }
+
+-- a cell was done, or was left
+pub cell_done : {E : Type 0} (x : RowValue) (c : ℕ) (old new : List ℕ) (r : Result Bool E) (b : Bool) → PutsCell x c old new r → r ≡ Ok b → b ≡ true → WritesFact (cell_result (cell_in x c)) old new
+cell_done x c old new (Ok true) b h e k = h
+cell_done x c old new (Ok false) b h e k = absurd (cc (e, k))
+cell_done x c old new (Err f) b h e k = absurd (cc e)
+
+pub cell_left : {E : Type 0} (x : RowValue) (c : ℕ) (old new : List ℕ) (r : Result Bool E) (b : Bool) → PutsCell x c old new r → r ≡ Ok b → b ≡ false → new ≡ old
+cell_left x c old new (Ok true) b h e k = absurd (cc (e, k))
+cell_left x c old new (Ok false) b h e k = h
+cell_left x c old new (Err f) b h e k = h
+
+pub cell_failed : {E : Type 0} (x : RowValue) (c : ℕ) (old new : List ℕ) (r : Result Bool E) (e : E) → PutsCell x c old new r → r ≡ Err e → new ≡ old
+cell_failed x c old new (Ok b) e h is = absurd (cc is)
+cell_failed x c old new (Err f) e h is = h
+
+pub behind : {A : Type 0} (xs ys zs : List A) → IsPrefix xs ys → IsPrefix ys zs → IsPrefix xs zs
+behind xs ys zs p q = (p.0 ++ q.0, sym (append_assoc xs p.0 q.0) ∙ ap (λ t. t ++ q.0) p.1 ∙ q.1)
+
+pub wrote_behind : {E : Type 0} {answer : Result (Option Fact) E} {old new : List ℕ} → WritesFact answer old new → IsPrefix old new
+wrote_behind g = (fact_text g.fact, sym g.text)

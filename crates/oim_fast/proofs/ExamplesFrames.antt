@@ -1,0 +1,47 @@
+-- Worked cases of the definitions of frames.
+use Rattle.std.proofs.Common.{◌≡◌, ℕ, [], ◌∷◌, ◌++◌, Some, None, refl}
+use Rattle.std.specs.Option.{option_to_list}
+use Rattle.oim_cells.specs.declared.cells.NumberKind.TheVariants.{Decimal}
+use Rattle.oim_report.specs.declared.kind.Kind.TheVariants as kind
+use Rattle.oim_rows.specs.RowFacts.{Reading}
+use Rattle.oim_fast.specs.Columns.{fact_columns_in}
+use Rattle.oim_fast.specs.Frames.{groups_chosen}
+use Rattle.oim_fast.specs.Groups.{choice_in, group_at}
+use Rattle.oim_fast.specs.KeptFrames.{kind_code, text_in, text_of}
+use Rattle.oim_fast.specs.Rows.{column_in}
+use Rattle.oim_fast.specs.declared.frame.frame.Body.TheVariants as body
+use Rattle.oim_fast.specs.declared.row.group_cells.Choice.TheVariants as choice
+
+-- a header cell that is empty names no column
+empty_cell : (f : Reading) → fact_columns_in f (None ∷ []) ≡ []
+empty_cell f = refl
+
+-- a cell of groups that says nothing adds no level
+no_group : (f : Reading) (g : ℕ) → groups_chosen f (g ∷ []) (choice.Nothing ∷ []) ≡ []
+no_group f g = refl
+
+-- the groups stand from the most specific to the most general in `propertiesFrom`, and the other way round among the levels
+two_groups : (f : Reading) (g h a b : ℕ)
+    → groups_chosen f (g ∷ h ∷ []) (choice.Group a ∷ choice.Group b ∷ [])
+    ≡ option_to_list (group_at (column_in f g).groups (choice.Group a)) ++ (option_to_list (group_at (column_in f h).groups (choice.Group b)) ++ [])
+two_groups f g h a b = refl
+
+-- no two kinds have the same number, and none has that of no kind
+a_text : kind_code (Some kind.Text) ≡ 4
+a_text = refl
+
+a_number : kind_code (Some (kind.Number Decimal)) ≡ 2
+a_number = refl
+
+no_kind : kind_code None ≡ 0
+no_kind = refl
+
+-- there is no text where no frame stands, and a frame by concept has none
+no_frame : text_in [] 0 ≡ None
+no_frame = refl
+
+by_concept : text_of (body.ByConcept 3) ≡ None
+by_concept = refl
+
+no_cell : choice_in [] 0 ≡ choice.Unknown
+no_cell = refl

@@ -1,0 +1,101 @@
+-- The facts of a row, column by column.
+use Rattle.std.proofs.Common.{◌≡◌, ◌<◌, ◌≤◌, ℕ, zero, suc, ◌+◌, Bool, true, false, cond, List, [], ◌∷◌, ◌++◌, length, map, take, get_or, codes, Option, Some, None, Result, Ok, Err, refl, sym, ap, subst, ◌∙◌, arith, append_assoc, append-nil, length-append, take_all}
+use Rattle.std.specs.Option.{option_to_list}
+use Rattle.std.specs.Prelude.{if◌then◌else◌}
+use Rattle.std.proofs.lemmas.List.{take_more}
+use mathlib.Core.List.{IsPrefix}
+use Rattle.oim_json.specs.Blocks.{behind_comma, behind_commas, ends_from}
+use Rattle.oim_json.specs.JsonText.{member_text}
+use Rattle.oim_json.proofs.Blocks.{ends_push, texts_append, texts_push}
+use Rattle.oim_resolve.specs.Cell.{cell_of}
+use Rattle.oim_resolve.specs.FactParts.{FactParts as Fact}
+use Rattle.oim_resolve.specs.Facts.{cell_result}
+use Rattle.oim_rows.specs.Header.{Header}
+use Rattle.oim_rows.specs.RowFacts.{at_place, facts_from, in_front, is_fact_column}
+use Rattle.oim_rows.specs.declared.fault.TableFault.{TableFault}
+use Rattle.oim_fast.specs.CellWriters.{GiveFacts, HasFacts, column_at}
+use Rattle.oim_fast.specs.Columns.{fact_columns_in}
+use Rattle.oim_fast.specs.Facts.{WritesFact, WritesFacts, fact_text}
+use Rattle.oim_fast.specs.Rows.{RowValue, cell_in, columns_in, row_in}
+
+-- one column more
+give_more : (x : RowValue) (cs : List ℕ) (c : ℕ) (fs : List Fact) (o : Option Fact) → GiveFacts x cs fs → cell_result (cell_in x c) ≡ Ok o → GiveFacts x (cs ++ c ∷ []) (fs ++ option_to_list o)
+give_more x [] c fs o h e = (o, [], e, ap (λ q. q ++ option_to_list o) h ∙ sym (append-nil (option_to_list o)), refl)
+give_more x (k ∷ cs) c fs o (p, more, is, same, rest) e =
+    (p, more ++ option_to_list o, is, ap (λ q. q ++ option_to_list o) same ∙ append_assoc (option_to_list p) more (option_to_list o), give_more x cs c more o rest e)
+
+joined_front : (o : Option Fact) (fs : List Fact) → in_front (Ok o) (Ok fs) ≡ Ok (option_to_list o ++ fs)
+joined_front None fs = refl
+joined_front (Some f) fs = refl
+
+-- what the columns of facts of a header give is what the header gives
+facts_found : (x : RowValue) (p : ℕ) (h : Header) (fs : List Fact) → GiveFacts x (fact_columns_in x.form h) fs → facts_from x.form.report x.form.table (row_in x) p h ≡ Ok fs
+facts_found x p [] fs g = ap (λ (q : List Fact). Ok q) (sym g)
+facts_found x p (None ∷ h) fs g = facts_found x (p + 1) h fs g
+facts_found x p (Some c ∷ h) fs g = by (λ gs k. facts_found x (p + 1) h gs k) (is_fact_column (columns_in x.form) c) g
+  where
+    later : Result (List Fact) TableFault
+    later = facts_from x.form.report x.form.table (row_in x) (p + 1) h
+
+    by : ((gs : List Fact) → GiveFacts x (fact_columns_in x.form h) gs → later ≡ Ok gs) → (b : Bool) → GiveFacts x (if b then c ∷ fact_columns_in x.form h else fact_columns_in x.form h) fs
+        → in_front (if b then at_place x.form.table (row_in x).number (p + 1) (cell_result (cell_of x.form.report x.form.table (row_in x) c)) else Ok None) later ≡ Ok fs
+    by found true (o, more, is, same, rest) =
+        ap (λ a. in_front (at_place x.form.table (row_in x).number (p + 1) a) later) is
+        ∙ ap (in_front (Ok o)) (found more rest) ∙ joined_front o more ∙ ap (λ (q : List Fact). Ok q) (sym same)
+    by found false rest = found fs rest
+
+text_step : (o : Option Fact) → behind_commas (option_to_list o) ≡ fact_text o
+unfolding behind_commas
+text_step None = refl
+text_step (Some f) = append-nil (codes "," ++ member_text f)
+
+-- the end of a text that came is noted
+noted_more : (old now next noted ns ms : List ℕ) (fs : List Fact) (o : Option Fact) → now ≡ old ++ behind_commas fs → next ≡ now ++ fact_text o → ns ≡ noted ++ ends_from (length old) fs
+    → (length now < length next → ms ≡ ns ++ length next ∷ []) → (length next ≤ length now → ms ≡ ns) → ms ≡ noted ++ ends_from (length old) (fs ++ option_to_list o)
+noted_more old now next noted ns ms fs None is grown marks more none =
+    none (omega (arith, ap length grown, length-append now [])) ∙ marks ∙ ap (λ (gs : List Fact). noted ++ ends_from (length old) gs) (sym (append-nil fs))
+noted_more old now next noted ns ms fs (Some f) is grown marks more none =
+    let text : next ≡ old ++ behind_commas (fs ++ f ∷ []) =
+    grown ∙ ap (λ t. t ++ behind_comma f) is ∙ append_assoc old (behind_commas fs) (behind_comma f) ∙ ap (λ t. old ++ t) (sym (texts_push fs f)) in
+    let long : length next ≡ length old + length (behind_commas (fs ++ f ∷ [])) = ap length text ∙ length-append old (behind_commas (fs ++ f ∷ [])) in
+    let some : length (behind_comma f) ≡ suc (length (member_text f)) = refl in
+    let came : length next ≡ length now + length (behind_comma f) = ap length grown ∙ length-append now (behind_comma f) in
+    more (omega arith) ∙ ap (λ t. t ++ length next ∷ []) marks ∙ append_assoc noted (ends_from (length old) fs) (length next ∷ [])
+    ∙ ap (λ k. noted ++ (ends_from (length old) fs ++ k ∷ [])) long ∙ ap (λ t. noted ++ t) (sym (ends_push (length old) fs f))
+
+-- nothing is written and noted yet
+nothing_yet : (old noted : List ℕ) → (old ≡ old ++ behind_commas []) × (noted ≡ noted ++ ends_from (length old) [])
+unfolding behind_commas ends_from
+nothing_yet old noted = (sym (append-nil old), sym (append-nil noted))
+
+module _ (x : RowValue) where
+  abbrev columns : List ℕ
+  columns = fact_columns_in x.form x.form.header
+
+  pub none_yet : (old noted : List ℕ) → HasFacts x 0 old old noted noted
+  none_yet old noted = record { facts = []; are = refl; text = (nothing_yet old noted).0; ends = (nothing_yet old noted).1 }
+
+  pub one_more : (i : ℕ) (old now next noted ns ms : List ℕ) → i < length columns → HasFacts x i old now noted ns → WritesFact (cell_result (cell_in x (column_at x.form i))) now next
+      → (length now < length next → ms ≡ ns ++ length next ∷ []) → (length next ≤ length now → ms ≡ ns) → HasFacts x (i + 1) old next noted ms
+  one_more i old now next noted ns ms lt p g more none = record {
+    facts = p.facts ++ option_to_list g.fact;
+    are = subst (λ (cs : List ℕ). GiveFacts x cs (p.facts ++ option_to_list g.fact)) (sym (take_more columns i 0 lt)) (give_more x (take i columns) (column_at x.form i) p.facts g.fact p.are g.is);
+    text = g.text ∙ ap (λ q. q ++ fact_text g.fact) p.text ∙ append_assoc old (behind_commas p.facts) (fact_text g.fact)
+        ∙ ap (λ q. old ++ q) (ap (λ q. behind_commas p.facts ++ q) (sym (text_step g.fact)) ∙ sym (texts_append p.facts (option_to_list g.fact)));
+    ends = noted_more old now next noted ns ms p.facts g.fact p.text g.text p.ends more none;
+  }
+
+  pub all_given : (i : ℕ) (old new noted ns : List ℕ) → length columns ≤ i → HasFacts x i old new noted ns → WritesFacts x old new noted ns
+  all_given i old new noted ns le p = record {
+    facts = p.facts;
+    are = facts_found x 0 x.form.header p.facts (subst (λ (cs : List ℕ). GiveFacts x cs p.facts) (take_all i columns le) p.are);
+    text = p.text;
+    ends = p.ends;
+  }
+
+-- what was there stays
+pub text_stays : {x : RowValue} {i : ℕ} {old new noted ns : List ℕ} → HasFacts x i old new noted ns → IsPrefix old new
+text_stays p = (behind_commas p.facts, sym p.text)
+
+pub ends_stay : {x : RowValue} {i : ℕ} {old new noted ns : List ℕ} → HasFacts x i old new noted ns → IsPrefix noted ns
+ends_stay {x} {i} {old} p = (ends_from (length old) p.facts, sym p.ends)

@@ -1,0 +1,189 @@
+-- How the text of a frame is made of the parts of its entries.
+use Rattle.std.proofs.Common.{◌≡◌, ◌<◌, ◌+◌, ℕ, zero, suc, true, List, [], ◌∷◌, ◌++◌, codes, length, map, take, get_or, Option, Some, None, Ok, IfSome, refl, sym, ap, subst, ◌∙◌, append-nil, arith}
+use Rattle.std.specs.Prelude.{◌⊎◌, if◌then◌else◌, Bool, false}
+use Rattle.std.proofs.Common.{inr}
+use Rattle.std.specs.Borrow.{Bor}
+use Rattle.std.specs.List.{All, flat_map, slice_get}
+use Rattle.std.specs.Option.{option_map}
+use Rattle.std.proofs.lemmas.Grind.{flat_map-append}
+use Rattle.std.proofs.lemmas.List.{map-append, take_more}
+use Rattle.std.proofs.lemmas.Option.{slice_get_read}
+use Rattle.oim_report.specs.declared.data.Level.{Level}
+use Rattle.oim_report.specs.declared.data.Written.{Written}
+use Rattle.oim_report.specs.declared.kind.Kind.{Kind}
+use Rattle.oim_resolve.specs.Facts.{concept_read, is_dropped}
+use Rattle.oim_resolve.specs.ProgramCell.{held}
+use Rattle.oim_resolve.specs.Written.{written}
+use Rattle.oim_rows.specs.RowFacts.{Reading}
+use Rattle.oim_fast.specs.FrameTexts.{FrameValue, is_ready, with_part, with_value}
+use Rattle.oim_fast.specs.Frames.{AreKindDecimals, HasConstantKind, HasReferredKind, IsTextOf, are_ready, entry_of, levels_chosen, no_dimensions, with_parts}
+use Rattle.oim_fast.specs.Facts.{column_lead}
+use Rattle.oim_fast.specs.KeptFrames.{IsBody, kind_code}
+use Rattle.oim_fast.specs.Making.{AddsEntries, IsBodyOf, IsConcept, IsOpening, SaysConcept}
+use Rattle.oim_fast.specs.Parts.{IsPart, IsPartValue, IsReferred}
+use Rattle.oim_fast.specs.Pieces.{constant_meaning, named, written_entries}
+use Rattle.oim_fast.specs.Sources.{source_written}
+use Rattle.oim_fast.specs.References.{Grows, Key, ReferenceValue, key_of}
+use Rattle.oim_fast.specs.declared.frame.frame.Body.{Body}
+use Rattle.oim_fast.specs.declared.frame.frame_maker.Concept.{Concept}
+use Rattle.oim_fast.specs.declared.frame.frame_maker.Concept.TheVariants as concept
+use Rattle.oim_fast.specs.declared.frame.part.Part.{Part}
+use Rattle.oim_fast.specs.declared.row.group_cells.Choice.{Choice}
+use Rattle.oim_fast.specs.declared.frame.part.PartValue.{PartValue}
+use Rattle.oim_fast.specs.declared.frame.part.PartValue.TheVariants as part
+use Rattle.oim_fast.proofs.Growth.{all_append}
+use Rattle.oim_fast.proofs.KeyLaws.{kind_decimals_grow, parts_grow}
+
+-- PARTS
+
+pub parts_append : (t : FrameValue) (ps qs : List Part) → with_parts t (ps ++ qs) ≡ with_parts (with_parts t ps) qs
+parts_append t [] qs = refl
+parts_append t (p ∷ ps) qs = parts_append (with_part t p) ps qs
+
+pub ready_append : (t : FrameValue) (ps qs : List Part) → are_ready t ps → are_ready (with_parts t ps) qs → are_ready t (ps ++ qs)
+ready_append t [] qs h more = more
+ready_append t (p ∷ ps) qs h more = (h.0, ready_append (with_part t p) ps qs h.1 more)
+
+-- the entry of a part at a place
+pub entry_there : (xs : List Part) (i : ℕ) (p : Part) (e : List ℕ × Written) → i < length xs → p ≡ get_or xs i p → option_map entry_of (slice_get xs i) ≡ Some e → entry_of p ≡ e
+entry_there xs i p e lt is at =
+    let same : Some (entry_of p) ≡ Some e = sym (ap (option_map entry_of) (slice_get_read xs (length xs) i p refl lt is)) ∙ at in
+    cc
+
+pub entry_known : (xs : List Part) (i : ℕ) (p : Part) (n : List ℕ) (w : Written) → i < length xs → p ≡ get_or xs i p → p.name.now ≡ n → p.written.now ≡ w → option_map entry_of (slice_get xs i) ≡ Some (n, w)
+entry_known xs i p n w lt is name same =
+    ap (option_map entry_of) (slice_get_read xs (length xs) i p refl lt is) ∙ ap (λ (q : List ℕ). Some (q, p.written.now)) name ∙ ap (λ (q : Written). Some (n, q)) same
+
+pub there_in : {A B : Type 0} (f : A → B) (xs : List A) (i : ℕ) (y : B) → option_map f (slice_get xs i) ≡ Some y → i < length xs
+there_in f [] i y e = absurd (cc)
+there_in f (x ∷ xs) zero y e = omega arith
+there_in f (x ∷ xs) (suc i) y e = let more = there_in f xs i y e in omega (arith, more)
+
+module _ (f : Reading) where
+  pub adds_none : (keys : List Key) (t : FrameValue) → AddsEntries f keys [] t t
+  adds_none keys t = record { parts = []; entries = refl; are = λ k d lt. absurd (omega arith); ready = tt; text = refl }
+
+  pub adds_one : (keys : List Key) (n : List ℕ) (w : Written) (o : Option Written) (p : Part) (old new : FrameValue) → o ≡ Some w → entry_of p ≡ (n, w) → IsPart f keys p
+      → is_ready old p ≡ true → new ≡ with_part old p → AddsEntries f keys (named n o) old new
+  adds_one keys n w o p old new e is part ready text =
+      subst (λ q. AddsEntries f keys (named n q) old new) (sym e) (record {
+        parts = p ∷ [];
+        entries = ap (λ q. q ∷ []) is;
+        are = single;
+        ready = (ready, tt);
+        text = text;
+      })
+    where
+      single : All (IsPart f keys) (p ∷ [])
+      single zero d lt = part
+      single (suc k) d lt = absurd (omega arith)
+
+  pub adds_more : (keys : List Key) (es ds : List (List ℕ × Written)) (old mid new : FrameValue) → AddsEntries f keys es old mid → AddsEntries f keys ds mid new → AddsEntries f keys (es ++ ds) old new
+  adds_more keys es ds old mid new a b =
+      record {
+        parts = a.parts ++ b.parts;
+        entries = map-append entry_of a.parts b.parts ∙ ap (λ q. q ++ map entry_of b.parts) a.entries ∙ ap (λ q. es ++ q) b.entries;
+        are = all_append (IsPart f keys) a.parts b.parts a.are b.are;
+        ready = ready_append old a.parts b.parts a.ready (subst (λ (t : FrameValue). are_ready t b.parts) a.text b.ready);
+        text = b.text ∙ ap (λ (t : FrameValue). with_parts t b.parts) a.text ∙ sym (parts_append old a.parts b.parts);
+      }
+
+  pub adds_grow : (rs later : List ReferenceValue) (g : Grows rs later) (es : List (List ℕ × Written)) (old new : FrameValue) → AddsEntries f (map key_of rs) es old new → AddsEntries f (map key_of later) es old new
+  adds_grow rs later g es old new a = record { parts = a.parts; entries = a.entries; are = parts_grow f rs later g a.parts a.are; ready = a.ready; text = a.text }
+
+-- one name more
+pub entries_more : (ls : List Level) (ns : List (Bor (List ℕ))) (i : ℕ) (n : Bor (List ℕ)) → i < length ns → n ≡ get_or ns i n
+    → flat_map (λ q. named q (written ls q)) (held (take (i + 1) ns)) ≡ flat_map (λ q. named q (written ls q)) (held (take i ns)) ++ named n.now (written ls n.now)
+entries_more ls ns i n lt is =
+    let entry : List ℕ → List (List ℕ × Written) = λ q. named q (written ls q) in
+    ap (λ xs. flat_map entry (held xs)) (take_more ns i n lt ∙ ap (λ x. take i ns ++ x ∷ []) (sym is))
+    ∙ ap (flat_map entry) (map-append (λ (x : Bor (List ℕ)). x.now) (take i ns) (n ∷ []))
+    ∙ flat_map-append entry (held (take i ns)) (n.now ∷ [])
+    ∙ ap (λ es. flat_map entry (held (take i ns)) ++ es) (append-nil (entry n.now))
+
+-- THE TEXT
+
+-- a frame before its dimensions
+abbrev head_of : FrameValue → FrameValue
+head_of t = no_dimensions t.kind t.lead t.settled t.decimals
+
+by_value : (t : FrameValue) (text : List ℕ) (v : PartValue) → head_of (with_value t text v) ≡ head_of t
+by_value t text part.Nothing = refl
+by_value t text part.Text = refl
+by_value t text (part.Reference i) = refl
+by_value t text part.Unknown = refl
+
+head_kept : (t : FrameValue) (p : Part) → head_of (with_part t p) ≡ head_of t
+head_kept t p = by (is_dropped t.kind p.role)
+  where
+    by : (b : Bool) → head_of (if b then t else with_value t p.text.items p.value) ≡ head_of t
+    by true = refl
+    by false = by_value t p.text.items p.value
+
+heads_kept : (t : FrameValue) (ps : List Part) → head_of (with_parts t ps) ≡ head_of t
+heads_kept t [] = refl
+heads_kept t (p ∷ ps) = heads_kept (with_part t p) ps ∙ head_kept t p
+
+-- with the parts of all that levels write a frame is their text
+pub text_made : (f : Reading) (rs later : List ReferenceValue) (ls : List Level) (k : Kind) (lead : List ℕ) (old new : FrameValue) → Grows rs later → IsOpening f (map key_of rs) ls k lead old
+    → AddsEntries f (map key_of later) (written_entries ls) old new → (new.kind ≡ k) × IsTextOf f (map key_of later) ls lead new
+text_made f rs later ls k lead old new g start adds =
+    let head : head_of new ≡ old =
+    ap head_of adds.text ∙ heads_kept old adds.parts ∙ ap head_of start.start ∙ sym start.start in
+    let kind : new.kind ≡ old.kind = ap (λ (t : FrameValue). t.kind) head in
+    let decimals : AreKindDecimals f (map key_of later) ls old.kind old.settled old.decimals =
+    subst (λ (q : Kind). AreKindDecimals f (map key_of later) ls q old.settled old.decimals) (sym (ap (λ (t : FrameValue). t.kind) start.start)) (kind_decimals_grow f rs later g ls k old.settled old.decimals start.decimals) in (
+      kind ∙ ap (λ (t : FrameValue). t.kind) start.start,
+      record {
+        parts = adds.parts;
+        entries = adds.entries;
+        are = adds.are;
+        ready = subst (λ (t : FrameValue). are_ready t adds.parts) (sym head) adds.ready;
+        text = adds.text ∙ ap (λ (t : FrameValue). with_parts t adds.parts) (sym head);
+        lead = ap (λ (t : FrameValue). t.lead) head ∙ ap (λ (t : FrameValue). t.lead) start.start;
+        decimals = subst (λ (t : FrameValue). AreKindDecimals f (map key_of later) ls t.kind t.settled t.decimals) (sym head) decimals;
+      },
+    )
+
+-- where the concept's kind was given, or is the same in each row, it is the text's
+pub kind_made : (f : Reading) (ls : List Level) (n : ℕ) (k c : Kind) → k ≡ c → (n ≡ kind_code (Some c)) ⊎ HasConstantKind f ls c → (n ≡ kind_code (Some k)) ⊎ HasConstantKind f ls k
+kind_made f ls n k c e h = subst (λ (q : Kind). (n ≡ kind_code (Some q)) ⊎ HasConstantKind f ls q) (sym e) h
+
+-- THE CONCEPT
+
+pub part_there : (f : Reading) (keys : List Key) (xs : List Part) (i : ℕ) (p : Part) → All (IsPart f keys) xs → i < length xs → p ≡ get_or xs i p → IsPart f keys p
+part_there f keys xs i p all lt is = subst (IsPart f keys) (sym is) (all i p lt)
+
+pub referred_made : (f : Reading) (keys : List Key) (ls : List Level) (p : Part) (w : Written) (i : ℕ) → entry_of p ≡ (codes "concept", w) → IsPart f keys p → p.value ≡ part.Reference i
+    → written ls (codes "concept") ≡ Some w → HasReferredKind f keys ls i
+referred_made f keys ls p w i e is v there =
+    let value : IsPartValue f keys p.name.now p.written.now p.text.items (part.Reference i) = subst (IsPartValue f keys p.name.now p.written.now p.text.items) v is.value in
+    let name : p.name.now ≡ codes "concept" = ap (λ (q : List ℕ × Written). q.0) e in
+    let same : p.written.now ≡ w = ap (λ (q : List ℕ × Written). q.1) e in
+    record { concept = w; written = there; referred = subst (λ (n : List ℕ). IsReferred f keys n w i) name (subst (λ (q : Written). IsReferred f keys p.name.now q i) same value.0) }
+
+pub constant_made : (f : Reading) (keys : List Key) (ls : List Level) (p : Part) (w : Written) (k : Kind) (n : List ℕ) → entry_of p ≡ (n, w) → IsPart f keys p → p.kind ≡ Some k
+    → written ls (codes "concept") ≡ Some w → HasConstantKind f ls k
+constant_made f keys ls p w k n e is v there =
+    let written_same : p.written.now ≡ w = ap (λ (q : List ℕ × Written). q.1) e in
+    let same : source_written f p.written.now ≡ None = subst (λ (o : Option Kind). IfSome o (λ q. source_written f p.written.now ≡ None)) v is.same in
+    let kind : concept_read f.report (constant_meaning f p.written.now) ≡ Ok k = subst (λ (o : Option Kind). IfSome o (λ q. concept_read f.report (constant_meaning f p.written.now) ≡ Ok q)) v is.concept in
+    record {
+      concept = w;
+      written = there;
+      same = ap (source_written f) (sym written_same) ∙ same;
+      kind = ap (λ (q : Written). concept_read f.report (constant_meaning f q)) (sym written_same) ∙ kind;
+    }
+
+pub concept_made : (f : Reading) (keys : List Key) (ls : List Level) (p : Part) (w : Written) (n : ℕ) (v : Concept) → entry_of p ≡ (codes "concept", w) → IsPart f keys p → SaysConcept p v
+    → written ls (codes "concept") ≡ Some w → IsConcept f keys ls n v
+concept_made f keys ls p w n (concept.Constant k) e is says there = inr (constant_made f keys ls p w k (codes "concept") e is says there)
+concept_made f keys ls p w n (concept.Reference i) e is says there = referred_made f keys ls p w i e is says there
+concept_made f keys ls p w n concept.Unknown e is says there = tt
+
+-- THE BODY
+
+pub body_made : (f : Reading) (keys : List Key) (c : ℕ) (os : List Choice) (n : ℕ) (k : Kind) (o : Option FrameValue) (b : Body) → IfSome o (λ t. (t.kind ≡ k) × IsTextOf f keys (levels_chosen f c os) (column_lead f c) t)
+    → (n ≡ kind_code (Some k)) ⊎ HasConstantKind f (levels_chosen f c os) k → IsBodyOf o b → IsBody f keys c os n b
+body_made f keys c os n k None b h by is = subst (IsBody f keys c os n) (sym is) tt
+body_made f keys c os n k (Some t) b h by is = subst (IsBody f keys c os n) (sym is) (h.1, kind_made f (levels_chosen f c os) n t.kind k h.0 by)

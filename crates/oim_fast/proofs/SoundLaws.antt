@@ -1,0 +1,238 @@
+-- A cell has no fault in its groups, its concept, its dimensions and its decimals where something is known of its frame and no reference of the frame has a fault.
+use Rattle.std.proofs.Common.{◌≡◌, ◌<◌, ◌^◌, ℕ, zero, suc, Bool, true, false, cond, ◌&&◌, ◌||◌, List, [], ◌∷◌, ◌++◌, length, map, Option, Some, None, Result, Ok, Err, codes, is_ok, refl, sym, ap, subst, ◌∙◌, arith}
+use Rattle.std.specs.List.{All, flat_map, list_any, slice_get}
+use Rattle.std.specs.Option.{option_and_then, option_map_or}
+use Rattle.std.specs.Prelude.{if◌then◌else◌}
+use Rattle.oim_cells.specs.Cells.{Meaning, meaning_of}
+use Rattle.oim_cells.specs.Cells as m
+use Rattle.oim_json.specs.JsonText.{decimals_text}
+use Rattle.oim_report.specs.ReportValue.{ReportValue}
+use Rattle.oim_report.specs.declared.data.Column.{Column as AColumn}
+use Rattle.oim_report.specs.declared.data.Side.{Side}
+use Rattle.oim_report.specs.declared.data.Side.TheVariants as side
+use Rattle.oim_report.specs.declared.data.Written.{Written}
+use Rattle.oim_report.specs.declared.data.WrittenDecimals.{WrittenDecimals}
+use Rattle.oim_report.specs.declared.kind.Kind.{Kind}
+use Rattle.oim_resolve.specs.Cell.{Cell, meaning_at}
+use Rattle.oim_resolve.specs.Facts.{dimension_faults, entry_given, is_dropped, is_unknown, names_no_group, places, role_of, stated_accuracy, stated_by, stated_faults, stated_read, value_faults_of, value_read}
+use Rattle.oim_resolve.specs.Faults.{least, unless}
+use Rattle.oim_resolve.specs.Values.{Read, Stated, side_of, value}
+use Rattle.oim_resolve.specs.Written.{levels, written}
+use Rattle.oim_resolve.specs.declared.fact.CellFault.{CellFault}
+use Rattle.oim_resolve.specs.declared.role.Role.{Role}
+use Rattle.oim_resolve.specs.declared.role.Role.TheVariants as role
+use Rattle.oim_rows.specs.RowFacts.{field_or_empty, source_of_column}
+use Rattle.oim_fast.specs.Answers.{is_sound_for}
+use Rattle.oim_fast.specs.FactTexts.{frame_decimals, has_decimals}
+use Rattle.oim_fast.specs.FrameTexts.{FrameValue, Segment, is_known, is_ready, with_part, with_value}
+use Rattle.oim_fast.specs.Frames.{AreFrameDecimals, Chooses, are_ready, entry_of, is_known_choice, with_parts}
+use Rattle.oim_fast.specs.Groups.{Names, Says}
+use Rattle.oim_fast.specs.Parts.{IsPart, IsPartValue}
+use Rattle.oim_fast.specs.Pieces.{AreSound, constant_stated, is_sound_dimension, named, written_entries}
+use Rattle.oim_fast.specs.References.{IsFresh, Key, ReferenceValue, given_by, is_sound_by, key_of, meaning_at_hand}
+use Rattle.oim_fast.specs.Rows.{RowValue, cell_in, column_in, columns_in}
+use Rattle.oim_fast.specs.Sources.{source_text}
+use Rattle.oim_fast.specs.declared.frame.frame_decimals.FrameDecimals.{FrameDecimals}
+use Rattle.oim_fast.specs.declared.frame.frame_decimals.FrameDecimals.TheVariants as decimals
+use Rattle.oim_fast.specs.declared.frame.part.Part.{Part}
+use Rattle.oim_fast.specs.declared.frame.part.PartValue.{PartValue}
+use Rattle.oim_fast.specs.declared.frame.part.PartValue.TheVariants as part
+use Rattle.oim_fast.specs.declared.row.group_cells.Choice.{Choice}
+use Rattle.oim_fast.specs.declared.row.group_cells.Choice.TheVariants as choice
+use Rattle.oim_fast.proofs.FrameLaws.{kind_kept}
+use Rattle.oim_fast.proofs.PieceLaws.{all_at, found, given_at}
+use Rattle.oim_fast.proofs.RowLaws.{stated_constant, stated_referred, text_is, value_constant, value_referred}
+
+-- FAULTS
+
+no_least : {A : Type 0} (o : Option CellFault) (x : A) → is_ok (unless o (Ok x)) ≡ true → o ≡ None
+no_least None x e = refl
+no_least (Some f) x e = absurd (cc e)
+
+none_least : (fs : List CellFault) → least fs ≡ None → fs ≡ []
+none_least [] e = refl
+none_least (f ∷ fs) e = absurd (cc e)
+
+read_sound : (r : ReportValue) (o : Role) (s : Side) (v : Meaning) → is_ok (value_read r o s v) ≡ true → value_faults_of r o s v ≡ []
+read_sound r o s v e = none_least (value_faults_of r o s v) (no_least (least (value_faults_of r o s v)) (entry_given r o s v) e)
+
+stated_sound : (s : Stated) → is_ok (stated_read s) ≡ true → stated_faults s ≡ []
+stated_sound s e = none_least (stated_faults s) (no_least (least (stated_faults s)) (stated_accuracy s) e)
+
+-- GROUPS
+
+named_by : (k : AColumn) (v : Meaning) (o : Choice) → is_known_choice o ≡ true → Says k v o → Names k v o
+named_by k v choice.Nothing e h = h
+named_by k v (choice.Group g) e h = h
+named_by k v choice.Unknown e h = absurd (cc e)
+
+neither : (a b : Bool) → a ≡ false → b ≡ false → (a || b) ≡ false
+neither false false p q = refl
+neither true b p q = absurd (cc p)
+neither false true p q = absurd (cc q)
+
+-- the cells of groups have no fault
+pub record AreNamed (c : Cell) (gs : List ℕ) : Type 0 where
+  pub known : list_any (λ i. is_unknown (meaning_at c i)) gs ≡ false
+  pub named : list_any (names_no_group c) gs ≡ false
+
+pub chosen_sound : (x : RowValue) (c : ℕ) (gs : List ℕ) (os : List Choice) → All (λ g. g < length (columns_in x.form)) gs → Chooses x gs os → AreNamed (cell_in x c) gs
+chosen_sound x c [] [] within h = record { known = refl; named = refl }
+chosen_sound x c [] (o ∷ os) within h = absurd h
+chosen_sound x c (g ∷ gs) [] within h = absurd h
+chosen_sound x c (g ∷ gs) (o ∷ os) within h =
+    let more = chosen_sound x c gs os (λ k d lt. within (suc k) d (omega arith)) h.2 in
+    let text = text_is x c g (within 0 g (omega arith)) in
+    let one : Names (column_in x.form g) (meaning_at (cell_in x c) g) o =
+    subst (λ t. Names (column_in x.form g) (meaning_of t) o) (sym text) (named_by (column_in x.form g) (meaning_of (field_or_empty x.fields (source_of_column x.form.header g))) o h.0 h.1) in
+    record {
+      known = neither (is_unknown (meaning_at (cell_in x c) g)) (list_any (λ i. is_unknown (meaning_at (cell_in x c) i)) gs) one.known more.known;
+      named = neither (names_no_group (cell_in x c) g) (list_any (names_no_group (cell_in x c)) gs) one.named more.named;
+    }
+
+-- ONE DIMENSION
+
+module _ (c : Cell) (k : Kind) (n : List ℕ) where
+  no_faults : (b : Bool) (o : Role) → cond b [] (value_faults_of c.report o side.Whole m.Absent) ≡ []
+  no_faults true o = refl
+  no_faults false role.Concept = refl
+  no_faults false role.Entity = refl
+  no_faults false role.Period = refl
+  no_faults false role.Unit = refl
+  no_faults false role.Language = refl
+  no_faults false role.Explicit = refl
+  no_faults false role.Typed = refl
+
+  abbrev faults_by : Option Written → List CellFault
+  faults_by o = cond (is_dropped k (role_of c.report n)) [] (value_faults_of c.report (role_of c.report n) (option_map_or side_of o side.Whole) (option_map_or (value c) o m.Absent))
+
+  nothing_wrong : None ≡ written (levels c) n → dimension_faults c k n ≡ []
+  nothing_wrong e = sym (ap faults_by e) ∙ no_faults (is_dropped k (role_of c.report n)) (role_of c.report n)
+
+  sound_if : (b : Bool) (o : Role) (s : Side) (v : Meaning) → (b || is_ok (value_read c.report o s v)) ≡ true → cond b [] (value_faults_of c.report o s v) ≡ []
+  sound_if true o s v e = refl
+  sound_if false o s v e = read_sound c.report o s v e
+
+  sound_written : (x : Written) → Some x ≡ written (levels c) n → is_sound_dimension c.report k n (side_of x) (value c x) ≡ true → dimension_faults c k n ≡ []
+  sound_written x e h = sym (ap faults_by e) ∙ sound_if (is_dropped k (role_of c.report n)) (role_of c.report n) (side_of x) (value c x) h
+
+-- ALL DIMENSIONS
+
+module _ (c : Cell) (k : Kind) where
+  abbrev entries_by : List (List ℕ) → List (List ℕ × Written)
+  entries_by ns = flat_map (λ n. named n (written (levels c) n)) ns
+
+  sound_step : (n : List ℕ) (ns : List (List ℕ)) (o : Option Written) → o ≡ written (levels c) n → AreSound c k (named n o ++ entries_by ns)
+      → (AreSound c k (entries_by ns) → flat_map (dimension_faults c k) ns ≡ []) → dimension_faults c k n ++ flat_map (dimension_faults c k) ns ≡ []
+  sound_step n ns None e sound more = ap (λ fs. fs ++ flat_map (dimension_faults c k) ns) (nothing_wrong c k n e) ∙ more sound
+  sound_step n ns (Some x) e sound more =
+      ap (λ fs. fs ++ flat_map (dimension_faults c k) ns) (sound_written c k n x e (sound 0 (n, x) (omega arith)))
+      ∙ more (λ i d lt. sound (suc i) d (omega arith))
+
+  -- dimensions that are written without a fault
+  pub sound_faults : (ns : List (List ℕ)) → AreSound c k (entries_by ns) → flat_map (dimension_faults c k) ns ≡ []
+  sound_faults [] sound = refl
+  sound_faults (n ∷ ns) sound = sound_step n ns (written (levels c) n) refl sound (sound_faults ns)
+
+-- PARTS
+
+all_front : {A : Type 0} (P : A → Type 0) (xs ys : List A) → All P (xs ++ ys) → All P xs
+all_front P [] ys h k d lt = absurd (omega arith)
+all_front P (x ∷ xs) ys h zero d lt = h 0 x (omega arith)
+all_front P (x ∷ xs) ys h (suc k) d lt = all_front P xs ys (λ j e b. h (suc j) e (omega arith)) k d (omega arith)
+
+last_of : {A : Type 0} (P : A → Type 0) (xs : List A) (x : A) → All P (xs ++ x ∷ []) → P x
+last_of P [] x h = h 0 x (omega arith)
+last_of P (y ∷ xs) x h = last_of P xs x (λ j e b. h (suc j) e (omega arith))
+
+sound_either : (a b : Bool) → (a ≡ false → b ≡ true) → (a || b) ≡ true
+sound_either true b h = refl
+sound_either false b h = h refl
+
+module _ (x : RowValue) (c : ℕ) (few : x.number < 2 ^ 32) (rs : List ReferenceValue) (fresh : All (IsFresh x) rs) where
+  abbrev IsSoundSegment : Segment → Type 0
+  IsSoundSegment s = is_sound_by rs s.reference ≡ true
+
+  value_kept : (t : FrameValue) (text : List ℕ) (v : PartValue) → All IsSoundSegment (with_value t text v).segments → All IsSoundSegment t.segments
+  value_kept t text part.Nothing h = h
+  value_kept t text part.Text h = h
+  value_kept t text (part.Reference i) h = all_front IsSoundSegment t.segments _ h
+  value_kept t text part.Unknown h = h
+
+  part_kept : (t : FrameValue) (p : Part) → All IsSoundSegment (with_part t p).segments → All IsSoundSegment t.segments
+  part_kept t p = by (is_dropped t.kind p.role)
+    where
+      by : (b : Bool) → All IsSoundSegment (if b then t else with_value t p.text.items p.value).segments → All IsSoundSegment t.segments
+      by true h = h
+      by false h = value_kept t p.text.items p.value h
+
+  parts_kept : (t : FrameValue) (ps : List Part) → All IsSoundSegment (with_parts t ps).segments → All IsSoundSegment t.segments
+  parts_kept t [] h = h
+  parts_kept t (p ∷ ps) h = part_kept t p (parts_kept (with_part t p) ps h)
+
+  -- whether a reference has a fault in the row
+  pub sound_at : (i : ℕ) (key : Key) → slice_get (map key_of rs) i ≡ Some key → is_sound_by rs i ≡ is_sound_for x.form.report key.purpose (meaning_of (source_text x key.source))
+  sound_at i key e =
+      let at = found key_of rs i key e in
+      let r = at.0 in
+      let so = all_at (IsFresh x) rs i r fresh at.1 in
+      ap (λ o. option_map_or (λ (q : ReferenceValue). is_sound_for q.report q.key.purpose (meaning_at_hand q)) o false) at.1
+      ∙ ap (λ (q : ReportValue). is_sound_for q r.key.purpose (meaning_of r.text)) so.report
+      ∙ ap (λ (t : List ℕ). is_sound_for x.form.report r.key.purpose (meaning_of t)) so.text
+      ∙ ap (λ (k : Key). is_sound_for x.form.report k.purpose (meaning_of (source_text x k.source))) at.2
+
+  abbrev value_sound : List ℕ → Written → Meaning → Bool
+  value_sound n w v = is_ok (value_read x.form.report (role_of x.form.report n) (side_of w) v)
+
+  known_sound : (t : FrameValue) (n text : List ℕ) (w : Written) (v : PartValue) → is_known v ≡ true → IsPartValue x.form (map key_of rs) n w text v
+      → All IsSoundSegment (with_value t text v).segments → value_sound n w (value (cell_in x c) w) ≡ true
+  known_sound t n text w part.Nothing k (same, none) h = ap (value_sound n w) (value_constant x c w same.same) ∙ same.sound
+  known_sound t n text w part.Text k (same, is) h = ap (value_sound n w) (value_constant x c w same.same) ∙ same.sound
+  known_sound t n text w (part.Reference i) k (to, is) h =
+      ap (value_sound n w) (value_referred x c w to.source few to.written) ∙ sym (sound_at i _ to.there) ∙ last_of IsSoundSegment t.segments (record { alone = t.rest; name = text; reference = i }) h
+  known_sound t n text w part.Unknown k is h = absurd (cc k)
+
+  part_sound : (t : FrameValue) (p : Part) → IsPart x.form (map key_of rs) p → is_ready t p ≡ true → All IsSoundSegment (with_part t p).segments
+      → is_sound_dimension x.form.report t.kind p.name.now (side_of p.written.now) (value (cell_in x c) p.written.now) ≡ true
+  part_sound t p is ready h = sound_either (is_dropped t.kind (role_of x.form.report p.name.now)) (value_sound p.name.now p.written.now (value (cell_in x c) p.written.now)) kept
+    where
+      by : (b : Bool) → b ≡ false → (b || is_known p.value) ≡ true → All IsSoundSegment (if b then t else with_value t p.text.items p.value).segments
+          → value_sound p.name.now p.written.now (value (cell_in x c) p.written.now) ≡ true
+      by true e ready h = absurd (cc e)
+      by false e ready h = known_sound t p.name.now p.text.items p.written.now p.value ready is.value h
+
+      kept : is_dropped t.kind (role_of x.form.report p.name.now) ≡ false → value_sound p.name.now p.written.now (value (cell_in x c) p.written.now) ≡ true
+      kept e = by (is_dropped t.kind p.role) (ap (is_dropped t.kind) is.role ∙ e) ready h
+
+  -- what was added of known parts has no fault
+  pub parts_sound : (t : FrameValue) (ps : List Part) → All (IsPart x.form (map key_of rs)) ps → are_ready t ps → All IsSoundSegment (with_parts t ps).segments → AreSound (cell_in x c) t.kind (map entry_of ps)
+  parts_sound t [] are ready h i d lt = absurd (omega arith)
+  parts_sound t (p ∷ ps) are ready h zero d lt = part_sound t p (are 0 p (omega arith)) ready.0 (parts_kept (with_part t p) ps h)
+  parts_sound t (p ∷ ps) are ready h (suc i) d lt =
+      let more = parts_sound (with_part t p) ps (λ k e b. are (suc k) e (omega arith)) ready.1 h in
+      let kept : AreSound (cell_in x c) t.kind (map entry_of ps) = subst (λ (k : Kind). AreSound (cell_in x c) k (map entry_of ps)) (kind_kept t p) more in
+      kept i d (omega arith)
+
+  -- DECIMALS
+
+  -- decimals that are looked at have no fault, and are these
+  pub record AreStated (o : Option WrittenDecimals) (text : List ℕ) : Type 0 where
+    pub sound : stated_faults (stated_by (cell_in x c) o) ≡ []
+    pub is : text ≡ decimals_text (option_and_then places (stated_accuracy (stated_by (cell_in x c) o)))
+
+  stated_same : (w : WrittenDecimals) (s : Stated) (text : List ℕ) → stated_by (cell_in x c) (Some w) ≡ s → is_ok (stated_read s) ≡ true → text ≡ decimals_text (option_and_then places (stated_accuracy s))
+      → AreStated (Some w) text
+  stated_same w s text e sound is = record {
+    sound = ap stated_faults e ∙ stated_sound s sound;
+    is = is ∙ ap (λ q. decimals_text (option_and_then places (stated_accuracy q))) (sym e);
+  }
+
+  pub decimals_sound : (t : FrameValue) (o : Option WrittenDecimals) (d : FrameDecimals) → AreFrameDecimals x.form (map key_of rs) o t.settled d → has_decimals rs d ≡ true → AreStated o (frame_decimals rs t d)
+  unfolding decimals_text
+  decimals_sound t None decimals.Settled h k = record { sound = refl; is = h.0 }
+  decimals_sound t None (decimals.Reference i) h k = absurd (cc (h.1))
+  decimals_sound t None decimals.Unknown h k = absurd (cc k)
+  decimals_sound t (Some w) decimals.Settled h k = stated_same w (constant_stated x.form w) t.settled (stated_constant x c w h.0) h.1.0 h.1.1
+  decimals_sound t (Some w) (decimals.Reference i) (none, source, is, at) k =
+      stated_same w (Read (meaning_of (source_text x source))) (given_by rs i) (stated_referred x c w source few is) (sym (sound_at i _ at) ∙ k) (given_at x c few rs fresh i _ at)
+  decimals_sound t (Some w) decimals.Unknown h k = absurd (cc k)

@@ -1,0 +1,20 @@
+-- The text of a fact up to the identifier of its row, put together.
+use Rattle.std.proofs.Common.{◌≡◌, ℕ, ◌<◌, ◌^◌, List, ◌++◌, codes, sym, ap, ◌∙◌, append_assoc, true}
+use Rattle.std.specs.Prelude.{decimal}
+use Rattle.std.specs.List.{flat_map, list_all}
+use Rattle.std.proofs.lemmas.Grind.{flat_map-append}
+use Rattle.oim_json.specs.JsonText.{escaped_byte}
+
+pub lead_put : (id : List ℕ) → (codes ",\"" ++ flat_map escaped_byte id) ++ codes "." ≡ codes ",\"" ++ flat_map escaped_byte (id ++ codes ".")
+unfolding escaped_byte
+lead_put id = append_assoc (codes ",\"") (flat_map escaped_byte id) (codes ".") ∙ ap (λ t. codes ",\"" ++ t) (sym (flat_map-append escaped_byte id (codes ".")))
+
+pub start_put : (table row : List ℕ) → (codes ",\"" ++ flat_map escaped_byte (table ++ codes ".")) ++ flat_map escaped_byte row ≡ codes ",\"" ++ flat_map escaped_byte (table ++ codes "." ++ row)
+start_put table row =
+    append_assoc (codes ",\"") (flat_map escaped_byte (table ++ codes ".")) (flat_map escaped_byte row)
+    ∙ ap (λ t. codes ",\"" ++ t) (sym (flat_map-append escaped_byte (table ++ codes ".") row))
+
+-- a number needs no escape
+pub number_put : (out : List ℕ) (n : ℕ) → (out ++ codes "r_") ++ flat_map escaped_byte (decimal n) ≡ out ++ flat_map escaped_byte (codes "r_" ++ decimal n)
+unfolding escaped_byte
+number_put out n = append_assoc out (codes "r_") (flat_map escaped_byte (decimal n))

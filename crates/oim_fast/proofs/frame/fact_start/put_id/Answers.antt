@@ -1,0 +1,26 @@
+use Rattle.std.proofs.Common.{◌≡◌, ◌++◌, List, Option, None, Some, ℕ, ap, sym, subst, ◌∙◌}
+use Rattle.std.specs.Prelude.{decimal}
+use Rattle.std.specs.List.{flat_map}
+use Rattle.std.specs.Result.{OnOk}
+use Rattle.oim_json.specs.JsonText.{escaped_byte}
+use Rattle.oim_rows.specs.RowFacts.{Reading, id_place_of, row_id_text}
+use Rattle.oim_fast.proofs.StartLaws.{number_put}
+use Rattle.oim_fast.proofs.frame.fact_start.put_id.Goals as goal
+
+pub returns-in-Some : goal.returns-in-Some
+returns-in-Some c =
+    let x = c.args.row.now in
+    let place : id_place_of x.form ≡ Some c.in-Some.place = sym (c.id_place.ensures ∙ ap (λ (f : Reading). id_place_of f) c.form.ensures) ∙ c.in-Some.is in
+    subst (λ (t : List ℕ). OnOk c.put_escaped.result (c.put_escaped.new.out.items ≡ c.args.out.now.items ++ flat_map escaped_byte t))
+    (c.text_at.ensures ∙ sym (ap (λ (o : Option ℕ). row_id_text o x.number x.fields) place)) c.put_escaped.ensures.escaped
+
+pub returns-in_ok-put-in-None : goal.returns-in_ok-put-in-None
+returns-in_ok-put-in-None c =
+    let x = c.args.row.now in
+    let out = c.args.out.now.items in
+    let mid = c.put.new.self.items in
+    let place : id_place_of x.form ≡ None = sym (c.id_place.ensures ∙ ap (λ (f : Reading). id_place_of f) c.form.ensures) ∙ c.in-None.is in
+    let whole : mid ++ flat_map escaped_byte c.digits.result.now ≡ out ++ flat_map escaped_byte (row_id_text (id_place_of x.form) x.number x.fields) =
+    ap (λ t. mid ++ flat_map escaped_byte t) c.digits.ensures.value ∙ ap (λ t. t ++ flat_map escaped_byte (decimal x.number)) c.in_ok-put-in-None.ensures.items
+    ∙ number_put out x.number ∙ sym (ap (λ (o : Option ℕ). out ++ flat_map escaped_byte (row_id_text o x.number x.fields)) place) in
+    subst (λ (t : List ℕ). OnOk c.put_escaped-in-None.result (c.put_escaped-in-None.new.out.items ≡ t)) whole c.put_escaped-in-None.ensures.escaped

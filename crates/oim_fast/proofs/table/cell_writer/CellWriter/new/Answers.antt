@@ -1,0 +1,19 @@
+use Rattle.std.proofs.Common.{map, sym, subst}
+use Rattle.oim_fast.specs.Columns.{AreFactColumns}
+use Rattle.oim_fast.specs.KeptFrames.{IsFrame}
+use Rattle.oim_fast.specs.References.{key_of}
+use Rattle.oim_fast.specs.declared.row.group_cells.GroupCells.{GroupCells}
+use Rattle.oim_fast.proofs.MakerLaws.{all_of_none}
+use Rattle.oim_fast.proofs.LoopLaws.{one_more}
+use Rattle.oim_fast.proofs.CellWriterLaws.{column_set}
+use Rattle.oim_fast.proofs.table.cell_writer.CellWriter.new.Goals as goal
+
+pub returns : goal.returns
+returns c =
+    let form = c.args.form.now in
+    record {
+      columns = subst (λ (g : GroupCells). AreFactColumns form g.list.items c.in_ok-columns.columns.items) (sym c.new-maker.ensures.cells) c.in_ok-columns.ensures.columns;
+      maker = c.new-maker.ensures.ready form c.in_ok-columns.ensures.cells;
+      frames = all_of_none (IsFrame form (map key_of c.new-maker.result.references)) c.new-frames.result.list.items c.new-frames.ensures;
+      lead = c.in_ok-start.ensures;
+    }

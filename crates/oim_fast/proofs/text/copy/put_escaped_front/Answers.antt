@@ -1,0 +1,24 @@
+use Rattle.std.proofs.Common.{◌≡◌, ◌+◌, ◌-◌, ◌++◌, ap, ◌∙◌, arith, take, drop}
+use Rattle.std.specs.List.{flat_map}
+use Rattle.std.proofs.lemmas.List.{take_rest}
+use Rattle.oim_json.specs.JsonText.{escaped_byte}
+use Rattle.oim_fast.proofs.Appends.{appended, spelled_more}
+use Rattle.oim_fast.proofs.text.copy.put_escaped_front.Goals as goal
+
+pub loop-done-preserved : goal.loop-done-preserved
+loop-done-preserved c =
+    let text = c.args.text.now in
+    let done = c.loop-done.done in
+    let put = rw (take_rest text done) at c.in_ok-put_part.ensures in
+    record {
+      within = omega arith;
+      text = put ∙ ap (λ t. t ++ flat_map escaped_byte (take 1024 (drop done text))) c.loop-done.invariant.text ∙ spelled_more escaped_byte c.args.out.now.items text done 1024;
+    }
+
+pub returns : goal.returns
+returns c =
+    let text = c.args.text.now in
+    let done = c.loop-done.done in
+    let all : done + (c.args.len - done) ≡ c.args.len = omega arith in
+    let whole = ap (λ t. t ++ flat_map escaped_byte (take (c.args.len - done) (drop done text))) c.loop-done.invariant.text ∙ spelled_more escaped_byte c.args.out.now.items text done (c.args.len - done) in
+    appended c.put_part-2.result c.loop-done.out.items _ _ c.put_part-2.new.out.items (rw (take_rest text done) at c.put_part-2.ensures) (rw all at whole)

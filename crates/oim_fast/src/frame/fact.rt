@@ -1,0 +1,263 @@
+//! Writing a fact.
+
+ghost use Rattle.std.specs.Prelude.{◌≡◌, ◌+◌, ◌-◌, ◌*◌, ◌<◌, ◌≤◌, ◌++◌, IfSome, MatchOption, Some, codes, flat_map, length, take, true};
+ghost use Rattle.std.specs.List.{list_all};
+ghost use Rattle.oim_json.specs.JsonText.{decimals_text, escaped_byte, is_unescaped, value_text};
+ghost use Rattle.oim_resolve.specs.Facts.{is_numeric, places};
+ghost use Rattle.oim_fast.specs.FactTexts.{IsOfReferences, PutsFact, WritesDecimals, WritesFactText, WritesObject, WritesOpening, frame_length, has_settled, value_of};
+ghost use Rattle.oim_fast.specs.Places.{Placed, Stays};
+
+use crate::frame::frame_decimals::FrameDecimals;
+use crate::frame::frame_text::FrameText;
+use crate::frame::value::Value;
+use crate::frame::write::{copy_range, write_runs};
+use crate::row::references::References;
+use crate::text::buffer::{TextBuffer, make_room};
+use crate::text::copy::{copy, copy_escaped, copy_short, copy_text};
+use itoa::Buffer;
+use oim_cells::Accuracy;
+use oim_report::Kind;
+use std::alloc::AllocError;
+
+/// Writes a number of decimals, with a comma behind it. Answers where it ends.
+#[inline(always)]
+fn write_places(room: &mut [u8], from: usize, places: i32) -> usize
+    requires { from + 32 ≤ length room.old }
+    ensures bytes { Placed room.old room.new from (decimals_text (Some places)) result }
+    ensures few { result ≤ from + 32 }
+{
+    let mut buffer = Buffer::new();
+    let digits = buffer.format(places).as_bytes();
+    let at = copy_short(room, from, b"\"decimals\":");
+    let end = copy_short(room, at, digits);
+    copy_short(room, end, b",")
+}
+
+/// Writes the decimals that a suffix states, with a comma behind them: nothing where the number is exact. Answers where they end.
+#[inline(always)]
+#[tactic(auto, unfolding(oim_json::specs::JsonText::decimals_text))]
+fn write_accuracy(room: &mut [u8], from: usize, accuracy: Accuracy) -> usize
+    requires { from + 32 ≤ length room.old }
+    ensures bytes { Placed room.old room.new from (decimals_text (places accuracy)) result }
+    ensures few { result ≤ from + 32 }
+{
+    match accuracy {
+        Accuracy::Places(places) => write_places(room, from, places),
+        Accuracy::Infinite => from,
+    }
+}
+
+/// Writes the decimals of a number that are not those that stand in its frame, with a comma behind them. Answers where they end.
+/// None where they are not known, or have a fault, or are more than `most` bytes.
+#[inline(always)]
+fn write_decimals(
+    frame: &FrameText,
+    references: &References<'_>,
+    most: usize,
+    value: &Value<'_>,
+    room: &mut [u8],
+    from: usize,
+) -> Option<usize>
+    requires number { is_numeric frame.now.kind ≡ true }
+    requires references { IsOfReferences (length references.now) frame.now }
+    requires room { from + most + 32 ≤ length room.old }
+    ensures { MatchOption result (Stays room.old room.new from) (λ end. WritesDecimals references.now frame.now value.now most room.old room.new from end) }
+{
+    if value.is_nil {
+        return Some(from);
+    }
+    if let Some(accuracy) = value.accuracy {
+        return Some(write_accuracy(room, from, accuracy));
+    }
+    let FrameDecimals::Reference(reference) = frame.decimals else {
+        return None;
+    };
+    let answer = references.at(reference);
+    if !answer.is_sound || answer.json.len() > most {
+        return None;
+    }
+    Some(copy_text(room, from, &answer.json))
+}
+
+/// Whether what a frame has for its decimals is what stands in a fact.
+#[inline(always)]
+fn has_settled(frame: &FrameText, value: &Value<'_>) -> bool
+    ensures { result ≡ has_settled frame.now value.now }
+{
+    let Kind::Number(_) = frame.kind else {
+        return true;
+    };
+    !value.is_nil && value.accuracy.is_none() && matches!(&frame.decimals, FrameDecimals::Settled)
+}
+
+/// Writes the text up to the dimensions where it is not that of the frame, and answers where it ends and from where on the
+/// frame's text comes behind it. None where the decimals are not known, or have a fault, or are more than `most` bytes.
+#[inline(always)]
+fn write_opening(
+    frame: &FrameText,
+    references: &References<'_>,
+    most: usize,
+    value: &Value<'_>,
+    room: &mut [u8],
+    from: usize,
+) -> Option<(usize, usize)>
+    requires references { IsOfReferences (length references.now) frame.now }
+    requires room { from + (length frame.now.lead + length frame.now.settled) + most + 64 ≤ length room.old }
+    ensures { MatchOption result (Stays room.old room.new from) (λ o. WritesOpening references.now frame.now value.now most room.old room.new from o.0 o.1) }
+{
+    if has_settled(frame, value) {
+        return Some((from, 0));
+    }
+    let at = copy_range(room, from, &frame.text, 0, frame.lead);
+    let at = write_decimals(frame, references, most, value, room, at)?;
+    Some((at, frame.opening))
+}
+
+/// Takes back the comma behind the last dimension, where there is one behind `body`, and closes the dimensions.
+#[inline(always)]
+fn close_dimensions(room: &mut [u8], body: usize, end: usize) -> usize
+    requires order { body ≤ end }
+    requires room { end + 10 ≤ length room.old }
+    ensures { Placed room.old room.new (body + ((end - body) - 1)) (codes "},\"value\":") result }
+{
+    let at = body + (end - body).saturating_sub(1);
+    copy_short(room, at, b"},\"value\":")
+}
+
+/// Writes what stands between the quotes of a value. A number needs no escape.
+#[inline(always)]
+fn write_text(kind: Kind, value: &Value<'_>, room: &mut [u8], from: usize) -> usize
+    requires value { value.now.len ≤ length value.now.bytes.now }
+    requires plain { is_numeric kind ≡ true → list_all is_unescaped (take value.now.len value.now.bytes.now) ≡ true }
+    requires room { from + 6 * value.now.len + 32 ≤ length room.old }
+    ensures { Placed room.old room.new from (flat_map escaped_byte (take value.now.len value.now.bytes.now)) result }
+{
+    if let Kind::Number(_) = kind {
+        copy(room, from, value.bytes, value.len)
+    } else {
+        copy_escaped(room, from, value.bytes, value.len)
+    }
+}
+
+/// Writes the value and the end of the fact.
+#[inline(always)]
+fn write_value(kind: Kind, value: &Value<'_>, room: &mut [u8], from: usize) -> usize
+    requires value { value.now.len ≤ length value.now.bytes.now }
+    requires plain { is_numeric kind ≡ true → IfSome (value_of value.now) (λ t. list_all is_unescaped t ≡ true) }
+    requires room { from + 6 * value.now.len + 64 ≤ length room.old }
+    ensures { Placed room.old room.new from (value_text (value_of value.now) ++ codes "}") result }
+{
+    if value.is_nil {
+        return copy_short(room, from, b"null}");
+    }
+    let at = copy_short(room, from, b"\"");
+    let at = write_text(kind, value, room, at);
+    copy_short(room, at, b"\"}")
+}
+
+/// How many bytes of room a fact takes at most behind a text of `start` bytes, where a reference gives `most` and the value has
+/// `value`. None where they cannot be counted.
+#[inline(always)]
+fn room_for(frame: &FrameText, most: usize, start: usize, value: usize) -> Option<usize>
+    ensures { IfSome result (λ room. start + frame_length frame.now + (length frame.now.segments + 1) * most + 6 * value + 128 ≤ room) }
+{
+    let count = frame.runs.len().checked_add(1)?;
+    let references = count.checked_mul(most)?;
+    let escaped = value.checked_mul(6)?;
+    let front = start.checked_add(frame.text.len())?;
+    let text = front.checked_add(references)?;
+    let all = text.checked_add(escaped)?;
+    let room = all.checked_add(128)?;
+    Some(room)
+}
+
+/// Writes the fact of a frame from the dot behind the row's identifier on, and answers where it ends. None where it is not by the
+/// fast way.
+#[inline(always)]
+fn write_object(
+    frame: &FrameText,
+    references: &References<'_>,
+    most: usize,
+    value: &Value<'_>,
+    room: &mut [u8],
+    from: usize,
+) -> Option<usize>
+    requires value { value.now.len ≤ length value.now.bytes.now }
+    requires plain { is_numeric frame.now.kind ≡ true → IfSome (value_of value.now) (λ t. list_all is_unescaped t ≡ true) }
+    requires references { IsOfReferences (length references.now) frame.now }
+    requires room { from + frame_length frame.now + (length frame.now.segments + 1) * most + 6 * value.now.len + 128 ≤ length room.old }
+    ensures { MatchOption result (Stays room.old room.new from) (λ end. WritesObject references.now frame.now value.now room.old room.new from end) }
+{
+    let (at, rest) = write_opening(frame, references, most, value, room, from)?;
+    let body = at + (frame.body - rest);
+    let end = write_runs(
+        &frame.text,
+        frame.runs.as_slice(),
+        references,
+        most,
+        room,
+        at,
+        rest,
+    )?;
+    let at = close_dimensions(room, body, end);
+    Some(write_value(frame.kind, value, room, at))
+}
+
+/// Writes a fact whose text begins with `start`, and answers where it ends. None where it is not by the fast way.
+#[inline(always)]
+fn write_fact(
+    frame: &FrameText,
+    references: &References<'_>,
+    most: usize,
+    start: &TextBuffer,
+    value: &Value<'_>,
+    room: &mut [u8],
+    from: usize,
+) -> Option<usize>
+    requires value { value.now.len ≤ length value.now.bytes.now }
+    requires plain { is_numeric frame.now.kind ≡ true → IfSome (value_of value.now) (λ t. list_all is_unescaped t ≡ true) }
+    requires references { IsOfReferences (length references.now) frame.now }
+    requires room { from + length start.now.items + frame_length frame.now + (length frame.now.segments + 1) * most + 6 * value.now.len + 128 ≤ length room.old }
+    ensures { MatchOption result (Stays room.old room.new from) (λ end. WritesFactText references.now frame.now value.now start.now.items room.old room.new from end) }
+{
+    let at = copy_text(room, from, start);
+    write_object(frame, references, most, value, room, at)
+}
+
+/// Appends a fact whose text begins with `start`. False where it is not by the fast way. Fails where memory is short. Then nothing
+/// is appended.
+#[inline(always)]
+pub(crate) fn put_fact(
+    frame: &FrameText,
+    references: &References<'_>,
+    start: &TextBuffer,
+    value: &Value<'_>,
+    out: &mut TextBuffer,
+) -> Result<bool, AllocError>
+    requires value { value.now.len ≤ length value.now.bytes.now }
+    requires plain { is_numeric frame.now.kind ≡ true → IfSome (value_of value.now) (λ t. list_all is_unescaped t ≡ true) }
+    requires references { IsOfReferences (length references.now) frame.now }
+    ensures { PutsFact references.now frame.now value.now start.now.items out.old.items out.new.items result }
+{
+    let most = references.most();
+    let Some(size) = room_for(frame, most, start.len(), value.len) else {
+        return Ok(false);
+    };
+    make_room(&mut out.room, out.len, size)?;
+    let end = write_fact(
+        frame,
+        references,
+        most,
+        start,
+        value,
+        &mut out.room,
+        out.len,
+    );
+    match end {
+        Some(end) => {
+            out.len = end;
+            Ok(true)
+        }
+        None => Ok(false),
+    }
+}

@@ -1,0 +1,191 @@
+//! A column of facts of a header.
+
+ghost use Rattle.std.specs.Prelude.{◌≡◌, ◌<◌, ◌++◌, Some, IfOk, codes, false, flat_map, length, map, true};
+ghost use Rattle.std.specs.List.{All, slice_get};
+ghost use Rattle.std.specs.Option.{option_map};
+ghost use Rattle.oim_json.specs.JsonText.{escaped_byte};
+ghost use Rattle.oim_rows.specs.RowFacts.{holds_facts};
+ghost use Rattle.oim_fast.specs.Columns.{AreFactColumns, IsColumnAt};
+ghost use Rattle.oim_fast.specs.KeptFrames.{kind_code};
+ghost use Rattle.oim_fast.specs.Frames.{is_known_choice};
+ghost use Rattle.oim_fast.specs.Groups.{IsGroupCell, choices_in};
+ghost use Rattle.oim_fast.specs.References.{Grows};
+ghost use Rattle.oim_fast.specs.Rows.{columns_in};
+
+use crate::row::group_cells::{Choice, GroupCells};
+use crate::row::source::place_in;
+use crate::text::buffer::TextBuffer;
+use crate::text::escape::put_escaped;
+use crate::text::hash_index::hash_with;
+use oim_cells::NumberKind;
+use oim_report::{Column, ColumnKind, Kind, Level};
+use oim_rows::RowForm;
+use std::alloc::{AllocError, Global};
+
+/// A column of facts: its place in the template and in the header, and the columns of property groups that it takes from, by
+/// their places among those of the table.
+#[derive(Drop)]
+pub(crate) struct FactColumn<'a> {
+    pub(crate) column: usize,
+    pub(crate) place: usize,
+    pub(crate) level: &'a Level,
+    pub(crate) groups: Vec<usize>,
+    /// The text of a fact from the dot before the column's identifier to the brace of its object.
+    pub(crate) lead: TextBuffer,
+    /// The places of the frames that it had last: without and with a kind. Each is a guess, and is tested.
+    pub(crate) last: usize,
+    pub(crate) last_of_kind: usize,
+}
+
+/// From the dot behind the row's identifier up to the brace of the object. Fails where memory is short.
+#[tactic(auto, using(std::proofs::Common::append_assoc), unfolding(oim_json::specs::JsonText::escaped_byte))]
+fn lead_of(alloc: Global, column: &Column) -> Result<TextBuffer, AllocError>
+    ensures { IfOk result (λ t. t.items ≡ flat_map escaped_byte (codes "." ++ column.now.id) ++ codes "\":{") }
+{
+    let mut lead = TextBuffer::new(alloc);
+    lead.push(b'.')?;
+    put_escaped(&mut lead, column.id.as_str())?;
+    lead.put(b"\":{")?;
+    Ok(lead)
+}
+
+/// The places of the columns of property groups that a column takes from. Fails where memory is short.
+fn groups_of<'a>(
+    alloc: Global,
+    form: &RowForm<'a>,
+    column: &Column,
+    cells: &mut GroupCells<'a>,
+) -> Result<Vec<usize>, AllocError>
+    requires from { All (λ i. i < length (columns_in form.now)) column.now.from }
+    requires cells { All (IsGroupCell form.now) cells.old.list.items }
+    ensures cells { All (IsGroupCell form.now) cells.new.list.items }
+    ensures grows { Grows cells.old.list.items cells.new.list.items }
+    ensures places { IfOk result (λ v. map (λ p. option_map (λ g. g.column) (slice_get cells.new.list.items p)) v.items ≡ map Some column.now.from) }
+{
+    let from = column.from.as_slice();
+    let mut groups = Vec::new(alloc);
+    for i in 0..from.len() {
+        let place = cells.place_for(form, from[i])?;
+        groups.push(place)?;
+    }
+    Ok(groups)
+}
+
+/// Whether the cells of a column of a kind hold facts.
+fn holds_facts(kind: ColumnKind) -> bool
+    ensures { result ≡ holds_facts kind }
+{
+    match kind {
+        ColumnKind::Fact => true,
+        ColumnKind::Groups | ColumnKind::Comment | ColumnKind::Plain => false,
+    }
+}
+
+/// What is kept of the column that a place of the header names. None where it names none that holds facts. Fails where memory is
+/// short.
+fn fact_column<'a>(
+    alloc: Global,
+    form: &RowForm<'a>,
+    cells: &mut GroupCells<'a>,
+    i: usize,
+) -> Result<Option<FactColumn<'a>>, AllocError>
+    requires within { i < length form.now.header }
+    requires cells { All (IsGroupCell form.now) cells.old.list.items }
+    ensures cells { All (IsGroupCell form.now) cells.new.list.items }
+    ensures grows { Grows cells.old.list.items cells.new.list.items }
+    ensures column { IfOk result (IsColumnAt form.now cells.new.list.items i) }
+{
+    let Some(at) = form.header()[i] else {
+        return Ok(None);
+    };
+    if at >= form.report().columns(form.table()) {
+        return Ok(None);
+    }
+    let column = form.report().column(form.table(), at);
+    if !holds_facts(column.kind) {
+        return Ok(None);
+    }
+    let Some(place) = place_in(form.header(), at) else {
+        return Ok(None);
+    };
+    let groups = groups_of(alloc, form, column, cells)?;
+    let lead = lead_of(alloc, column)?;
+    Ok(Some(FactColumn {
+        column: at,
+        place,
+        level: &column.level,
+        groups,
+        lead,
+        last: usize::MAX,
+        last_of_kind: usize::MAX,
+    }))
+}
+
+/// The columns of facts of a header, in its order. Fails where memory is short.
+pub(crate) fn fact_columns<'a>(
+    alloc: Global,
+    form: &RowForm<'a>,
+    cells: &mut GroupCells<'a>,
+) -> Result<Vec<FactColumn<'a>>, AllocError>
+    requires { All (IsGroupCell form.now) cells.old.list.items }
+    ensures cells { All (IsGroupCell form.now) cells.new.list.items }
+    ensures columns { IfOk result (λ v. AreFactColumns form.now cells.new.list.items v.items) }
+{
+    let mut facts = Vec::new(alloc);
+    for i in 0..form.header().len() {
+        if let Some(column) = fact_column(alloc, form, cells, i)? {
+            facts.push(column)?;
+        }
+    }
+    Ok(facts)
+}
+
+/// A number for a kind, and another for none: no two have the same.
+#[inline(always)]
+pub(crate) fn kind_number(kind: Option<Kind>) -> u64
+    ensures { result ≡ kind_code kind }
+{
+    match kind {
+        None => 0,
+        Some(Kind::Number(NumberKind::Integer)) => 1,
+        Some(Kind::Number(NumberKind::Decimal)) => 2,
+        Some(Kind::Number(NumberKind::Double)) => 3,
+        Some(Kind::Text) => 4,
+        Some(Kind::Boolean) => 5,
+        Some(Kind::Date) => 6,
+        Some(Kind::Name) => 7,
+        Some(Kind::Explicit) => 8,
+        Some(Kind::Typed) => 9,
+        Some(Kind::Other) => 10,
+    }
+}
+
+impl FactColumn<'_> {
+    /// Whether nothing is known of a cell of groups that it takes from, in the row at hand.
+    pub(crate) fn has_unknown(&self, cells: &GroupCells<'_>) -> bool
+        requires { All (λ p. p < length cells.now.list.items) self.now.groups.items }
+        ensures { result ≡ false → All (λ o. is_known_choice o ≡ true) (choices_in cells.now.list.items self.now.groups.items) }
+    {
+        for i in 0..self.groups.len() {
+            if let Choice::Unknown = cells.choice(self.groups[i]) {
+                return true;
+            }
+        }
+        false
+    }
+
+    /// A hash of the column, the groups that the row at hand names, and a kind. No answer depends on it.
+    pub(crate) fn hash(&self, cells: &GroupCells<'_>, kind: Option<Kind>) -> u64
+        requires { All (λ p. p < length cells.now.list.items) self.now.groups.items }
+    {
+        let mut hash = hash_with(self.column as u64, kind_number(kind));
+        for i in 0..self.groups.len() {
+            hash = match cells.choice(self.groups[i]) {
+                Choice::Group(group) => hash_with(hash, (group as u64).wrapping_add(2)),
+                Choice::Nothing => hash_with(hash, 1),
+                Choice::Unknown => hash_with(hash, 0),
+            };
+        }
+        hash
+    }
+}

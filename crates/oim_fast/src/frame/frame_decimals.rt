@@ -1,0 +1,83 @@
+//! The decimals of a column under the groups that a row names.
+
+ghost use Rattle.std.specs.Prelude.{◌≡◌, [], IfOk, map};
+ghost use Rattle.std.specs.List.{All};
+ghost use Rattle.oim_resolve.specs.Values.{Read};
+ghost use Rattle.oim_fast.specs.Parts.{AreDecimals, IsStated};
+ghost use Rattle.oim_fast.specs.Pieces.{parameter_meaning};
+ghost use Rattle.oim_fast.specs.References.{Grows, IsFresh, key_of};
+
+use crate::frame::constant::parameter_of;
+use crate::row::answer::{Answer, put_decimals};
+use crate::row::purpose::Purpose;
+use crate::row::references::References;
+use crate::row::source::source_of_decimals;
+use crate::row::table_row::TableRow;
+use crate::text::buffer::TextBuffer;
+use oim_report::WrittenDecimals;
+use std::alloc::{AllocError, Global};
+
+/// The decimals that levels write.
+#[derive(Clone, Copy)]
+pub(crate) enum FrameDecimals {
+    /// They stand in the text, or none are stated.
+    Settled,
+    /// What the reference at a place gives.
+    Reference(usize),
+    /// They are not known: facts that ask for them are not by the fast way.
+    Unknown,
+}
+
+/// Puts the decimals of the parameter of a name into the empty `settled`. Fails where memory is short.
+fn put_parameter(
+    alloc: Global,
+    row: &TableRow<'_, '_>,
+    name: &str,
+    settled: &mut TextBuffer,
+) -> Result<FrameDecimals, AllocError>
+    requires { settled.old.items ≡ [] }
+    ensures { IfOk result (λ d. IsStated (Read (parameter_meaning row.now.form name.now)) settled.new.items d) }
+{
+    let mut answer = Answer::new(alloc);
+    answer.read(
+        alloc,
+        row.report(),
+        Purpose::Decimals,
+        parameter_of(row.form(), name),
+    )?;
+    if !answer.is_sound {
+        return Ok(FrameDecimals::Unknown);
+    }
+    settled.put(answer.json.as_slice())?;
+    Ok(FrameDecimals::Settled)
+}
+
+/// What written decimals give: their text is put into the empty `settled` where it is the same in each row. Fails where memory is
+/// short.
+pub(crate) fn decimals_ready<'a>(
+    alloc: Global,
+    row: &TableRow<'a, '_>,
+    references: &mut References<'a>,
+    written: &WrittenDecimals,
+    settled: &mut TextBuffer,
+) -> Result<FrameDecimals, AllocError>
+    requires fresh { All (IsFresh row.now) references.old }
+    requires empty { settled.old.items ≡ [] }
+    ensures decimals { IfOk result (λ d. AreDecimals row.now.form (map key_of references.new) written.now settled.new.items d) }
+    ensures fresh { All (IsFresh row.now) references.new }
+    ensures grows { Grows references.old references.new }
+{
+    if let Some(source) = source_of_decimals(row.form(), written) {
+        let place = references.place_for(alloc, row, Purpose::Decimals, source)?;
+        return Ok(FrameDecimals::Reference(place));
+    }
+    match written {
+        WrittenDecimals::Fixed(accuracy) => {
+            put_decimals(settled, *accuracy)?;
+            Ok(FrameDecimals::Settled)
+        }
+        WrittenDecimals::Named(name) => put_parameter(alloc, row, name.as_str(), settled),
+        WrittenDecimals::Absent => Ok(FrameDecimals::Settled),
+        WrittenDecimals::RowNumber => Ok(FrameDecimals::Unknown),
+    }
+}

@@ -1,0 +1,109 @@
+//! All of a column's facts that is the same in each row, as one text with places for what references give.
+
+ghost use Rattle.std.specs.Prelude.{◌≡◌, ◌≤◌, ◌+◌, ◌++◌, [], IfOk, length, slice_range, take, true};
+ghost use Rattle.oim_fast.specs.FrameTexts.{dimensions_start, is_ready, with_part};
+
+use crate::frame::frame_decimals::FrameDecimals;
+use crate::frame::part::{Part, PartValue};
+use crate::text::buffer::TextBuffer;
+use oim_report::Kind;
+use std::alloc::{AllocError, Global};
+use std::marker::Model;
+
+/// A reference, and where the text before it ends: without and with the name of its dimension.
+#[derive(Clone, Copy)]
+pub(crate) struct Run {
+    pub(crate) alone: usize,
+    pub(crate) named: usize,
+    pub(crate) reference: usize,
+}
+
+/// The text of a column's facts from the dot before its identifier up to the end of its dimensions, each with a comma behind it:
+/// the identifier, the settled decimals, the dimensions. A contract sees its parts.
+#[derive(Drop)]
+pub(crate) struct FrameText {
+    pub(crate) text: TextBuffer,
+    pub(crate) kind: Kind,
+    /// Where the decimals stand, or would stand, and where they end.
+    pub(crate) lead: usize,
+    pub(crate) opening: usize,
+    /// Where the dimensions begin.
+    pub(crate) body: usize,
+    pub(crate) decimals: FrameDecimals,
+    pub(crate) runs: Vec<Run>,
+}
+
+impl Model for FrameText {
+    ghost use Rattle.std.specs.Prelude.{slice_range, take};
+    ghost use Rattle.oim_fast.specs.FrameTexts.{FrameValue, IsLaidOut, rest_from, segments_from};
+
+    ghost Value = { FrameValue };
+
+    ghost view = { λ a. record {
+      kind = a.kind;
+      lead = take a.lead a.text.items;
+      settled = slice_range a.text.items a.lead a.opening;
+      decimals = a.decimals;
+      segments = segments_from a.text.items a.body a.runs.items;
+      rest = rest_from a.text.items a.body a.runs.items;
+    } };
+
+    ghost invariant = { λ a. IsLaidOut a.text.items a.lead a.opening a.body a.runs.items };
+}
+
+impl FrameText {
+    /// The text of an identifier and decimals, with no dimensions yet. Fails where memory is short.
+    pub(crate) fn new(
+        alloc: Global,
+        kind: Kind,
+        lead: &[u8],
+        decimals: FrameDecimals,
+        settled: &[u8],
+    ) -> Result<FrameText, AllocError>
+        ensures { IfOk result (λ t. t ≡ record { kind = kind; lead = lead.now; settled = settled.now; decimals = decimals; segments = []; rest = [] }) }
+    {
+        let mut text = TextBuffer::new(alloc);
+        text.put(lead)?;
+        text.put(settled)?;
+        let opening = text.len();
+        text.put(b"\"dimensions\":{")?;
+        let body = text.len();
+        Ok(FrameText {
+            text,
+            kind,
+            lead: lead.len(),
+            opening,
+            body,
+            decimals,
+            runs: Vec::new(alloc),
+        })
+    }
+
+    /// Adds a dimension, unless a fact of this kind does not have it. False where it is not known. Fails where memory is short.
+    pub(crate) fn add(&mut self, part: &Part<'_>) -> Result<bool, AllocError>
+        ensures ready { IfOk result (λ added. added ≡ true → is_ready self.old part.now ≡ true) }
+        ensures part { IfOk result (λ added. added ≡ true → self.new ≡ with_part self.old part.now) }
+    {
+        if part.role.is_dropped(self.kind) {
+            return Ok(true);
+        }
+        match part.value {
+            PartValue::Nothing => Ok(true),
+            PartValue::Unknown => Ok(false),
+            PartValue::Text => {
+                self.text.put(part.text.as_slice())?;
+                Ok(true)
+            }
+            PartValue::Reference(reference) => {
+                let alone = self.text.len();
+                self.text.put(part.text.as_slice())?;
+                self.runs.push(Run {
+                    alone,
+                    named: self.text.len(),
+                    reference,
+                })?;
+                Ok(true)
+            }
+        }
+    }
+}

@@ -1,0 +1,304 @@
+//! The frames of a table that are kept.
+
+ghost use Rattle.std.specs.Prelude.{◌≡◌, ◌<◌, [], List, Some, None, IfOk, IfSome, IsSomeAnd, length, map, true};
+ghost use Rattle.std.specs.List.{All, slice_get};
+ghost use Rattle.oim_resolve.specs.Written.{levels};
+ghost use Rattle.oim_rows.specs.RowFacts.{Reading};
+ghost use Rattle.oim_fast.specs.Columns.{IsFactColumn};
+ghost use Rattle.oim_fast.specs.Frames.{HasReferredKind, is_known_choice};
+ghost use Rattle.oim_fast.specs.Groups.{choices_in};
+ghost use Rattle.oim_fast.specs.KeptFrames.{IsFor, IsFrame, IsKnownFor, IsOfConcept, IsTextFor, text_in};
+ghost use Rattle.oim_fast.specs.Making.{IsMaker};
+ghost use Rattle.oim_fast.specs.References.{Grows, Key, key_of};
+ghost use Rattle.oim_fast.specs.Rows.{cell_in};
+
+use crate::frame::fact_column::{FactColumn, kind_number};
+use crate::frame::frame::{Body, Frame};
+use crate::frame::frame_maker::FrameMaker;
+use crate::frame::frame_text::FrameText;
+use crate::row::group_cells::{Choice, GroupCells};
+use crate::row::table_row::TableRow;
+use crate::text::hash_index::{HashIndex, STEPS};
+use oim_report::Kind;
+use std::alloc::{AllocError, Global};
+
+/// How much memory the frames of a table may take, about. Where they would take more, all of them are forgotten.
+const MOST: usize = 64 << 20;
+
+/// The frames of a table that are kept. A place is that of a frame until another frame is kept.
+#[derive(Drop)]
+pub(crate) struct Frames {
+    pub(crate) list: Vec<Frame>,
+    by_hash: HashIndex,
+    size: usize,
+}
+
+/// Whether two choices are the same, and something is known of them.
+#[inline(always)]
+fn is_same_choice(first: Choice, second: Choice) -> bool
+    ensures { result ≡ true → (first ≡ second) × (is_known_choice first ≡ true) }
+{
+    match (first, second) {
+        (Choice::Nothing, Choice::Nothing) => true,
+        (Choice::Group(group), Choice::Group(other)) => group == other,
+        _ => false,
+    }
+}
+
+/// Whether choices are those that the row at hand makes in columns of groups, and something is known of each.
+#[inline(always)]
+fn are_chosen(choices: &[Choice], groups: &[usize], cells: &GroupCells<'_>) -> bool
+    requires { All (λ p. p < length cells.now.list.items) groups.now }
+    ensures { result ≡ true → (choices.now ≡ choices_in cells.now.list.items groups.now) × All (λ o. is_known_choice o ≡ true) choices.now }
+{
+    if choices.len() != groups.len() {
+        return false;
+    }
+    for i in 0..choices.len() {
+        let choice = cells.choice(groups[i]);
+        if !is_same_choice(choices[i], choice) {
+            return false;
+        }
+    }
+    true
+}
+
+/// Whether a frame is that of a column and a kind under the groups that the row at hand names.
+#[inline(always)]
+fn is_for(
+    frame: &Frame,
+    column: &FactColumn<'_>,
+    cells: &GroupCells<'_>,
+    kind: Option<Kind>,
+) -> bool
+    requires { All (λ p. p < length cells.now.list.items) column.now.groups.items }
+    ensures { result ≡ true → IsKnownFor cells.now.list.items column.now kind frame.now }
+{
+    if frame.column != column.column {
+        return false;
+    }
+    if frame.kind != kind_number(kind) {
+        return false;
+    }
+    are_chosen(frame.choices.as_slice(), column.groups.as_slice(), cells)
+}
+
+impl Frames {
+    /// No frames. It takes no memory.
+    pub(crate) fn new(alloc: Global) -> Frames
+        ensures { result.list.items ≡ [] }
+    {
+        Frames {
+            list: Vec::new(alloc),
+            by_hash: HashIndex::new(alloc),
+            size: 0,
+        }
+    }
+
+    /// Whether the frame at a place is that of a column and a kind in the row at hand.
+    #[inline(always)]
+    fn is_at(
+        &self,
+        place: usize,
+        column: &FactColumn<'_>,
+        cells: &GroupCells<'_>,
+        kind: Option<Kind>,
+    ) -> bool
+        requires { All (λ p. p < length cells.now.list.items) column.now.groups.items }
+        ensures { result ≡ true → IsSomeAnd (slice_get self.now.list.items place) (IsKnownFor cells.now.list.items column.now kind) }
+    {
+        if place >= self.list.len() {
+            return false;
+        }
+        let frame = &self.list[place];
+        is_for(frame, column, cells, kind)
+    }
+
+    /// The place of the frame of a column and a kind in the row at hand, where it is kept and found.
+    #[inline(never)]
+    fn find(
+        &self,
+        hash: u64,
+        column: &FactColumn<'_>,
+        cells: &GroupCells<'_>,
+        kind: Option<Kind>,
+    ) -> Option<usize>
+        requires { All (λ p. p < length cells.now.list.items) column.now.groups.items }
+        ensures { IfSome result (λ place. IsSomeAnd (slice_get self.now.list.items place) (IsKnownFor cells.now.list.items column.now kind)) }
+    {
+        for step in 0..STEPS {
+            let place = self.by_hash.place_at(hash, step)?;
+            if self.is_at(place, column, cells, kind) {
+                return Some(place);
+            }
+        }
+        None
+    }
+
+    /// Forgets all frames where another one of a size would take too much memory. Counts that one.
+    fn make_room(&mut self, size: usize)
+        ensures { (f : Reading) (keys : List Key) → All (IsFrame f keys) self.old.list.items → All (IsFrame f keys) self.new.list.items }
+    {
+        let together = self.size.saturating_add(size);
+        if together <= MOST {
+            self.size = together;
+            return;
+        }
+        self.list.clear();
+        self.by_hash.clear();
+        self.size = size;
+    }
+
+    /// Keeps a frame, and answers its place. Fails where memory is short.
+    fn keep(&mut self, alloc: Global, hash: u64, frame: Frame) -> Result<usize, AllocError>
+        ensures place { IfOk result (λ place. slice_get self.new.list.items place ≡ Some frame) }
+        ensures frames { (f : Reading) (keys : List Key) → All (IsFrame f keys) self.old.list.items → IsFrame f keys frame → All (IsFrame f keys) self.new.list.items }
+    {
+        self.make_room(frame.size());
+        let place = self.list.len();
+        self.list.push(frame)?;
+        self.by_hash.add(alloc, hash, place)?;
+        Ok(place)
+    }
+
+    /// The place of the frame of a column and a kind in the row at hand, which is looked for by its hash, or made. Fails where
+    /// memory is short.
+    #[inline(never)]
+    fn place<'a>(
+        &mut self,
+        alloc: Global,
+        row: &TableRow<'a, '_>,
+        column: &FactColumn<'a>,
+        kind: Option<Kind>,
+        maker: &mut FrameMaker<'a>,
+    ) -> Result<usize, AllocError>
+        requires maker { IsMaker row.now maker.old }
+        requires column { IsFactColumn row.now.form maker.old.cells.list.items column.now }
+        requires frames { All (IsFrame row.now.form (map key_of maker.old.references)) self.old.list.items }
+        ensures place { IfOk result (λ place. IsSomeAnd (slice_get self.new.list.items place) (IsFor maker.old.cells.list.items column.now kind)) }
+        ensures maker { IsMaker row.now maker.new }
+        ensures grows { Grows maker.old.references maker.new.references }
+        ensures cells { maker.new.cells ≡ maker.old.cells }
+        ensures frames { All (IsFrame row.now.form (map key_of maker.new.references)) self.new.list.items }
+    {
+        let hash = column.hash(&maker.cells, kind);
+        if let Some(place) = self.find(hash, column, &maker.cells, kind) {
+            return Ok(place);
+        }
+        let frame = maker.frame(alloc, row, column, kind)?;
+        let place = self.keep(alloc, hash, frame)?;
+        Ok(place)
+    }
+
+    /// The place of the frame of a column in the row at hand, its concept apart. None where nothing is known of a group that the row
+    /// names. Fails where memory is short.
+    #[inline(always)]
+    fn first<'a>(
+        &mut self,
+        alloc: Global,
+        row: &TableRow<'a, '_>,
+        column: &mut FactColumn<'a>,
+        maker: &mut FrameMaker<'a>,
+    ) -> Result<Option<usize>, AllocError>
+        requires maker { IsMaker row.now maker.old }
+        requires column { IsFactColumn row.now.form maker.old.cells.list.items column.old }
+        requires frames { All (IsFrame row.now.form (map key_of maker.old.references)) self.old.list.items }
+        ensures place { IfOk result (λ o. IfSome o (λ place. IsSomeAnd (slice_get self.new.list.items place) (IsKnownFor maker.old.cells.list.items column.old None))) }
+        ensures maker { IsMaker row.now maker.new }
+        ensures grows { Grows maker.old.references maker.new.references }
+        ensures cells { maker.new.cells ≡ maker.old.cells }
+        ensures frames { All (IsFrame row.now.form (map key_of maker.new.references)) self.new.list.items }
+        ensures column { column.new ≡ record column.old { last = column.new.last } }
+    {
+        if self.is_at(column.last, column, &maker.cells, None) {
+            return Ok(Some(column.last));
+        }
+        if column.has_unknown(&maker.cells) {
+            return Ok(None);
+        }
+        let place = self.place(alloc, row, column, None, maker)?;
+        column.last = place;
+        Ok(Some(place))
+    }
+
+    /// The place of the frame of a column in the row at hand, whose concept the reference at a place names. None where its kind is
+    /// not known. Fails where memory is short.
+    fn by_concept<'a>(
+        &mut self,
+        alloc: Global,
+        row: &TableRow<'a, '_>,
+        column: &mut FactColumn<'a>,
+        reference: usize,
+        maker: &mut FrameMaker<'a>,
+    ) -> Result<Option<usize>, AllocError>
+        requires maker { IsMaker row.now maker.old }
+        requires column { IsFactColumn row.now.form maker.old.cells.list.items column.old }
+        requires frames { All (IsFrame row.now.form (map key_of maker.old.references)) self.old.list.items }
+        requires reference { HasReferredKind row.now.form (map key_of maker.old.references) (levels (cell_in row.now column.old.column)) reference }
+        ensures place { IfOk result (λ o. IfSome o (λ place. IsSomeAnd (slice_get self.new.list.items place) (IsOfConcept row.now maker.old.cells.list.items column.old))) }
+        ensures maker { IsMaker row.now maker.new }
+        ensures grows { Grows maker.old.references maker.new.references }
+        ensures cells { maker.new.cells ≡ maker.old.cells }
+        ensures frames { All (IsFrame row.now.form (map key_of maker.new.references)) self.new.list.items }
+        ensures column { column.new ≡ record column.old { last_of_kind = column.new.last_of_kind } }
+    {
+        let _digits = row.digits();
+        let Some(kind) = maker.references.at(reference).kind else {
+            return Ok(None);
+        };
+        if self.is_at(column.last_of_kind, column, &maker.cells, Some(kind)) {
+            return Ok(Some(column.last_of_kind));
+        }
+        let place = self.place(alloc, row, column, Some(kind), maker)?;
+        column.last_of_kind = place;
+        Ok(Some(place))
+    }
+
+    /// The place of the frame of a column in the row at hand. None where its facts are not by the fast way. Fails where memory is
+    /// short.
+    #[inline(always)]
+    pub(crate) fn frame_for<'a>(
+        &mut self,
+        alloc: Global,
+        row: &TableRow<'a, '_>,
+        column: &mut FactColumn<'a>,
+        maker: &mut FrameMaker<'a>,
+    ) -> Result<Option<usize>, AllocError>
+        requires maker { IsMaker row.now maker.old }
+        requires column { IsFactColumn row.now.form maker.old.cells.list.items column.old }
+        requires frames { All (IsFrame row.now.form (map key_of maker.old.references)) self.old.list.items }
+        ensures text { IfOk result (λ o. IfSome o (λ place. IfSome (text_in self.new.list.items place) (IsTextFor row.now (map key_of maker.new.references) column.old.column))) }
+        ensures maker { IsMaker row.now maker.new }
+        ensures grows { Grows maker.old.references maker.new.references }
+        ensures cells { maker.new.cells ≡ maker.old.cells }
+        ensures frames { All (IsFrame row.now.form (map key_of maker.new.references)) self.new.list.items }
+        ensures column { IsFactColumn row.now.form maker.new.cells.list.items column.new }
+        ensures same { column.new ≡ record column.old { last = column.new.last; last_of_kind = column.new.last_of_kind } }
+    {
+        let first = self.first(alloc, row, column, maker)?;
+        let Some(place) = first else {
+            return Ok(None);
+        };
+        let frame = &self.list[place];
+        let Some(reference) = frame.concept() else {
+            return Ok(Some(place));
+        };
+        let found = self.by_concept(alloc, row, column, reference, maker)?;
+        Ok(found)
+    }
+
+    /// The text of the frame at a place, where it has one.
+    #[inline(always)]
+    pub(crate) fn text(&self, place: usize) -> Option<&FrameText>
+        ensures { IfSome result (λ t. text_in self.now.list.items place ≡ Some t.now) }
+    {
+        if place >= self.list.len() {
+            return None;
+        }
+        let frame = &self.list[place];
+        match &frame.body {
+            Body::Text(text) => Some(text),
+            Body::ByConcept(_) | Body::Unknown => None,
+        }
+    }
+}

@@ -1,0 +1,139 @@
+//! The dimensions that the levels of a table write, made ready, each once.
+
+ghost use Rattle.std.specs.Prelude.{◌≡◌, [], List, Some, IfOk, IfSome, map, true};
+ghost use Rattle.std.specs.List.{All, slice_get};
+ghost use Rattle.std.specs.Option.{option_map};
+ghost use Rattle.oim_rows.specs.RowFacts.{Reading};
+ghost use Rattle.oim_fast.specs.Frames.{entry_of};
+ghost use Rattle.oim_fast.specs.Parts.{IsPart};
+ghost use Rattle.oim_fast.specs.References.{Grows, IsFresh, Key, key_of};
+
+use crate::frame::part::Part;
+use crate::row::purpose::is_same_side;
+use crate::row::references::References;
+use crate::row::table_row::TableRow;
+use crate::text::hash_index::{HashIndex, STEPS, hash_of, hash_with};
+use oim_report::Written;
+use std::alloc::{AllocError, Global};
+
+/// How many parts are kept at most. Where there would be more, all of them are forgotten.
+const MOST: usize = 4096;
+
+/// The dimensions that levels write. A place is that of a part until another part is asked for.
+#[derive(Drop)]
+pub(crate) struct Parts<'a> {
+    pub(crate) list: Vec<Part<'a>>,
+    by_written: HashIndex,
+}
+
+/// A hash of a name and of what is written for it.
+fn hash_of_written(name: &str, written: &Written) -> u64 {
+    let text = match written {
+        Written::Text(text) | Written::Named(text, _) => text.as_str(),
+        Written::Absent | Written::Nil | Written::Empty | Written::RowNumber(_) => "",
+    };
+    hash_with(hash_of(name.as_bytes()), hash_of(text.as_bytes()))
+}
+
+/// Whether two written values are the same.
+fn is_same_written(first: &Written, second: &Written) -> bool
+    ensures { result ≡ true → first.now ≡ second.now }
+{
+    match (first, second) {
+        (Written::Absent, Written::Absent) => true,
+        (Written::Nil, Written::Nil) => true,
+        (Written::Empty, Written::Empty) => true,
+        (Written::Text(first), Written::Text(second)) => first.as_str() == second.as_str(),
+        (Written::RowNumber(side), Written::RowNumber(other)) => is_same_side(*side, *other),
+        (Written::Named(first, side), Written::Named(second, other)) => is_same_side(*side, *other)
+            && first.as_str() == second.as_str(),
+        _ => false,
+    }
+}
+
+impl<'a> Parts<'a> {
+    /// No parts. It takes no memory.
+    pub(crate) fn new(alloc: Global) -> Parts<'a>
+        ensures { result.list.items ≡ [] }
+    {
+        Parts {
+            list: Vec::new(alloc),
+            by_written: HashIndex::new(alloc),
+        }
+    }
+
+    /// Whether the part at a place is of this name and of what is written for it.
+    fn is_at(&self, place: usize, name: &str, written: &Written) -> bool
+        ensures { result ≡ true → option_map entry_of (slice_get self.now.list.items place) ≡ Some (name.now, written.now) }
+    {
+        if place >= self.list.len() {
+            return false;
+        }
+        let part = &self.list[place];
+        if part.name == name {
+            return is_same_written(part.written, written);
+        }
+        false
+    }
+
+    /// The place of a part that is kept, if it is found.
+    fn find(&self, hash: u64, name: &str, written: &Written) -> Option<usize>
+        ensures { IfSome result (λ place. option_map entry_of (slice_get self.now.list.items place) ≡ Some (name.now, written.now)) }
+    {
+        for step in 0..STEPS {
+            let place = self.by_written.place_at(hash, step)?;
+            if self.is_at(place, name, written) {
+                return Some(place);
+            }
+        }
+        None
+    }
+
+    /// Forgets all parts where there are as many as may be kept.
+    fn make_room(&mut self)
+        ensures { (f : Reading) (keys : List Key) → All (IsPart f keys) self.old.list.items → All (IsPart f keys) self.new.list.items }
+    {
+        if self.list.len() < MOST {
+            return;
+        }
+        self.list.clear();
+        self.by_written.clear();
+    }
+
+    /// Keeps a part, and answers its place. Fails where memory is short.
+    fn keep(&mut self, alloc: Global, hash: u64, part: Part<'a>) -> Result<usize, AllocError>
+        ensures place { IfOk result (λ place. slice_get self.new.list.items place ≡ Some part.entry) }
+        ensures parts { (f : Reading) (keys : List Key) → All (IsPart f keys) self.old.list.items → IsPart f keys part.entry → All (IsPart f keys) self.new.list.items }
+    {
+        self.make_room();
+        let place = self.list.len();
+        self.list.push(part)?;
+        self.by_written.add(alloc, hash, place)?;
+        Ok(place)
+    }
+
+    /// The place of what is written for a name, which is made ready where it is not kept. Fails where memory is short.
+    pub(crate) fn place_for(
+        &mut self,
+        alloc: Global,
+        row: &TableRow<'a, '_>,
+        references: &mut References<'a>,
+        name: &'a str,
+        written: &'a Written,
+    ) -> Result<usize, AllocError>
+        requires fresh { All (IsFresh row.now) references.old }
+        requires parts { All (IsPart row.now.form (map key_of references.old)) self.old.list.items }
+        ensures place { IfOk result (λ place. option_map entry_of (slice_get self.new.list.items place) ≡ Some (name.now, written.now)) }
+        ensures parts { All (IsPart row.now.form (map key_of references.new)) self.new.list.items }
+        ensures fresh { All (IsFresh row.now) references.new }
+        ensures grows { Grows references.old references.new }
+    {
+        let hash = hash_of_written(name, written);
+        if let Some(place) = self.find(hash, name, written) {
+            return Ok(place);
+        }
+        let part = Part::new(alloc, row, references, name, written)?;
+        let place = self.keep(alloc, hash, part)?;
+        Ok(place)
+    }
+}

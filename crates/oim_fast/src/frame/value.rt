@@ -1,0 +1,118 @@
+//! What the cell of a fact says.
+
+ghost use Rattle.std.specs.Prelude.{◌≡◌, ◌≤◌, ℕ, List, Ok, Some, IfOk, IfSome, false, length, take, true};
+ghost use Rattle.oim_cells.specs.Cells.{meaning_of};
+ghost use Rattle.oim_rows.specs.RowFacts.{field_or_empty};
+ghost use Rattle.oim_report.specs.ReportValue.{ReportValue};
+ghost use Rattle.oim_report.specs.declared.kind.Kind.TheVariants.{Number as number_kind};
+ghost use Rattle.oim_resolve.specs.FactValues.{plain as plain_text, text_given};
+ghost use Rattle.oim_fast.specs.CellValues.{IsCellValue, IsValue};
+
+use crate::frame::numeral::plain_numeral;
+use crate::row::table_row::TableRow;
+use crate::text::buffer::TextBuffer;
+use oim_cells::{Accuracy, CellMeaning, NumberKind, meaning};
+use oim_report::Kind;
+use oim_resolve::fact_value;
+use std::alloc::AllocError;
+
+/// The value of a fact: the first `len` of the bytes, and the accuracy that the suffix of a numeral states.
+#[derive(Clone, Copy)]
+pub(crate) struct Value<'r> {
+    pub(crate) bytes: &'r [u8],
+    pub(crate) len: usize,
+    pub(crate) accuracy: Option<Accuracy>,
+    pub(crate) is_nil: bool,
+}
+
+/// What a cell says of its fact.
+#[derive(Clone, Copy)]
+pub(crate) enum CellValue<'r> {
+    /// There is no fact.
+    NoFact,
+    Value(Value<'r>),
+    /// It is not known: the fact is not by the fast way.
+    Unknown,
+}
+
+/// The value of a text as it stands.
+#[inline(always)]
+fn plain<'r>(bytes: &'r [u8], len: usize, accuracy: Option<Accuracy>) -> Value<'r>
+    ensures { result ≡ record { bytes = bytes.entry; len = len; accuracy = accuracy; is_nil = false } }
+{
+    Value {
+        bytes,
+        len,
+        accuracy,
+        is_nil: false,
+    }
+}
+
+/// Whether each text is a value of a kind as it stands.
+#[inline(always)]
+fn stands_for_itself(kind: Kind) -> bool
+    ensures { result ≡ true → (report : ReportValue) (text : List ℕ) → text_given report kind text ≡ Ok (plain_text text) }
+{
+    matches!(&kind, Kind::Text | Kind::Other)
+}
+
+/// The value of a number's cell, where nothing stands round the numeral but a suffix. `bytes` begin with the cell.
+#[inline(always)]
+fn number<'r>(kind: NumberKind, cell: &str, bytes: &'r [u8]) -> Option<Value<'r>>
+    requires cell { take (length cell.now) bytes.now ≡ cell.now }
+    requires within { length cell.now ≤ length bytes.now }
+    ensures { (report : ReportValue) → IfSome result (λ v. IsValue report (number_kind kind) (meaning_of cell.now) v) }
+{
+    let (len, accuracy) = plain_numeral(kind, cell)?;
+    Some(plain(bytes, len, accuracy))
+}
+
+/// The value of any cell, copied to `room` where it is a text. Fails where memory is short.
+#[inline(never)]
+pub(crate) fn rare_value<'r>(
+    row: &TableRow<'_, '_>,
+    kind: Kind,
+    cell: &str,
+    room: &'r mut TextBuffer,
+) -> Result<CellValue<'r>, AllocError>
+    ensures { IfOk result (λ v. IsCellValue row.now.form.report kind (meaning_of cell.now) v) }
+{
+    let said = meaning(cell);
+    if matches!(&said, CellMeaning::Absent) {
+        return Ok(CellValue::NoFact);
+    }
+    if matches!(&said, CellMeaning::Unknown) {
+        return Ok(CellValue::Unknown);
+    }
+    let Ok(value) = fact_value(row.report(), kind, said) else {
+        return Ok(CellValue::Unknown);
+    };
+    room.clear();
+    if let Some(text) = value.text {
+        room.put(text.as_bytes())?;
+    }
+    room.pad()?;
+    Ok(CellValue::Value(Value {
+        len: room.len(),
+        bytes: room.room.as_slice(),
+        accuracy: value.accuracy,
+        is_nil: value.text.is_none(),
+    }))
+}
+
+/// What the cell at a place says of a fact whose concept has a kind, in most of its forms. None for a rare one.
+#[inline(always)]
+pub(crate) fn quick_value<'r>(row: &TableRow<'_, 'r>, place: usize, kind: Kind) -> Option<Value<'r>>
+    ensures { IfSome result (IsValue row.now.form.report kind (meaning_of (field_or_empty row.now.fields (Some place)))) }
+{
+    let cell = row.text_at(Some(place));
+    let (bytes, len) = row.bytes_at(place);
+    if let Kind::Number(number_kind) = kind {
+        if let Some(value) = number(number_kind, cell, bytes) {
+            return Some(value);
+        }
+    } else if stands_for_itself(kind) && len > 0 && bytes[0] != b'#' {
+        return Some(plain(bytes, len, None));
+    }
+    None
+}

@@ -1,0 +1,173 @@
+//! The property groups that a row names.
+
+ghost use Rattle.std.specs.Prelude.{◌≡◌, ◌<◌, [], Some, IfOk, IfSome, length, map};
+ghost use Rattle.std.specs.List.{All, slice_get};
+ghost use Rattle.std.specs.Map.{keys_of};
+ghost use Rattle.std.specs.Option.{option_map, option_and_then};
+ghost use Rattle.oim_cells.specs.Cells.{Text as a_text, meaning_of};
+ghost use Rattle.oim_report.specs.Rising.{IsRising};
+ghost use Rattle.oim_report.specs.declared.data.Column.{Column as ColumnValue};
+ghost use Rattle.oim_rows.specs.RowFacts.{field_or_empty};
+ghost use Rattle.oim_fast.specs.Groups.{IsGroupCell, IsSaid, Says, level_chosen};
+ghost use Rattle.oim_fast.specs.References.{Grows};
+ghost use Rattle.oim_fast.specs.Rows.{column_in, columns_in};
+
+use crate::row::source::place_in;
+use crate::row::table_row::TableRow;
+use oim_cells::{CellMeaning, meaning};
+use oim_names::Text;
+use oim_report::Level;
+use oim_rows::RowForm;
+use std::alloc::{AllocError, Global};
+
+/// What a row's cell says in a column of property groups.
+#[derive(Clone, Copy)]
+pub(crate) enum Choice {
+    Nothing,
+    /// The place of the group that it names.
+    Group(usize),
+    /// It is not known: facts of columns that take from it are not by the fast way.
+    Unknown,
+}
+
+/// A column of property groups: its place in the template and in the header, its groups, and what the row at hand says.
+#[derive(Drop)]
+pub(crate) struct GroupCell<'a> {
+    pub(crate) column: usize,
+    pub(crate) place: Option<usize>,
+    pub(crate) groups: &'a [(Text, Level)],
+    pub(crate) choice: Choice,
+}
+
+/// The columns of property groups that the fact columns of a header take from.
+#[derive(Drop)]
+pub(crate) struct GroupCells<'a> {
+    pub(crate) list: Vec<GroupCell<'a>>,
+}
+
+/// The place of the group of a name, where it is found.
+fn place_of(groups: &[(Text, Level)], name: &str) -> Choice
+    requires { IsRising (keys_of groups.now) }
+    ensures { (column : ColumnValue) → groups.now ≡ column.groups → Says column (a_text name.now) result }
+{
+    match groups.binary_search_by(|group| group.0.as_str().cmp(name)) {
+        Ok(place) => Choice::Group(place),
+        Err(_) => Choice::Unknown,
+    }
+}
+
+impl<'a> GroupCell<'a> {
+    /// The group of a name. Often it is the one that the last row named.
+    #[inline(always)]
+    fn find(&self, name: &str) -> Choice
+        requires { IsRising (keys_of self.now.groups.now) }
+        ensures { (column : ColumnValue) → self.now.groups.now ≡ column.groups → Says column (a_text name.now) result }
+    {
+        if let Choice::Group(place) = self.choice {
+            if place < self.groups.len() && self.groups[place].0.as_str() == name {
+                return Choice::Group(place);
+            }
+        }
+        place_of(self.groups, name)
+    }
+
+    /// What a row says.
+    #[inline(always)]
+    fn choice_in(&self, row: &TableRow<'_, '_>) -> Choice
+        requires { IsGroupCell row.now.form self.now }
+        ensures { Says (column_in row.now.form self.now.column) (meaning_of (field_or_empty row.now.fields self.now.place)) result }
+    {
+        match meaning(row.text_at(self.place)) {
+            CellMeaning::Absent => Choice::Nothing,
+            CellMeaning::Text(name) => self.find(name),
+            CellMeaning::Nil | CellMeaning::Empty | CellMeaning::Unknown => Choice::Unknown,
+        }
+    }
+}
+
+impl<'a> GroupCells<'a> {
+    /// No columns. It takes no memory.
+    pub(crate) fn new(alloc: Global) -> GroupCells<'a>
+        ensures { result.list.items ≡ [] }
+    {
+        GroupCells {
+            list: Vec::new(alloc),
+        }
+    }
+
+    /// The place of a column of the template that is there already.
+    fn find(&self, column: usize) -> Option<usize>
+        ensures { IfSome result (λ place. option_map (λ g. g.column) (slice_get self.now.list.items place) ≡ Some column) }
+    {
+        for i in 0..self.list.len() {
+            if self.list[i].column == column {
+                return Some(i);
+            }
+        }
+        None
+    }
+
+    /// The place of a column of the template, which is added where it is not there. Fails where memory is short.
+    pub(crate) fn place_for(
+        &mut self,
+        form: &RowForm<'a>,
+        column: usize,
+    ) -> Result<usize, AllocError>
+        requires column { column < length (columns_in form.now) }
+        requires cells { All (IsGroupCell form.now) self.old.list.items }
+        ensures place { IfOk result (λ place. option_map (λ g. g.column) (slice_get self.new.list.items place) ≡ Some column) }
+        ensures cells { All (IsGroupCell form.now) self.new.list.items }
+        ensures grows { Grows self.old.list.items self.new.list.items }
+    {
+        if let Some(place) = self.find(column) {
+            return Ok(place);
+        }
+        form.report().stands_in_order();
+        let place = self.list.len();
+        self.list.push(GroupCell {
+            column,
+            place: place_in(form.header(), column),
+            groups: form.report().column(form.table(), column).groups.as_slice(),
+            choice: Choice::Unknown,
+        })?;
+        Ok(place)
+    }
+
+    /// Goes on to a row.
+    #[inline(always)]
+    pub(crate) fn refresh(&mut self, row: &TableRow<'_, '_>)
+        requires { All (IsGroupCell row.now.form) self.old.list.items }
+        ensures cells { All (IsGroupCell row.now.form) self.new.list.items }
+        ensures said { All (IsSaid row.now) self.new.list.items }
+        ensures columns { map (λ g. g.column) self.new.list.items ≡ map (λ g. g.column) self.old.list.items }
+    {
+        for i in 0..self.list.len() {
+            let cell = &mut self.list[i];
+            cell.choice = cell.choice_in(row);
+        }
+    }
+
+    /// What the row at hand says in a column.
+    #[inline(always)]
+    pub(crate) fn choice(&self, place: usize) -> Choice
+        requires { place < length self.now.list.items }
+        ensures { option_map (λ g. g.choice) (slice_get self.now.list.items place) ≡ Some result }
+    {
+        self.list[place].choice
+    }
+
+    /// The level of the group that the row at hand names in a column.
+    pub(crate) fn level(&self, place: usize) -> Option<&'a Level>
+        requires { place < length self.now.list.items }
+        ensures { option_map (λ l. l.now) result ≡ option_and_then level_chosen (slice_get self.now.list.items place) }
+    {
+        let cell = &self.list[place];
+        match cell.choice {
+            Choice::Group(group) => match cell.groups.get(group) {
+                Some(entry) => Some(&entry.1),
+                None => None,
+            },
+            Choice::Nothing | Choice::Unknown => None,
+        }
+    }
+}

@@ -1,0 +1,141 @@
+//! The references of a table.
+
+ghost use Rattle.std.specs.Prelude.{◌≡◌, ◌<◌, [], Some, IfOk, IfSome, OnOk, length, map};
+ghost use Rattle.std.specs.List.{All, slice_get};
+ghost use Rattle.std.specs.Option.{option_map};
+ghost use Rattle.oim_fast.specs.Answers.{IsAnswer};
+ghost use Rattle.oim_fast.specs.References.{Grows, IsFresh, IsOfReport, key_of, meaning_at_hand};
+ghost use Rattle.oim_fast.specs.Sources.{seen_source};
+
+use crate::row::answer::Answer;
+use crate::row::purpose::Purpose;
+use crate::row::reference::Reference;
+use crate::row::source::Source;
+use crate::row::table_row::TableRow;
+use std::alloc::{AllocError, Global};
+use std::marker::Model;
+
+/// The references of a table, each once. A contract sees the list of them.
+#[derive(Drop)]
+pub(crate) struct References<'a> {
+    list: Vec<Reference<'a>>,
+    /// How many bytes one gives at most in the row at hand. It is tested where it is used.
+    most: usize,
+}
+
+impl<'a> Model for References<'a> {
+    ghost use Rattle.std.specs.Prelude.{List};
+    ghost use Rattle.oim_fast.specs.References.{ReferenceValue};
+
+    ghost Value = { List ReferenceValue };
+
+    ghost view = { λ a. a.list.items };
+}
+
+/// Goes on to a row with each of these, and answers how many bytes one gives at most. Fails where memory is short.
+#[inline(always)]
+fn refresh_all<'a>(
+    alloc: Global,
+    list: &mut Vec<Reference<'a>>,
+    row: &TableRow<'a, '_>,
+) -> Result<usize, AllocError>
+    requires { All (IsOfReport row.now.form.report) list.old.items }
+    ensures fresh { OnOk result (All (IsFresh row.now) list.new.items) }
+    ensures reports { All (IsOfReport row.now.form.report) list.new.items }
+    ensures keys { map key_of list.new.items ≡ map key_of list.old.items }
+{
+    let mut most = 0;
+    for i in 0..list.len() {
+        let reference = &mut list[i];
+        reference.refresh(alloc, row)?;
+        let size = reference.answer().json.len();
+        if most < size {
+            most = size;
+        }
+    }
+    Ok(most)
+}
+
+impl<'a> References<'a> {
+    /// No references. It takes no memory.
+    pub(crate) fn new(alloc: Global) -> References<'a>
+        ensures { result ≡ [] }
+    {
+        References {
+            list: Vec::new(alloc),
+            most: 0,
+        }
+    }
+
+    /// Goes on to a row: each has the text that the row gives. Fails where memory is short.
+    #[inline(always)]
+    pub(crate) fn refresh(
+        &mut self,
+        alloc: Global,
+        row: &TableRow<'a, '_>,
+    ) -> Result<(), AllocError>
+        requires { All (IsOfReport row.now.form.report) self.old }
+        ensures fresh { OnOk result (All (IsFresh row.now) self.new) }
+        ensures reports { All (IsOfReport row.now.form.report) self.new }
+        ensures keys { map key_of self.new ≡ map key_of self.old }
+    {
+        self.most = refresh_all(alloc, &mut self.list, row)?;
+        Ok(())
+    }
+
+    /// The place of a reference that is there already.
+    fn find(&self, purpose: Purpose, source: Source<'_>) -> Option<usize>
+        ensures { IfSome result (λ place. option_map key_of (slice_get self.now place) ≡ Some (record { purpose = purpose; source = seen_source source.entry })) }
+    {
+        for i in 0..self.list.len() {
+            if self.list[i].is_for(purpose, source) {
+                return Some(i);
+            }
+        }
+        None
+    }
+
+    /// The place of a reference, which is made where there is none, and then has the text that the row gives. Fails where
+    /// memory is short.
+    pub(crate) fn place_for(
+        &mut self,
+        alloc: Global,
+        row: &TableRow<'a, '_>,
+        purpose: Purpose,
+        source: Source<'a>,
+    ) -> Result<usize, AllocError>
+        requires { All (IsFresh row.now) self.old }
+        ensures place { IfOk result (λ place. option_map key_of (slice_get self.new place) ≡ Some (record { purpose = purpose; source = seen_source source.entry })) }
+        ensures fresh { All (IsFresh row.now) self.new }
+        ensures grows { Grows self.old self.new }
+    {
+        if let Some(place) = self.find(purpose, source) {
+            return Ok(place);
+        }
+        let mut reference = Reference::new(alloc, row.report(), purpose, source)?;
+        reference.refresh(alloc, row)?;
+        let size = reference.answer().json.len();
+        let place = self.list.len();
+        self.list.push(reference)?;
+        if self.most < size {
+            self.most = size;
+        }
+        Ok(place)
+    }
+
+    /// What a reference gives in the row at hand.
+    #[inline(always)]
+    pub(crate) fn at(&self, place: usize) -> &Answer
+        requires { place < length self.now }
+        ensures { IfSome (slice_get self.now place) (λ r. IsAnswer r.report r.key.purpose (meaning_at_hand r) result.now) }
+    {
+        let reference = &self.list[place];
+        reference.answer()
+    }
+
+    /// How many bytes one gives at most in the row at hand. Who writes them tests it: no answer depends on it.
+    #[inline(always)]
+    pub(crate) fn most(&self) -> usize {
+        self.most
+    }
+}

@@ -1,0 +1,119 @@
+//! A row of a table.
+
+ghost use Rattle.std.specs.Prelude.{◌≡◌, ◌<◌, ◌≤◌, ◌^◌, Some, decimal, length, take};
+ghost use Rattle.oim_rows.specs.RowFacts.{field_or_empty};
+
+use oim_records::TextFields;
+use oim_report::Report;
+use oim_rows::RowForm;
+use std::marker::Model;
+
+/// A row of a table: its fields under the table's header, and its number. A contract sees what its table's rows are read
+/// by, its number, and its fields.
+#[derive(Drop)]
+pub struct TableRow<'a, 'r> {
+    form: &'r RowForm<'a>,
+    number: u32,
+    /// The number in digits.
+    digits: &'r str,
+    fields: &'r TextFields<'r>,
+}
+
+impl<'a, 'r> Model for TableRow<'a, 'r> {
+    ghost use Rattle.std.specs.Prelude.{◌≡◌, decimal};
+    ghost use Rattle.oim_fast.specs.Rows.{RowValue};
+
+    ghost Value = { RowValue };
+
+    ghost view = { λ a. record { form = a.form.now; number = a.number; fields = a.fields.now } };
+
+    ghost invariant = { λ a. a.digits.now ≡ decimal a.number };
+}
+
+impl<'a, 'r> TableRow<'a, 'r> {
+    /// The row of a number, which is given in digits too.
+    #[inline(always)]
+    pub fn new(
+        form: &'r RowForm<'a>,
+        number: u32,
+        digits: &'r str,
+        fields: &'r TextFields<'r>,
+    ) -> TableRow<'a, 'r>
+        requires { digits.now ≡ decimal number }
+        ensures { result ≡ record { form = form.now; number = number; fields = fields.now } }
+    {
+        TableRow {
+            form,
+            number,
+            digits,
+            fields,
+        }
+    }
+
+    /// What the rows of its table are read by.
+    #[inline(always)]
+    pub fn form(&self) -> &'r RowForm<'a>
+        ensures { result.now ≡ self.now.form }
+    {
+        self.form
+    }
+
+    /// The report of its table.
+    #[inline(always)]
+    pub fn report(&self) -> &'a Report
+        ensures { result.now ≡ self.now.form.report }
+    {
+        self.form.report()
+    }
+
+    /// The place of its table in the report.
+    #[inline(always)]
+    pub fn table(&self) -> usize
+        ensures value { result ≡ self.now.form.table }
+        ensures within { result < length self.now.form.report.tables }
+    {
+        self.form.table()
+    }
+
+    /// Its number.
+    #[inline(always)]
+    pub fn number(&self) -> u32
+        ensures { result ≡ self.now.number }
+    {
+        self.number
+    }
+
+    /// Its number in digits.
+    #[inline(always)]
+    pub fn digits(&self) -> &'r str
+        ensures value { result.now ≡ decimal self.now.number }
+        ensures within { self.now.number < 2 ^ 32 }
+    {
+        let _number = self.number;
+        self.digits
+    }
+
+    /// The text at a place of the header, or the empty text.
+    #[inline(always)]
+    pub fn text_at(&self, place: Option<usize>) -> &'r str
+        ensures { result.now ≡ field_or_empty self.now.fields place }
+    {
+        match place {
+            Some(place) => match self.fields.get(place) {
+                Some(text) => text,
+                None => "",
+            },
+            None => "",
+        }
+    }
+
+    /// The bytes of the text at a place, with what stands behind them where that can be read, and how many they are.
+    #[inline(always)]
+    pub fn bytes_at(&self, place: usize) -> (&'r [u8], usize)
+        ensures bytes { take result.1 result.0.now ≡ field_or_empty self.now.fields (Some place) }
+        ensures within { result.1 ≤ length result.0.now }
+    {
+        let bytes = self.text_at(Some(place)).as_bytes();
+        (bytes, bytes.len())
+    }
+}

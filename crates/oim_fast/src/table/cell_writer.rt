@@ -1,0 +1,148 @@
+//! Writing the facts of a row cell by cell.
+
+ghost use Rattle.std.specs.Prelude.{◌≡◌, ◌<◌, ◌≤◌, ◌++◌, ◌∷◌, [], IfOk, OnOk, length, true};
+ghost use mathlib.Core.List.{IsPrefix};
+ghost use Rattle.oim_fast.specs.CellWriters.{IsCellWriter, IsInRow, PutsCell, column_at};
+ghost use Rattle.oim_fast.specs.Facts.{WritesFacts};
+
+use crate::frame::fact::put_fact;
+use crate::frame::fact_column::{FactColumn, fact_columns};
+use crate::frame::fact_start::FactStart;
+use crate::frame::frame_maker::FrameMaker;
+use crate::frame::frames::Frames;
+use crate::frame::value::{CellValue, quick_value, rare_value};
+use crate::row::group_cells::GroupCells;
+use crate::row::table_row::TableRow;
+use crate::text::buffer::TextBuffer;
+use oim_rows::RowForm;
+use std::alloc::{AllocError, Global};
+
+/// All that is ready for the cells of a table's rows.
+#[derive(Drop)]
+pub(crate) struct CellWriter<'a> {
+    pub(crate) columns: Vec<FactColumn<'a>>,
+    pub(crate) maker: FrameMaker<'a>,
+    pub(crate) frames: Frames,
+    pub(crate) start: FactStart,
+    /// For values of rare forms.
+    pub(crate) value: TextBuffer,
+}
+
+/// Notes where a text ends that came behind the first `before` bytes; nothing where none came. Fails where memory is short.
+#[inline(always)]
+fn note_end(before: usize, end: usize, ends: &mut Vec<usize>) -> Result<(), AllocError>
+    ensures more { OnOk result (before < end → ends.new.items ≡ ends.old.items ++ end ∷ []) }
+    ensures none { OnOk result (end ≤ before → ends.new.items ≡ ends.old.items) }
+    ensures stays { IsPrefix ends.old.items ends.new.items }
+{
+    if before < end {
+        ends.push(end)?;
+    }
+    Ok(())
+}
+
+impl<'a> CellWriter<'a> {
+    /// What writes the cells of a form's rows. Fails where memory is short.
+    pub(crate) fn new(alloc: Global, form: &RowForm<'a>) -> Result<CellWriter<'a>, AllocError>
+        ensures { IfOk result (IsCellWriter form.now) }
+    {
+        let mut cells = GroupCells::new(alloc);
+        let columns = fact_columns(alloc, form, &mut cells)?;
+        let maker = FrameMaker::new(alloc, cells);
+        let frames = Frames::new(alloc);
+        let start = FactStart::new(alloc, form)?;
+        Ok(CellWriter {
+            columns,
+            maker,
+            frames,
+            start,
+            value: TextBuffer::new(alloc),
+        })
+    }
+
+    /// Goes on to a row. Fails where memory is short.
+    #[inline(always)]
+    pub(crate) fn refresh(
+        &mut self,
+        alloc: Global,
+        row: &TableRow<'a, '_>,
+    ) -> Result<(), AllocError>
+        requires { IsCellWriter row.now.form self.old }
+        ensures form { IsCellWriter row.now.form self.new }
+        ensures row { OnOk result (IsInRow row.now self.new) }
+    {
+        let _digits = row.digits();
+        self.maker.refresh(alloc, row)?;
+        self.start.read(row)?;
+        Ok(())
+    }
+
+    /// Appends the fact of the row at hand in the column at a place behind a comma, where it has one. False where that is not by
+    /// the fast way. Fails where memory is short. Then nothing is appended.
+    #[inline(always)]
+    fn put_cell(
+        &mut self,
+        alloc: Global,
+        row: &TableRow<'a, '_>,
+        i: usize,
+        out: &mut TextBuffer,
+    ) -> Result<bool, AllocError>
+        requires row { IsInRow row.now self.old }
+        requires within { i < length self.old.columns.items }
+        ensures row { IsInRow row.now self.new }
+        ensures cell { PutsCell row.now (column_at row.now.form i) out.old.items out.new.items result }
+    {
+        let column = &mut self.columns[i];
+        let place = column.place;
+        let cell = row.text_at(Some(place));
+        let size = cell.len();
+        if size == 0 {
+            return Ok(true);
+        }
+        let Some(at) = self.frames.frame_for(alloc, row, column, &mut self.maker)? else {
+            return Ok(false);
+        };
+        let Some(frame) = self.frames.text(at) else {
+            return Ok(false);
+        };
+        let references = &self.maker.references;
+        let start = &self.start.start;
+        if let Some(value) = quick_value(row, place, frame.kind) {
+            return put_fact(frame, references, start, &value, out);
+        }
+        match rare_value(row, frame.kind, cell, &mut self.value)? {
+            CellValue::Value(value) => put_fact(frame, references, start, &value, out),
+            CellValue::NoFact => Ok(true),
+            CellValue::Unknown => Ok(false),
+        }
+    }
+
+    /// Appends the text of each fact of the row at hand behind a comma, and where each of them ends. False where the row is not by
+    /// the fast way. Fails where memory is short. Then a beginning of it is left behind what was there.
+    #[inline(always)]
+    pub(crate) fn put_cells(
+        &mut self,
+        alloc: Global,
+        row: &TableRow<'a, '_>,
+        out: &mut TextBuffer,
+        ends: &mut Vec<usize>,
+    ) -> Result<bool, AllocError>
+        requires { IsInRow row.now self.old }
+        ensures form { IsCellWriter row.now.form self.new }
+        ensures front { IsPrefix out.old.items out.new.items × IsPrefix ends.old.items ends.new.items }
+        ensures facts { IfOk result (λ written. written ≡ true → WritesFacts row.now out.old.items out.new.items ends.old.items ends.new.items) }
+    {
+        let count = self.columns.len();
+        ends.reserve(count)?;
+        for i in 0..count {
+            let before = out.len();
+            let done = self.put_cell(alloc, row, i, out)?;
+            if !done {
+                return Ok(false);
+            }
+            let end = out.len();
+            note_end(before, end, ends)?;
+        }
+        Ok(true)
+    }
+}

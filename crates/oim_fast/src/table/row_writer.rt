@@ -1,0 +1,67 @@
+//! The fast way from a row to the texts of its facts.
+
+ghost use Rattle.std.specs.Prelude.{◌≡◌, IfOk, true};
+ghost use mathlib.Core.List.{IsPrefix};
+ghost use Rattle.oim_fast.specs.Facts.{WritesFacts};
+
+use crate::row::table_row::TableRow;
+use crate::table::cell_writer::CellWriter;
+use crate::text::buffer::TextBuffer;
+use oim_rows::RowForm;
+use std::alloc::{AllocError, Global};
+use std::marker::Model;
+use told::Told;
+
+/// Writes the facts of a table's rows: all that is ready for it. A contract sees what its rows are read by.
+#[derive(Drop)]
+pub struct RowWriter<'a> {
+    form: Told<RowForm<'a>>,
+    cells: CellWriter<'a>,
+}
+
+impl<'a> Model for RowWriter<'a> {
+    ghost use Rattle.oim_rows.specs.RowFacts.{Reading};
+    ghost use Rattle.oim_fast.specs.CellWriters.{IsCellWriter};
+
+    ghost Value = { Reading };
+
+    ghost view = { λ a. a.form.value };
+
+    ghost invariant = { λ a. IsCellWriter a.form.value a.cells };
+}
+
+impl<'a> RowWriter<'a> {
+    /// What writes the rows of a form.
+    ///
+    /// Fails where memory is short.
+    pub fn new(alloc: Global, form: &RowForm<'a>) -> Result<RowWriter<'a>, AllocError>
+        ensures { IfOk result (λ w. w ≡ form.now) }
+    {
+        Ok(RowWriter {
+            form: Told::seen(form),
+            cells: CellWriter::new(alloc, form)?,
+        })
+    }
+
+    /// Appends the text of each fact of a row behind a comma, as xBRL-JSON 1.0 has it, and where each of them ends, in bytes
+    /// from the front of the text.
+    ///
+    /// Answers false where the row is not by the fast way: it has a fault, or a rare form. Fails where memory is short. After
+    /// false and after a failure a beginning of the row may be left behind what was there, in both lists, so who calls cuts
+    /// it back.
+    pub fn put_row(
+        &mut self,
+        alloc: Global,
+        row: &TableRow<'a, '_>,
+        out: &mut TextBuffer,
+        ends: &mut Vec<usize>,
+    ) -> Result<bool, AllocError>
+        requires { row.now.form ≡ self.old }
+        ensures same { self.new ≡ self.old }
+        ensures front { IsPrefix out.old.items out.new.items × IsPrefix ends.old.items ends.new.items }
+        ensures facts { IfOk result (λ written. written ≡ true → WritesFacts row.now out.old.items out.new.items ends.old.items ends.new.items) }
+    {
+        self.cells.refresh(alloc, row)?;
+        self.cells.put_cells(alloc, row, out, ends)
+    }
+}

@@ -1,0 +1,11 @@
+use Rattle.std.proofs.Common.{◌≡◌, sym, true}
+use Rattle.oim_rows.specs.RowFacts.{is_fact_column}
+use Rattle.oim_rows.proofs.ReadCells.{is_cell}
+use Rattle.oim_rows.proofs.row_plan.RowPlan.fact_of_cell.Goals as goal
+
+pub resolve-requires : goal.resolve-requires
+resolve-requires c =
+    let range = rw c.self.view_is at c.self.invariant.in_range in
+    let columns = rw c.self.view_is at c.self.invariant.all_columns in
+    let found : is_fact_column c.self.inside.columns.now c.in-Some.column ≡ true = sym c.if-not-is_fact.ensures in
+    rw (c.self.invariant.one_report, c.self.invariant.one_table, c.self.view_is) (is_cell _ _ _ _ range c.requires.cells (rw columns at found))

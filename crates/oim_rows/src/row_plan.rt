@@ -1,0 +1,222 @@
+//! How the cells of a row become its facts.
+
+ghost use Rattle.std.specs.Prelude.{◌≡◌, ◌<◌, Err, IfOk, OnOk, length, map};
+ghost use Rattle.std.specs.List.{range_with_len};
+ghost use Rattle.std.specs.String.{string_bytes};
+ghost use Rattle.oim_report.specs.Readers.{columns_of};
+ghost use Rattle.oim_rows.specs.RowFacts.{IsTextRecord, fact_at, facts_from, field_or_empty, holds_facts};
+ghost use Rattle.oim_rows.specs.RowFacts.{id_place_of, is_fact_column, row_id_text, row_of, source_of_column};
+ghost use Rattle.oim_rows.specs.Streams.{OrNoMemory};
+
+use crate::cells::text_at;
+use crate::fault::{TableFault, TableKind, fault_at_place, whole_fault};
+use crate::form::{RowForm, push_row_number};
+use crate::header::source_of;
+use oim_names::{Items, Text};
+use oim_records::Fields;
+use oim_report::{Column, ColumnKind};
+use oim_resolve::{CellFault, Fact, Plan, Row, compile};
+use std::alloc::{AllocError, Global};
+use std::marker::Model;
+use std::snapshot::Snapshot;
+
+/// How the cells of a table's rows become their facts: the plan of the table's template under a header. A contract sees what the
+/// rows are read by.
+#[derive(Drop)]
+pub struct RowPlan<'a> {
+    plan: Plan<'a>,
+    columns: &'a [Column],
+    // the place in the header of each column of the template
+    sources: Vec<Option<usize>>,
+    form: Snapshot<RowForm<'a>>,
+}
+
+impl<'a> Model for RowPlan<'a> {
+    ghost use Rattle.oim_rows.specs.RowFacts.{Reading};
+    ghost use Rattle.oim_rows.specs.Decoding.{IsOfTable};
+
+    ghost Value = { Reading };
+
+    ghost view = { λ a. a.form.value };
+
+    ghost invariant = { λ a. IsOfTable a.form.value a.plan a.columns.now a.sources.items };
+}
+
+fn sources_of(
+    alloc: Global,
+    header: &[Option<usize>],
+    columns: usize,
+) -> Result<Vec<Option<usize>>, AllocError>
+    ensures { IfOk result (λ s. s.items ≡ map (source_of_column header.now) (range_with_len 0 columns)) }
+{
+    let mut sources = Vec::new(alloc);
+    for column in 0..columns {
+        sources.push(source_of(header, column))?;
+    }
+    Ok(sources)
+}
+
+/// The cells under these places of the header.
+fn cells_of(
+    alloc: Global,
+    sources: &[Option<usize>],
+    row: &Fields<'_>,
+) -> Result<Items<Text>, AllocError>
+    requires { IsTextRecord row.now }
+    ensures { IfOk result (λ cells. cells ≡ map (field_or_empty row.now) sources.now) }
+{
+    let mut cells = Items::from_vec(Vec::with_capacity(alloc, sources.len())?);
+    for source in sources {
+        cells.push(Text::from_str(alloc, text_at(row, *source))?)?;
+    }
+    Ok(cells)
+}
+
+fn is_of_facts(kind: ColumnKind) -> bool
+    ensures { result ≡ holds_facts kind }
+{
+    match kind {
+        ColumnKind::Fact => true,
+        ColumnKind::Groups | ColumnKind::Comment | ColumnKind::Plain => false,
+    }
+}
+
+/// Whether the column at a place holds facts.
+fn is_fact(columns: &[Column], column: usize) -> bool
+    ensures { result ≡ is_fact_column columns.now column }
+{
+    match columns.get(column) {
+        Some(column) => is_of_facts(column.kind),
+        None => false,
+    }
+}
+
+/// The identifier of row `number`.
+fn id_text(
+    alloc: Global,
+    form: &RowForm<'_>,
+    number: u32,
+    row: &Fields<'_>,
+) -> Result<String, AllocError>
+    requires { IsTextRecord row.now }
+    ensures { IfOk result (λ id. string_bytes id ≡ row_id_text (id_place_of form.now) number row.now) }
+{
+    match form.id_place() {
+        Some(place) => String::from_str(alloc, text_at(row, Some(place))),
+        None => {
+            let mut id = String::new(alloc);
+            push_row_number(&mut id, number)?;
+            Ok(id)
+        }
+    }
+}
+
+impl<'a> RowPlan<'a> {
+    /// How the cells of this form's rows become facts. Fails where memory is short.
+    pub fn new(alloc: Global, form: &RowForm<'a>) -> Result<RowPlan<'a>, AllocError>
+        ensures { IfOk result (λ p. p ≡ form.now) }
+    {
+        let plan = compile(alloc, form.report(), form.table())?;
+        let columns = form.report().template_columns(form.table());
+        let sources = sources_of(alloc, form.header(), columns.len())?;
+        Ok(RowPlan {
+            plan,
+            columns,
+            sources,
+            form: Snapshot::of(form),
+        })
+    }
+}
+
+impl RowPlan<'_> {
+    /// A record as a row, with a cell for each column of the template. Fails where memory is short.
+    fn row(
+        &self,
+        alloc: Global,
+        form: &RowForm<'_>,
+        number: u32,
+        row: &Fields<'_>,
+    ) -> Result<Row, AllocError>
+        requires form { form.now ≡ self.now }
+        requires texts { IsTextRecord row.now }
+        ensures { IfOk result (λ r. r ≡ row_of self.now number row.now) }
+    {
+        let id = id_text(alloc, form, number, row)?;
+        let cells = cells_of(alloc, self.sources.as_slice(), row)?;
+        Ok(Row::new(number, Text::new(id), cells))
+    }
+
+    /// The fact under one header cell of a row of the table at this place.
+    fn fact_of_cell(
+        &self,
+        alloc: Global,
+        table: usize,
+        row: &Row,
+        place: usize,
+        column: Option<usize>,
+    ) -> Result<Option<Fact>, TableFault>
+        requires table { table ≡ (self.now).table }
+        requires cells { length row.now.cells ≡ length (columns_of (self.now).report (self.now).table) }
+        ensures { OrNoMemory (self.now).table result (fact_at (self.now).report (self.now).table row.now place column) }
+    {
+        let Some(column) = column else {
+            return Ok(None);
+        };
+        if !is_fact(self.columns, column) {
+            return Ok(None);
+        }
+        match self.plan.resolve(alloc, row, column) {
+            Ok(fact) => Ok(fact),
+            Err(CellFault::Memory) => Err(whole_fault(table, TableKind::Memory)),
+            Err(fault) => Err(fault_at_place(table, row.number, place, TableKind::Cell(fault))),
+        }
+    }
+
+    /// The facts of a row, in header order, for the columns that `header` names.
+    ///
+    /// Fails with the fault of the first cell that has one, and with Memory where memory is short.
+    fn facts_of_row(
+        &self,
+        alloc: Global,
+        table: usize,
+        row: &Row,
+        header: &[Option<usize>],
+    ) -> Result<Items<Fact>, TableFault>
+        requires table { table ≡ (self.now).table }
+        requires cells { length row.now.cells ≡ length (columns_of (self.now).report (self.now).table) }
+        ensures { OrNoMemory (self.now).table result (facts_from (self.now).report (self.now).table row.now 0 header.now) }
+    {
+        let Ok(room) = Vec::with_capacity(alloc, header.len()) else {
+            return Err(whole_fault(table, TableKind::Memory));
+        };
+        let mut facts = Items::from_vec(room);
+        for i in 0..header.len() {
+            if let Some(fact) = self.fact_of_cell(alloc, table, row, i, header[i])? {
+                if facts.push(fact).is_err() {
+                    return Err(whole_fault(table, TableKind::Memory));
+                }
+            }
+        }
+        Ok(facts)
+    }
+
+    /// The facts of the cells of row `number`, in header order. The row's own faults and its identifier are not looked at.
+    ///
+    /// Fails with the fault of the first cell that has one, and with Memory where memory is short.
+    pub fn facts(
+        &self,
+        alloc: Global,
+        form: &RowForm<'_>,
+        number: u32,
+        row: &Fields<'_>,
+    ) -> Result<Items<Fact>, TableFault>
+        requires form { form.now ≡ self.now }
+        requires texts { IsTextRecord row.now }
+        ensures { OrNoMemory (self.now).table result (facts_from (self.now).report (self.now).table (row_of self.now number row.now) 0 (self.now).header) }
+    {
+        let Ok(cells) = self.row(alloc, form, number, row) else {
+            return Err(whole_fault(form.table(), TableKind::Memory));
+        };
+        self.facts_of_row(alloc, form.table(), &cells, form.header())
+    }
+}

@@ -1,0 +1,181 @@
+//! The files of a run that ended with a fault are read again, for its explanation.
+
+use crate::explain::entries::{BadRecord, bad_parameter, bad_type};
+use crate::explain::explanation::{Explanation, explanation_text};
+use crate::explain::files::{changed, line_again, of_file, place_in_file, unread};
+use crate::explain::metadata::explain_metadata;
+use crate::folder::{Folder, folder_of};
+use crate::outcome::{Outcome, Source};
+use crate::settings::Settings;
+use crate::steps::{metadata_at, parameters_in, path_in, types_in, url_in};
+use oim_meta::{MetaFault, Parameters, Types};
+use oim_names::Text;
+use std::alloc::{AllocError, Global};
+use std::io::Read;
+
+/// The parameters of the parameters file, and none where the metadata names no such file, or names it wrongly.
+fn parameters_again<R: Read + Drop, F: Folder<R>>(
+    alloc: Global,
+    folder: &mut F,
+    base: &str,
+    metadata: &[u8],
+) -> Result<Parameters, Outcome> {
+    match url_in(alloc, metadata) {
+        Ok(url) => parameters_in(alloc, folder, base, url),
+        Err(_) => Ok(Parameters::none(alloc)),
+    }
+}
+
+/// The explanation of a fault of the metadata at this path, with its types.
+fn with_types<R: Read + Drop, F: Folder<R>>(
+    alloc: Global,
+    folder: &mut F,
+    path: &str,
+    types: Types,
+    fault: MetaFault,
+) -> Result<Explanation, AllocError> {
+    let metadata = match metadata_at(alloc, folder, path) {
+        Ok(metadata) => metadata,
+        Err(outcome) => return unread(alloc, path, &outcome),
+    };
+    let metadata = metadata.as_slice();
+    let parameters = match parameters_again(alloc, folder, folder_of(path), metadata) {
+        Ok(parameters) => parameters,
+        Err(outcome) => return unread(alloc, path, &outcome),
+    };
+    match explain_metadata(alloc, path, metadata, parameters, types, fault)? {
+        Some(explanation) => Ok(explanation),
+        None => changed(alloc, path),
+    }
+}
+
+/// The explanation of a fault of the metadata.
+fn of_metadata<R: Read + Drop, F: Folder<R>>(
+    alloc: Global,
+    settings: &Settings,
+    folder: &mut F,
+    fault: MetaFault,
+) -> Result<Explanation, AllocError> {
+    let path = settings.meta.as_str();
+    match types_in(alloc, folder, settings.types.as_str()) {
+        Ok(types) => with_types(alloc, folder, path, types, fault),
+        Err(outcome) => unread(alloc, path, &outcome),
+    }
+}
+
+/// The explanation of a bad record of the file at this path.
+fn of_record<R: Read + Drop, F: Folder<R>>(
+    alloc: Global,
+    folder: &mut F,
+    path: &str,
+    bad: Option<BadRecord>,
+) -> Result<Explanation, AllocError> {
+    let Some(bad) = bad else {
+        return changed(alloc, path);
+    };
+    let line = line_again(folder, path, bad.number);
+    Ok(Explanation {
+        place: Text::new(place_in_file(alloc, path, line, bad.place)?),
+        found: Text::new(bad.found),
+        cause: bad.cause,
+    })
+}
+
+/// The explanation of a fault of the types table at this path.
+fn of_types<R: Read + Drop, F: Folder<R>>(
+    alloc: Global,
+    folder: &mut F,
+    path: &str,
+) -> Result<Explanation, AllocError> {
+    match folder.open(path) {
+        Some(reader) => {
+            let bad = bad_type(alloc, reader)?;
+            of_record(alloc, folder, path, bad)
+        }
+        None => of_file(alloc, path, "the file cannot be opened again"),
+    }
+}
+
+/// The explanation of a fault of the parameters file at this path.
+fn of_parameters<R: Read + Drop, F: Folder<R>>(
+    alloc: Global,
+    folder: &mut F,
+    path: &str,
+) -> Result<Explanation, AllocError> {
+    match folder.open(path) {
+        Some(reader) => {
+            let bad = bad_parameter(alloc, reader)?;
+            of_record(alloc, folder, path, bad)
+        }
+        None => of_file(alloc, path, "the file cannot be opened again"),
+    }
+}
+
+/// The path of the parameters file, as the metadata that is read again names it.
+fn parameters_path<R: Read + Drop, F: Folder<R>>(
+    alloc: Global,
+    folder: &mut F,
+    meta: &str,
+) -> Result<Option<String>, AllocError> {
+    let Ok(metadata) = metadata_at(alloc, folder, meta) else {
+        return Ok(None);
+    };
+    match url_in(alloc, metadata.as_slice()) {
+        Ok(Some(url)) => Ok(Some(path_in(alloc, folder_of(meta), url.as_str())?)),
+        _ => Ok(None),
+    }
+}
+
+/// The explanation of a fault of the parameters file of the metadata at this path.
+fn of_parameters_of<R: Read + Drop, F: Folder<R>>(
+    alloc: Global,
+    folder: &mut F,
+    meta: &str,
+) -> Result<Explanation, AllocError> {
+    match parameters_path(alloc, folder, meta)? {
+        Some(path) => of_parameters(alloc, folder, path.as_str()),
+        None => changed(alloc, meta),
+    }
+}
+
+/// The path of a file that was not read to its end, as the settings name it; that of the metadata for a
+/// parameters file, which it names.
+fn unread_path(settings: &Settings, source: Source) -> &str {
+    match source {
+        Source::Report | Source::Parameters => settings.meta.as_str(),
+        Source::Types => settings.types.as_str(),
+    }
+}
+
+/// The explanation of a fault of the metadata, the types table or the parameters file, which are read again.
+fn explained<R: Read + Drop, F: Folder<R>>(
+    alloc: Global,
+    settings: &Settings,
+    folder: &mut F,
+    source: Source,
+    fault: MetaFault,
+) -> Result<Explanation, AllocError> {
+    if matches!(fault, MetaFault::Memory | MetaFault::Read) {
+        let path = unread_path(settings, source);
+        return of_file(alloc, path, fault.explanation());
+    }
+    match source {
+        Source::Report => of_metadata(alloc, settings, folder, fault),
+        Source::Types => of_types(alloc, folder, settings.types.as_str()),
+        Source::Parameters => of_parameters_of(alloc, folder, settings.meta.as_str()),
+    }
+}
+
+/// The lines that explain a fault of the metadata, the types table or the parameters file, which are read
+/// again: three lines, four blanks deep, each with its line feed. They say so where the fault is not there
+/// any more, or a file cannot be read again. Fails if memory runs out.
+pub fn explain_report<R: Read + Drop, F: Folder<R>>(
+    alloc: Global,
+    settings: &Settings,
+    folder: &mut F,
+    source: Source,
+    fault: MetaFault,
+) -> Result<String, AllocError> {
+    let explanation = explained(alloc, settings, folder, source, fault)?;
+    explanation_text(alloc, &explanation)
+}

@@ -1,0 +1,99 @@
+//! The records of a table's file that are read again.
+
+use crate::explain::entries::next;
+use csv::ByteRecord;
+use oim_meta::{Limits, Records, Report};
+use oim_rows::{Rows, TableFault};
+use std::alloc::{AllocError, Global};
+use std::io::Read;
+
+/// A table's header and one of its records.
+#[derive(Drop)]
+pub(crate) struct RowAgain {
+    pub(crate) header: ByteRecord,
+    pub(crate) row: ByteRecord,
+}
+
+/// Reads the record that stands so many places behind the next one, and says whether it is there.
+fn read_nth<R: Read>(
+    records: &mut Records<R>,
+    row: &mut ByteRecord,
+    before: usize,
+) -> Result<bool, AllocError> {
+    for _ in 0..before {
+        if !next(records, row)? {
+            return Ok(false);
+        }
+    }
+    next(records, row)
+}
+
+/// The header of a file and the record with this number, which is empty for the header itself. `None` if there
+/// is no such record, or the reader fails.
+pub(crate) fn row_again<R: Read + Drop>(
+    alloc: Global,
+    reader: R,
+    number: usize,
+) -> Result<Option<RowAgain>, AllocError> {
+    let mut records = Records::new(alloc, reader);
+    let mut header = ByteRecord::new(alloc);
+    let mut row = ByteRecord::new(alloc);
+    if !read_nth(&mut records, &mut header, 0)? {
+        return Ok(None);
+    }
+    if number == 0 {
+        return Ok(Some(RowAgain { header, row }));
+    }
+    if !read_nth(&mut records, &mut row, number - 1)? {
+        return Ok(None);
+    }
+    Ok(Some(RowAgain { header, row }))
+}
+
+/// The number of the first record behind the header that has this text at a place. `None` if there is none.
+pub(crate) fn first_with<R: Read + Drop>(
+    alloc: Global,
+    reader: R,
+    place: usize,
+    text: &[u8],
+) -> Result<Option<usize>, AllocError> {
+    let mut records = Records::new(alloc, reader);
+    let mut row = ByteRecord::new(alloc);
+    if !next(&mut records, &mut row)? {
+        return Ok(None);
+    }
+    for number in 1..u32::MAX as usize {
+        if !next(&mut records, &mut row)? {
+            return Ok(None);
+        }
+        if row.get(place).is_some_and(|cell| cell == text) {
+            return Ok(Some(number));
+        }
+    }
+    Ok(None)
+}
+
+/// The fault of a table, whose file is read again. `None` if it has none.
+pub(crate) fn fault_again<R: Read + Drop>(
+    alloc: Global,
+    report: &Report,
+    table: usize,
+    reader: R,
+) -> Option<TableFault> {
+    if table >= report.tables() {
+        return None;
+    }
+    let limits = Limits::profile();
+    let mut rows = match Rows::open(alloc, report, table, reader, limits) {
+        Ok(rows) => rows,
+        Err(fault) => return Some(fault),
+    };
+    for _ in 0..u32::MAX {
+        match rows.next() {
+            Ok(Some(_)) => {}
+            Ok(None) => return None,
+            Err(fault) => return Some(fault),
+        }
+    }
+    None
+}

@@ -1,0 +1,28 @@
+//! Calls of `oim_decode`.
+
+use crate::held::report;
+use oim_decode::{TableBlocks, settled_tables_stay};
+use oim_meta::{Limits, Report};
+use oim_rows::TableFault;
+use std::alloc::Global;
+use std::test::Fail;
+
+/// The number of facts in the first block of a report's first table, whose file has these bytes.
+fn first_block(alloc: Global, report: &Report, file: &[u8]) -> Result<usize, TableFault> {
+    if report.tables() == 0 {
+        return Ok(0);
+    }
+    let mut table = TableBlocks::open(alloc, report, 0, file, Limits::profile())?;
+    match table.next_block(Vec::new(alloc))? {
+        Some(block) => Ok(block.count()),
+        None => Ok(0),
+    }
+}
+
+#[test]
+fn calls_of_tables(rt: HostRuntime) -> Result<(), Fail> {
+    let report = report(rt.alloc())?;
+    settled_tables_stay();
+    assert!(rt; first_block(rt.alloc(), &report, b"cash,note\n1,n\n2,m\n") == Ok(4));
+    Ok(())
+}

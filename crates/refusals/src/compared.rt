@@ -1,0 +1,94 @@
+//! A writer that takes no memory, and compares what it takes with a document.
+
+use crate::Answer;
+use crate::report::{HEAD, TAIL};
+use oim_rows::{TableFault, TableKind};
+use std::io;
+use std::io::Write;
+
+/// A writer that compares what it takes with a document.
+#[derive(Drop)]
+pub(crate) struct Compared<'a> {
+    document: &'a [u8],
+    left: &'a [u8],
+    is_same: bool,
+}
+
+/// A writer for a document that took nothing yet.
+pub(crate) fn comparing(document: &[u8]) -> Compared<'_> {
+    Compared {
+        document,
+        left: document,
+        is_same: true,
+    }
+}
+
+impl Write for Compared<'_> {
+    fn write(&mut self, bytes: &[u8]) -> io::Result<usize> {
+        match self.left.strip_prefix(bytes) {
+            Some(left) => self.left = left,
+            None => self.is_same = false,
+        }
+        Ok(bytes.len())
+    }
+
+    fn flush(&mut self) -> io::Result<()> {
+        Ok(())
+    }
+}
+
+impl Compared<'_> {
+    /// Whether it took nothing.
+    pub(crate) fn is_untouched(&self) -> bool {
+        self.is_same && self.left.len() == self.document.len()
+    }
+
+    /// Whether it took the whole document.
+    pub(crate) fn is_whole(&self) -> bool {
+        self.is_same && self.left.is_empty()
+    }
+
+    /// Whether it took the head alone.
+    pub(crate) fn is_head(&self) -> bool {
+        self.is_same && self.left.len().saturating_add(HEAD.len()) == self.document.len()
+    }
+
+    /// Whether it took the document up to a place where a fact of this table begins or ends, of the two tables.
+    fn is_cut_at(&self, table: usize) -> bool {
+        let left = self.left;
+        let is_before_second = left.starts_with(b",\"t2.");
+        let is_place = match table {
+            0 => self.is_head() || left.starts_with(b",\"t1.") || is_before_second,
+            1 => is_before_second || left == TAIL.as_bytes(),
+            _ => false,
+        };
+        self.is_same && is_place
+    }
+}
+
+/// The number behind that of a fault's table, if the table is refused as a whole for want of memory, and is not before `least`.
+pub(crate) fn after(fault: &TableFault, least: usize) -> Option<usize> {
+    let is_whole = fault.row == 0 && fault.column == 0;
+    if is_whole && fault.kind == TableKind::Memory && fault.table >= least {
+        Some(fault.table.saturating_add(1))
+    } else {
+        None
+    }
+}
+
+/// What a conversion did whose refused tables are refused for want of memory alone, of which this is the first.
+pub(crate) fn of_first(table: Option<usize>, writer: &Compared<'_>) -> Answer {
+    match table {
+        Some(table) if writer.is_cut_at(table) => Answer::Refused,
+        _ => Answer::Wrong,
+    }
+}
+
+/// What a conversion did that was refused memory before it began.
+pub(crate) fn of_nothing(writer: &Compared<'_>) -> Answer {
+    if writer.is_untouched() {
+        Answer::Refused
+    } else {
+        Answer::Wrong
+    }
+}

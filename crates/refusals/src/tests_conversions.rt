@@ -1,0 +1,67 @@
+//! Conversions while memory runs out.
+
+use crate::compared::{Compared, after, comparing, of_first, of_nothing};
+use crate::report::{FIRST, SECOND, document, report};
+use crate::{Answer, Call, ROOM, is_refused};
+use oim_convert::{ConvertFault, Layout, convert_serial};
+use oim_json::Marked;
+use oim_meta::{Limits, Report};
+use oim_rows::TableFault;
+use std::alloc::{AllocError, Global};
+use std::test::Fail;
+
+/// Readers of the two tables.
+fn readers(alloc: Global) -> Result<Vec<Option<&'static [u8]>>, AllocError> {
+    Ok(vec![in alloc; Some(FIRST), Some(SECOND)]?)
+}
+
+/// The first of these tables, if they are refused for want of memory alone, in table order.
+fn first_of(faults: &[TableFault]) -> Option<usize> {
+    let mut least = 0usize;
+    for fault in faults {
+        least = after(fault, least)?;
+    }
+    Some(faults.first()?.table)
+}
+
+/// What a conversion on one thread did.
+fn of_serial(answer: &Result<(), ConvertFault>, writer: &Compared<'_>) -> Answer {
+    match answer {
+        Ok(()) => Answer::same(writer.is_whole()),
+        Err(ConvertFault::Memory) => of_nothing(writer),
+        Err(ConvertFault::Tables(faults)) => of_first(first_of(faults.as_slice()), writer),
+        Err(_) => Answer::Wrong,
+    }
+}
+
+/// Converts a report on one thread.
+#[derive(Drop)]
+struct Converts<'a> {
+    report: &'a Report,
+    document: &'a [u8],
+}
+
+impl Call for Converts<'_> {
+    fn make(&mut self, alloc: Global) -> Answer {
+        let Ok(readers) = readers(alloc) else {
+            return Answer::Refused;
+        };
+        let mut writer = comparing(self.document);
+        let limits = Limits::profile();
+        let sink = &mut Marked::new(&mut writer);
+        let answer = convert_serial(alloc, self.report, readers, limits, Layout::Compact, sink);
+        of_serial(&answer, &writer)
+    }
+}
+
+#[test]
+fn a_conversion_on_one_thread_without_memory(rt: HostRuntime) -> Result<(), Fail> {
+    let report = report(rt.alloc())?;
+    let document = document(rt.alloc())?;
+    let mut call = Converts {
+        report: &report,
+        document: document.as_bytes(),
+    };
+    assert!(rt; is_refused(rt.alloc(), 4 * ROOM, 50, &mut call));
+    Ok(())
+}

@@ -1,0 +1,79 @@
+//! The faults of a run, explained to a person: the files are read again. No contract says anything about them.
+
+use crate::disk::DiskFile;
+use oim_names::Text;
+use oim_rows::TableFault;
+use oim_run::{Folder, Outcome, Settings, explain_report, explain_table, report_again, table_line};
+use std::alloc::{AllocError, Global};
+use std::fs;
+use std::io::{Eprint, Read};
+use std::rt::Files;
+
+/// How many refused tables are explained.
+const MOST_TABLES: usize = 100;
+
+/// The files of the system that can be read a second time: the ordinary ones. Who opens a pipe once more may
+/// wait for ever.
+#[derive(Drop)]
+struct Ordinary<'a, H> {
+    rt: &'a H,
+}
+
+impl<'a, H: Files> Folder<DiskFile<'a, H>> for Ordinary<'a, H>
+where
+    H::File: Read,
+{
+    fn open(&mut self, path: &str) -> Option<DiskFile<'a, H>> {
+        match fs::metadata(self.rt, path) {
+            Ok(metadata) if metadata.is_file() => {}
+            _ => return None,
+        }
+        match fs::open(self.rt, path) {
+            Ok(file) => Some(DiskFile::Open(file)),
+            Err(_) => None,
+        }
+    }
+}
+
+/// Prints lines, if memory did not run out for them.
+fn print(rt: &HostRuntime, lines: Result<String, AllocError>) {
+    if let Ok(lines) = lines {
+        let _ = rt.eprint(lines.as_str());
+    }
+}
+
+/// Prints below the line of an outcome what there is to say of its fault. What cannot be printed, or finds
+/// no memory, is left out.
+pub fn explain_fault(rt: &HostRuntime, alloc: Global, settings: &Settings, outcome: &Outcome) {
+    let folder = &mut Ordinary { rt };
+    if let Outcome::Report(source, fault) = outcome {
+        print(rt, explain_report(alloc, settings, folder, *source, *fault));
+    }
+}
+
+/// Prints the line of each refused table, and below each of the first 100 what there is to say of its fault.
+pub fn explain_tables(
+    rt: &HostRuntime,
+    alloc: Global,
+    settings: &Settings,
+    tables: &[(Text, TableFault)],
+) {
+    let folder = &mut Ordinary { rt };
+    let report = report_again(alloc, settings, folder);
+    for (place, (id, fault)) in tables.iter().enumerate() {
+        print(rt, table_line(alloc, id.as_str(), fault));
+        if place >= MOST_TABLES {
+            continue;
+        }
+        match &report {
+            Ok(report) => print(rt, explain_table(alloc, settings, folder, report, fault)),
+            Err(_) => {
+                let _ = rt.eprint("    the report cannot be read again, or has changed\n");
+            }
+        }
+    }
+    if tables.len() > MOST_TABLES {
+        let more = tables.len() - MOST_TABLES;
+        let _ = eprint!(rt; "    (and {more} more)\n");
+    }
+}
