@@ -134,23 +134,35 @@ impl<'a> RowForm<'a> {
     }
 
     /// The same of a row whose fields are known to be text, none of which is tested again.
-    pub fn fault_of_texts(
-        &self,
-        number: u32,
-        ids: &RowIds,
-        row: &TextFields<'_>,
-    ) -> Option<TableFault>
+    fn fault_of_texts(&self, number: u32, ids: &RowIds, row: &TextFields<'_>) -> Option<TableFault>
         ensures { result ≡ row_fault self.now number ids.now row.now }
     {
         if count_of_texts(row) != self.header.len() {
             return Some(fault_of_whole_row(self.table, number, TableKind::Ragged));
         }
-        if number > self.limit {
-            return Some(fault_of_whole_row(self.table, number, TableKind::TooManyRows));
+        if self.limit < number {
+            let kind = TableKind::TooManyRows;
+            return Some(fault_of_whole_row(self.table, number, kind));
         }
         let place = self.id_place?;
         let kind = ids.fault_of(known_text_at(row, Some(place)))?;
         Some(fault_at_place(self.table, number, place, kind))
+    }
+
+    /// The same of the record that a reader has at hand. Where it is known to be text, no field is tested again.
+    #[inline]
+    pub fn fault_of_record<R: Read + Drop>(
+        &self,
+        number: u32,
+        ids: &RowIds,
+        records: &RecordReader<R>,
+    ) -> Option<TableFault>
+        ensures { result ≡ row_fault self.now number ids.now records.now.fields }
+    {
+        match records.text_fields() {
+            Some(texts) => self.fault_of_texts(number, ids, &texts),
+            None => self.fault_of_row(number, ids, &records.fields()),
+        }
     }
 }
 
