@@ -2,8 +2,8 @@
 
 use csv::ByteRecord;
 use oim_records::{
-    Cut, Fields, PieceReader, PieceRecords, ReadFault, RecordReader, Records, TextFields, last_cut,
-    rows_of, text_law,
+    Cut, FieldText, Fields, PieceReader, PieceRecords, ReadFault, RecordReader, Records,
+    TextFields, last_cut, rows_of, text_law,
 };
 use std::alloc::Global;
 use std::test::Fail;
@@ -32,7 +32,19 @@ fn has_bytes(fields: &Fields<'_>) -> bool {
 
 fn has_texts(fields: Option<TextFields<'_>>) -> bool {
     match fields {
-        Some(fields) => fields.len() == 2 && fields.get(1) == Some("b"),
+        Some(fields) => {
+            fields.len() == 2 && fields.get(1) == Some("b") && begins(fields.with_rest(0))
+        }
+        None => false,
+    }
+}
+
+/// Whether a field is `a`, and stands before its comma.
+fn begins(field: Option<FieldText<'_>>) -> bool {
+    match field {
+        Some(field) => {
+            field.len() == 1 && field.as_str() == "a" && field.rest().starts_with(b"a,")
+        }
         None => false,
     }
 }

@@ -44,6 +44,9 @@ fn counts_of(alloc: Global, report: &Report, file: &[u8]) -> Result<(usize, usiz
     let mut records = RecordReader::open(alloc, file).map_err(|fault| fault_of_read(0, fault))?;
     let form = RowForm::read(alloc, report, 0, 10, &mut records)?;
     records.read().map_err(|fault| fault_of_read(0, fault))?;
+    if let Some(fault) = form.fault_of_record(1, &RowIds::new(alloc), &records) {
+        return Err(fault);
+    }
     Ok((
         form.header().len(),
         planned_facts(alloc, &form, &records.fields())?,
