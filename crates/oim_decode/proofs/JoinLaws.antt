@@ -1,7 +1,6 @@
 -- What a piece that is decoded and joined says of the stream.
-use Rattle.std.proofs.Common.{◌≡◌, ◌⊎◌, ◌++◌, ◌+◌, ◌∷◌, ℕ, List, [], length, Option, Some, None, refl, sym, ap, subst, ◌∙◌, inl, inr, append-nil, append_assoc}
-use Rattle.oim_records.specs.Grids.{Field, Record}
-use Rattle.oim_resolve.specs.FactParts.{FactParts as Fact}
+use Rattle.std.proofs.Common.{◌≡◌, ◌++◌, ◌+◌, ℕ, List, length, Option, Some, None, refl, sym, ap, subst, ◌∙◌, inl, inr, append-nil, append_assoc}
+use Rattle.oim_records.specs.Grids.{Record}
 use Rattle.oim_rows.specs.Header.{file_fault}
 use Rattle.oim_rows.specs.RowFacts.{Reading}
 use Rattle.oim_rows.specs.Streams.{Stream, ending, stream_from}
@@ -9,7 +8,7 @@ use Rattle.oim_rows.specs.declared.fault.TableFault.{TableFault}
 use Rattle.oim_rows.specs.declared.fault.TableKind.TheVariants as kind
 use Rattle.oim_decode.specs.Apart.{Apart, apart_from, cut_at, joined, repeated_from}
 use Rattle.oim_decode.specs.Blocks.{ReadsRows}
-use Rattle.oim_decode.specs.PieceAnswers.{IsDecoded, IsJoined, IsShort, PieceIsRead, apart_then, left_behind, refused}
+use Rattle.oim_decode.specs.PieceAnswers.{PieceIsRead, left_behind}
 use Rattle.oim_decode.specs.Pieces.{behind, stream_then}
 use Rattle.oim_decode.proofs.ApartLaws.{piece_then_rest}
 use Rattle.oim_decode.proofs.PieceSteps.{then_fault}

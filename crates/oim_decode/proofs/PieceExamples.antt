@@ -1,8 +1,6 @@
 -- Pieces of a table, on worked cases.
 use Rattle.std.proofs.Common.{◌≡◌, ◌++◌, ◌∷◌, [], ℕ, List, Some, None, Ok, Err, false, true, codes, refl, inl, inr}
 use Rattle.std.specs.Str.{chars, is_utf8}
-use Rattle.csv.specs.Machine.{next_record}
-use Rattle.csv.specs.Reading.{records_from, strip_bom}
 use Rattle.csv.specs.Records.{field_at}
 use Rattle.oim_names.specs.Names.{is_ncname, is_name_char, is_name_start, is_plain_char, is_row_identifier}
 use Rattle.oim_names.specs.QName.{qname_of}

@@ -1,5 +1,5 @@
 -- A table's stream from the pieces of its file.
-use Rattle.std.proofs.Common.{◌≡◌, ◌++◌, ℕ, List, [], ◌∷◌, map, Option, Some, None, refl, sym, ap, ◌∙◌, append-nil}
+use Rattle.std.proofs.Common.{◌≡◌, ◌++◌, ℕ, List, [], ◌∷◌, map, None, refl, sym, ap, ◌∙◌, append-nil}
 use Rattle.std.specs.List.{flat_map}
 use Rattle.csv.specs.declared.parser.State.TheVariants as state
 use Rattle.oim_records.specs.Grids.{Record, grid, records_left}

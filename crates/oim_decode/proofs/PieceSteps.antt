@@ -1,10 +1,9 @@
 -- Rows of a piece that are decoded one after another.
-use Rattle.std.proofs.Common.{nat_lt, length-append, ◌≡◌, ◌⊎◌, ◌++◌, ◌+◌, ◌≤◌, ℕ, List, [], ◌∷◌, Bool, true, false, not, length, Option, Some, None, Result, Ok, Err, refl, sym, ap, subst, ◌∙◌, arith, inl, inr, append-nil, append_assoc, add-zero}
+use Rattle.std.proofs.Common.{nat_lt, length-append, ◌≡◌, ◌++◌, ◌+◌, ◌≤◌, ℕ, List, [], ◌∷◌, Bool, true, false, length, Option, Some, None, Result, Ok, Err, refl, sym, ap, subst, ◌∙◌, arith, inl, inr, append-nil, append_assoc, add-zero}
 use Rattle.std.specs.Option.{is_none}
 use Rattle.std.proofs.lemmas.Bool.{ltb-false}
 use Rattle.oim_records.specs.Grids.{Field, Record}
 use Rattle.oim_resolve.specs.FactParts.{FactParts as Fact}
-use Rattle.oim_fast.specs.Facts.{facts_of_row}
 use Rattle.oim_fast.specs.Rows.{RowValue}
 use Rattle.std.specs.Prelude.{if◌then◌else◌}
 use Rattle.oim_rows.specs.Header.{fault_at, file_fault, or_else}

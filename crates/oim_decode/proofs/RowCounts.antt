@@ -1,5 +1,5 @@
 -- Rows that are added to others: their facts, and where they end.
-use Rattle.std.proofs.Common.{◌≡◌, ◌⊎◌, ◌++◌, ◌+◌, ℕ, List, [], ◌∷◌, length, Option, Some, None, Result, Ok, Err, refl, sym, ap, ◌∙◌, arith, inl, inr, append-nil, append_assoc, length-append}
+use Rattle.std.proofs.Common.{◌≡◌, ◌++◌, ◌+◌, ℕ, List, [], ◌∷◌, length, Some, None, Result, Ok, Err, refl, sym, ap, ◌∙◌, arith, inl, inr, append-nil, append_assoc, length-append}
 use Rattle.std.proofs.lemmas.Grind.{flat_map-append}
 use Rattle.oim_records.specs.Grids.{Field}
 use Rattle.oim_resolve.specs.FactParts.{FactParts as Fact}
@@ -9,10 +9,9 @@ use Rattle.oim_rows.specs.Header.{file_fault}
 use Rattle.oim_rows.specs.RowFacts.{id_place_of}
 use Rattle.oim_rows.specs.Streams.{OrNoMemory, facts_of_rows}
 use Rattle.oim_rows.specs.declared.fault.TableFault.{TableFault}
-use Rattle.oim_rows.specs.declared.fault.TableKind.{TableKind}
 use Rattle.oim_rows.specs.declared.fault.TableKind.TheVariants as kind
 use Rattle.oim_decode.specs.Apart.{Apart, apart_row, id_in}
-use Rattle.oim_decode.specs.PieceAnswers.{AddsApart, AddsRowFacts, apart_then, cells_apart, no_rows, refused}
+use Rattle.oim_decode.specs.PieceAnswers.{AddsRowFacts, apart_then, cells_apart, no_rows, refused}
 use Rattle.oim_decode.specs.RowEnds.{counts_from, stretches}
 use Rattle.oim_decode.specs.RowTexts.{AddsFacts, facts_in}
 use Rattle.oim_decode.proofs.PieceSteps.{answer, then_fault}

@@ -1,6 +1,5 @@
 -- What decoding a piece answers, and what the join makes of it.
-use Rattle.std.specs.Prelude.{⊤, ◌≡◌, ◌⊎◌, ◌+◌, ◌≤◌, Bool, true, false, List, [], ◌∷◌, ◌++◌, length, ℕ, Option, Some, None, Result, Ok, Err}
-use Rattle.std.specs.Option.{is_none}
+use Rattle.std.specs.Prelude.{◌≡◌, ◌⊎◌, ◌+◌, ◌≤◌, Bool, true, false, List, [], ◌∷◌, ◌++◌, length, ℕ, Option, Some, None, Result, Ok, Err}
 use Rattle.oim_records.specs.Grids.{Field, Record}
 use Rattle.oim_resolve.specs.FactParts.{FactParts as Fact}
 use Rattle.oim_fast.specs.Facts.{facts_of_row}

@@ -6,7 +6,7 @@ use Rattle.csv.specs.declared.parser.State.TheVariants as state
 use Rattle.oim_records.specs.Cuts.{is_between, state_after}
 use Rattle.oim_records.specs.Grids.{Field, Record, records_left}
 use Rattle.oim_report.specs.ReportValue.{ReportValue}
-use Rattle.oim_decode.specs.Apart.{Apart, apart_from, joined}
+use Rattle.oim_decode.specs.Apart.{apart_from, joined}
 use Rattle.oim_rows.specs.Header.{header_fault}
 use Rattle.oim_rows.specs.RowFacts.{Reading}
 use Rattle.oim_rows.specs.Streams.{Stream, ending, reading_of, stream_from, table_stream}

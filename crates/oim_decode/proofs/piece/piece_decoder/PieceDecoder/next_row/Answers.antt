@@ -1,4 +1,4 @@
-use Rattle.std.proofs.Common.{◌∙◌, sym, ap}
+use Rattle.std.proofs.Common.{◌∙◌, sym}
 use Rattle.oim_decode.proofs.Cuts.{all_text}
 use Rattle.oim_decode.proofs.PieceSteps.{ends_none, ends_own, row_steps}
 use Rattle.oim_decode.proofs.RowLaws.{text_row}
