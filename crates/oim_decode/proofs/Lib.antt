@@ -4,4 +4,12 @@ pub mod RowLaws
 pub mod PlainLaws
 pub mod Settled
 pub mod TwiceLaw
+pub mod ApartLaws
+mod PieceLaws
+pub mod PieceSteps
+pub mod RowCounts
+pub mod RowCuts
+pub mod RepeatedIds
+mod JoinLaws
+mod PieceExamples
 mod Examples

@@ -1,3 +1,7 @@
 pub mod RowTexts
 pub mod Blocks
 pub mod Laws
+pub mod Apart
+pub mod Pieces
+pub mod PieceAnswers
+pub mod RowEnds

@@ -25,6 +25,8 @@ mod names;
 #[cfg(test)]
 mod periods;
 #[cfg(test)]
+mod pieces;
+#[cfg(test)]
 mod records;
 #[cfg(test)]
 mod reports;

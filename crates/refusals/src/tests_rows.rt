@@ -57,7 +57,14 @@ impl Call for ReadsTable<'_> {
 #[test]
 fn a_table_without_memory(rt: HostRuntime) -> Result<(), Fail> {
     let report = report(rt.alloc())?;
-    assert!(rt; is_refused(rt.alloc(), 4 * ROOM, 50, &mut ReadsTable { report: &report }));
+    assert!(rt;
+        is_refused(
+            rt.alloc(),
+            4 * ROOM,
+            50,
+            &mut ReadsTable { report: &report }
+        )
+    );
     Ok(())
 }
 

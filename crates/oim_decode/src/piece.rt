@@ -1,0 +1,7 @@
+//! Pieces to facts, each by itself, and their join.
+
+pub(crate) mod piece_answer;
+pub(crate) mod piece_decoder;
+pub(crate) mod piece_join;
+mod piece_rows;
+mod written_rows;
