@@ -14,6 +14,9 @@ pub mod FrameTextLaws
 pub mod RowLaws
 pub mod PieceLaws
 pub mod WriteLaws
+pub mod NumeralBytes
+pub mod Ink
+pub mod NumeralMarks
 pub mod Numerals
 pub mod PlainNumerals
 pub mod ValueLaws

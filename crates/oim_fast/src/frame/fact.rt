@@ -113,15 +113,18 @@ fn write_opening(
     Some((at, frame.opening))
 }
 
+/// What stands between dimensions and value, its first ten bytes.
+const CLOSING: &[u8] = b"},\"value\":                                ";
+
 /// Takes back the comma behind the last dimension, where there is one behind `body`, and closes the dimensions.
 #[inline(always)]
 fn close_dimensions(room: &mut [u8], body: usize, end: usize) -> usize
     requires order { body ≤ end }
-    requires room { end + 10 ≤ length room.old }
+    requires room { end + 42 ≤ length room.old }
     ensures { Placed room.old room.new (body + ((end - body) - 1)) (codes "},\"value\":") result }
 {
-    let at = body + (end - body).saturating_sub(1);
-    copy_short(room, at, b"},\"value\":")
+    let at = if body < end { end - 1 } else { end };
+    copy(room, at, CLOSING, 10)
 }
 
 /// Writes what stands between the quotes of a value. A number needs no escape.

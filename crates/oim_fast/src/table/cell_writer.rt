@@ -94,8 +94,7 @@ impl<'a> CellWriter<'a> {
     {
         let column = &mut self.columns[i];
         let place = column.place;
-        let cell = row.text_at(Some(place));
-        let size = cell.len();
+        let (bytes, size) = row.bytes_at(place);
         if size == 0 {
             return Ok(true);
         }
@@ -107,9 +106,10 @@ impl<'a> CellWriter<'a> {
         };
         let references = &self.maker.references;
         let start = &self.start.start;
-        if let Some(value) = quick_value(row, place, frame.kind) {
+        if let Some(value) = quick_value(row, place, frame.kind, bytes, size) {
             return put_fact(frame, references, start, &value, out);
         }
+        let cell = row.text_at(Some(place));
         match rare_value(row, frame.kind, cell, &mut self.value)? {
             CellValue::Value(value) => put_fact(frame, references, start, &value, out),
             CellValue::NoFact => Ok(true),

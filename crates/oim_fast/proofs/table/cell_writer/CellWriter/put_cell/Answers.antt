@@ -1,4 +1,4 @@
-use Rattle.std.proofs.Common.{◌≡◌, ◌<◌, ◌∙◌, ℕ, List, Option, Some, None, IfSome, [], true, length, map, get_or, refl, sym, ap, subst, arith}
+use Rattle.std.proofs.Common.{◌≡◌, ◌<◌, ◌∙◌, ℕ, List, Option, Some, None, IfSome, [], true, length, map, take, get_or, refl, sym, ap, subst, arith}
 use Rattle.oim_cells.specs.Cells.{Meaning, meaning_of}
 use Rattle.oim_report.specs.declared.kind.Kind.{Kind}
 use Rattle.oim_resolve.specs.Facts.{cell_result, fact_meaning, is_absent}
@@ -29,8 +29,9 @@ returns-then-size-eq0-clause-cell c =
     let column : IsFactColumn x.form old.maker.cells.list.items k = subst (IsFactColumn x.form old.maker.cells.list.items) (sym is) (c.requires.row.columns.are c.args.i k c.requires.within) in
     let field = field_or_empty x.fields (Some k.place) in
     let means : meaning_of field ≡ fact_meaning (cell_in x k.column) = cell_meaning x old.maker.cells.list.items k column in
-    let none : c.text_at-cell.result.now ≡ [] = none_given c.text_at-cell.result.now (omega arith) in
-    let absent : is_absent (fact_meaning (cell_in x k.column)) ≡ true = ap is_absent (sym means ∙ ap meaning_of (sym c.text_at-cell.ensures ∙ none) ∙ empty_meaning) in
+    let size : c.bytes_at-size.result.1 ≡ 0 = omega arith in
+    let none : [] ≡ field = subst (λ (n : ℕ). take n c.bytes_at-size.result.0.now ≡ field) size c.bytes_at-size.ensures.bytes in
+    let absent : is_absent (fact_meaning (cell_in x k.column)) ≡ true = ap is_absent (sym means ∙ ap meaning_of (sym none) ∙ empty_meaning) in
     subst (λ (n : ℕ). WritesFact (cell_result (cell_in x n)) c.args.out.now.items c.args.out.now.items) there (nothing_written x k.column c.args.out.now.items absent)
 
 pub returns-in_err-at-clause-row : goal.returns-in_err-at-clause-row
