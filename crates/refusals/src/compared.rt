@@ -2,6 +2,7 @@
 
 use crate::Answer;
 use crate::report::{HEAD, TAIL};
+use oim_names::Text;
 use oim_rows::{TableFault, TableKind};
 use std::io;
 use std::io::Write;
@@ -67,13 +68,34 @@ impl Compared<'_> {
 }
 
 /// The number behind that of a fault's table, if the table is refused as a whole for want of memory, and is not before `least`.
-pub(crate) fn after(fault: &TableFault, least: usize) -> Option<usize> {
+fn after(fault: &TableFault, least: usize) -> Option<usize> {
     let is_whole = fault.row == 0 && fault.column == 0;
     if is_whole && fault.kind == TableKind::Memory && fault.table >= least {
         Some(fault.table.saturating_add(1))
     } else {
         None
     }
+}
+
+/// The first of these tables, if they are refused for want of memory alone, in table order.
+pub(crate) fn first_of(faults: &[TableFault]) -> Option<usize> {
+    let mut least = 0usize;
+    for fault in faults {
+        least = after(fault, least)?;
+    }
+    Some(faults.first()?.table)
+}
+
+/// The same where the tables stand with their identifiers.
+pub(crate) fn first_named(tables: &[(Text, TableFault)]) -> Option<usize> {
+    let mut least = 0usize;
+    for (id, fault) in tables {
+        least = after(fault, least)?;
+        if id.as_str() != if fault.table == 0 { "t1" } else { "t2" } {
+            return None;
+        }
+    }
+    Some(tables.first()?.1.table)
 }
 
 /// What a conversion did whose refused tables are refused for want of memory alone, of which this is the first.

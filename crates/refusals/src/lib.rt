@@ -6,12 +6,14 @@
 
 mod scarcity;
 
-pub use scarcity::{Answer, Call, ROOM, is_refused, refusals};
+pub use scarcity::{Answer, Call, Hoard, ROOM, Room, is_refused, refusals};
 
 #[cfg(test)]
 mod compared;
 #[cfg(test)]
 mod report;
+#[cfg(test)]
+mod stacks;
 #[cfg(test)]
 mod tests_blocks;
 #[cfg(test)]
@@ -32,3 +34,5 @@ mod tests_rings;
 mod tests_rows;
 #[cfg(test)]
 mod tests_runs;
+#[cfg(test)]
+mod tests_threads;

@@ -39,26 +39,31 @@ pub trait Call {
     fn make(&mut self, alloc: Global) -> Answer;
 }
 
-/// The rest of the address space, taken so that no more memory can be allocated.
+/// Memory that is taken so that no one else has it.
 #[derive(Drop)]
-struct Hoard {
-    _blocks: Vec<Vec<u8>>,
+pub struct Hoard {
+    blocks: Vec<Vec<u8>>,
 }
 
-/// Takes all memory, in ever smaller blocks. `None` where the list of the blocks cannot be made.
-fn take_all(alloc: Global) -> Option<Hoard> {
-    let mut blocks = Vec::with_capacity(alloc, 1 << 20).ok()?;
-    for shift in (4..47usize).rev() {
-        for _ in 0..1u32 << 18 {
-            let Ok(block) = Vec::<u8>::with_capacity(alloc, 1 << shift) else {
-                break;
-            };
-            if blocks.push(block).is_err() {
-                return None;
+impl Hoard {
+    /// Room for a hoard, which has nothing yet. `None` where there is no memory for it.
+    pub fn new(alloc: Global) -> Option<Hoard> {
+        let blocks = Vec::with_capacity(alloc, 1 << 20).ok()?;
+        Some(Hoard { blocks })
+    }
+
+    /// Takes all that this thread can allocate, in ever smaller blocks. `None` where these are too many.
+    pub fn take_all(&mut self, alloc: Global) -> Option<()> {
+        for shift in (4..47usize).rev() {
+            for _ in 0..1u32 << 18 {
+                let Ok(block) = Vec::<u8>::with_capacity(alloc, 1 << shift) else {
+                    break;
+                };
+                self.blocks.push(block).ok()?;
             }
         }
+        Some(())
     }
-    Some(Hoard { _blocks: blocks })
 }
 
 /// How many bytes of the stack a call may use.
@@ -75,6 +80,42 @@ fn reach_down(place: usize) -> u8 {
     bytes[place % DEEPEST]
 }
 
+/// A piece of memory, of which a call has a little and then ever more. It is kept apart, so that all else can be taken.
+#[derive(Drop)]
+pub struct Room {
+    left: usize,
+    _filler: Vec<u8>,
+}
+
+impl Room {
+    /// A room of `room` bytes, of which at most 1,048,576 count, and of which a call has none yet. `None` where there is no
+    /// memory for it.
+    pub fn new(alloc: Global, room: usize) -> Option<Room> {
+        let left = room.min(MOST);
+        // The system's first large block is outside its heap, and a second one inside.
+        drop(Vec::<u8>::with_capacity(alloc, left).ok()?);
+        let filler = Vec::with_capacity(alloc, left).ok()?;
+        if reach_down(left) > 1 {
+            return None;
+        }
+        Some(Room {
+            left,
+            _filler: filler,
+        })
+    }
+
+    /// The same room with 16 bytes more for the call. `None` where all of it is the call's.
+    pub fn eased(self, alloc: Global) -> Option<Room> {
+        let left = self.left.checked_sub(STEP)?;
+        drop(self);
+        let filler = Vec::with_capacity(alloc, left).ok()?;
+        Some(Room {
+            left,
+            _filler: filler,
+        })
+    }
+}
+
 /// Whether a call is refused memory at least this often before it has enough.
 pub fn is_refused<C: Call>(alloc: Global, room: usize, least: u32, call: &mut C) -> bool {
     match refusals(alloc, room, call) {
@@ -89,23 +130,17 @@ pub fn is_refused<C: Call>(alloc: Global, room: usize, least: u32, call: &mut C)
 /// enough, or answers something else before. Meanwhile all memory of the process is taken, so the process must do
 /// nothing else.
 pub fn refusals<C: Call>(alloc: Global, room: usize, call: &mut C) -> Option<u32> {
-    let room = room.min(MOST);
-    // The system's first large block is outside its heap, and a second one inside.
-    drop(Vec::<u8>::with_capacity(alloc, room).ok()?);
-    let mut filler = Vec::<u8>::with_capacity(alloc, room).ok()?;
-    if reach_down(room) > 1 {
-        return None;
-    }
-    let _hoard = take_all(alloc)?;
+    let mut room = Room::new(alloc, room)?;
+    let mut hoard = Hoard::new(alloc)?;
+    hoard.take_all(alloc)?;
     let mut refused = 0u32;
-    for step in 0..room / STEP {
-        drop(filler);
-        filler = Vec::with_capacity(alloc, room - STEP * step).ok()?;
+    for _ in 0..=MOST / STEP {
         match call.make(alloc) {
             Answer::Refused => refused = refused.saturating_add(1),
             Answer::Enough => return Some(refused),
             Answer::Wrong => return None,
         }
+        room = room.eased(alloc)?;
     }
     None
 }

@@ -1,27 +1,17 @@
 //! Conversions while memory runs out.
 
-use crate::compared::{Compared, after, comparing, of_first, of_nothing};
+use crate::compared::{Compared, comparing, first_of, of_first, of_nothing};
 use crate::report::{FIRST, SECOND, document, report};
 use crate::{Answer, Call, ROOM, is_refused};
 use oim_convert::{ConvertFault, Layout, convert_serial};
 use oim_json::Marked;
 use oim_meta::{Limits, Report};
-use oim_rows::TableFault;
 use std::alloc::{AllocError, Global};
 use std::test::Fail;
 
 /// Readers of the two tables.
 fn readers(alloc: Global) -> Result<Vec<Option<&'static [u8]>>, AllocError> {
     Ok(vec![in alloc; Some(FIRST), Some(SECOND)]?)
-}
-
-/// The first of these tables, if they are refused for want of memory alone, in table order.
-fn first_of(faults: &[TableFault]) -> Option<usize> {
-    let mut least = 0usize;
-    for fault in faults {
-        least = after(fault, least)?;
-    }
-    Some(faults.first()?.table)
 }
 
 /// What a conversion on one thread did.
