@@ -119,8 +119,8 @@ fn writes_a_row(
     let unknown = fault_row(alloc, "t1", fault, &FaultPlace::unknown(alloc)?)?;
     Ok(
         fault_header().starts_with("table,row,column")
-            && row.as_slice() == b"t1,1,1,40,BadNumber,2,cash,x\n"
-            && unknown.as_slice() == b"t1,1,1,40,BadNumber,,,\n",
+            && row.as_slice() == b"t1,1,1,40,BadNumber,2,cash,x\n".as_slice()
+            && unknown.as_slice() == b"t1,1,1,40,BadNumber,,,\n".as_slice(),
     )
 }
 
