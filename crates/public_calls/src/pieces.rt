@@ -1,5 +1,7 @@
 //! Calls of `oim_decode` for the pieces of a table.
 
+ghost use Rattle.std.specs.Prelude.{◌≤◌, ◌+◌};
+
 use crate::held::report;
 use oim_decode::{
     JoinedPiece, PieceAnswer, PieceDecoder, PieceJoin, file_in_pieces, joined_pieces_are_read,
