@@ -10,6 +10,7 @@ pub mod PieceSteps
 pub mod RowCounts
 pub mod RowCuts
 pub mod RepeatedIds
+pub mod BlockLists
 mod JoinLaws
 mod PieceExamples
 mod Examples

@@ -2,10 +2,13 @@
 
 ghost use Rattle.std.specs.Prelude.{◌≡◌, ◌≤◌, ◌+◌, ◌++◌, ◌<◌, [], IfOk, IfSome, None, Ok, length};
 ghost use Rattle.oim_decode.specs.Apart.{repeated_from, repeated_id};
+ghost use Rattle.oim_rows.specs.Streams.{facts_of_rows};
 ghost use Rattle.oim_decode.specs.PieceAnswers.{IsJoined};
 
 use crate::piece::piece_answer::PieceAnswer;
+use crate::piece::piece_blocks::blocks_of;
 use crate::piece::piece_rows::PieceRows;
+use oim_json::Block;
 use oim_names::Text;
 use oim_rows::{RowForm, RowIds, TableFault, TableKind, whole_fault};
 use std::alloc::{AllocError, Global};
@@ -131,5 +134,13 @@ impl JoinedPiece {
         ensures { result ≡ self.now.fault }
     {
         self.fault
+    }
+
+    /// The facts of the piece in blocks of 1 to 256, in header order and row by row. Fails where memory is short.
+    pub fn into_blocks(self, alloc: Global) -> Result<Vec<Block>, AllocError>
+        ensures { IfOk result (λ blocks. facts_of_rows blocks.items ≡ facts_of_rows self.rows) }
+    {
+        let JoinedPiece { rows, fault: _ } = self;
+        blocks_of(alloc, rows)
     }
 }

@@ -91,6 +91,14 @@ impl PieceRows {
         self.last.cut(left);
     }
 
+    /// The stretches, and the one behind them.
+    pub(crate) fn into_stretches(self) -> (Vec<WrittenRows>, WrittenRows)
+        ensures { self ≡ stretches result.0.items ++ result.1 }
+    {
+        let PieceRows { full, last } = self;
+        (full, last)
+    }
+
     /// Adds the facts of a row.
     ///
     /// Fails with the fault of the row's first cell that has one, and with Memory where memory is short. Then nothing is added.

@@ -102,6 +102,18 @@ impl WrittenRows {
         self.rows = first(&self.rows, count);
     }
 
+    /// The facts of all rows.
+    pub(crate) fn into_facts(self) -> PendingFacts
+        ensures { result ≡ facts_of_rows self }
+    {
+        let WrittenRows {
+            facts,
+            ends: _,
+            rows: _,
+        } = self;
+        facts
+    }
+
     /// Adds the facts of a row.
     ///
     /// Fails with the fault of the row's first cell that has one, and with Memory where memory is short. Then nothing is added.

@@ -158,7 +158,7 @@ impl PendingFacts {
     }
 
     // The block of the first facts.
-    fn into_block(self, count: usize) -> Block
+    pub(crate) fn into_block(self, count: usize) -> Block
         requires some { 1 ≤ count }
         requires most { count ≤ 256 }
         requires there { count ≤ length self }

@@ -16,7 +16,7 @@ use std::io::Read;
 use std::marker::Model;
 
 /// How many facts a block has at most.
-const MOST: usize = 256;
+pub(crate) const MOST: usize = 256;
 
 /// What comes after the facts that are read.
 #[derive(Clone, Copy)]
