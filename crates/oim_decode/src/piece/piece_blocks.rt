@@ -10,6 +10,7 @@ use oim_json::Block;
 use std::alloc::{AllocError, Global};
 
 /// Adds blocks of some facts to others. Fails where memory is short.
+#[tactic(auto, using(crate::proofs::BlockLists::block_more, crate::proofs::BlockLists::block_taken))]
 fn push_blocks(
     alloc: Global,
     facts: PendingFacts,
@@ -32,6 +33,7 @@ fn push_blocks(
 
 /// The facts of rows in blocks, row by row. Each stretch of rows is a block, or more where its facts are more than a block may have. Fails where
 /// memory is short.
+#[tactic(auto, using(crate::proofs::BlockLists::stretch_more))]
 pub(crate) fn blocks_of(alloc: Global, rows: PieceRows) -> Result<Vec<Block>, AllocError>
     ensures { IfOk result (λ blocks. facts_of_rows blocks.items ≡ facts_of_rows rows) }
 {
