@@ -8,3 +8,5 @@ pub mod Decoding
 pub mod Progressing
 pub mod WholeTable
 pub mod Identifiers
+pub mod Apart
+pub mod Pieces

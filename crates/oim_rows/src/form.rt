@@ -1,14 +1,15 @@
 //! The form of a table's rows: what makes a record a row, before its cells are resolved.
 
-ghost use Rattle.std.specs.Prelude.{◌≡◌, ◌⊎◌, ◌<◌, IfOk, IfErr, IfSome, OnOk, length};
+ghost use Rattle.std.specs.Prelude.{◌≡◌, ◌⊎◌, ◌<◌, IfOk, IfErr, IfSome, None, OnOk, length};
 ghost use Rattle.std.specs.String.{string_bytes};
-ghost use Rattle.oim_rows.specs.Header.{file_header_fault};
+ghost use Rattle.oim_rows.specs.Apart.{repeated_id};
+ghost use Rattle.oim_rows.specs.Header.{file_fault, file_header_fault, header_fault};
 ghost use Rattle.oim_rows.specs.RowFacts.{id_place_of, row_fault, row_id_place};
-ghost use Rattle.oim_rows.specs.Streams.{IsOutside, TakesHeader};
+ghost use Rattle.oim_rows.specs.Streams.{IsOutside, TakesHeader, reading_of};
 
 use crate::cells::text_at;
 use crate::fault::{TableFault, TableKind, fault_at_place, fault_of_whole_row};
-use crate::header::{read_header, source_of};
+use crate::header::{read_header, source_of, take_header};
 use crate::ids::RowIds;
 use itoa::Buffer;
 use oim_records::{Fields, RecordReader};
@@ -69,18 +70,52 @@ impl<'a> RowForm<'a> {
         ensures header { IfOk result (λ f. TakesHeader report.now table records.old.left f.header records.new.left) }
         ensures fault { IfErr result (λ e. IsOutside table e ⊎ IfSome records.old.left (λ rs. file_header_fault report.now table rs ≡ Some e)) }
     {
-        let header = match read_header(alloc, report, table, records) {
-            Ok(header) => header,
-            Err(fault) => return Err(fault),
-        };
+        match read_header(alloc, report, table, records) {
+            Ok(header) => Ok(RowForm::of_columns(report, table, limit, header)),
+            Err(fault) => Err(fault),
+        }
+    }
+
+    /// The same, where the header is at hand: the first record of the table's file.
+    ///
+    /// Fails with the header's first fault, in this order: UnknownHeader, RepeatedHeader, NoRowIdColumn, and with Memory where
+    /// memory is short.
+    pub fn under(
+        alloc: Global,
+        report: &'a Report,
+        table: usize,
+        limit: u32,
+        header: &Fields<'_>,
+    ) -> Result<RowForm<'a>, TableFault>
+        requires { table < length report.now.tables }
+        ensures form { IfOk result (λ f. f ≡ reading_of report.now table limit header.now) }
+        ensures header { IfOk result (λ _. header_fault report.now table header.now ≡ None) }
+        ensures fault { IfErr result (λ e. (e ≡ file_fault table TableKind.Memory) ⊎ (header_fault report.now table header.now ≡ Some e)) }
+    {
+        match take_header(alloc, report, table, Ok(true), header) {
+            Ok(columns) => Ok(RowForm::of_columns(report, table, limit, columns)),
+            Err(fault) => Err(fault),
+        }
+    }
+
+    // What the rows of a table are told by, where these are the columns of its header.
+    fn of_columns(
+        report: &'a Report,
+        table: usize,
+        limit: u32,
+        header: Vec<Option<usize>>,
+    ) -> RowForm<'a>
+        requires { table < length report.now.tables }
+        ensures { result ≡ record { report = report.now; table = table; limit = limit; header = header.items } }
+    {
         let id_place = place_of_id(header.as_slice(), report.row_id_column(table));
-        Ok(RowForm {
+        RowForm {
             report,
             table,
             limit,
             header,
             id_place,
-        })
+        }
     }
 }
 
@@ -131,6 +166,17 @@ impl<'a> RowForm<'a> {
         let place = self.id_place?;
         let kind = ids.fault_of(text_at(row, Some(place)))?;
         Some(fault_at_place(self.table, number, place, kind))
+    }
+
+    /// The fault of row `number` where an earlier row has its identifier: RepeatedRowId.
+    pub fn fault_of_repeated_id(&self, number: u32) -> TableFault
+        ensures { result ≡ repeated_id self.now number }
+    {
+        let place = match self.id_place {
+            Some(place) => place,
+            None => 0,
+        };
+        fault_at_place(self.table, number, place, TableKind::RepeatedRowId)
     }
 }
 

@@ -144,7 +144,7 @@ fn columns_fault(
 
 /// The columns of a table's header, where `found` is the reader's answer for it and `row` the record.
 /// Memory is taken only once each cell names a column.
-fn take_header(
+pub(crate) fn take_header(
     alloc: Global,
     report: &Report,
     table: usize,

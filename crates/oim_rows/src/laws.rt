@@ -4,6 +4,7 @@ ghost use Rattle.std.specs.Prelude.{◌≡◌, ◌↔◌, List, ℕ, Option, []}
 ghost use Rattle.oim_records.specs.Grids.{Record};
 ghost use Rattle.oim_report.specs.ReportValue.{ReportValue};
 ghost use Rattle.oim_rows.specs.Identifiers.{FactIdsDiffer};
+ghost use Rattle.oim_rows.specs.Pieces.{FileInPieces, PieceThenRest, RowsInPieces};
 ghost use Rattle.oim_rows.specs.RowFacts.{Reading};
 ghost use Rattle.oim_rows.specs.Streams.{Stream, stream_from, table_stream};
 ghost use Rattle.oim_rows.specs.WholeTable.{IsStreamOf, IsTableStream};
@@ -31,3 +32,15 @@ pub fn fact_identifiers_differ(report: &Report)
 {
     report.stands_in_order();
 }
+
+/// However the rows of a table are cut into pieces, each decoded with no earlier row known and joined to those before it by its
+/// identifiers, they give the stream of the rows.
+pub fn rows_in_pieces()
+    ensures pieces { RowsInPieces }
+    ensures first { PieceThenRest }
+{}
+
+/// The same from the bytes of a table's file, cut anywhere between two records behind its byte-order mark.
+pub fn file_in_pieces()
+    ensures { FileInPieces }
+{}

@@ -37,6 +37,9 @@ mod rows;
 pub use fault::{TableFault, TableKind, fault_of_read, whole_fault};
 pub use form::{RowForm, push_row_number};
 pub use ids::RowIds;
-pub use laws::{fact_identifiers_differ, stream_is_of_all_rows, table_stream_is_of_all_rows};
+pub use laws::{
+    fact_identifiers_differ, file_in_pieces, rows_in_pieces, stream_is_of_all_rows,
+    table_stream_is_of_all_rows,
+};
 pub use row_plan::RowPlan;
 pub use rows::{RowFacts, Rows};
