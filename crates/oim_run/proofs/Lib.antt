@@ -1,4 +1,5 @@
 mod CommandLine
+mod Waiting
 mod Endings
 mod Excerpts
 mod Findings
@@ -6,6 +7,7 @@ mod ExamplesExplain
 mod FolderFacts
 mod Names
 mod Beginnings
+mod Stopped
 mod Threads
 mod OneThread
 mod MetadataFacts

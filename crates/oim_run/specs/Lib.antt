@@ -1,3 +1,4 @@
+pub mod Buffers
 pub mod CommandLine
 pub mod Conversion
 pub mod Explanations
@@ -7,5 +8,6 @@ pub mod Lines
 pub mod Metadata
 pub mod Naming
 pub mod Outcomes
+pub mod Outputs
 pub mod Runs
 pub mod Steps

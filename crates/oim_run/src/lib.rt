@@ -17,14 +17,16 @@
 //! - `convert_report` says the same of a report whose tables are given by readers, `convert_texts` of
 //!   one whose files are given by their bytes, and `convert_held` of the built-in report
 //!   (`specs/Conversion.antt`);
-//! - `run_to` and `convert_to` say how a run through a buffer ended: a flush that fails after a
-//!   document, whole or unfinished, is a failed write;
+//! - `run_to` and `convert_to` say how a run through a buffer ended, and what the writer behind it holds,
+//!   where that tells it: all that the run wrote, or a beginning of it where the last flush failed, which
+//!   after a document, whole or unfinished, is a failed write;
+//! - `convert_as` runs exactly one conversion, to the output that the settings name, and answers its
+//!   outcome; or none, if that output is written as an input's path (`specs/Outputs.antt`);
 //! - `status` and `line` give the exit status and the lines on standard error of each outcome, with one
 //!   line for each refused table, and `terminal_line` the same without a path's control characters
 //!   (`specs/Lines.antt`).
 //!
-//! What only tests show: what the writer behind the buffer holds, and that memory and threads, where
-//! they are given, are enough.
+//! What only tests show: that memory and threads, where they are given, are enough.
 //!
 //! A call:
 //!
@@ -43,12 +45,14 @@
 //! ```
 #![tactic(auto)]
 
+mod buffer;
 mod buffered;
 mod conversion;
 mod explain;
 mod folder;
 mod held;
 mod outcome;
+mod output;
 mod request;
 mod running;
 mod settings;
@@ -63,6 +67,7 @@ pub use explain::{
 pub use folder::{Folder, Texts};
 pub use held::{METADATA, TABLE, TYPES};
 pub use outcome::{Outcome, Source, line, status, table_line, terminal_line};
+pub use output::{Conversion, convert_as};
 pub use request::{Request, job, request_of};
 pub use running::run;
 pub use settings::Settings;

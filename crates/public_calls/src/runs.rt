@@ -5,10 +5,10 @@ use oim_json::{Layout, Marked};
 use oim_meta::{Limits, MetaFault, Parameters, Types};
 use oim_rows::{TableFault, TableKind};
 use oim_run::{
-    Explanation, Folder, METADATA, Outcome, Request, Settings, Source, TABLE, TYPES, Texts,
-    convert_held, convert_report, convert_texts, convert_to, explain_metadata, explain_report,
-    explain_table, explanation_text, job, line, report_again, request_of, run, run_to, shown,
-    status, table_line, terminal_line,
+    Conversion, Explanation, Folder, METADATA, Outcome, Request, Settings, Source, TABLE, TYPES,
+    Texts, convert_as, convert_held, convert_report, convert_texts, convert_to, explain_metadata,
+    explain_report, explain_table, explanation_text, job, line, report_again, request_of, run,
+    run_to, shown, status, table_line, terminal_line,
 };
 use std::alloc::{AllocError, Global};
 use std::sync::Wait;
@@ -133,7 +133,7 @@ fn is_of_types(outcome: &Outcome) -> bool {
 /// The other ways to run: to a writer behind a buffer, and without a folder.
 fn runs_otherwise(rt: &(impl AllocGlobal + Threads + Wait + Sync), settings: &Settings) -> bool {
     let files = [("m.json", METADATA.as_bytes()), ("t.csv", b"".as_slice())];
-    let refused = run_to(
+    let (refused, _) = run_to(
         rt,
         rt.alloc(),
         settings,
@@ -142,8 +142,41 @@ fn runs_otherwise(rt: &(impl AllocGlobal + Threads + Wait + Sync), settings: &Se
     );
     let mut document = Vec::new(rt.alloc());
     let held = convert_held(rt, rt.alloc(), &mut Marked::new(&mut document));
-    let whole = convert_to(rt, rt.alloc(), Vec::new(rt.alloc()));
-    is_of_types(&refused) && status(&held) == 0 && status(&whole) == 0
+    let (whole, same) = convert_to(rt, rt.alloc(), Vec::new(rt.alloc()));
+    is_of_types(&refused)
+        && status(&held) == 0
+        && status(&whole) == 0
+        && document.as_slice() == same.as_slice()
+}
+
+/// A conversion of a caller's own, of the held report into memory.
+#[derive(Drop)]
+struct IntoMemory {
+    alloc: Global,
+    document: Vec<u8>,
+}
+
+impl Conversion for IntoMemory {
+    fn to_standard_output<T: Threads + Wait + Sync>(&mut self, threads: &T) -> Outcome {
+        convert_held(threads, self.alloc, &mut Marked::new(&mut self.document))
+    }
+
+    fn to_file<T: Threads + Wait + Sync>(&mut self, threads: &T, path: &str) -> Option<Outcome> {
+        if path.is_empty() {
+            return None;
+        }
+        Some(self.to_standard_output(threads))
+    }
+}
+
+/// Whether one conversion is run, to where the settings say.
+fn converts_once(rt: &(impl AllocGlobal + Threads + Wait + Sync), settings: &Settings) -> bool {
+    let mut conversion = IntoMemory {
+        alloc: rt.alloc(),
+        document: Vec::new(rt.alloc()),
+    };
+    let outcome = convert_as(rt, rt.alloc(), settings, &mut conversion);
+    status(&outcome) == 0 && conversion.document.as_slice().ends_with(b"}}\n")
 }
 
 /// A report whose tables are given by readers, and one whose files are given by their bytes.
@@ -187,6 +220,7 @@ fn converts_given(rt: &(impl AllocGlobal + Threads + Wait + Sync)) -> Result<boo
 fn calls_of_runs(rt: HostRuntime) -> Result<(), Fail> {
     let settings = settings(rt.alloc())?;
     assert!(rt; runs(&rt, &settings)? && runs_otherwise(&rt, &settings));
+    assert!(rt; converts_once(&rt, &settings));
     assert!(rt; converts_given(&rt)? && asks(rt.alloc()) && says(rt.alloc())?);
     assert!(rt; explains(rt.alloc(), &settings)? && explains_a_table(rt.alloc(), &settings)?);
     Ok(())

@@ -10,9 +10,10 @@
 //!
 //! - the exit status is that of the outcome, or of the kind of fault that the words have; 3 where the
 //!   help or the version that they ask for cannot be printed;
-//! - an output that is written as the path of the metadata or of the types table is refused
-//!   (`convert_as`). That no other path leads to a file of the report is looked at by device and inode,
-//!   and only tests show it.
+//! - exactly one conversion is run, to the output that the words name, and the exit status is that of its
+//!   outcome; none for an output that is written as the path of the metadata or of the types table
+//!   (`convert_and_tell`, over any conversion that tells what it ran). That no other path leads to a file
+//!   of the report is looked at by device and inode, and only tests show it.
 //!
 //! Nothing is claimed about what the system's files hold, what its output takes, what it says about the
 //! arguments, or the line that `--progress` shows.
@@ -28,9 +29,14 @@ mod paths;
 mod progress;
 mod said;
 
+ghost use Rattle.std.specs.Prelude.{◌≡◌, IfSome};
+ghost use Rattle.oim_run.specs.Lines.{status_of};
+ghost use Rattle.oim_run.specs.Outputs.{EndsFor};
+ghost use Rattle.oim_run.specs.declared.outcome.Outcome.{Outcome};
+
 use oim_convert::ConvertFault;
-use oim_run::{Outcome, convert_to, request_of};
-use output::convert_apart;
+use oim_run::{Conversion, Outcome, Request, convert_to, request_of};
+use output::{FromDisk, convert_apart};
 use said::{explained, told, told_with_places};
 use std::alloc::Global;
 use std::io;
@@ -38,6 +44,26 @@ use std::io::ErrorKind;
 use std::process::ExitCode;
 use std::sync::Wait;
 use std::thread::Threads;
+
+/// Converts once, to the output that the words name, prints how that ended, and gives the exit status.
+fn convert_and_tell<T: Threads + Wait + Sync, C: Conversion>(
+    rt: &HostRuntime,
+    threads: &T,
+    alloc: Global,
+    request: &Request,
+    conversion: &mut C,
+) -> u8
+    ensures { IfSome (C.ran conversion.old) (λ before. (ended : Outcome)
+        × EndsFor request.now.settings before (C.ran conversion.new) ended × (result ≡ status_of ended)) }
+{
+    let settings = &request.settings;
+    let outcome = convert_apart(rt, threads, alloc, settings, conversion);
+    if request.explain {
+        told_with_places(rt, alloc, settings, &outcome)
+    } else {
+        told(rt, alloc, &outcome)
+    }
+}
 
 /// Runs with these words, which do not include the program's name, and gives the exit status.
 fn started<T: Threads + Wait + Sync>(
@@ -47,7 +73,8 @@ fn started<T: Threads + Wait + Sync>(
     words: &[&str],
 ) -> u8 {
     if words.is_empty() {
-        return told(rt, alloc, &convert_to(threads, alloc, io::writer(rt)));
+        let (outcome, _) = convert_to(threads, alloc, io::writer(rt));
+        return told(rt, alloc, &outcome);
     }
     let request = match request_of(alloc, words) {
         Ok(request) => request,
@@ -57,11 +84,12 @@ fn started<T: Threads + Wait + Sync>(
         let _ = rt.eprint("error: --whole wants --out FILE\n");
         return 2;
     }
-    let outcome = convert_apart(rt, threads, alloc, &request);
-    if !request.explain {
-        return told(rt, alloc, &outcome);
-    }
-    told_with_places(rt, alloc, &request.settings, &outcome)
+    let mut conversion = FromDisk {
+        rt,
+        alloc,
+        request: &request,
+    };
+    convert_and_tell(rt, threads, alloc, &request, &mut conversion)
 }
 
 /// Runs with the arguments of the process, and gives the exit status.

@@ -1,9 +1,8 @@
 //! The output of a run: a file or standard output, written through a buffer.
 
-ghost use Rattle.std.specs.Prelude.{◌≡◌, ◌⊎◌, IfNone, IfSome};
+ghost use Rattle.std.specs.Prelude.{IfSome};
 ghost use Rattle.oim_run.specs.CommandLine.{IsInput};
-ghost use Rattle.oim_run.specs.Steps as spec;
-ghost use Rattle.oim_run.specs.declared.outcome.Outcome.TheVariants as outcome;
+ghost use Rattle.oim_run.specs.Outputs.{EndsFor, IsUnwritten};
 
 use crate::disk::Disk;
 use crate::emptied::OpenOutput;
@@ -11,10 +10,8 @@ use crate::file_id::{FileId, Written};
 use crate::new_file::NewFile;
 use crate::paths::reached;
 use crate::progress::{Counted, Progress};
-use oim_convert::ConvertFault;
 use oim_json::WriteFault;
-use oim_names::Text;
-use oim_run::{Outcome, Request, Settings, run_to};
+use oim_run::{Conversion, Outcome, Request, Settings, convert_as, run_to};
 use std::alloc::Global;
 use std::fs::Metadata;
 use std::io::{IsTerminal, Write};
@@ -24,27 +21,6 @@ use std::{fs, io};
 
 /// The system's file that holds nothing.
 const NOTHING: &str = "/dev/null";
-
-/// The outcome of a run that cannot write its document to the file at this path.
-fn cannot_write(alloc: Global, path: &str) -> Outcome
-    ensures { (result ≡ outcome.CannotWrite path.now) ⊎ (result ≡ spec.no_memory) }
-{
-    match Text::from_str(alloc, path) {
-        Ok(path) => Outcome::CannotWrite(path),
-        Err(_) => Outcome::Run(ConvertFault::Memory),
-    }
-}
-
-/// The outcome of a conversion to the file at this path: its own, or that the file cannot be written.
-fn outcome_at(alloc: Global, path: &str, converted: Option<Outcome>) -> Outcome
-    ensures own { IfSome converted (λ o. result ≡ o) }
-    ensures none { IfNone converted ((result ≡ outcome.CannotWrite path.now) ⊎ (result ≡ spec.no_memory)) }
-{
-    match converted {
-        Some(outcome) => outcome,
-        None => cannot_write(alloc, path),
-    }
-}
 
 /// Runs over the system's files, writes the document to a writer, and flushes it. If the words ask for
 /// it, standard error shows the progress of the run.
@@ -67,7 +43,7 @@ fn run_watched<T: Threads + Wait + Sync, W: Write + Drop>(
         written,
         progress,
     };
-    let outcome = run_to(
+    let (outcome, _written) = run_to(
         threads,
         alloc,
         &request.settings,
@@ -180,42 +156,47 @@ fn convert_into<T: Threads + Wait + Sync>(
     }
 }
 
-/// Runs over the system's files, and writes the document to the file `settings.out`, or to standard
-/// output. A file of the report (the metadata, the types table, the parameters file or a table), by
-/// whatever path, cannot be written, and stays as it was. `threads` starts the workers' threads.
-pub fn convert_as<T: Threads + Wait + Sync>(
-    rt: &HostRuntime,
-    threads: &T,
-    alloc: Global,
-    request: &Request,
-) -> Outcome
-    ensures { IfSome request.now.settings.out (λ path. IsInput request.now.settings path → (result ≡ outcome.CannotWrite path) ⊎ (result ≡ spec.no_memory)) }
-{
-    let Some(path) = &request.settings.out else {
-        let written = Written::new(None, None);
-        return run_watched(rt, threads, alloc, request, &written, io::writer(rt));
-    };
-    let path = path.as_str();
-    if request.settings.reads(path) {
-        return cannot_write(alloc, path);
-    }
-    outcome_at(alloc, path, convert_into(rt, threads, alloc, request, path))
+/// The conversion of the report that the words name, from the system's files. A file of the report (the
+/// metadata, the types table, the parameters file or a table), by whatever path, cannot be written, and
+/// stays as it was.
+#[derive(Drop)]
+pub struct FromDisk<'a> {
+    /// The system.
+    pub rt: &'a HostRuntime,
+    /// Where memory comes from.
+    pub alloc: Global,
+    /// What the words ask for.
+    pub request: &'a Request,
 }
 
-/// Runs over the system's files as `convert_as` does, with the numbers of standard input, output and error
-/// taken: where the program was started without one of them, the first file that it opens would get that
-/// number, and what is printed would go into the document. A file that holds nothing and is open for
-/// reading takes it, so that printing fails.
-pub fn convert_apart<T: Threads + Wait + Sync>(
+impl<'a> Conversion for FromDisk<'a> {
+    fn to_standard_output<T: Threads + Wait + Sync>(&mut self, threads: &T) -> Outcome {
+        let written = Written::new(None, None);
+        let to = io::writer(self.rt);
+        run_watched(self.rt, threads, self.alloc, self.request, &written, to)
+    }
+
+    fn to_file<T: Threads + Wait + Sync>(&mut self, threads: &T, path: &str) -> Option<Outcome> {
+        convert_into(self.rt, threads, self.alloc, self.request, path)
+    }
+}
+
+/// Converts as `convert_as` does, with the numbers of standard input, output and error taken: where the
+/// program was started without one of them, the first file that it opens would get that number, and what
+/// is printed would go into the document. A file that holds nothing and is open for reading takes it, so
+/// that printing fails.
+pub fn convert_apart<T: Threads + Wait + Sync, C: Conversion>(
     rt: &HostRuntime,
     threads: &T,
     alloc: Global,
-    request: &Request,
+    settings: &Settings,
+    conversion: &mut C,
 ) -> Outcome
-    ensures { IfSome request.now.settings.out (λ path. IsInput request.now.settings path → (result ≡ outcome.CannotWrite path) ⊎ (result ≡ spec.no_memory)) }
+    ensures once { IfSome (C.ran conversion.old) (λ before. EndsFor settings.now before (C.ran conversion.new) result) }
+    ensures input { IfSome settings.now.out (λ path. IsInput settings.now path → IsUnwritten path result) }
 {
     let _input = fs::open(rt, NOTHING);
     let _output = fs::open(rt, NOTHING);
     let _error = fs::open(rt, NOTHING);
-    convert_as(rt, threads, alloc, request)
+    convert_as(threads, alloc, settings, conversion)
 }
