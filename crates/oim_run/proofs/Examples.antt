@@ -57,7 +57,7 @@ abbrev least : List Text
 least = codes "m.json" ∷ codes "--types" ∷ codes "t.csv" ∷ []
 
 abbrev full : List Text
-full = codes "--out" ∷ codes "o.json" ∷ codes "--workers" ∷ codes "64" ∷ codes "--ring=2" ∷ codes "--layout" ∷ codes "lines" ∷ codes "--progress" ∷ codes "--whole" ∷ codes "--explain" ∷ least
+full = codes "--out" ∷ codes "o.json" ∷ codes "--workers" ∷ codes "64" ∷ codes "--ring=2" ∷ codes "--layout" ∷ codes "lines" ∷ codes "--progress" ∷ codes "--whole" ∷ codes "--explain" ∷ codes "--faults" ∷ codes "f.csv" ∷ least
 
 abbrev given : List Text → List Row
 given words = matches_of (command_line layouts) words
@@ -129,6 +129,14 @@ least_explain = refl
 full_explain : is_given (first_of (codes "explain") (given full)) ≡ true
 unfolding clap_on_literals command_line
 full_explain = refl
+
+least_faults : first_of (codes "faults") (given least) ≡ None
+unfolding clap_on_literals command_line
+least_faults = refl
+
+full_faults : first_of (codes "faults") (given full) ≡ Some (codes "f.csv")
+unfolding clap_on_literals command_line
+full_faults = refl
 
 least_taken : fault_of (command_line layouts) least ≡ []
 unfolding clap_on_literals command_line

@@ -3,6 +3,9 @@ mod Endings
 mod Excerpts
 mod Findings
 mod ExamplesExplain
+mod ExamplesFaultRows
+mod LineLaws
+mod Rereads
 mod FolderFacts
 mod Names
 mod Beginnings

@@ -35,9 +35,14 @@ pointer_key key = codes "/" ++ flat_map pointer_char (chars key)
 abbrev pub pointer_of : Path → List ℕ
 pointer_of keys = flat_map pointer_key keys
 
+-- the lines of the places elsewhere that a fault comes from
+abbrev pub sources_of : List (List ℕ) → List ℕ
+sources_of [] = []
+sources_of (s ∷ more) = (codes "    " ++ (s ++ 10 ∷ [])) ++ sources_of more
+
 -- the lines of an explanation
 abbrev pub explanation_of : Explanation → List ℕ
-explanation_of e = codes "    " ++ (e.place ++ (10 ∷ codes "    " ++ (e.found ++ (10 ∷ codes "    " ++ (e.cause.now ++ 10 ∷ [])))))
+explanation_of e = codes "    " ++ (e.place ++ (10 ∷ codes "    " ++ (e.found ++ (10 ∷ codes "    " ++ (e.cause.now ++ 10 ∷ sources_of e.sources)))))
 
 -- ---- the metadata
 

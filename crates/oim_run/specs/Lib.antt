@@ -1,6 +1,7 @@
 pub mod CommandLine
 pub mod Conversion
 pub mod Explanations
+pub mod FaultRows
 pub mod Folders
 pub mod LineNumbers
 pub mod Lines

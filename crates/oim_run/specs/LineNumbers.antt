@@ -1,7 +1,9 @@
 -- The line of a file at which a record begins. Records are those of `grid`: commas separate fields, inside quotes a quote is doubled, LF, CR or CRLF
 -- ends a record, and an empty line is none. A line ends with LF, CR or CRLF, also inside quotes.
-use Rattle.std.specs.Prelude.{ℕ, ◌+◌, ◌-◌, ◌^◌, min, Bool, true, false, not, ◌&&◌, ◌||◌, nat_eq, List, [], ◌∷◌, Option, Some, None, fold, if◌then◌else◌}
+use Rattle.std.specs.Prelude.{◌≡◌, ◌≤◌, ◌++◌, drop, length, ℕ, ◌+◌, ◌-◌, ◌^◌, min, Bool, true, false, not, ◌&&◌, ◌||◌, nat_eq, List, [], ◌∷◌, Option, Some, None, fold, if◌then◌else◌}
 use Rattle.csv.specs.Reading.{strip_bom}
+use Rattle.csv.specs.declared.parser.State.TheVariants as state
+use Rattle.oim_records.specs.Grids.{grid, records_left}
 use Rattle.oim_run.specs.declared.explain.line_number.LineCounter.{LineCounter}
 use Rattle.oim_run.specs.declared.explain.line_number.Spot.{Spot}
 use Rattle.oim_run.specs.declared.explain.line_number.Spot.TheVariants.{Between, Start, Field, Quoted, Quote}
@@ -67,3 +69,32 @@ line_in c = if c.has_begun then Some c.line else None
 -- the line at which the record with this number begins, the header being 0
 abbrev pub line_of_record : ℕ → List ℕ → Option ℕ
 line_of_record number bytes = line_in (fold after_byte (start_of number) (strip_bom bytes))
+
+-- ---- what a line is
+
+-- the line of the byte behind one more, and whether a CR stands before it
+abbrev pub next_line : ℕ × Bool → ℕ → ℕ × Bool
+next_line at b = (if ends_line b && not (at.1 && nat_eq b 10) then min (at.0 + 1) (2 ^ 64 - 1) else at.0, nat_eq b 13)
+
+-- the line at which a text begins that stands behind these bytes
+abbrev pub line_behind : List ℕ → ℕ
+line_behind front = (fold next_line (1, false) front).0
+
+-- The record of a number begins at a line. Behind some bytes, which end the lines before it, stands a text that begins with no line's end and whose records
+-- are the file's from this one on.
+pub record BeginsAt (bytes : List ℕ) (number line : ℕ) : Type 0 where
+  pub front : List ℕ
+  pub first : ℕ
+  pub rest : List ℕ
+  pub split : strip_bom bytes ≡ front ++ first ∷ rest
+  pub text : ends_line first ≡ false
+  pub records : records_left state.StartRecord (first ∷ rest) ≡ drop number (grid bytes)
+  pub counted : line ≡ line_behind front
+
+-- each record begins at its line, and a number that has no line is that of no record
+abbrev pub HasLine : List ℕ → ℕ → Option ℕ → Type 0
+HasLine bytes number None = length (grid bytes) ≤ number
+HasLine bytes number (Some line) = BeginsAt bytes number line
+
+abbrev pub LineLaw : Type 0
+LineLaw = (number : ℕ) (bytes : List ℕ) → HasLine bytes number (line_of_record number bytes)

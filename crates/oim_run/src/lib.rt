@@ -21,7 +21,9 @@
 //!   document, whole or unfinished, is a failed write;
 //! - `status` and `line` give the exit status and the lines on standard error of each outcome, with one
 //!   line for each refused table, and `terminal_line` the same without a path's control characters
-//!   (`specs/Lines.antt`).
+//!   (`specs/Lines.antt`);
+//! - `fault_row` gives the record of a fault in the file of faults, which is read as its eight fields
+//!   whatever comes behind it (`specs/FaultRows.antt`).
 //!
 //! What only tests show: what the writer behind the buffer holds, and that memory and threads, where
 //! they are given, are enough.
@@ -46,6 +48,7 @@
 mod buffered;
 mod conversion;
 mod explain;
+mod fault_rows;
 mod folder;
 mod held;
 mod outcome;
@@ -58,8 +61,10 @@ mod terminal;
 pub use buffered::{convert_to, run_to};
 pub use conversion::{convert_held, convert_report, convert_texts};
 pub use explain::{
-    Explanation, explain_metadata, explain_report, explain_table, explanation_text, report_again,
+    Explanation, ReportAgain, explain_metadata, explain_report, explain_table, explanation_text,
+    fault_place, lines_are_of_records, report_again,
 };
+pub use fault_rows::{FaultPlace, fault_header, fault_row};
 pub use folder::{Folder, Texts};
 pub use held::{METADATA, TABLE, TYPES};
 pub use outcome::{Outcome, Source, line, status, table_line, terminal_line};

@@ -5,10 +5,11 @@ use oim_json::{Layout, Marked};
 use oim_meta::{Limits, MetaFault, Parameters, Types};
 use oim_rows::{TableFault, TableKind};
 use oim_run::{
-    Explanation, Folder, METADATA, Outcome, Request, Settings, Source, TABLE, TYPES, Texts,
-    convert_held, convert_report, convert_texts, convert_to, explain_metadata, explain_report,
-    explain_table, explanation_text, job, line, report_again, request_of, run, run_to, shown,
-    status, table_line, terminal_line,
+    Explanation, FaultPlace, Folder, METADATA, Outcome, ReportAgain, Request, Settings, Source,
+    TABLE, TYPES, Texts, convert_held, convert_report, convert_texts, convert_to, explain_metadata,
+    explain_report, explain_table, explanation_text, fault_header, fault_place, fault_row, job,
+    line, lines_are_of_records, report_again, request_of, run, run_to, shown, status, table_line,
+    terminal_line,
 };
 use std::alloc::{AllocError, Global};
 use std::sync::Wait;
@@ -53,7 +54,9 @@ fn settings(alloc: Global) -> Result<Settings, Fail> {
 /// What the words ask for beside the settings.
 fn asks(alloc: Global) -> bool {
     let request = request_of(alloc, &["m.json", "--types", "t.csv", "--whole"]);
-    request.is_ok_and(|request: Request| request.whole && !request.progress && !request.explain)
+    request.is_ok_and(|request: Request| {
+        request.whole && !request.progress && !request.explain && request.faults.is_none()
+    })
 }
 
 /// A line for a terminal.
@@ -78,6 +81,7 @@ fn explains(alloc: Global, settings: &Settings) -> Result<bool, AllocError> {
             place,
             found,
             cause,
+            sources,
         },
     ) = given
     else {
@@ -87,6 +91,7 @@ fn explains(alloc: Global, settings: &Settings) -> Result<bool, AllocError> {
         place,
         found,
         cause,
+        sources,
     };
     let files = [("m.json", b"{}".as_slice()), ("t.csv", TYPES.as_bytes())];
     let folder = &mut Texts { files: &files };
@@ -100,7 +105,26 @@ fn explains(alloc: Global, settings: &Settings) -> Result<bool, AllocError> {
     Ok(explanation_text(alloc, &given)?.as_str() == again.as_str())
 }
 
-/// A fault of a table, with its line, explained over a folder.
+/// The record of a fault of the table `t1` in the file of faults, from a place that is read again and from one that
+/// is not known.
+fn writes_a_row(
+    alloc: Global,
+    settings: &Settings,
+    folder: &mut Texts<'_>,
+    again: &ReportAgain,
+    fault: &TableFault,
+) -> Result<bool, AllocError> {
+    let place = fault_place(alloc, settings, folder, again, fault)?;
+    let row = fault_row(alloc, "t1", fault, &place)?;
+    let unknown = fault_row(alloc, "t1", fault, &FaultPlace::unknown(alloc)?)?;
+    Ok(
+        fault_header().starts_with("table,row,column")
+            && row.as_slice() == b"t1,1,1,40,BadNumber,2,cash,x\n"
+            && unknown.as_slice() == b"t1,1,1,40,BadNumber,,,\n",
+    )
+}
+
+/// A fault of a table, with its line and its record, explained over a folder.
 fn explains_a_table(alloc: Global, settings: &Settings) -> Result<bool, AllocError> {
     let files = [
         ("m.json", METADATA.as_bytes()),
@@ -108,7 +132,7 @@ fn explains_a_table(alloc: Global, settings: &Settings) -> Result<bool, AllocErr
         ("t1.csv", b"cash\nx\n".as_slice()),
     ];
     let folder = &mut Texts { files: &files };
-    let Ok(report) = report_again(alloc, settings, folder) else {
+    let Ok(again) = report_again(alloc, settings, folder) else {
         return Ok(false);
     };
     let fault = TableFault {
@@ -118,9 +142,10 @@ fn explains_a_table(alloc: Global, settings: &Settings) -> Result<bool, AllocErr
         kind: TableKind::BadNumber,
     };
     let line = table_line(alloc, "t1", &fault)?;
-    let text = explain_table(alloc, settings, folder, &report, &fault)?;
+    let text = explain_table(alloc, settings, folder, &again, &fault)?;
     Ok(
-        line.as_str().ends_with("column 1: BadNumber (40)\n")
+        writes_a_row(alloc, settings, folder, &again, &fault)?
+            && line.as_str().ends_with("column 1: BadNumber (40)\n")
             && text.as_str().starts_with("    t1.csv, line 2, cell 1\n"),
     )
 }
@@ -189,5 +214,6 @@ fn calls_of_runs(rt: HostRuntime) -> Result<(), Fail> {
     assert!(rt; runs(&rt, &settings)? && runs_otherwise(&rt, &settings));
     assert!(rt; converts_given(&rt)? && asks(rt.alloc()) && says(rt.alloc())?);
     assert!(rt; explains(rt.alloc(), &settings)? && explains_a_table(rt.alloc(), &settings)?);
+    lines_are_of_records();
     Ok(())
 }

@@ -2,6 +2,7 @@
 
 ghost use Rattle.std.specs.Io.{ReadsAtMost};
 
+use crate::faults::FaultsFile;
 use crate::file_id::Written;
 use crate::progress::{Progress, Watched};
 use oim_run::Folder;
@@ -60,6 +61,8 @@ pub struct Disk<'a, H> {
     pub rt: &'a H,
     /// The files that the run writes: each file of the report is compared with them.
     pub written: &'a Written,
+    /// The file of the tables' faults, which is compared with them too.
+    pub faults: &'a FaultsFile<'a>,
     /// Counts each file that is looked for as a table, if there is one.
     pub progress: Option<&'a Progress<'a, H>>,
 }
@@ -78,7 +81,8 @@ where
         let Ok(file) = fs::open(self.rt, path) else {
             return None;
         };
-        if self.written.look_at(&file.metadata()) {
+        let metadata = file.metadata();
+        if self.written.look_at(&metadata) || self.faults.look_at(path, &metadata) {
             return None;
         }
         Some(Watched::new(DiskFile::Open(file), None))
@@ -87,6 +91,7 @@ where
     fn find(&mut self, path: String) -> Option<Watched<'a, H, DiskFile<'a, H>>> {
         let metadata = fs::metadata(self.rt, path.as_str());
         self.written.look_at(&metadata);
+        self.faults.look_at(path.as_str(), &metadata);
         let size = match metadata {
             Ok(metadata) => metadata.len(),
             Err(error) if is_missing(&error) => {

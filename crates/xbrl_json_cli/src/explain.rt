@@ -15,8 +15,9 @@ const MOST_TABLES: usize = 100;
 /// The files of the system that can be read a second time: the ordinary ones. Who opens a pipe once more may
 /// wait for ever.
 #[derive(Drop)]
-struct Ordinary<'a, H> {
-    rt: &'a H,
+pub struct Ordinary<'a, H> {
+    /// The system.
+    pub rt: &'a H,
 }
 
 impl<'a, H: Files> Folder<DiskFile<'a, H>> for Ordinary<'a, H>

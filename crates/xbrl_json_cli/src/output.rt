@@ -7,6 +7,7 @@ ghost use Rattle.oim_run.specs.declared.outcome.Outcome.TheVariants as outcome;
 
 use crate::disk::Disk;
 use crate::emptied::OpenOutput;
+use crate::faults::FaultsFile;
 use crate::file_id::{FileId, Written};
 use crate::new_file::NewFile;
 use crate::paths::reached;
@@ -62,9 +63,11 @@ fn run_watched<T: Threads + Wait + Sync, W: Write + Drop>(
         None
     };
     let progress = progress.as_ref();
+    let faults = FaultsFile::of(rt, alloc, request);
     let mut disk = Disk {
         rt,
         written,
+        faults: &faults,
         progress,
     };
     let outcome = run_to(
@@ -72,12 +75,12 @@ fn run_watched<T: Threads + Wait + Sync, W: Write + Drop>(
         alloc,
         &request.settings,
         &mut disk,
-        Counted::new(to, progress),
+        Counted::new(faults.writer(to), progress),
     );
     if let Some(progress) = progress {
         progress.end();
     }
-    outcome
+    faults.ended(alloc, outcome)
 }
 
 /// Whether the metadata or the types table is one of the files that the run writes.
@@ -109,6 +112,9 @@ fn convert_over<T: Threads + Wait + Sync>(
     if !reads_one(rt, &request.settings, &written) {
         let to = output.into_writer(&written);
         let outcome = run_watched(rt, threads, alloc, request, &written, to);
+        if is_new && matches!(outcome, Outcome::CannotWrite(_)) {
+            unmake(rt, alloc, path);
+        }
         if !written.is_read() {
             return Some(outcome);
         }

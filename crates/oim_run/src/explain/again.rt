@@ -9,7 +9,7 @@ use crate::outcome::{Outcome, Source};
 use crate::settings::Settings;
 use crate::steps::{metadata_at, parameters_in, path_in, types_in, url_in};
 use oim_meta::{MetaFault, Parameters, Types};
-use oim_names::Text;
+use oim_names::{Items, Text};
 use std::alloc::{AllocError, Global};
 use std::io::Read;
 
@@ -78,6 +78,7 @@ fn of_record<R: Read + Drop, F: Folder<R>>(
         place: Text::new(place_in_file(alloc, path, line, bad.place)?),
         found: Text::new(bad.found),
         cause: bad.cause,
+        sources: Items::new(alloc),
     })
 }
 

@@ -1,8 +1,13 @@
 //! The cells of a record that is read again.
 
+ghost use Rattle.std.specs.Prelude.{◌≡◌, ◌++◌, IfOk, string_bytes};
+ghost use Rattle.csv.specs.Records.{fields_of};
+ghost use Rattle.oim_run.specs.FaultRows.{as_text, byte_shown, field_of};
+
 use crate::explain::excerpts::excerpt;
 use crate::terminal::put_control;
 use csv::ByteRecord;
+use oim_names::Text;
 use std::alloc::{AllocError, Global};
 
 /// How many bytes are shown of a cell that is not UTF-8.
@@ -16,8 +21,19 @@ pub(crate) fn text_at(row: &ByteRecord, place: usize) -> Option<&str> {
     }
 }
 
-/// The bytes of a cell that is not UTF-8, cut: each that is no letter of ASCII as `\x` and its two hexadecimal
-/// digits.
+/// Puts a byte of a cell that is not UTF-8 behind a text: as `\x` and its two hexadecimal digits, unless it is a
+/// character of ASCII that is shown.
+fn put_byte(out: &mut String, byte: u8) -> Result<(), AllocError>
+    ensures { IfOk result (λ u. string_bytes out.new ≡ string_bytes out.old ++ byte_shown byte) }
+{
+    if byte >= b' ' && byte < 127 {
+        out.push(char::from(byte))
+    } else {
+        put_control(out, char::from(byte))
+    }
+}
+
+/// The bytes of a cell that is not UTF-8, cut.
 fn bytes_shown(alloc: Global, cell: &[u8]) -> Result<String, AllocError> {
     let mut out = String::new(alloc);
     for (place, byte) in cell.iter().enumerate() {
@@ -25,13 +41,38 @@ fn bytes_shown(alloc: Global, cell: &[u8]) -> Result<String, AllocError> {
             out.push_str("..")?;
             return Ok(out);
         }
-        if *byte >= b' ' && *byte < 127 {
-            out.push(char::from(*byte))?;
-        } else {
-            put_control(&mut out, char::from(*byte))?;
-        }
+        put_byte(&mut out, *byte)?;
     }
     Ok(out)
+}
+
+/// The whole of a field as a text, without a cut: itself, or if it is not UTF-8 each of its bytes as it is shown.
+pub(crate) fn field_text(alloc: Global, field: &[u8]) -> Result<Text, AllocError>
+    ensures { IfOk result (λ t. t ≡ as_text field.now) }
+{
+    if let Ok(text) = str::from_utf8(field) {
+        return Text::from_str(alloc, text);
+    }
+    let mut out = String::new(alloc);
+    for byte in field {
+        put_byte(&mut out, *byte)?;
+    }
+    Ok(Text::new(out))
+}
+
+/// The field of a record at a place, as a text; the empty text if there is none.
+pub(crate) fn field_at(
+    alloc: Global,
+    row: &ByteRecord,
+    place: Option<usize>,
+) -> Result<Text, AllocError>
+    ensures { IfOk result (λ t. t ≡ as_text (field_of (fields_of row.now) place)) }
+{
+    let field = match place {
+        Some(place) => row.get(place).unwrap_or(b""),
+        None => b"",
+    };
+    field_text(alloc, field)
 }
 
 /// What stands in a cell, in quotes and cut.

@@ -6,7 +6,7 @@ use crate::folder::Folder;
 use crate::outcome::Outcome;
 use crate::terminal::shown;
 use oim_meta::MetaFault;
-use oim_names::Text;
+use oim_names::{Items, Text};
 use std::alloc::{AllocError, Global};
 use std::io::Read;
 
@@ -20,6 +20,7 @@ pub(crate) fn of_file(
         place: shown(alloc, path)?,
         found: Text::from_str(alloc, "(the whole file)")?,
         cause,
+        sources: Items::new(alloc),
     })
 }
 

@@ -195,3 +195,10 @@ fn behind_mark(bytes: &[u8], is_first: bool) -> &[u8] {
         bytes
     }
 }
+
+/// The line of a record (`line_of_record`) is that of its first byte: behind the bytes before it, which end the lines
+/// before it, the file's text has the records that are left from this one on. A number without a line is that of
+/// no record. The call does nothing.
+pub fn lines_are_of_records()
+    ensures { spec.LineLaw }
+{}

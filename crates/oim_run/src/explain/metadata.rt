@@ -12,7 +12,7 @@ ghost use Rattle.oim_run.specs.Explanations.{ExplainsMetadata, HasBadUrl, HasOth
 use crate::explain::causes::cause;
 use crate::explain::explanation::Explanation;
 use crate::explain::pointers::pointer;
-use crate::explain::standing::{standing, value_at};
+use crate::explain::standing::{after_mark, standing, value_at};
 use crate::terminal::shown;
 use oim_meta::{
     Finding, Limits, MetaFault, Parameters, Refusal, Types, parameter_url, read_report_at,
@@ -20,11 +20,6 @@ use oim_meta::{
 use oim_names::{Items, Text};
 use serde_json::Value;
 use std::alloc::{AllocError, Global};
-
-/// The text behind a byte-order mark, if there is one.
-fn after_mark(bytes: &[u8]) -> &[u8] {
-    bytes.strip_prefix(b"\xef\xbb\xbf").unwrap_or(bytes)
-}
 
 /// A place in the metadata file at this path: the file for no keys.
 fn place(alloc: Global, path: &str, keys: &[Text]) -> Result<Text, AllocError>
@@ -91,6 +86,7 @@ fn of_finding(
         place,
         found: Text::new(found),
         cause,
+        sources: Items::new(alloc),
     })
 }
 

@@ -1,6 +1,6 @@
 //! The JSON pointer of a place.
 
-ghost use Rattle.std.specs.Prelude.{◌≡◌, ◌++◌, IfOk, string_bytes};
+ghost use Rattle.std.specs.Prelude.{◌≡◌, ◌++◌, IfOk, map, string_bytes};
 ghost use Rattle.oim_run.specs.Explanations.{pointer_char, pointer_key, pointer_of};
 
 use crate::terminal::put_shown;
@@ -25,6 +25,17 @@ fn part(alloc: Global, key: &str) -> Result<String, AllocError>
     let mut out = String::from_str(alloc, "/")?;
     for c in key.chars() {
         put_char(&mut out, c)?;
+    }
+    Ok(out)
+}
+
+/// The same pointer for keys of which no list of texts is at hand.
+pub(crate) fn pointer_to(alloc: Global, keys: &[&str]) -> Result<String, AllocError>
+    ensures { IfOk result (λ s. string_bytes s ≡ pointer_of (map (λ k. k.now) keys.now)) }
+{
+    let mut out = String::new(alloc);
+    for key in keys {
+        out.push_str(part(alloc, *key)?.as_str())?;
     }
     Ok(out)
 }

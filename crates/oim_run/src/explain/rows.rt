@@ -1,5 +1,10 @@
 //! The records of a table's file that are read again.
 
+ghost use Rattle.std.specs.Prelude.{◌≡◌, IfOk, IfSome, true};
+ghost use Rattle.csv.specs.Records.{fields_of};
+ghost use Rattle.oim_records.specs.Grids.{grid};
+ghost use Rattle.oim_run.specs.FaultRows.{HasRow, TakesNth};
+
 use crate::explain::entries::next;
 use csv::ByteRecord;
 use oim_meta::{Limits, Records, Report};
@@ -19,7 +24,9 @@ fn read_nth<R: Read>(
     records: &mut Records<R>,
     row: &mut ByteRecord,
     before: usize,
-) -> Result<bool, AllocError> {
+) -> Result<bool, AllocError>
+    ensures { IfSome records.old (λ left. IfOk result (λ found. found ≡ true → TakesNth left before (fields_of row.new) records.new)) }
+{
     for _ in 0..before {
         if !next(records, row)? {
             return Ok(false);
@@ -34,7 +41,9 @@ pub(crate) fn row_again<R: Read + Drop>(
     alloc: Global,
     reader: R,
     number: usize,
-) -> Result<Option<RowAgain>, AllocError> {
+) -> Result<Option<RowAgain>, AllocError>
+    ensures { IfSome (R.remaining reader) (λ bytes. IfOk result (λ o. IfSome o (λ a. HasRow (grid bytes) number (fields_of a.header) (fields_of a.row)))) }
+{
     let mut records = Records::new(alloc, reader);
     let mut header = ByteRecord::new(alloc);
     let mut row = ByteRecord::new(alloc);

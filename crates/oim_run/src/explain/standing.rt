@@ -17,8 +17,25 @@ pub(crate) fn value_at<'v>(value: &'v Value, keys: &[Text]) -> Option<&'v Value>
     Some(here)
 }
 
+/// The same for keys of which no list of texts is at hand.
+pub(crate) fn value_under<'v>(value: &'v Value, keys: &[&str]) -> Option<&'v Value> {
+    let mut here = value;
+    for key in keys {
+        here = match here.get(*key) {
+            Some(next) => next,
+            None => return None,
+        };
+    }
+    Some(here)
+}
+
+/// The bytes of a JSON text behind a byte-order mark, if there is one.
+pub(crate) fn after_mark(bytes: &[u8]) -> &[u8] {
+    bytes.strip_prefix(b"\xef\xbb\xbf").unwrap_or(bytes)
+}
+
 /// A text in quotes, cut.
-fn quoted(alloc: Global, text: &str) -> Result<String, AllocError> {
+pub(crate) fn quoted(alloc: Global, text: &str) -> Result<String, AllocError> {
     let cut = excerpt(alloc, text)?;
     let cut = cut.as_str();
     format!(in alloc; "\"{cut}\"")

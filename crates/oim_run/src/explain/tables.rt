@@ -1,32 +1,28 @@
 //! The explanation of a table's fault.
 
-ghost use Rattle.std.specs.Prelude.{◌<◌, length};
+ghost use Rattle.std.specs.Prelude.{◌≡◌, ◌<◌, IfOk, IfSome, length};
+ghost use Rattle.csv.specs.Records.{fields_of};
+ghost use Rattle.oim_records.specs.Grids.{grid};
+ghost use Rattle.oim_run.specs.FaultRows.{FoundIn, HasRow, IsPlaceAt, IsPlaceOf, column_place, field_in};
 
-use crate::explain::cells::{cell, cells, text_at};
+use crate::explain::cells::{cell, cells, field_at, text_at};
 use crate::explain::excerpts::excerpt;
 use crate::explain::explanation::{Explanation, explanation_text};
 use crate::explain::files::{changed, line_again, of_file, place_in_file};
+use crate::explain::levels::{RowOfFault, place_of_text};
+use crate::explain::reread::ReportAgain;
 use crate::explain::rows::{RowAgain, fault_again, first_with, row_again};
+use crate::explain::sources::sources;
+use crate::fault_rows::FaultPlace;
 use crate::folder::{Folder, folder_of};
-use crate::outcome::Outcome;
 use crate::settings::Settings;
-use crate::steps::{path_in, report_of};
+use crate::steps::path_in;
 use csv::ByteRecord;
 use oim_meta::{Level, Report, Written};
-use oim_names::Text;
+use oim_names::{Items, Text};
 use oim_rows::{TableFault, TableKind};
 use std::alloc::{AllocError, Global};
 use std::io::Read;
-
-/// The place of a column in a header. `None` if it is not there.
-fn place_in(header: &ByteRecord, name: &str) -> Option<usize> {
-    for place in 0..header.len() {
-        if text_at(header, place) == Some(name) {
-            return Some(place);
-        }
-    }
-    None
-}
 
 /// The name of the column of row identifiers. `None` if the template has none.
 fn id_column(report: &Report, table: usize) -> Option<&str>
@@ -50,7 +46,7 @@ fn row_id(
     requires { table < length report.now.tables }
 {
     let place = match id_column(report, table) {
-        Some(name) => place_in(&again.header, name),
+        Some(name) => place_of_text(again, name),
         None => None,
     };
     match place {
@@ -128,7 +124,9 @@ fn cell_of_row(
 }
 
 /// The place in a record that a fault names, if it names one.
-fn place_of(fault: &TableFault) -> Option<usize> {
+fn place_of(fault: &TableFault) -> Option<usize>
+    ensures { result ≡ column_place (fault.now).column }
+{
     match fault.column {
         0 => None,
         column => Some(column as usize - 1),
@@ -191,24 +189,67 @@ fn with_first_line<R: Read + Drop, F: Folder<R>>(
     }
 }
 
+/// The files of a report that is read again, and the path of one of its tables.
+#[derive(Clone, Copy)]
+struct TableAgain<'r> {
+    again: &'r ReportAgain,
+    base: &'r str,
+    path: &'r str,
+}
+
+/// The places elsewhere that a fault of a row comes from.
+fn elsewhere<R: Read + Drop, F: Folder<R>>(
+    alloc: Global,
+    folder: &mut F,
+    table: TableAgain<'_>,
+    fault: &TableFault,
+    cells: &RowAgain,
+    line: Option<u64>,
+) -> Result<Items<Text>, AllocError>
+    requires { (fault.now).table < length table.again.now.report.tables }
+{
+    let (TableKind::Cell(kind), Some(place)) = (fault.kind, place_of(fault)) else {
+        return Ok(Items::new(alloc));
+    };
+    let name = text_at(&cells.header, place).unwrap_or("");
+    let report = &table.again.report;
+    let Some(column) = report.place_of_column(fault.table, name.as_bytes()) else {
+        return Ok(Items::new(alloc));
+    };
+    let number = fault.row;
+    let number = format!(in alloc; "{number}")?;
+    let row = RowOfFault {
+        again: table.again,
+        table: fault.table,
+        column,
+        cells,
+        number: number.as_str(),
+        path: table.path,
+        line,
+        base: table.base,
+    };
+    sources(alloc, folder, &row, kind)
+}
+
 /// The explanation of a fault at a record of a table's file.
 fn at_record<R: Read + Drop, F: Folder<R>>(
     alloc: Global,
     folder: &mut F,
-    path: &str,
-    report: &Report,
+    table: TableAgain<'_>,
     fault: &TableFault,
-    again: &RowAgain,
+    cells: &RowAgain,
 ) -> Result<Explanation, AllocError>
-    requires { (fault.now).table < length report.now.tables }
+    requires { (fault.now).table < length table.again.now.report.tables }
 {
-    let line = line_again(folder, path, fault.row as usize);
-    let found = found_in(alloc, report, fault, again)?;
-    let found = with_first_line(alloc, folder, path, fault, again, found)?;
+    let line = line_again(folder, table.path, fault.row as usize);
+    let found = found_in(alloc, &table.again.report, fault, cells)?;
+    let found = with_first_line(alloc, folder, table.path, fault, cells, found)?;
+    let sources = elsewhere(alloc, folder, table, fault, cells, line)?;
     Ok(Explanation {
-        place: Text::new(place_in_file(alloc, path, line, place_of(fault))?),
+        place: Text::new(place_in_file(alloc, table.path, line, place_of(fault))?),
         found: Text::new(found),
         cause: fault.kind.explanation(),
+        sources,
     })
 }
 
@@ -221,6 +262,9 @@ fn record_again<R: Read + Drop, F: Folder<R>>(
     fault: &TableFault,
 ) -> Result<Option<RowAgain>, AllocError>
     requires { (fault.now).table < length report.now.tables }
+    ensures same { F.files folder.new ≡ F.files folder.old }
+    ensures row { IfSome (F.files folder.old) (λ files. IfOk result (λ o. IfSome o (λ a.
+        FoundIn files path.now (λ bytes. HasRow (grid bytes) (fault.now).row (fields_of a.header) (fields_of a.row))))) }
 {
     let Some(reader) = folder.open(path) else {
         return Ok(None);
@@ -234,62 +278,131 @@ fn record_again<R: Read + Drop, F: Folder<R>>(
     }
 }
 
+/// Whether a fault is of a file as a whole, of which nothing more can be said.
+fn is_of_file(kind: TableKind) -> bool {
+    matches!(
+        kind,
+        TableKind::NoFile
+            | TableKind::Read
+            | TableKind::NoHeader
+            | TableKind::Memory
+            | TableKind::NoThread
+    )
+}
+
 /// The explanation of a fault of a table whose file is at this path.
 fn at_path<R: Read + Drop, F: Folder<R>>(
+    alloc: Global,
+    folder: &mut F,
+    table: TableAgain<'_>,
+    fault: &TableFault,
+) -> Result<Explanation, AllocError>
+    requires { (fault.now).table < length table.again.now.report.tables }
+{
+    if is_of_file(fault.kind) {
+        return of_file(alloc, table.path, fault.kind.explanation());
+    }
+    match record_again(alloc, folder, table.path, &table.again.report, fault)? {
+        Some(cells) => at_record(alloc, folder, table, fault, &cells),
+        None => changed(alloc, table.path),
+    }
+}
+
+/// The path of the file of a table.
+fn path_of(
+    alloc: Global,
+    settings: &Settings,
+    report: &Report,
+    table: usize,
+) -> Result<String, AllocError>
+    requires { table < length report.now.tables }
+{
+    path_in(
+        alloc,
+        folder_of(settings.meta.as_str()),
+        report.table_url(table),
+    )
+}
+
+/// The lines that explain the fault of a table of this report, whose file is read again: three lines, four
+/// blanks deep, each with its line feed, and a line for each place elsewhere that the fault comes from. They say
+/// so where the file does not have the fault any more, or cannot be read again. Fails if memory runs out.
+pub fn explain_table<R: Read + Drop, F: Folder<R>>(
+    alloc: Global,
+    settings: &Settings,
+    folder: &mut F,
+    again: &ReportAgain,
+    fault: &TableFault,
+) -> Result<String, AllocError> {
+    let meta = settings.meta.as_str();
+    let explanation = if fault.table < again.report.tables() {
+        let path = path_of(alloc, settings, &again.report, fault.table)?;
+        let table = TableAgain {
+            again,
+            base: folder_of(meta),
+            path: path.as_str(),
+        };
+        at_path(alloc, folder, table, fault)?
+    } else {
+        changed(alloc, meta)?
+    };
+    explanation_text(alloc, &explanation)
+}
+
+/// What stands in a record at the place of a fault, which is read again.
+fn place_again<R: Read + Drop, F: Folder<R>>(
+    alloc: Global,
+    folder: &mut F,
+    path: &str,
+    fault: &TableFault,
+    cells: &RowAgain,
+) -> Result<FaultPlace, AllocError>
+    ensures header { IfOk result (λ p. p.header ≡ field_in (fields_of cells.now.header) (fault.now).column) }
+    ensures cell { IfOk result (λ p. p.cell ≡ field_in (fields_of cells.now.row) (fault.now).column) }
+{
+    let line = line_again(folder, path, fault.row as usize);
+    let column = place_of(fault);
+    Ok(FaultPlace {
+        line,
+        header: field_at(alloc, &cells.header, column)?,
+        cell: field_at(alloc, &cells.row, column)?,
+    })
+}
+
+/// What stands at the place of a fault in the table's file at this path, if it still has the fault.
+fn place_at<R: Read + Drop, F: Folder<R>>(
     alloc: Global,
     folder: &mut F,
     path: &str,
     report: &Report,
     fault: &TableFault,
-) -> Result<Explanation, AllocError>
+) -> Result<FaultPlace, AllocError>
     requires { (fault.now).table < length report.now.tables }
+    ensures { IfSome (F.files folder.old) (λ files. IfOk result (IsPlaceAt files path.now fault.now)) }
 {
-    match fault.kind {
-        TableKind::NoFile
-        | TableKind::Read
-        | TableKind::NoHeader
-        | TableKind::Memory
-        | TableKind::NoThread => of_file(alloc, path, fault.kind.explanation()),
-        _ => match record_again(alloc, folder, path, report, fault)? {
-            Some(again) => at_record(alloc, folder, path, report, fault, &again),
-            None => changed(alloc, path),
-        },
+    match record_again(alloc, folder, path, report, fault)? {
+        Some(cells) => place_again(alloc, folder, path, fault, &cells),
+        None => FaultPlace::unknown(alloc),
     }
 }
 
-/// The report of a run, read again. Fails with the outcome that names the fault of a file.
-pub fn report_again<R: Read + Drop, F: Folder<R>>(
+/// What stands at the place of a fault of a table of this report, whose file is read again. Nothing is known of
+/// it where the fault is of the whole file, the file does not have the fault any more, or cannot be read again.
+/// Fails if memory runs out.
+pub fn fault_place<R: Read + Drop, F: Folder<R>>(
     alloc: Global,
     settings: &Settings,
     folder: &mut F,
-) -> Result<Report, Outcome> {
-    let meta = settings.meta.as_str();
-    report_of(
-        alloc,
-        folder,
-        folder_of(meta),
-        meta,
-        settings.types.as_str(),
-    )
-}
-
-/// The lines that explain the fault of a table of this report, whose file is read again: three lines, four
-/// blanks deep, each with its line feed. They say so where the file does not have the fault any more, or
-/// cannot be read again. Fails if memory runs out.
-pub fn explain_table<R: Read + Drop, F: Folder<R>>(
-    alloc: Global,
-    settings: &Settings,
-    folder: &mut F,
-    report: &Report,
+    again: &ReportAgain,
     fault: &TableFault,
-) -> Result<String, AllocError> {
-    let meta = settings.meta.as_str();
-    let explanation = if fault.table < report.tables() {
-        let url = report.table_url(fault.table);
-        let path = path_in(alloc, folder_of(meta), url)?;
-        at_path(alloc, folder, path.as_str(), report, fault)?
+) -> Result<FaultPlace, AllocError>
+    ensures { IfSome (F.files folder.old) (λ files. IfOk result (λ p. IsPlaceOf files settings.now.meta again.now.report fault.now p)) }
+{
+    let base = folder_of(settings.meta.as_str());
+    if fault.table < again.report.tables() && !is_of_file(fault.kind) {
+        let path = path_in(alloc, base, again.report.table_url(fault.table))?;
+        place_at(alloc, folder, path.as_str(), &again.report, fault)
     } else {
-        changed(alloc, meta)?
-    };
-    explanation_text(alloc, &explanation)
+        FaultPlace::unknown(alloc)
+    }
 }
