@@ -1,0 +1,164 @@
+-- The definitions, executed on worked cases.
+use Rattle.std.proofs.Common.{◌≡◌, ℕ, List, Option, [], ◌∷◌, Some, None, Ok, Err, true, false, refl, ap, arith, codes, map, inl, inr}
+use Rattle.oim_records.specs.Grids.{Record}
+use Rattle.oim_resolve.specs.FactParts.{FactParts as Fact}
+use Rattle.oim_rows.specs.FaultNames.{number_of}
+use Rattle.oim_rows.specs.Header.{fault_at, file_fault}
+use Rattle.oim_rows.specs.Streams.{ending}
+use Rattle.oim_rows.specs.declared.fault.TableFault.{TableFault}
+use Rattle.oim_rows.specs.declared.fault.TableKind.TheVariants as kind
+use Rattle.oim_decode.specs.RowTexts.{AddsFacts, facts_in}
+use Rattle.oim_decode.specs.Blocks.{AddsNone, AnswersFacts, BlocksLeft, CountsRow, GivesFound, IsBehind, KeepsFound, LeavesNone, ReadsBehind, ReadsRows, TakesOne, answered_of, has_row, left_of, turns_left}
+use Rattle.oim_decode.specs.declared.table.table_blocks.Progress.TheVariants as progress
+
+abbrev a : Fact
+a = record { id = codes "a"; value = None; decimals = None; dimensions = [] }
+
+abbrev b : Fact
+b = record { id = codes "b"; value = None; decimals = None; dimensions = [] }
+
+-- a row may have no facts
+-- a settled table has nothing left but its ending
+ended : left_of progress.Ended (Some (record { rows = (a ∷ []) ∷ []; fault = None })) ≡ Some (ending None)
+ended = refl
+
+-- and answers the same again, while one that is read has no answer yet
+abbrev failed : TableFault
+failed = file_fault 0 kind.Read
+
+left_then : (left_of progress.Reading (Some (record { rows = (a ∷ []) ∷ []; fault = None })) ≡ Some (record { rows = (a ∷ []) ∷ []; fault = None }))
+    × (left_of (progress.Failed failed) None ≡ Some (ending (Some failed)))
+left_then = (refl, refl)
+
+answered : map answered_of (progress.Reading ∷ progress.Ended ∷ progress.Failed failed ∷ []) ≡ None ∷ Some None ∷ Some (Some failed) ∷ []
+answered = refl
+
+-- two rows and the end behind them are looked for, or nothing
+turns : (turns_left None 2 ≡ 3) × (turns_left (Some None) 2 ≡ 0)
+turns = (refl, refl)
+
+-- a row without facts is a row
+rows_or_none : map has_row (Ok (Some []) ∷ Ok (Some (a ∷ [])) ∷ Ok None ∷ Err failed ∷ []) ≡ Ok true ∷ Ok true ∷ Ok false ∷ Err failed ∷ []
+rows_or_none = refl
+
+-- one of two rows was read
+one_of_two : ReadsRows 0 (record { rows = (a ∷ []) ∷ (b ∷ []) ∷ []; fault = None }) ((a ∷ []) ∷ []) (Some (record { rows = (b ∷ []) ∷ []; fault = None }))
+one_of_two = inl (refl, refl)
+
+-- the reader failed after the first
+broken : ReadsRows 0 (record { rows = (a ∷ []) ∷ (b ∷ []) ∷ []; fault = None }) ((a ∷ []) ∷ []) (Some (ending (Some (file_fault 0 kind.Read))))
+broken = inr (((b ∷ []) ∷ [], refl), file_fault 0 kind.Read, inl refl, refl)
+
+-- ANSWERS over facts. A block has the first of them, in order, and loses none
+a_block : AnswersFacts 0 (a ∷ b ∷ a ∷ []) (Ok (Some (a ∷ b ∷ []))) (a ∷ []) None
+a_block = refl
+
+a_lost_fact : AnswersFacts 0 (a ∷ b ∷ []) (Ok (Some (a ∷ []))) [] None → ⊥
+a_lost_fact h = absurd (cc h)
+
+-- the end comes where no fact is pending, and then nothing is left
+the_end : AnswersFacts 0 [] (Ok None) [] (Some (ending None))
+the_end = (refl, refl, refl)
+
+an_early_end : AnswersFacts 0 (a ∷ []) (Ok None) [] (Some (ending None)) → ⊥
+an_early_end h = absurd (cc h.0)
+
+-- a fault comes behind all facts, but for one that is told since memory was refused for their block
+a_fault : AnswersFacts 0 [] (Err failed) [] (Some (ending (Some failed)))
+a_fault = (refl, refl, inl refl)
+
+an_early_fault : AnswersFacts 0 (a ∷ []) (Err failed) [] (Some (ending (Some failed))) → ⊥
+an_early_fault h =
+    elim h.2 [
+      | inl e ↦ absurd (cc e)
+      | inr e ↦ let numbers : 21 ≡ 42 = ap (λ (f : TableFault). number_of f.kind) e in absurd (omega (arith, numbers))
+    ]
+
+facts_lost_for_memory : AnswersFacts 0 (a ∷ []) (Err (file_fault 0 kind.Memory)) [] (Some (ending (Some (file_fault 0 kind.Memory))))
+facts_lost_for_memory = (refl, refl, inr refl)
+
+-- ROWS. The facts of an answer are added to others; none are with a fault
+a_row_added : (facts_in (Ok (a ∷ b ∷ [])) ≡ a ∷ b ∷ []) × (facts_in (Err failed) ≡ [])
+a_row_added = (refl, refl)
+
+two_facts_added : AddsFacts 0 (Ok (a ∷ b ∷ [])) (b ∷ []) (b ∷ a ∷ b ∷ []) (Ok tt)
+two_facts_added = (refl, refl)
+
+one_of_them_lost : AddsFacts 0 (Ok (a ∷ b ∷ [])) [] (a ∷ []) (Ok tt) → ⊥
+one_of_them_lost h = absurd (cc h.1)
+
+no_facts_of_a_bad_row : AddsFacts 0 (Err failed) (b ∷ []) (b ∷ []) (Err failed)
+no_facts_of_a_bad_row = (refl, inr refl)
+
+a_bad_row_taken : AddsFacts 0 (Err failed) [] [] (Ok tt) → ⊥
+a_bad_row_taken h = absurd (cc h.0)
+
+abbrev number_found : Option TableFault → ℕ
+number_found None = 0
+number_found (Some f) = number_of f.kind
+
+-- READING. Of three records one was read as a row, and the next has a fault: the third is left. The end comes where none is left
+abbrev three : List Record
+three = ([] ∷ []) ∷ ([] ∷ []) ∷ (codes "c" ∷ []) ∷ []
+
+abbrev twice : TableFault
+twice = fault_at 0 2 1 kind.RepeatedRowId
+
+left_behind_a_fault : IsBehind 0 three 1 (Some (Some twice)) (Some ((codes "c" ∷ []) ∷ []))
+left_behind_a_fault = inl refl
+
+read_on_behind_a_fault : IsBehind 0 three 1 (Some (Some twice)) (Some []) → ⊥
+read_on_behind_a_fault (inl e) = absurd (cc e)
+read_on_behind_a_fault (inr (inl e, left)) = let numbers : 30 ≡ 21 = ap (λ (f : TableFault). number_of f.kind) e in absurd (omega (arith, numbers))
+read_on_behind_a_fault (inr (inr e, left)) = let numbers : 30 ≡ 42 = ap (λ (f : TableFault). number_of f.kind) e in absurd (omega (arith, numbers))
+
+left_behind_an_end : IsBehind 0 three 3 (Some None) (Some [])
+left_behind_an_end = (refl, refl)
+
+an_end_too_early : IsBehind 0 three 2 (Some None) (Some []) → ⊥
+an_end_too_early h = absurd (cc h.0)
+
+left_to_read : IsBehind 0 three 2 None (Some ((codes "c" ∷ []) ∷ []))
+left_to_read = refl
+
+-- one record at a time
+one_more_record : TakesOne 0 three (Ok true) (Some (([] ∷ []) ∷ (codes "c" ∷ []) ∷ []))
+one_more_record = refl
+
+rows_counted : CountsRow 2 (Ok true) 1 2 × (CountsRow 2 (Ok false) 2 2 × (CountsRow 2 (Err twice) 1 2 → ⊥))
+rows_counted = ((refl, omega arith), (refl, λ h. absurd (omega (arith, h))))
+
+facts_only_with_a_row : AddsNone (Err twice) (a ∷ []) (a ∷ [])
+facts_only_with_a_row = refl
+
+-- what was found is given once nothing waits, and nothing waits behind it
+found_and_given : GivesFound 0 [] (Some twice) (Err twice) (Some (Some twice))
+found_and_given = inl (refl, refl)
+
+found_and_forgotten : GivesFound 0 (a ∷ []) (Some twice) (Ok (Some (a ∷ []))) (Some None) → ⊥
+found_and_forgotten h = absurd (cc h)
+
+another_fault : GivesFound 0 [] (Some twice) (Err failed) (Some (Some failed)) → ⊥
+another_fault (inl h) = let numbers : 30 ≡ 21 = ap number_found h.0 in absurd (omega (arith, numbers))
+another_fault (inr h) = absurd (omega (arith, h.1))
+
+waits_for_ever : LeavesNone (Err failed) (a ∷ []) → ⊥
+waits_for_ever h = absurd (cc h)
+
+-- A CALL: a table before it and after it
+abbrev table : ℕ → List Fact → Option (Option TableFault) → Option (List Record) → BlocksLeft
+table given waits answered unread = record { table = 0; limit = 9; given = given; pending = waits; answered = answered; left = None; unread = unread }
+
+-- two of three records are read as rows, and the third is left
+two_rows_read : ReadsBehind (table 0 [] None (Some three)) (table 2 (a ∷ []) None (Some ((codes "c" ∷ []) ∷ [])))
+two_rows_read = refl
+
+a_record_lost : ReadsBehind (table 0 [] None (Some three)) (table 1 (a ∷ []) None (Some ((codes "c" ∷ []) ∷ []))) → ⊥
+a_record_lost h = absurd (cc h)
+
+-- a settled table answers its fault, and what is left in the reader stays there
+asked_again : KeepsFound (table 2 [] (Some (Some twice)) (Some three)) (Err twice) (table 2 [] (Some (Some twice)) (Some three))
+asked_again = (inl (refl, refl), refl, refl)
+
+read_on_when_settled : KeepsFound (table 2 [] (Some (Some twice)) (Some three)) (Err twice) (table 2 [] (Some (Some twice)) (Some [])) → ⊥
+read_on_when_settled h = absurd (cc h.2)
