@@ -16,6 +16,10 @@ The shape `mixed`: rows have identifiers of their own; each has a description of
 now and then, amounts that are nil or empty now and then, typed and explicit dimensions by reference, three property groups,
 decimals by suffix and by reference. The last table is of another template, with 200 columns.
 
+The shape `texts`: rows have identifiers of their own; each has a title, a comment of 40 to 240 characters and a reply, most of them in
+quotes, with commas, doubled quotes, umlauts and letters of three and four bytes, and replies that are nil or empty now and then; an amount with
+the decimals of a property group, and an estimate with decimals by suffix or by reference. The author is a typed dimension.
+
 The shape `datapoints` is the form in which banking supervisors publish: a column with 10,000 property groups, one for each
 data point, and each row names another one. A group has the concept, two members, and the unit and decimals by parameters of
 the report; each row has a typed key, and one column has all values.
@@ -171,6 +175,69 @@ def wide_row(numbers, n):
     return ",".join(cells) + "\n", sum(1 for c in counts if c != "")
 
 
+SAID = ["see", "the", "claim", "über", "Prämie", "was", "settled", "“in full”", "für", "1 000 €", "größer", "als", "expected", "audit", "naïve", "𝛼", "reserve", "of", "Zürich"]
+
+TEXTS_TYPES = """namespace,name,type
+https://example.org/bench,Title,text
+https://example.org/bench,Comment,text
+https://example.org/bench,Reply,text
+https://example.org/bench,Amount,decimal
+https://example.org/bench,Estimate,decimal
+https://example.org/bench,Author,typed
+"""
+
+
+def texts_metadata(tables):
+    report = metadata(tables, False)
+    group = lambda unit, decimals: {"dimensions": {"unit": unit}, "decimals": decimals}
+    columns = {
+        "id": {},
+        "period": {},
+        "author": {},
+        "places": {},
+        "basis": {"propertyGroups": {"gross": group("iso4217:EUR", 2), "netto": group("iso4217:CHF", 0)}},
+        "title": {"dimensions": {"concept": "b:Title", "language": "de"}},
+        "comment": {"dimensions": {"concept": "b:Comment", "language": "en"}},
+        "reply": {"dimensions": {"concept": "b:Reply", "language": "en"}},
+        "amount": {"dimensions": {"concept": "b:Amount"}, "propertiesFrom": ["basis"]},
+        "estimate": {"dimensions": {"concept": "b:Estimate", "unit": "iso4217:EUR"}, "decimals": "$places"},
+    }
+    report["parameters"] = {}
+    report["dimensions"] = {"entity": "e:BANK-1"}
+    del report["decimals"]
+    report["tableTemplates"] = {"remarks": {"rowIdColumn": "id", "dimensions": {"period": "$period", "b:Author": "$author"}, "columns": columns}}
+    report["tables"] = {t: {"url": f"{t}.csv", "template": "remarks"} for t in tables}
+    return report
+
+
+def said(numbers, least, most):
+    """A text of so many characters, with commas and quotes now and then."""
+    words, length, wanted = [], 0, least + numbers.below(most - least + 1)
+    while length < wanted:
+        word = SAID[numbers.below(len(SAID))]
+        chance = numbers.below(12)
+        words.append(f'"{word}"' if chance == 0 else word + "," if chance < 3 else word)
+        length += len(words[-1]) + 1
+    return " ".join(words)
+
+
+def texts_row(numbers, n):
+    amount = numbers.below(10**9)
+    cells = [
+        f"Ü{n:x}-{numbers.below(10**6)}",
+        PERIODS[numbers.below(len(PERIODS))],
+        f"Müller {numbers.below(5000):04}",
+        str(numbers.below(4)),
+        ["gross", "netto"][numbers.below(2)],
+        said(numbers, 8, 24),
+        said(numbers, 40, 240),
+        now_and_then(numbers, said(numbers, 20, 120)),
+        f"{amount // 100}.{amount % 100:02}",
+        f"{amount // 977}" + ("d-3" if amount % 3 == 0 else ""),
+    ]
+    return ",".join(map(cell, cells)) + "\n", 5 if cells[7] else 4
+
+
 POINTS = 10_000
 BASES = 25
 STRIDE = 7919  # prime to POINTS: rows that follow each other name groups that are far apart
@@ -272,6 +339,10 @@ def forms(options, tables):
         kinds = [report["tables"][t]["template"] for t in tables]
         headers = [",".join(report["tableTemplates"][kind]["columns"]) + "\n" for kind in kinds]
         return report, MIXED_TYPES, list(zip(headers, (rows[kind] for kind in kinds)))
+    if options.shape == "texts":
+        report = texts_metadata(tables)
+        header = ",".join(report["tableTemplates"]["remarks"]["columns"]) + "\n"
+        return report, TEXTS_TYPES, [(header, texts_row)] * len(tables)
     if options.shape == "datapoints":
         return datapoints_metadata(tables), POINT_TYPES, [("datapoint,key,factValue\n", datapoint_row)] * len(tables)
     header = ("id," if options.row_ids else "") + "period,currency,party,region,market,amount,price,count,rate,remark\n"
@@ -281,7 +352,7 @@ def forms(options, tables):
 def main():
     parser = argparse.ArgumentParser(description=__doc__, formatter_class=argparse.RawDescriptionHelpFormatter)
     parser.add_argument("folder", type=Path)
-    parser.add_argument("--shape", choices=["positions", "mixed", "datapoints"], default="positions")
+    parser.add_argument("--shape", choices=["positions", "mixed", "texts", "datapoints"], default="positions")
     parser.add_argument("--megabytes", type=float, default=64.0)
     parser.add_argument("--tables", type=int)
     parser.add_argument("--row-ids", action="store_true")

@@ -189,7 +189,7 @@ def says(folder: Path, name: str, files: Dict[str, Any], line: str, *places: str
     wanted = f"xbrl-json: {line}\n" + "".join(f"    {it}\n" for it in places)
     case(f"{name}: the line as ever", plain == (1, f"xbrl-json: {line}\n"), plain)
     case(name, explained == (1, wanted), explained[1], "wanted", wanted)
-    case(f"{name}: no line but the value's and the pointer's is longer than 80", all(len(it) <= 80 for it in explained[1].split("\n")[3:]), explained[1])
+    case(f"{name}: the sentence is no longer than 80", len(explained[1].split("\n")[3]) <= 80, explained[1])
 
 
 def edited(keys: Place, value: Any, report: Dict[str, Any] = REPORT) -> Dict[str, Any]:
@@ -275,9 +275,12 @@ def entries(folder: Path) -> None:
 IDENTIFIED = {(*CASH[:3], "k"): {}, (*CASH[:2], "rowIdColumn"): "k"}
 GROUPS = {(*CASH[:3], "g"): {"propertyGroups": {"net": {}}}, (*CASH, "propertiesFrom"): ["g"]}
 OPEN = {(*CASH, "dimensions", "concept"): "eg:Open"}
+MALFORMED = "an entity, unit, language or explicit member is not well-formed"
+UNKNOWN_SPECIAL = "a text begins with # and is not a special value"
 WITH_OPEN = TYPES + "http://example.com/eg,Open,boolean\n"
-# Of a table: what is edited in the metadata, its file, the place and the fault, and the three lines behind the file's path.
-TABLES: List[Tuple[Dict[Place, Any], Any, str, str, str, str]] = [
+# Of a table: what is edited in the metadata, its file, the place and the fault, the three lines behind the file's path, and those of the
+# places elsewhere that the fault comes from.
+TABLES: List[Tuple[Any, ...]] = [
     ({("tables", "t1", "url"): "no.csv"}, None, "0, 0 NoFile (20)", "r/no.csv", "(the whole file)", "a table that is not optional has no file"),
     ({("tables", "t1", "url"): "d"}, None, "0, 0 Read (21)", "r/d", "(the whole file)", "the reader failed"),
     ({}, "", "0, 0 NoHeader (22)", "r/t1.csv", "(the whole file)", "the file has no record at all"),
@@ -318,8 +321,17 @@ TABLES: List[Tuple[Dict[Place, Any], Any, str, str, str, str]] = [
         "r/t1.csv, line 2, cell 1",
         '"1" in cash of row r_1',
         "a cell names no property group of its column",
+        'r/t1.csv, line 2, cell 2: "gross"',
     ),
-    ({(*CASH, "dimensions"): {}}, TABLE, "1, 1 NoConcept (33)", "r/t1.csv, line 2, cell 1", '"100" in cash of row r_1', "no concept is given"),
+    (
+        {(*CASH, "dimensions"): {}},
+        TABLE,
+        "1, 1 NoConcept (33)",
+        "r/t1.csv, line 2, cell 1",
+        '"100" in cash of row r_1',
+        "no concept is given",
+        f"{AT_CASH}/dimensions/concept: (nothing)",
+    ),
     (
         {(*CASH, "dimensions", "concept"): "eg:Chas"},
         TABLE,
@@ -327,6 +339,7 @@ TABLES: List[Tuple[Dict[Place, Any], Any, str, str, str, str]] = [
         "r/t1.csv, line 2, cell 1",
         '"100" in cash (eg:Chas) of row r_1',
         "the types table has no concept of this name",
+        f'{AT_CASH}/dimensions/concept: "eg:Chas"',
     ),
     (
         {(*CASH, "dimensions", "unit"): "$note"},
@@ -335,6 +348,8 @@ TABLES: List[Tuple[Dict[Place, Any], Any, str, str, str, str]] = [
         "r/t1.csv, line 2, cell 1",
         '"1" in cash (eg:Cash) of row r_1',
         "a dimension that is not typed is nil or empty",
+        f'{AT_CASH}/dimensions/unit: "$note"',
+        'r/t1.csv, line 2, cell 2: "#nil"',
     ),
     (
         {("dimensions", "entity"): "A1"},
@@ -342,7 +357,8 @@ TABLES: List[Tuple[Dict[Place, Any], Any, str, str, str, str]] = [
         "1, 1 BadValue (36)",
         "r/t1.csv, line 2, cell 1",
         '"100" in cash (eg:Cash) of row r_1',
-        "an entity, unit, language or explicit member is not well-formed",
+        MALFORMED,
+        '/dimensions/entity: "A1"',
     ),
     (
         {("dimensions", "period"): "2021-13"},
@@ -351,6 +367,7 @@ TABLES: List[Tuple[Dict[Place, Any], Any, str, str, str, str]] = [
         "r/t1.csv, line 2, cell 1",
         '"100" in cash (eg:Cash) of row r_1',
         "a period is not well-formed",
+        '/dimensions/period: "2021-13"',
     ),
     (
         {("dimensions", "period"): "$when@start", ("parameters",): {"when": "2021-01-01T00:00:00"}},
@@ -359,6 +376,8 @@ TABLES: List[Tuple[Dict[Place, Any], Any, str, str, str, str]] = [
         "r/t1.csv, line 2, cell 1",
         '"100" in cash (eg:Cash) of row r_1',
         "the start or end of an instant is asked for",
+        '/dimensions/period: "$when@start"',
+        '/parameters/when: "2021-01-01T00:00:00"',
     ),
     (
         {(*CASH, "decimals"): "$note"},
@@ -367,6 +386,8 @@ TABLES: List[Tuple[Dict[Place, Any], Any, str, str, str, str]] = [
         "r/t1.csv, line 2, cell 1",
         '"100" in cash (eg:Cash) of row r_1',
         "decimals are neither an integer nor INF",
+        f'{AT_CASH}/decimals: "$note"',
+        'r/t1.csv, line 2, cell 2: "first"',
     ),
     (
         {},
@@ -387,16 +408,102 @@ TABLES: List[Tuple[Dict[Place, Any], Any, str, str, str, str]] = [
 ]
 
 
+# Where a fault of the cell `1` of the first row comes from: what is edited in the metadata, the table, the fault and its sentence, and the lines.
+KIND = ("tableTemplates", "p", "columns", "kind")
+NET = {(*KIND,): {"propertyGroups": {"net": {"dimensions": {"unit": "$currency"}}, "own": {"decimals": "$note"}}}, (*CASH, "propertiesFrom"): ["kind"]}
+GIVEN = {("parameterURL",): "p.csv"}
+AT_NET = "/tableTemplates/p/columns/kind/propertyGroups/net/dimensions/unit"
+AT_TWO = "r/t1.csv, line 2, cell 2"
+SOURCES: List[Tuple[Dict[Place, Any], str, str, str, List[str]]] = [
+    (
+        {**NET, **GIVEN},
+        "cash,kind\n1,net\n",
+        "BadValue (36)",
+        MALFORMED,
+        [f'{AT_TWO}: "net"', f'{AT_NET}: "$currency"', 'r/p.csv, line 4, cell 2: "EUR"'],
+    ),
+    (
+        {**NET, ("parameters",): {"currency": "e:E"}, ("tables", "t1", "parameters"): {"currency": "E"}},
+        "cash,kind\n1,net\n",
+        "BadValue (36)",
+        MALFORMED,
+        [f'{AT_TWO}: "net"', f'{AT_NET}: "$currency"', '/tables/t1/parameters/currency: "E"'],
+    ),
+    (
+        {**NET, ("parameters",): {"currency": "e:E"}},
+        "cash,kind\n1,net\n",
+        "BadValue (36)",
+        MALFORMED,
+        [f'{AT_TWO}: "net"', f'{AT_NET}: "$currency"', '/parameters/currency: "e:E"'],
+    ),
+    (
+        NET,
+        "cash,kind,note\n1,own,x\n",
+        "BadDecimals (39)",
+        "decimals are neither an integer nor INF",
+        [f'{AT_TWO}: "own"', "/tableTemplates/p/columns/kind/propertyGroups/own/decimals: \"$note\"", 'r/t1.csv, line 2, cell 3: "x"'],
+    ),
+    (NET, "cash,kind\n1,#x\n", "UnknownSpecial (31)", UNKNOWN_SPECIAL, [f'{AT_TWO}: "#x"']),
+    (NET, "cash,kind\n1,#nil\n", "UnknownGroup (32)", "a cell names no property group of its column", [f'{AT_TWO}: "#nil"']),
+    ({("dimensions", "entity"): "$note"}, "cash,note\n1,#x\n", "UnknownSpecial (31)", UNKNOWN_SPECIAL, ['/dimensions/entity: "$note"', f'{AT_TWO}: "#x"']),
+    ({("dimensions", "entity"): "$rowNumber"}, "cash\n1\n", "BadValue (36)", MALFORMED, ['/dimensions/entity: "$rowNumber"']),
+    ({("dimensions", "eg:Region"): "North"}, "cash\n1\n", "BadValue (36)", MALFORMED, ['/dimensions/eg:Region: "North"']),
+    (
+        {("tableTemplates", "p", "dimensions"): {"period": "nope"}},
+        "cash\n1\n",
+        "BadPeriod (37)",
+        "a period is not well-formed",
+        ['/tableTemplates/p/dimensions/period: "nope"'],
+    ),
+    ({("tableTemplates", "p", "decimals"): "$d", ("parameters",): {"d": "#x"}}, "cash\n1\n", "UnknownSpecial (31)", UNKNOWN_SPECIAL, [
+        '/tableTemplates/p/decimals: "$d"',
+        '/parameters/d: "#x"',
+    ]),
+    ({(*CASH, "dimensions", "concept"): "#none"}, "cash\n1\n", "NoConcept (33)", "no concept is given", [f'{AT_CASH}/dimensions/concept: "#none"']),
+    (
+        {(*CASH, "dimensions", "concept"): "$note"},
+        "cash,note\n1,\n",
+        "NoConcept (33)",
+        "no concept is given",
+        [f'{AT_CASH}/dimensions/concept: "$note"', f'{AT_TWO}: ""'],
+    ),
+    ({(*CASH, "dimensions", "concept"): "$note"}, "cash\n1\n", "NoConcept (33)", "no concept is given", [f'{AT_CASH}/dimensions/concept: "$note"']),
+    (
+        {("tables", "t1"): {"url": "t1.csv"}, ("tableTemplates",): {"t1": {"columns": {"cash": {"dimensions": {"concept": "##x"}}}}}},
+        "cash\n1\n",
+        "UnknownName (34)",
+        "the types table has no concept of this name",
+        ['/tableTemplates/t1/columns/cash/dimensions/concept: "##x"'],
+    ),
+]
+
+
+def edited_all(edits: Dict[Place, Any]) -> Dict[str, Any]:
+    """The report with other values at several places."""
+    report = copy.deepcopy(REPORT)
+    for keys, value in edits.items():
+        report = edited(keys, value, report)
+    return report
+
+
 def tables(folder: Path) -> None:
     """A fault of each kind that a table's file can have."""
     (folder / "r/d").mkdir(parents=True)
     for edits, table, fault, *lines in TABLES:
-        report = copy.deepcopy(REPORT)
-        for keys, value in edits.items():
-            report = edited(keys, value, report)
-        files = {"r/m.json": report, "t.csv": WITH_OPEN, **({} if table is None else {"r/t1.csv": table})}
+        files = {"r/m.json": edited_all(edits), "t.csv": WITH_OPEN, **({} if table is None else {"r/t1.csv": table})}
         place, name = fault.split(" ", 2)[:2], fault.split(" ", 2)[2]
         says(folder, f"table {fault}", files, f"table t1, row {place[0]} column {place[1]}: {name}", *lines)
+
+
+def sources(folder: Path) -> None:
+    """The places elsewhere that a fault of a cell comes from."""
+    for edits, table, fault, sentence, lines in SOURCES:
+        files = {"r/m.json": edited_all(edits), "r/t1.csv": table, "r/p.csv": "name,value\na,1\n\ncurrency,EUR\n"}
+        write(folder, files)
+        said = run(folder, "--explain")[1]
+        wanted = [f"xbrl-json: table t1, row 1, column 1: {fault}", "    r/t1.csv, line 2, cell 1", f"    {sentence}", *(f"    {it}" for it in lines)]
+        seen = said.splitlines()
+        case(f"where {fault} comes from: {lines}", seen[:2] + seen[3:] == wanted, said, wanted)
 
 
 def many_tables(folder: Path) -> None:
@@ -426,6 +533,20 @@ def unreadable(folder: Path) -> None:
     case("a file that is not there", said == b"xbrl-json: cannot read none.json\n", said)
 
 
+def changed(folder: Path) -> None:
+    """A table that is another one when it is read again: a named pipe holds the run until that is so."""
+    write(folder, {"r/m.json": {**REPORT, "tables": {it: {"url": f"{it}.csv", "template": "p"} for it in ("t1", "t2")}}, "r/t1.csv": "cash\nx\n"})
+    os.mkfifo(folder / "r/t2.csv")
+    with subprocess.Popen([PROGRAM, *WORDS, "--explain", "--workers", "1", "--out", "o.json"], cwd=folder, stderr=subprocess.PIPE) as running:
+        with open(folder / "r/t2.csv", "w") as pipe:
+            (folder / "r/t1.csv").write_text("cash\n1\n")
+            pipe.write("cash\n1\n")
+        said = (running.communicate(timeout=60)[1] or b"").decode()
+    sentence = "read again, the fault is not there: a file has changed meanwhile"
+    wanted = f"xbrl-json: table t1, row 1, column 1: BadNumber (40)\n    r/t1.csv\n    (the whole file)\n    {sentence}\n"
+    case("a table that has changed meanwhile", (running.returncode, said) == (1, wanted), running.returncode, said)
+
+
 def run_as(folder: Path, types: str, given: bytes) -> str:
     """Standard error of a run with `--explain` whose types table is this file, and whose standard input has this text."""
     words = [PROGRAM, "r/m.json", "--types", types, "--explain", "--out", "o.json"]
@@ -448,7 +569,7 @@ def size(folder: Path) -> None:
 
 
 def main() -> int:
-    for test in (metadata, text, two_files, entries, tables, many_tables, unreadable, size):
+    for test in (metadata, text, two_files, entries, tables, sources, many_tables, unreadable, changed, size):
         with tempfile.TemporaryDirectory() as folder:
             test(Path(folder))
     return told("what --explain says")

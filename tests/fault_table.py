@@ -15,28 +15,31 @@ TOP = Path(__file__).resolve().parent.parent
 ARM = re.compile(r'^\s*(\w+::\w+)(?:\([^)]*\)| \{[^}]*\})? => (?:(\d+)|"(\w+)"),$', re.M)
 EXPLAINED = re.compile(r'^\s*(\w+::\w+)(?:\([^)]*\)| \{[^}]*\})? =>\s*(?:\{\s*)?"(\w+ [^"]*)"', re.M)
 SENTENCE = re.compile(r'"(\w+ [^"\\\\]*[^"\\\\ ,:])"')
-SENTENCE_ROW = re.compile(r"^\| (?:all|[\d, ]+) \| (.*) \|$", re.M)
+SENTENCE_ROW = re.compile(r"^\| (all|[\d, ]+) \| (.*) \|$", re.M)
 ROW = re.compile(r"^\| (\d+) (\w+) \|", re.M)
 
 
+# Faults of the metadata at whose file as a whole `--explain` says how they explain themselves; the others have sentences of their own.
+OF_WHOLE_FILES = "MetaFault::Memory", "MetaFault::Read"
+
+
 def named_in_sources():
-    """The faults of the sources, and those of them that no sentence explains."""
-    numbers, names, explained = {}, {}, set()
+    """The faults of the sources, those of them that no sentence explains, and what `--explain` says of a fault by how it explains itself, with its number."""
+    numbers, names, explained = {}, {}, {}
     for file in sorted(TOP.glob("crates/*/src/**/*.rt")):
         crate, text = file.relative_to(TOP).parts[1], file.read_text()
         for variant, number, name in ARM.findall(text):
             (numbers if number else names)[crate, variant] = int(number) if number else name
-        explained |= {(crate, variant) for variant, _ in EXPLAINED.findall(text)}
+        explained.update({(crate, variant): sentence for variant, sentence in EXPLAINED.findall(text)})
     faults = {it: (numbers[it], names[it]) for it in numbers if it in names}
-    return set(faults.values()), {faults[it] for it in faults.keys() - explained}
+    themselves = {(numbers[it], explained[it]) for it in faults.keys() & explained.keys() if it[0] in ("oim_rows", "oim_resolve") or it[1] in OF_WHOLE_FILES}
+    return set(faults.values()), {faults[it] for it in faults.keys() - explained.keys()}, themselves
 
 
 def sentences_in_sources():
-    """What `--explain` says is wrong at a place: the texts of several words of its own, and how a fault of a table explains itself."""
-    own = [file.read_text() for file in (TOP / "crates/oim_run/src/explain").glob("*.rt")]
-    tables = [(TOP / "crates" / it).read_text() for it in ("oim_rows/src/fault.rt", "oim_resolve/src/fact.rt")]
-    said = {it for text in own for it in SENTENCE.findall(text) if "{" not in it}
-    return said | {it for text in tables for _, it in EXPLAINED.findall(text)}
+    """What `--explain` says is wrong at a place in the texts of several words of its own."""
+    own = [file.read_text() for file in (TOP / "crates/oim_explain/src").glob("*.rt")]
+    return {it for text in own for it in SENTENCE.findall(text) if "{" not in it}
 
 
 def main():
@@ -48,14 +51,18 @@ def main():
         if here != sorted(here):
             wrong.append(f"not in the order of the numbers: {here}")
         rows += here
-    sources, unexplained = named_in_sources()
+    sources, unexplained, themselves = named_in_sources()
     wrong += [f"not explained in the sources: {it}" for it in sorted(unexplained)]
     wrong += [f"not in docs/FAULTS.md: {it}" for it in sorted(sources - set(rows))]
     wrong += [f"not in the sources: {it}" for it in sorted(set(rows) - sources)]
     wrong += [f"twice: {it}" for it in sorted({it for it in rows if rows.count(it) > 1})]
-    said = set(SENTENCE_ROW.findall(next((it for it in sections if it.startswith("What `--explain` says")), "")))
-    wrong += [f"said by --explain and not in docs/FAULTS.md: {it}" for it in sorted(sentences_in_sources() - said)]
-    wrong += [f"not said by --explain: {it}" for it in sorted(said - sentences_in_sources())]
+    table = SENTENCE_ROW.findall(next((it for it in sections if it.startswith("What `--explain` says")), ""))
+    own, said = sentences_in_sources(), {it for _, it in table}
+    of_fault = {(int(number), it) for row, it in table if row != "all" for number in row.split(", ")}
+    wrong += [f"said by --explain and not in docs/FAULTS.md: {it}" for it in sorted(own - said)]
+    wrong += [f"said by --explain and not in docs/FAULTS.md: {it}" for it in sorted(themselves - of_fault)]
+    wrong += [f"not said by --explain: {it}" for it in sorted(said - own - {it for _, it in themselves})]
+    wrong += [f"not said by --explain: {it}" for it in sorted(it for it in of_fault - themselves if it[1] not in own)]
     for it in wrong:
         print(it)
     print(f"docs/FAULTS.md: {len(sources & set(rows))} as they must be, {len(wrong)} not")

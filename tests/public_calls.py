@@ -1,6 +1,6 @@
 #!/usr/bin/env python3
-"""The libraries as a caller from outside sees them: each public name stands in the crate public_calls, which compiles and runs, and each
-library's own page shows a call of it, word for word.
+"""The libraries as a caller from outside sees them: each public name stands in one of the crates public_calls and
+call_tests, which compile and run, and each library's own page shows a call of it, word for word.
 
     tests/public_calls.py
 
@@ -13,6 +13,8 @@ from pathlib import Path
 
 TOP = Path(__file__).resolve().parent.parent
 GIVEN = re.compile(r"^pub use ([\w:]+::)?(\{[^}]*\}|\w+);", re.M)
+# The crates of calls: of the libraries below oim_convert, and of the others.
+CALLERS = "public_calls", "call_tests"
 # Calls that need a scope of threads, which oim_convert makes.
 ELSEWHERE = {"start_crew", "join_crew"}
 
@@ -38,7 +40,7 @@ def calls_of(page):
 
 
 def main():
-    calls = "\n".join(file.read_text() for file in sorted((TOP / "crates/public_calls/src").glob("*.rt")))
+    calls = "\n".join(file.read_text() for caller in CALLERS for file in sorted((TOP / "crates" / caller / "src").glob("*.rt")))
     words = set(re.findall(r"\w+", re.sub(r"//.*", "", calls)))
     right, wrong = 0, []
     for library in libraries():
@@ -47,7 +49,7 @@ def main():
         missing = sorted(names - words)
         wrong += [f"{library}: {name} is not called" for name in missing]
         wrong += [f"{library}: no call on its page"] if not shown else []
-        wrong += [f"{library}: not in public_calls: {it.splitlines()[0]}" for it in shown if it not in calls]
+        wrong += [f"{library}: not in {' or '.join(CALLERS)}: {it.splitlines()[0]}" for it in shown if it not in calls]
         right += len(names) - len(missing) + sum(it in calls for it in shown)
     for it in wrong:
         print(it)

@@ -6,7 +6,7 @@
 A report of three tables and a parameters file is converted once with nothing refused. Then each call that the system can refuse is
 refused, the first alone, then the second, and so on, and again with all that come after it. Whatever is refused, the program must
 end by itself, and what it has written must be a beginning of the whole document, cut only where the lines on standard error say:
-a refused table's line, or the run's own. With --whole the file has the whole document, or is as it was. Each case that is not so has a line; the last line counts. Needs cc, Python 3.9 and Linux.
+a refused table's line, or the run's own. With --whole the file has the whole document, or is as it was, and so is the file of --faults. Each case that is not so has a line; the last line counts. Needs cc, Python 3.9 and Linux.
 """
 import concurrent.futures
 import json
@@ -253,6 +253,44 @@ def a_whole_output_or_none(folder, document, pool):
     out.unlink()
 
 
+FAULT = re.compile(r"xbrl-json: table (\w+), row (\d+), column (\d+): (\w+) \((\d+)\)")
+FAULT_HEADER = "table,row,column,number,name,line,header,cell"
+
+
+def says_as_the_lines(content, err):
+    """Whether a file of faults is whole and has what the lines say."""
+    if content is None or not content.endswith(b"\n"):
+        return False
+    header, *rows = content.decode().splitlines()
+    said = [",".join((table, row, column, number, name)) for table, row, column, name, number in FAULT.findall(err)]
+    return header == FAULT_HEADER and [",".join(it.split(",")[:5]) for it in rows] == said
+
+
+def a_file_of_faults_or_none(folder, document, pool):
+    """With --faults each refused call leaves a whole file of faults at status 0 and 1, and the old one, or none, at 3, and no other file beside it."""
+    bad = copied(folder, "bad", {"t1": "t1", "t2": "bad"})
+    (bad / "t1.csv").write_bytes((folder / "t1.csv").read_bytes())
+    (bad / "bad.csv").write_text("name,cash\nx,y\n")
+    faults, path = bad / "f.csv", str(bad / "counts")
+    words = ["--faults", "f.csv", "--out", "out.json", "--workers", "1"]
+    run(bad, "", words, path)
+    whole = f"{FAULT_HEADER}\nt2,1,2,40,BadNumber,2,cash,y\n"
+    case("--faults, nothing refused", None if faults.read_text() == whole else faults.read_text())
+    calls = {name: int(number) for name, number in map(str.split, Path(path).read_text().splitlines())}
+    calls["zero"] = calls["write"]
+    for old in (b"what was there", None):
+        for kind, n in ((kind, n) for kind in ("memory", "read", "write", "zero", "open", "stat", "sync", "rename") for n in range(1, calls[kind] + 1)):
+            faults.unlink(missing_ok=True)
+            if old is not None:
+                faults.write_bytes(old)
+            status, _, err = run(bad, f"{kind}:{n}", words)
+            held = faults.read_bytes() if faults.exists() else None
+            no_line = kind == "memory" and status == 1 and err == ""
+            right = says_as_the_lines(held, err) or no_line if status == 1 else held == old and status == 3
+            left = sorted(it.name for it in bad.glob("f.csv*")) == ["f.csv"] * (held is not None)
+            case(f"{kind}:{n}, --faults, {'an old file' if old else 'no file'}", None if right and left else (status, err, held, left))
+
+
 def a_first_write_that_fails(folder, document, pool):
     """Eight tables of 100 facts through rings of one block: a beginning of the document, none where no write succeeds, and an end."""
     many = copied(folder, "many", {f"t{i}": "t" for i in range(8)})
@@ -277,7 +315,7 @@ def main():
         status, whole, err = run(folder)
         case("nothing refused", None if (status, err) == (0, "") and len(json.loads(whole)["facts"]) == 18 else (status, err))
         document = Document(whole)
-        for part in (each_call_refused, some_threads_refused, one_worker_without_threads, cut_short, each_open_refused_beside_an_output, an_output_that_cannot_be_emptied, a_whole_output_or_none, a_first_write_that_fails):
+        for part in (each_call_refused, some_threads_refused, one_worker_without_threads, cut_short, each_open_refused_beside_an_output, an_output_that_cannot_be_emptied, a_whole_output_or_none, a_file_of_faults_or_none, a_first_write_that_fails):
             part(folder, document, pool)
     print(f"on a system that refuses: {count - len(failed)} as they must be, {len(failed)} not")
     sys.exit(1 if failed else 0)

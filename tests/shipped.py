@@ -276,7 +276,7 @@ def proving(copy: Copy) -> None:
     case("--prove tells of each crate", seen.status == 0 and all(it in seen.err for it in lines), seen)
     case("--prove takes the program and what stands below it", "xbrl_json_cli" in crates and "oim_names" in crates and "refusals" not in crates, crates)
     files = (copy.kit / "files").read_text().split()
-    case("--prove tries no wrong bodies", "crates/told/src" in files and not [it for it in files if it.endswith(("/must-fail", "/audit", "/out"))], files)
+    case("--prove tries no wrong bodies", "crates/told/src" in files and not [it for it in files if it.endswith(("/must-fail", "/gate", "/audit", "/out"))], files)
     seen = copy.run(["./xbrl-json"])
     case("what was proved runs", seen == (0, b"proved by a made-up kit\n", ""), seen)
     seen = copy.run(["./xbrl-json", "--prove", "more"], kit=True)

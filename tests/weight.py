@@ -1,7 +1,7 @@
 #!/usr/bin/env python3
 """Where the processor minutes of the gate go, by crate and by kind, as a Markdown table.
 
-    tests/weight.py LOG COMMAND WORD ..    runs a command, as `rt ci`, and writes what it prints and its times into LOG
+    tests/weight.py LOG COMMAND WORD ..    runs a command, as `rt ci` or `.ci/run`, and writes what it prints and its times into LOG
     tests/weight.py LOG                    prints the table of such a LOG
 
 `rt ci` prints no times. So while the command runs, this script looks twice a second at the processes below it, and notes the
@@ -26,6 +26,8 @@ KINDS = "proof", "tests", "edits", "programs"
 LOOK = 0.5
 TICKS = os.sysconf("SC_CLK_TCK")
 TIMES = re.compile(r"weight: (\w+) (\S+) ([\d.]+)$", re.M)
+# The folders in which rt ci and tests/wrong_bodies.py try wrong bodies.
+EDITED = re.compile(r"/(rt-edit|wrong-bodies)-")
 KEPT = re.compile(r"^rt: (\w+) is kept: ", re.M)
 SHARED = re.compile(r"^rt: (\w+): (\d+) of its (\d+) must-fail edits were tried by an earlier run", re.M)
 
@@ -57,7 +59,7 @@ def about(process: Process) -> tuple[str, str] | None:
     words = process.words
     if Path(words[0]).name == "rattle" and "--crate-name" in words:
         crate = words[words.index("--crate-name") + 1]
-        if "/rt-edit-" in process.folder or any("/rt-edits-" in it for it in words):
+        if EDITED.search(process.folder) or any("/rt-edits-" in it for it in words):
             return crate, "edits"
         return crate, "tests" if "--test" in words else "programs" if "--crate-checked" in words else "proof"
     ran = re.search(r"/rt-run-[^/]*/bin/(\w+)", " ".join(words))

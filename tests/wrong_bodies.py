@@ -1,7 +1,8 @@
 #!/usr/bin/env python3
-"""The audit of the contracts: every wrong body of crates/*/must-fail and crates/*/audit must be refused, for a reason of its own.
+"""The audit of the contracts: every wrong body of crates/*/{must-fail,gate,audit} must be refused, for a reason of its own.
 
     tests/wrong_bodies.py [--alone] [CRATE ..]
+    tests/wrong_bodies.py --gate [CRATE ..]
 
 Run it where the crates and those below them are checked (`rt check` in each crate's folder, or a first build): it begins with
 that kept work, in a copy, and sees first that each crate is proved as it stands. A round applies as many edits of a crate as
@@ -9,11 +10,14 @@ change different functions, checks the crate once, and asks of each edit a reaso
 function that it changes, or in the files of that function's proof. That a function is not proved because it calls another one
 that is not proved counts for nothing. An edit of a function that another edit of the round changes waits for the next round;
 one that changes no function but a constant, and one that showed no reason of its own in company, is tried alone. With --alone
-each edit is. Each edit has a line, and the last line is 'N refused, M not'; the status is 0 only where all are refused. Python
+each edit is. With --gate only those of crates/*/gate are tried, with nothing kept, and a round's check proves no more than the
+functions that it changes and what these call: so it is for a repository whose crates were just proved as they stand, as the gate does
+it, and wants no more than their built libraries, those of `rt ci` too. Each edit has a line, and the last line is 'N refused, M not'; the status is 0 only where all are refused. Python
 3.9 or later is needed.
 """
 from __future__ import annotations
 
+import importlib
 import os
 import re
 import shutil
@@ -24,9 +28,11 @@ import tempfile
 import time
 from dataclasses import dataclass
 from pathlib import Path
+from typing import Any
 
 TOP = Path(__file__).resolve().parent.parent
-FOLDERS = "must-fail", "audit"
+GATE = "gate"
+FOLDERS = "must-fail", GATE, "audit"
 FUNCTION = re.compile(r"( *)(?:pub(?:\([a-z]+\))? )?(?:const )?fn (\w+)")
 WORK, RLIB = "out/incremental", "out/rlib"
 # The type of a block of methods: of a trait's, or of its own.
@@ -53,11 +59,12 @@ class BadEdit(Exception):
 
 @dataclass(frozen=True)
 class Place:
-    """A function of a file with the type whose method it is, if it is one, or None for what stands in no function."""
+    """A function of a file with the type whose method it is, if it is one, and whether it is a trait's, or None for what stands in no function."""
 
     path: str
     function: str | None
     owner: str | None
+    of_trait: bool = False
 
 
 @dataclass(frozen=True)
@@ -110,11 +117,23 @@ def text_of(file: Path) -> str:
 
 
 @dataclass(frozen=True)
+class Way:
+    """How edits are tried: those of the gate alone, or all; each by itself, or in company."""
+
+    gate: bool
+    alone: bool
+
+    def folders(self) -> tuple[str, ...]:
+        return (GATE,) if self.gate else FOLDERS
+
+
+@dataclass(frozen=True)
 class Function:
     """A function of a file: its first line is that of the comments above it, and lines count from 1."""
 
     name: str
     owner: str | None
+    of_trait: bool
     first: int
     last: int
 
@@ -122,11 +141,11 @@ class Function:
 def functions(text: str) -> list[Function]:
     """The functions of a file in rt fmt's layout."""
     lines, found = text.split("\n"), []
-    owner = None
+    owner, of_trait = None, False
     for at, line in enumerate(lines):
         head = OWNER.match(line)
         if head:
-            owner = head[1] or head[2]
+            owner, of_trait = head[1] or head[2], bool(head[1])
         start = FUNCTION.match(line)
         if not start:
             continue
@@ -135,14 +154,14 @@ def functions(text: str) -> list[Function]:
         first = at
         while first and lines[first - 1].strip().startswith(("#[", "///")):
             first -= 1
-        found.append(Function(start[2], owner if start[1] else None, first + 1, last + 1))
+        found.append(Function(start[2], owner if start[1] else None, of_trait and bool(start[1]), first + 1, last + 1))
     return found
 
 
 def place_at(path: str, text: str, line: int) -> Place:
     """The innermost function that has this line."""
     inside = [it for it in functions(text) if it.first <= line <= it.last]
-    return Place(path, inside[-1].name, inside[-1].owner) if inside else Place(path, None, None)
+    return Place(path, inside[-1].name, inside[-1].owner, inside[-1].of_trait) if inside else Place(path, None, None)
 
 
 def next_round(folder: Path, left: list[Edit], alone: bool) -> Round:
@@ -167,6 +186,15 @@ def next_round(folder: Path, left: list[Edit], alone: bool) -> Round:
 def module_of(path: str) -> str:
     """The folder of the proofs of a file's free functions, below proofs/."""
     return "" if path in ("src/lib.rt", "src/main.rt") else path[len("src/") : -len(".rt")] + "/"
+
+
+def path_of(crate: str, place: Place) -> str:
+    """The name of a function as a check takes it, or of its module for a trait's method, whose name has the trait's types too."""
+    module = [crate, *module_of(place.path).split("/")[:-1]]
+    if place.of_trait:
+        return "::".join(module)
+    # A method stands under its type, wherever that is.
+    return "::".join([*([place.owner] if place.owner else module), place.function or ""])
 
 
 def names_of(place: Place) -> str:
@@ -220,31 +248,40 @@ class Room:
         for name in ("crates.txt", "HANDLES"):
             shutil.copy(TOP / name, folder)
 
+    def seal(self, crate: str) -> None:
+        """Says of a library that was brought that it is built of these sources, which `rt ci` leaves out."""
+        folder = self.crates / crate
+        made = stamps().Crate(str(folder), str(folder.parent.parent), {}).stamp()
+        (folder / RLIB / "stamp").write_text(made, encoding="utf-8")
+
     def bring(self, crate: str, part: str) -> None:
         """Brings what is kept of a crate, in place of what the room has."""
         there = self.crates / crate / part
         shutil.rmtree(there, ignore_errors=True)
         shutil.copytree(TOP / "crates" / crate / part, there, symlinks=True)
 
-    def check(self, crate: str, texts: Texts) -> list[str]:
-        """Checks a crate over its kept work with these texts in place of its own, and gives what was said."""
+    def check(self, crate: str, texts: Texts, only: list[str] | None) -> list[str]:
+        """Checks a crate with these texts in place of its own, and gives what was said: over its kept work, or with nothing kept, and then
+        no more than these functions and what they call, where there are any."""
         folder = self.crates / crate
-        self.bring(crate, WORK)
+        shutil.rmtree(folder / WORK, ignore_errors=True)
+        if only is None:
+            self.bring(crate, WORK)
         own = {path: text_of(folder / path) for path in texts}
         try:
             for path, text in texts.items():
                 (folder / path).write_text(text, encoding="utf-8")
-            return self.said(folder, crate)
+            return self.said(folder, crate, [word for it in only or [] for word in ("--only", it)])
         finally:
             for path, text in own.items():
                 (folder / path).write_text(text, encoding="utf-8")
 
-    def said(self, folder: Path, crate: str) -> list[str]:
+    def said(self, folder: Path, crate: str, flags: list[str]) -> list[str]:
         """What a check says up to the lines of the crate's functions, or to the first line of another crate, which it has to prove first."""
         lines: list[str] = []
         is_begun = False
         self.checks += 1
-        with subprocess.Popen(["rt", "check", "--jobs", "1"], cwd=folder, **QUIET) as ran:
+        with subprocess.Popen(["rt", "check", "--jobs", "1", *flags], cwd=folder, **QUIET) as ran:
             for line in ran.stdout:
                 lines.append(line.rstrip("\n"))
                 is_begun = is_begun or line.startswith(f"fn {crate}::")
@@ -274,17 +311,17 @@ def judge(crate: str, made: Round, said: list[str], before: set[str]) -> dict[Ed
     return reasons
 
 
-def edits_of(crate: str) -> list[Edit]:
-    """The edits of both folders."""
-    files = [it for folder in FOLDERS for it in sorted((TOP / "crates" / crate / folder).glob("*.edit"))]
+def edits_of(crate: str, folders: tuple[str, ...]) -> list[Edit]:
+    """The edits of these folders."""
+    files = [it for folder in folders for it in sorted((TOP / "crates" / crate / folder).glob("*.edit"))]
     return [Edit.read(it) for it in files]
 
 
 class Audit:
     """The audit of one crate."""
 
-    def __init__(self, room: Room, crate: str, alone: bool):
-        self.room, self.crate, self.alone = room, crate, alone
+    def __init__(self, room: Room, crate: str, way: Way):
+        self.room, self.crate, self.way = room, crate, way
         self.refused = self.others = 0
         self.before: set[str] = set()
 
@@ -307,24 +344,26 @@ class Audit:
     def run(self) -> None:
         """Tries all edits, and again alone those that showed no reason in company."""
         begun, before = time.time(), self.room.checks
-        self.stands()
-        edits = edits_of(self.crate)
-        again = self.rounds(self.applied(edits), self.alone)
+        if not self.way.gate:
+            self.stands()
+        edits = edits_of(self.crate, self.way.folders())
+        again = self.rounds(self.applied(edits), self.way.alone)
         self.rounds(again, True)
         took = time.time() - begun
         print(f"{self.crate}: {len(edits)} edits in {self.room.checks - before} checks, {took:.0f} seconds", flush=True)
 
     def stands(self) -> None:
         """Ends the audit where the crate is not proved without any edit, since then a refusal says nothing."""
-        said = self.check({})
+        said = self.check({}, set())
         why = lone_reason(self.crate, said) if is_reached(self.crate, said) else "\n".join(said[-10:])
         if why:
             sys.exit(f"{self.crate} is not proved as it stands, so nothing was tried: {why}")
         self.before = set(said)
 
-    def check(self, texts: Texts) -> list[str]:
+    def check(self, texts: Texts, places: set[Place]) -> list[str]:
         """Checks the crate, and ends the audit where that would first have to prove a library."""
-        said = self.room.check(self.crate, texts)
+        only = sorted(path_of(self.crate, it) for it in places if it.function) if self.way.gate else None
+        said = self.room.check(self.crate, texts, only)
         others = [it[1] for it in map(OF_CRATE.match, said) if it and it[1] != self.crate]
         if others:
             sys.exit(f"{self.crate}: the check begins to prove {others[0]}, which has changed since it was built: {BUILD}")
@@ -341,7 +380,7 @@ class Audit:
 
     def round(self, made: Round) -> list[Edit]:
         """Checks one round, tells what it shows, and gives the edits that showed nothing in company."""
-        said = self.check(made.texts)
+        said = self.check(made.texts, set().union(*made.edits.values()))
         try:
             reasons = judge(self.crate, made, said, self.before)
         except BadEdit as why:
@@ -361,27 +400,43 @@ def libraries() -> dict[str, list[str]]:
     return {name: [it for it in below if it in uses] for name, below in uses.items()}
 
 
-def lacking(crates: list[str]) -> list[str]:
-    """What is not built or not checked of these crates."""
+def stamps() -> Any:
+    """The part of the kit that knows of which sources a library was built."""
+    page = subprocess.run(["rt", "doc"], capture_output=True, text=True, check=True).stdout.strip()
+    folder = str(Path(page).parent / "bin")
+    if folder not in sys.path:
+        sys.path.insert(0, folder)
+    return importlib.import_module("rtlib")
+
+
+def is_built(crate: str, way: Way) -> bool:
+    built = TOP / "crates" / crate / RLIB
+    return (built / f"{crate}.rlib").is_dir() if way.gate else (built / "stamp").is_file()
+
+
+def lacking(crates: list[str], way: Way) -> list[str]:
+    """What is not built, or is wanted and not checked, of these crates."""
     below = libraries()
     needed = {it for crate in crates for it in below[crate]}
-    lacks = [f"the library {it} is not built" for it in below if it in needed and not (TOP / "crates" / it / RLIB / "stamp").is_file()]
+    lacks = [f"the library {it} is not built" for it in below if it in needed and not is_built(it, way)]
+    if way.gate:
+        return lacks
     return lacks + [f"the crate {it} is not checked" for it in crates if not (TOP / "crates" / it / WORK).is_dir()]
 
 
-def chosen(words: list[str]) -> list[str]:
+def chosen(words: list[str], way: Way) -> list[str]:
     """The crates that are to be audited: those that were named, or all that have edits."""
     known = list(libraries())
     wrong = [it for it in words if it not in known]
     if wrong:
         sys.exit(f"no crate of crates.txt: {' '.join(wrong)}\n{__doc__}")
-    return words or [it for it in known if edits_of(it)]
+    return [it for it in words or known if edits_of(it, way.folders())]
 
 
 def main(words: list[str]) -> int:
-    alone = "--alone" in words
-    crates = chosen([it for it in words if it != "--alone"])
-    lacks = lacking(crates)
+    way = Way("--gate" in words, "--alone" in words)
+    crates = chosen([it for it in words if it not in ("--gate", "--alone")], way)
+    lacks = lacking(crates, way)
     if lacks:
         print(*lacks, f"So nothing was tried: {BUILD}.", sep="\n")
         return 2
@@ -391,7 +446,9 @@ def main(words: list[str]) -> int:
         for crate in crates:
             for it in libraries()[crate]:
                 room.bring(it, RLIB)
-            audit = Audit(room, crate, alone)
+                if way.gate:
+                    room.seal(it)
+            audit = Audit(room, crate, way)
             audit.run()
             shutil.rmtree(room.crates / crate / WORK, ignore_errors=True)
             refused, others = refused + audit.refused, others + audit.others

@@ -1,8 +1,18 @@
-//! Tests of calls of the libraries: those that the program does not make, and runs that no file can show.
+//! Tests of calls of the libraries: those that the program does not make, runs that no file can show, and each public name of `oim_convert`
+//! and `oim_run` in one call, in the form in which a caller from outside writes it. The first call of `conversions` and of `runs` is the one
+//! that its library's own page shows (`tests/public_calls.py` compares them).
 #![tactic(auto)]
 
 #[cfg(test)]
+mod conversions;
+#[cfg(test)]
+mod explained;
+#[cfg(test)]
 mod report;
+#[cfg(test)]
+mod runs;
+#[cfg(test)]
+mod settings;
 #[cfg(test)]
 mod tests_cells;
 #[cfg(test)]

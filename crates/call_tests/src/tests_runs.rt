@@ -65,7 +65,7 @@ fn ends_unflushed(
         ("t1.csv", table),
     ];
     let folder = &mut Texts { files: &files };
-    let outcome = run_to(rt, rt.alloc(), settings, folder, Unflushed);
+    let (outcome, _) = run_to(rt, rt.alloc(), settings, folder, Unflushed);
     says(rt.alloc(), &outcome, lines)
 }
 
@@ -75,7 +75,7 @@ fn runs_whose_flush_fails(rt: HostRuntime) -> Result<(), Fail> {
     for case in CASES {
         assert!(rt; ends_unflushed(&rt, &settings, case)?);
     }
-    let outcome = convert_to(&rt, rt.alloc(), Unflushed);
+    let (outcome, _) = convert_to(&rt, rt.alloc(), Unflushed);
     assert!(rt; says(rt.alloc(), &outcome, NOT_FLUSHED)?);
     Ok(())
 }

@@ -6,7 +6,7 @@ use std::test::Fail;
 
 /// The metadata up to its tables.
 const METADATA: &str =
-    r#"{"documentInfo":{"documentType":"https://xbrl.org/2021/xbrl-csv","namespaces":{"eg":"http://example.com/eg","iso4217":"http://www.xbrl.org/2003/iso4217"},"taxonomy":["http://example.com/eg.xsd"]},"dimensions":{"entity":"eg:A1","period":"2021-01-01T00:00:00/2022-01-01T00:00:00","unit":"iso4217:EUR"},"tableTemplates":{"p":{"columns":{"cash":{"dimensions":{"concept":"eg:Cash"}},"note":{"dimensions":{"concept":"eg:Note"}},"remark":{}}}},"tables":{"#;
+    r#"{"documentInfo":{"documentType":"https://xbrl.org/2021/xbrl-csv","namespaces":{"eg":"http://example.com/eg","iso4217":"http://www.xbrl.org/2003/iso4217"},"taxonomy":["http://example.com/eg.xsd"]},"dimensions":{"entity":"eg:A1","period":"2021-01-01T00:00:00/2022-01-01T00:00:00","unit":"iso4217:EUR"},"tableTemplates":{"p":{"columns":{"cash":{"dimensions":{"concept":"eg:Cash"}},"note":{"dimensions":{"concept":"eg:Note"}}}}},"tables":{"#;
 
 /// The types of its concepts.
 const TYPES: &str =
@@ -71,21 +71,6 @@ pub(crate) fn file_of(alloc: Global, rows: usize) -> Result<String, AllocError> 
     let mut text = String::from_str(alloc, "cash\n")?;
     for _ in 0..rows {
         text.push_str("1\n")?;
-    }
-    Ok(text)
-}
-
-/// A text that no fact has.
-const REMARK: &str =
-    "0123456789012345678901234567890123456789012345678901234567890123456789012345678901234567890123456789";
-
-/// A table of this many rows, each with a cash of 1 and a remark of 100 bytes, which makes no fact.
-pub(crate) fn remarked_of(alloc: Global, rows: usize) -> Result<String, AllocError> {
-    let mut text = String::from_str(alloc, "cash,remark\n")?;
-    for _ in 0..rows {
-        text.push_str("1,")?;
-        text.push_str(REMARK)?;
-        text.push_str("\n")?;
     }
     Ok(text)
 }

@@ -1,7 +1,7 @@
 //! The conversion on threads at run time: tables that are open at once, shared out among workers, and merged before they end.
 
 use crate::ending::{all_of, ends_so};
-use crate::report::{HEAD, TAIL, document_of, remarked_of, report_of};
+use crate::report::{HEAD, TAIL, document_of, file_of, report_of};
 use oim_merge::MergeEnd;
 use oim_meta::{Limits, Report};
 use std::alloc::{AllocError, Global};
@@ -180,12 +180,11 @@ fn converts_late(
     Ok(is_whole && writer.taken.as_slice() == expected)
 }
 
-// A table is read 65,536 bytes at a time, and each half has more.
 #[test]
 fn members_are_written_before_their_table_ends(rt: HostRuntime) -> Result<(), Fail> {
     let report = report_of(rt.alloc(), 1)?;
-    let file = remarked_of(rt.alloc(), 1600)?;
-    let expected = document_of(rt.alloc(), 1, 1600, TAIL)?;
+    let file = file_of(rt.alloc(), 1200)?;
+    let expected = document_of(rt.alloc(), 1, 1200, TAIL)?;
     assert!(rt; converts_late(&rt, &report, file.as_bytes(), expected.as_bytes())?);
     Ok(())
 }

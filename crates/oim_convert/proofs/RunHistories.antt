@@ -21,6 +21,7 @@ use Rattle.oim_convert.specs.Files.{AreFilesOf, IsFileOf}
 use Rattle.oim_convert.specs.Histories.{AreDecoded, AreUnserved, IsDecoded, IsGiven, IsHistory, IsStream}
 use Rattle.oim_convert.specs.Jobs.{Each, EachSlot, IsTable}
 use Rattle.oim_convert.specs.Preparing.{HasTables}
+use Rattle.oim_convert.specs.Served.{AreServed, IsServed}
 use Rattle.oim_convert.specs.Runs.{AreHistories, AreStreams, AreThreaded, AreUncut, IsCut, IsOuter, IsRun, IsThreadless, Writes}
 use Rattle.oim_convert.specs.declared.fault.ConvertFault.{ConvertFault}
 use Rattle.oim_convert.specs.declared.job.Job.{Job}
@@ -117,6 +118,21 @@ module _ {R : Type 0} (told : R → Option (List ℕ)) (report : ReportValue) (l
       → AreUnserved 0 (streams report limit files) hs
   tables_unserved starts hs files len fs (true, none, each) nil = absurd (let no = none nil in cc)
   tables_unserved starts hs files len fs (false, none, each) nil = unserved_from 0 hs readers files len fs each
+
+  -- table by table, whatever the other readers tell
+  served_from : (served : Bool) (n : ℕ) (hs : List (List Item)) → Each (IsTable told report limit served plan) n hs → Each (IsServed told report limit served readers) n hs
+  served_from served n [] each = tt
+  served_from served n (h ∷ hs) each = (
+    record {
+      reader = each.0.job.reader;
+      given = subst (λ (l : List (Option R)). slice_get l n ≡ Some each.0.job.reader) same (get_mapped (λ (j : Job R). j.reader) plan n each.0.job each.0.planned);
+      kept = each.0.kept;
+    },
+    served_from served (suc n) hs each.1,
+  )
+
+  pub tables_served : (starts : ℕ) (hs : List (List Item)) → length hs ≡ length readers → HasTables told report limit starts plan hs → AreServed told report limit starts readers hs
+  tables_served starts hs len has = (has.0, has.1, len, served_from has.0 0 hs has.2)
 
 -- HISTORIES THAT WERE NOT CUT SHORT
 
@@ -223,3 +239,12 @@ module _ (l : Layout) {R : Type 0} (told : R → Option (List ℕ)) (report : Re
       → IfOk r (λ run. AreUnserved 0 (streams report limit files) run.drains.items)
   run_unserved (Ok run) has writes none = tables_unserved told report limit plan readers same starts run.drains.items files (writes.count ∙ sym count) are has none
   run_unserved (Err e) has writes none = tt
+
+-- where the readers need not tell their bytes
+pub run_served : (l : Layout) {R : Type 0} (told : R → Option (List ℕ)) (report : ReportValue) (limit starts : ℕ) (plan : List (Job R)) (readers : List (Option R))
+    → map (λ (job : Job R). job.reader) plan ≡ readers → length readers ≡ length report.tables → (old new : SinkView) (r : Result Run ConvertFault)
+    → IfOk r (λ run. HasTables told report limit starts plan run.drains.items) → Writes l report (length report.tables) old new r
+    → IfOk r (λ run. AreServed told report limit starts readers run.drains.items)
+run_served l told report limit starts plan readers same count old new (Ok run) has writes =
+    tables_served told report limit plan readers same starts run.drains.items (writes.count ∙ sym count) has
+run_served l told report limit starts plan readers same count old new (Err e) has writes = tt

@@ -4,6 +4,7 @@ pub mod Answer
 pub mod FaultNames
 pub mod Steps
 pub mod Serial
+pub mod Served
 pub mod Histories
 pub mod Jobs
 pub mod Runs

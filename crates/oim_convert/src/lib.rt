@@ -16,7 +16,9 @@
 //! ring size and schedule:
 //!
 //! - the history of each table is the table's stream, or a beginning of it that a failed read or
-//!   running out of memory ended; `NoThread` ends all tables or none (`specs/Histories.antt`);
+//!   running out of memory ended; `NoThread` ends all tables or none (`specs/Histories.antt`). There is
+//!   one history for each reader, in table order, and what is said of one table rests on what its own
+//!   reader tells (`specs/Served.antt`);
 //! - the faults and the end are those of the histories, each of which has one ending. Their document
 //!   is written: whole, unfinished up to and including the first refused table, or after a failed
 //!   write a beginning of it;

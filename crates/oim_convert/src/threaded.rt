@@ -7,6 +7,7 @@ ghost use Rattle.oim_convert.specs.Histories.{AreUnserved};
 ghost use Rattle.oim_convert.specs.Limits.{IsWorkerCount};
 ghost use Rattle.oim_convert.specs.Preparing.{HasRun, HasTables, IsReady};
 ghost use Rattle.oim_convert.specs.Runs.{AnswersFault, AreHistories, AreStreams, AreThreaded, AreUncut, Writes, early_fault};
+ghost use Rattle.oim_convert.specs.Served.{AreServed};
 ghost use Rattle.oim_json.specs.JsonText.{head_text};
 ghost use Rattle.oim_json.specs.Sinks.{sink_at};
 ghost use Rattle.oim_ring.specs.Limits.{IsRingSize};
@@ -139,7 +140,8 @@ fn run_ready<R: Read + Drop + Send, T: Threads + Wait + Sync, W: Sink>(
 /// the defined answer.
 ///
 /// Each history is its table's stream, or a beginning of it that a failed read (`Read`) or running out
-/// of memory (`Memory`) ended; or every table is refused with `NoThread`, and never only some are. They
+/// of memory (`Memory`) ended; or every table is refused with `NoThread`, and never only some are. That
+/// holds of each table whose reader tells its bytes, whatever those of the others tell. They
 /// all are if no worker could be started. That they are in no other case no clause of this call can say,
 /// since nothing tells it which threads the system gave. The run has the fault of each refused table, in
 /// table order, however it ends. The end is `Complete` if no table is refused; `Refused` if one is, and
@@ -175,7 +177,9 @@ pub fn convert<R: Read + Drop + Send, T: Threads + Wait + Sync, W: Sink>(
         → IfOk result (λ run. AreUncut run.drains.items → AreStreams (streams report.now limits.rows files) run.drains.items
         × IsAnswer layout report.now (streams report.now limits.rows files) (sink_at (W.mark sink.old) (W.told sink.old)) (sink_at (W.mark sink.new) (W.told sink.new)) run.faults.items run.end) }
 
-    // What holds for all readers: each fault exactly when it applies, and what is written.
+    // What holds for all readers: the history of each table by its own reader, each fault exactly when it
+    // applies, and what is written.
+    ensures tables { IfOk result (λ run. AreServed R.remaining report.now limits.rows workers readers.items run.drains.items) }
     ensures faults { AnswersFault (early_fault workers size (length readers.items) (length report.now.tables)) result }
     ensures writes { Writes layout report.now (length report.now.tables) (sink_at (W.mark sink.old) (W.told sink.old)) (sink_at (W.mark sink.new) (W.told sink.new)) result }
 {
@@ -214,7 +218,9 @@ pub fn convert_with_starts<R: Read + Drop + Send, T: Threads + Wait + Sync, W: S
     ensures alone { starts ≡ 0 → (files : List (Option (List ℕ))) → AreFilesOf R.remaining readers.items files
         → IfOk result (λ run. AreUnserved 0 (streams report.now limits.rows files) run.drains.items) }
 
-    // What holds for all readers: each fault exactly when it applies, and what is written.
+    // What holds for all readers: the history of each table by its own reader, each fault exactly when it
+    // applies, and what is written.
+    ensures tables { IfOk result (λ run. AreServed R.remaining report.now limits.rows starts readers.items run.drains.items) }
     ensures faults { AnswersFault (early_fault workers size (length readers.items) (length report.now.tables)) result }
     ensures writes { Writes layout report.now (length report.now.tables) (sink_at (W.mark sink.old) (W.told sink.old)) (sink_at (W.mark sink.new) (W.told sink.new)) result }
 {

@@ -1,5 +1,5 @@
 -- Texts of facts that are appended one behind the other, and where each ends.
-use Rattle.std.proofs.Common.{◌≡◌, ℕ, ◌+◌, ◌<◌, List, [], ◌∷◌, ◌++◌, Result, Ok, inl, inr, length, take, get_or, ap, subst, sym, ◌∙◌, arith, append-nil, append_assoc, length-append}
+use Rattle.std.proofs.Common.{◌≡◌, ℕ, ◌+◌, ◌<◌, List, [], ◌∷◌, ◌++◌, Result, Ok, inl, inr, length, take, get_or, ap, subst, sym, ◌∙◌, append-nil, append_assoc, length-append}
 use Rattle.std.proofs.lemmas.List.{take_more}
 use Rattle.oim_resolve.specs.FactParts.{FactParts as Fact}
 use Rattle.oim_json.specs.JsonText.{member_text}

@@ -1,10 +1,8 @@
 -- A table that has answered an end or a fault answers the same again.
-use Rattle.std.proofs.Common.{◌≡◌, List, [], Option, Some, None, Result, Ok, Err, IfSome, subst}
-use Rattle.oim_resolve.specs.FactParts.{FactParts as Fact}
+use Rattle.std.proofs.Common.{◌≡◌, [], Option, Some, None, Ok, Err, IfSome, subst}
 use Rattle.oim_rows.specs.Streams.{answer_of}
 use Rattle.oim_rows.specs.declared.fault.TableFault.{TableFault}
-use Rattle.oim_decode.specs.Blocks.{BlocksLeft}
-use Rattle.oim_decode.specs.Laws.{IsCall, IsLast, SameTwice}
+use Rattle.oim_decode.specs.Laws.{SameTwice}
 
 pub same_twice : SameTwice
 same_twice a b c (Ok (Some block)) second one two last = absurd last

@@ -1,5 +1,5 @@
 -- What a reader of a table's blocks answers: the table's facts in order, block after block, and then its end or its first fault.
-use Rattle.std.specs.Prelude.{⊤, ◌≡◌, ◌⊎◌, ◌+◌, ◌-◌, ◌<◌, ◌≤◌, Bool, true, false, List, [], ◌++◌, drop, length, ℕ, suc, Option, Some, None, IfSome, Result, Ok, Err}
+use Rattle.std.specs.Prelude.{⊤, ◌≡◌, ◌⊎◌, ◌+◌, ◌-◌, ◌≤◌, Bool, true, false, List, [], ◌++◌, drop, length, ℕ, suc, Option, Some, None, IfSome, Result, Ok, Err}
 use Rattle.std.specs.Option.{is_some}
 use mathlib.Core.List.{IsPrefix}
 use Rattle.oim_records.specs.Grids.{Record}

@@ -1,3 +1,8 @@
 pub mod RowTexts
 pub mod Blocks
 pub mod Laws
+pub mod Apart
+pub mod Pieces
+pub mod PieceAnswers
+pub mod RowEnds
+pub mod Heads

@@ -1,5 +1,5 @@
 -- What is ready for the cells of a table's rows, and what is written of a cell.
-use Rattle.std.proofs.Common.{◌≡◌, ◌<◌, ◌^◌, ℕ, zero, suc, Bool, true, false, List, [], ◌∷◌, ◌++◌, length, map, set, get_or, Option, Some, None, IfSome, Result, Ok, Err, codes, refl, sym, ap, subst, ◌∙◌, arith, append-nil, append_assoc}
+use Rattle.std.proofs.Common.{◌≡◌, ◌⊎◌, inl, inr, ◌<◌, ◌^◌, ℕ, zero, suc, Bool, true, false, List, [], ◌∷◌, ◌++◌, length, map, set, get_or, Option, Some, None, IfSome, Result, Ok, Err, codes, refl, sym, ap, subst, ◌∙◌, arith, append-nil, append_assoc}
 use Rattle.std.specs.List.{All, list_all, slice_get}
 use Rattle.std.specs.Prelude.{if◌then◌else◌}
 use Rattle.std.proofs.lemmas.List.{get_or-map, length-map}
@@ -15,7 +15,7 @@ use Rattle.oim_resolve.specs.Facts.{cell_result, fact_meaning, fact_of, is_absen
 use Rattle.oim_resolve.specs.Written.{levels}
 use Rattle.oim_rows.specs.RowFacts.{Reading, field_or_empty}
 use Rattle.oim_fast.specs.CellValues.{IsValue}
-use Rattle.oim_fast.specs.CellWriters.{IsCellWriter, IsInRow, PutsCell, column_at}
+use Rattle.oim_fast.specs.CellWriters.{IsCellWriter, IsInRow, PutsCell, PutsSaid, column_at}
 use Rattle.oim_fast.specs.Columns.{AreFactColumns, IsFactColumn}
 use Rattle.oim_fast.specs.FactTexts.{AddsFact, IsOfReferences, IsWithin, PutsFact, object_text, value_of}
 use Rattle.oim_fast.specs.Facts.{WritesFact, fact_text, start_text}
@@ -117,6 +117,30 @@ module _ (x : RowValue) (cells : List GroupCell) (c : FactColumn) (rs : List Ref
   puts_fact (Ok true) h = adds_fact h
   puts_fact (Ok false) h = h
   puts_fact (Err e) h = h
+
+-- what is put of a value is put of a cell that says it
+pub value_said : {E : Type 0} (x : RowValue) (rs : List ReferenceValue) (t : FrameValue) (v : Value) (start cell old new : List ℕ) → IsValue x.form.report t.kind (meaning_of cell) v
+    → (r : Result Bool E) → PutsFact rs t v start old new r → PutsSaid x rs t start cell old new r
+value_said x rs t v start cell old new value (Ok true) h = inr (v, value, h)
+value_said x rs t v start cell old new value (Ok false) h = h
+value_said x rs t v start cell old new value (Err e) h = h
+
+-- and what is put of what a cell says is put of the cell
+module _ (x : RowValue) (cells : List GroupCell) (c : FactColumn) (rs : List ReferenceValue) (t : FrameValue) (start old new : List ℕ)
+    (few : x.number < 2 ^ 32) (column : IsFactColumn x.form cells c) (fresh : All (IsFresh x) rs) (text : IsTextFor x (map key_of rs) c.column t) (begins : start ≡ start_text x) where
+  abbrev said : Meaning
+  said = meaning_of (field_or_empty x.fields (Some c.place))
+
+  said_fact : ((is_absent said ≡ true) × (new ≡ old)) ⊎ ((v : Value) × IsValue x.form.report t.kind said v × AddsFact rs t v start old new) → WritesFact (cell_result (cell_in x c.column)) old new
+  said_fact (inl h) = subst (λ (q : List ℕ). WritesFact (cell_result (cell_in x c.column)) old q) (sym h.1) (nothing_written x c.column old (ap is_absent (sym (cell_meaning x cells c column)) ∙ h.0))
+  said_fact (inr h) =
+      let value : IsValue x.form.report t.kind (fact_meaning (cell_in x c.column)) h.0 = subst (λ (m : Meaning). IsValue x.form.report t.kind m h.0) (cell_meaning x cells c column) h.1 in
+      adds_fact x cells c rs t h.0 start old new few column fresh text value begins h.2
+
+  pub puts_said : {E : Type 0} (r : Result Bool E) → PutsSaid x rs t start (field_or_empty x.fields (Some c.place)) old new r → PutsCell x c.column old new r
+  puts_said (Ok true) h = said_fact h
+  puts_said (Ok false) h = h
+  puts_said (Err e) h = h
 
 -- THE COLUMNS
 

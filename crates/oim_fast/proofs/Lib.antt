@@ -14,11 +14,15 @@ pub mod FrameTextLaws
 pub mod RowLaws
 pub mod PieceLaws
 pub mod WriteLaws
+pub mod NumeralBytes
+pub mod Ink
+pub mod NumeralMarks
 pub mod Numerals
 pub mod PlainNumerals
 pub mod ValueLaws
 pub mod StartLaws
 pub mod FactTextLaws
+pub mod LongValues
 pub mod ColumnLaws
 pub mod KeyLaws
 pub mod ChoiceLaws
@@ -27,6 +31,7 @@ pub mod MakingLaws
 pub mod MakerLaws
 pub mod ServedLaws
 pub mod ExamplesFrames
+pub mod ExamplesFacts
 pub mod MemberLaws
 pub mod SoundLaws
 pub mod FoundLaws

@@ -1,16 +1,18 @@
 -- Texts that are split as numerals in one pass.
-use Rattle.std.proofs.Common.{◌≡◌, ℕ, zero, suc, ◌+◌, ◌-◌, ◌<◌, ◌≤◌, Bool, true, false, cond, ◌==◌, ◌||◌, List, [], ◌∷◌, ◌++◌}
-use Rattle.std.proofs.Common.{length, take, drop, get_or, inl, inr, Some, None, refl, sym, subst, ap, ◌∙◌, arith, codes, append_assoc, length-append}
+use Rattle.std.proofs.Common.{◌≡◌, ℕ, zero, suc, ◌+◌, ◌-◌, ◌<◌, ◌≤◌, Bool, true, false, cond, ◌==◌, ◌||◌, ◌⊎◌, List, [], ◌∷◌, ◌++◌}
+use Rattle.std.proofs.Common.{length, take, drop, get_or, inl, inr, Option, Some, None, IfSome, refl, sym, subst, ap, ◌∙◌, arith, codes, append_assoc, length-append}
 use Rattle.std.specs.Str.Parse.{AllDigits, without_leading_sign}
 use Rattle.std.proofs.Math.Seq.{take-add}
+use Rattle.std.proofs.lemmas.Bool.{eqb-true}
 use Rattle.std.specs.Char.{digit_value}
-use Rattle.std.proofs.lemmas.List.{take_more, take_rest, take_all, take-append-drop, length-take-le}
+use Rattle.std.proofs.lemmas.List.{length-drop, length-take-le, take-append-drop, take-take, take_all, take_more}
 use Rattle.oim_cells.specs.declared.cells.Accuracy.{Accuracy}
 use Rattle.oim_cells.specs.declared.cells.NumberKind.{NumberKind}
 use Rattle.oim_cells.specs.declared.cells.NumberKind.TheVariants.{Integer, Decimal, Double}
 use Rattle.oim_cells.specs.Blanks.{trimmed}
-use Rattle.oim_cells.specs.Numeral.{IsDecimal, IsNumeralOf, IsDecimals, IsSplit, suffixed, bare, pointed, no_power}
-use Rattle.oim_fast.specs.Digits.{IsPointed, begins_with_sign, takes_point}
+use Rattle.oim_cells.specs.Numeral.{IsDecimal, IsDecimals, IsDouble, IsInteger, IsNumeralOf, IsSplit, bare, no_power, pointed, power, suffixed}
+use Rattle.oim_fast.proofs.Ink.{split_trims}
+use Rattle.oim_fast.specs.Digits.{IsFrontOf, IsPointed, IsSuffix, begins_with_sign, marks_power, takes_point}
 
 -- digits, one more
 pub digits_push : (xs : List ℕ) (d : ℕ) → AllDigits 10 xs → digit_value d < 10 → AllDigits 10 (xs ++ d ∷ [])
@@ -18,20 +20,20 @@ digits_push [] d h k = (k, tt)
 digits_push (x ∷ xs) d h k = (h.0, digits_push xs d h.1 k)
 
 -- a sign and digits with at most one point are a numeral
-is_numeral : (kind : NumberKind) (s u : List ℕ) → without_leading_sign s ≡ u → 0 < length u → AllDigits 10 u → IsNumeralOf kind s
-is_numeral Integer s u e h d = rw e (h, d)
-is_numeral Decimal s u e h d = inl (rw e (h, d))
-is_numeral Double s u e h d = no_power s (inl (rw e (h, d)))
+is_front : (kind : NumberKind) (s u : List ℕ) → without_leading_sign s ≡ u → 0 < length u → AllDigits 10 u → IsFrontOf kind s
+is_front Integer s u e h d = rw e (h, d)
+is_front Decimal s u e h d = inl (rw e (h, d))
+is_front Double s u e h d = inl (rw e (h, d))
 
 pointed_decimal : (s u : List ℕ) → without_leading_sign s ≡ u → 1 < length u → IsPointed u → IsDecimal s
 pointed_decimal s u e h p =
     let some : 0 < length p.before + length p.after = omega (arith, ap length p.whole, length-append (p.before ++ codes ".") p.after, length-append p.before (codes ".")) in
     inr (rw (e, p.whole) (pointed p.before p.after p.before_digits p.after_digits some))
 
-is_pointed_numeral : (kind : NumberKind) (s u : List ℕ) → takes_point kind ≡ true → without_leading_sign s ≡ u → 1 < length u → IsPointed u → IsNumeralOf kind s
-is_pointed_numeral Integer s u n e h p = absurd (cc)
-is_pointed_numeral Decimal s u n e h p = pointed_decimal s u e h p
-is_pointed_numeral Double s u n e h p = no_power s (pointed_decimal s u e h p)
+is_pointed_front : (kind : NumberKind) (s u : List ℕ) → takes_point kind ≡ true → without_leading_sign s ≡ u → 1 < length u → IsPointed u → IsFrontOf kind s
+is_pointed_front Integer s u n e h p = absurd (cc)
+is_pointed_front Decimal s u n e h p = pointed_decimal s u e h p
+is_pointed_front Double s u n e h p = pointed_decimal s u e h p
 
 -- digits, a point and digits
 pub pointed_there : (xs : List ℕ) (n m : ℕ) → n < length xs → get_or xs n 0 ≡ 46 → AllDigits 10 (take n xs) → AllDigits 10 (take m (drop (n + 1) xs)) → IsPointed (take (n + 1 + m) xs)
@@ -70,35 +72,66 @@ unsigned xs k h = let same : 0 + k ≡ k = omega arith in rw same (unsigned_at x
 abbrev IsSign : List ℕ → ℕ → Type 0
 IsSign xs n = (k : ℕ) → without_leading_sign (take (n + k) xs) ≡ take k (drop n xs)
 
--- behind a sign of length n, m digits; and the rest of the text as the code slices it
-pub digits_there : (kind : NumberKind) (xs : List ℕ) (n m : ℕ) → IsSign xs n → m ≤ length (take (length xs - n) (drop n xs)) → 0 < m
-    → AllDigits 10 (take m (take (length xs - n) (drop n xs))) → IsNumeralOf kind (take (n + m) xs)
+long_enough : (xs : List ℕ) (n m : ℕ) → n + m ≤ length xs → length (take m (drop n xs)) ≡ m
+long_enough xs n m le = length-take-le m (drop n xs) (omega (arith, length-drop n xs))
+
+-- behind a sign of length n, m digits
+pub digits_there : (kind : NumberKind) (xs : List ℕ) (n m : ℕ) → IsSign xs n → n + m ≤ length xs → 0 < m → AllDigits 10 (take m (drop n xs)) → IsFrontOf kind (take (n + m) xs)
 digits_there kind xs n m sign le some h =
-    let within : m ≤ length (drop n xs) = subst (λ (l : List ℕ). m ≤ length l) (take_rest xs n) le in
-    let is : length (take m (drop n xs)) ≡ m = length-take-le m (drop n xs) within in
+    let is = long_enough xs n m le in
     let there : 0 < length (take m (drop n xs)) = omega (arith, is) in
-    is_numeral kind (take (n + m) xs) (take m (drop n xs)) (sign m) there (subst (λ (l : List ℕ). AllDigits 10 (take m l)) (take_rest xs n) h)
+    is_front kind (take (n + m) xs) (take m (drop n xs)) (sign m) there h
 
-pub pointed_digits_there : (kind : NumberKind) (xs : List ℕ) (n m : ℕ) → IsSign xs n → m ≤ length (take (length xs - n) (drop n xs)) → 1 < m
-    → takes_point kind ≡ true → IsPointed (take m (take (length xs - n) (drop n xs)))
-    → IsNumeralOf kind (take (n + m) xs)
+pub pointed_digits_there : (kind : NumberKind) (xs : List ℕ) (n m : ℕ) → IsSign xs n → n + m ≤ length xs → 1 < m → takes_point kind ≡ true → IsPointed (take m (drop n xs))
+    → IsFrontOf kind (take (n + m) xs)
 pointed_digits_there kind xs n m sign le some takes h =
-    let within : m ≤ length (drop n xs) = subst (λ (l : List ℕ). m ≤ length l) (take_rest xs n) le in
-    let is : length (take m (drop n xs)) ≡ m = length-take-le m (drop n xs) within in
+    let is = long_enough xs n m le in
     let there : 1 < length (take m (drop n xs)) = omega (arith, is) in
-    is_pointed_numeral kind (take (n + m) xs) (take m (drop n xs)) takes (sign m) there (subst (λ (l : List ℕ). IsPointed (take m l)) (take_rest xs n) h)
+    is_pointed_front kind (take (n + m) xs) (take m (drop n xs)) takes (sign m) there h
 
--- a text that is a numeral, where b is the text as the code has it
-pub whole_split : (kind : NumberKind) (s b : List ℕ) (n : ℕ) → b ≡ s → trimmed s ≡ s → length s ≤ n → IsNumeralOf kind (take n b) → IsSplit kind (trimmed s) (take n s) None
-whole_split kind s b n same bare_ends long h =
-    let numeral : IsNumeralOf kind (take n s) = subst (λ t. IsNumeralOf kind (take n t)) same h in
-    subst (λ t. IsSplit kind t (take n s) None) (take_all n s long ∙ sym bare_ends) (bare kind (take n s) numeral)
+-- a power of ten behind the front
+pub front_is_numeral : (kind : NumberKind) (s : List ℕ) → IsFrontOf kind s → IsNumeralOf kind s
+front_is_numeral Integer s h = h
+front_is_numeral Decimal s h = h
+front_is_numeral Double s h = no_power s h
+
+mark_of : (a b : Bool) (c : ℕ) → (c == 101) ≡ a → (c == 69) ≡ b → (a || b) ≡ true → (c ∷ [] ≡ codes "e") ⊎ (c ∷ [] ≡ codes "E")
+mark_of true b c e f h = inl (ap (λ k. k ∷ []) (eqb-true c 101 e))
+mark_of false true c e f h = inr (ap (λ k. k ∷ []) (eqb-true c 69 f))
+mark_of false false c e f h = absurd (cc h)
+
+pub with_power : (kind : NumberKind) (xs : List ℕ) (f b : ℕ) → f < length xs → marks_power kind (get_or xs f 0) ≡ true → IsFrontOf kind (take f xs) → IsInteger (take b (drop (f + 1) xs))
+    → IsNumeralOf kind (take (f + 1 + b) xs)
+with_power Integer xs f b lt marks front back = absurd (cc marks)
+with_power Decimal xs f b lt marks front back = absurd (cc marks)
+with_power Double xs f b lt marks front back =
+    let c = get_or xs f 0 in
+    let whole : take (f + 1 + b) xs ≡ take f xs ++ (c ∷ []) ++ take b (drop (f + 1) xs) =
+    take-add (f + 1) b xs ∙ ap (λ t. t ++ take b (drop (f + 1) xs)) (take_more xs f 0 lt) in
+    subst IsDouble (sym whole) (power (take f xs) (c ∷ []) (take b (drop (f + 1) xs)) front (mark_of (c == 101) (c == 69) c refl refl marks) back)
+
+-- what bytes that begin with a text begin with
+front_of : (kind : NumberKind) (s b : List ℕ) (n : ℕ) → take (length s) b ≡ s → n ≤ length s → IsNumeralOf kind (take n b) → IsNumeralOf kind (take n s)
+front_of kind s b n same le h = subst (IsNumeralOf kind) (sym (take-take n (length s) b le) ∙ ap (take n) same) h
+
+-- a text that is a numeral, where b begins with the text
+pub whole_split : (kind : NumberKind) (s b : List ℕ) (n : ℕ) → take (length s) b ≡ s → n ≡ length s → IsNumeralOf kind (take n b) → IsSplit kind (trimmed s) (take n s) None
+whole_split kind s b n same long h =
+    let numeral = front_of kind s b n same (omega (arith, long)) h in
+    let split : IsSplit kind s (take n s) None = subst (λ t. IsSplit kind t (take n s) None) (take_all n s (omega (arith, long))) (bare kind (take n s) numeral) in
+    subst (λ t. IsSplit kind t (take n s) None) (sym (split_trims kind s (take n s) None split)) split
 
 -- a text that is a numeral, `d` and decimals
-pub suffix_split : (kind : NumberKind) (s b rest suffix : List ℕ) (a : Accuracy) (n : ℕ) → b ≡ s → trimmed s ≡ s → IsNumeralOf kind (take n b)
+pub suffix_split : (kind : NumberKind) (s b rest suffix : List ℕ) (a : Accuracy) (n : ℕ) → take (length s) b ≡ s → n ≤ length s → IsNumeralOf kind (take n b)
     → rest ≡ drop n s → rest ≡ 100 ∷ suffix → IsDecimals suffix a → IsSplit kind (trimmed s) (take n s) (Some a)
-suffix_split kind s b rest suffix a n same bare_ends h back marked decimals =
+suffix_split kind s b rest suffix a n same le h back marked decimals =
     let v = take n s in
-    let numeral : IsNumeralOf kind v = subst (λ t. IsNumeralOf kind (take n t)) same h in
+    let numeral = front_of kind s b n same le h in
     let whole : (v ++ codes "d") ++ suffix ≡ s = append_assoc v (codes "d") suffix ∙ ap (λ t. v ++ t) (sym marked ∙ back) ∙ take-append-drop n s in
-    subst (λ t. IsSplit kind t v (Some a)) (whole ∙ sym bare_ends) (suffixed kind v suffix a numeral decimals)
+    let split : IsSplit kind s v (Some a) = subst (λ t. IsSplit kind t v (Some a)) whole (suffixed kind v suffix a numeral decimals) in
+    subst (λ t. IsSplit kind t v (Some a)) (sym (split_trims kind s v (Some a) split)) split
+
+-- `d` and what it states
+pub suffix_read : (s t : List ℕ) (o : Option Accuracy) → s ≡ 100 ∷ t → ((a : Accuracy) → o ≡ Some a → IsDecimals t a) → IfSome o (IsSuffix s)
+suffix_read s t None marked h = tt
+suffix_read s t (Some a) marked h = record { text = t; marked = marked; states = h a refl }

@@ -1,6 +1,8 @@
 -- A numeral needs no escape.
-use Rattle.std.proofs.Common.{◌≡◌, ◌<◌, ℕ, Bool, true, false, cond, ◌==◌, ◌&&◌, List, [], ◌∷◌, ◌++◌, drop, Option, Some, None, refl, sym, ap, ◌∙◌, inl, inr, arith, codes}
+use Rattle.std.proofs.Common.{◌≡◌, ◌<◌, ◌^◌, ℕ, Bool, true, false, cond, ◌==◌, ◌&&◌, List, [], ◌∷◌, ◌++◌, drop, Option, Some, None, refl, sym, ap, ◌∙◌, inl, inr, arith, codes}
 use Rattle.std.specs.Option.{IfSome}
+use Rattle.std.specs.Fmt.{decimal}
+use Rattle.std.proofs.lemmas.Fmt.{decimal_is_IsNumeral}
 use Rattle.std.specs.List.{list_all}
 use Rattle.std.specs.Char.{digit_value}
 use Rattle.std.specs.Str.Parse.{AllDigits, without_leading_sign}
@@ -19,62 +21,21 @@ use Rattle.oim_json.specs.JsonText.{is_unescaped}
 use Rattle.oim_report.specs.ReportValue.{ReportValue}
 use Rattle.oim_report.specs.declared.kind.Kind.{Kind}
 use Rattle.oim_report.specs.declared.kind.Kind.TheVariants as kind
+use Rattle.oim_fast.proofs.NumeralBytes.{digits_pass, numeral_passes}
 use Rattle.oim_resolve.specs.FactValues.{numeral_given, text_in, value_given}
 use Rattle.oim_resolve.specs.Facts.{is_numeric}
 
 abbrev IsPlain : List ℕ → Type 0
 IsPlain s = list_all is_unescaped s ≡ true
 
-both : (a b : Bool) → a ≡ true → b ≡ true → (a && b) ≡ true
-both true true p q = refl
-both true false p q = q
-both false b p q = p
-
 plain_digit : (c : ℕ) → digit_value c < 10 → is_unescaped c ≡ true
 plain_digit c h = let r = digit_from_value c h in grind (arith, nat_tests)
 
 plain_digits : (s : List ℕ) → AllDigits 10 s → IsPlain s
-plain_digits [] h = refl
-plain_digits (c ∷ cs) h = both (is_unescaped c) (list_all is_unescaped cs) (plain_digit c h.0) (plain_digits cs h.1)
-
-plain_append : (a b : List ℕ) → IsPlain a → IsPlain b → IsPlain (a ++ b)
-plain_append a b p q = list_all-append is_unescaped a b ∙ both (list_all is_unescaped a) (list_all is_unescaped b) p q
-
-sign : (c : ℕ) → (c == 45) ≡ true → is_unescaped c ≡ true
-sign c e = grind (arith, nat_tests)
-
-plus : (c : ℕ) → (c == 43) ≡ true → is_unescaped c ≡ true
-plus c e = grind (arith, nat_tests)
-
-signed_by : (a b : Bool) (c : ℕ) (cs : List ℕ) → (c == 45) ≡ a → (c == 43) ≡ b → IsPlain (cond a (drop 1 (c ∷ cs)) (drop (cond b 1 0) (c ∷ cs))) → IsPlain (c ∷ cs)
-signed_by true b c cs e f h = both (is_unescaped c) (list_all is_unescaped cs) (sign c e) h
-signed_by false true c cs e f h = both (is_unescaped c) (list_all is_unescaped cs) (plus c f) h
-signed_by false false c cs e f h = h
-
--- a sign needs no escape
-plain_signed : (s : List ℕ) → IsPlain (without_leading_sign s) → IsPlain s
-plain_signed [] h = refl
-plain_signed (c ∷ cs) h = signed_by (c == 45) (c == 43) c cs refl refl h
-
-plain_integer : (s : List ℕ) → IsInteger s → IsPlain s
-plain_integer s h = plain_signed s (plain_digits (without_leading_sign s) h.1)
-
-plain_pointed : (s : List ℕ) → IsPointed s → IsPlain s
-plain_pointed s (pointed before after p q some) = plain_append (before ++ codes ".") after (plain_append before (codes ".") (plain_digits before p) refl) (plain_digits after q)
-
-plain_decimal : (s : List ℕ) → IsDecimal s → IsPlain s
-plain_decimal s (inl i) = plain_integer s i
-plain_decimal s (inr p) = plain_signed s (plain_pointed (without_leading_sign s) p)
-
-plain_double : (s : List ℕ) → IsDouble s → IsPlain s
-plain_double s (no_power t d) = plain_decimal t d
-plain_double s (power front mark back d m i) =
-    plain_append (front ++ mark) back (plain_append front mark (plain_decimal front d) (elim m [ inl e ↦ ap (list_all is_unescaped) e | inr e ↦ ap (list_all is_unescaped) e ])) (plain_integer back i)
+plain_digits s h = digits_pass is_unescaped plain_digit refl refl refl refl refl s h
 
 plain_numeral : (kind : NumberKind) (s : List ℕ) → IsNumeralOf kind s → IsPlain s
-plain_numeral Integer s h = plain_integer s h
-plain_numeral Decimal s h = plain_decimal s h
-plain_numeral Double s h = plain_double s h
+plain_numeral kind s h = numeral_passes is_unescaped plain_digit refl refl refl refl refl kind s h
 
 plain_split : (kind : NumberKind) (s v : List ℕ) (a : Option Accuracy) → IsSplit kind s v a → IsPlain v
 plain_split k s v a (suffixed kind numeral decimals accuracy n d) = plain_numeral kind numeral n
@@ -105,3 +66,7 @@ given_is_plain r kind.Name v h = absurd (cc)
 given_is_plain r kind.Other v h = absurd (cc)
 given_is_plain r kind.Explicit v h = absurd (cc)
 given_is_plain r kind.Typed v h = absurd (cc)
+
+-- a number in digits needs no escape
+pub decimal_is_plain : (n : ℕ) → n < 2 ^ 64 → list_all is_unescaped (decimal n) ≡ true
+decimal_is_plain n h = plain_digits (decimal n) (decimal_is_IsNumeral n h).0.1

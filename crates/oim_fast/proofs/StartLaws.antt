@@ -4,6 +4,8 @@ use Rattle.std.specs.Prelude.{decimal}
 use Rattle.std.specs.List.{flat_map, list_all}
 use Rattle.std.proofs.lemmas.Grind.{flat_map-append}
 use Rattle.oim_json.specs.JsonText.{escaped_byte}
+use Rattle.oim_json.proofs.Quoted.{all_unescaped}
+use Rattle.oim_fast.proofs.PlainNumerals.{decimal_is_plain}
 
 pub lead_put : (id : List ℕ) → (codes ",\"" ++ flat_map escaped_byte id) ++ codes "." ≡ codes ",\"" ++ flat_map escaped_byte (id ++ codes ".")
 unfolding escaped_byte
@@ -15,6 +17,8 @@ start_put table row =
     ∙ ap (λ t. codes ",\"" ++ t) (sym (flat_map-append escaped_byte (table ++ codes ".") row))
 
 -- a number needs no escape
-pub number_put : (out : List ℕ) (n : ℕ) → (out ++ codes "r_") ++ flat_map escaped_byte (decimal n) ≡ out ++ flat_map escaped_byte (codes "r_" ++ decimal n)
+pub number_put : (out : List ℕ) (n : ℕ) → n < 2 ^ 64 → (out ++ codes "r_") ++ decimal n ≡ out ++ flat_map escaped_byte (codes "r_" ++ decimal n)
 unfolding escaped_byte
-number_put out n = append_assoc out (codes "r_") (flat_map escaped_byte (decimal n))
+number_put out n few =
+    append_assoc out (codes "r_") (decimal n)
+    ∙ ap (λ t. out ++ (codes "r_" ++ t)) (sym (all_unescaped (decimal n) (decimal_is_plain n few)))

@@ -168,3 +168,11 @@ read_value r k v p x given said known within nil exact text = record {
       ∙ ap (λ a. Ok (record { text = if x.is_nil then None else Some (take x.len x.bytes.now); accuracy = a })) (sym exact);
   nil = nil ∙ nil_where r k v p said known given;
 }
+
+-- a number's cell that is split, where the bytes begin with it
+pub number_found : (r : ReportValue) (n : NumberKind) (cell bytes : List ℕ) (len : ℕ) (x : Value) → take len bytes ≡ cell → len ≤ length bytes → x.bytes.now ≡ bytes → x.is_nil ≡ false
+    → x.len ≤ len → (take (length cell) bytes ≡ cell → length cell ≡ len → IsSplit n (trimmed cell) (take x.len cell) x.accuracy) → IsValue r (kind.Number n) (meaning_of cell) x
+number_found r n cell bytes len x same within is some few split =
+    let long : length cell ≡ len = ap length (sym same) ∙ length-take-le len bytes within in
+    let whole : take (length cell) bytes ≡ cell = ap (λ k. take k bytes) long ∙ same in
+    number_value r n cell x (ap (take (length cell)) is ∙ whole) (omega (arith, long, within, ap length is)) some (omega (arith, long, few)) (split whole long)

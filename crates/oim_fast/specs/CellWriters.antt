@@ -1,17 +1,22 @@
 -- What is ready for the cells of a table's rows.
-use Rattle.std.specs.Prelude.{◌≡◌, ◌<◌, ◌^◌, ℕ, true, Bool, List, [], ◌∷◌, ◌++◌, length, map, slice_index_or, take, Option, Some, None, Result, Ok}
+use Rattle.std.specs.Prelude.{◌≡◌, ◌⊎◌, ◌<◌, ◌^◌, ℕ, true, Bool, List, [], ◌∷◌, ◌++◌, length, map, slice_index_or, take, Option, Some, None, Result, Ok}
 use Rattle.std.specs.List.{All}
 use Rattle.std.specs.Option.{option_to_list}
+use Rattle.oim_cells.specs.Cells.{meaning_of}
 use Rattle.oim_json.specs.Blocks.{behind_commas, ends_from}
 use Rattle.oim_resolve.specs.FactParts.{FactParts as Fact}
-use Rattle.oim_resolve.specs.Facts.{cell_result}
+use Rattle.oim_resolve.specs.Facts.{cell_result, is_absent}
 use Rattle.oim_rows.specs.RowFacts.{Reading}
+use Rattle.oim_fast.specs.CellValues.{IsValue}
 use Rattle.oim_fast.specs.Columns.{AreFactColumns, fact_columns_in}
+use Rattle.oim_fast.specs.FactTexts.{AddsFact}
 use Rattle.oim_fast.specs.Facts.{WritesFact, lead_text, start_text}
+use Rattle.oim_fast.specs.FrameTexts.{FrameValue}
 use Rattle.oim_fast.specs.KeptFrames.{IsFrame}
 use Rattle.oim_fast.specs.Making.{IsMaker, IsReadyMaker}
-use Rattle.oim_fast.specs.References.{key_of}
+use Rattle.oim_fast.specs.References.{ReferenceValue, key_of}
 use Rattle.oim_fast.specs.Rows.{RowValue, cell_in}
+use Rattle.oim_fast.specs.declared.frame.value.Value.{Value}
 use Rattle.oim_fast.specs.declared.table.cell_writer.CellWriter.{CellWriter}
 
 -- it is ready for the rows of a form
@@ -38,6 +43,12 @@ column_at f i = slice_index_or (fact_columns_in f f.header) i 0
 abbrev pub PutsCell : {E : Type 0} → RowValue → ℕ → List ℕ → List ℕ → Result Bool E → Type 0
 PutsCell x c old new (Ok true) = WritesFact (cell_result (cell_in x c)) old new
 PutsCell x c old new r = new ≡ old
+
+-- the same of a frame, and of what a cell under it says
+abbrev pub PutsSaid : {E : Type 0} → RowValue → List ReferenceValue → FrameValue → List ℕ → List ℕ → List ℕ → List ℕ → Result Bool E → Type 0
+PutsSaid x rs t start cell old new (Ok true) =
+    ((is_absent (meaning_of cell) ≡ true) × (new ≡ old)) ⊎ ((v : Value) × IsValue x.form.report t.kind (meaning_of cell) v × AddsFact rs t v start old new)
+PutsSaid x rs t start cell old new r = new ≡ old
 
 -- these columns give a row these facts
 abbrev pub GiveFacts : RowValue → List ℕ → List Fact → Type 0

@@ -1,6 +1,9 @@
--- Numerals without sign and without a power of ten.
-use Rattle.std.specs.Prelude.{◌≡◌, ℕ, Bool, true, false, ◌||◌, ◌==◌, List, [], ◌∷◌, ◌++◌, codes}
+-- The parts of a numeral.
+use Rattle.std.specs.Prelude.{◌≡◌, ℕ, Bool, true, false, not, ◌||◌, ◌==◌, nat_lt, List, [], ◌∷◌, ◌++◌, codes}
+use Rattle.std.specs.Char.{digit_value}
 use Rattle.std.specs.Str.Parse.{AllDigits}
+use Rattle.oim_cells.specs.Numeral.{IsDecimal, IsDecimals, IsInteger}
+use Rattle.oim_cells.specs.declared.cells.Accuracy.{Accuracy}
 use Rattle.oim_cells.specs.declared.cells.NumberKind.{NumberKind}
 use Rattle.oim_cells.specs.declared.cells.NumberKind.TheVariants.{Integer, Decimal, Double}
 
@@ -27,3 +30,28 @@ abbrev pub takes_point : NumberKind → Bool
 takes_point Integer = false
 takes_point Decimal = true
 takes_point Double = true
+
+-- a decimal digit, and any other byte
+abbrev pub is_digit : ℕ → Bool
+is_digit c = nat_lt (digit_value c) 10
+
+abbrev pub is_other : ℕ → Bool
+is_other c = not (is_digit c)
+
+-- the byte marks the power of ten in a numeral of the kind
+abbrev pub marks_power : NumberKind → ℕ → Bool
+marks_power Integer c = false
+marks_power Decimal c = false
+marks_power Double c = (c == 101) || (c == 69)
+
+-- a numeral of the kind without a power of ten
+abbrev pub IsFrontOf : NumberKind → List ℕ → Type 0
+IsFrontOf Integer = IsInteger
+IsFrontOf Decimal = IsDecimal
+IsFrontOf Double = IsDecimal
+
+-- `d` and what it states
+pub record IsSuffix (s : List ℕ) (a : Accuracy) : Type 0 where
+  pub text : List ℕ
+  pub marked : s ≡ 100 ∷ text
+  pub states : IsDecimals text a

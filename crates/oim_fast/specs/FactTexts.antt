@@ -1,9 +1,9 @@
 -- What is written of one fact. (xBRL-JSON 1.0, a fact object)
 use Rattle.std.specs.Prelude.{⊤, ◌≡◌, ◌<◌, ◌≤◌, ◌+◌, ◌-◌, ◌++◌, ℕ, Bool, true, false, ◌&&◌, ◌||◌, not, List, [], Option, Some, None, Result, Ok, codes, drop, is_none, length, take, if◌then◌else◌}
-use Rattle.std.specs.List.{All, sum_by}
+use Rattle.std.specs.List.{All, flat_map, sum_by}
 use Rattle.std.specs.Option.{option_map_or}
 use Rattle.oim_cells.specs.declared.cells.Accuracy.{Accuracy}
-use Rattle.oim_json.specs.JsonText.{decimals_text, value_text}
+use Rattle.oim_json.specs.JsonText.{decimals_text, escaped_byte, value_text}
 use Rattle.oim_report.specs.declared.kind.Kind.{Kind}
 use Rattle.oim_resolve.specs.Facts.{is_numeric, places}
 use Rattle.oim_fast.specs.FrameTexts.{FrameValue, Segment, dimensions_start, frame_dimensions}
@@ -104,6 +104,10 @@ pub record AddsFact (rs : List ReferenceValue) (t : FrameValue) (v : Value) (sta
   pub dimensions : All (λ (s : Segment). is_sound_by rs s.reference ≡ true) t.segments
   pub decimals : are_sound_decimals rs t v ≡ true
   pub text : new ≡ old ++ (start ++ object_text rs t v)
+
+-- a value's text and the end of its fact stand in place of the last two bytes
+abbrev pub EndsInstead : Value → List ℕ → List ℕ → Type 0
+EndsInstead v old new = new ≡ take (length old - 2) old ++ (flat_map escaped_byte (take v.len v.bytes.now) ++ codes "\"}")
 
 -- or nothing was appended
 abbrev pub PutsFact : {E : Type 0} → List ReferenceValue → FrameValue → Value → List ℕ → List ℕ → List ℕ → Result Bool E → Type 0

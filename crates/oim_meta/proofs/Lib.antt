@@ -11,9 +11,6 @@ pub mod KindLaws
 pub mod Unrepeated
 pub mod Placed
 pub mod ReadOrder
-pub mod ReadTurns
-pub mod Passed
-pub mod Glanced
 pub mod Ordered
 pub mod OwnUris
 pub mod OwnTexts

@@ -1,5 +1,5 @@
 -- What a refusal with a place says of the fault that is first.
-use Rattle.std.proofs.Common.{◌≡◌, ◌∙◌, ◌≤◌, inl, inr, ℕ, List, Some, None, true, false, length, refl, sym}
+use Rattle.std.proofs.Common.{◌≡◌, ◌∙◌, ◌≤◌, ◌⊎◌, inl, inr, ℕ, List, Bool, Some, None, true, false, length, refl, sym}
 use Rattle.std.specs.Prelude.{codes}
 use Rattle.serde_json.specs.Data.{Data}
 use Rattle.serde_json.specs.Find.{get}
@@ -12,24 +12,25 @@ use Rattle.oim_meta.specs.declared.findings.Finding.{Finding}
 use Rattle.oim_meta.specs.declared.refusal.Refusal.{Refusal}
 use Rattle.oim_meta.specs.declared.refusal.Refusal.TheVariants.{Found, Memory}
 use Rattle.oim_meta.specs.Members.{if_there}
-use Rattle.oim_meta.specs.Faults.{has_bad_identifier, has_bad_namespaces, has_unknown_template}
+use Rattle.oim_meta.specs.BadParameters.{has_bad_parameter_url}
+use Rattle.oim_meta.specs.Faults.{has_bad_identifier, has_bad_namespaces, has_no_report, has_unknown_template}
 use Rattle.oim_meta.specs.UnknownColumn.{has_unknown_column}
 use Rattle.oim_meta.specs.FaultOrder.{IsLeastFault}
 use Rattle.oim_meta.specs.FirstFault.{first_fault, has_fault}
 use Rattle.oim_meta.specs.Findings.{first_of}
-use Rattle.oim_meta.specs.Reading.{HasFirst, IsFault, IsJson, IsNoJson}
-use Rattle.oim_meta.specs.Refusals.{IsFirstOf, IsNoValue, IsFinding, IsRefusal, fault_in, refusal_of}
+use Rattle.oim_meta.specs.Reading.{HasFirst, IsFault, IsJson, IsNoJson, IsUnread, IsUrlFault, IsUrlFaultOf, Reads, first_url_fault}
+use Rattle.oim_meta.specs.Refusals.{IsFirstOf, IsFinding, IsRefusal, fault_in, refusal_of}
 use Rattle.oim_meta.specs.WalkReport.{in_document, in_metadata}
 use Rattle.oim_meta.proofs.LeastFault.{is_least}
 use Rattle.oim_meta.proofs.FirstFound.{document_is_first, first_found, none_is_first}
 use Rattle.oim_meta.proofs.ReportFaults.{all_found}
 use Rattle.oim_meta.proofs.DocumentFaults.{bad_namespaces, find_document}
 
--- the bytes are no JSON text
-pub no_value : (bytes : List ℕ) (f : MetaFault) → IsNoJson bytes f → IsNoValue bytes (refusal_of f)
-no_value bytes fault.Syntax h = (h, refl)
-no_value bytes fault.Memory h = tt
-no_value bytes f h = absurd h
+-- bytes that are within the limit and no JSON text are not read
+pub unread : (limits : Limits) (bytes : List ℕ) (f : MetaFault) → length bytes ≤ limits.metadata → IsNoJson bytes f → IsUnread limits bytes f
+unread limits bytes fault.Syntax fits h = (fits, h)
+unread limits bytes fault.Memory fits h = tt
+unread limits bytes f fits h = absurd h
 
 -- the document's first finding is that of the metadata
 pub of_document : (limits : Limits) (given : ParametersValue) (types : TypesValue) (d : Data) (r : Refusal) → IsFirstOf (in_document d) r → IsFirstOf (in_metadata limits given types d) r
@@ -40,6 +41,34 @@ of_document limits given types d Memory h = tt
 pub good_namespaces : (d : Data) → first_of (in_document d) ≡ None → if_there has_bad_namespaces (get (codes "documentInfo") d) ≡ false
 good_namespaces d h =
     sym (bad_namespaces d) ∙ sym (find_document fault.BadNamespaces d) ∙ none_is_first (in_document d) h fault.BadNamespaces
+
+-- why no JSON is read is why there is no name of a parameters file
+pub url_of_unread : (limits : Limits) (bytes : List ℕ) (f : MetaFault) → IsUnread limits bytes f → IsUrlFault limits bytes f
+url_of_unread limits bytes fault.TooLarge h = h
+url_of_unread limits bytes fault.Syntax h = h
+url_of_unread limits bytes fault.Memory h = tt
+url_of_unread limits bytes f h = absurd h
+
+two_faults : (d : Data) (f : MetaFault) → first_url_fault d ≡ Some f → (f ≡ fault.NotReport) ⊎ (f ≡ fault.BadParameter)
+two_faults d f h = by (has_no_report d) (has_bad_parameter_url d) refl refl
+  where
+    by : (a b : Bool) → has_no_report d ≡ a → has_bad_parameter_url d ≡ b → (f ≡ fault.NotReport) ⊎ (f ≡ fault.BadParameter)
+    by true b no_report bad = let first : Some fault.NotReport ≡ Some f = rw no_report at h in inl cc
+    by false true no_report bad = let first : Some fault.BadParameter ≡ Some f = rw (no_report, bad) at h in inr cc
+    by false false no_report bad = let first : None ≡ Some f = rw (no_report, bad) at h in absurd cc
+
+-- the fault of a value is one of the bytes
+pub url_of_value : (limits : Limits) (bytes : List ℕ) (d : Data) (f : MetaFault) → Reads limits bytes d → IsUrlFaultOf d f → IsUrlFault limits bytes f
+url_of_value limits bytes d fault.TooLarge reads h = elim (two_faults d fault.TooLarge h) [
+  | inl e ↦ absurd cc
+  | inr e ↦ absurd cc
+]
+url_of_value limits bytes d fault.Syntax reads h = elim (two_faults d fault.Syntax h) [
+  | inl e ↦ absurd cc
+  | inr e ↦ absurd cc
+]
+url_of_value limits bytes d fault.Memory reads h = tt
+url_of_value limits bytes d f reads h = (reads.0, (d, reads.1, h))
 
 module _ (limits : Limits) (given : ParametersValue) (types : TypesValue) (d : Data) where
   -- a metadata without a finding has no fault
@@ -64,9 +93,12 @@ module _ (limits : Limits) (given : ParametersValue) (types : TypesValue) (bytes
   of_value d (Found x) fits json h = inr (fits, inr (d, json, h))
   of_value d Memory fits json h = tt
 
-  pub of_text : (r : Refusal) → length bytes ≤ limits.metadata → IsNoValue bytes r → IsRefusal limits given types bytes r
-  of_text (Found x) fits h = inr (fits, inl h)
-  of_text Memory fits h = tt
+  -- why no JSON is read is why the bytes are refused
+  pub of_unread : (f : MetaFault) → IsUnread limits bytes f → IsRefusal limits given types bytes (refusal_of f)
+  of_unread fault.TooLarge h = inl (h, refl)
+  of_unread fault.Syntax h = inr (h.0, inl (h.1, refl))
+  of_unread fault.Memory h = tt
+  of_unread f h = absurd h
 
   never : (d : Data) → first_fault limits given types d ≡ Some fault.Syntax → ⊥
   never d h = let least : IsLeastFault limits given types d (Some fault.Syntax) = rw h at (is_least limits given types d) in let same : false ≡ true = least.0 in absurd cc

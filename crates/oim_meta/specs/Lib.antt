@@ -20,8 +20,6 @@ pub mod BadDimensions
 pub mod Writes
 pub mod BadDecimals
 pub mod BadParameters
-pub mod Passing
-pub mod Glance
 pub mod Counts
 pub mod UnknownColumn
 pub mod FirstFault

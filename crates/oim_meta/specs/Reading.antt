@@ -39,6 +39,17 @@ IsNoJson bytes Syntax = HasNoJson bytes
 IsNoJson bytes Memory = Unit {0}
 IsNoJson bytes f = ⊥
 
+-- the bytes are within the limit, and JSON text for d
+abbrev pub Reads : Limits → List ℕ → Data → Type 0
+Reads limits bytes d = (length bytes ≤ limits.metadata) × IsJson bytes d
+
+-- why no JSON is read from the bytes: there are too many, or they are not JSON text; running out of memory says nothing about them
+abbrev pub IsUnread : Limits → List ℕ → MetaFault → Type 0
+IsUnread limits bytes TooLarge = limits.metadata < length bytes
+IsUnread limits bytes Syntax = (length bytes ≤ limits.metadata) × HasNoJson bytes
+IsUnread limits bytes Memory = Unit {0}
+IsUnread limits bytes f = ⊥
+
 -- the report that the bytes say
 abbrev pub SaysReport : Limits → ParametersValue → TypesValue → List ℕ → ReportValue → Type 0
 SaysReport limits given types bytes r = (length bytes ≤ limits.metadata) × ((d : Data) × IsJson bytes d × (first_fault limits given types d ≡ None) × (r ≡ report_of given types d))
@@ -62,6 +73,15 @@ has_url_fault d f = false
 
 abbrev pub first_url_fault : Data → Option MetaFault
 first_url_fault d = find (has_url_fault d) (NotReport ∷ BadParameter ∷ [])
+
+-- the name of the parameters file that a value says, if any
+abbrev pub IsUrlOf : Data → Option (List ℕ) → Type 0
+IsUrlOf d url = (first_url_fault d ≡ None) × (url ≡ text_at (codes "parameterURL") d)
+
+-- the first of these faults of a value; running out of memory says nothing about it
+abbrev pub IsUrlFaultOf : Data → MetaFault → Type 0
+IsUrlFaultOf d Memory = Unit {0}
+IsUrlFaultOf d f = first_url_fault d ≡ Some f
 
 -- the name of the parameters file that the bytes say, if any
 abbrev pub SaysUrl : Limits → List ℕ → Option (List ℕ) → Type 0

@@ -28,11 +28,6 @@ abbrev pub IsFirstOf : List Finding → Refusal → Type 0
 IsFirstOf xs (Found x) = first_of xs ≡ Some x
 IsFirstOf xs Memory = Unit {0}
 
--- the bytes are not JSON text; so says the whole of them
-abbrev pub IsNoValue : List ℕ → Refusal → Type 0
-IsNoValue bytes (Found x) = HasNoJson bytes × (x ≡ finding fault.Syntax [])
-IsNoValue bytes Memory = Unit {0}
-
 -- the first finding of the value whose JSON text the bytes are
 abbrev pub FindsFirst : Limits → ParametersValue → TypesValue → List ℕ → Finding → Type 0
 FindsFirst limits given types bytes x = (d : Data) × IsJson bytes d × (first_of (in_metadata limits given types d) ≡ Some x)

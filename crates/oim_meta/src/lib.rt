@@ -44,15 +44,15 @@ mod fields;
 mod file_laws;
 mod finding_laws;
 mod findings;
-mod glance;
 mod lookup;
+mod metadata;
 mod order;
 mod parameters;
-mod passing;
 mod paths;
 mod place;
 mod read;
 mod refusal;
+mod report;
 mod shape_laws;
 mod shapes;
 mod text_laws;
@@ -66,6 +66,7 @@ pub use fault_laws::first_fault_is_least;
 pub use file_laws::{fault_is_of_earliest_record, types_are_of_all_records};
 pub use finding_laws::{a_walk_finds_all_faults, first_finding_is_least};
 pub use findings::Finding;
+pub use metadata::Metadata;
 pub use oim_records::{ReadFault, Records};
 pub use oim_report::{
     Column, ColumnKind, Info, Kind, Level, Limits, Parameters, Report, Side, Table, Template,

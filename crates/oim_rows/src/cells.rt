@@ -4,7 +4,7 @@ ghost use Rattle.std.specs.Prelude.{◌≡◌, ◌<◌, Some, length};
 ghost use Rattle.csv.specs.Records.{field_at};
 ghost use Rattle.oim_rows.specs.RowFacts.{IsTextRecord, field_or_empty};
 
-use oim_records::Fields;
+use oim_records::{Fields, TextFields};
 
 /// The cell at a place.
 pub(crate) fn field<'a>(row: &Fields<'a>, i: usize) -> &'a [u8]
@@ -28,6 +28,29 @@ pub(crate) fn text_at<'a>(row: &Fields<'a>, place: Option<usize>) -> &'a str
                 Ok(text) => text,
                 Err(_) => unreachable!(),
             },
+            None => "",
+        },
+        None => "",
+    }
+}
+
+/// How many cells a row has whose cells are all text.
+#[inline(always)]
+pub(crate) fn count_of_texts(row: &TextFields<'_>) -> usize
+    ensures count { result ≡ length row.now }
+    ensures texts { IsTextRecord row.now }
+{
+    row.len()
+}
+
+/// The same as `text_at`, of a row whose cells are all text.
+#[inline(always)]
+pub(crate) fn known_text_at<'a>(row: &TextFields<'a>, place: Option<usize>) -> &'a str
+    ensures { result.now ≡ field_or_empty row.now place }
+{
+    match place {
+        Some(place) => match row.get(place) {
+            Some(text) => text,
             None => "",
         },
         None => "",

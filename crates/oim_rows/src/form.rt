@@ -6,12 +6,12 @@ ghost use Rattle.oim_rows.specs.Header.{file_header_fault};
 ghost use Rattle.oim_rows.specs.RowFacts.{id_place_of, row_fault, row_id_place};
 ghost use Rattle.oim_rows.specs.Streams.{IsOutside, TakesHeader};
 
-use crate::cells::text_at;
+use crate::cells::{count_of_texts, known_text_at, text_at};
 use crate::fault::{TableFault, TableKind, fault_at_place, fault_of_whole_row};
 use crate::header::{read_header, source_of};
 use crate::ids::RowIds;
 use itoa::Buffer;
-use oim_records::{Fields, RecordReader};
+use oim_records::{Fields, RecordReader, TextFields};
 use oim_report::Report;
 use std::alloc::{AllocError, Global};
 use std::io::Read;
@@ -131,6 +131,38 @@ impl<'a> RowForm<'a> {
         let place = self.id_place?;
         let kind = ids.fault_of(text_at(row, Some(place)))?;
         Some(fault_at_place(self.table, number, place, kind))
+    }
+
+    /// The same of a row whose fields are known to be text, none of which is tested again.
+    fn fault_of_texts(&self, number: u32, ids: &RowIds, row: &TextFields<'_>) -> Option<TableFault>
+        ensures { result ≡ row_fault self.now number ids.now row.now }
+    {
+        if count_of_texts(row) != self.header.len() {
+            return Some(fault_of_whole_row(self.table, number, TableKind::Ragged));
+        }
+        if self.limit < number {
+            let kind = TableKind::TooManyRows;
+            return Some(fault_of_whole_row(self.table, number, kind));
+        }
+        let place = self.id_place?;
+        let kind = ids.fault_of(known_text_at(row, Some(place)))?;
+        Some(fault_at_place(self.table, number, place, kind))
+    }
+
+    /// The same of the record that a reader has at hand. Where it is known to be text, no field is tested again.
+    #[inline]
+    pub fn fault_of_record<R: Read + Drop>(
+        &self,
+        number: u32,
+        ids: &RowIds,
+        records: &RecordReader<R>,
+    ) -> Option<TableFault>
+        ensures { result ≡ row_fault self.now number ids.now records.now.fields }
+    {
+        match records.text_fields() {
+            Some(texts) => self.fault_of_texts(number, ids, &texts),
+            None => self.fault_of_row(number, ids, &records.fields()),
+        }
     }
 }
 

@@ -2,7 +2,7 @@
 use Rattle.std.specs.Prelude.{◌≡◌, ◌⊎◌, Bool, true, false, if◌then◌else◌, ℕ, suc, List, [], ◌∷◌, ◌++◌, map, take, ◌+◌, ◌<◌, Option, Some, None, IfOk, IfSome, Result, Ok, Err, length, slice_index_or}
 use Rattle.std.proofs.Common.{refl, sym, ap, subst, ◌∙◌, inl, inr}
 use Rattle.std.proofs.lemmas.List.{length-append, map_more}
-use Rattle.std.specs.Io.KnownBytes.{Keeps}
+use Rattle.std.specs.Io.KnownBytes.{Appends, Keeps}
 use Rattle.oim_convert.specs.Answer.{IsAnswer, streams}
 use Rattle.oim_convert.specs.Files.{AreFilesOf, IsFileOf}
 use Rattle.oim_convert.specs.Runs.{AnswersFault, AreHistories, AreStreams, AreUncut, Writes, early_fault}
@@ -17,18 +17,23 @@ use Rattle.oim_report.specs.declared.data.Table.{Table}
 use Rattle.oim_meta.specs.declared.fault.MetaFault.{MetaFault}
 use Rattle.oim_rows.specs.Streams.{Stream}
 use Rattle.oim_run.proofs.Threads.{answered, in_range, left, never_lost}
-use Rattle.oim_run.proofs.StepFacts.{IsReport}
+use Rattle.oim_run.proofs.Waiting.{appends_then, keeps_same, took_all, took_some}
+use Rattle.oim_run.specs.Buffers.{told_behind}
 use Rattle.oim_json.specs.declared.mark.Mark.TheVariants as «marks»
-use Rattle.oim_run.specs.Conversion.{Buffered, ConvertedTexts, Ends, SaysWith, Texts, flushed, profile}
-use Rattle.oim_run.specs.Folders.{Files, IsFolderOf}
+use Rattle.oim_files.specs.Metadata.{profile}
+use Rattle.oim_run.specs.Conversion.{Buffered, ConvertedTexts, Ends, SaysWith, Texts, flushed}
+use Rattle.oim_files.specs.Folders.{Files, IsFolderOf}
 use Rattle.oim_run.specs.Naming.{outcome_by}
 use Rattle.oim_run.specs.Outcomes.{EndsAs, Leaves, table_ids}
 use Rattle.oim_run.specs.Runs.{EndsOver, range_fault, table_file, table_files}
-use Rattle.oim_run.specs.Steps.{IsEarly, no_memory}
+use Rattle.oim_files.specs.Steps.{IsReport}
+use Rattle.oim_files.specs.declared.early_fault.EarlyFault.{EarlyFault}
+use Rattle.oim_files.specs.declared.early_fault.EarlyFault.TheVariants as early
+use Rattle.oim_run.specs.Early.{no_memory, outcome_of}
 use Rattle.oim_run.specs.declared.outcome.Outcome.{Outcome}
 use Rattle.oim_run.specs.declared.outcome.Outcome.TheVariants as outcome
-use Rattle.oim_run.specs.declared.outcome.Source.{Source}
-use Rattle.oim_run.specs.declared.outcome.Source.TheVariants as source
+use Rattle.oim_files.specs.declared.early_fault.Source.{Source}
+use Rattle.oim_files.specs.declared.early_fault.Source.TheVariants as source
 
 -- there are as many files as readers
 pub as_many : {R : Type 0} (told : R → Option (List ℕ)) (rs : List (Option R)) (fs : List (Option (List ℕ))) → AreFilesOf told rs fs → length rs ≡ length fs
@@ -36,10 +41,6 @@ as_many told [] [] are = refl
 as_many told [] (f ∷ fs) are = absurd are
 as_many told (r ∷ rs) [] are = absurd are
 as_many told (r ∷ rs) (f ∷ fs) are = ap suc (as_many told rs fs are.1)
-
-keeps_same : (a : Option (List ℕ)) → Keeps a a
-keeps_same None = tt
-keeps_same (Some xs) = refl
 
 -- a conversion for which memory ran out while the names were made
 pub no_memory_ends : (layout : Layout) (early : Option ConvertFault) (report : ReportValue) (ss : List Stream) (sink : SinkView) → EndsAs layout early report ss sink sink (outcome.Run fault.Memory)
@@ -136,21 +137,20 @@ pub one_longer : {A : Type 0} (xs ys : List A) (x : A) (n : ℕ) → ys ≡ xs +
 one_longer xs ys x n more is = ap length more ∙ length-append xs (x ∷ []) ∙ ap (λ k. k + 1) is
 
 -- a run that stops before the conversion
-pub stops : (known : Option Files) (base meta types : List ℕ) (workers ring : ℕ) (layout : Layout) (sink : SinkView) (o : Outcome) → IsFolderOf base meta
-    → IfSome known (λ files. IsReport files base meta types (Err o))
+pub stops : (known : Option Files) (base meta types : List ℕ) (workers ring : ℕ) (layout : Layout) (sink : SinkView) (e : EarlyFault) (o : Outcome) → IsFolderOf base meta
+    → IfSome known (λ files. IsReport files base meta types (Err e)) → o ≡ outcome_of e
     → IfSome known (λ files. EndsOver files meta types workers ring layout sink sink o)
-stops None base meta types workers ring layout sink o folder stop = tt
-stops (Some files) base meta types workers ring layout sink o folder stop =
-    record { base = base; folder = folder; ends = inl (stop, (refl, keeps_same sink.told)) }
+stops None base meta types workers ring layout sink e o folder stop told = tt
+stops (Some files) base meta types workers ring layout sink e o folder stop told =
+    record { base = base; folder = folder; ends = inl (record { fault = e; stops = stop; told = told }, (refl, keeps_same sink.told)) }
 
-pub early_leaves : (range : Option ConvertFault) (sink : SinkView) (o : Outcome) → IsEarly o → Leaves range sink sink o
-early_leaves range sink outcome.Done early = absurd early
-early_leaves range sink (outcome.Report s f) early = (refl, keeps_same sink.told)
-early_leaves range sink (outcome.Tables named) early = absurd early
-early_leaves range sink (outcome.CannotRead path) early = (refl, keeps_same sink.told)
-early_leaves range sink (outcome.CannotWrite path) early = absurd early
-early_leaves range sink (outcome.Run f) early = inl (early, (refl, keeps_same sink.told))
-early_leaves range sink (outcome.Output w) early = absurd early
+early_left : (range : Option ConvertFault) (sink : SinkView) (e : EarlyFault) → Leaves range sink sink (outcome_of e)
+early_left range sink (early.Report s f) = (refl, keeps_same sink.told)
+early_left range sink (early.CannotRead path) = (refl, keeps_same sink.told)
+early_left range sink early.Memory = inl (refl, (refl, keeps_same sink.told))
+
+pub early_leaves : (range : Option ConvertFault) (sink : SinkView) (e : EarlyFault) (o : Outcome) → o ≡ outcome_of e → Leaves range sink sink o
+early_leaves range sink e o told = subst (Leaves range sink sink) (sym told) (early_left range sink e)
 
 -- the conversion of a report's tables
 pub tables_end : {R : Type 0} (told : R → Option (List ℕ)) (known : Option Files) (base : List ℕ) (workers ring : ℕ) (layout : Layout)
@@ -204,23 +204,41 @@ run_leaves workers ring readers tables old new o many = subst (λ early. Leaves 
 
 -- THROUGH A BUFFER
 
-flushed_or : (failed : Bool) (ended o : Outcome) → o ≡ (if failed then flushed ended else ended) → (o ≡ ended) ⊎ (o ≡ flushed ended)
-flushed_or true ended o is = inr is
-flushed_or false ended o is = inl is
+-- where old is what the writer held before the run, and a buffer before it tells what it held when the buffer was made
+pub behind : (ends : SinkView → SinkView → Outcome → Type 0) (before after : SinkView) (ended o : Outcome) (done : Bool) (old first new : Option (List ℕ))
+    → before.mark ≡ «marks».Fine → before.told ≡ told_behind old old [] → ends before after ended
+    → (done ≡ true → Keeps after.told (told_behind first new [])) → (rest : List ℕ) × Keeps after.told (told_behind first new rest)
+    → o ≡ (if done then ended else flushed ended) → Buffered ends old new o
+behind ends before after ended o true old first new fine told run all some is =
+    inr (record {
+      ended = ended;
+      before = before;
+      after = after;
+      fine = fine;
+      run = run;
+      last = inl (is, (λ text wrote. took_all old first new text (appends_then _ _ _ text (subst (λ t. Appends t after.told text) told wrote) (all refl))));
+    })
+behind ends before after ended o false old first new fine told run all some is =
+    inr (record {
+      ended = ended;
+      before = before;
+      after = after;
+      fine = fine;
+      run = run;
+      last = inr (is, (λ text wrote. took_some old first new some.0 text (appends_then _ _ _ text (subst (λ t. Appends t after.told text) told wrote) some.1)));
+    })
 
-pub behind : (ends : SinkView → SinkView → Outcome → Type 0) (before after : SinkView) (ended o : Outcome) (failed : Bool)
-    → before.mark ≡ «marks».Fine → ends before after ended → o ≡ (if failed then flushed ended else ended) → Buffered ends o
-behind ends before after ended o failed fine run is =
-    inr (record { ended = ended; before = before; after = after; fine = fine; run = run; last = flushed_or failed ended o is })
+pub behind_told : (known : Option Files) (meta types : List ℕ) (workers ring : ℕ) (layout : Layout) (before after : SinkView) (ended o : Outcome) (done : Bool)
+    (old first new : Option (List ℕ)) → before.mark ≡ «marks».Fine → before.told ≡ told_behind old old []
+    → IfSome known (λ files. EndsOver files meta types workers ring layout before after ended)
+    → (done ≡ true → Keeps after.told (told_behind first new [])) → (rest : List ℕ) × Keeps after.told (told_behind first new rest)
+    → o ≡ (if done then ended else flushed ended)
+    → IfSome known (λ files. Buffered (EndsOver files meta types workers ring layout) old new o)
+behind_told None meta types workers ring layout before after ended o done old first new fine told run all some ends = tt
+behind_told (Some files) meta types workers ring layout before after ended o done old first new fine told run all some ends =
+    behind (EndsOver files meta types workers ring layout) before after ended o done old first new fine told run all some ends
 
-pub behind_told : (known : Option Files) (meta types : List ℕ) (workers ring : ℕ) (layout : Layout) (before after : SinkView) (ended o : Outcome) (failed : Bool) → before.mark ≡ «marks».Fine
-    → IfSome known (λ files. EndsOver files meta types workers ring layout before after ended) → o ≡ (if failed then flushed ended else ended)
-    → IfSome known (λ files. Buffered (EndsOver files meta types workers ring layout) o)
-behind_told None meta types workers ring layout before after ended o failed fine run is = tt
-behind_told (Some files) meta types workers ring layout before after ended o failed fine run is =
-    behind (EndsOver files meta types workers ring layout) before after ended o failed fine run is
-
-pub no_buffer : (known : Option Files) (meta types : List ℕ) (workers ring : ℕ) (layout : Layout) (o : Outcome) → o ≡ no_memory
-    → IfSome known (λ files. Buffered (EndsOver files meta types workers ring layout) o)
-no_buffer None meta types workers ring layout o is = tt
-no_buffer (Some files) meta types workers ring layout o is = inl is
+pub no_buffer : (known : Option Files) (meta types : List ℕ) (workers ring : ℕ) (layout : Layout) (o : Outcome) (held : Option (List ℕ)) → o ≡ no_memory
+    → IfSome known (λ files. Buffered (EndsOver files meta types workers ring layout) held held o)
+no_buffer None meta types workers ring layout o held is = tt
+no_buffer (Some files) meta types workers ring layout o held is = inl (is, keeps_same held)

@@ -1,10 +1,9 @@
 -- The definitions on worked cases.
-use Rattle.std.proofs.Common.{◌≡◌, ◌++◌, ◌∷◌, [], ℕ, List, Some, None, Ok, Err, true, false, codes, inl, inr, map, refl, take, if◌then◌else◌}
+use Rattle.std.proofs.Common.{◌≡◌, ◌++◌, ◌∷◌, [], ℕ, List, Some, None, true, false, codes, inl, inr, map, refl, if◌then◌else◌}
 use Rattle.std.specs.Fmt.{digits}
 use Rattle.std.specs.Borrow.{Bor}
-use Rattle.std.specs.Str.{bytes_eq, chars, is_utf8}
+use Rattle.std.specs.Str.{bytes_eq, chars}
 use lib.Utf8.{encode}
-use Rattle.serde_json.specs.Data.{Data, Members, member, no_members, object, string}
 use Rattle.clap.proofs.OnLiterals.{clap_on_literals}
 use Rattle.clap.specs.Words.{Row, Text, fault_of, first_of, matches_of, one_of}
 use Rattle.clap.specs.declared.error.kind.ErrorKind.TheVariants as kind
@@ -16,29 +15,25 @@ use Rattle.oim_json.specs.declared.layout.Layout.{Layout}
 use Rattle.oim_json.specs.declared.mark.WriteFault.TheVariants as write
 use Rattle.oim_merge.specs.Merging.{Merges}
 use Rattle.oim_merge.specs.declared.progress.MergeEnd.TheVariants as end
-use Rattle.oim_meta.specs.BadParameters.{has_bad_parameter_url}
-use Rattle.oim_meta.specs.Faults.{has_no_report}
-use Rattle.oim_meta.specs.PlainPath.{is_plain_path}
 use Rattle.oim_report.specs.Readers.{no_level}
 use Rattle.oim_report.specs.ReportValue.{ReportValue}
 use Rattle.oim_report.specs.declared.data.Table.{Table}
 use Rattle.oim_meta.specs.declared.fault.MetaFault.TheVariants as refused
-use Rattle.oim_report.specs.declared.limits.Limits.{Limits}
 use Rattle.oim_resolve.specs.declared.fact.CellFault.TheVariants as cell
 use Rattle.oim_ring.specs.declared.item.Item.{Item}
 use Rattle.oim_rows.specs.Header.{fault_at}
 use Rattle.oim_rows.specs.declared.fault.TableFault.{TableFault}
 use Rattle.oim_rows.specs.declared.fault.TableKind.TheVariants as table
 use Rattle.oim_run.specs.CommandLine.{AreLayouts, Words, command_line, is_given}
-use Rattle.oim_run.specs.Conversion.{flushed, profile}
-use Rattle.oim_run.specs.Folders.{Files, first_at}
-use Rattle.oim_run.specs.Lines.{line_of, shown, status_of, terminal_line_of, unprinted_status, words_status}
-use Rattle.oim_run.specs.Metadata.{json_of, read_as, url_in}
+use Rattle.oim_run.specs.Conversion.{flushed}
+use Rattle.oim_files.specs.Folders.{Files}
+use Rattle.oim_run.specs.Lines.{line_of, status_of, terminal_line_of, unprinted_status, words_status}
 use Rattle.oim_run.specs.Naming.{outcome_at}
 use Rattle.oim_run.specs.Outcomes.{AreDefined, Gives, Leaves, refused_tables, table_ids}
 use Rattle.oim_run.specs.Runs.{range_fault, table_files}
-use Rattle.oim_run.specs.Steps.{Stops, looking, metadata_steps, no_memory, opening, parameters_steps, reading, step, types_steps, value_or}
-use Rattle.oim_run.specs.declared.outcome.Source.TheVariants as source
+use Rattle.oim_run.specs.Early.{outcome_of}
+use Rattle.oim_files.specs.declared.early_fault.EarlyFault.TheVariants as early
+use Rattle.oim_files.specs.declared.early_fault.Source.TheVariants as source
 use Rattle.oim_run.specs.declared.outcome.Outcome.TheVariants as outcome
 
 -- ---- the command line
@@ -57,7 +52,7 @@ abbrev least : List Text
 least = codes "m.json" ∷ codes "--types" ∷ codes "t.csv" ∷ []
 
 abbrev full : List Text
-full = codes "--out" ∷ codes "o.json" ∷ codes "--workers" ∷ codes "64" ∷ codes "--ring=2" ∷ codes "--layout" ∷ codes "lines" ∷ codes "--progress" ∷ codes "--whole" ∷ codes "--explain" ∷ least
+full = codes "--out" ∷ codes "o.json" ∷ codes "--workers" ∷ codes "64" ∷ codes "--ring=2" ∷ codes "--layout" ∷ codes "lines" ∷ codes "--progress" ∷ codes "--whole" ∷ codes "--explain" ∷ codes "--faults" ∷ codes "f.csv" ∷ least
 
 abbrev given : List Text → List Row
 given words = matches_of (command_line layouts) words
@@ -130,6 +125,14 @@ full_explain : is_given (first_of (codes "explain") (given full)) ≡ true
 unfolding clap_on_literals command_line
 full_explain = refl
 
+least_faults : first_of (codes "faults") (given least) ≡ None
+unfolding clap_on_literals command_line
+least_faults = refl
+
+full_faults : first_of (codes "faults") (given full) ≡ Some (codes "f.csv")
+unfolding clap_on_literals command_line
+full_faults = refl
+
 least_taken : fault_of (command_line layouts) least ≡ []
 unfolding clap_on_literals command_line
 least_taken = refl
@@ -179,103 +182,17 @@ another_word : fault_of (command_line layouts) (codes "more.json" ∷ least) ≡
 unfolding clap_on_literals command_line
 another_word = refl
 
--- ---- the limits
-
-limits : profile ≡ record { rows = 100_000_000; tables = 4_096; columns = 4_096; metadata = 67_108_864 }
-limits = refl
-
--- ---- the metadata
-
--- a report with these members
-abbrev csv_with : Members → Data
-csv_with members = object (member (codes "documentInfo") (object (member (codes "documentType") (string (codes "https://xbrl.org/2021/xbrl-csv")) no_members)) members)
-
-abbrev two_bytes : Limits
-two_bytes = record profile { metadata = 2 }
-
--- a metadata of as many bytes as the limit is read, one of more is not
-metadata_at_the_limit : read_as {A = ℕ} two_bytes (λ _. Ok 0) (255 ∷ 255 ∷ []) ≡ Err refused.Syntax
-unfolding is_utf8 chars
-metadata_at_the_limit = refl
-
-metadata_past_the_limit : read_as {A = ℕ} two_bytes (λ _. Ok 0) (255 ∷ 255 ∷ 255 ∷ []) ≡ Err refused.TooLarge
-metadata_past_the_limit = refl
-
--- a byte-order mark is passed over, and a text that is not UTF-8 is not JSON
-json_after_a_mark : json_of (239 ∷ 187 ∷ 191 ∷ codes "null") ≡ json_of (codes "null")
-unfolding is_utf8 chars encode
-json_after_a_mark = refl
-
-json_without_utf8 : json_of (255 ∷ []) ≡ None
-unfolding is_utf8 chars encode
-json_without_utf8 = refl
-
-named_file : url_in (csv_with (member (codes "parameterURL") (string (codes "p.csv")) no_members)) ≡ Ok (Some (codes "p.csv"))
-unfolding has_no_report has_bad_parameter_url is_plain_path
-named_file = refl
-
-no_named_file : url_in (csv_with no_members) ≡ Ok None
-unfolding has_no_report has_bad_parameter_url is_plain_path
-no_named_file = refl
-
-named_file_above : url_in (csv_with (member (codes "parameterURL") (string (codes "../p.csv")) no_members)) ≡ Err refused.BadParameter
-unfolding has_no_report has_bad_parameter_url is_plain_path
-named_file_above = refl
-
 -- ---- the files
 
--- the first of two files with one path
-first_files : map (first_at ((word (codes "a"), word (codes "1")) ∷ (word (codes "b"), word (codes "2")) ∷ (word (codes "a"), word (codes "3")) ∷ []))
-    (codes "a" ∷ codes "b" ∷ codes "c" ∷ []) ≡ Some (codes "1") ∷ Some (codes "2") ∷ None ∷ []
-first_files = refl
+early_outcomes : map outcome_of (early.Report source.Types refused.BadTypes ∷ early.CannotRead (codes "x.csv") ∷ early.Memory ∷ [])
+    ≡ outcome.Report source.Types refused.BadTypes ∷ outcome.CannotRead (codes "x.csv") ∷ outcome.Run fault.Memory ∷ []
+early_outcomes = refl
 
 abbrev held : Files
 held path = if bytes_eq path (codes "f/m.json") then Some (codes "{")
     else if bytes_eq path (codes "f/t1.csv") then Some (codes "cash\n")
     else if bytes_eq path (codes "f/types.csv") then Some (codes "name\n")
     else None
-
-missing_metadata : map (λ s. s.fault) (metadata_steps held (codes "x.json")) ≡ Some (outcome.CannotRead (codes "x.json")) ∷ None ∷ []
-missing_metadata = refl
-
-missing_types : map (λ s. s.fault) (metadata_steps held (codes "f/m.json") ++ opening held (codes "x.csv") ∷ []) ≡ None ∷ None ∷ Some (outcome.CannotRead (codes "x.csv")) ∷ []
-missing_types = refl
-
-wrong_types : reading {A = ReportValue} source.Types (Err refused.BadTypes)
-    ≡ step (Some (outcome.Report source.Types refused.BadTypes)) (outcome.Report source.Types refused.Read ∷ outcome.Report source.Types refused.Memory ∷ [])
-wrong_types = refl
-
--- the types table is opened and read, and then the parameters file
-unread_types : map (λ s. s.refusals) (types_steps held (codes "f/types.csv"))
-    ≡ (no_memory ∷ []) ∷ (outcome.Report source.Types refused.Read ∷ outcome.Report source.Types refused.Memory ∷ []) ∷ []
-unread_types = refl
-
-unread_parameters : map (λ s. s.refusals) (parameters_steps held (codes "f/") (Some (codes "p.csv")))
-    ≡ (no_memory ∷ []) ∷ (outcome.Report source.Parameters refused.Read ∷ outcome.Report source.Parameters refused.Memory ∷ []) ∷ []
-unread_parameters = refl
-
-wrong_url : looking {A = ℕ} (Err refused.BadParameter) ≡ step (Some (outcome.Report source.Report refused.BadParameter)) (outcome.Report source.Report refused.Memory ∷ [])
-wrong_url = refl
-
-values : map (value_or []) (Ok (codes "p") ∷ Err refused.Syntax ∷ []) ≡ codes "p" ∷ [] ∷ []
-values = refl
-
-no_parameters : parameters_steps held (codes "f/") None ≡ []
-no_parameters = refl
-
-missing_parameters : map (λ s. s.fault) (take 1 (parameters_steps held (codes "f/") (Some (codes "p.csv")))) ≡ Some (outcome.CannotRead (codes "f/p.csv")) ∷ []
-missing_parameters = refl
-
-unread_metadata : map (λ s. s.refusals) (metadata_steps held (codes "f/m.json")) ≡ (no_memory ∷ []) ∷ (outcome.Report source.Report refused.Read ∷ no_memory ∷ []) ∷ []
-unread_metadata = refl
-
--- a run ends at the first file that is missing, or at a file that is there because memory runs out
-stops_at_the_second : Stops (opening held (codes "f/m.json") ∷ opening held (codes "x.csv") ∷ []) (outcome.CannotRead (codes "x.csv"))
-stops_at_the_second =
-    record { before = opening held (codes "f/m.json") ∷ []; here = opening held (codes "x.csv"); later = []; split = refl; passed = (refl, tt); ends = inl refl }
-
-stops_without_memory : Stops (opening held (codes "f/m.json") ∷ opening held (codes "x.csv") ∷ []) no_memory
-stops_without_memory = record { before = []; here = opening held (codes "f/m.json"); later = opening held (codes "x.csv") ∷ []; split = refl; passed = tt; ends = inr (inl refl) }
 
 abbrev first : Table
 first = record { id = codes "t1"; url = codes "t1.csv"; is_optional = false; template = 0; parameters = [] }
@@ -364,11 +281,6 @@ lines_for_a_terminal : map terminal_line_of (outcome.CannotRead (codes "a\nb" ++
     ≡ codes "xbrl-json: cannot read a\\x0ab\\x1b[31m\n" ∷ codes "xbrl-json: cannot write o\\x7f\\x9b\n" ∷ codes "xbrl-json: run: Memory (53)\n" ∷ []
 unfolding chars encode digits
 lines_for_a_terminal = refl
-
--- a letter of two bytes, and U+00A0, which comes behind the last control character
-shown_letters : shown (codes "a \\ z" ++ 195 ∷ 169 ∷ 194 ∷ 160 ∷ []) ≡ codes "a \\ z" ++ 195 ∷ 169 ∷ 194 ∷ 160 ∷ []
-unfolding chars encode
-shown_letters = refl
 
 unprinted_words : map unprinted_status (kind.DisplayHelp ∷ kind.DisplayVersion ∷ kind.OutOfMemory ∷ kind.UnknownArgument ∷ []) ≡ 3 ∷ 3 ∷ 3 ∷ 2 ∷ []
 unprinted_words = refl

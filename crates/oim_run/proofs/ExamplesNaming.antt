@@ -1,26 +1,17 @@
--- The names of refused tables, the outcomes of answers, and the steps in their order, on worked cases.
-use Rattle.std.specs.Prelude.{◌≡◌, ◌∷◌, [], ℕ, List, Some, None, Ok, Err, codes, map, if◌then◌else◌}
+-- The names of refused tables and the outcomes of answers, on worked cases.
+use Rattle.std.specs.Prelude.{◌≡◌, ◌∷◌, [], ℕ, List, Ok, Err, codes, map, if◌then◌else◌}
 use Rattle.std.specs.Global.{Vec}
-use Rattle.std.specs.Str.{bytes_eq, chars, is_utf8}
 use Rattle.std.proofs.Common.{ap, ◌∙◌, refl}
-use lib.Utf8.{encode}
-use Rattle.csv.specs.Machine.{next_record}
-use Rattle.csv.specs.Reading.{records_from, strip_bom}
 use Rattle.oim_convert.specs.declared.fault.ConvertFault.TheVariants as fault
 use Rattle.oim_convert.specs.declared.run.Run.{Run}
 use Rattle.oim_json.specs.declared.mark.WriteFault.TheVariants as write
 use Rattle.oim_merge.specs.declared.progress.MergeEnd.TheVariants as end
-use Rattle.oim_records.specs.Grids.{records_left}
-use Rattle.oim_meta.specs.declared.fault.MetaFault.TheVariants as refused
 use Rattle.oim_resolve.specs.declared.fact.CellFault.TheVariants as cell
 use Rattle.oim_rows.specs.Header.{fault_at}
 use Rattle.oim_rows.specs.declared.fault.TableFault.{TableFault}
 use Rattle.oim_rows.specs.declared.fault.TableKind.TheVariants as table
-use Rattle.oim_run.specs.Folders.{Files}
 use Rattle.oim_run.specs.Naming.{outcome_alone, outcome_at, outcome_by, with_names}
-use Rattle.oim_run.specs.Steps.{steps}
 use Rattle.oim_run.specs.declared.outcome.Outcome.TheVariants as outcome
-use Rattle.oim_run.specs.declared.outcome.Source.TheVariants as source
 
 -- NAMES
 abbrev names : List (List ℕ)
@@ -69,15 +60,3 @@ did_not_run_alone = refl
 tables_refused_alone : (faults : Vec TableFault) → faults.items ≡ bad_number ∷ no_file 2 ∷ []
     → outcome_alone names (Err (fault.Tables faults)) ≡ outcome.Tables ((codes "b", bad_number) ∷ (codes "c", no_file 2) ∷ [])
 tables_refused_alone faults is = ap (λ fs. outcome.Tables (with_names names fs)) is
-
--- STEPS
--- a metadata that is not UTF-8 and so not JSON, and no other file
-abbrev no_text : Files
-no_text path = if bytes_eq path (codes "f/m.json") then Some (255 ∷ []) else None
-
--- the metadata is opened and read, then the types table; then the metadata is looked at, for the parameters file and as a whole
-faults_in_order : map (λ s. s.fault) (steps no_text (codes "f/") (codes "f/m.json") (codes "x.csv"))
-    ≡ None ∷ None ∷ Some (outcome.CannotRead (codes "x.csv")) ∷ Some (outcome.Report source.Types refused.BadTypes)
-    ∷ Some (outcome.Report source.Report refused.Syntax) ∷ Some (outcome.Report source.Report refused.Syntax) ∷ []
-unfolding records_left records_from strip_bom next_record is_utf8 chars encode
-faults_in_order = refl

@@ -1,14 +1,11 @@
 mod CommandLine
+mod Waiting
 mod Endings
-mod Excerpts
-mod Findings
-mod ExamplesExplain
-mod FolderFacts
+mod FileFacts
 mod Names
 mod Beginnings
+mod Stopped
 mod Threads
 mod OneThread
-mod MetadataFacts
-mod StepFacts
 mod Examples
 mod ExamplesNaming

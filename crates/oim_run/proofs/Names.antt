@@ -43,7 +43,7 @@ own_ending : (table : ℕ) (o : Option TableFault) (x : TableFault) → IsOwn ta
 own_ending table None x own is = absurd (cc)
 own_ending table (Some a) x own is = refused_table (Refused a) x a is refl ∙ own.1
 
-given_table : (table : ℕ) (s : Stream) (facts : List Fact) (e : Endings.Ending) (x : TableFault) → IsGiven table s facts e → IsOwn table s.fault → e ≡ Refused x → x.table ≡ table
+pub given_table : (table : ℕ) (s : Stream) (facts : List Fact) (e : Endings.Ending) (x : TableFault) → IsGiven table s facts e → IsOwn table s.fault → e ≡ Refused x → x.table ≡ table
 given_table table s facts e x (inl whole) own is = own_ending table s.fault x own (sym whole.1 ∙ is)
 given_table table s facts e x (inr (inl unread)) own is = refused_table e x _ is unread.refused
 given_table table s facts e x (inr (inr short)) own is = refused_table e x _ is short.refused

@@ -22,6 +22,7 @@ use Rattle.oim_rows.specs.Streams.{Stream, facts_of}
 use Rattle.oim_rows.specs.declared.fault.TableFault.{TableFault}
 use Rattle.oim_run.proofs.Beginnings.{begun}
 use Rattle.oim_run.proofs.Names.{names_are}
+use Rattle.oim_run.proofs.Stopped.{stops}
 use Rattle.oim_run.proofs.Threads.{no_names, uncut}
 use Rattle.oim_run.specs.Naming.{outcome_alone, with_names}
 use Rattle.oim_run.specs.Outcomes.{AreDefined, EndsAs, Gives, Leaves, Refuses, table_ids}
@@ -79,6 +80,7 @@ module _ (layout : Layout) (report : ReportValue) (limit : ℕ) (files : List (O
       record {
         faults = faults;
         names = names_are report limit files r.histories names faults named (inl r.are) r.merged.0;
+        stops = stops layout report limit files old new faults written;
         given = record {
           written = written;
           begun = begun layout report said old new faults end.Refused written;

@@ -26,8 +26,9 @@ use Rattle.oim_rows.specs.Streams.{Stream}
 use Rattle.oim_rows.specs.declared.fault.TableFault.{TableFault}
 use Rattle.oim_run.proofs.Beginnings.{begun}
 use Rattle.oim_run.proofs.Names.{faults_few, names_are}
+use Rattle.oim_run.proofs.Stopped.{stopped}
 use Rattle.oim_run.specs.Naming.{outcome_at, outcome_by, with_names}
-use Rattle.oim_run.specs.Outcomes.{AreDefined, EndsAs, Gives, Leaves, refused_tables, table_ids}
+use Rattle.oim_run.specs.Outcomes.{AreDefined, EndsAs, Gives, Leaves, StopsInTable, refused_tables, table_ids}
 use Rattle.oim_run.specs.Runs.{range_fault}
 use Rattle.oim_run.specs.declared.outcome.Outcome.TheVariants as outcome
 
@@ -83,10 +84,11 @@ module _ (layout : Layout) (report : ReportValue) (ss : List Stream) (old new : 
       }
 
   ended : (names : List (List ℕ)) (faults : List TableFault) (e : MergeEnd) → with_names names faults ≡ refused_tables report faults → Gives layout report ss old new faults e
+      → (e ≡ end.Refused → StopsInTable layout report ss old new faults)
       → EndsAs layout None report ss old new (outcome_at names faults e)
-  ended names faults end.Complete named gives = subst (λ (l : List TableFault). Gives layout report ss old new l end.Complete) gives.written.merged.1.0 gives
-  ended names faults end.Refused named gives = record { faults = faults; names = named; given = gives }
-  ended names faults (end.Write w) named gives = (faults, gives)
+  ended names faults end.Complete named gives stop = subst (λ (l : List TableFault). Gives layout report ss old new l end.Complete) gives.written.merged.1.0 gives
+  ended names faults end.Refused named gives stop = record { faults = faults; names = named; given = gives; stops = stop refl }
+  ended names faults (end.Write w) named gives stop = (faults, gives)
 
 -- THE ANSWER
 
@@ -110,8 +112,9 @@ module _ (layout : Layout) (report : ReportValue) (limit : ℕ) (files : List (O
       → IfOk r (λ run. AreHistories said run.drains.items) → IfOk r (λ run. Headline layout report said old new run)
       → AnswersFault early r → Writes layout report (length report.tables) old new r → Outcome_of early r
   answered None (Ok run) never histories headline faults writes =
+      let gives = run_gives layout report said old new run histories headline writes in
       ended layout report said old new names run.faults.items run.end (names_are report limit files run.drains.items names run.faults.items named histories writes.merged.0)
-      (run_gives layout report said old new run histories headline writes)
+      gives (stopped layout report limit files old new run.faults.items run.end gives.written)
   answered None (Err fault.Memory) never histories headline faults writes = writes
   answered None (Err fault.Lost) never histories headline faults writes = writes
   answered None (Err fault.BadWorkers) never histories headline faults writes = absurd faults

@@ -52,9 +52,10 @@ inputs = with_rule
 abbrev pub AreLayouts : Words → Type 0
 AreLayouts words = map (λ w. w.now) words.now ≡ codes "compact" ∷ codes "lines" ∷ []
 
--- META --types FILE [--workers N] [--ring K] [--out FILE] [--whole] [--layout WORD] [--progress] [--explain]
+-- META --types FILE [--workers N] [--ring K] [--out FILE] [--whole] [--layout WORD] [--progress] [--explain] [--faults FILE]
 unfoldable pub command_line : Words → App
 command_line layouts = with_rule
+    (with_rule
     (with_rule
     (with_rule
     (with_rule
@@ -67,7 +68,8 @@ command_line layouts = with_rule
     (flag (codes "whole")))
     (word_option (codes "layout") layouts (codes "compact")))
     (flag (codes "progress")))
-    (flag (codes "explain"))
+    (flag (codes "explain")))
+    (option (codes "faults"))
 
 -- the option has a text, which is n in decimal digits
 abbrev pub IsNumberOf : Option Text → ℕ → Type 0
@@ -93,12 +95,13 @@ HasSettings rows s = (first_of (codes "meta") rows ≡ Some s.meta)
     × (first_of (codes "out") rows ≡ s.out)
     × IsLayoutOf (first_of (codes "layout") rows) s.layout
 
--- the same, with the flags that are given of those that no setting of a run has
+-- the same, with the flags that are given of those that no setting of a run has, and the file of the tables' faults
 abbrev pub HasRequest : List Row → Request → Type 0
 HasRequest rows q = HasSettings rows q.settings
     × (q.whole ≡ is_given (first_of (codes "whole") rows))
     × (q.progress ≡ is_given (first_of (codes "progress") rows))
     × (q.explain ≡ is_given (first_of (codes "explain") rows))
+    × (first_of (codes "faults") rows ≡ q.faults)
 
 -- the answer to the words: a value that has what they give, or a refusal of one of the kinds that the command line gives
 pub record Answers {X : Type 0} (has : List Row → X → Type 0) (line : App) (words : List Text) (r : Result X Error) : Type 0 where

@@ -1,6 +1,8 @@
 -- The outcome of converting a report whose files are given by their bytes.
 -- xBRL-CSV 1.0 (the metadata and the table files), xBRL-JSON 1.0 (the document).
 use Rattle.std.specs.Prelude.{◌≡◌, ◌⊎◌, length, ℕ, List, [], Option, Result, Ok, Err}
+use mathlib.Core.List.{IsPrefix}
+use Rattle.std.specs.Io.KnownBytes.{Appends, Keeps}
 use Rattle.oim_meta.specs.CsvFiles.{OrOutside}
 use Rattle.oim_records.specs.Grids.{grid}
 use Rattle.oim_meta.specs.Reading.{SaysReport, IsFault}
@@ -19,11 +21,7 @@ use Rattle.oim_convert.specs.declared.fault.ConvertFault.TheVariants as fault
 use Rattle.oim_run.specs.Outcomes.{EndsAs}
 use Rattle.oim_run.specs.declared.outcome.Outcome.{Outcome}
 use Rattle.oim_run.specs.declared.outcome.Outcome.TheVariants as outcome
-use Rattle.oim_run.specs.declared.outcome.Source.TheVariants as source
-
--- the limits of this profile
-abbrev pub profile : Limits
-profile = record { rows = 100_000_000; tables = 4_096; columns = 4_096; metadata = 67_108_864 }
+use Rattle.oim_files.specs.declared.early_fault.Source.TheVariants as source
 
 -- a conversion's number of workers, ring size and layout, the limits of the report, and the bytes of its metadata, its types table and the
 -- files of its tables
@@ -81,15 +79,24 @@ flushed outcome.Done = outcome.Output write.Failed
 flushed (outcome.Tables named) = outcome.Output write.Failed
 flushed o = o
 
--- a run to a writer through a buffer: the run ended like this at the buffer, which was then flushed
-pub record EndsBehind (ends : SinkView → SinkView → Outcome → Type 0) (o : Outcome) : Type 0 where
+-- what was written to a sink on the way from one view of it to the other, a writer holds behind what it held
+abbrev pub HoldsAll : (before after : SinkView) (old new : Option (List ℕ)) → Type 0
+HoldsAll before after old new = (text : List ℕ) → Appends before.told after.told text → Appends old new text
+
+-- the same of a beginning of it
+abbrev pub HoldsSome : (before after : SinkView) (old new : Option (List ℕ)) → Type 0
+HoldsSome before after old new = (text : List ℕ) → Appends before.told after.told text → (first : List ℕ) × IsPrefix first text × Appends old new first
+
+-- a run to a writer, of which old and new are what it holds, through a buffer: the run ended like this at the buffer, and the writer holds
+-- all that was written there; or the buffer could not be flushed at the end, and the writer holds a beginning of that
+pub record EndsBehind (ends : SinkView → SinkView → Outcome → Type 0) (old new : Option (List ℕ)) (o : Outcome) : Type 0 where
   pub ended : Outcome
   pub before : SinkView
   pub after : SinkView
   pub fine : before.mark ≡ «marks».Fine
   pub run : ends before after ended
-  pub last : (o ≡ ended) ⊎ (o ≡ flushed ended)
+  pub last : ((o ≡ ended) × HoldsAll before after old new) ⊎ ((o ≡ flushed ended) × HoldsSome before after old new)
 
--- the same, or memory ran out for the buffer
-abbrev pub Buffered : (SinkView → SinkView → Outcome → Type 0) → Outcome → Type 0
-Buffered ends o = (o ≡ outcome.Run fault.Memory) ⊎ EndsBehind ends o
+-- the same, or memory ran out for the buffer, and nothing is written
+abbrev pub Buffered : (SinkView → SinkView → Outcome → Type 0) → (old new : Option (List ℕ)) → Outcome → Type 0
+Buffered ends old new o = ((o ≡ outcome.Run fault.Memory) × Keeps old new) ⊎ EndsBehind ends old new o

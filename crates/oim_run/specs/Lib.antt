@@ -1,11 +1,9 @@
+pub mod Buffers
 pub mod CommandLine
 pub mod Conversion
-pub mod Explanations
-pub mod Folders
-pub mod LineNumbers
+pub mod Early
 pub mod Lines
-pub mod Metadata
 pub mod Naming
 pub mod Outcomes
+pub mod Outputs
 pub mod Runs
-pub mod Steps

@@ -1,17 +1,17 @@
 -- What the program says of each outcome: its exit status, and its lines on standard error.
-use Rattle.std.specs.Prelude.{ℕ, ◌+◌, ◌/◌, ◌%◌, nat_lt, if◌then◌else◌, List, [], ◌∷◌, ◌++◌, chars, codes, encode_utf8, flat_map}
-use Rattle.std.specs.Char.{is_control}
+use Rattle.std.specs.Prelude.{ℕ, List, [], ◌∷◌, ◌++◌, codes}
 use Rattle.std.specs.Fmt.{decimal}
 use Rattle.clap.specs.declared.error.kind.ErrorKind.{ErrorKind}
 use Rattle.clap.specs.declared.error.kind.ErrorKind.TheVariants as kind
 use Rattle.oim_meta.specs.FaultNames.{fault_name, fault_number}
 use Rattle.oim_rows.specs.FaultNames as table_fault
 use Rattle.oim_convert.specs.FaultNames as convert_fault
+use Rattle.oim_explain.specs.Shown.{shown}
 use Rattle.oim_rows.specs.declared.fault.TableFault.{TableFault}
 use Rattle.oim_run.specs.declared.outcome.Outcome.{Outcome}
 use Rattle.oim_run.specs.declared.outcome.Outcome.TheVariants as outcome
-use Rattle.oim_run.specs.declared.outcome.Source.{Source}
-use Rattle.oim_run.specs.declared.outcome.Source.TheVariants as source
+use Rattle.oim_files.specs.declared.early_fault.Source.{Source}
+use Rattle.oim_files.specs.declared.early_fault.Source.TheVariants as source
 
 abbrev pub status_of : Outcome → ℕ
 status_of outcome.Done = 0
@@ -70,22 +70,6 @@ line_of (outcome.Run f) = fault_text (codes "run") (convert_fault.name_of f) (co
 line_of (outcome.Output f) = codes "xbrl-json: output: Write (56)" ++ 10 ∷ []
 
 -- ---- on a terminal
-
--- the hexadecimal digit of a number below 16
-abbrev pub hex_digit : ℕ → ℕ
-hex_digit n = if nat_lt n 10 then 48 + n else 87 + n
-
--- \x and the two hexadecimal digits of a character's code
-abbrev pub escape_of : ℕ → List ℕ
-escape_of c = 92 ∷ 120 ∷ hex_digit (c / 16) ∷ hex_digit (c % 16) ∷ []
-
--- a control character (U+0000 to U+001F, U+007F to U+009F) by its code, any other as itself
-abbrev pub shown_char : ℕ → List ℕ
-shown_char c = if is_control c then escape_of c else encode_utf8 c
-
--- a text as a terminal is shown it: it gives no order, and no line ends in it
-abbrev pub shown : List ℕ → List ℕ
-shown text = flat_map shown_char (chars text)
 
 -- the lines for an outcome, where no path has a control character
 abbrev pub terminal_line_of : Outcome → List ℕ

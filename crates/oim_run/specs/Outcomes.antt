@@ -1,6 +1,6 @@
 -- What the outcome of a conversion means, for every number of workers and every ring size.
 -- xBRL-CSV 1.0 (a report is the facts of its tables), xBRL-JSON 1.0 (the document).
-use Rattle.std.specs.Prelude.{⊤, ◌≡◌, ◌⊎◌, map, slice_index_or, length, ℕ, List, [], ◌∷◌, Option, Some, None}
+use Rattle.std.specs.Prelude.{⊤, ◌≡◌, ◌⊎◌, ◌+◌, ◌++◌, map, slice_index_or, length, ℕ, List, [], ◌∷◌, Option, Some, None}
 use mathlib.Core.List.{IsPrefix}
 use Rattle.std.specs.Io.KnownBytes.{Appends}
 use Rattle.oim_convert.specs.Answer.{IsAnswer, answer_text}
@@ -8,13 +8,16 @@ use Rattle.oim_convert.specs.Runs.{AreHistories, IsLost, IsOuter}
 use Rattle.oim_convert.specs.WrittenHistories.{WritesHistories}
 use Rattle.oim_convert.specs.declared.fault.ConvertFault.{ConvertFault}
 use Rattle.oim_convert.specs.declared.fault.ConvertFault.TheVariants as fault
-use Rattle.oim_json.specs.Sinks.{SinkView, Unwritten, mark_of}
+use Rattle.oim_json.specs.Document.{text_after}
+use Rattle.oim_json.specs.JsonText.{head_text}
+use Rattle.oim_json.specs.Sinks.{SinkView, Unwritten, Wrote, mark_of}
 use Rattle.oim_json.specs.declared.layout.Layout.{Layout}
 use Rattle.oim_merge.specs.declared.progress.MergeEnd.{MergeEnd}
 use Rattle.oim_merge.specs.declared.progress.MergeEnd.TheVariants as end
 use Rattle.oim_report.specs.Readers.{table_of}
 use Rattle.oim_report.specs.ReportValue.{ReportValue}
-use Rattle.oim_rows.specs.Streams.{Stream}
+use Rattle.oim_resolve.specs.FactParts.{FactParts as Fact}
+use Rattle.oim_rows.specs.Streams.{Stream, facts_of}
 use Rattle.oim_rows.specs.declared.fault.TableFault.{TableFault}
 use Rattle.oim_run.specs.declared.outcome.Outcome.{Outcome}
 use Rattle.oim_run.specs.declared.outcome.Outcome.TheVariants as outcome
@@ -52,11 +55,41 @@ pub record Gives (layout : Layout) (report : ReportValue) (ss : List Stream) (ol
   pub answer : AreDefined faults → IsAnswer layout report ss old new faults e
   pub begun : Begins layout report ss old new
 
--- the refused tables, and the unfinished document up to and including the first of them
+-- all facts of these tables, in order
+abbrev pub facts_of_tables : List Stream → List Fact
+facts_of_tables [] = []
+facts_of_tables (s ∷ ss) = facts_of s ++ facts_of_tables ss
+
+-- none of these tables has a fault
+abbrev pub AreSound : List Stream → Type 0
+AreSound [] = ⊤
+AreSound (s ∷ ss) = (s.fault ≡ None) × AreSound ss
+
+-- the facts of tables, the first of which is table i, up to the refused one that has this fault: all facts of those before it, which have no
+-- fault, and the first of its own
+pub record StopsAt (i : ℕ) (ss : List Stream) (f : TableFault) (written : List Fact) : Type 0 where
+  pub before : List Stream
+  pub here : Stream
+  pub later : List Stream
+  pub tables : ss ≡ before ++ here ∷ later
+  pub place : f.table ≡ i + length before
+  pub sound : AreSound before
+  pub first : List Fact
+  pub some : IsPrefix first (facts_of here)
+  pub facts : written ≡ facts_of_tables before ++ first
+
+-- the unfinished document of these facts is written, where the tables have these faults
+abbrev pub StopsInTable : Layout → ReportValue → List Stream → SinkView → SinkView → List TableFault → Type 0
+StopsInTable layout report ss old new [] = ⊥
+StopsInTable layout report ss old new (f ∷ faults) = (facts : List Fact) × StopsAt 0 ss f facts × Wrote old new (text_after layout (head_text report) facts)
+
+-- the refused tables, and the unfinished document up to and including the first of them: whatever its fault, it has all facts of the tables
+-- before that one and a beginning of its own
 pub record Refuses (layout : Layout) (report : ReportValue) (ss : List Stream) (old new : SinkView) (named : List (List ℕ × TableFault)) : Type 0 where
   pub faults : List TableFault
   pub names : named ≡ refused_tables report faults
   pub given : Gives layout report ss old new faults end.Refused
+  pub stops : StopsInTable layout report ss old new faults
 
 -- a conversion that broke off: memory ran out, and nothing is written, or the end of a ring was lost
 abbrev pub Breaks : Layout → ReportValue → SinkView → SinkView → ConvertFault → Type 0

@@ -7,10 +7,11 @@ use Rattle.oim_json.specs.Sinks.{SinkView, Unwritten}
 use Rattle.oim_json.specs.declared.layout.Layout.{Layout}
 use Rattle.oim_report.specs.ReportValue.{ReportValue}
 use Rattle.oim_report.specs.declared.data.Table.{Table}
-use Rattle.oim_run.specs.Conversion.{profile}
-use Rattle.oim_run.specs.Folders.{Files, IsFolderOf}
+use Rattle.oim_files.specs.Metadata.{profile}
+use Rattle.oim_files.specs.Folders.{Files, IsFolderOf}
 use Rattle.oim_run.specs.Outcomes.{EndsAs}
-use Rattle.oim_run.specs.Steps.{Passes, Stops, report_at, steps}
+use Rattle.oim_files.specs.Steps.{Passes, report_at, steps}
+use Rattle.oim_run.specs.Early.{EndsAt}
 use Rattle.oim_run.specs.declared.outcome.Outcome.{Outcome}
 
 -- the file of a table, if the folder has one at the table's path
@@ -37,4 +38,4 @@ pub record Converted (files : Files) (base meta types : List ℕ) (workers ring 
 pub record EndsOver (files : Files) (meta types : List ℕ) (workers ring : ℕ) (layout : Layout) (old new : SinkView) (o : Outcome) : Type 0 where
   pub base : List ℕ
   pub folder : IsFolderOf base meta
-  pub ends : (Stops (steps files base meta types) o × Unwritten old new) ⊎ Converted files base meta types workers ring layout old new o
+  pub ends : (EndsAt (steps files base meta types) o × Unwritten old new) ⊎ Converted files base meta types workers ring layout old new o

@@ -1,26 +1,30 @@
-//! Runs that write their document through a buffer, which is flushed at the end.
+//! Runs that write their document to a writer through a buffer, which is flushed at the end.
 
-ghost use Rattle.std.specs.Prelude.{◌≡◌, IfSome, Some, [], ◌∷◌, is_err, if◌then◌else◌};
+ghost use Rattle.std.specs.Prelude.{◌≡◌, IfSome, Some, [], ◌∷◌, if◌then◌else◌};
 ghost use Rattle.oim_json.specs.declared.layout.Layout.TheVariants as layouts;
 ghost use Rattle.oim_json.specs.declared.mark.WriteFault.TheVariants as writes;
-ghost use Rattle.oim_run.specs.Conversion.{Buffered, Ends, flushed, profile, texts};
-ghost use Rattle.oim_run.specs.Runs.{EndsOver};
+ghost use Rattle.oim_files.specs.Metadata.{profile};
+ghost use Rattle.oim_run.specs.Conversion.{Buffered, Ends, flushed, texts};
+ghost use Rattle.oim_run.specs.Outcomes.{Leaves};
+ghost use Rattle.oim_run.specs.Runs.{EndsOver, range_fault};
 ghost use Rattle.oim_run.specs.declared.outcome.Outcome.TheVariants as outcomes;
 
+use crate::buffer::Buffer;
 use crate::conversion::convert_held;
-use crate::folder::Folder;
+use crate::early::no_memory;
 use crate::held::{METADATA, TABLE, TYPES};
 use crate::outcome::Outcome;
 use crate::running::run;
 use crate::settings::Settings;
-use crate::steps::no_memory;
-use oim_convert::ConvertFault;
-use oim_json::{Marked, WriteFault};
+use oim_files::Folder;
+use oim_json::WriteFault;
 use std::alloc::Global;
-use std::io;
-use std::io::{BufWriter, Read, Write};
+use std::io::{Read, Write};
 use std::sync::Wait;
 use std::thread::Threads;
+
+/// How many bytes may wait in the buffer.
+const ROOM: usize = 8192;
 
 /// Whether a document was written, whole or unfinished.
 fn has_document(outcome: &Outcome) -> bool
@@ -29,12 +33,12 @@ fn has_document(outcome: &Outcome) -> bool
     matches!(outcome, Outcome::Done | Outcome::Tables(_))
 }
 
-/// The outcome after the output was flushed. After a document, whole or unfinished, a flush that fails
-/// is a failed write.
-fn after_flush(outcome: Outcome, flush: io::Result<()>) -> Outcome
-    ensures { result ≡ (if is_err flush then flushed outcome else outcome) }
+/// The outcome after the output was flushed, or could not be. After a document, whole or unfinished, a
+/// flush that fails is a failed write.
+fn after_flush(outcome: Outcome, is_flushed: bool) -> Outcome
+    ensures { result ≡ (if is_flushed then outcome else flushed outcome) }
 {
-    if flush.is_err() && has_document(&outcome) {
+    if !is_flushed && has_document(&outcome) {
         Outcome::Output(WriteFault::Failed)
     } else {
         outcome
@@ -42,37 +46,47 @@ fn after_flush(outcome: Outcome, flush: io::Result<()>) -> Outcome
 }
 
 /// Runs over the files of a folder as [`run`] does, writes the document to a writer through a buffer, and
-/// flushes it. The answer is how the run ended; a failed flush after a document is a failed write. What the
-/// writer then holds stands in no clause: tests show it. Whoever wants one gives [`run`] a `Marked` of the
-/// writer, and takes it out by `into_writer`.
-pub fn run_to<R: Read + Drop + Send, F: Folder<R>, T: Threads + Wait + Sync, W: Write + Drop>(
+/// flushes it. The answer is how the run ended, and the writer; a failed flush after a document is a failed
+/// write.
+///
+/// Where the writer tells what it holds, it holds all that the run wrote, behind what it held: with `Done`
+/// the whole document, with `Tables` the unfinished one, and nothing more if the report has a fault. If the
+/// last flush failed, or a write before it, it holds a beginning of that.
+pub fn run_to<R: Read + Drop + Send, F: Folder<R>, T: Threads + Wait + Sync, W: Write>(
     rt: &T,
     alloc: Global,
     settings: &Settings,
     folder: &mut F,
     to: W,
-) -> Outcome
-    ensures { IfSome (F.files folder.old) (λ files.
-        Buffered (EndsOver files settings.now.meta settings.now.types settings.now.workers settings.now.ring settings.now.layout) result) }
+) -> (Outcome, W)
+    // For a folder that tells its files: how the run ends, and what the writer then holds.
+    ensures ends { IfSome (F.files folder.old) (λ files.
+        Buffered (EndsOver files settings.now.meta settings.now.types settings.now.workers settings.now.ring settings.now.layout)
+        (W.contents to) (W.contents result.1) result.0) }
+
+    // For every folder: what each outcome leaves behind.
+    ensures leaves { Buffered (Leaves (range_fault settings.now.workers settings.now.ring)) (W.contents to) (W.contents result.1) result.0 }
 {
-    let Ok(mut buffered) = BufWriter::with_capacity(alloc, 8192, to) else {
-        return no_memory();
+    let Ok(waiting) = Vec::with_capacity(alloc, ROOM) else {
+        return (no_memory(), to);
     };
-    let outcome = run(rt, alloc, settings, folder, &mut Marked::new(&mut buffered));
-    after_flush(outcome, buffered.flush())
+    let mut buffer = Buffer::new(to, waiting);
+    let outcome = run(rt, alloc, settings, folder, &mut buffer);
+    let (writer, is_flushed) = buffer.finish();
+    (after_flush(outcome, is_flushed), writer)
 }
 
-/// Converts the built-in report to a writer, and flushes it.
-pub fn convert_to<T: Threads + Wait + Sync, W: Write + Drop>(
-    rt: &T,
-    alloc: Global,
-    to: W,
-) -> Outcome
-    ensures { Buffered (Ends (texts 1 1 layouts.Compact profile METADATA.now TYPES.now (Some TABLE.now ∷ []))) result }
+/// Converts the built-in report to a writer through a buffer, and flushes it. The answer is how that ended,
+/// and the writer, which then holds what [`run_to`] says.
+pub fn convert_to<T: Threads + Wait + Sync, W: Write>(rt: &T, alloc: Global, to: W) -> (Outcome, W)
+    ensures { Buffered (Ends (texts 1 1 layouts.Compact profile METADATA.now TYPES.now (Some TABLE.now ∷ [])))
+        (W.contents to) (W.contents result.1) result.0 }
 {
-    let Ok(mut buffered) = BufWriter::with_capacity(alloc, 8192, to) else {
-        return Outcome::Run(ConvertFault::Memory);
+    let Ok(waiting) = Vec::with_capacity(alloc, ROOM) else {
+        return (no_memory(), to);
     };
-    let outcome = convert_held(rt, alloc, &mut Marked::new(&mut buffered));
-    after_flush(outcome, buffered.flush())
+    let mut buffer = Buffer::new(to, waiting);
+    let outcome = convert_held(rt, alloc, &mut buffer);
+    let (writer, is_flushed) = buffer.finish();
+    (after_flush(outcome, is_flushed), writer)
 }

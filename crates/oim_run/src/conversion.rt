@@ -9,12 +9,14 @@ ghost use Rattle.oim_convert.specs.declared.fault.ConvertFault.TheVariants as co
 ghost use Rattle.oim_json.specs.Sinks.{sink_at};
 ghost use Rattle.oim_json.specs.declared.layout.Layout.TheVariants as layouts;
 ghost use Rattle.oim_run.specs.Naming.{outcome_alone, outcome_by, with_names};
-ghost use Rattle.oim_run.specs.Conversion.{Ends, Reads, profile, texts};
+ghost use Rattle.oim_files.specs.Metadata.{profile};
+ghost use Rattle.oim_run.specs.Conversion.{Ends, Reads, texts};
 ghost use Rattle.oim_run.specs.Outcomes.{EndsAs, Leaves, name_in, table_ids};
 
 use crate::held::{METADATA, TABLE, TYPES};
-use crate::outcome::{Outcome, Source};
+use crate::outcome::Outcome;
 use oim_convert::{ConvertFault, LARGEST_RING, Run, convert, convert_serial};
+use oim_files::Source;
 use oim_json::{Layout, Sink};
 use oim_merge::MergeEnd;
 use oim_meta::{Limits, Parameters, Report, read_report, read_types};

@@ -9,7 +9,7 @@
 //!   refuses (`specs/CommandLine.antt`);
 //! - `run`, over any folder that tells its files honestly, ends as the files say (`specs/Runs.antt`). If
 //!   the metadata, the types table or the parameters file has a fault, the run ends with the first one,
-//!   in the order in which the files are read, and writes nothing (`specs/Steps.antt`). Otherwise it
+//!   in the order in which the files are read, and writes nothing (`specs/Early.antt`). Otherwise it
 //!   ends as the conversion of the report does: with the whole document in the given layout, or with
 //!   every refused table in table order, each by its identifier with its first fault, and the unfinished
 //!   document up to and including the first of them (`specs/Outcomes.antt`). This holds for every number
@@ -17,14 +17,18 @@
 //! - `convert_report` says the same of a report whose tables are given by readers, `convert_texts` of
 //!   one whose files are given by their bytes, and `convert_held` of the built-in report
 //!   (`specs/Conversion.antt`);
-//! - `run_to` and `convert_to` say how a run through a buffer ended: a flush that fails after a
-//!   document, whole or unfinished, is a failed write;
+//! - `run_to` and `convert_to` say how a run through a buffer ended, and what the writer behind it holds,
+//!   where that tells it: all that the run wrote, or a beginning of it where the last flush failed, which
+//!   after a document, whole or unfinished, is a failed write;
+//! - `convert_as` runs exactly one conversion, to the output that the settings name, and answers its
+//!   outcome; or none, if that output is written as an input's path (`specs/Outputs.antt`);
 //! - `status` and `line` give the exit status and the lines on standard error of each outcome, with one
 //!   line for each refused table, and `terminal_line` the same without a path's control characters
 //!   (`specs/Lines.antt`).
 //!
-//! What only tests show: what the writer behind the buffer holds, and that memory and threads, where
-//! they are given, are enough.
+//! It passes on what `oim_files` says of the files of a report, and `oim_explain` of a fault.
+//!
+//! What only tests show: that memory and threads, where they are given, are enough.
 //!
 //! A call:
 //!
@@ -43,27 +47,28 @@
 //! ```
 #![tactic(auto)]
 
+mod buffer;
 mod buffered;
 mod conversion;
-mod explain;
-mod folder;
+mod early;
 mod held;
 mod outcome;
+mod output;
 mod request;
 mod running;
 mod settings;
-mod steps;
-mod terminal;
 
 pub use buffered::{convert_to, run_to};
 pub use conversion::{convert_held, convert_report, convert_texts};
-pub use explain::{
-    Explanation, explain_metadata, explain_report, explain_table, explanation_text, report_again,
-};
-pub use folder::{Folder, Texts};
 pub use held::{METADATA, TABLE, TYPES};
-pub use outcome::{Outcome, Source, line, status, table_line, terminal_line};
+pub use oim_explain::{
+    Explanation, FaultPlace, ReportAgain, explain_metadata, explain_report, explain_table,
+    explanation_text, fault_header, fault_place, fault_row, lines_are_of_records, report_again,
+    shown,
+};
+pub use oim_files::{EarlyFault, Folder, Source, Texts};
+pub use outcome::{Outcome, line, status, table_line, terminal_line};
+pub use output::{Conversion, convert_as};
 pub use request::{Request, job, request_of};
 pub use running::run;
 pub use settings::Settings;
-pub use terminal::shown;

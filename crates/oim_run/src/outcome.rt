@@ -3,37 +3,14 @@
 ghost use Rattle.std.specs.Prelude.{◌≡◌, IfOk, string_bytes};
 ghost use Rattle.oim_run.specs.Lines.{fault_text, line_of, path_text, source_name, status_of, table_text, tables_text, terminal_line_of};
 
-use crate::terminal::shown;
 use oim_convert::ConvertFault;
+use oim_explain::shown;
+use oim_files::Source;
 use oim_json::WriteFault;
 use oim_meta::MetaFault;
 use oim_names::{Items, Text};
 use oim_rows::TableFault;
 use std::alloc::{AllocError, Global};
-
-/// The file that has a fault.
-#[derive(Clone, Copy)]
-pub enum Source {
-    /// The metadata.
-    Report,
-    /// The parameters file.
-    Parameters,
-    /// The types table.
-    Types,
-}
-
-impl Source {
-    /// The word that names the file in a line.
-    fn name(&self) -> &'static str
-        ensures { result.now ≡ source_name self.now }
-    {
-        match self {
-            Source::Report => "report",
-            Source::Parameters => "parameters",
-            Source::Types => "types",
-        }
-    }
-}
 
 /// How a run ended.
 #[derive(Drop)]
@@ -68,6 +45,17 @@ pub fn status(outcome: &Outcome) -> u8
         Outcome::CannotRead(_) | Outcome::CannotWrite(_) | Outcome::Run(_) | Outcome::Output(_) => {
             3
         }
+    }
+}
+
+/// The word that names a file in a line.
+fn source_word(source: Source) -> &'static str
+    ensures { result.now ≡ source_name source }
+{
+    match source {
+        Source::Report => "report",
+        Source::Parameters => "parameters",
+        Source::Types => "types",
     }
 }
 
@@ -116,7 +104,7 @@ pub fn line(alloc: Global, outcome: &Outcome) -> Result<String, AllocError>
     match outcome {
         Outcome::Done => Ok(String::new(alloc)),
         Outcome::Report(source, fault) => {
-            fault_line(alloc, source.name(), fault.name(), fault.number())
+            fault_line(alloc, source_word(*source), fault.name(), fault.number())
         }
         Outcome::Tables(named) => table_lines(alloc, named.as_slice()),
         Outcome::CannotRead(path) => path_line(alloc, "read", path.as_str()),

@@ -7,8 +7,9 @@ ghost use Rattle.oim_convert.specs.Limits.{IsWorkerCount};
 ghost use Rattle.oim_ring.specs.Limits.{IsRingSize};
 ghost use Rattle.oim_run.specs.CommandLine.{Answers, AreLayouts, HasRequest, HasSettings, Words, command_line};
 
-use crate::settings::{Settings, command, is_given, settings_in};
+use crate::settings::{Settings, command, is_given, path_of, settings_in};
 use clap::{ArgMatches, Error};
+use oim_names::Text;
 use std::alloc::{AllocError, Global};
 
 /// The words of the layouts.
@@ -25,6 +26,8 @@ pub struct Request {
     pub progress: bool,
     /// Whether standard error explains each fault to a person (`--explain`).
     pub explain: bool,
+    /// The path of the file for the faults of refused tables (`--faults`), `None` for no such file.
+    pub faults: Option<Text>,
 }
 
 /// The request in the matches. A parse of `command` always has one. Fails if memory runs out.
@@ -39,6 +42,7 @@ fn request_in(alloc: Global, matches: &ArgMatches<'_>) -> Result<Option<Request>
             whole: is_given(matches, "whole"),
             progress: is_given(matches, "progress"),
             explain: is_given(matches, "explain"),
+            faults: path_of(alloc, matches, "faults")?,
         })),
         None => Ok(None),
     }
@@ -67,9 +71,9 @@ fn request_by<'a>(
 }
 
 /// Reads the words of the command line, without the program's name: `META --types FILE [--workers N]
-/// [--ring K] [--out FILE] [--whole] [--layout compact|lines] [--progress] [--explain]`, with 4 workers,
-/// rings of 1,024 blocks and the compact layout unless the words say otherwise. There are 1 to 64
-/// workers, and a ring's size is 1 to 65,536 blocks.
+/// [--ring K] [--out FILE] [--whole] [--layout compact|lines] [--progress] [--explain] [--faults FILE]`,
+/// with 4 workers, rings of 1,024 blocks and the compact layout unless the words say otherwise. There are
+/// 1 to 64 workers, and a ring's size is 1 to 65,536 blocks.
 ///
 /// Fails exactly if the definition of the command line refuses the words, with one of the kinds that it
 /// gives, if they ask for help or the version, or if memory runs out. The error has the text to show.

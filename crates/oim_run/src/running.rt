@@ -3,17 +3,17 @@
 ghost use Rattle.std.specs.Prelude.{◌≡◌, IfSome, IfErr, IfOk, length};
 ghost use Rattle.oim_convert.specs.Answer.{streams};
 ghost use Rattle.oim_convert.specs.Files.{AreFilesOf};
+ghost use Rattle.oim_files.specs.Metadata.{profile};
 ghost use Rattle.oim_json.specs.Sinks.{sink_at};
-ghost use Rattle.oim_run.specs.Conversion.{profile};
+ghost use Rattle.oim_run.specs.Early as spec;
 ghost use Rattle.oim_run.specs.Outcomes.{EndsAs, Leaves};
 ghost use Rattle.oim_run.specs.Runs.{EndsOver, range_fault, table_files};
-ghost use Rattle.oim_run.specs.Steps as spec;
 
 use crate::conversion::convert_report;
-use crate::folder::{Folder, folder_of};
+use crate::early::{ended_early, no_memory};
 use crate::outcome::Outcome;
 use crate::settings::Settings;
-use crate::steps::{no_memory, path_in, report_of};
+use oim_files::{Folder, folder_of, path_in, report_of};
 use oim_json::Sink;
 use oim_meta::{Limits, Report};
 use std::alloc::Global;
@@ -121,6 +121,6 @@ pub fn run<R: Read + Drop + Send, F: Folder<R>, T: Threads + Wait + Sync, W: Sin
     let base = folder_of(meta);
     match report_of(alloc, folder, base, meta, types) {
         Ok(report) => run_tables(rt, alloc, settings, folder, base, &report, sink),
-        Err(outcome) => outcome,
+        Err(fault) => ended_early(fault),
     }
 }

@@ -15,7 +15,7 @@ use oim_names::Text;
 use std::alloc::{AllocError, Global};
 
 /// The program's version, and the kit that proves it, in the words of `rt version`.
-const VERSION: &str = "0.4.0 (proved with rattle-kit-13b logic dac8208d650f15bf)";
+const VERSION: &str = "0.5.0 (proved with rattle-kit-13f logic dac8208d650f15bf)";
 
 /// The help of each argument.
 const META_HELP: &str = "The metadata file of the report";
@@ -37,6 +37,8 @@ const LAYOUT_HELP: &str = "The document on one line, or with a line for each fac
 const PROGRESS_HELP: &str = "Show on standard error how much is read and written";
 
 const EXPLAIN_HELP: &str = "Say below each fault where it is and what stands there";
+
+const FAULTS_HELP: &str = "The file for the faults of refused tables, as CSV";
 
 /// The end of the help.
 const MORE_HELP: &str = r#"Example:
@@ -190,7 +192,9 @@ pub(crate) fn command<'a>(alloc: Global, layouts: &'a [&'a str]) -> Result<Comma
     let command = with(command, layout);
     let progress = flag(alloc, "progress", PROGRESS_HELP);
     let command = with(command, progress);
-    with(command, flag(alloc, "explain", EXPLAIN_HELP))
+    let explain = flag(alloc, "explain", EXPLAIN_HELP);
+    let command = with(command, explain);
+    with(command, option(alloc, "faults", "FILE", FAULTS_HELP))
 }
 
 /// The value that the argument `id` has.
@@ -198,6 +202,20 @@ fn value_of<'a>(matches: &ArgMatches<'a>, id: &str) -> Option<&'a str>
     ensures { option_map (λ s. s.now) result ≡ first_of id.now (rows_of (found_of matches.now)) }
 {
     matches.get_str(id)
+}
+
+/// The path that the option `id` has, if it is given. Fails if memory runs out.
+pub(crate) fn path_of(
+    alloc: Global,
+    matches: &ArgMatches<'_>,
+    id: &str,
+) -> Result<Option<Text>, AllocError>
+    ensures { IfOk result (λ o. o ≡ first_of id.now (rows_of (found_of matches.now))) }
+{
+    match value_of(matches, id) {
+        Some(path) => Ok(Some(Text::from_str(alloc, path)?)),
+        None => Ok(None),
+    }
 }
 
 /// Whether the flag `id` is given.
@@ -255,10 +273,7 @@ pub(crate) fn settings_in(
     ) else {
         return Ok(None);
     };
-    let out = match value_of(matches, "out") {
-        Some(path) => Some(Text::from_str(alloc, path)?),
-        None => None,
-    };
+    let out = path_of(alloc, matches, "out")?;
     Ok(Some(Settings {
         meta: Text::from_str(alloc, meta)?,
         types: Text::from_str(alloc, types)?,

@@ -13,6 +13,16 @@ fn shares_out(alloc: Global) -> Result<bool, AllocError> {
     Ok(made.1.len() == 1)
 }
 
+/// Whether the only seat of claims of one item draws it.
+fn draws_one(alloc: Global) -> Result<bool, AllocError> {
+    let items = vec![in alloc; 'a']?;
+    let (claims, mut seats) = Claims::new(alloc, items, 1)?;
+    match seats.pop() {
+        Some(mut seat) => Ok(claims.draw(&mut seat).is_some()),
+        None => Ok(false),
+    }
+}
+
 /// A server that gives each item back.
 #[derive(Drop)]
 struct Echo;
@@ -51,6 +61,7 @@ fn is_ready(alloc: Global) -> Result<bool, AllocError> {
 
 #[test]
 fn calls_of_crews(rt: HostRuntime) -> Result<(), Fail> {
-    assert!(rt; shares_out(rt.alloc())? && is_ready(rt.alloc())?);
+    assert!(rt; shares_out(rt.alloc())? && draws_one(rt.alloc())?);
+    assert!(rt; is_ready(rt.alloc())?);
     Ok(())
 }

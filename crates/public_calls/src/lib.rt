@@ -1,5 +1,5 @@
-//! Each public name of each library in one call, in the form in which a caller from outside writes it. The first call of a file is the
-//! one that its library's own page shows (`tests/public_calls.py` compares them).
+//! Each public name of the libraries below `oim_convert` in one call, in the form in which a caller from outside writes it. The first call
+//! of a file is the one that its library's own page shows (`tests/public_calls.py` compares them). The crate `call_tests` has the others.
 #![tactic(auto)]
 
 #[cfg(test)]
@@ -7,13 +7,13 @@ mod blocks;
 #[cfg(test)]
 mod cells;
 #[cfg(test)]
-mod conversions;
-#[cfg(test)]
 mod crews;
 #[cfg(test)]
 mod facts;
 #[cfg(test)]
 mod fast_rows;
+#[cfg(test)]
+mod files;
 #[cfg(test)]
 mod held;
 #[cfg(test)]
@@ -25,6 +25,8 @@ mod names;
 #[cfg(test)]
 mod periods;
 #[cfg(test)]
+mod pieces;
+#[cfg(test)]
 mod records;
 #[cfg(test)]
 mod reports;
@@ -32,8 +34,6 @@ mod reports;
 mod rings;
 #[cfg(test)]
 mod rows;
-#[cfg(test)]
-mod runs;
 #[cfg(test)]
 mod tables;
 #[cfg(test)]

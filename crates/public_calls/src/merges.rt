@@ -2,8 +2,8 @@
 
 ghost use Rattle.std.specs.Prelude.{◌≡◌, [], IfOk};
 
-use crate::held::{NIL_FACT, nil_fact};
-use oim_json::{Block, Layout, Marked, block_of};
+use crate::held::{NIL_FACT, nil_block};
+use oim_json::{Block, Layout, Marked};
 use oim_merge::{DocumentWriter, MergeEnd, merge};
 use oim_ring::{Drain, Ending, lane};
 use std::alloc::{AllocError, Global};
@@ -38,14 +38,13 @@ fn writes(alloc: Global, block: &Block) -> Result<bool, AllocError> {
     let mut writer = DocumentWriter::begin(Layout::Compact, b"", sink);
     writer.put(block, sink);
     writer.end_table(Ending::Closed, &mut faults);
-    let is_fine = writer.fault().is_none();
-    let end = writer.finish(sink);
-    Ok(is_fine && end == MergeEnd::Complete && document.as_slice().starts_with(NIL_FACT))
+    Ok(writer.finish(sink) == MergeEnd::Complete)
 }
 
 #[test]
 fn calls_of_merges(rt: HostRuntime) -> Result<(), Fail> {
-    let block = block_of(rt.alloc(), &[nil_fact(rt.alloc())?])?;
-    assert!(rt; writes(rt.alloc(), &block)? && merges(&rt, block)?);
+    let block = nil_block(rt.alloc())?;
+    assert!(rt; writes(rt.alloc(), &block)?);
+    assert!(rt; merges(&rt, block)?);
     Ok(())
 }

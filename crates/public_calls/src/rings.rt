@@ -2,8 +2,8 @@
 
 ghost use Rattle.std.specs.Prelude.{◌≡◌, IfOk};
 
-use crate::held::{NIL_FACT, nil_fact};
-use oim_json::{Block, block_of};
+use crate::held::{NIL_FACT, nil_block};
+use oim_json::Block;
 use oim_ring::{CloseFault, Closed, Drain, Drained, Ending, Feed, Item, LARGEST_RING, Lanes, lane};
 use std::alloc::{AllocError, Global};
 use std::test::Fail;
@@ -47,7 +47,8 @@ fn opens_another(alloc: Global) -> Result<bool, AllocError> {
 
 #[test]
 fn calls_of_rings(rt: HostRuntime) -> Result<(), Fail> {
-    let block = block_of(rt.alloc(), &[nil_fact(rt.alloc())?])?;
-    assert!(rt; hands_over(rt.alloc(), block)? && opens_another(rt.alloc())?);
+    let block = nil_block(rt.alloc())?;
+    assert!(rt; hands_over(rt.alloc(), block)?);
+    assert!(rt; opens_another(rt.alloc())?);
     Ok(())
 }

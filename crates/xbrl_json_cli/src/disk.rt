@@ -2,6 +2,7 @@
 
 ghost use Rattle.std.specs.Io.{ReadsAtMost};
 
+use crate::faults::FaultsFile;
 use crate::file_id::Written;
 use crate::progress::{Progress, Watched};
 use oim_run::Folder;
@@ -55,11 +56,13 @@ where
 /// does one that the run writes. A file that is looked for counts as missing only if the system says that
 /// there is no such file; any other that cannot be opened fails at its first read.
 #[derive(Drop)]
-pub struct Disk<'a, H> {
+pub struct Disk<'a, 'f, H> {
     /// The system.
     pub rt: &'a H,
     /// The files that the run writes: each file of the report is compared with them.
     pub written: &'a Written,
+    /// The file of the tables' faults, which is compared with them too.
+    pub faults: &'a FaultsFile<'f>,
     /// Counts each file that is looked for as a table, if there is one.
     pub progress: Option<&'a Progress<'a, H>>,
 }
@@ -70,7 +73,7 @@ fn is_missing(error: &io::Error) -> bool {
     matches!(error.kind(), ErrorKind::NotFound | ErrorKind::NotADirectory)
 }
 
-impl<'a, H: Files + Eprint + Clock> Folder<Watched<'a, H, DiskFile<'a, H>>> for Disk<'a, H>
+impl<'a, 'f, H: Files + Eprint + Clock> Folder<Watched<'a, H, DiskFile<'a, H>>> for Disk<'a, 'f, H>
 where
     H::File: Read,
 {
@@ -78,7 +81,8 @@ where
         let Ok(file) = fs::open(self.rt, path) else {
             return None;
         };
-        if self.written.look_at(&file.metadata()) {
+        let metadata = file.metadata();
+        if self.written.look_at(&metadata) || self.faults.look_at(path, &metadata) {
             return None;
         }
         Some(Watched::new(DiskFile::Open(file), None))
@@ -87,6 +91,7 @@ where
     fn find(&mut self, path: String) -> Option<Watched<'a, H, DiskFile<'a, H>>> {
         let metadata = fs::metadata(self.rt, path.as_str());
         self.written.look_at(&metadata);
+        self.faults.look_at(path.as_str(), &metadata);
         let size = match metadata {
             Ok(metadata) => metadata.len(),
             Err(error) if is_missing(&error) => {

@@ -15,8 +15,9 @@ const MOST_TABLES: usize = 100;
 /// The files of the system that can be read a second time: the ordinary ones. Who opens a pipe once more may
 /// wait for ever.
 #[derive(Drop)]
-struct Ordinary<'a, H> {
-    rt: &'a H,
+pub struct Ordinary<'a, H> {
+    /// The system.
+    pub rt: &'a H,
 }
 
 impl<'a, H: Files> Folder<DiskFile<'a, H>> for Ordinary<'a, H>
@@ -47,7 +48,11 @@ fn print(rt: &HostRuntime, lines: Result<String, AllocError>) {
 pub fn explain_fault(rt: &HostRuntime, alloc: Global, settings: &Settings, outcome: &Outcome) {
     let folder = &mut Ordinary { rt };
     if let Outcome::Report(source, fault) = outcome {
-        print(rt, explain_report(alloc, settings, folder, *source, *fault));
+        let (meta, types) = (settings.meta.as_str(), settings.types.as_str());
+        print(
+            rt,
+            explain_report(alloc, meta, types, folder, *source, *fault),
+        );
     }
 }
 
@@ -59,14 +64,15 @@ pub fn explain_tables(
     tables: &[(Text, TableFault)],
 ) {
     let folder = &mut Ordinary { rt };
-    let report = report_again(alloc, settings, folder);
+    let (meta, types) = (settings.meta.as_str(), settings.types.as_str());
+    let report = report_again(alloc, meta, types, folder);
     for (place, (id, fault)) in tables.iter().enumerate() {
         print(rt, table_line(alloc, id.as_str(), fault));
         if place >= MOST_TABLES {
             continue;
         }
         match &report {
-            Ok(report) => print(rt, explain_table(alloc, settings, folder, report, fault)),
+            Ok(report) => print(rt, explain_table(alloc, meta, folder, report, fault)),
             Err(_) => {
                 let _ = rt.eprint("    the report cannot be read again, or has changed\n");
             }

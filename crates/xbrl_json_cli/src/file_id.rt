@@ -27,7 +27,7 @@ impl FileId {
     }
 
     /// Whether the two are one file.
-    fn is(self, other: FileId) -> bool {
+    pub fn is(self, other: FileId) -> bool {
         self.device == other.device && self.inode == other.inode
     }
 }

@@ -1,8 +1,8 @@
 //! `xbrl-json`: converts a report in xBRL-CSV 1.0 to xBRL-JSON 1.0.
 //!
 //! `xbrl-json META --types FILE [--workers N] [--ring K] [--out FILE] [--whole] [--layout
-//! compact|lines] [--progress] [--explain]` converts the report whose metadata file is META, to standard output or
-//! to the file given by `--out`. Without any words the program converts its built-in report to standard
+//! compact|lines] [--progress] [--explain] [--faults FILE]` converts the report whose metadata file is META, to standard
+//! output or to the file given by `--out`. Without any words the program converts its built-in report to standard
 //! output.
 //!
 //! What is proved of a run, its lines and its status is said by the crate `oim_run`. This crate is the
@@ -10,8 +10,8 @@
 //!
 //! - the exit status is that of the outcome, or of the kind of fault that the words have; 3 where the
 //!   help or the version that they ask for cannot be printed;
-//! - an output that is written as the path of the metadata or of the types table is refused
-//!   (`convert_as`). That no other path leads to a file of the report is looked at by device and inode,
+//! - an output that is written as the path of the metadata or of the types table cannot be written
+//!   (`convert_apart`). That no other path leads to a file of the report is looked at by device and inode,
 //!   and only tests show it.
 //!
 //! Nothing is claimed about what the system's files hold, what its output takes, what it says about the
@@ -21,6 +21,7 @@
 mod disk;
 mod emptied;
 mod explain;
+mod faults;
 mod file_id;
 mod new_file;
 mod output;
@@ -28,10 +29,11 @@ mod paths;
 mod progress;
 mod said;
 
+use faults::{refused_before, write_faults};
 use oim_convert::ConvertFault;
 use oim_run::{Outcome, convert_to, request_of};
 use output::convert_apart;
-use said::{explained, told, told_with_places};
+use said::{explained, told, told_as_asked};
 use std::alloc::Global;
 use std::io;
 use std::io::ErrorKind;
@@ -47,7 +49,8 @@ fn started<T: Threads + Wait + Sync>(
     words: &[&str],
 ) -> u8 {
     if words.is_empty() {
-        return told(rt, alloc, &convert_to(threads, alloc, io::writer(rt)));
+        let (outcome, _) = convert_to(threads, alloc, io::writer(rt));
+        return told(rt, alloc, &outcome);
     }
     let request = match request_of(alloc, words) {
         Ok(request) => request,
@@ -57,11 +60,15 @@ fn started<T: Threads + Wait + Sync>(
         let _ = rt.eprint("error: --whole wants --out FILE\n");
         return 2;
     }
-    let outcome = convert_apart(rt, threads, alloc, &request);
-    if !request.explain {
+    if let Some(outcome) = refused_before(rt, alloc, &request) {
         return told(rt, alloc, &outcome);
     }
-    told_with_places(rt, alloc, &request.settings, &outcome)
+    let outcome = convert_apart(rt, threads, alloc, &request);
+    let status = told_as_asked(rt, alloc, &request, &outcome);
+    match write_faults(rt, alloc, &request, &outcome) {
+        Some(unwritten) => told(rt, alloc, &unwritten),
+        None => status,
+    }
 }
 
 /// Runs with the arguments of the process, and gives the exit status.

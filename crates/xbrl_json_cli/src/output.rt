@@ -1,23 +1,21 @@
 //! The output of a run: a file or standard output, written through a buffer.
 
-ghost use Rattle.std.specs.Prelude.{◌≡◌, ◌⊎◌, IfNone, IfSome};
+ghost use Rattle.std.specs.Prelude.{◌≡◌, IfNone, IfSome};
 ghost use Rattle.oim_run.specs.CommandLine.{IsInput};
-ghost use Rattle.oim_run.specs.Steps as spec;
-ghost use Rattle.oim_run.specs.declared.outcome.Outcome.TheVariants as outcome;
+ghost use Rattle.oim_run.specs.Outputs.{IsUnwritten};
 
 use crate::disk::Disk;
 use crate::emptied::OpenOutput;
+use crate::faults::{FaultsFile, cannot_write};
 use crate::file_id::{FileId, Written};
 use crate::new_file::NewFile;
 use crate::paths::reached;
 use crate::progress::{Counted, Progress};
-use oim_convert::ConvertFault;
 use oim_json::WriteFault;
-use oim_names::Text;
-use oim_run::{Outcome, Request, Settings, run_to};
+use oim_run::{Folder, Outcome, Request, Settings, run_to};
 use std::alloc::Global;
 use std::fs::Metadata;
-use std::io::{IsTerminal, Write};
+use std::io::{IsTerminal, Read, Write};
 use std::sync::Wait;
 use std::thread::Threads;
 use std::{fs, io};
@@ -25,34 +23,25 @@ use std::{fs, io};
 /// The system's file that holds nothing.
 const NOTHING: &str = "/dev/null";
 
-/// The outcome of a run that cannot write its document to the file at this path.
-fn cannot_write(alloc: Global, path: &str) -> Outcome
-    ensures { (result ≡ outcome.CannotWrite path.now) ⊎ (result ≡ spec.no_memory) }
-{
-    match Text::from_str(alloc, path) {
-        Ok(path) => Outcome::CannotWrite(path),
-        Err(_) => Outcome::Run(ConvertFault::Memory),
-    }
-}
-
-/// The outcome of a conversion to the file at this path: its own, or that the file cannot be written.
-fn outcome_at(alloc: Global, path: &str, converted: Option<Outcome>) -> Outcome
-    ensures own { IfSome converted (λ o. result ≡ o) }
-    ensures none { IfNone converted ((result ≡ outcome.CannotWrite path.now) ⊎ (result ≡ spec.no_memory)) }
-{
-    match converted {
-        Some(outcome) => outcome,
-        None => cannot_write(alloc, path),
-    }
+/// Runs over a folder, writes the document to a writer, and lets that go. Gives the outcome.
+fn run_over<R: Read + Drop + Send, F: Folder<R>, T: Threads + Wait + Sync, W: Write + Drop>(
+    threads: &T,
+    alloc: Global,
+    settings: &Settings,
+    folder: &mut F,
+    to: W,
+) -> Outcome {
+    let (outcome, _to) = run_to(threads, alloc, settings, folder, to);
+    outcome
 }
 
 /// Runs over the system's files, writes the document to a writer, and flushes it. If the words ask for
 /// it, standard error shows the progress of the run.
-fn run_watched<T: Threads + Wait + Sync, W: Write + Drop>(
-    rt: &HostRuntime,
+fn run_watched<'a, T: Threads + Wait + Sync, W: Write + Drop>(
+    rt: &'a HostRuntime,
     threads: &T,
     alloc: Global,
-    request: &Request,
+    request: &'a Request,
     written: &Written,
     to: W,
 ) -> Outcome {
@@ -62,22 +51,24 @@ fn run_watched<T: Threads + Wait + Sync, W: Write + Drop>(
         None
     };
     let progress = progress.as_ref();
+    let faults = FaultsFile::of(rt, alloc, request);
     let mut disk = Disk {
         rt,
         written,
+        faults: &faults,
         progress,
     };
-    let outcome = run_to(
+    let outcome = run_over(
         threads,
         alloc,
         &request.settings,
         &mut disk,
-        Counted::new(to, progress),
+        Counted::new(faults.writer(to), progress),
     );
     if let Some(progress) = progress {
         progress.end();
     }
-    outcome
+    faults.ended(alloc, outcome)
 }
 
 /// Whether the metadata or the types table is one of the files that the run writes.
@@ -109,6 +100,9 @@ fn convert_over<T: Threads + Wait + Sync>(
     if !reads_one(rt, &request.settings, &written) {
         let to = output.into_writer(&written);
         let outcome = run_watched(rt, threads, alloc, request, &written, to);
+        if is_new && matches!(outcome, Outcome::CannotWrite(_)) {
+            unmake(rt, alloc, path);
+        }
         if !written.is_read() {
             return Some(outcome);
         }
@@ -180,16 +174,27 @@ fn convert_into<T: Threads + Wait + Sync>(
     }
 }
 
+/// The outcome of a conversion to the file at this path: its own, or that the file cannot be written.
+fn outcome_at(alloc: Global, path: &str, converted: Option<Outcome>) -> Outcome
+    ensures own { IfSome converted (λ o. result ≡ o) }
+    ensures none { IfNone converted (IsUnwritten path.now result) }
+{
+    match converted {
+        Some(outcome) => outcome,
+        None => cannot_write(alloc, path),
+    }
+}
+
 /// Runs over the system's files, and writes the document to the file `settings.out`, or to standard
 /// output. A file of the report (the metadata, the types table, the parameters file or a table), by
 /// whatever path, cannot be written, and stays as it was. `threads` starts the workers' threads.
-pub fn convert_as<T: Threads + Wait + Sync>(
+fn convert_once<T: Threads + Wait + Sync>(
     rt: &HostRuntime,
     threads: &T,
     alloc: Global,
     request: &Request,
 ) -> Outcome
-    ensures { IfSome request.now.settings.out (λ path. IsInput request.now.settings path → (result ≡ outcome.CannotWrite path) ⊎ (result ≡ spec.no_memory)) }
+    ensures { IfSome request.now.settings.out (λ path. IsInput request.now.settings path → IsUnwritten path result) }
 {
     let Some(path) = &request.settings.out else {
         let written = Written::new(None, None);
@@ -202,7 +207,7 @@ pub fn convert_as<T: Threads + Wait + Sync>(
     outcome_at(alloc, path, convert_into(rt, threads, alloc, request, path))
 }
 
-/// Runs over the system's files as `convert_as` does, with the numbers of standard input, output and error
+/// Runs over the system's files as `convert_once` does, with the numbers of standard input, output and error
 /// taken: where the program was started without one of them, the first file that it opens would get that
 /// number, and what is printed would go into the document. A file that holds nothing and is open for
 /// reading takes it, so that printing fails.
@@ -212,10 +217,10 @@ pub fn convert_apart<T: Threads + Wait + Sync>(
     alloc: Global,
     request: &Request,
 ) -> Outcome
-    ensures { IfSome request.now.settings.out (λ path. IsInput request.now.settings path → (result ≡ outcome.CannotWrite path) ⊎ (result ≡ spec.no_memory)) }
+    ensures { IfSome request.now.settings.out (λ path. IsInput request.now.settings path → IsUnwritten path result) }
 {
     let _input = fs::open(rt, NOTHING);
     let _output = fs::open(rt, NOTHING);
     let _error = fs::open(rt, NOTHING);
-    convert_as(rt, threads, alloc, request)
+    convert_once(rt, threads, alloc, request)
 }

@@ -14,6 +14,25 @@ pub fn reached(rt: &HostRuntime, alloc: Global, path: &str) -> Option<String> {
     }
 }
 
+/// The path of a file without links, if its folder is there; the file itself need not be.
+pub fn true_path(rt: &HostRuntime, alloc: Global, path: &str) -> Option<String> {
+    if let Ok(path) = fs::canonicalize(rt, path) {
+        return Some(path.into_string());
+    }
+    let folder = fs::canonicalize(rt, folder_of(path)).ok()?.into_string();
+    let folder = folder.as_str();
+    let name = name_of(path);
+    format!(in alloc; "{folder}/{name}").ok()
+}
+
+/// The name of a file in its folder.
+fn name_of(path: &str) -> &str {
+    match path.rfind('/') {
+        Some(at) => &path[at + 1..],
+        None => path,
+    }
+}
+
 /// The path of the folder of a file.
 fn folder_of(path: &str) -> &str {
     match path.rfind('/') {

@@ -5,7 +5,7 @@ ghost use Rattle.clap.specs.Values.{kind_of};
 ghost use Rattle.oim_run.specs.Lines.{status_of, unprinted_status, words_status};
 
 use crate::explain::{explain_fault, explain_tables};
-use oim_run::{Outcome, Settings, line, shown, status, terminal_line};
+use oim_run::{Outcome, Request, Settings, line, shown, status, terminal_line};
 use std::alloc::{AllocError, Global};
 use std::io::{Eprint, IsTerminal, Print};
 
@@ -28,14 +28,21 @@ pub fn told(rt: &HostRuntime, alloc: Global, outcome: &Outcome) -> u8
     status(outcome)
 }
 
+/// Prints the lines of an outcome, with the places of its faults if the words ask for them, and gives the
+/// exit status.
+pub fn told_as_asked(rt: &HostRuntime, alloc: Global, request: &Request, outcome: &Outcome) -> u8
+    ensures { result ≡ status_of outcome.now }
+{
+    if request.explain {
+        told_with_places(rt, alloc, &request.settings, outcome)
+    } else {
+        told(rt, alloc, outcome)
+    }
+}
+
 /// Prints the lines of an outcome as `told` does, and below the line of each fault where it is, and gives
 /// the exit status.
-pub fn told_with_places(
-    rt: &HostRuntime,
-    alloc: Global,
-    settings: &Settings,
-    outcome: &Outcome,
-) -> u8
+fn told_with_places(rt: &HostRuntime, alloc: Global, settings: &Settings, outcome: &Outcome) -> u8
     ensures { result ≡ status_of outcome.now }
 {
     if let Outcome::Tables(tables) = outcome {

@@ -141,8 +141,24 @@ impl PendingFacts {
         })
     }
 
+    /// Keeps the first `count` facts.
+    pub(crate) fn keep_first(&mut self, count: usize)
+        requires { count ≤ length self.old }
+        ensures { self.new ≡ take count self.old }
+    {
+        if count == 0 {
+            self.bytes.clear();
+            self.ends.clear();
+            self.facts = none();
+            return;
+        }
+        self.bytes.truncate(self.ends[count - 1]);
+        self.ends.truncate(count);
+        self.facts = first(&self.facts, count);
+    }
+
     // The block of the first facts.
-    fn into_block(self, count: usize) -> Block
+    pub(crate) fn into_block(self, count: usize) -> Block
         requires some { 1 ≤ count }
         requires most { count ≤ 256 }
         requires there { count ≤ length self }

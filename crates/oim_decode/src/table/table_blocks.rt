@@ -16,7 +16,7 @@ use std::io::Read;
 use std::marker::Model;
 
 /// How many facts a block has at most.
-const MOST: usize = 256;
+pub(crate) const MOST: usize = 256;
 
 /// What comes after the facts that are read.
 #[derive(Clone, Copy)]
@@ -161,7 +161,7 @@ impl<R: Read + Drop> TableBlocks<'_, R> {
 
 // Whether a row of this many cells is read before the facts that are there are given: where there are
 // none, or where a block has room for one more of each cell.
-fn has_room(count: usize, width: usize) -> bool
+pub(crate) fn has_room(count: usize, width: usize) -> bool
     ensures some { result ≡ false → 1 ≤ count }
     ensures full { result ≡ false → 256 < count + width }
     ensures most { result ≡ true → count ≤ 256 }

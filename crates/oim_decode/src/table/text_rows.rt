@@ -118,10 +118,10 @@ impl<R: Read + Drop> TextRows<'_, R> {
     {
         let found = self.records.read();
         let number = self.given + 1;
-        let fields = self.records.fields();
-        if let Some(answer) = early_answer(&self.form, number, &self.ids, found, &fields) {
+        if let Some(answer) = early_answer(&self.form, number, &self.ids, found, &self.records) {
             return answer;
         }
+        let fields = self.records.fields();
         let Some(texts) = self.records.text_fields() else {
             unreachable!()
         };
@@ -146,18 +146,18 @@ impl<R: Read + Drop> TextRows<'_, R> {
 
 /// What the reader's answer for row `number` gives without memory: the reader's own fault, the end, or a
 /// fault of the row itself. None where the row's cells are to be read.
-fn early_answer(
+fn early_answer<R: Read + Drop>(
     form: &RowForm<'_>,
     number: u32,
     ids: &RowIds,
     found: Result<bool, ReadFault>,
-    row: &Fields<'_>,
+    records: &RecordReader<R>,
 ) -> Option<Result<bool, TableFault>>
-    ensures { result ≡ option_map has_row (early_row_answer form.now number ids.now found row.now) }
+    ensures { result ≡ option_map has_row (early_row_answer form.now number ids.now found records.now.fields) }
 {
     match found {
         Ok(true) => {
-            let fault = form.fault_of_row(number, ids, row)?;
+            let fault = form.fault_of_record(number, ids, records)?;
             Some(Err(fault))
         }
         Ok(false) => Some(Ok(false)),

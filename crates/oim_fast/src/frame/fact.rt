@@ -1,10 +1,11 @@
 //! Writing a fact.
 
-ghost use Rattle.std.specs.Prelude.{◌≡◌, ◌+◌, ◌-◌, ◌*◌, ◌<◌, ◌≤◌, ◌++◌, IfSome, MatchOption, Some, codes, flat_map, length, take, true};
+ghost use Rattle.std.specs.Prelude.{◌≡◌, ◌+◌, ◌-◌, ◌*◌, ◌<◌, ◌≤◌, ◌++◌, IfSome, MatchOption, OnOk, Some, codes, flat_map, length, take, true};
 ghost use Rattle.std.specs.List.{list_all};
+ghost use mathlib.Core.List.{IsPrefix};
 ghost use Rattle.oim_json.specs.JsonText.{decimals_text, escaped_byte, is_unescaped, value_text};
 ghost use Rattle.oim_resolve.specs.Facts.{is_numeric, places};
-ghost use Rattle.oim_fast.specs.FactTexts.{IsOfReferences, PutsFact, WritesDecimals, WritesFactText, WritesObject, WritesOpening, frame_length, has_settled, value_of};
+ghost use Rattle.oim_fast.specs.FactTexts.{EndsInstead, IsOfReferences, PutsFact, WritesDecimals, WritesFactText, WritesObject, WritesOpening, frame_length, has_settled, value_of};
 ghost use Rattle.oim_fast.specs.Places.{Placed, Stays};
 
 use crate::frame::frame_decimals::FrameDecimals;
@@ -13,7 +14,7 @@ use crate::frame::value::Value;
 use crate::frame::write::{copy_range, write_runs};
 use crate::row::references::References;
 use crate::text::buffer::{TextBuffer, make_room};
-use crate::text::copy::{copy, copy_escaped, copy_short, copy_text};
+use crate::text::copy::{copy, copy_escaped, copy_short, copy_text, put_escaped_front};
 use itoa::Buffer;
 use oim_cells::Accuracy;
 use oim_report::Kind;
@@ -113,15 +114,18 @@ fn write_opening(
     Some((at, frame.opening))
 }
 
+/// What stands between dimensions and value, its first ten bytes.
+const CLOSING: &[u8] = b"},\"value\":                                ";
+
 /// Takes back the comma behind the last dimension, where there is one behind `body`, and closes the dimensions.
 #[inline(always)]
 fn close_dimensions(room: &mut [u8], body: usize, end: usize) -> usize
     requires order { body ≤ end }
-    requires room { end + 10 ≤ length room.old }
+    requires room { end + 42 ≤ length room.old }
     ensures { Placed room.old room.new (body + ((end - body) - 1)) (codes "},\"value\":") result }
 {
-    let at = body + (end - body).saturating_sub(1);
-    copy_short(room, at, b"},\"value\":")
+    let at = if body < end { end - 1 } else { end };
+    copy(room, at, CLOSING, 10)
 }
 
 /// Writes what stands between the quotes of a value. A number needs no escape.
@@ -145,7 +149,8 @@ fn write_value(kind: Kind, value: &Value<'_>, room: &mut [u8], from: usize) -> u
     requires value { value.now.len ≤ length value.now.bytes.now }
     requires plain { is_numeric kind ≡ true → IfSome (value_of value.now) (λ t. list_all is_unescaped t ≡ true) }
     requires room { from + 6 * value.now.len + 64 ≤ length room.old }
-    ensures { Placed room.old room.new from (value_text (value_of value.now) ++ codes "}") result }
+    ensures bytes { Placed room.old room.new from (value_text (value_of value.now) ++ codes "}") result }
+    ensures behind { result + 32 ≤ length room.new }
 {
     if value.is_nil {
         return copy_short(room, from, b"null}");
@@ -155,20 +160,31 @@ fn write_value(kind: Kind, value: &Value<'_>, room: &mut [u8], from: usize) -> u
     copy_short(room, at, b"\"}")
 }
 
+/// How many bytes a value has at most that is written with one test of the room.
+const LONGEST: usize = 1024;
+
+/// How many references, and how many bytes before its value, a fact has at most whose room is counted.
+const MOST_RUNS: usize = 1 << 16;
+
+const MOST_BYTES: usize = 1 << 40;
+
 /// How many bytes of room a fact takes at most behind a text of `start` bytes, where a reference gives `most` and the value has
-/// `value`. None where they cannot be counted.
+/// `value`. None where they are too many to be counted.
 #[inline(always)]
-fn room_for(frame: &FrameText, most: usize, start: usize, value: usize) -> Option<usize>
+fn room_for(frame: &FrameText, most: u32, start: usize, value: usize) -> Option<usize>
+    requires { value ≤ 1024 }
     ensures { IfSome result (λ room. start + frame_length frame.now + (length frame.now.segments + 1) * most + 6 * value + 128 ≤ room) }
 {
-    let count = frame.runs.len().checked_add(1)?;
-    let references = count.checked_mul(most)?;
-    let escaped = value.checked_mul(6)?;
+    let count = frame.runs.len();
     let front = start.checked_add(frame.text.len())?;
-    let text = front.checked_add(references)?;
-    let all = text.checked_add(escaped)?;
-    let room = all.checked_add(128)?;
-    Some(room)
+    if count >= MOST_RUNS {
+        return None;
+    }
+    if front >= MOST_BYTES {
+        return None;
+    }
+    let references = (count + 1) * (most as usize);
+    Some(front + references + 6 * value + 128)
 }
 
 /// Writes the fact of a frame from the dot behind the row's identifier on, and answers where it ends. None where it is not by the
@@ -186,7 +202,8 @@ fn write_object(
     requires plain { is_numeric frame.now.kind ≡ true → IfSome (value_of value.now) (λ t. list_all is_unescaped t ≡ true) }
     requires references { IsOfReferences (length references.now) frame.now }
     requires room { from + frame_length frame.now + (length frame.now.segments + 1) * most + 6 * value.now.len + 128 ≤ length room.old }
-    ensures { MatchOption result (Stays room.old room.new from) (λ end. WritesObject references.now frame.now value.now room.old room.new from end) }
+    ensures object { MatchOption result (Stays room.old room.new from) (λ end. WritesObject references.now frame.now value.now room.old room.new from end) }
+    ensures behind { IfSome result (λ end. end + 32 ≤ length room.new) }
 {
     let (at, rest) = write_opening(frame, references, most, value, room, from)?;
     let body = at + (frame.body - rest);
@@ -218,10 +235,97 @@ fn write_fact(
     requires plain { is_numeric frame.now.kind ≡ true → IfSome (value_of value.now) (λ t. list_all is_unescaped t ≡ true) }
     requires references { IsOfReferences (length references.now) frame.now }
     requires room { from + length start.now.items + frame_length frame.now + (length frame.now.segments + 1) * most + 6 * value.now.len + 128 ≤ length room.old }
-    ensures { MatchOption result (Stays room.old room.new from) (λ end. WritesFactText references.now frame.now value.now start.now.items room.old room.new from end) }
+    ensures fact { MatchOption result (Stays room.old room.new from) (λ end. WritesFactText references.now frame.now value.now start.now.items room.old room.new from end) }
+    ensures behind { IfSome result (λ end. end + 32 ≤ length room.new) }
 {
     let at = copy_text(room, from, start);
     write_object(frame, references, most, value, room, at)
+}
+
+/// Appends a fact whose text begins with `start`, and whose value is not long. False where it is not by the fast way. Fails where
+/// memory is short. Then nothing is appended.
+#[inline(always)]
+fn put_short(
+    frame: &FrameText,
+    references: &References<'_>,
+    start: &TextBuffer,
+    value: &Value<'_>,
+    out: &mut TextBuffer,
+) -> Result<bool, AllocError>
+    requires value { value.now.len ≤ length value.now.bytes.now }
+    requires short { value.now.len ≤ 1024 }
+    requires plain { is_numeric frame.now.kind ≡ true → IfSome (value_of value.now) (λ t. list_all is_unescaped t ≡ true) }
+    requires references { IsOfReferences (length references.now) frame.now }
+    ensures { PutsFact references.now frame.now value.now start.now.items out.old.items out.new.items result }
+{
+    let most = references.most();
+    let Some(size) = room_for(frame, most, start.len(), value.len) else {
+        return Ok(false);
+    };
+    make_room(&mut out.room, out.len, size)?;
+    let end = write_fact(
+        frame,
+        references,
+        most as usize,
+        start,
+        value,
+        &mut out.room,
+        out.len,
+    );
+    match end {
+        Some(end) => {
+            out.len = end;
+            Ok(true)
+        }
+        None => Ok(false),
+    }
+}
+
+/// Puts a value and the end of its fact in place of those of the empty text, which take two bytes. Fails where memory is short; what
+/// stands before them stays at the front.
+fn put_value(out: &mut TextBuffer, value: &Value<'_>) -> Result<(), AllocError>
+    requires value { value.now.len ≤ length value.now.bytes.now }
+    requires end { 2 ≤ length out.old.items }
+    ensures text { OnOk result (EndsInstead value.now out.old.items out.new.items) }
+    ensures stays { IsPrefix (take (length out.old.items - 2) out.old.items) out.new.items }
+{
+    let end = out.len() - 2;
+    out.truncate(end);
+    out.reserve(value.len)?;
+    put_escaped_front(out, value.bytes, value.len)?;
+    out.put(b"\"}")
+}
+
+/// Appends a fact whose value is long: that of the empty text first, whose end it takes back. False where it is not by the fast way.
+/// Fails where memory is short. Then nothing is appended.
+#[cold]
+#[inline(never)]
+fn put_long(
+    frame: &FrameText,
+    references: &References<'_>,
+    start: &TextBuffer,
+    value: Value<'_>,
+    out: &mut TextBuffer,
+) -> Result<bool, AllocError>
+    requires value { value.len ≤ length value.bytes.now }
+    requires references { IsOfReferences (length references.now) frame.now }
+    ensures { PutsFact references.now frame.now value.entry start.now.items out.old.items out.new.items result }
+{
+    if value.is_nil {
+        return Ok(false);
+    }
+    let before = out.len();
+    let empty = value.emptied();
+    if !put_short(frame, references, start, &empty, out)? {
+        return Ok(false);
+    }
+    match put_value(out, &value) {
+        Ok(()) => Ok(true),
+        Err(short) => {
+            out.truncate(before);
+            Err(short)
+        }
+    }
 }
 
 /// Appends a fact whose text begins with `start`. False where it is not by the fast way. Fails where memory is short. Then nothing
@@ -239,25 +343,9 @@ pub(crate) fn put_fact(
     requires references { IsOfReferences (length references.now) frame.now }
     ensures { PutsFact references.now frame.now value.now start.now.items out.old.items out.new.items result }
 {
-    let most = references.most();
-    let Some(size) = room_for(frame, most, start.len(), value.len) else {
-        return Ok(false);
-    };
-    make_room(&mut out.room, out.len, size)?;
-    let end = write_fact(
-        frame,
-        references,
-        most,
-        start,
-        value,
-        &mut out.room,
-        out.len,
-    );
-    match end {
-        Some(end) => {
-            out.len = end;
-            Ok(true)
-        }
-        None => Ok(false),
+    if value.len > LONGEST {
+        put_long(frame, references, start, *value, out)
+    } else {
+        put_short(frame, references, start, value, out)
     }
 }

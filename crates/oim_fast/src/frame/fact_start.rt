@@ -26,7 +26,7 @@ fn put_id(out: &mut TextBuffer, row: &TableRow<'_, '_>) -> Result<(), AllocError
         Some(place) => put_escaped(out, row.text_at(Some(place))),
         None => {
             out.put(b"r_")?;
-            put_escaped(out, row.digits())
+            out.put(row.digits().as_bytes())
         }
     }
 }

@@ -18,6 +18,9 @@ pub(crate) struct Run {
     pub(crate) reference: usize,
 }
 
+/// How many bytes a frame's text has room for at first.
+const ROOM: usize = 512;
+
 /// The text of a column's facts from the dot before its identifier up to the end of its dimensions, each with a comma behind it:
 /// the identifier, the settled decimals, the dimensions. A contract sees its parts.
 #[derive(Drop)]
@@ -62,7 +65,7 @@ impl FrameText {
     ) -> Result<FrameText, AllocError>
         ensures { IfOk result (λ t. t ≡ record { kind = kind; lead = lead.now; settled = settled.now; decimals = decimals; segments = []; rest = [] }) }
     {
-        let mut text = TextBuffer::new(alloc);
+        let mut text = TextBuffer::within(Vec::new(alloc), ROOM)?;
         text.put(lead)?;
         text.put(settled)?;
         let opening = text.len();

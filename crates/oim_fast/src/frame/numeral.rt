@@ -1,16 +1,42 @@
 //! The numeral of a number's cell, found in one pass where nothing stands round it.
 
-ghost use Rattle.std.specs.Prelude.{◌≡◌, ◌<◌, ◌≤◌, ◌+◌, ℕ, length, take, drop, true, IfSome};
+ghost use Rattle.std.specs.Prelude.{◌≡◌, ◌<◌, ◌≤◌, ◌+◌, ℕ, length, map, take, drop, true, IfSome};
+ghost use Rattle.std.specs.Simd.Lanes.{mask_l};
 ghost use Rattle.std.specs.Str.Parse.{AllDigits, without_leading_sign};
-ghost use Rattle.oim_cells.specs.Blanks.{trimmed};
-ghost use Rattle.oim_cells.specs.Numeral.{IsNumeralOf, IsSplit};
-ghost use Rattle.oim_fast.specs.Digits.{IsUnsigned, begins_with_sign, takes_point};
+ghost use Rattle.oim_cells.specs.Numeral.{IsInteger, IsNumeralOf};
+ghost use Rattle.oim_fast.specs.Digits.{IsFrontOf, IsSuffix, IsUnsigned, begins_with_sign, is_other, marks_power, takes_point};
 
 use oim_cells::{Accuracy, NumberKind, decimals};
+use std::simd::prelude::*;
+
+/// How many bytes are looked at together.
+const AT_ONCE: usize = 16;
+
+/// Marks the bytes that are no digits: bit k is set for byte k.
+#[inline(always)]
+fn other_marks(bytes: u8x16) -> u64
+    ensures { result ≡ mask_l (map is_other bytes) }
+{
+    (bytes.simd_lt(u8x16::splat(b'0')) | bytes.simd_gt(u8x16::splat(b'9'))).to_bitmask()
+}
+
+/// How many of the first 16 bytes of a text are digits, before the first that is none.
+#[inline(always)]
+fn digits_at_once(text: &[u8]) -> usize
+    requires { 16 ≤ length text.now }
+    ensures { AllDigits 10 (take result text.now) }
+{
+    let marks = other_marks(u8x16::from_slice(text));
+    if marks == 0 {
+        return AT_ONCE;
+    }
+    marks.trailing_zeros() as usize
+}
 
 /// How many digits a text begins with.
-#[inline(always)]
-fn digits_len(text: &[u8]) -> usize
+#[cold]
+#[inline(never)]
+fn digits_one_by_one(text: &[u8]) -> usize
     ensures within { result ≤ length text.now }
     ensures digits { AllDigits 10 (take result text.now) }
 {
@@ -22,16 +48,31 @@ fn digits_len(text: &[u8]) -> usize
     text.len()
 }
 
-/// How long the digits are with at most one point that a text begins with, and whether they have a
+/// A number of digits that the first `len` bytes of a text begin with: all of them, or 16 of more.
+#[inline(always)]
+fn digits_len(text: &[u8], len: usize) -> usize
+    requires { len ≤ length text.now }
+    ensures within { result ≤ len }
+    ensures digits { AllDigits 10 (take result text.now) }
+{
+    if text.len() < AT_ONCE {
+        return digits_one_by_one(&text[..len]);
+    }
+    let run = digits_at_once(text);
+    if run < len { run } else { len }
+}
+
+/// How long the digits are with at most one point that the first `len` bytes of a text begin with, and whether they have a
 /// point.
 #[inline(always)]
-fn unsigned_len(text: &[u8]) -> (usize, bool)
-    ensures within { result.0 ≤ length text.now }
+fn unsigned_len(text: &[u8], len: usize) -> (usize, bool)
+    requires { len ≤ length text.now }
+    ensures within { result.0 ≤ len }
     ensures shape { IsUnsigned result.1 (take result.0 text.now) }
 {
-    let before = digits_len(text);
-    if before < text.len() && text[before] == b'.' {
-        let after = digits_len(&text[before + 1..]);
+    let before = digits_len(text, len);
+    if before < len && text[before] == b'.' {
+        let after = digits_len(&text[before + 1..], len - before - 1);
         (before + 1 + after, true)
     } else {
         (before, false)
@@ -69,54 +110,79 @@ fn takes_point(kind: NumberKind) -> bool
     }
 }
 
-/// How long a numeral of the kind is that a text begins with: an optional sign, and digits with at
-/// most one point, none in an integer. 0 where there is none.
-#[inline]
-fn numeral_len(kind: NumberKind, text: &[u8]) -> usize
-    ensures within { result ≤ length text.now }
-    ensures numeral { 0 < result → IsNumeralOf kind (take result text.now) }
+/// How long a numeral of the kind without a power of ten is that the first `len` bytes of a text begin with: an optional sign, and
+/// digits with at most one point, none in an integer. 0 where there is none.
+#[inline(always)]
+fn front_len(kind: NumberKind, text: &[u8], len: usize) -> usize
+    requires some { 0 < len }
+    requires there { len ≤ length text.now }
+    ensures within { result ≤ len }
+    ensures numeral { 0 < result → IsFrontOf kind (take result text.now) }
 {
     let start = sign_len(text);
-    let (len, has_point) = unsigned_len(&text[start..]);
+    let (digits, has_point) = unsigned_len(&text[start..], len - start);
     if has_point {
-        if len <= 1 {
+        if digits <= 1 {
             return 0;
         }
         if takes_point(kind) {
-            return start + len;
+            return start + digits;
         }
         return 0;
     }
-    if len == 0 { 0 } else { start + len }
+    if digits == 0 { 0 } else { start + digits }
 }
 
-/// Whether a text begins and ends with a byte above a space.
+/// How long an integer is that the first `len` bytes of a text begin with: 0 where there is none.
 #[inline(always)]
-fn is_bare(text: &str) -> bool
-    ensures { result ≡ true → trimmed text.now ≡ text.now }
+fn integer_len(text: &[u8], len: usize) -> usize
+    requires { len ≤ length text.now }
+    ensures within { result ≤ len }
+    ensures integer { 0 < result → IsInteger (take result text.now) }
 {
-    match text.as_bytes() {
-        [] => false,
-        [only] => *only > b' ',
-        [first, .., last] => *first > b' ' && *last > b' ',
+    if len == 0 {
+        return 0;
+    }
+    let start = sign_len(text);
+    let digits = digits_len(&text[start..], len - start);
+    if digits == 0 { 0 } else { start + digits }
+}
+
+/// Whether a byte marks the power of ten of a double.
+#[inline(always)]
+fn is_power_mark(kind: NumberKind, byte: u8) -> bool
+    ensures { result ≡ marks_power kind byte }
+{
+    match kind {
+        NumberKind::Integer | NumberKind::Decimal => false,
+        NumberKind::Double => byte == b'e' || byte == b'E',
     }
 }
 
-/// How long the numeral is that a text without blanks at its ends begins with, and its decimals: a numeral without a power of
-/// ten, alone or with `d` and decimals behind it. None for any other text.
-#[inline]
-pub(crate) fn plain_numeral(kind: NumberKind, text: &str) -> Option<(usize, Option<Accuracy>)>
-    ensures { IfSome result (λ r. (r.0 ≤ length text.now) × IsSplit kind (trimmed text.now) (take r.0 text.now) r.1) }
+/// How long a numeral of the kind is that the first `len` bytes of a text begin with. 0 where there is none.
+#[inline(always)]
+pub(crate) fn numeral_len(kind: NumberKind, text: &[u8], len: usize) -> usize
+    requires { len ≤ length text.now }
+    ensures within { result ≤ len }
+    ensures numeral { 0 < result → IsNumeralOf kind (take result text.now) }
 {
-    let len = numeral_len(kind, text.as_bytes());
-    if len == 0 || !is_bare(text) {
-        return None;
+    if len == 0 {
+        return 0;
     }
-    if len == text.len() {
-        return Some((len, None));
+    let front = front_len(kind, text, len);
+    if front == 0 || front == len || !is_power_mark(kind, text[front]) {
+        return front;
     }
+    let back = integer_len(&text[front + 1..], len - front - 1);
+    if back == 0 { 0 } else { front + 1 + back }
+}
+
+/// What the suffix states that stands behind the first `len` bytes of a text: `d` and decimals. None where there is no such suffix.
+#[inline(never)]
+pub(crate) fn suffix_behind(text: &str, len: usize) -> Option<Accuracy>
+    ensures { IfSome result (IsSuffix (drop len text.now)) }
+{
     let (_, rest) = text.split_at_checked(len)?;
     let suffix = rest.strip_prefix('d')?;
-    let accuracy = decimals(suffix)?;
-    Some((len, Some(accuracy)))
+    decimals(suffix)
 }

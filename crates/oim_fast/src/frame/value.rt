@@ -8,7 +8,7 @@ ghost use Rattle.oim_report.specs.declared.kind.Kind.TheVariants.{Number as numb
 ghost use Rattle.oim_resolve.specs.FactValues.{plain as plain_text, text_given};
 ghost use Rattle.oim_fast.specs.CellValues.{IsCellValue, IsValue};
 
-use crate::frame::numeral::plain_numeral;
+use crate::frame::numeral::{numeral_len, suffix_behind};
 use crate::row::table_row::TableRow;
 use crate::text::buffer::TextBuffer;
 use oim_cells::{Accuracy, CellMeaning, NumberKind, meaning};
@@ -23,6 +23,20 @@ pub(crate) struct Value<'r> {
     pub(crate) len: usize,
     pub(crate) accuracy: Option<Accuracy>,
     pub(crate) is_nil: bool,
+}
+
+impl<'r> Value<'r> {
+    /// The empty text in place of the value's.
+    pub(crate) fn emptied(&self) -> Value<'r>
+        ensures { result ≡ record self.now { len = 0 } }
+    {
+        Value {
+            bytes: self.bytes,
+            len: 0,
+            accuracy: self.accuracy,
+            is_nil: self.is_nil,
+        }
+    }
 }
 
 /// What a cell says of its fact.
@@ -56,15 +70,29 @@ fn stands_for_itself(kind: Kind) -> bool
     matches!(&kind, Kind::Text | Kind::Other)
 }
 
-/// The value of a number's cell, where nothing stands round the numeral but a suffix. `bytes` begin with the cell.
+/// The value of a number's cell at a place, where nothing stands round the numeral but a suffix. The first `len` of the bytes are the
+/// cell.
 #[inline(always)]
-fn number<'r>(kind: NumberKind, cell: &str, bytes: &'r [u8]) -> Option<Value<'r>>
-    requires cell { take (length cell.now) bytes.now ≡ cell.now }
-    requires within { length cell.now ≤ length bytes.now }
-    ensures { (report : ReportValue) → IfSome result (λ v. IsValue report (number_kind kind) (meaning_of cell.now) v) }
+fn number<'r>(
+    row: &TableRow<'_, '_>,
+    place: usize,
+    kind: NumberKind,
+    bytes: &'r [u8],
+    len: usize,
+) -> Option<Value<'r>>
+    requires cell { take len bytes.now ≡ field_or_empty row.now.fields (Some place) }
+    requires within { len ≤ length bytes.now }
+    ensures { (report : ReportValue) → IfSome result (IsValue report (number_kind kind) (meaning_of (field_or_empty row.now.fields (Some place)))) }
 {
-    let (len, accuracy) = plain_numeral(kind, cell)?;
-    Some(plain(bytes, len, accuracy))
+    let end = numeral_len(kind, bytes, len);
+    if end == 0 {
+        return None;
+    }
+    if end == len {
+        return Some(plain(bytes, end, None));
+    }
+    let accuracy = suffix_behind(row.text_at(Some(place)), end)?;
+    Some(plain(bytes, end, Some(accuracy)))
 }
 
 /// The value of any cell, copied to `room` where it is a text. Fails where memory is short.
@@ -100,18 +128,24 @@ pub(crate) fn rare_value<'r>(
     }))
 }
 
-/// What the cell at a place says of a fact whose concept has a kind, in most of its forms. None for a rare one.
+/// What the cell at a place says of a fact whose concept has a kind, in most of its forms. None for a rare one. The first `len` of the
+/// bytes are the cell.
 #[inline(always)]
-pub(crate) fn quick_value<'r>(row: &TableRow<'_, 'r>, place: usize, kind: Kind) -> Option<Value<'r>>
+pub(crate) fn quick_value<'r>(
+    row: &TableRow<'_, '_>,
+    place: usize,
+    kind: Kind,
+    bytes: &'r [u8],
+    len: usize,
+) -> Option<Value<'r>>
+    requires cell { take len bytes.now ≡ field_or_empty row.now.fields (Some place) }
+    requires within { len ≤ length bytes.now }
     ensures { IfSome result (IsValue row.now.form.report kind (meaning_of (field_or_empty row.now.fields (Some place)))) }
 {
-    let cell = row.text_at(Some(place));
-    let (bytes, len) = row.bytes_at(place);
     if let Kind::Number(number_kind) = kind {
-        if let Some(value) = number(number_kind, cell, bytes) {
-            return Some(value);
-        }
-    } else if stands_for_itself(kind) && len > 0 && bytes[0] != b'#' {
+        return number(row, place, number_kind, bytes, len);
+    }
+    if stands_for_itself(kind) && len > 0 && bytes[0] != b'#' {
         return Some(plain(bytes, len, None));
     }
     None

@@ -9,7 +9,7 @@ ghost use Rattle.oim_fast.specs.Writing.{WritesRun, WritesRuns};
 use crate::frame::frame_text::Run;
 use crate::row::references::References;
 use crate::text::buffer::TextBuffer;
-use crate::text::copy::{copy, copy_text};
+use crate::text::copy::{copy_padded, copy_some};
 
 /// Copies the bytes of a text from one place up to another. Answers where they end.
 #[inline(always)]
@@ -20,11 +20,12 @@ pub(crate) fn copy_range(
     from: usize,
     to: usize,
 ) -> usize
+    requires some { 0 < length text.now.items }
     requires range { (from ≤ to) × (to ≤ length text.now.items) }
     requires room { at + (to - from) + 32 ≤ length room.old }
     ensures { Placed room.old room.new at (slice_range text.now.items from to) result }
 {
-    copy(room, at, &text.room[from..], to - from)
+    copy_padded(room, at, &text.room[from..], to - from)
 }
 
 /// Writes what the reference of a run gives, behind the text before it from a place on. None where it has a fault, or gives
@@ -39,6 +40,7 @@ fn write_run(
     at: usize,
     from: usize,
 ) -> Option<usize>
+    requires some { 0 < length text.now.items }
     requires range { (from ≤ run.alone) × (run.alone ≤ run.named) × (run.named ≤ length text.now.items) }
     requires reference { run.reference < length references.now }
     requires room { at + (run.named - from) + most + 32 ≤ length room.old }
@@ -56,7 +58,7 @@ fn write_run(
         return Some(copy_range(room, at, text, from, run.alone));
     }
     let named = copy_range(room, at, text, from, run.named);
-    Some(copy_text(room, named, &answer.json))
+    Some(copy_some(room, named, &answer.json, size))
 }
 
 /// Writes a text from a place on, with what its references give. None where one of them has a fault, or gives more than `most`
@@ -71,6 +73,7 @@ pub(crate) fn write_runs(
     at: usize,
     start: usize,
 ) -> Option<usize>
+    requires some { 0 < length text.now.items }
     requires runs { AreRuns (length text.now.items) start runs.now }
     requires references { All (λ r. r.reference < length references.now) runs.now }
     requires room { at + (length text.now.items - start) + length runs.now * most + 32 ≤ length room.old }

@@ -1,10 +1,12 @@
 //! A reference: what it gives in the row at hand, with the answers of the texts that it had.
 
-ghost use Rattle.std.specs.Prelude.{◌≡◌, ◌+◌, ◌<◌, [], IfOk, false, length, true};
+ghost use Rattle.std.specs.Prelude.{◌≡◌, ◌+◌, ◌<◌, ◌≤◌, [], IfOk, IfSome, false, length, true};
 ghost use Rattle.std.specs.List.{All};
 ghost use Rattle.oim_fast.specs.Answers.{IsAnswer, IsCached, is_typed_purpose};
 ghost use Rattle.oim_fast.specs.References.{AddsPlaces, IsKept, meaning_at_hand};
 ghost use Rattle.oim_fast.specs.Sources.{seen_source, source_text};
+ghost use Rattle.oim_fast.specs.declared.row.purpose.Purpose.{Purpose as PurposeValue};
+ghost use Rattle.oim_report.specs.ReportValue.{ReportValue};
 
 use crate::row::answer::Answer;
 use crate::row::cached_answer::CachedAnswer;
@@ -22,6 +24,9 @@ use told::{Tells, Told};
 const FEWEST: usize = 32;
 
 const MOST: usize = 256;
+
+/// How many places a text may have.
+const WAYS: usize = 4;
 
 /// A reference for a purpose. A contract sees the report, what is referred to and what for, and the text that it has in the row
 /// at hand. It keeps texts with their answers, more of them where many come back too late, and one answer alone for a typed
@@ -73,23 +78,85 @@ impl Tells<Text> for FrontNote<'_> {
     ghost told = { λ t. take t.len t.bytes.now };
 }
 
+/// Eight bytes of a text as a number.
+#[inline(always)]
+fn word_at(text: &[u8], at: usize) -> u64
+    requires { at + 8 ≤ length text.now }
+{
+    u64::from_le_bytes([
+        text[at],
+        text[at + 1],
+        text[at + 2],
+        text[at + 3],
+        text[at + 4],
+        text[at + 5],
+        text[at + 6],
+        text[at + 7],
+    ])
+}
+
+/// A number for a text. Texts of up to 24 bytes seldom have the same.
+#[inline(always)]
+fn number_of(text: &[u8]) -> u64 {
+    let len = text.len();
+    if len >= 8 {
+        let first = word_at(text, 0);
+        let middle = word_at(text, len / 2 - 4);
+        let last = word_at(text, len - 8);
+        return first ^ middle.rotate_left(21) ^ last.rotate_left(42);
+    }
+    let mut number = len as u64;
+    for i in 0..len {
+        number = (number << 8) ^ u64::from(text[i]);
+    }
+    number
+}
+
 /// The place of a text among so many, a power of two of them. Any place would do: no answer depends on it.
 #[inline(always)]
 fn place_for(text: &[u8], places: usize) -> usize
     requires { 0 < places }
     ensures { result < places }
 {
-    match text {
-        [] => 0,
-        [first, .., last] => {
-            let middle = text[text.len() / 2] as usize;
-            let before = text[text.len() - 2] as usize;
-            let ends = *first as usize * 3 + before * 7 + *last as usize * 11;
-            let sum = text.len() % 4096 + middle * 5 + ends;
-            (sum ^ (sum >> 5)) & (places - 1)
-        }
-        [only] => *only as usize & (places - 1),
+    let mixed = number_of(text).wrapping_mul(0x9e37_79b9_7f4a_7c15);
+    (mixed >> 40) as usize & (places - 1)
+}
+
+/// The place at a step beside a place among so many, a power of two of them.
+#[inline(always)]
+fn beside(place: usize, step: usize, places: usize) -> usize
+    requires { 0 < places }
+    ensures { result < places }
+{
+    (place ^ step) & (places - 1)
+}
+
+/// The place for a text that is not kept: its own where the empty text is there, else its own or one of those beside it, in turn.
+fn next_place(answers: &[CachedAnswer], text: &[u8], misses: usize) -> usize
+    requires { 0 < length answers.now }
+    ensures { result < length answers.now }
+{
+    let places = answers.len();
+    let place = place_for(text, places);
+    if answers[place].text.is_empty() {
+        return place;
     }
+    beside(place, misses % WAYS, places)
+}
+
+/// The place where a text is kept, among those beside its own.
+#[inline(never)]
+fn find_beside(answers: &Vec<CachedAnswer>, place: usize, text: &str) -> Option<usize>
+    requires { 0 < length answers.now.items }
+    ensures { (report : ReportValue) (purpose : PurposeValue) → All (IsCached report purpose) answers.now.items → is_typed_purpose purpose ≡ false → IfSome result (λ i. IsKept report purpose text.now i answers.now.items) }
+{
+    for step in 1..WAYS {
+        let other = beside(place, step, answers.len());
+        if answers[other].text.as_str() == text {
+            return Some(other);
+        }
+    }
+    None
 }
 
 /// How many texts are kept at first for a purpose.
@@ -117,8 +184,8 @@ fn add_places(
     Ok(())
 }
 
-/// Reads a text that is not kept, and answers the place where it is kept now. Doubles the places where many were read, up to
-/// the most. Fails where memory is short.
+/// Reads a text that is not kept, and answers the place where it is kept now: its own, or one of those beside it. Doubles the
+/// places where as many were read, up to the most. Fails where memory is short.
 #[cold]
 #[inline(never)]
 fn read_text(
@@ -134,11 +201,11 @@ fn read_text(
     ensures { IsKept report.now purpose text.now result.0 answers.new.items }
 {
     let count = answers.len();
-    let place = place_for(text.as_bytes(), count);
+    let place = next_place(answers.as_slice(), text.as_bytes(), *misses);
     let kept = &mut answers[place];
     let read = kept.read(alloc, report, purpose, text);
     *misses = misses.saturating_add(1);
-    if read.is_err() || *misses / 4 <= count || count < FEWEST || count >= MOST {
+    if read.is_err() || *misses <= count || count < FEWEST || count >= MOST {
         return (place, read);
     }
     *misses = 0;
@@ -163,6 +230,9 @@ fn find_text(
     let place = place_for(text.as_bytes(), answers.len());
     if answers[place].text.as_str() == text {
         return (place, Ok(()));
+    }
+    if let Some(other) = find_beside(answers, place, text) {
+        return (other, Ok(()));
     }
     read_text(alloc, report, purpose, answers, misses, text)
 }

@@ -20,7 +20,7 @@ use std::marker::Model;
 pub(crate) struct References<'a> {
     list: Vec<Reference<'a>>,
     /// How many bytes one gives at most in the row at hand. It is tested where it is used.
-    most: usize,
+    most: u32,
 }
 
 impl<'a> Model for References<'a> {
@@ -32,19 +32,29 @@ impl<'a> Model for References<'a> {
     ghost view = { λ a. a.list.items };
 }
 
+/// A number of bytes, or the largest number where there are more.
+#[inline(always)]
+fn counted(bytes: usize) -> u32 {
+    if bytes < 0xffff_ffff {
+        bytes as u32
+    } else {
+        0xffff_ffff
+    }
+}
+
 /// Goes on to a row with each of these, and answers how many bytes one gives at most. Fails where memory is short.
 #[inline(always)]
 fn refresh_all<'a>(
     alloc: Global,
     list: &mut Vec<Reference<'a>>,
     row: &TableRow<'a, '_>,
-) -> Result<usize, AllocError>
+) -> Result<u32, AllocError>
     requires { All (IsOfReport row.now.form.report) list.old.items }
     ensures fresh { OnOk result (All (IsFresh row.now) list.new.items) }
     ensures reports { All (IsOfReport row.now.form.report) list.new.items }
     ensures keys { map key_of list.new.items ≡ map key_of list.old.items }
 {
-    let mut most = 0;
+    let mut most = 0usize;
     for i in 0..list.len() {
         let reference = &mut list[i];
         reference.refresh(alloc, row)?;
@@ -53,7 +63,7 @@ fn refresh_all<'a>(
             most = size;
         }
     }
-    Ok(most)
+    Ok(counted(most))
 }
 
 impl<'a> References<'a> {
@@ -114,7 +124,7 @@ impl<'a> References<'a> {
         }
         let mut reference = Reference::new(alloc, row.report(), purpose, source)?;
         reference.refresh(alloc, row)?;
-        let size = reference.answer().json.len();
+        let size = counted(reference.answer().json.len());
         let place = self.list.len();
         self.list.push(reference)?;
         if self.most < size {
@@ -135,7 +145,7 @@ impl<'a> References<'a> {
 
     /// How many bytes one gives at most in the row at hand. Who writes them tests it: no answer depends on it.
     #[inline(always)]
-    pub(crate) fn most(&self) -> usize {
+    pub(crate) fn most(&self) -> u32 {
         self.most
     }
 }

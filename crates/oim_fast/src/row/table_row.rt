@@ -113,7 +113,9 @@ impl<'a, 'r> TableRow<'a, 'r> {
         ensures bytes { take result.1 result.0.now ≡ field_or_empty self.now.fields (Some place) }
         ensures within { result.1 ≤ length result.0.now }
     {
-        let bytes = self.text_at(Some(place)).as_bytes();
-        (bytes, bytes.len())
+        match self.fields.with_rest(place) {
+            Some(field) => (field.rest(), field.len()),
+            None => (b"", 0),
+        }
     }
 }

@@ -2,16 +2,19 @@
 
 ghost use Rattle.std.specs.Prelude.{◌≡◌, ◌<◌, ◌≤◌, ◌++◌, ◌∷◌, [], IfOk, OnOk, length, true};
 ghost use mathlib.Core.List.{IsPrefix};
-ghost use Rattle.oim_fast.specs.CellWriters.{IsCellWriter, IsInRow, PutsCell, column_at};
+ghost use Rattle.oim_fast.specs.CellWriters.{IsCellWriter, IsInRow, PutsCell, PutsSaid, column_at};
+ghost use Rattle.oim_fast.specs.FactTexts.{IsOfReferences};
 ghost use Rattle.oim_fast.specs.Facts.{WritesFacts};
 
 use crate::frame::fact::put_fact;
 use crate::frame::fact_column::{FactColumn, fact_columns};
 use crate::frame::fact_start::FactStart;
 use crate::frame::frame_maker::FrameMaker;
+use crate::frame::frame_text::FrameText;
 use crate::frame::frames::Frames;
 use crate::frame::value::{CellValue, quick_value, rare_value};
 use crate::row::group_cells::GroupCells;
+use crate::row::references::References;
 use crate::row::table_row::TableRow;
 use crate::text::buffer::TextBuffer;
 use oim_rows::RowForm;
@@ -39,6 +42,28 @@ fn note_end(before: usize, end: usize, ends: &mut Vec<usize>) -> Result<(), Allo
         ends.push(end)?;
     }
     Ok(())
+}
+
+/// Appends the fact of a cell of any form in the column of a frame, whose text begins with `start`, where it has one. A value is copied
+/// to `room`. False where that is not by the fast way. Fails where memory is short. Then nothing is appended.
+#[inline(never)]
+fn put_rare(
+    row: &TableRow<'_, '_>,
+    frame: &FrameText,
+    references: &References<'_>,
+    start: &TextBuffer,
+    cell: &str,
+    room: &mut TextBuffer,
+    out: &mut TextBuffer,
+) -> Result<bool, AllocError>
+    requires { IsOfReferences (length references.now) frame.now }
+    ensures { PutsSaid row.now references.now frame.now start.now.items cell.now out.old.items out.new.items result }
+{
+    match rare_value(row, frame.kind, cell, room)? {
+        CellValue::Value(value) => put_fact(frame, references, start, &value, out),
+        CellValue::NoFact => Ok(true),
+        CellValue::Unknown => Ok(false),
+    }
 }
 
 impl<'a> CellWriter<'a> {
@@ -94,8 +119,7 @@ impl<'a> CellWriter<'a> {
     {
         let column = &mut self.columns[i];
         let place = column.place;
-        let cell = row.text_at(Some(place));
-        let size = cell.len();
+        let (bytes, size) = row.bytes_at(place);
         if size == 0 {
             return Ok(true);
         }
@@ -107,14 +131,11 @@ impl<'a> CellWriter<'a> {
         };
         let references = &self.maker.references;
         let start = &self.start.start;
-        if let Some(value) = quick_value(row, place, frame.kind) {
+        if let Some(value) = quick_value(row, place, frame.kind, bytes, size) {
             return put_fact(frame, references, start, &value, out);
         }
-        match rare_value(row, frame.kind, cell, &mut self.value)? {
-            CellValue::Value(value) => put_fact(frame, references, start, &value, out),
-            CellValue::NoFact => Ok(true),
-            CellValue::Unknown => Ok(false),
-        }
+        let cell = row.text_at(Some(place));
+        put_rare(row, frame, references, start, cell, &mut self.value, out)
     }
 
     /// Appends the text of each fact of the row at hand behind a comma, and where each of them ends. False where the row is not by

@@ -8,7 +8,7 @@ use std::marker::Model;
 /// A text that grows. A contract sees its bytes.
 ///
 /// The bytes behind the text are initialized ahead, so that a piece is put with one test of the room
-/// and one copy.
+/// and one copy. Behind a text that is not empty there are always so many that it is copied without a test.
 #[derive(Drop)]
 pub struct TextBuffer {
     // the text, and behind it bytes that do not count
@@ -17,14 +17,14 @@ pub struct TextBuffer {
 }
 
 impl Model for TextBuffer {
-    ghost use Rattle.std.specs.Prelude.{◌≤◌, length, take};
-    ghost use Rattle.oim_fast.specs.Buffers.{BufferText};
+    ghost use Rattle.std.specs.Prelude.{take};
+    ghost use Rattle.oim_fast.specs.Buffers.{BufferText, IsPadded};
 
     ghost Value = { BufferText };
 
     ghost view = { λ p. record { items = take p.len p.room.items } };
 
-    ghost invariant = { λ p. p.len ≤ length p.room.items };
+    ghost invariant = { λ p. IsPadded p.len p.room.items };
 }
 
 /// Makes room for `more` bytes behind the first `len`, which stay. Fails where memory is short.
@@ -32,7 +32,7 @@ impl Model for TextBuffer {
 pub(crate) fn make_room(room: &mut Vec<u8>, len: usize, more: usize) -> Result<(), AllocError>
     requires { len ≤ length room.old.items }
     ensures stays { take len room.new.items ≡ take len room.old.items }
-    ensures within { len ≤ length room.new.items }
+    ensures within { length room.old.items ≤ length room.new.items }
     ensures ready { OnOk result (len + more ≤ length room.new.items) }
 {
     if more <= room.len() - len {
@@ -40,6 +40,9 @@ pub(crate) fn make_room(room: &mut Vec<u8>, len: usize, more: usize) -> Result<(
     }
     grow(room, len, more)
 }
+
+/// How many bytes behind a text are made ready, so that it is copied fastest.
+const BEHIND: usize = 64;
 
 /// By how many bytes the room grows at least.
 const LEAST: usize = 128;
@@ -54,7 +57,7 @@ fn grow(room: &mut Vec<u8>, len: usize, more: usize) -> Result<(), AllocError>
     requires within { len ≤ length room.old.items }
     requires missing { length room.old.items < len + more }
     ensures stays { take len room.new.items ≡ take len room.old.items }
-    ensures within { len ≤ length room.new.items }
+    ensures within { length room.old.items ≤ length room.new.items }
     ensures ready { OnOk result (len + more ≤ length room.new.items) }
 {
     let filled = room.len();
@@ -105,7 +108,15 @@ impl TextBuffer {
     pub fn pad(&mut self) -> Result<(), AllocError>
         ensures items { self.new.items ≡ self.old.items }
     {
-        make_room(&mut self.room, self.len, 64)
+        make_room(&mut self.room, self.len, BEHIND)
+    }
+
+    /// Takes memory for `more` bytes behind the text. Fails where memory is short.
+    pub(crate) fn reserve(&mut self, more: usize) -> Result<(), AllocError>
+        ensures items { self.new.items ≡ self.old.items }
+    {
+        let ready = self.room.len() - self.len;
+        self.room.reserve(more.saturating_sub(ready))
     }
 
     /// Takes off all of the text. Its memory is kept.
@@ -125,13 +136,13 @@ impl TextBuffer {
         }
     }
 
-    /// Appends bytes. Fails where memory is short, and then appends nothing.
+    /// Appends bytes, and leaves room behind them as `pad` does. Fails where memory is short, and then appends nothing.
     #[inline(always)]
     pub fn put(&mut self, bytes: &[u8]) -> Result<(), AllocError>
         ensures items { self.new.items ≡ (if is_ok result then self.old.items ++ bytes.now else self.old.items) }
     {
         let count = bytes.len();
-        make_room(&mut self.room, self.len, count)?;
+        make_room(&mut self.room, self.len, count.saturating_add(BEHIND))?;
         let end = self.len + count;
         self.room[self.len..end].copy_from_slice(bytes);
         self.len = end;
@@ -143,7 +154,7 @@ impl TextBuffer {
     pub fn push(&mut self, byte: u8) -> Result<(), AllocError>
         ensures items { self.new.items ≡ (if is_ok result then self.old.items ++ byte ∷ [] else self.old.items) }
     {
-        make_room(&mut self.room, self.len, 1)?;
+        make_room(&mut self.room, self.len, 1 + BEHIND)?;
         self.room[self.len] = byte;
         self.len += 1;
         Ok(())

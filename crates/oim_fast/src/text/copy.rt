@@ -1,8 +1,9 @@
 //! Copies of many bytes at once.
 
-ghost use Rattle.std.specs.Prelude.{◌≡◌, ◌+◌, ◌++◌, ◌*◌, ◌≤◌, OnOk, if◌then◌else◌, is_ok, length, map, take};
+ghost use Rattle.std.specs.Prelude.{◌≡◌, ◌+◌, ◌++◌, ◌*◌, ◌<◌, ◌≤◌, OnOk, if◌then◌else◌, is_ok, length, map, take};
 ghost use Rattle.std.specs.List.{flat_map, prefix_len};
 ghost use Rattle.std.specs.Simd.Lanes.{mask_l};
+ghost use mathlib.Core.List.{IsPrefix};
 ghost use Rattle.oim_fast.specs.Escapes.{is_escaped};
 ghost use Rattle.oim_json.specs.JsonText.{escaped_byte, is_unescaped, quoted};
 ghost use Rattle.oim_fast.specs.Places.{Placed};
@@ -47,16 +48,14 @@ fn copy_exactly(room: &mut [u8], at: usize, text: &[u8]) -> usize
     copy_short(room, at, text)
 }
 
-/// Copies the first `len` bytes of a text to a place. Up to 32 bytes behind them may be written too. Answers where they end.
+/// Copies the first `len` bytes of a text that has 32 more to a place. Up to 32 bytes behind them may be written too. Answers where
+/// they end.
 #[inline(always)]
-pub(crate) fn copy(room: &mut [u8], at: usize, text: &[u8], len: usize) -> usize
-    requires text { len ≤ length text.now }
+pub(crate) fn copy_padded(room: &mut [u8], at: usize, text: &[u8], len: usize) -> usize
+    requires text { len + 32 ≤ length text.now }
     requires room { at + len + 32 ≤ length room.old }
     ensures { Placed room.old room.new at (take len text.now) result }
 {
-    if text.len() - len < AT_ONCE {
-        return copy_exactly(room, at, &text[..len]);
-    }
     let mut done = 0;
     loop {
         copy_chunk(room, at + done, &text[done..]);
@@ -67,13 +66,41 @@ pub(crate) fn copy(room: &mut [u8], at: usize, text: &[u8], len: usize) -> usize
     }
 }
 
+/// The same of a text that may have no more.
+#[inline(always)]
+pub(crate) fn copy(room: &mut [u8], at: usize, text: &[u8], len: usize) -> usize
+    requires text { len ≤ length text.now }
+    requires room { at + len + 32 ≤ length room.old }
+    ensures { Placed room.old room.new at (take len text.now) result }
+{
+    if text.len() - len < AT_ONCE {
+        return copy_exactly(room, at, &text[..len]);
+    }
+    copy_padded(room, at, text, len)
+}
+
+/// The same of all `len` bytes of a text that grows and is not empty.
+#[inline(always)]
+pub(crate) fn copy_some(room: &mut [u8], at: usize, text: &TextBuffer, len: usize) -> usize
+    requires whole { len ≡ length text.now.items }
+    requires some { 0 < len }
+    requires room { at + len + 32 ≤ length room.old }
+    ensures { Placed room.old room.new at text.now.items result }
+{
+    copy_padded(room, at, text.room.as_slice(), len)
+}
+
 /// The same of the whole of a text that grows.
 #[inline(always)]
 pub(crate) fn copy_text(room: &mut [u8], at: usize, text: &TextBuffer) -> usize
     requires { at + length text.now.items + 32 ≤ length room.old }
     ensures { Placed room.old room.new at text.now.items result }
 {
-    copy(room, at, text.room.as_slice(), text.len)
+    let len = text.len();
+    if len == 0 {
+        return at;
+    }
+    copy_some(room, at, text, len)
 }
 
 /// Marks the bytes that JSON escapes: bit k is set for byte k.
@@ -175,13 +202,13 @@ fn put_part(out: &mut TextBuffer, text: &[u8], len: usize) -> Result<(), AllocEr
     requires few { len ≤ 1024 }
     ensures { out.new.items ≡ (if is_ok result then out.old.items ++ flat_map escaped_byte (take len text.now) else out.old.items) }
 {
-    make_room(&mut out.room, out.len, 6 * len + AT_ONCE)?;
+    make_room(&mut out.room, out.len, 6 * len + 2 * AT_ONCE)?;
     let end = copy_escaped(&mut out.room, out.len, text, len);
     out.len = end;
     Ok(())
 }
 
-/// Appends the first `len` bytes of a text, escaped. Fails where memory is short.
+/// Appends the first `len` bytes of a text, escaped. Fails where memory is short; what was there stays at the front.
 #[inline(always)]
 pub(crate) fn put_escaped_front(
     out: &mut TextBuffer,
@@ -189,7 +216,8 @@ pub(crate) fn put_escaped_front(
     len: usize,
 ) -> Result<(), AllocError>
     requires { len ≤ length text.now }
-    ensures { OnOk result (out.new.items ≡ out.old.items ++ flat_map escaped_byte (take len text.now)) }
+    ensures escaped { OnOk result (out.new.items ≡ out.old.items ++ flat_map escaped_byte (take len text.now)) }
+    ensures stays { IsPrefix out.old.items out.new.items }
 {
     let mut done = 0;
     while len - done > PART {

@@ -2,8 +2,8 @@ use Rattle.std.proofs.Common.{◌≡◌, subst, IfSome, List, ℕ, Option}
 use Rattle.oim_json.specs.Sinks.{SinkView, sink_at}
 use Rattle.oim_json.specs.declared.layout.Layout.{Layout}
 use Rattle.oim_convert.specs.Answer.{streams}
-use Rattle.oim_run.specs.Conversion.{profile}
-use Rattle.oim_run.specs.Folders.{Files}
+use Rattle.oim_files.specs.Metadata.{profile}
+use Rattle.oim_files.specs.Folders.{Files}
 use Rattle.oim_run.specs.Outcomes.{EndsAs}
 use Rattle.oim_run.specs.Runs.{EndsOver, range_fault, table_files}
 use Rattle.oim_run.specs.declared.outcome.Outcome.{Outcome}
@@ -26,13 +26,13 @@ returns-in-Err-clause-ends g c =
     let ring = c.args.settings.now.ring in
     let layout = c.args.settings.now.layout in
     let sink = sink_at (g.W.Sink.mark c.args.sink.now) (g.W.Sink.told c.args.sink.now) in
-    named told meta _ types _ workers ring layout sink sink c.in-Err.outcome c.as_str-meta.ensures c.as_str-types.ensures
-    (stops told c.folder_of-base.result.now meta types workers ring layout sink c.in-Err.outcome c.folder_of-base.ensures c.in-Err.ensures.gives)
+    named told meta _ types _ workers ring layout sink sink c.ended_early.result c.as_str-meta.ensures c.as_str-types.ensures
+    (stops told c.folder_of-base.result.now meta types workers ring layout sink c.in-Err.fault c.ended_early.result c.folder_of-base.ensures c.in-Err.ensures.gives c.ended_early.ensures)
 
 pub returns-in-Err-clause-leaves : goal.returns-in-Err-clause-leaves
 returns-in-Err-clause-leaves g c =
     early_leaves (range_fault c.args.settings.now.workers c.args.settings.now.ring) (sink_at (g.W.Sink.mark c.args.sink.now) (g.W.Sink.told c.args.sink.now))
-    c.in-Err.outcome c.in-Err.ensures.early
+    c.in-Err.fault c.ended_early.result c.ended_early.ensures
 
 pub returns-in-Ok-clause-ends : goal.returns-in-Ok-clause-ends
 returns-in-Ok-clause-ends g c =

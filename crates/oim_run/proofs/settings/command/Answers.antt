@@ -10,4 +10,5 @@ returns c =
     let four = c.with-command-4.ensures _ _ three c.flag-whole.ensures.rule in
     let five = c.with-command-5.ensures _ _ four c.word_option-layout.ensures.rule in
     let six = c.with-command-6.ensures _ _ five c.flag-progress.ensures.rule in
-    c.with.ensures _ _ six c.flag.ensures.rule
+    let seven = c.with-command-7.ensures _ _ six c.flag-explain.ensures.rule in
+    c.with.ensures _ _ seven c.option-2.ensures.rule

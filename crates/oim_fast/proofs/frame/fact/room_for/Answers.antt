@@ -10,6 +10,6 @@ returns c =
     let t = c.args.frame.now in
     let all : frame_length t ≡ length a.text.items = ap frame_length (sym c.frame.view_is) ∙ frame_length_is a.text.items a.lead a.opening a.body a.runs.items c.frame.invariant a.kind a.decimals in
     let segments : length t.segments ≡ length a.runs.items = ap (λ (q : FrameValue). length q.segments) (sym c.frame.view_is) ∙ segments_length a.text.items a.body a.runs.items in
-    let count : c.in_ok-count.count ≡ length t.segments + 1 = omega (arith, segments, c.len.ensures, c.in_ok-count.ensures) in
-    let products : c.in_ok-count.count * c.args.most ≡ (length t.segments + 1) * c.args.most = ap (λ n. n * c.args.most) count in
-    omega (arith, all, products, c.in_ok-references.ensures, c.in_ok-escaped.ensures, c.in_ok-front.ensures, c.len-2.ensures, c.in_ok-text.ensures, c.in_ok-all.ensures, c.in_ok-room.ensures)
+    let count : c.len-count.result ≡ length t.segments = omega (arith, segments, c.len-count.ensures) in
+    let products : (c.len-count.result + 1) * c.args.most ≡ (length t.segments + 1) * c.args.most = ap (λ n. (n + 1) * c.args.most) count in
+    omega (arith, all, products, c.in_ok-front.ensures, c.len.ensures)

@@ -12,8 +12,8 @@ write_runs-requires-clause-references c = rw c.as_slice.ensures.value (runs_with
 pub write_runs-requires-clause-room : goal.write_runs-requires-clause-room
 write_runs-requires-clause-room c = rw c.as_slice.ensures.value (runs_fit c.frame.invariant c.frame.view_is c.in_ok-at.ensures (6 * c.args.value.now.len) c.requires.room)
 
-pub returns-in_err-end : goal.returns-in_err-end
-returns-in_err-end c =
+pub returns-in_err-end-clause-object : goal.returns-in_err-end-clause-object
+returns-in_err-end-clause-object c =
     let so = c.in_ok-at.ensures.bytes in
     rw c.from_residual-in_err-end.ensures (Stays-then (omega (arith, so.moved)) (Placed-stays (omega (arith, c.requires.room)) so) c.in_err-end.ensures)
 
@@ -35,7 +35,7 @@ write_value-requires-clause-room c =
     let before = body_before c.frame.invariant c.frame.view_is c.in_ok-at.ensures runs in
     omega (arith, fits, before, c.close_dimensions-at.ensures.moved, c.close_dimensions-at.ensures.len)
 
-pub returns : goal.returns
-returns c =
+pub returns-clause-object : goal.returns-clause-object
+returns-clause-object c =
     let runs = rw c.as_slice.ensures.value at c.in_ok-end.ensures in
-    object_written c.frame.invariant c.frame.view_is c.in_ok-at.ensures runs (omega (arith, c.requires.room)) c.close_dimensions-at.ensures c.write_value.ensures
+    object_written c.frame.invariant c.frame.view_is c.in_ok-at.ensures runs (omega (arith, c.requires.room)) c.close_dimensions-at.ensures c.write_value.ensures.bytes

@@ -1,4 +1,4 @@
-use Rattle.std.proofs.Common.{◌≡◌, ◌++◌, List, Option, None, Some, ℕ, ap, sym, subst, ◌∙◌}
+use Rattle.std.proofs.Common.{arith, rules, ◌≡◌, ◌++◌, List, Option, None, Some, ℕ, ap, sym, subst, ◌∙◌}
 use Rattle.std.specs.Prelude.{decimal}
 use Rattle.std.specs.List.{flat_map}
 use Rattle.std.specs.Result.{OnOk}
@@ -20,7 +20,7 @@ returns-in_ok-put-in-None c =
     let out = c.args.out.now.items in
     let mid = c.put.new.self.items in
     let place : id_place_of x.form ≡ None = sym (c.id_place.ensures ∙ ap (λ (f : Reading). id_place_of f) c.form.ensures) ∙ c.in-None.is in
-    let whole : mid ++ flat_map escaped_byte c.digits.result.now ≡ out ++ flat_map escaped_byte (row_id_text (id_place_of x.form) x.number x.fields) =
-    ap (λ t. mid ++ flat_map escaped_byte t) c.digits.ensures.value ∙ ap (λ t. t ++ flat_map escaped_byte (decimal x.number)) c.in_ok-put-in-None.ensures.items
-    ∙ number_put out x.number ∙ sym (ap (λ (o : Option ℕ). out ++ flat_map escaped_byte (row_id_text o x.number x.fields)) place) in
-    subst (λ (t : List ℕ). OnOk c.put_escaped-in-None.result (c.put_escaped-in-None.new.out.items ≡ t)) whole c.put_escaped-in-None.ensures.escaped
+    let whole : mid ++ c.digits.result.now ≡ out ++ flat_map escaped_byte (row_id_text (id_place_of x.form) x.number x.fields) =
+    ap (λ t. mid ++ t) c.digits.ensures.value ∙ ap (λ t. t ++ decimal x.number) c.in_ok-put-in-None.ensures.items
+    ∙ number_put out x.number (omega (arith, c.digits.ensures.within)) ∙ sym (ap (λ (o : Option ℕ). out ++ flat_map escaped_byte (row_id_text o x.number x.fields)) place) in
+    search rules

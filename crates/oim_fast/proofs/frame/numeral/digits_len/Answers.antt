@@ -1,9 +1,10 @@
-use Rattle.std.proofs.Common.{sym, subst}
+use Rattle.std.proofs.Common.{arith, subst, take-take, length-take-le}
 use Rattle.std.specs.Str.Parse.{AllDigits}
-use Rattle.std.proofs.lemmas.List.{take_more}
-use Rattle.oim_fast.proofs.Numerals.{digits_push}
+use Rattle.oim_fast.proofs.NumeralMarks.{fewer_digits}
 use Rattle.oim_fast.proofs.frame.numeral.digits_len.Goals as goal
 
-pub loop-i-preserved : goal.loop-i-preserved
-loop-i-preserved c =
-    subst (AllDigits 10) (sym (take_more c.args.text.now c.loop-i.i 0 c.loop-i-test.true)) (digits_push _ _ c.loop-i.invariant c.if-not-is_ascii_digit.ensures.bound)
+pub returns-then-text-lt-AT_ONCE-clause-digits : goal.returns-then-text-lt-AT_ONCE-clause-digits
+returns-then-text-lt-AT_ONCE-clause-digits c = subst (AllDigits 10) (take-take c.digits_one_by_one.result c.args.len c.args.text.now (omega (arith, length-take-le c.args.len c.args.text.now c.requires))) c.digits_one_by_one.ensures.digits
+
+pub returns-else-run-len-clause-digits : goal.returns-else-run-len-clause-digits
+returns-else-run-len-clause-digits c = fewer_digits c.args.len c.digits_at_once-run.result c.args.text.now (omega arith) c.digits_at_once-run.ensures

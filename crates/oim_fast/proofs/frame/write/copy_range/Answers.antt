@@ -13,4 +13,4 @@ returns c =
     let to = c.args.to in
     let is : take c.text.inside.len room ≡ text = ap (take c.text.inside.len) c.deref.ensures.value ∙ ap (λ (b : BufferText). b.items) c.text.view_is in
     let same : take (to - from) (drop from room) ≡ slice_range text from to = range_of_front room text c.text.inside.len from to is c.requires.range.0 c.requires.range.1 in
-    rw same at (rw (take_rest room from) at c.copy.ensures)
+    rw same at (rw (take_rest room from) at c.copy_padded.ensures)

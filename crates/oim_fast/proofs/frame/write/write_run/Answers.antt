@@ -33,13 +33,13 @@ returns c =
     let given = answered c.args.references.now run.reference a c.requires.reference c.at-answer.ensures c.if-not-answer.false in
     let front = slice_range text c.args.from run.alone in
     let name = slice_range text run.alone run.named in
-    let both = Placed-then c.copy_range-named.ensures c.copy_text.ensures in
+    let both = Placed-then c.copy_range-named.ensures c.copy_some.ensures in
     let some : 0 < length a.json.items = omega (arith, c.len-size.ensures) in
     let same : slice_range text c.args.from run.named ++ a.json.items ≡ front ++ behind name (given_by c.args.references.now run.reference) =
     ap (λ q. q ++ a.json.items) (range_split text c.args.from run.alone run.named c.requires.range.0 c.requires.range.1) ∙ append_assoc front name a.json.items
     ∙ ap (λ q. front ++ q) (sym (behind_some name a.json.items some) ∙ ap (behind name) given.json) in
     record {
       sound = given.sound;
-      bytes = subst (λ (q : List ℕ). Placed c.args.room.now c.copy_text.new.room c.args.at q c.copy_text.result) same both;
-      few = omega (arith, c.copy_range-named.ensures.moved, c.copy_text.ensures.moved, c.len-size.ensures, length-take (run.named - c.args.from) (drop c.args.from text));
+      bytes = subst (λ (q : List ℕ). Placed c.args.room.now c.copy_some.new.room c.args.at q c.copy_some.result) same both;
+      few = omega (arith, c.copy_range-named.ensures.moved, c.copy_some.ensures.moved, c.len-size.ensures, length-take (run.named - c.args.from) (drop c.args.from text));
     }

@@ -1,4 +1,4 @@
-use Rattle.std.proofs.Common.{◌∙◌, ap, sym, arith, inl, inr}
+use Rattle.std.proofs.Common.{◌∙◌, ap, sym, arith, inl}
 use Rattle.oim_rows.specs.RowFacts.{Reading}
 use Rattle.oim_decode.specs.Blocks.{BlocksLeft, answered_of}
 use Rattle.oim_decode.proofs.Advances.{behind_end, behind_fault, behind_row, end_reached, fault_reached, no_answer, row_added, stays}

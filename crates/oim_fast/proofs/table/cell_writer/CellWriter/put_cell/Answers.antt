@@ -1,9 +1,9 @@
-use Rattle.std.proofs.Common.{◌≡◌, ◌<◌, ◌∙◌, ℕ, List, Option, Some, None, IfSome, [], true, length, map, get_or, refl, sym, ap, subst, arith}
+use Rattle.std.proofs.Common.{◌≡◌, ◌<◌, ◌∙◌, ℕ, List, Option, Some, None, IfSome, [], true, length, map, take, get_or, refl, sym, ap, subst, arith}
 use Rattle.oim_cells.specs.Cells.{Meaning, meaning_of}
 use Rattle.oim_report.specs.declared.kind.Kind.{Kind}
 use Rattle.oim_resolve.specs.Facts.{cell_result, fact_meaning, is_absent}
 use Rattle.oim_rows.specs.RowFacts.{field_or_empty}
-use Rattle.oim_fast.specs.CellValues.{IsCellValue, IsValue}
+use Rattle.oim_fast.specs.CellValues.{IsValue}
 use Rattle.oim_fast.specs.CellWriters.{PutsCell, column_at}
 use Rattle.oim_fast.specs.Columns.{IsFactColumn}
 use Rattle.oim_fast.specs.Facts.{WritesFact}
@@ -12,9 +12,8 @@ use Rattle.oim_fast.specs.KeptFrames.{IsTextFor, text_in}
 use Rattle.oim_fast.specs.References.{key_of}
 use Rattle.oim_fast.specs.Rows.{cell_in}
 use Rattle.oim_fast.specs.declared.frame.fact_column.FactColumn.{FactColumn}
-use Rattle.oim_fast.specs.declared.frame.value.CellValue.{CellValue}
 use Rattle.oim_fast.specs.declared.row.group_cells.GroupCells.{GroupCells}
-use Rattle.oim_fast.proofs.CellWriterLaws.{cell_meaning, column_set, column_there, nothing_written, of_references, puts_fact, value_is_plain}
+use Rattle.oim_fast.proofs.CellWriterLaws.{cell_meaning, column_set, column_there, nothing_written, of_references, puts_fact, puts_said, value_is_plain}
 use Rattle.oim_fast.proofs.Texts.{empty_meaning}
 use Rattle.oim_fast.proofs.WriteLaws.{none_given}
 use Rattle.oim_fast.proofs.table.cell_writer.CellWriter.put_cell.Goals as goal
@@ -29,8 +28,9 @@ returns-then-size-eq0-clause-cell c =
     let column : IsFactColumn x.form old.maker.cells.list.items k = subst (IsFactColumn x.form old.maker.cells.list.items) (sym is) (c.requires.row.columns.are c.args.i k c.requires.within) in
     let field = field_or_empty x.fields (Some k.place) in
     let means : meaning_of field ≡ fact_meaning (cell_in x k.column) = cell_meaning x old.maker.cells.list.items k column in
-    let none : c.text_at-cell.result.now ≡ [] = none_given c.text_at-cell.result.now (omega arith) in
-    let absent : is_absent (fact_meaning (cell_in x k.column)) ≡ true = ap is_absent (sym means ∙ ap meaning_of (sym c.text_at-cell.ensures ∙ none) ∙ empty_meaning) in
+    let size : c.bytes_at-size.result.1 ≡ 0 = omega arith in
+    let none : [] ≡ field = subst (λ (n : ℕ). take n c.bytes_at-size.result.0.now ≡ field) size c.bytes_at-size.ensures.bytes in
+    let absent : is_absent (fact_meaning (cell_in x k.column)) ≡ true = ap is_absent (sym means ∙ ap meaning_of (sym none) ∙ empty_meaning) in
     subst (λ (n : ℕ). WritesFact (cell_result (cell_in x n)) c.args.out.now.items c.args.out.now.items) there (nothing_written x k.column c.args.out.now.items absent)
 
 pub returns-in_err-at-clause-row : goal.returns-in_err-at-clause-row
@@ -97,56 +97,8 @@ returns-in-Some-quick_value-clause-row c =
       number = c.requires.row.number;
     }
 
-pub returns-in_err-value-clause-row : goal.returns-in_err-value-clause-row
-returns-in_err-value-clause-row c =
-    let x = c.args.row.now in
-    let old = c.args.self.now in
-    let k = c.index_mut-column.result.now in
-    let is : k ≡ get_or old.columns.items c.args.i k = c.index_mut-column.ensures.value in
-    record {
-      columns = column_set x.form old.maker.cells.list.items c.frame_for.new.maker.cells.list.items old.columns.items c.args.i k c.frame_for.new.column c.requires.row.columns c.requires.within is
-          (ap (λ (g : GroupCells). g.list.items) c.frame_for.ensures.cells) (ap (λ (q : FactColumn). q.column) c.frame_for.ensures.same) c.frame_for.ensures.column;
-      maker = c.frame_for.ensures.maker;
-      frames = c.frame_for.ensures.frames;
-      lead = c.requires.row.lead;
-      start = c.requires.row.start;
-      number = c.requires.row.number;
-    }
-
-pub returns-in-Value-clause-row : goal.returns-in-Value-clause-row
-returns-in-Value-clause-row c =
-    let x = c.args.row.now in
-    let old = c.args.self.now in
-    let k = c.index_mut-column.result.now in
-    let is : k ≡ get_or old.columns.items c.args.i k = c.index_mut-column.ensures.value in
-    record {
-      columns = column_set x.form old.maker.cells.list.items c.frame_for.new.maker.cells.list.items old.columns.items c.args.i k c.frame_for.new.column c.requires.row.columns c.requires.within is
-          (ap (λ (g : GroupCells). g.list.items) c.frame_for.ensures.cells) (ap (λ (q : FactColumn). q.column) c.frame_for.ensures.same) c.frame_for.ensures.column;
-      maker = c.frame_for.ensures.maker;
-      frames = c.frame_for.ensures.frames;
-      lead = c.requires.row.lead;
-      start = c.requires.row.start;
-      number = c.requires.row.number;
-    }
-
-pub returns-in-NoFact-clause-row : goal.returns-in-NoFact-clause-row
-returns-in-NoFact-clause-row c =
-    let x = c.args.row.now in
-    let old = c.args.self.now in
-    let k = c.index_mut-column.result.now in
-    let is : k ≡ get_or old.columns.items c.args.i k = c.index_mut-column.ensures.value in
-    record {
-      columns = column_set x.form old.maker.cells.list.items c.frame_for.new.maker.cells.list.items old.columns.items c.args.i k c.frame_for.new.column c.requires.row.columns c.requires.within is
-          (ap (λ (g : GroupCells). g.list.items) c.frame_for.ensures.cells) (ap (λ (q : FactColumn). q.column) c.frame_for.ensures.same) c.frame_for.ensures.column;
-      maker = c.frame_for.ensures.maker;
-      frames = c.frame_for.ensures.frames;
-      lead = c.requires.row.lead;
-      start = c.requires.row.start;
-      number = c.requires.row.number;
-    }
-
-pub returns-in-Unknown-clause-row : goal.returns-in-Unknown-clause-row
-returns-in-Unknown-clause-row c =
+pub returns-clause-row : goal.returns-clause-row
+returns-clause-row c =
     let x = c.args.row.now in
     let old = c.args.self.now in
     let k = c.index_mut-column.result.now in
@@ -217,35 +169,11 @@ returns-in-Some-quick_value-clause-cell c =
     (puts_fact x old.maker.cells.list.items k rs t v old.start.start.items c.args.out.now.items c.put_fact.new.out.items c.requires.row.number column c.frame_for.ensures.maker.fresh text meant c.requires.row.start
     c.put_fact.result c.put_fact.ensures)
 
-pub put_fact-requires-in-Value-clause-plain : goal.put_fact-requires-in-Value-clause-plain
-put_fact-requires-in-Value-clause-plain c =
+pub put_rare-requires : goal.put_rare-requires
+put_rare-requires c =
     let x = c.args.row.now in
     let old = c.args.self.now in
     let k = c.index_mut-column.result.now in
-    let is : k ≡ get_or old.columns.items c.args.i k = c.index_mut-column.ensures.value in
-    let there : k.column ≡ column_at x.form c.args.i = column_there x.form old.maker.cells.list.items old.columns.items c.args.i k c.requires.row.columns c.requires.within is in
-    let column : IsFactColumn x.form old.maker.cells.list.items k = subst (IsFactColumn x.form old.maker.cells.list.items) (sym is) (c.requires.row.columns.are c.args.i k c.requires.within) in
-    let field = field_or_empty x.fields (Some k.place) in
-    let means : meaning_of field ≡ fact_meaning (cell_in x k.column) = cell_meaning x old.maker.cells.list.items k column in
-    let rs = c.frame_for.new.maker.references in
-    let vs = c.frame_for.new.self.list.items in
-    let t = c.in-Some-text.frame.now in
-    let first : IfSome (text_in vs c.in-Some.at) (IsTextFor x (map key_of rs) k.column) = subst (λ (o : Option ℕ). IfSome o (λ place. IfSome (text_in vs place) (IsTextFor x (map key_of rs) k.column))) c.in-Some.is c.in_ok-at.ensures.text in
-    let text : IsTextFor x (map key_of rs) k.column t = subst (λ (o : Option FrameValue). IfSome o (IsTextFor x (map key_of rs) k.column)) c.in-Some-text.ensures first in
-    let kind : c.frame.inside.kind ≡ t.kind = ap (λ (q : FrameValue). q.kind) c.frame.view_is in
-    let v = c.in-Value.value in
-    let said : IsValue x.form.report c.frame.inside.kind (meaning_of c.text_at-cell.result.now) v =
-    subst (λ (q : CellValue). IsCellValue x.form.report c.frame.inside.kind (meaning_of c.text_at-cell.result.now) q) c.in-Value.is c.in_ok-value.ensures in
-    let value : IsValue x.form.report t.kind (meaning_of field) v =
-    subst (λ (q : Kind). IsValue x.form.report q (meaning_of field) v) kind (subst (λ (q : List ℕ). IsValue x.form.report c.frame.inside.kind (meaning_of q) v) c.text_at-cell.ensures said) in
-    value_is_plain x.form.report t.kind (meaning_of field) v value
-
-pub put_fact-requires-in-Value-clause-references : goal.put_fact-requires-in-Value-clause-references
-put_fact-requires-in-Value-clause-references c =
-    let x = c.args.row.now in
-    let old = c.args.self.now in
-    let k = c.index_mut-column.result.now in
-    let is : k ≡ get_or old.columns.items c.args.i k = c.index_mut-column.ensures.value in
     let rs = c.frame_for.new.maker.references in
     let vs = c.frame_for.new.self.list.items in
     let t = c.in-Some-text.frame.now in
@@ -253,43 +181,19 @@ put_fact-requires-in-Value-clause-references c =
     let text : IsTextFor x (map key_of rs) k.column t = subst (λ (o : Option FrameValue). IfSome o (IsTextFor x (map key_of rs) k.column)) c.in-Some-text.ensures first in
     of_references x.form rs _ _ t text.text
 
-pub returns-in-Value-clause-cell : goal.returns-in-Value-clause-cell
-returns-in-Value-clause-cell c =
+pub returns-clause-cell : goal.returns-clause-cell
+returns-clause-cell c =
     let x = c.args.row.now in
     let old = c.args.self.now in
     let k = c.index_mut-column.result.now in
     let is : k ≡ get_or old.columns.items c.args.i k = c.index_mut-column.ensures.value in
     let there : k.column ≡ column_at x.form c.args.i = column_there x.form old.maker.cells.list.items old.columns.items c.args.i k c.requires.row.columns c.requires.within is in
     let column : IsFactColumn x.form old.maker.cells.list.items k = subst (IsFactColumn x.form old.maker.cells.list.items) (sym is) (c.requires.row.columns.are c.args.i k c.requires.within) in
-    let field = field_or_empty x.fields (Some k.place) in
-    let means : meaning_of field ≡ fact_meaning (cell_in x k.column) = cell_meaning x old.maker.cells.list.items k column in
     let rs = c.frame_for.new.maker.references in
     let vs = c.frame_for.new.self.list.items in
     let t = c.in-Some-text.frame.now in
     let first : IfSome (text_in vs c.in-Some.at) (IsTextFor x (map key_of rs) k.column) = subst (λ (o : Option ℕ). IfSome o (λ place. IfSome (text_in vs place) (IsTextFor x (map key_of rs) k.column))) c.in-Some.is c.in_ok-at.ensures.text in
     let text : IsTextFor x (map key_of rs) k.column t = subst (λ (o : Option FrameValue). IfSome o (IsTextFor x (map key_of rs) k.column)) c.in-Some-text.ensures first in
-    let kind : c.frame.inside.kind ≡ t.kind = ap (λ (q : FrameValue). q.kind) c.frame.view_is in
-    let v = c.in-Value.value in
-    let said : IsValue x.form.report c.frame.inside.kind (meaning_of c.text_at-cell.result.now) v =
-    subst (λ (q : CellValue). IsCellValue x.form.report c.frame.inside.kind (meaning_of c.text_at-cell.result.now) q) c.in-Value.is c.in_ok-value.ensures in
-    let value : IsValue x.form.report t.kind (meaning_of field) v =
-    subst (λ (q : Kind). IsValue x.form.report q (meaning_of field) v) kind (subst (λ (q : List ℕ). IsValue x.form.report c.frame.inside.kind (meaning_of q) v) c.text_at-cell.ensures said) in
-    let meant : IsValue x.form.report t.kind (fact_meaning (cell_in x k.column)) v = subst (λ (m : Meaning). IsValue x.form.report t.kind m v) means value in
-    subst (λ (n : ℕ). PutsCell x n c.args.out.now.items c.put_fact-in-Value.new.out.items c.put_fact-in-Value.result) there
-    (puts_fact x old.maker.cells.list.items k rs t v old.start.start.items c.args.out.now.items c.put_fact-in-Value.new.out.items c.requires.row.number column c.frame_for.ensures.maker.fresh text meant c.requires.row.start
-    c.put_fact-in-Value.result c.put_fact-in-Value.ensures)
-
-pub returns-in-NoFact-clause-cell : goal.returns-in-NoFact-clause-cell
-returns-in-NoFact-clause-cell c =
-    let x = c.args.row.now in
-    let old = c.args.self.now in
-    let k = c.index_mut-column.result.now in
-    let is : k ≡ get_or old.columns.items c.args.i k = c.index_mut-column.ensures.value in
-    let there : k.column ≡ column_at x.form c.args.i = column_there x.form old.maker.cells.list.items old.columns.items c.args.i k c.requires.row.columns c.requires.within is in
-    let column : IsFactColumn x.form old.maker.cells.list.items k = subst (IsFactColumn x.form old.maker.cells.list.items) (sym is) (c.requires.row.columns.are c.args.i k c.requires.within) in
-    let field = field_or_empty x.fields (Some k.place) in
-    let means : meaning_of field ≡ fact_meaning (cell_in x k.column) = cell_meaning x old.maker.cells.list.items k column in
-    let said : is_absent (meaning_of c.text_at-cell.result.now) ≡ true =
-    subst (λ (q : CellValue). IsCellValue x.form.report c.frame.inside.kind (meaning_of c.text_at-cell.result.now) q) c.in-NoFact.is c.in_ok-value.ensures in
-    let absent : is_absent (fact_meaning (cell_in x k.column)) ≡ true = ap is_absent (sym means ∙ ap meaning_of (sym c.text_at-cell.ensures)) ∙ said in
-    subst (λ (n : ℕ). WritesFact (cell_result (cell_in x n)) c.args.out.now.items c.args.out.now.items) there (nothing_written x k.column c.args.out.now.items absent)
+    subst (λ (n : ℕ). PutsCell x n c.args.out.now.items c.put_rare.new.out.items c.put_rare.result) there
+    (puts_said x old.maker.cells.list.items k rs t old.start.start.items c.args.out.now.items c.put_rare.new.out.items c.requires.row.number column c.frame_for.ensures.maker.fresh text c.requires.row.start
+    c.put_rare.result (rw c.text_at-cell.ensures at c.put_rare.ensures))

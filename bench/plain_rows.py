@@ -1,0 +1,95 @@
+#!/usr/bin/env python3
+"""Counts the rows that go the plain way, and fails where a good report has any.
+
+    plain_rows.py PROGRAM [FOLDER..]
+
+A good row has the fast way, and no proof sees one that goes the plain way by mistake: it is right, and some ten times as slow. So
+this runs PROGRAM, with one worker, under valgrind on a small report of each shape of generate.py, and counts the calls of
+the function that writes a row the plain way. FOLDER is one more report: its meta.json and types.csv, or the words of the first
+run in its case.json, where that run is to end with status 0.
+
+Prints a line for each report: its rows that went the plain way, and its name. The status is 1 where there is such a row. PROGRAM must have
+the names of its functions, as a program that was built here has and dist/xbrl-json has not. Needs Linux and valgrind.
+"""
+import argparse
+import json
+import re
+import subprocess
+import sys
+import tempfile
+from pathlib import Path
+
+HERE = Path(__file__).resolve().parent
+PLAIN_WAY = "oim_decode::table::plain_rows::PlainRows::put_row"
+SHAPES = {"positions": [], "positions with identifiers": ["--row-ids"], "mixed": [], "texts": [], "datapoints": []}
+
+
+def plain_rows(program, folder, words):
+    """The rows of a report that went the plain way, or None where the run failed."""
+    with tempfile.TemporaryDirectory() as out:
+        counts = Path(out) / "counts"
+        command = ["valgrind", "--tool=callgrind", "--quiet", f"--callgrind-out-file={counts}", program, *words]
+        done = subprocess.run(command, cwd=folder, stdin=subprocess.DEVNULL, stdout=subprocess.DEVNULL, stderr=subprocess.DEVNULL)
+        return calls(counts.read_text(errors="replace")) if done.returncode == 0 else None
+
+
+def calls(counts):
+    """How often a file of counts says that the plain way was called."""
+    names, called, total = {}, "", 0
+    for line in counts.splitlines():
+        found = re.match(r"c?fn=(\(\d+\))(?: (.*))?$", line)
+        if found and found.group(2):
+            names[found.group(1)] = found.group(2)
+        if line.startswith("cfn="):
+            called = names[found.group(1)]
+        elif line.startswith("calls=") and called.startswith(PLAIN_WAY):
+            total += int(line[len("calls="):].split()[0])
+    return total
+
+
+def words_of(folder):
+    """The words that convert a report, or None where it has a fault."""
+    case = folder / "case.json"
+    if not case.exists():
+        return ["meta.json", "--types", "types.csv", "--workers", "1"]
+    told = json.loads(case.read_text(encoding="utf-8"))
+    return told["runs"][0] if told["status"] == 0 else None
+
+
+def generated(folder):
+    """A small report of each shape: its name and its folder."""
+    for i, (name, more) in enumerate(SHAPES.items()):
+        made = Path(folder) / str(i)
+        shape = [str(HERE / "generate.py"), str(made), "--shape", name.split()[0], "--megabytes", "0.1", "--tables", "2", *more]
+        subprocess.run([sys.executable, *shape], stdout=subprocess.DEVNULL, check=True)
+        yield name, made
+
+
+def reports(options, folder):
+    yield from generated(folder)
+    for each in options.folders:
+        yield str(each), each
+
+
+def main():
+    parser = argparse.ArgumentParser(description=__doc__, formatter_class=argparse.RawDescriptionHelpFormatter)
+    parser.add_argument("program", type=Path)
+    parser.add_argument("folders", nargs="*", type=Path, metavar="FOLDER")
+    options = parser.parse_args()
+    program = options.program.resolve()
+    if PLAIN_WAY.encode() not in program.read_bytes():
+        sys.exit(f"{program} has no function {PLAIN_WAY}, so its calls cannot be counted")
+    bad = 0
+    with tempfile.TemporaryDirectory() as folder:
+        for name, report in reports(options, folder):
+            words = words_of(report)
+            rows = plain_rows(program, report, words) if words else None
+            if rows is not None:
+                print(f"{rows:7} {name}", flush=True)
+                bad += rows > 0
+    if bad:
+        sys.exit(f"{bad} reports have rows that went the plain way")
+
+
+if __name__ == "__main__":
+    main()

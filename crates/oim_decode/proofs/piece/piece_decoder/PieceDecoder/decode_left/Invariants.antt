@@ -1,0 +1,10 @@
+use Rattle.std.proofs.Common.{◌≡◌, ◌≤◌, ◌+◌}
+use Rattle.oim_decode.proofs.PieceSteps.{HasDecoded}
+use Rattle.oim_decode.proofs.piece.piece_decoder.PieceDecoder.decode_left.Given as goal
+
+abbrev pub invariant-loop : goal.invariant-loop
+invariant-loop l = record {
+  decoded : HasDecoded l.fn.self.reading l.fn.first l.fn.self.left l.number l.self.left l.answer;
+  reading : l.self.reading ≡ l.fn.self.reading;
+  within : l.number ≤ l.fn.self.reading.limit + 1;
+}

@@ -1,0 +1,9 @@
+//! Pieces to facts, each by itself, and their join.
+
+pub(crate) mod piece_answer;
+mod piece_blocks;
+pub(crate) mod piece_decoder;
+pub(crate) mod piece_join;
+mod piece_rows;
+pub(crate) mod table_head;
+mod written_rows;

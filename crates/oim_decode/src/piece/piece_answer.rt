@@ -1,0 +1,125 @@
+//! What a piece gives by itself.
+
+ghost use Rattle.std.specs.Prelude.{◌≡◌, ◌++◌, ◌<◌, IfOk, None, Some, option_to_list, vec_capacity, vec_len};
+ghost use Rattle.std.specs.Option.{is_none};
+ghost use Rattle.oim_rows.specs.RowFacts.{IsTextRecord, id_place_of};
+ghost use Rattle.oim_decode.specs.Apart.{id_in};
+ghost use Rattle.oim_decode.specs.PieceAnswers.{AddsApart, cells_apart, no_rows, refused as no_memory};
+
+use crate::piece::piece_rows::PieceRows;
+use crate::table::row_texts::RowTexts;
+use oim_fast::TableRow;
+use oim_names::Text;
+use oim_records::Fields;
+use oim_rows::{TableFault, TableKind, whole_fault};
+use std::alloc::{AllocError, Global};
+use std::marker::Model;
+
+/// What a piece of a table gives by itself: the texts of the facts of its rows before the first bad one, the identifiers of these rows,
+/// where the table has a column for them, and the first fault. The identifier of the bad row is the last where only its cells have a
+/// fault. A contract sees the facts of each row, the identifiers and the fault.
+#[derive(Drop)]
+pub struct PieceAnswer {
+    pub(crate) rows: PieceRows,
+    pub(crate) ids: Vec<Text>,
+    pub(crate) fault: Option<TableFault>,
+}
+
+impl Model for PieceAnswer {
+    ghost use Rattle.oim_decode.specs.Apart.{Apart};
+
+    ghost Value = { Apart };
+
+    ghost view = { λ a. record { rows = a.rows; ids = a.ids.items; fault = a.fault } };
+}
+
+/// The identifier of a row, where its table has a column for them. Fails where memory is short.
+fn id_of(alloc: Global, row: &TableRow<'_, '_>) -> Result<Option<Text>, AllocError>
+    ensures { IfOk result (λ o. id_in (id_place_of row.now.form) row.now.fields ≡ option_to_list o) }
+{
+    match row.form().id_place() {
+        Some(place) => Ok(Some(Text::from_str(alloc, row.text_at(Some(place)))?)),
+        None => Ok(None),
+    }
+}
+
+/// Adds an identifier to others, where there is room for it.
+fn keep_id(ids: &mut Vec<Text>, id: Option<Text>)
+    requires { vec_len ids.old < vec_capacity ids.old }
+    ensures { ids.new.items ≡ ids.old.items ++ option_to_list id }
+{
+    if let Some(id) = id {
+        ids.push_reserved(id);
+    }
+}
+
+impl PieceAnswer {
+    /// No row, and no fault. It takes no memory.
+    pub(crate) fn new(alloc: Global) -> PieceAnswer
+        ensures { result ≡ no_rows }
+    {
+        PieceAnswer {
+            rows: PieceRows::new(alloc),
+            ids: Vec::new(alloc),
+            fault: None,
+        }
+    }
+
+    /// No row of the table at this place, since memory was refused. It takes no memory.
+    pub fn refused(alloc: Global, table: usize) -> PieceAnswer
+        ensures { result ≡ no_memory table }
+    {
+        let mut answer = PieceAnswer::new(alloc);
+        answer.end(whole_fault(table, TableKind::Memory));
+        answer
+    }
+
+    /// Ends with a fault.
+    pub(crate) fn end(&mut self, fault: TableFault)
+        ensures { self.new ≡ record self.old { fault = Some fault } }
+    {
+        self.fault = Some(fault);
+    }
+
+    /// Adds a row that has no fault apart from its cells, or ends with the fault of the first of its cells that has one, or with Memory where
+    /// memory is short. Says whether the row was added.
+    pub(crate) fn push_row<'a>(
+        &mut self,
+        alloc: Global,
+        texts: &mut RowTexts<'a>,
+        row: &TableRow<'a, '_>,
+        fields: &Fields<'_>,
+    ) -> bool
+        requires form { row.now.form ≡ texts.old }
+        requires fields { fields.now ≡ row.now.fields }
+        requires texts { IsTextRecord fields.now }
+        requires good { self.old.fault ≡ None }
+        ensures row { AddsApart row.now.form.table self.old (cells_apart row.now) self.new }
+        ensures added { result ≡ is_none self.new.fault }
+        ensures same { texts.new ≡ texts.old }
+    {
+        let Ok(id) = id_of(alloc, row) else {
+            self.end(whole_fault(row.table(), TableKind::Memory));
+            return false;
+        };
+        if self.ids.reserve(1).is_err() {
+            self.end(whole_fault(row.table(), TableKind::Memory));
+            return false;
+        }
+        match self.rows.push_row(alloc, texts, row, fields) {
+            Ok(()) => {
+                keep_id(&mut self.ids, id);
+                true
+            }
+            Err(fault) => {
+                if fault.kind == TableKind::Memory {
+                    self.fault = Some(whole_fault(row.table(), TableKind::Memory));
+                    return false;
+                }
+                keep_id(&mut self.ids, id);
+                self.fault = Some(fault);
+                false
+            }
+        }
+    }
+}

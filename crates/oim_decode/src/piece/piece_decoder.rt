@@ -1,0 +1,141 @@
+//! Decoding pieces of a table.
+
+ghost use Rattle.std.specs.Prelude.{◌≡◌, ◌≤◌, ◌+◌, [], IfOk, None, drop, length};
+ghost use Rattle.csv.specs.declared.parser.State.TheVariants as state;
+ghost use Rattle.oim_records.specs.Grids.{records_left};
+ghost use Rattle.oim_decode.specs.PieceAnswers.{IsDecoded, StepsRow};
+
+use crate::piece::piece_answer::PieceAnswer;
+use crate::piece::table_head::TableHead;
+use crate::table::row_texts::RowTexts;
+use itoa::Buffer;
+use oim_fast::TableRow;
+use oim_records::PieceRecords;
+use oim_rows::{RowForm, RowIds, TableKind, whole_fault};
+use std::alloc::{AllocError, Global};
+use std::marker::Model;
+
+/// What decodes the pieces of one table, each by itself: from its bytes and the number of its first row alone. A contract sees how the
+/// table's rows are read, and the records that are left of the piece at hand.
+#[derive(Drop)]
+pub struct PieceDecoder<'a> {
+    alloc: Global,
+    form: RowForm<'a>,
+    texts: RowTexts<'a>,
+    records: PieceRecords,
+    // the identifiers of other rows: none is known
+    ids: RowIds,
+}
+
+impl<'a> Model for PieceDecoder<'a> {
+    ghost use Rattle.std.specs.Prelude.{◌≡◌, ◌<◌, ◌^◌, ◌-◌, []};
+    ghost use Rattle.oim_decode.specs.PieceAnswers.{PieceLeft};
+
+    ghost Value = { PieceLeft };
+
+    ghost view = { λ a. record { reading = a.form; left = a.records.left } };
+
+    ghost invariant = { λ a. (a.texts ≡ a.form) × (a.ids ≡ []) × (a.form.limit < 2 ^ 32 - 1) };
+}
+
+impl<'a> PieceDecoder<'a> {
+    /// What decodes pieces of the table of this form, whose rows are at most 4,294,967,294. Fails where memory is short.
+    pub fn new(alloc: Global, form: RowForm<'a>) -> Result<PieceDecoder<'a>, AllocError>
+        requires { form.limit ≤ 4294967294 }
+        ensures { IfOk result (λ decoder. decoder ≡ record { reading = form.entry; left = [] }) }
+    {
+        let texts = RowTexts::new(alloc, &form)?;
+        Ok(PieceDecoder {
+            alloc,
+            form,
+            texts,
+            records: PieceRecords::new(alloc, Vec::new(alloc)),
+            ids: RowIds::new(alloc),
+        })
+    }
+}
+
+impl<'a> PieceDecoder<'a> {
+    /// What the rows of its table are told by.
+    pub fn form(&self) -> &RowForm<'a>
+        ensures { result.now ≡ self.now.reading }
+    {
+        &self.form
+    }
+}
+
+impl PieceDecoder<'_> {
+    /// Decodes a piece, whose first row has this number. Its text begins where a record may begin, and its end ends a record. The answer
+    /// has the piece's first fault: Ragged, NotUtf8, TooManyRows, MissingRowId, BadRowId or one of a cell; or Memory where memory is short.
+    pub fn decode(&mut self, piece: Vec<u8>, first: u32) -> PieceAnswer
+        requires { first ≤ self.old.reading.limit + 1 }
+        ensures answer { IsDecoded self.old.reading first (records_left state.StartRecord piece.items) result }
+        ensures numbers { first + length result.ids ≤ 4294967296 }
+        ensures reading { self.new.reading ≡ self.old.reading }
+    {
+        self.records.load(piece);
+        self.decode_left(first)
+    }
+
+    /// Decodes the rows behind the header in the head of the table. The answer is as that of `decode`.
+    pub fn decode_head(&mut self, head: &TableHead) -> PieceAnswer
+        ensures answer { IsDecoded self.old.reading 1 (drop 1 head.now) result }
+        ensures numbers { 1 + length result.ids ≤ 4294967296 }
+        ensures reading { self.new.reading ≡ self.old.reading }
+    {
+        let Ok(piece) = head.piece(self.alloc) else {
+            return PieceAnswer::refused(self.alloc, self.form.table());
+        };
+        self.records.load(piece);
+        match self.records.read() {
+            Ok(_) => self.decode_left(1),
+            Err(_) => PieceAnswer::refused(self.alloc, self.form.table()),
+        }
+    }
+
+    /// Decodes the records that are left of the piece at hand.
+    fn decode_left(&mut self, first: u32) -> PieceAnswer
+        requires { first ≤ self.old.reading.limit + 1 }
+        ensures answer { IsDecoded self.old.reading first self.old.left result }
+        ensures numbers { first + length result.ids ≤ 4294967296 }
+        ensures reading { self.new.reading ≡ self.old.reading }
+    {
+        let mut answer = PieceAnswer::new(self.alloc);
+        let mut number = first;
+        for _ in 0..u64::MAX {
+            if !self.next_row(number, &mut answer) {
+                return answer;
+            }
+            number += 1;
+        }
+        answer.end(whole_fault(self.form.table(), TableKind::Memory));
+        answer
+    }
+
+    /// Adds row `number`, the next record, to the rows of an answer, or ends it. Says whether it was added.
+    fn next_row(&mut self, number: u32, answer: &mut PieceAnswer) -> bool
+        requires { answer.old.fault ≡ None }
+        ensures row { StepsRow self.old.reading number self.old.left answer.old result self.new.left answer.new }
+        ensures reading { self.new.reading ≡ self.old.reading }
+    {
+        match self.records.read() {
+            Ok(true) => {}
+            Ok(false) => return false,
+            Err(_) => {
+                answer.end(whole_fault(self.form.table(), TableKind::Memory));
+                return false;
+            }
+        }
+        let fields = self.records.fields();
+        if let Some(fault) = self.form.fault_of_row(number, &self.ids, &fields) {
+            answer.end(fault);
+            return false;
+        }
+        let Some(texts) = self.records.text_fields() else {
+            unreachable!()
+        };
+        let mut buffer = Buffer::new();
+        let row = TableRow::new(&self.form, number, buffer.format(number), &texts);
+        answer.push_row(self.alloc, &mut self.texts, &row, &fields)
+    }
+}

@@ -1,0 +1,146 @@
+//! Joining the pieces of a table.
+
+ghost use Rattle.std.specs.Prelude.{◌≡◌, ◌≤◌, ◌+◌, ◌++◌, ◌<◌, [], IfOk, IfSome, None, Ok, length};
+ghost use Rattle.oim_decode.specs.Apart.{repeated_from, repeated_id};
+ghost use Rattle.oim_rows.specs.Streams.{facts_of_rows};
+ghost use Rattle.oim_decode.specs.PieceAnswers.{IsJoined};
+
+use crate::piece::piece_answer::PieceAnswer;
+use crate::piece::piece_blocks::blocks_of;
+use crate::piece::piece_rows::PieceRows;
+use oim_json::Block;
+use oim_names::Text;
+use oim_rows::{RowForm, RowIds, TableFault, TableKind, whole_fault};
+use std::alloc::{AllocError, Global};
+use std::marker::Model;
+
+/// What joins the pieces of a table, in their order. A contract sees the row identifiers of the pieces before.
+#[derive(Drop)]
+pub struct PieceJoin {
+    alloc: Global,
+    ids: RowIds,
+}
+
+impl Model for PieceJoin {
+    ghost use Rattle.std.specs.Prelude.{List, ℕ};
+
+    ghost Value = { List (List ℕ) };
+
+    ghost view = { λ a. a.ids };
+}
+
+/// The facts of a piece up to the first row whose identifier came before, and the fault behind them. A contract sees the facts of each row
+/// and the fault.
+#[derive(Drop)]
+pub struct JoinedPiece {
+    rows: PieceRows,
+    fault: Option<TableFault>,
+}
+
+impl Model for JoinedPiece {
+    ghost use Rattle.oim_rows.specs.Streams.{Stream};
+
+    ghost Value = { Stream };
+
+    ghost view = { λ a. record { rows = a.rows; fault = a.fault } };
+}
+
+/// The place of the first identifier that came before, or None; then all of them join those before. Fails where memory is short.
+#[tactic(auto, using(crate::proofs::RepeatedIds::none_passed, crate::proofs::RepeatedIds::one_passed, crate::proofs::RepeatedIds::one_found, crate::proofs::RepeatedIds::all_passed))]
+fn first_repeated(
+    alloc: Global,
+    before: &mut RowIds,
+    ids: &[Text],
+) -> Result<Option<usize>, AllocError>
+    ensures place { IfOk result (λ place. place ≡ repeated_from 0 before.old ids.now) }
+    ensures within { IfOk result (λ place. IfSome place (λ k. k < length ids.now)) }
+    ensures ids { result ≡ Ok None → before.new ≡ before.old ++ ids.now }
+{
+    for i in 0..ids.len() {
+        let id = ids[i].as_str();
+        if before.has(id) {
+            return Ok(Some(i));
+        }
+        before.push(alloc, id)?;
+    }
+    Ok(None)
+}
+
+/// The fault of row `number` where an earlier row has its identifier.
+fn fault_of_repeated_id(form: &RowForm<'_>, number: u32) -> TableFault
+    ensures { result ≡ repeated_id form.now number }
+{
+    let place = match form.id_place() {
+        Some(place) => place,
+        None => 0,
+    };
+    let column = if place < u32::MAX as usize {
+        place as u32 + 1
+    } else {
+        u32::MAX
+    };
+    TableFault {
+        table: form.table(),
+        row: number,
+        column,
+        kind: TableKind::RepeatedRowId,
+    }
+}
+
+impl PieceJoin {
+    /// No piece yet. It takes no memory.
+    pub fn new(alloc: Global) -> PieceJoin
+        ensures { result ≡ [] }
+    {
+        PieceJoin {
+            alloc,
+            ids: RowIds::new(alloc),
+        }
+    }
+
+    /// Joins the answer for the next piece of the table of this form, whose first row has this number: its rows up to the first whose identifier came
+    /// before, which is RepeatedRowId there, or all of them and the piece's own fault. With Memory, and no row, where memory is short.
+    pub fn join(&mut self, form: &RowForm<'_>, first: u32, answer: PieceAnswer) -> JoinedPiece
+        requires { first + length answer.ids ≤ 4294967296 }
+        ensures stream { IsJoined form.now first self.old answer result }
+        ensures ids { result.fault ≡ None → self.new ≡ self.old ++ answer.ids }
+    {
+        let PieceAnswer {
+            mut rows,
+            ids,
+            fault,
+        } = answer;
+        match first_repeated(self.alloc, &mut self.ids, ids.as_slice()) {
+            Ok(None) => JoinedPiece { rows, fault },
+            Ok(Some(place)) => {
+                rows.cut(place);
+                let fault = fault_of_repeated_id(form, first + place as u32);
+                JoinedPiece {
+                    rows,
+                    fault: Some(fault),
+                }
+            }
+            Err(_) => JoinedPiece {
+                rows: PieceRows::new(self.alloc),
+                fault: Some(whole_fault(form.table(), TableKind::Memory)),
+            },
+        }
+    }
+}
+
+impl JoinedPiece {
+    /// The fault behind the piece's rows.
+    pub fn fault(&self) -> Option<TableFault>
+        ensures { result ≡ self.now.fault }
+    {
+        self.fault
+    }
+
+    /// The facts of the piece in blocks of 1 to 256, in header order and row by row. Fails where memory is short.
+    pub fn into_blocks(self, alloc: Global) -> Result<Vec<Block>, AllocError>
+        ensures { IfOk result (λ blocks. facts_of_rows blocks.items ≡ facts_of_rows self.rows) }
+    {
+        let JoinedPiece { rows, fault: _ } = self;
+        blocks_of(alloc, rows)
+    }
+}

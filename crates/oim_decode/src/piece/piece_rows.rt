@@ -1,0 +1,124 @@
+//! The rows of a piece that gave their facts.
+
+ghost use Rattle.std.specs.Prelude.{◌≡◌, ◌++◌, [], List, get_or, take};
+ghost use Rattle.oim_resolve.specs.FactParts.{FactParts as FactValue};
+ghost use Rattle.oim_fast.specs.Facts.{facts_of_row};
+ghost use Rattle.oim_rows.specs.RowFacts.{IsTextRecord};
+ghost use Rattle.oim_decode.specs.PieceAnswers.{AddsRowFacts};
+ghost use Rattle.oim_decode.specs.RowEnds.{stretches};
+
+use crate::piece::written_rows::WrittenRows;
+use crate::table::row_texts::RowTexts;
+use crate::table::table_blocks::has_room;
+use oim_fast::TableRow;
+use oim_records::Fields;
+use oim_rows::{TableFault, TableKind, whole_fault};
+use std::alloc::{AllocError, Global};
+use std::marker::Model;
+use std::mem;
+
+/// The texts of the facts of a piece's rows, in stretches of whole rows that each have the facts of one block, where they fit. A
+/// contract sees the facts of each row.
+#[derive(Drop)]
+pub(crate) struct PieceRows {
+    full: Vec<WrittenRows>,
+    last: WrittenRows,
+}
+
+impl Model for PieceRows {
+    ghost use Rattle.std.specs.Prelude.{◌++◌, List};
+    ghost use Rattle.oim_resolve.specs.FactParts.{FactParts as FactValue};
+    ghost use Rattle.oim_decode.specs.RowEnds.{stretches};
+
+    ghost Value = { List (List FactValue) };
+
+    ghost view = { λ a. stretches a.full.items ++ a.last };
+}
+
+/// The stretch in which a number of rows ends, and how many of them are in it. It is the one behind these where they have not more rows.
+#[tactic(auto, using(crate::proofs::RowCuts::stretch_found, crate::proofs::RowCuts::stretch_passed, crate::proofs::RowCuts::none_found))]
+fn end_of(full: &[WrittenRows], count: usize) -> (usize, usize)
+    ensures { (last : List (List FactValue)) → take count (stretches full.now ++ last) ≡ stretches (take result.0 full.now) ++ take result.1 (get_or full.now result.0 last) }
+{
+    let mut left = count;
+    for i in 0..full.len() {
+        let size = full[i].len();
+        if left <= size {
+            return (i, left);
+        }
+        left -= size;
+    }
+    (full.len(), left)
+}
+
+impl PieceRows {
+    /// No rows. It takes no memory.
+    pub(crate) fn new(alloc: Global) -> PieceRows
+        ensures { result ≡ [] }
+    {
+        PieceRows {
+            full: Vec::new(alloc),
+            last: WrittenRows::new(alloc),
+        }
+    }
+
+    /// Begins a new stretch. Fails where memory is short. The rows stay.
+    #[tactic(auto, using(crate::proofs::RowCounts::closed))]
+    fn close(&mut self, alloc: Global) -> Result<(), AllocError>
+        ensures { self.new ≡ self.old }
+    {
+        let full = mem::replace(&mut self.last, WrittenRows::new(alloc));
+        match self.full.push(full) {
+            Ok(()) => Ok(()),
+            Err(failed) => {
+                self.last = failed.value;
+                Err(AllocError)
+            }
+        }
+    }
+
+    /// Keeps the first `count` rows, or all where there are fewer.
+    pub(crate) fn cut(&mut self, count: usize)
+        ensures { self.new ≡ take count self.old }
+    {
+        let (place, left) = end_of(self.full.as_slice(), count);
+        if place >= self.full.len() {
+            self.last.cut(left);
+            return;
+        }
+        self.full.truncate(place + 1);
+        self.last = self.full.take_last();
+        self.last.cut(left);
+    }
+
+    /// The stretches, and the one behind them.
+    pub(crate) fn into_stretches(self) -> (Vec<WrittenRows>, WrittenRows)
+        ensures { self ≡ stretches result.0.items ++ result.1 }
+    {
+        let PieceRows { full, last } = self;
+        (full, last)
+    }
+
+    /// Adds the facts of a row.
+    ///
+    /// Fails with the fault of the row's first cell that has one, and with Memory where memory is short. Then nothing is added.
+    #[tactic(auto, using(crate::proofs::RowCounts::adds_behind))]
+    pub(crate) fn push_row<'a>(
+        &mut self,
+        alloc: Global,
+        texts: &mut RowTexts<'a>,
+        row: &TableRow<'a, '_>,
+        fields: &Fields<'_>,
+    ) -> Result<(), TableFault>
+        requires form { row.now.form ≡ texts.old }
+        requires fields { fields.now ≡ row.now.fields }
+        requires texts { IsTextRecord fields.now }
+        ensures facts { AddsRowFacts row.now.form.table (facts_of_row row.now) self.old self.new result }
+        ensures same { texts.new ≡ texts.old }
+    {
+        if !has_room(self.last.count(), row.form().header().len()) && self.close(alloc).is_err() {
+            return Err(whole_fault(row.table(), TableKind::Memory));
+        }
+        self.last.push_row(alloc, texts, row, fields)
+    }
+}

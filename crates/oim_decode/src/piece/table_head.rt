@@ -1,0 +1,164 @@
+//! The beginning of a table's file, with its header.
+
+ghost use Rattle.std.specs.Prelude.{◌≡◌, ◌⊎◌, ◌-◌, ◌<◌, ◌≤◌, [], IfErr, IfNone, IfOk, IfSome, None, Some, length};
+ghost use Rattle.csv.specs.declared.parser.State.TheVariants as state;
+ghost use Rattle.oim_records.specs.Grids.{grid, records_left};
+ghost use Rattle.oim_records.specs.Reads.{KeepsLeft, StartsFile, left_behind};
+ghost use Rattle.oim_rows.specs.Header.{file_header_fault};
+ghost use Rattle.oim_rows.specs.Streams.{IsOutside};
+ghost use Rattle.oim_decode.specs.Heads.{reading_in};
+
+use crate::piece::piece_decoder::PieceDecoder;
+use oim_records::{PieceReader, ReadFault, RecordReader, rows_of};
+use oim_report::Report;
+use oim_rows::{RowForm, TableFault, TableKind, fault_of_read, whole_fault};
+use std::alloc::{AllocError, Global};
+use std::io::Read;
+use std::marker::Model;
+
+/// A byte-order mark, which a reader of records skips.
+const MARK: [u8; 3] = [0xEF, 0xBB, 0xBF];
+
+/// The first piece of a table's file that has a record: the table's header, and the rows behind it. A contract sees its records.
+#[derive(Drop)]
+pub struct TableHead {
+    // a mark, and then the piece
+    marked: Vec<u8>,
+}
+
+impl Model for TableHead {
+    ghost use Rattle.std.specs.Prelude.{◌≡◌, ◌++◌, List, drop};
+    ghost use Rattle.csv.specs.declared.parser.State.TheVariants as state;
+    ghost use Rattle.oim_records.specs.Grids.{Record, records_left};
+    ghost use Rattle.oim_decode.specs.Heads.{mark};
+
+    ghost Value = { List Record };
+
+    ghost view = { λ a. records_left state.StartRecord (drop 3 a.marked.items) };
+
+    ghost invariant = { λ a. a.marked.items ≡ mark ++ drop 3 a.marked.items };
+}
+
+/// The first piece that has a record, or `None` where no record is left. Pieces without a record are passed over.
+fn first_piece<R: Read + Drop>(pieces: &mut PieceReader<R>) -> Result<Option<Vec<u8>>, ReadFault>
+    ensures piece { IfOk result (λ o. IfSome o (λ piece. KeepsLeft (left_behind [] pieces.old) (left_behind (records_left state.StartRecord piece.items) pieces.new))) }
+    ensures some { IfOk result (λ o. IfSome o (λ piece. 1 ≤ length (records_left state.StartRecord piece.items))) }
+    ensures none { IfOk result (λ o. IfNone o (IfSome (left_behind [] pieces.old) (λ records. records ≡ []))) }
+{
+    for _ in 0..u64::MAX {
+        match pieces.next(1)? {
+            Some(piece) => {
+                if rows_of(&piece) > 0 {
+                    return Ok(Some(piece));
+                }
+            }
+            None => return Ok(None),
+        }
+    }
+    Err(ReadFault::Memory)
+}
+
+/// Reads the beginning of a table's file, past one byte-order mark, or gives `None` where the file has no record. What is left of the file is
+/// in the pieces behind the head.
+///
+/// - `Read`: the reader failed before the header's end;
+/// - `Memory`: memory ran out.
+pub fn open_pieces<R: Read + Drop>(
+    alloc: Global,
+    reader: R,
+) -> Result<Option<(TableHead, PieceReader<R>)>, ReadFault>
+    ensures file { IfOk result (λ o. IfSome o (λ opened. StartsFile (R.remaining reader) (left_behind opened.0 opened.1))) }
+    ensures header { IfOk result (λ o. IfSome o (λ opened. 1 ≤ length opened.0)) }
+    ensures none { IfOk result (λ o. IfNone o (IfSome (R.remaining reader) (λ bytes. grid bytes ≡ []))) }
+{
+    let mut pieces = PieceReader::new(alloc, reader);
+    pieces.skip_mark()?;
+    match first_piece(&mut pieces)? {
+        Some(piece) => match TableHead::of(alloc, &piece) {
+            Ok(head) => Ok(Some((head, pieces))),
+            Err(_) => Err(ReadFault::Memory),
+        },
+        None => Ok(None),
+    }
+}
+
+impl TableHead {
+    /// The head with these bytes. Fails where memory is short.
+    fn of(alloc: Global, piece: &[u8]) -> Result<TableHead, AllocError>
+        ensures { IfOk result (λ head. head ≡ records_left state.StartRecord piece.now) }
+    {
+        let mut marked = Vec::new(alloc);
+        marked.extend_from_slice(&MARK)?;
+        marked.extend_from_slice(piece)?;
+        Ok(TableHead { marked })
+    }
+
+    /// The bytes of the piece.
+    fn bytes(&self) -> &[u8]
+        ensures { records_left state.StartRecord result.now ≡ self.now }
+    {
+        &self.marked[3..]
+    }
+
+    /// How many rows there are behind the header.
+    pub fn rows(&self) -> u64
+        ensures { result ≡ length self.now - 1 }
+    {
+        rows_of(self.bytes()).saturating_sub(1)
+    }
+
+    /// The piece itself. Fails where memory is short.
+    pub(crate) fn piece(&self, alloc: Global) -> Result<Vec<u8>, AllocError>
+        ensures { IfOk result (λ piece. records_left state.StartRecord piece.items ≡ self.now) }
+    {
+        let mut piece = Vec::new(alloc);
+        piece.extend_from_slice(self.bytes())?;
+        Ok(piece)
+    }
+
+    /// What the rows of the table at this place of a report are told by. They are at most `limit`.
+    ///
+    /// Fails with the header's first fault, in this order: NoHeader, UnknownHeader, RepeatedHeader, NoRowIdColumn; and with
+    /// Memory where memory is short.
+    pub fn form<'a>(
+        &self,
+        alloc: Global,
+        report: &'a Report,
+        table: usize,
+        limit: u32,
+    ) -> Result<RowForm<'a>, TableFault>
+        requires { table < length report.now.tables }
+        ensures form { IfOk result (λ form. form ≡ reading_in report.now table limit self.now) }
+        ensures header { IfOk result (λ _. file_header_fault report.now table self.now ≡ None) }
+        ensures fault { IfErr result (λ e. IsOutside table e ⊎ (file_header_fault report.now table self.now ≡ Some e)) }
+    {
+        let mut records = match RecordReader::open(alloc, self.marked.as_slice()) {
+            Ok(records) => records,
+            Err(fault) => return Err(fault_of_read(table, fault)),
+        };
+        RowForm::read(alloc, report, table, limit, &mut records)
+    }
+
+    /// What decodes pieces of the table at this place of a report, whose rows are at most `limit`. Fails as `form` does.
+    pub fn decoder<'a>(
+        &self,
+        alloc: Global,
+        report: &'a Report,
+        table: usize,
+        limit: u32,
+    ) -> Result<PieceDecoder<'a>, TableFault>
+        requires place { table < length report.now.tables }
+        requires rows { limit ≤ 4294967294 }
+        ensures decoder { IfOk result (λ decoder. decoder ≡ record { reading = reading_in report.now table limit self.now; left = [] }) }
+        ensures fault { IfErr result (λ e. IsOutside table e ⊎ (file_header_fault report.now table self.now ≡ Some e)) }
+    {
+        let form = match self.form(alloc, report, table, limit) {
+            Ok(form) => form,
+            Err(fault) => return Err(fault),
+        };
+        match PieceDecoder::new(alloc, form) {
+            Ok(decoder) => Ok(decoder),
+            Err(_) => Err(whole_fault(table, TableKind::Memory)),
+        }
+    }
+}

@@ -1,0 +1,146 @@
+//! The texts of the facts of some rows.
+
+ghost use Rattle.std.specs.Prelude.{◌≡◌, ◌≤◌, ◌-◌, ◌∷◌, [], get_or, length, take};
+ghost use Rattle.oim_fast.specs.Facts.{facts_of_row};
+ghost use Rattle.oim_rows.specs.RowFacts.{IsTextRecord};
+ghost use Rattle.oim_rows.specs.Streams.{facts_of_rows};
+ghost use Rattle.oim_decode.specs.PieceAnswers.{AddsRowFacts};
+ghost use Rattle.oim_decode.specs.RowTexts.{facts_in};
+
+use crate::table::fact_list::{first, none, then};
+use crate::table::pending_facts::PendingFacts;
+use crate::table::row_texts::RowTexts;
+use oim_fast::TableRow;
+use oim_names::Items;
+use oim_records::Fields;
+use oim_resolve::Fact;
+use oim_rows::{TableFault, TableKind, whole_fault};
+use std::alloc::Global;
+use std::marker::Model;
+use told::{Tells, Told};
+
+/// The texts of the facts of some rows, and where those of each row end. A contract sees the facts of each row.
+#[derive(Drop)]
+pub(crate) struct WrittenRows {
+    facts: PendingFacts,
+    // how many facts there are up to the end of each row
+    ends: Vec<usize>,
+    rows: Told<Items<Items<Fact>>>,
+}
+
+impl Model for WrittenRows {
+    ghost use Rattle.std.specs.Prelude.{◌≡◌, List};
+    ghost use Rattle.oim_resolve.specs.FactParts.{FactParts as FactValue};
+    ghost use Rattle.oim_rows.specs.Streams.{facts_of_rows};
+    ghost use Rattle.oim_decode.specs.RowEnds.{counts_from};
+
+    ghost Value = { List (List FactValue) };
+
+    ghost view = { λ a. a.rows.value };
+
+    ghost invariant = { λ a. (a.facts ≡ facts_of_rows a.rows.value) × (a.ends.items ≡ counts_from 0 a.rows.value) };
+}
+
+/// A row of a table, by which the facts of one row are told.
+#[derive(Drop)]
+struct OneRow<'a, 'b, 'r> {
+    row: &'b TableRow<'a, 'r>,
+}
+
+impl Tells<Items<Items<Fact>>> for OneRow<'_, '_, '_> {
+    ghost told = { λ t. facts_in (facts_of_row t.row.now) ∷ [] };
+}
+
+/// How many facts the first `count` rows have, where these are the ends of all rows.
+fn facts_before(ends: &[usize], count: usize) -> usize
+    requires { count ≤ length ends.now }
+    ensures none { count ≡ 0 → result ≡ 0 }
+    ensures end { 1 ≤ count → result ≡ get_or ends.now (count - 1) result }
+{
+    if count == 0 {
+        return 0;
+    }
+    ends[count - 1]
+}
+
+impl WrittenRows {
+    /// No rows. It takes no memory.
+    pub(crate) fn new(alloc: Global) -> WrittenRows
+        ensures { result ≡ [] }
+    {
+        WrittenRows {
+            facts: PendingFacts::new(alloc),
+            ends: Vec::new(alloc),
+            rows: none(),
+        }
+    }
+
+    /// How many facts there are.
+    pub(crate) fn count(&self) -> usize
+        ensures { result ≡ length (facts_of_rows self.now) }
+    {
+        self.facts.count()
+    }
+
+    /// How many rows there are.
+    pub(crate) fn len(&self) -> usize
+        ensures { result ≡ length self.now }
+    {
+        self.ends.len()
+    }
+
+    /// Keeps the first `count` rows, or all where there are fewer.
+    pub(crate) fn cut(&mut self, count: usize)
+        ensures { self.new ≡ take count self.old }
+    {
+        if count >= self.ends.len() {
+            return;
+        }
+        let facts = facts_before(self.ends.as_slice(), count);
+        self.facts.keep_first(facts);
+        self.ends.truncate(count);
+        self.rows = first(&self.rows, count);
+    }
+
+    /// The facts of all rows.
+    pub(crate) fn into_facts(self) -> PendingFacts
+        ensures { result ≡ facts_of_rows self }
+    {
+        let WrittenRows {
+            facts,
+            ends: _,
+            rows: _,
+        } = self;
+        facts
+    }
+
+    /// Adds the facts of a row.
+    ///
+    /// Fails with the fault of the row's first cell that has one, and with Memory where memory is short. Then nothing is added.
+    pub(crate) fn push_row<'a>(
+        &mut self,
+        alloc: Global,
+        texts: &mut RowTexts<'a>,
+        row: &TableRow<'a, '_>,
+        fields: &Fields<'_>,
+    ) -> Result<(), TableFault>
+        requires form { row.now.form ≡ texts.old }
+        requires fields { fields.now ≡ row.now.fields }
+        requires texts { IsTextRecord fields.now }
+        ensures facts { AddsRowFacts row.now.form.table (facts_of_row row.now) self.old self.new result }
+        ensures same { texts.new ≡ texts.old }
+    {
+        if self.ends.reserve(1).is_err() {
+            return Err(whole_fault(row.table(), TableKind::Memory));
+        }
+        let rows = then(&self.rows, &OneRow { row });
+        match self.facts.push_row(alloc, texts, row, fields) {
+            Ok(()) => {
+                self.ends.push_reserved(self.facts.count());
+                self.rows = rows;
+                Ok(())
+            }
+            Err(fault) => Err(fault),
+        }
+    }
+}

@@ -1,0 +1,86 @@
+-- What there is to say of a fault to a person: its place, and what stands there.
+use Rattle.std.specs.Prelude.{◌≡◌, ◌⊎◌, ℕ, List, [], ◌∷◌, ◌++◌, nat_eq, nat_lt, if◌then◌else◌, Ok, chars, codes, flat_map, length, take}
+use Rattle.oim_files.specs.Folders.{Files, IsFolderOf}
+use Rattle.oim_files.specs.Steps.{report_at}
+use Rattle.oim_meta.specs.Paths.{Path}
+use Rattle.oim_meta.specs.Findings.{finding}
+use Rattle.oim_meta.specs.Reading.{IsUrlFault, SaysReport}
+use Rattle.oim_meta.specs.Refusals.{IsFinding}
+use Rattle.oim_meta.specs.declared.fault.MetaFault.{MetaFault}
+use Rattle.oim_meta.specs.declared.fault.MetaFault.TheVariants as refused
+use Rattle.oim_meta.specs.declared.findings.Finding.{Finding}
+use Rattle.oim_report.specs.Parameters.{ParametersValue}
+use Rattle.oim_report.specs.ReportValue.{ReportValue}
+use Rattle.oim_report.specs.Types.{TypesValue}
+use Rattle.oim_report.specs.declared.limits.Limits.{Limits}
+use Rattle.oim_explain.specs.Shown.{shown, shown_char}
+use Rattle.oim_explain.specs.declared.explanation.Explanation.{Explanation}
+
+-- ---- texts
+
+-- how many characters of a text are shown
+abbrev pub most_characters : ℕ
+most_characters = 80
+
+-- the beginning of a text without control characters; two points stand for the rest
+abbrev pub excerpt_of : List ℕ → List ℕ
+excerpt_of text =
+    if nat_lt most_characters (length (chars text)) then flat_map shown_char (take most_characters (chars text)) ++ codes ".." else shown text
+
+-- RFC 6901: ~ is ~0 and / is ~1 in a key of a JSON pointer; a control character is shown by its code, so that a pointer is one line
+abbrev pub pointer_char : ℕ → List ℕ
+pointer_char c = if nat_eq c 126 then codes "~0" else if nat_eq c 47 then codes "~1" else shown_char c
+
+abbrev pub pointer_key : List ℕ → List ℕ
+pointer_key key = codes "/" ++ flat_map pointer_char (chars key)
+
+abbrev pub pointer_of : Path → List ℕ
+pointer_of keys = flat_map pointer_key keys
+
+-- the lines of the places elsewhere that a fault comes from
+abbrev pub sources_of : List (List ℕ) → List ℕ
+sources_of [] = []
+sources_of (s ∷ more) = (codes "    " ++ (s ++ 10 ∷ [])) ++ sources_of more
+
+-- the lines of an explanation
+abbrev pub place_lines : Explanation → List ℕ
+place_lines e = codes "    " ++ (e.place ++ (10 ∷ codes "    " ++ (e.found ++ (10 ∷ codes "    " ++ (e.cause.now ++ 10 ∷ [])))))
+
+abbrev pub explanation_of : Explanation → List ℕ
+explanation_of e = place_lines e ++ sources_of e.sources
+
+-- ---- the report that is read again
+
+-- the report that the files give whose metadata and types table are at these paths
+abbrev pub IsReportOf : Files → (meta types : List ℕ) → ReportValue → Type 0
+IsReportOf files meta types r = (base : List ℕ) × IsFolderOf base meta × (report_at files base meta types ≡ Ok r)
+
+-- ---- the metadata
+
+-- a place in the metadata file at this path; no keys lead to the file as a whole
+abbrev pub place_of : List ℕ → Path → List ℕ
+place_of path [] = shown path
+place_of path (key ∷ keys) = pointer_of (key ∷ keys)
+
+-- the place of the name of the parameters file
+abbrev pub url_place : Path
+url_place = codes "parameterURL" ∷ []
+
+-- the fault is of the name of the parameters file, which is looked at before all else
+abbrev pub HasBadUrl : Limits → List ℕ → MetaFault → Path → Type 0
+HasBadUrl limits bytes f place = (f ≡ refused.BadParameter) × IsUrlFault limits bytes refused.BadParameter × (place ≡ url_place)
+
+-- the explanation's place is that of this fault: the first finding of the metadata is this fault at this place
+pub record ExplainsMetadata (limits : Limits) (given : ParametersValue) (types : TypesValue) (path bytes : List ℕ) (f : MetaFault) (e : Explanation) : Type 0 where
+  pub place : Path
+  pub found : IsFinding limits given types bytes (finding f place) ⊎ HasBadUrl limits bytes f place
+  pub named : e.place ≡ place_of path place
+
+-- another fault comes first, or none
+pub record Other (limits : Limits) (given : ParametersValue) (types : TypesValue) (bytes : List ℕ) (f : MetaFault) : Type 0 where
+  pub finding : Finding
+  pub found : IsFinding limits given types bytes finding
+  pub fault : ¬ (finding.fault ≡ f)
+
+abbrev pub HasOther : Limits → ParametersValue → TypesValue → List ℕ → MetaFault → Type 0
+HasOther limits given types bytes f = ((r : ReportValue) × SaysReport limits given types bytes r) ⊎ Other limits given types bytes f

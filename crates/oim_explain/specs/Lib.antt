@@ -1,0 +1,5 @@
+pub mod Explanations
+pub mod FaultRows
+pub mod LineNumbers
+pub mod Shown
+pub mod TablePlaces

@@ -1,0 +1,19 @@
+-- A text as a terminal is shown it.
+use Rattle.std.specs.Prelude.{ℕ, ◌+◌, ◌/◌, ◌%◌, nat_lt, if◌then◌else◌, List, [], ◌∷◌, chars, encode_utf8, flat_map}
+use Rattle.std.specs.Char.{is_control}
+
+-- the hexadecimal digit of a number below 16
+abbrev pub hex_digit : ℕ → ℕ
+hex_digit n = if nat_lt n 10 then 48 + n else 87 + n
+
+-- \x and the two hexadecimal digits of a character's code
+abbrev pub escape_of : ℕ → List ℕ
+escape_of c = 92 ∷ 120 ∷ hex_digit (c / 16) ∷ hex_digit (c % 16) ∷ []
+
+-- a control character (U+0000 to U+001F, U+007F to U+009F) by its code, any other as itself
+abbrev pub shown_char : ℕ → List ℕ
+shown_char c = if is_control c then escape_of c else encode_utf8 c
+
+-- a text as a terminal is shown it: it gives no order, and no line ends in it
+abbrev pub shown : List ℕ → List ℕ
+shown text = flat_map shown_char (chars text)

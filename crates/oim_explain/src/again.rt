@@ -1,0 +1,182 @@
+//! The files of a run that ended with a fault are read again, for its explanation.
+
+use crate::entries::{BadRecord, bad_parameter, bad_type};
+use crate::explanation::{Explanation, explanation_text};
+use crate::files::{changed, line_again, of_file, place_in_file, unread};
+use crate::metadata::explain_metadata;
+use oim_files::{
+    EarlyFault, Folder, Source, folder_of, metadata_at, parameters_in, path_in, types_in, url_in,
+};
+use oim_meta::{MetaFault, Parameters, Types};
+use oim_names::{Items, Text};
+use std::alloc::{AllocError, Global};
+use std::io::Read;
+
+/// The parameters of the parameters file, and none where the metadata names no such file, or names it wrongly.
+fn parameters_again<R: Read + Drop, F: Folder<R>>(
+    alloc: Global,
+    folder: &mut F,
+    base: &str,
+    metadata: &[u8],
+) -> Result<Parameters, EarlyFault> {
+    match url_in(alloc, metadata) {
+        Ok(url) => parameters_in(alloc, folder, base, url),
+        Err(_) => Ok(Parameters::none(alloc)),
+    }
+}
+
+/// The explanation of a fault of the metadata at this path, with its types.
+fn with_types<R: Read + Drop, F: Folder<R>>(
+    alloc: Global,
+    folder: &mut F,
+    path: &str,
+    types: Types,
+    fault: MetaFault,
+) -> Result<Explanation, AllocError> {
+    let metadata = match metadata_at(alloc, folder, path) {
+        Ok(metadata) => metadata,
+        Err(early) => return unread(alloc, path, &early),
+    };
+    let metadata = metadata.as_slice();
+    let parameters = match parameters_again(alloc, folder, folder_of(path), metadata) {
+        Ok(parameters) => parameters,
+        Err(early) => return unread(alloc, path, &early),
+    };
+    match explain_metadata(alloc, path, metadata, parameters, types, fault)? {
+        Some(explanation) => Ok(explanation),
+        None => changed(alloc, path),
+    }
+}
+
+/// The explanation of a fault of the metadata at this path, whose types table is at another.
+fn of_metadata<R: Read + Drop, F: Folder<R>>(
+    alloc: Global,
+    meta: &str,
+    types: &str,
+    folder: &mut F,
+    fault: MetaFault,
+) -> Result<Explanation, AllocError> {
+    match types_in(alloc, folder, types) {
+        Ok(types) => with_types(alloc, folder, meta, types, fault),
+        Err(early) => unread(alloc, meta, &early),
+    }
+}
+
+/// The explanation of a bad record of the file at this path.
+fn of_record<R: Read + Drop, F: Folder<R>>(
+    alloc: Global,
+    folder: &mut F,
+    path: &str,
+    bad: Option<BadRecord>,
+) -> Result<Explanation, AllocError> {
+    let Some(bad) = bad else {
+        return changed(alloc, path);
+    };
+    let line = line_again(alloc, folder, path, bad.number);
+    Ok(Explanation {
+        place: Text::new(place_in_file(alloc, path, line, bad.place)?),
+        found: Text::new(bad.found),
+        cause: bad.cause,
+        sources: Items::new(alloc),
+    })
+}
+
+/// The explanation of a fault of the types table at this path.
+fn of_types<R: Read + Drop, F: Folder<R>>(
+    alloc: Global,
+    folder: &mut F,
+    path: &str,
+) -> Result<Explanation, AllocError> {
+    match folder.open(path) {
+        Some(reader) => {
+            let bad = bad_type(alloc, reader)?;
+            of_record(alloc, folder, path, bad)
+        }
+        None => of_file(alloc, path, "the file cannot be opened again"),
+    }
+}
+
+/// The explanation of a fault of the parameters file at this path.
+fn of_parameters<R: Read + Drop, F: Folder<R>>(
+    alloc: Global,
+    folder: &mut F,
+    path: &str,
+) -> Result<Explanation, AllocError> {
+    match folder.open(path) {
+        Some(reader) => {
+            let bad = bad_parameter(alloc, reader)?;
+            of_record(alloc, folder, path, bad)
+        }
+        None => of_file(alloc, path, "the file cannot be opened again"),
+    }
+}
+
+/// The path of the parameters file, as the metadata that is read again names it.
+fn parameters_path<R: Read + Drop, F: Folder<R>>(
+    alloc: Global,
+    folder: &mut F,
+    meta: &str,
+) -> Result<Option<String>, AllocError> {
+    let Ok(metadata) = metadata_at(alloc, folder, meta) else {
+        return Ok(None);
+    };
+    match url_in(alloc, metadata.as_slice()) {
+        Ok(Some(url)) => Ok(Some(path_in(alloc, folder_of(meta), url.as_str())?)),
+        _ => Ok(None),
+    }
+}
+
+/// The explanation of a fault of the parameters file of the metadata at this path.
+fn of_parameters_of<R: Read + Drop, F: Folder<R>>(
+    alloc: Global,
+    folder: &mut F,
+    meta: &str,
+) -> Result<Explanation, AllocError> {
+    match parameters_path(alloc, folder, meta)? {
+        Some(path) => of_parameters(alloc, folder, path.as_str()),
+        None => changed(alloc, meta),
+    }
+}
+
+/// The path of a file that was not read to its end; that of the metadata for a parameters file, which it names.
+fn unread_path<'p>(meta: &'p str, types: &'p str, source: Source) -> &'p str {
+    match source {
+        Source::Report | Source::Parameters => meta,
+        Source::Types => types,
+    }
+}
+
+/// The explanation of a fault of the metadata, the types table or the parameters file, which are read again.
+fn explained<R: Read + Drop, F: Folder<R>>(
+    alloc: Global,
+    meta: &str,
+    types: &str,
+    folder: &mut F,
+    source: Source,
+    fault: MetaFault,
+) -> Result<Explanation, AllocError> {
+    if matches!(fault, MetaFault::Memory | MetaFault::Read) {
+        let path = unread_path(meta, types, source);
+        return of_file(alloc, path, fault.explanation());
+    }
+    match source {
+        Source::Report => of_metadata(alloc, meta, types, folder, fault),
+        Source::Types => of_types(alloc, folder, types),
+        Source::Parameters => of_parameters_of(alloc, folder, meta),
+    }
+}
+
+/// The lines that explain a fault of the metadata and the types table at these paths, or of the parameters file, which
+/// are read again: three lines, four blanks deep, each with its line feed. They say so where the fault is not there
+/// any more, or a file cannot be read again. Fails if memory runs out.
+pub fn explain_report<R: Read + Drop, F: Folder<R>>(
+    alloc: Global,
+    meta: &str,
+    types: &str,
+    folder: &mut F,
+    source: Source,
+    fault: MetaFault,
+) -> Result<String, AllocError> {
+    let explanation = explained(alloc, meta, types, folder, source, fault)?;
+    explanation_text(alloc, &explanation)
+}

@@ -1,0 +1,47 @@
+//! An explanation of a fault, and its lines.
+
+ghost use Rattle.std.specs.Prelude.{◌≡◌, IfOk, string_bytes};
+ghost use Rattle.oim_explain.specs.Explanations.{explanation_of, sources_of};
+
+use oim_names::{Items, Text};
+use std::alloc::{AllocError, Global};
+
+/// What there is to say of a fault to a person.
+#[derive(Drop)]
+pub struct Explanation {
+    /// Where it is: in the metadata a JSON pointer, else a file and a place there.
+    pub place: Text,
+    /// What stands there.
+    pub found: Text,
+    /// What is wrong with it, as a sentence without capital and full stop.
+    pub cause: &'static str,
+    /// The places elsewhere that the fault comes from, each with what stands there, in the order in which
+    /// they lead to it: a cell that names a property group, a property of the metadata, a cell or a parameter
+    /// that it refers to. None where the fault is of what stands at its own place.
+    pub sources: Items<Text>,
+}
+
+/// The lines of the places elsewhere.
+fn sources_text(alloc: Global, sources: &[Text]) -> Result<String, AllocError>
+    ensures { IfOk result (λ s. string_bytes s ≡ sources_of sources.now) }
+{
+    let mut lines = String::new(alloc);
+    for source in sources {
+        let text = source.as_str();
+        lines.push_str(format!(in alloc; "    {text}\n")?.as_str())?;
+    }
+    Ok(lines)
+}
+
+/// The lines of an explanation, four blanks deep, each with its line feed. Fails if memory runs out.
+pub fn explanation_text(alloc: Global, explanation: &Explanation) -> Result<String, AllocError>
+    ensures { IfOk result (λ s. string_bytes s ≡ explanation_of explanation.now) }
+{
+    let place = explanation.place.as_str();
+    let found = explanation.found.as_str();
+    let cause = explanation.cause;
+    let mut lines = format!(in alloc; "    {place}\n    {found}\n    {cause}\n")?;
+    let sources = sources_text(alloc, explanation.sources.as_slice())?;
+    lines.push_str(sources.as_str())?;
+    Ok(lines)
+}

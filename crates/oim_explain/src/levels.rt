@@ -1,0 +1,328 @@
+//! The row of a fault, and what the levels of its report write for the fact of one of its cells: the column, the property groups
+//! that the row names, the template and the report. The more specific overrides the more general.
+
+use crate::cells::text_at;
+use crate::reread::ReportAgain;
+use crate::rows::RowAgain;
+use oim_cells::{CellMeaning, meaning};
+use oim_meta::{Column, Level, Written, WrittenDecimals};
+use oim_names::find;
+use oim_resolve::{CellFault, levels};
+use std::alloc::{AllocError, Global};
+
+/// What writes a property of a fact.
+#[derive(Clone, Copy)]
+pub(crate) enum Writer {
+    /// The fact's column.
+    Column,
+    /// The property group that the row names in the column at this place of the template.
+    Groups(usize),
+    /// The template.
+    Template,
+    /// The report.
+    Report,
+}
+
+/// The row of a fault of a cell.
+#[derive(Clone, Copy)]
+pub(crate) struct RowOfFault<'r> {
+    /// The report.
+    pub(crate) again: &'r ReportAgain,
+    /// The place of the row's table in the report.
+    pub(crate) table: usize,
+    /// The place of the fact's column in the template.
+    pub(crate) column: usize,
+    /// The row and its header.
+    pub(crate) cells: &'r RowAgain,
+    /// The number of the row, in digits.
+    pub(crate) number: &'r str,
+    /// The path of the table's file.
+    pub(crate) path: &'r str,
+    /// The line of the file at which the row begins.
+    pub(crate) line: Option<u64>,
+    /// The folder of the metadata.
+    pub(crate) base: &'r str,
+}
+
+/// The place of the first cell that is this text.
+pub(crate) fn place_of_text(again: &RowAgain, text: &str) -> Option<usize> {
+    for place in 0..again.header.len() {
+        if text_at(&again.header, place) == Some(text) {
+            return Some(place);
+        }
+    }
+    None
+}
+
+impl<'r> RowOfFault<'r> {
+    /// The columns of the template.
+    fn columns(&self) -> &'r [Column] {
+        let report = &self.again.report;
+        if self.table < report.tables() {
+            report.template_columns(self.table)
+        } else {
+            &[]
+        }
+    }
+
+    /// The identifier of the table.
+    pub(crate) fn table_id(&self) -> &'r str {
+        let report = &self.again.report;
+        if self.table < report.tables() {
+            report.table_id(self.table)
+        } else {
+            ""
+        }
+    }
+
+    /// The identifier of the template.
+    fn template_id(&self) -> &'r str {
+        let table = self.table_id();
+        match self.again.written_at(&["tables", table, "template"]) {
+            Some(template) => template.as_str().unwrap_or(table),
+            None => table,
+        }
+    }
+
+    /// The parameter of this name.
+    pub(crate) fn parameter(&self, name: &str) -> Option<&'r str> {
+        let report = &self.again.report;
+        if self.table < report.tables() {
+            report.parameter(self.table, name)
+        } else {
+            None
+        }
+    }
+
+    /// The identifier of the column at a place of the template.
+    pub(crate) fn column_id(&self, place: usize) -> &'r str {
+        match self.columns().get(place) {
+            Some(column) => column.id.as_str(),
+            None => "",
+        }
+    }
+
+    /// The place in the file's records of the column of this name, if the header has it.
+    pub(crate) fn place_in_file(&self, column: &str) -> Option<usize> {
+        place_of_text(self.cells, column)
+    }
+
+    /// The row's cell in the column of this name, empty if there is none.
+    pub(crate) fn cell_of(&self, column: &str) -> &'r str {
+        match self.place_in_file(column) {
+            Some(place) => text_at(&self.cells.row, place).unwrap_or(""),
+            None => "",
+        }
+    }
+
+    /// What a reference to this name gives: the row's cell, else the parameter.
+    fn referred(&self, name: &str) -> CellMeaning<'r> {
+        let cell = self.cell_of(name);
+        if !cell.is_empty() {
+            return meaning(cell);
+        }
+        match self.parameter(name) {
+            Some(text) => meaning(text),
+            None => CellMeaning::Absent,
+        }
+    }
+
+    /// What a written dimension gives in the row.
+    pub(crate) fn meaning_of(&self, written: &'r Written) -> CellMeaning<'r> {
+        match written {
+            Written::Absent => CellMeaning::Absent,
+            Written::Nil => CellMeaning::Nil,
+            Written::Empty => CellMeaning::Empty,
+            Written::Text(text) => CellMeaning::Text(text.as_str()),
+            Written::RowNumber(_) => CellMeaning::Text(self.number),
+            Written::Named(name, _) => self.referred(name.as_str()),
+        }
+    }
+
+    /// The property group that the row names in the column at a place of the template.
+    fn group(&self, place: usize) -> Option<&'r Level> {
+        let Some(column) = self.columns().get(place) else {
+            return None;
+        };
+        match meaning(self.cell_of(column.id.as_str())) {
+            CellMeaning::Text(name) => find(column.groups.as_slice(), name),
+            _ => None,
+        }
+    }
+
+    /// The places of the columns from which the fact's column takes property groups.
+    fn from(&self) -> &'r [usize] {
+        match self.columns().get(self.column) {
+            Some(column) => column.from.as_slice(),
+            None => &[],
+        }
+    }
+
+    /// What one of the levels writes.
+    fn level(&self, writer: Writer) -> Option<&'r Level> {
+        let report = &self.again.report;
+        match writer {
+            Writer::Column => match self.columns().get(self.column) {
+                Some(column) => Some(&column.level),
+                None => None,
+            },
+            Writer::Groups(place) => self.group(place),
+            Writer::Template => {
+                if self.table < report.tables() {
+                    Some(report.template_level(self.table))
+                } else {
+                    None
+                }
+            }
+            Writer::Report => Some(report.report_level()),
+        }
+    }
+
+    /// What the level writes for a dimension.
+    fn written_by(&self, writer: Writer, name: &str) -> Option<(Writer, &'r Written)> {
+        match self.level(writer) {
+            Some(level) => match find(level.dimensions.as_slice(), name) {
+                Some(written) => Some((writer, written)),
+                None => None,
+            },
+            None => None,
+        }
+    }
+
+    /// What is written for a dimension, and by which level: the most specific that writes it.
+    pub(crate) fn written(&self, name: &str) -> Option<(Writer, &'r Written)> {
+        if let Some(found) = self.written_by(Writer::Column, name) {
+            return Some(found);
+        }
+        for place in self.from() {
+            if let Some(found) = self.written_by(Writer::Groups(*place), name) {
+                return Some(found);
+            }
+        }
+        match self.written_by(Writer::Template, name) {
+            Some(found) => Some(found),
+            None => self.written_by(Writer::Report, name),
+        }
+    }
+
+    /// What the level writes for decimals.
+    fn decimals_by(&self, writer: Writer) -> Option<(Writer, &'r WrittenDecimals)> {
+        match self.level(writer) {
+            Some(level) => match level.decimals.as_ref() {
+                Some(written) => Some((writer, written)),
+                None => None,
+            },
+            None => None,
+        }
+    }
+
+    /// What is written for decimals, and by which level: the most specific that writes them.
+    pub(crate) fn decimals(&self) -> Option<(Writer, &'r WrittenDecimals)> {
+        if let Some(found) = self.decimals_by(Writer::Column) {
+            return Some(found);
+        }
+        for place in self.from() {
+            if let Some(found) = self.decimals_by(Writer::Groups(*place)) {
+                return Some(found);
+            }
+        }
+        match self.decimals_by(Writer::Template) {
+            Some(found) => Some(found),
+            None => self.decimals_by(Writer::Report),
+        }
+    }
+
+    /// The names of the dimensions that the levels write, in byte order.
+    pub(crate) fn names(&self, alloc: Global) -> Result<Vec<&'r str>, AllocError> {
+        let mut all = Vec::new(alloc);
+        if let Some(level) = self.level(Writer::Column) {
+            all.push(level)?;
+        }
+        for place in self.from() {
+            if let Some(level) = self.group(*place) {
+                all.push(level)?;
+            }
+        }
+        if let Some(level) = self.level(Writer::Template) {
+            all.push(level)?;
+        }
+        all.push(self.again.report.report_level())?;
+        levels::names(alloc, all.as_slice())
+    }
+
+    /// What the fact's concept is given as.
+    pub(crate) fn concept(&self) -> CellMeaning<'r> {
+        match self.written("concept") {
+            Some((_, written)) => self.meaning_of(written),
+            None => CellMeaning::Absent,
+        }
+    }
+
+    /// Whether a fault is of the fact's own cell: a text that begins with one `#` there.
+    pub(crate) fn is_itself(&self, fault: CellFault) -> bool {
+        fault == CellFault::UnknownSpecial
+            && meaning(self.cell_of(self.column_id(self.column))) == CellMeaning::Unknown
+    }
+
+    /// Whether the row's cell in a column of property groups has this fault.
+    fn is_bad_group(&self, place: usize, fault: CellFault) -> bool {
+        let cell = meaning(self.cell_of(self.column_id(place)));
+        match fault {
+            CellFault::UnknownSpecial => cell == CellMeaning::Unknown,
+            CellFault::UnknownGroup => match cell {
+                CellMeaning::Nil | CellMeaning::Empty => true,
+                CellMeaning::Text(_) => self.group(place).is_none(),
+                CellMeaning::Absent | CellMeaning::Unknown => false,
+            },
+            _ => false,
+        }
+    }
+
+    /// The place of the first column from which the fact takes property groups whose cell has this fault.
+    pub(crate) fn bad_group(&self, fault: CellFault) -> Option<usize> {
+        for place in self.from() {
+            if self.is_bad_group(*place, fault) {
+                return Some(*place);
+            }
+        }
+        None
+    }
+
+    /// The keys that lead to a property that a level writes.
+    pub(crate) fn keys_of<'k>(
+        &self,
+        alloc: Global,
+        writer: Writer,
+        property: &[&'k str],
+    ) -> Result<Vec<&'k str>, AllocError>
+    where
+        'r: 'k,
+    {
+        let mut keys = Vec::new(alloc);
+        let template = ["tableTemplates", self.template_id()];
+        match writer {
+            Writer::Column => {
+                keys.extend_from_slice(&template)?;
+                keys.extend_from_slice(&["columns", self.column_id(self.column)])?;
+            }
+            Writer::Groups(place) => {
+                let column = self.column_id(place);
+                keys.extend_from_slice(&template)?;
+                keys.extend_from_slice(&["columns", column])?;
+                keys.extend_from_slice(&["propertyGroups", self.group_name(column)])?;
+            }
+            Writer::Template => keys.extend_from_slice(&template)?,
+            Writer::Report => {}
+        }
+        keys.extend_from_slice(property)?;
+        Ok(keys)
+    }
+
+    /// The name that the row's cell in a column of property groups has.
+    fn group_name(&self, column: &str) -> &'r str {
+        match meaning(self.cell_of(column)) {
+            CellMeaning::Text(name) => name,
+            _ => "",
+        }
+    }
+}

@@ -1,0 +1,62 @@
+//! What there is to say of a fault to a person: where it is, what stands there, and what is wrong with it. The
+//! files of a run that ended with a fault are read again for it, so a good run costs nothing.
+//!
+//! What is proved:
+//!
+//! - `explain_metadata` names a place of the metadata at which the fault stands by the definitions of the walk over
+//!   it, the first one, or says that another fault comes first, or none (`specs/Explanations.antt`);
+//! - `explain_table` and `fault_place` name a place in a table's file only if the file has that fault, its first, by the
+//!   definition of the table's stream: the line of the fault's record, if that is known, and its column
+//!   (`specs/TablePlaces.antt`, `specs/FaultRows.antt`). What `fault_place` says stands there does;
+//! - `report_again` gives the report that the files give;
+//! - the line of a record (`line_of_record`) is that of its first byte (`lines_are_of_records`,
+//!   `specs/LineNumbers.antt`);
+//! - `explanation_text` gives the lines of an explanation, with nothing of it left out;
+//! - `shown` gives a text without control characters (`specs/Shown.antt`);
+//! - `fault_row` gives the record of a fault in the file of faults, which is read as its eight fields
+//!   whatever comes behind it (`specs/FaultRows.antt`).
+//!
+//! What only tests show: the sentences, what an explanation says stands at a place, the places elsewhere that a fault
+//! comes from, and what is said of a types table and a parameters file.
+//!
+//! A call:
+//!
+//! ```
+//! /// Whether a fault of a folder's report is explained at the whole file.
+//! fn explains_the_file(alloc: Global, folder: &mut Texts<'_>) -> Result<bool, AllocError> {
+//!     let fault = MetaFault::NotReport;
+//!     let text = explain_report(alloc, "m.json", "t.csv", folder, Source::Report, fault)?;
+//!     Ok(text.as_str().starts_with("    m.json\n"))
+//! }
+//! ```
+#![tactic(auto)]
+
+mod again;
+mod causes;
+mod cells;
+mod entries;
+mod excerpts;
+mod explanation;
+mod fault_rows;
+mod files;
+mod levels;
+mod line_number;
+mod metadata;
+mod places;
+mod pointers;
+mod reread;
+mod rows;
+mod sources;
+mod standing;
+mod tables;
+mod terminal;
+
+pub use again::explain_report;
+pub use explanation::{Explanation, explanation_text};
+pub use fault_rows::{FaultPlace, fault_header, fault_row};
+pub use line_number::lines_are_of_records;
+pub use metadata::explain_metadata;
+pub use places::fault_place;
+pub use reread::{ReportAgain, report_again};
+pub use tables::explain_table;
+pub use terminal::shown;

@@ -1,0 +1,192 @@
+//! The explanation of a fault of the metadata.
+
+ghost use Rattle.std.specs.Prelude.{◌≡◌, IfOk, IfSome, IfNone};
+ghost use Rattle.oim_meta.specs.Findings.{finding as finding_at};
+ghost use Rattle.oim_meta.specs.Reading.{SaysReport};
+ghost use Rattle.oim_meta.specs.Refusals.{IsRefusal};
+ghost use Rattle.oim_report.specs.ReportValue.{ReportValue};
+ghost use Rattle.oim_meta.specs.declared.fault.MetaFault.TheVariants as refused;
+ghost use Rattle.oim_files.specs.Metadata.{profile};
+ghost use Rattle.oim_explain.specs.Explanations.{ExplainsMetadata, HasBadUrl, HasOther, place_of, url_place};
+
+use crate::causes::cause;
+use crate::explanation::Explanation;
+use crate::pointers::pointer;
+use crate::standing::{after_mark, standing, value_at};
+use crate::terminal::shown;
+use oim_meta::{
+    Finding, Limits, MetaFault, Parameters, Refusal, Types, parameter_url, read_report_at,
+};
+use oim_names::{Items, Text};
+use serde_json::Value;
+use std::alloc::{AllocError, Global};
+
+/// A place in the metadata file at this path: the file for no keys.
+fn place(alloc: Global, path: &str, keys: &[Text]) -> Result<Text, AllocError>
+    ensures { IfOk result (λ t. t ≡ place_of path.now keys.now) }
+{
+    if keys.is_empty() {
+        shown(alloc, path)
+    } else {
+        Ok(Text::new(pointer(alloc, keys)?))
+    }
+}
+
+/// What stands at a place of a metadata that is JSON, and what is wrong with it.
+fn in_value(
+    alloc: Global,
+    value: &Value,
+    finding: &Finding,
+) -> Result<(String, &'static str), AllocError> {
+    let keys = finding.place.as_slice();
+    let there = value_at(value, keys);
+    Ok((standing(alloc, there)?, cause(finding.fault, keys, there)))
+}
+
+/// Where a metadata stops being JSON.
+fn in_text(
+    alloc: Global,
+    error: &serde_json::Error,
+    finding: &Finding,
+) -> Result<(String, &'static str), AllocError> {
+    let line = error.line();
+    let column = error.column();
+    let there = format!(in alloc; "line {line}, column {column}")?;
+    Ok((there, cause(finding.fault, &[], None)))
+}
+
+/// What stands at the place of a finding, and what is wrong with it.
+fn told(
+    alloc: Global,
+    bytes: &[u8],
+    finding: &Finding,
+) -> Result<(String, &'static str), AllocError> {
+    if finding.place.as_slice().is_empty() && finding.fault == MetaFault::TooLarge {
+        let there = String::from_str(alloc, "(more bytes)")?;
+        return Ok((there, cause(finding.fault, &[], None)));
+    }
+    match Value::from_slice(alloc, after_mark(bytes)) {
+        Ok(value) => in_value(alloc, &value, finding),
+        Err(error) => in_text(alloc, &error, finding),
+    }
+}
+
+/// The explanation of a finding in the metadata that has these bytes and stands at this path.
+fn of_finding(
+    alloc: Global,
+    path: &str,
+    bytes: &[u8],
+    finding: &Finding,
+) -> Result<Explanation, AllocError>
+    ensures { IfOk result (λ e. e.place ≡ place_of path.now finding.now.place) }
+{
+    let place = place(alloc, path, finding.place.as_slice())?;
+    let (found, cause) = told(alloc, bytes, finding)?;
+    Ok(Explanation {
+        place,
+        found: Text::new(found),
+        cause,
+        sources: Items::new(alloc),
+    })
+}
+
+/// The place of the name of the parameters file.
+fn url_finding(alloc: Global) -> Result<Finding, AllocError>
+    ensures { IfOk result (λ x. x ≡ finding_at refused.BadParameter url_place) }
+{
+    let mut keys = Vec::new(alloc);
+    keys.push(Text::from_str(alloc, "parameterURL")?)?;
+    Ok(Finding {
+        fault: MetaFault::BadParameter,
+        place: Items::from_vec(keys),
+    })
+}
+
+/// The explanation of a wrong name of the parameters file. `None` if it is not wrong.
+fn of_parameter_url(
+    alloc: Global,
+    path: &str,
+    bytes: &[u8],
+) -> Result<Option<Explanation>, AllocError>
+    ensures { IfOk result (λ o. IfSome o (λ e. HasBadUrl profile bytes.now refused.BadParameter url_place × (e.place ≡ place_of path.now url_place))) }
+{
+    match parameter_url(alloc, bytes, &Limits::profile()) {
+        Err(MetaFault::BadParameter) => {
+            let finding = url_finding(alloc)?;
+            Ok(Some(of_finding(alloc, path, bytes, &finding)?))
+        }
+        Err(MetaFault::Memory) => Err(AllocError),
+        _ => Ok(None),
+    }
+}
+
+/// The explanation of a finding of this fault. `None` if it is of another.
+fn of_fault(
+    alloc: Global,
+    path: &str,
+    bytes: &[u8],
+    fault: MetaFault,
+    finding: &Finding,
+) -> Result<Option<Explanation>, AllocError>
+    ensures some { IfOk result (λ o. IfSome o (λ e. (finding.now.fault ≡ fault) × (e.place ≡ place_of path.now finding.now.place))) }
+    ensures none { IfOk result (λ o. IfNone o (¬ (finding.now.fault ≡ fault))) }
+{
+    if finding.fault == fault {
+        Ok(Some(of_finding(alloc, path, bytes, finding)?))
+    } else {
+        Ok(None)
+    }
+}
+
+/// Why a metadata is refused. `None` if it is not.
+fn refusal_of(alloc: Global, bytes: &[u8], parameters: Parameters, types: Types) -> Option<Refusal>
+    ensures some { IfSome result (IsRefusal profile parameters types bytes.now) }
+    ensures none { IfNone result ((r : ReportValue) × SaysReport profile parameters types bytes.now r) }
+{
+    match read_report_at(alloc, bytes, parameters, types, Limits::profile()) {
+        Ok(_report) => None,
+        Err(refusal) => Some(refusal),
+    }
+}
+
+/// The explanation of a fault that is the first finding of the metadata. `None` if it is not.
+fn of_first(
+    alloc: Global,
+    path: &str,
+    bytes: &[u8],
+    parameters: Parameters,
+    types: Types,
+    fault: MetaFault,
+) -> Result<Option<Explanation>, AllocError>
+    ensures some { IfOk result (λ o. IfSome o (ExplainsMetadata profile parameters types path.now bytes.now fault)) }
+    ensures none { IfOk result (λ o. IfNone o (HasOther profile parameters types bytes.now fault)) }
+{
+    match &refusal_of(alloc, bytes, parameters, types) {
+        None => Ok(None),
+        Some(Refusal::Memory) => Err(AllocError),
+        Some(Refusal::Found(finding)) => of_fault(alloc, path, bytes, fault, finding),
+    }
+}
+
+/// The explanation of a fault of the metadata that has these bytes and stands at this path, with the
+/// parameters of its parameters file and its types. Its place is the first at which a walk over the metadata
+/// finds the fault, or the name of the parameters file if that is wrong, which is looked at before all else.
+/// `None` if the metadata has no fault, or another comes first. Fails if memory runs out.
+pub fn explain_metadata(
+    alloc: Global,
+    path: &str,
+    bytes: &[u8],
+    parameters: Parameters,
+    types: Types,
+    fault: MetaFault,
+) -> Result<Option<Explanation>, AllocError>
+    ensures some { IfOk result (λ o. IfSome o (ExplainsMetadata profile parameters types path.now bytes.now fault)) }
+    ensures none { IfOk result (λ o. IfNone o (HasOther profile parameters types bytes.now fault)) }
+{
+    if fault == MetaFault::BadParameter {
+        if let Some(explanation) = of_parameter_url(alloc, path, bytes)? {
+            return Ok(Some(explanation));
+        }
+    }
+    of_first(alloc, path, bytes, parameters, types, fault)
+}

@@ -1,0 +1,268 @@
+//! The places elsewhere that the fault of a cell comes from: a cell that names a property group, a property of the
+//! metadata, and the cell or the parameter that it refers to.
+
+use crate::cells::cell;
+use crate::files::{line_again, place_in_file};
+use crate::levels::{RowOfFault, Writer};
+use crate::pointers::pointer_to;
+use crate::reread::ReportAgain;
+use crate::rows::first_with;
+use crate::standing::{quoted, standing};
+use oim_files::{Folder, path_in};
+use oim_meta::{Kind, Written, WrittenDecimals};
+use oim_names::{Items, Text};
+use oim_resolve::{CellFault, Role, read_concept, read_value, side_of};
+use std::alloc::{AllocError, Global};
+use std::io::Read;
+
+/// What a fault of a cell comes from.
+#[derive(Clone, Copy)]
+enum Origin<'r> {
+    /// The row's cell in the column of property groups at this place of the template.
+    Groups(usize),
+    /// The dimension of this name.
+    Dimension(&'r str),
+    /// The decimals.
+    Decimals,
+}
+
+/// The dimension, but for the concept, whose value has this fault, in a fact whose concept is of this kind.
+fn bad_dimension<'r>(
+    alloc: Global,
+    row: &RowOfFault<'r>,
+    kind: Kind,
+    fault: CellFault,
+) -> Result<Option<&'r str>, AllocError> {
+    let report = &row.again.report;
+    for name in row.names(alloc)? {
+        let role = Role::of(report, name);
+        if role.is_dropped(kind) {
+            continue;
+        }
+        let Some((_, written)) = row.written(name) else {
+            continue;
+        };
+        let side = side_of(written);
+        if let Err(found) = read_value(alloc, report, role, side, row.meaning_of(written))? {
+            if found == fault {
+                return Ok(Some(name));
+            }
+        }
+    }
+    Ok(None)
+}
+
+/// Whether a fault can be of decimals.
+fn is_of_decimals(fault: CellFault) -> bool {
+    matches!(fault, CellFault::BadDecimals | CellFault::UnknownSpecial)
+}
+
+/// The first of the fact's properties behind its concept that has this fault.
+fn bad_property<'r>(
+    alloc: Global,
+    row: &RowOfFault<'r>,
+    kind: Kind,
+    fault: CellFault,
+) -> Result<Option<Origin<'r>>, AllocError> {
+    if let Some(name) = bad_dimension(alloc, row, kind, fault)? {
+        return Ok(Some(Origin::Dimension(name)));
+    }
+    if is_of_decimals(fault) && row.decimals().is_some() {
+        return Ok(Some(Origin::Decimals));
+    }
+    Ok(None)
+}
+
+/// What a fault of a cell comes from, in the order of the standard's steps. `None` if it is of the cell itself.
+fn origin_of<'r>(
+    alloc: Global,
+    row: &RowOfFault<'r>,
+    fault: CellFault,
+) -> Result<Option<Origin<'r>>, AllocError> {
+    if matches!(fault, CellFault::BadNumber | CellFault::BadFactValue) || row.is_itself(fault) {
+        return Ok(None);
+    }
+    if let Some(place) = row.bad_group(fault) {
+        return Ok(Some(Origin::Groups(place)));
+    }
+    match read_concept(&row.again.report, row.concept()) {
+        Ok(kind) => bad_property(alloc, row, kind, fault),
+        Err(found) if found == fault => Ok(Some(Origin::Dimension("concept"))),
+        Err(_) => Ok(None),
+    }
+}
+
+/// Writes lines of places.
+#[derive(Drop)]
+struct Lines<'r, 's> {
+    alloc: Global,
+    row: &'s RowOfFault<'r>,
+    lines: Items<Text>,
+}
+
+impl<'r, 's> Lines<'r, 's> {
+    /// A place and what stands there.
+    fn put(&mut self, place: String, found: String) -> Result<(), AllocError> {
+        let (place, found) = (place.as_str(), found.as_str());
+        let line = format!(in self.alloc; "{place}: {found}")?;
+        self.lines.push(Text::new(line))?;
+        Ok(())
+    }
+
+    /// A cell of the fault's row, in the column of this name, if the file has it.
+    fn put_cell(&mut self, column: &str) -> Result<(), AllocError> {
+        let Some(place) = self.row.place_in_file(column) else {
+            return Ok(());
+        };
+        let found = cell(self.alloc, &self.row.cells.row, place)?;
+        let place = place_in_file(self.alloc, self.row.path, self.row.line, Some(place))?;
+        self.put(place, found)
+    }
+
+    /// A property of the metadata.
+    fn put_written(&mut self, keys: &[&str]) -> Result<(), AllocError> {
+        let found = standing(self.alloc, self.row.again.written_at(keys))?;
+        self.put(pointer_to(self.alloc, keys)?, found)
+    }
+
+    /// A property that a level writes, behind the cell that names the level, if it is a property group.
+    fn put_property(&mut self, writer: Writer, property: &[&str]) -> Result<(), AllocError> {
+        if let Writer::Groups(place) = writer {
+            self.put_cell(self.row.column_id(place))?;
+        }
+        let keys = self.row.keys_of(self.alloc, writer, property)?;
+        self.put_written(keys.as_slice())
+    }
+}
+
+/// The path of the parameters file, if the metadata names one.
+fn parameters_path(
+    alloc: Global,
+    again: &ReportAgain,
+    base: &str,
+) -> Result<Option<String>, AllocError> {
+    match again.written_at(&["parameterURL"]) {
+        Some(url) => match url.as_str() {
+            Some(url) => Ok(Some(path_in(alloc, base, url)?)),
+            None => Ok(None),
+        },
+        None => Ok(None),
+    }
+}
+
+/// The number of the record of a parameters file that has this name.
+fn record_of<R: Read + Drop, F: Folder<R>>(
+    alloc: Global,
+    folder: &mut F,
+    path: &str,
+    name: &str,
+) -> Result<Option<usize>, AllocError> {
+    match folder.open(path) {
+        Some(reader) => first_with(alloc, reader, 0, name.as_bytes()),
+        None => Ok(None),
+    }
+}
+
+/// Puts the place of a parameter of the parameters file.
+fn put_given<R: Read + Drop, F: Folder<R>>(
+    lines: &mut Lines<'_, '_>,
+    folder: &mut F,
+    name: &str,
+    text: &str,
+) -> Result<(), AllocError> {
+    let alloc = lines.alloc;
+    let Some(path) = parameters_path(alloc, lines.row.again, lines.row.base)? else {
+        return Ok(());
+    };
+    let path = path.as_str();
+    let line = match record_of(alloc, folder, path, name)? {
+        Some(number) => line_again(alloc, folder, path, number),
+        None => None,
+    };
+    let place = place_in_file(alloc, path, line, Some(1))?;
+    lines.put(place, quoted(alloc, text)?)
+}
+
+/// Puts the place of a parameter: of the table, else of the report, else of the parameters file.
+fn put_parameter<R: Read + Drop, F: Folder<R>>(
+    lines: &mut Lines<'_, '_>,
+    folder: &mut F,
+    name: &str,
+    text: &str,
+) -> Result<(), AllocError> {
+    let of_table = ["tables", lines.row.table_id(), "parameters", name];
+    if lines.row.again.written_at(&of_table).is_some() {
+        return lines.put_written(&of_table);
+    }
+    let of_report = ["parameters", name];
+    if lines.row.again.written_at(&of_report).is_some() {
+        return lines.put_written(&of_report);
+    }
+    put_given(lines, folder, name, text)
+}
+
+/// Puts the place of what a reference names: the row's cell, unless it is empty and there is a parameter.
+fn put_referred<R: Read + Drop, F: Folder<R>>(
+    lines: &mut Lines<'_, '_>,
+    folder: &mut F,
+    name: &str,
+) -> Result<(), AllocError> {
+    if lines.row.cell_of(name).is_empty() {
+        if let Some(text) = lines.row.parameter(name) {
+            return put_parameter(lines, folder, name, text);
+        }
+    }
+    lines.put_cell(name)
+}
+
+/// Puts the places of a dimension's value.
+fn put_dimension<R: Read + Drop, F: Folder<R>>(
+    lines: &mut Lines<'_, '_>,
+    folder: &mut F,
+    name: &str,
+) -> Result<(), AllocError> {
+    let Some((writer, written)) = lines.row.written(name) else {
+        return lines.put_property(Writer::Column, &["dimensions", name]);
+    };
+    lines.put_property(writer, &["dimensions", name])?;
+    match written {
+        Written::Named(name, _) => put_referred(lines, folder, name.as_str()),
+        _ => Ok(()),
+    }
+}
+
+/// Puts the places of the decimals.
+fn put_decimals<R: Read + Drop, F: Folder<R>>(
+    lines: &mut Lines<'_, '_>,
+    folder: &mut F,
+) -> Result<(), AllocError> {
+    let Some((writer, written)) = lines.row.decimals() else {
+        return Ok(());
+    };
+    lines.put_property(writer, &["decimals"])?;
+    match written {
+        WrittenDecimals::Named(name) => put_referred(lines, folder, name.as_str()),
+        _ => Ok(()),
+    }
+}
+
+/// The places elsewhere that the fault of a cell comes from, each with what stands there.
+pub(crate) fn sources<R: Read + Drop, F: Folder<R>>(
+    alloc: Global,
+    folder: &mut F,
+    row: &RowOfFault<'_>,
+    fault: CellFault,
+) -> Result<Items<Text>, AllocError> {
+    let mut lines = Lines {
+        alloc,
+        row,
+        lines: Items::new(alloc),
+    };
+    match origin_of(alloc, row, fault)? {
+        None => {}
+        Some(Origin::Groups(place)) => lines.put_cell(row.column_id(place))?,
+        Some(Origin::Dimension(name)) => put_dimension(&mut lines, folder, name)?,
+        Some(Origin::Decimals) => put_decimals(&mut lines, folder)?,
+    }
+    Ok(lines.lines)
+}

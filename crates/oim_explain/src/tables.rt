@@ -1,0 +1,301 @@
+//! The explanation of a table's fault.
+
+ghost use Rattle.std.specs.Prelude.{◌≡◌, ◌<◌, IfOk, IfSome, length, string_bytes};
+ghost use Rattle.oim_explain.specs.Explanations.{explanation_of};
+ghost use Rattle.oim_explain.specs.declared.explanation.Explanation.{Explanation as Said};
+ghost use Rattle.oim_explain.specs.TablePlaces.{ExplainsAt, ExplainsTable, NamesPlace};
+
+use crate::cells::{cell, cells, text_at};
+use crate::excerpts::excerpt;
+use crate::explanation::{Explanation, explanation_text};
+use crate::files::{changed, line_again, of_file, place_in_file};
+use crate::levels::{RowOfFault, place_of_text};
+use crate::places::{is_of_file, path_of, place_of, record_again};
+use crate::reread::ReportAgain;
+use crate::rows::{RowAgain, first_with};
+use crate::sources::sources;
+use csv::ByteRecord;
+use oim_files::{Folder, folder_of};
+use oim_meta::{Level, Report, Written};
+use oim_names::{Items, Text};
+use oim_rows::{TableFault, TableKind};
+use std::alloc::{AllocError, Global};
+use std::io::Read;
+
+/// The name of the column of row identifiers. `None` if the template has none.
+fn id_column(report: &Report, table: usize) -> Option<&str>
+    requires { table < length report.now.tables }
+{
+    let columns = report.template_columns(table);
+    match report.row_id_column(table) {
+        Some(place) if place < columns.len() => Some(columns[place].id.as_str()),
+        _ => None,
+    }
+}
+
+/// The identifier of a row, cut.
+fn row_id(
+    alloc: Global,
+    report: &Report,
+    table: usize,
+    again: &RowAgain,
+    number: u32,
+) -> Result<String, AllocError>
+    requires { table < length report.now.tables }
+{
+    let place = match id_column(report, table) {
+        Some(name) => place_of_text(again, name),
+        None => None,
+    };
+    match place {
+        Some(place) => excerpt(alloc, text_at(&again.row, place).unwrap_or("?")),
+        None => format!(in alloc; "r_{number}"),
+    }
+}
+
+/// The concept that a level writes as a literal.
+fn concept_in(level: &Level) -> Option<&str> {
+    for (name, written) in level.dimensions.as_slice() {
+        if name.as_str() == "concept" {
+            return match written {
+                Written::Text(text) => Some(text.as_str()),
+                _ => None,
+            };
+        }
+    }
+    None
+}
+
+/// The concept that a column itself writes as a literal, unless a property group may write another.
+fn concept_of<'r>(report: &'r Report, table: usize, column: &str) -> Option<&'r str>
+    requires { table < length report.now.tables }
+{
+    let columns = report.template_columns(table);
+    let place = match report.place_of_column(table, column.as_bytes()) {
+        Some(place) if place < columns.len() => place,
+        _ => return None,
+    };
+    if columns[place].from.as_slice().is_empty() {
+        concept_in(&columns[place].level)
+    } else {
+        None
+    }
+}
+
+/// A column by its name in the header, cut, with its concept, if that is known.
+fn column_named(
+    alloc: Global,
+    report: &Report,
+    table: usize,
+    name: &str,
+) -> Result<String, AllocError>
+    requires { table < length report.now.tables }
+{
+    let shown = excerpt(alloc, name)?;
+    let shown = shown.as_str();
+    match concept_of(report, table, name) {
+        Some(concept) => {
+            let concept = excerpt(alloc, concept)?;
+            let concept = concept.as_str();
+            format!(in alloc; "{shown} ({concept})")
+        }
+        None => String::from_str(alloc, shown),
+    }
+}
+
+/// A cell of a row, with its column and its row.
+fn cell_of_row(
+    alloc: Global,
+    report: &Report,
+    fault: &TableFault,
+    again: &RowAgain,
+    place: usize,
+) -> Result<String, AllocError>
+    requires { (fault.now).table < length report.now.tables }
+{
+    let cell = cell(alloc, &again.row, place)?;
+    let name = text_at(&again.header, place).unwrap_or("?");
+    let column = column_named(alloc, report, fault.table, name)?;
+    let id = row_id(alloc, report, fault.table, again, fault.row)?;
+    let (cell, column, id) = (cell.as_str(), column.as_str(), id.as_str());
+    format!(in alloc; "{cell} in {column} of row {id}")
+}
+
+/// What stands at the place of a fault.
+fn found_in(
+    alloc: Global,
+    report: &Report,
+    fault: &TableFault,
+    again: &RowAgain,
+) -> Result<String, AllocError>
+    requires { (fault.now).table < length report.now.tables }
+{
+    match place_of(fault) {
+        Some(place) if fault.row > 0 => cell_of_row(alloc, report, fault, again, place),
+        Some(place) => cell(alloc, &again.header, place),
+        None if fault.row > 0 => cells(alloc, &again.row),
+        None => excerpt(alloc, id_column(report, fault.table).unwrap_or("?")),
+    }
+}
+
+/// The line of the first row that has the text of a cell at its place.
+fn first_line<R: Read + Drop, F: Folder<R>>(
+    alloc: Global,
+    folder: &mut F,
+    path: &str,
+    row: &ByteRecord,
+    place: usize,
+) -> Result<u64, AllocError> {
+    let Some(reader) = folder.open(path) else {
+        return Ok(0);
+    };
+    let Some(text) = row.get(place) else {
+        return Ok(0);
+    };
+    match first_with(alloc, reader, place, text)? {
+        Some(number) => Ok(line_again(alloc, folder, path, number).unwrap_or(0)),
+        None => Ok(0),
+    }
+}
+
+/// What there is to say of the place of a row identifier that an earlier row has.
+fn with_first_line<R: Read + Drop, F: Folder<R>>(
+    alloc: Global,
+    folder: &mut F,
+    path: &str,
+    fault: &TableFault,
+    again: &RowAgain,
+    found: String,
+) -> Result<String, AllocError> {
+    match place_of(fault) {
+        Some(place) if fault.kind == TableKind::RepeatedRowId => {
+            let line = first_line(alloc, folder, path, &again.row, place)?;
+            let found = found.as_str();
+            format!(in alloc; "{found}, first in line {line}")
+        }
+        _ => Ok(found),
+    }
+}
+
+/// The files of a report that is read again, and the path of one of its tables.
+#[derive(Clone, Copy)]
+struct TableAgain<'r> {
+    again: &'r ReportAgain,
+    base: &'r str,
+    path: &'r str,
+}
+
+/// The places elsewhere that a fault of a row comes from.
+fn elsewhere<R: Read + Drop, F: Folder<R>>(
+    alloc: Global,
+    folder: &mut F,
+    table: TableAgain<'_>,
+    fault: &TableFault,
+    cells: &RowAgain,
+    line: Option<u64>,
+) -> Result<Items<Text>, AllocError>
+    requires { (fault.now).table < length table.again.now.report.tables }
+{
+    let (TableKind::Cell(kind), Some(place)) = (fault.kind, place_of(fault)) else {
+        return Ok(Items::new(alloc));
+    };
+    let name = text_at(&cells.header, place).unwrap_or("");
+    let report = &table.again.report;
+    let Some(column) = report.place_of_column(fault.table, name.as_bytes()) else {
+        return Ok(Items::new(alloc));
+    };
+    let number = fault.row;
+    let number = format!(in alloc; "{number}")?;
+    let row = RowOfFault {
+        again: table.again,
+        table: fault.table,
+        column,
+        cells,
+        number: number.as_str(),
+        path: table.path,
+        line,
+        base: table.base,
+    };
+    sources(alloc, folder, &row, kind)
+}
+
+/// The explanation of a fault at a record of a table's file.
+fn at_record<R: Read + Drop, F: Folder<R>>(
+    alloc: Global,
+    folder: &mut F,
+    table: TableAgain<'_>,
+    fault: &TableFault,
+    cells: &RowAgain,
+) -> Result<Explanation, AllocError>
+    requires { (fault.now).table < length table.again.now.report.tables }
+    ensures { IfOk result (λ e. IfSome (F.files folder.old) (λ files. IfSome (files table.entry.path.now) (λ bytes. NamesPlace table.entry.path.now fault.now bytes e.place))) }
+{
+    let line = line_again(alloc, folder, table.path, fault.row as usize);
+    let found = found_in(alloc, &table.again.report, fault, cells)?;
+    let found = with_first_line(alloc, folder, table.path, fault, cells, found)?;
+    let sources = elsewhere(alloc, folder, table, fault, cells, line)?;
+    Ok(Explanation {
+        place: Text::new(place_in_file(alloc, table.path, line, place_of(fault))?),
+        found: Text::new(found),
+        cause: fault.kind.explanation(),
+        sources,
+    })
+}
+
+/// The explanation of a fault of a table whose file is at this path.
+fn at_path<R: Read + Drop, F: Folder<R>>(
+    alloc: Global,
+    folder: &mut F,
+    table: TableAgain<'_>,
+    fault: &TableFault,
+) -> Result<Explanation, AllocError>
+    requires { (fault.now).table < length table.again.now.report.tables }
+    ensures { IfOk result (λ e. IfSome (F.files folder.old) (λ files. ExplainsAt files table.entry.path.now table.entry.again.now.report fault.now e)) }
+{
+    if is_of_file(fault.kind) {
+        return of_file(alloc, table.path, fault.kind.explanation());
+    }
+    match record_again(alloc, folder, table.path, &table.again.report, fault)? {
+        Some(cells) => at_record(alloc, folder, table, fault, &cells),
+        None => changed(alloc, table.path),
+    }
+}
+
+/// The explanation of a fault of a table of the report whose metadata is at this path.
+fn of_table<R: Read + Drop, F: Folder<R>>(
+    alloc: Global,
+    meta: &str,
+    folder: &mut F,
+    again: &ReportAgain,
+    fault: &TableFault,
+) -> Result<Explanation, AllocError>
+    ensures { IfOk result (λ e. IfSome (F.files folder.old) (λ files. ExplainsTable files meta.now again.now.report fault.now e)) }
+{
+    if fault.table >= again.report.tables() {
+        return changed(alloc, meta);
+    }
+    let path = path_of(alloc, meta, &again.report, fault.table)?;
+    let table = TableAgain {
+        again,
+        base: folder_of(meta),
+        path: path.as_str(),
+    };
+    at_path(alloc, folder, table, fault)
+}
+
+/// The lines that explain the fault of a table of this report, whose metadata is at this path and whose file is read
+/// again: three lines, four blanks deep, each with its line feed, and a line for each place elsewhere that the fault
+/// comes from. They say so where the file does not have the fault any more, or cannot be read again. Fails if memory
+/// runs out.
+pub fn explain_table<R: Read + Drop, F: Folder<R>>(
+    alloc: Global,
+    meta: &str,
+    folder: &mut F,
+    again: &ReportAgain,
+    fault: &TableFault,
+) -> Result<String, AllocError>
+    ensures { IfOk result (λ s. (e : Said) × (string_bytes s ≡ explanation_of e) × IfSome (F.files folder.old) (λ files. ExplainsTable files meta.now again.now.report fault.now e)) }
+{
+    let explanation = of_table(alloc, meta, folder, again, fault)?;
+    explanation_text(alloc, &explanation)
+}

@@ -1,0 +1,135 @@
+-- The definitions on worked cases.
+use Rattle.std.proofs.Common.{◌≡◌, ◌++◌, ◌∷◌, [], ℕ, List, Some, None, Ok, Err, codes, inl, inr, map, refl, take, if◌then◌else◌}
+use Rattle.std.specs.Borrow.{Bor}
+use Rattle.std.specs.Str.{bytes_eq, chars, is_utf8}
+use lib.Utf8.{encode}
+use Rattle.csv.specs.Machine.{next_record}
+use Rattle.csv.specs.Reading.{records_from, strip_bom}
+use Rattle.serde_json.specs.Data.{Data, Members, member, no_members, object, string}
+use Rattle.oim_meta.specs.BadParameters.{has_bad_parameter_url}
+use Rattle.oim_meta.specs.Faults.{has_no_report}
+use Rattle.oim_meta.specs.PlainPath.{is_plain_path}
+use Rattle.oim_meta.specs.declared.fault.MetaFault.TheVariants as refused
+use Rattle.oim_records.specs.Grids.{records_left}
+use Rattle.oim_report.specs.ReportValue.{ReportValue}
+use Rattle.oim_report.specs.declared.limits.Limits.{Limits}
+use Rattle.oim_files.specs.Folders.{Files, first_at}
+use Rattle.oim_files.specs.Metadata.{json_of, profile, read_as, url_in}
+use Rattle.oim_files.specs.Steps.{Stops, looking, metadata_steps, opening, parameters_steps, reading, step, steps, types_steps, value_or}
+use Rattle.oim_files.specs.declared.early_fault.EarlyFault.TheVariants as early
+use Rattle.oim_files.specs.declared.early_fault.Source.TheVariants as source
+
+-- a text, wherever it is in memory
+abbrev word : List ℕ → Bor (List ℕ)
+word text = record { ref_ptr = (0, 0); now = text }
+
+-- ---- the limits
+
+limits : profile ≡ record { rows = 100_000_000; tables = 4_096; columns = 4_096; metadata = 67_108_864 }
+limits = refl
+
+-- ---- the metadata
+
+-- a report with these members
+abbrev csv_with : Members → Data
+csv_with members = object (member (codes "documentInfo") (object (member (codes "documentType") (string (codes "https://xbrl.org/2021/xbrl-csv")) no_members)) members)
+
+abbrev two_bytes : Limits
+two_bytes = record profile { metadata = 2 }
+
+-- a metadata of as many bytes as the limit is read, one of more is not
+metadata_at_the_limit : read_as {A = ℕ} two_bytes (λ _. Ok 0) (255 ∷ 255 ∷ []) ≡ Err refused.Syntax
+unfolding is_utf8 chars
+metadata_at_the_limit = refl
+
+metadata_past_the_limit : read_as {A = ℕ} two_bytes (λ _. Ok 0) (255 ∷ 255 ∷ 255 ∷ []) ≡ Err refused.TooLarge
+metadata_past_the_limit = refl
+
+-- a byte-order mark is passed over, and a text that is not UTF-8 is not JSON
+json_after_a_mark : json_of (239 ∷ 187 ∷ 191 ∷ codes "null") ≡ json_of (codes "null")
+unfolding is_utf8 chars encode
+json_after_a_mark = refl
+
+json_without_utf8 : json_of (255 ∷ []) ≡ None
+unfolding is_utf8 chars encode
+json_without_utf8 = refl
+
+named_file : url_in (csv_with (member (codes "parameterURL") (string (codes "p.csv")) no_members)) ≡ Ok (Some (codes "p.csv"))
+unfolding has_no_report has_bad_parameter_url is_plain_path
+named_file = refl
+
+no_named_file : url_in (csv_with no_members) ≡ Ok None
+unfolding has_no_report has_bad_parameter_url is_plain_path
+no_named_file = refl
+
+named_file_above : url_in (csv_with (member (codes "parameterURL") (string (codes "../p.csv")) no_members)) ≡ Err refused.BadParameter
+unfolding has_no_report has_bad_parameter_url is_plain_path
+named_file_above = refl
+
+-- ---- the files
+
+-- the first of two files with one path
+first_files : map (first_at ((word (codes "a"), word (codes "1")) ∷ (word (codes "b"), word (codes "2")) ∷ (word (codes "a"), word (codes "3")) ∷ []))
+    (codes "a" ∷ codes "b" ∷ codes "c" ∷ []) ≡ Some (codes "1") ∷ Some (codes "2") ∷ None ∷ []
+first_files = refl
+
+abbrev held : Files
+held path = if bytes_eq path (codes "f/m.json") then Some (codes "{")
+    else if bytes_eq path (codes "f/t1.csv") then Some (codes "cash\n")
+    else if bytes_eq path (codes "f/types.csv") then Some (codes "name\n")
+    else None
+
+missing_metadata : map (λ s. s.fault) (metadata_steps held (codes "x.json")) ≡ Some (early.CannotRead (codes "x.json")) ∷ None ∷ []
+missing_metadata = refl
+
+missing_types : map (λ s. s.fault) (metadata_steps held (codes "f/m.json") ++ opening held (codes "x.csv") ∷ []) ≡ None ∷ None ∷ Some (early.CannotRead (codes "x.csv")) ∷ []
+missing_types = refl
+
+wrong_types : reading {A = ReportValue} source.Types (Err refused.BadTypes)
+    ≡ step (Some (early.Report source.Types refused.BadTypes)) (early.Report source.Types refused.Read ∷ early.Report source.Types refused.Memory ∷ [])
+wrong_types = refl
+
+-- the types table is opened and read, and then the parameters file
+unread_types : map (λ s. s.refusals) (types_steps held (codes "f/types.csv"))
+    ≡ (early.Memory ∷ []) ∷ (early.Report source.Types refused.Read ∷ early.Report source.Types refused.Memory ∷ []) ∷ []
+unread_types = refl
+
+unread_parameters : map (λ s. s.refusals) (parameters_steps held (codes "f/") (Some (codes "p.csv")))
+    ≡ (early.Memory ∷ []) ∷ (early.Report source.Parameters refused.Read ∷ early.Report source.Parameters refused.Memory ∷ []) ∷ []
+unread_parameters = refl
+
+wrong_url : looking {A = ℕ} (Err refused.BadParameter) ≡ step (Some (early.Report source.Report refused.BadParameter)) (early.Report source.Report refused.Memory ∷ [])
+wrong_url = refl
+
+values : map (value_or []) (Ok (codes "p") ∷ Err refused.Syntax ∷ []) ≡ codes "p" ∷ [] ∷ []
+values = refl
+
+no_parameters : parameters_steps held (codes "f/") None ≡ []
+no_parameters = refl
+
+missing_parameters : map (λ s. s.fault) (take 1 (parameters_steps held (codes "f/") (Some (codes "p.csv")))) ≡ Some (early.CannotRead (codes "f/p.csv")) ∷ []
+missing_parameters = refl
+
+unread_metadata : map (λ s. s.refusals) (metadata_steps held (codes "f/m.json")) ≡ (early.Memory ∷ []) ∷ (early.Report source.Report refused.Read ∷ early.Memory ∷ []) ∷ []
+unread_metadata = refl
+
+-- a run ends at the first file that is missing, or at a file that is there because memory runs out
+stops_at_the_second : Stops (opening held (codes "f/m.json") ∷ opening held (codes "x.csv") ∷ []) (early.CannotRead (codes "x.csv"))
+stops_at_the_second =
+    record { before = opening held (codes "f/m.json") ∷ []; here = opening held (codes "x.csv"); later = []; split = refl; passed = (refl, tt); ends = inl refl }
+
+stops_without_memory : Stops (opening held (codes "f/m.json") ∷ opening held (codes "x.csv") ∷ []) early.Memory
+stops_without_memory = record { before = []; here = opening held (codes "f/m.json"); later = opening held (codes "x.csv") ∷ []; split = refl; passed = tt; ends = inr (inl refl) }
+
+-- ---- the order
+
+-- a metadata that is not UTF-8 and so not JSON, and no other file
+abbrev no_text : Files
+no_text path = if bytes_eq path (codes "f/m.json") then Some (255 ∷ []) else None
+
+-- the metadata is opened and read, then the types table; then the metadata is looked at, for the parameters file and as a whole
+faults_in_order : map (λ s. s.fault) (steps no_text (codes "f/") (codes "f/m.json") (codes "x.csv"))
+    ≡ None ∷ None ∷ Some (early.CannotRead (codes "x.csv")) ∷ Some (early.Report source.Types refused.BadTypes)
+    ∷ Some (early.Report source.Report refused.Syntax) ∷ Some (early.Report source.Report refused.Syntax) ∷ []
+unfolding records_left records_from strip_bom next_record is_utf8 chars encode
+faults_in_order = refl

@@ -1,0 +1,4 @@
+mod FolderFacts
+mod MetadataFacts
+mod StepFacts
+mod Examples

@@ -1,0 +1,360 @@
+-- What the steps of a run give, from the answers of the calls in them.
+use Rattle.std.proofs.Common.{
+  ◌≡◌,
+  ◌∙◌,
+  refl,
+  sym,
+  ap,
+  subst,
+  ℕ,
+  ◌+◌,
+  ◌⊎◌,
+  List,
+  [],
+  ◌∷◌,
+  ◌++◌,
+  take,
+  Option,
+  Some,
+  None,
+  IfSome,
+  IfOk,
+  IfErr,
+  option_map,
+  unwrap_or,
+  Result,
+  Ok,
+  Err,
+  inl,
+  inr,
+  append_assoc,
+}
+use Rattle.oim_files.specs.Folders.{IsFileOf}
+use Rattle.oim_meta.specs.CsvFiles.{OrOutside}
+use Rattle.oim_records.specs.Grids.{grid}
+use Rattle.oim_report.specs.Parameters.{ParametersValue}
+use Rattle.oim_meta.specs.ParametersFile.{parameters_result}
+use Rattle.oim_report.specs.ReportValue.{ReportValue}
+use Rattle.oim_report.specs.Types.{TypesValue}
+use Rattle.oim_meta.specs.declared.fault.MetaFault.{MetaFault}
+use Rattle.oim_meta.specs.declared.fault.MetaFault.TheVariants as refused
+use Rattle.oim_files.proofs.MetadataFacts.{report_taken, url_taken}
+use Rattle.oim_files.specs.Folders.{Files}
+use Rattle.oim_files.specs.Metadata.{profile, report_result, url_result}
+use Rattle.oim_files.specs.Steps.{IsAmong, IsReport, Passes, Step, Stops, Takes, bytes_at, looking, metadata_steps, missing, opening, parameters_at, parameters_of, parameters_steps, reading, report_at, step, types_at, types_steps, url_at, value_or, wrong}
+use Rattle.oim_files.specs.declared.early_fault.EarlyFault.{EarlyFault}
+use Rattle.oim_files.specs.declared.early_fault.EarlyFault.TheVariants as early
+use Rattle.oim_files.specs.declared.early_fault.Source.{Source}
+use Rattle.oim_files.specs.declared.early_fault.Source.TheVariants as source
+
+-- LISTS OF STEPS
+
+pub passes_both : (xs ys : List Step) → Passes xs → Passes ys → Passes (xs ++ ys)
+passes_both [] ys p q = q
+passes_both (x ∷ xs) ys p q = (p.0, passes_both xs ys p.1 q)
+
+-- a run that ends at a step ends the same way with more steps after it, and with steps before it that have no fault
+pub stops_first : (xs ys : List Step) (o : EarlyFault) → Stops xs o → Stops (xs ++ ys) o
+stops_first xs ys o s =
+    record {
+      before = s.before;
+      here = s.here;
+      later = s.later ++ ys;
+      split = ap (λ l. l ++ ys) s.split ∙ append_assoc s.before (s.here ∷ s.later) ys;
+      passed = s.passed;
+      ends = s.ends;
+    }
+
+pub stops_later : (xs ys : List Step) (o : EarlyFault) → Passes xs → Stops ys o → Stops (xs ++ ys) o
+stops_later xs ys o p s =
+    record {
+      before = xs ++ s.before;
+      here = s.here;
+      later = s.later;
+      split = ap (λ l. xs ++ l) s.split ∙ sym (append_assoc xs s.before (s.here ∷ s.later));
+      passed = passes_both xs s.before p s.passed;
+      ends = s.ends;
+    }
+
+pub stops_at : (here : Step) (later : List Step) (o : EarlyFault) → (here.fault ≡ Some o) ⊎ IsAmong o here.refusals → Stops (here ∷ later) o
+stops_at here later o ends = record { before = []; here = here; later = later; split = refl; passed = tt; ends = ends }
+
+-- ONE STEP
+
+-- a file that was opened, or not
+opened_by : {R : Type 0} (told : R → Option (List ℕ)) (r : R) (path : List ℕ) (file : Option (List ℕ)) → IsFileOf told (Some r) file
+    → Passes (step (missing path file) (early.Memory ∷ []) ∷ []) × (told r ≡ Some (unwrap_or file []))
+opened_by told r path None h = absurd h
+opened_by told r path (Some bytes) h = ((refl, tt), h)
+
+pub opened_is : {R : Type 0} (told : R → Option (List ℕ)) (r : R) (known : Option Files) (path : List ℕ)
+    → IfSome known (λ files. IsFileOf told (Some r) (files path))
+    → IfSome known (λ files. Passes (opening files path ∷ []) × (told r ≡ Some (bytes_at files path)))
+opened_is told r None path is = tt
+opened_is told r (Some files) path is = opened_by told r path (files path) is
+
+not_opened_by : {R : Type 0} (told : R → Option (List ℕ)) (path : List ℕ) (o : EarlyFault) (file : Option (List ℕ)) → IsFileOf {R = R} told None file
+    → (o ≡ early.CannotRead path) ⊎ (o ≡ early.Memory) → (missing path file ≡ Some o) ⊎ IsAmong o (early.Memory ∷ [])
+not_opened_by told path o None h (inl is) = inl (ap Some (sym is))
+not_opened_by told path o None h (inr is) = inr (inl is)
+not_opened_by told path o (Some bytes) h any = absurd h
+
+pub not_opened : {R : Type 0} (told : R → Option (List ℕ)) (known : Option Files) (path : List ℕ) (o : EarlyFault)
+    → IfSome known (λ files. IsFileOf {R = R} told None (files path))
+    → (o ≡ early.CannotRead path) ⊎ (o ≡ early.Memory)
+    → IfSome known (λ files. Stops (opening files path ∷ []) o)
+not_opened told None path o is said = tt
+not_opened told (Some files) path o is said = stops_at (opening files path) [] o (not_opened_by told path o (files path) is said)
+
+-- READING A FILE
+
+abbrev is_same : {A B : Type 0} → Result A B → Result A B → Type 0
+is_same a b = a ≡ b
+
+ok_no_err : {A B : Type 0} (a : A) (b : B) → Ok a ≡ Err b → ⊥
+ok_no_err a b e = cc
+
+err_same : {A B : Type 0} (a b : B) → is_same {A = A} (Err a) (Err b) → a ≡ b
+err_same a b e = cc
+
+-- the reader of a file tells the bytes of the file
+abbrev pub IsOpened : {R : Type 0} → (R → Option (List ℕ)) → R → Files → List ℕ → Type 0
+IsOpened told r files path = Passes (opening files path ∷ []) × (told r ≡ Some (bytes_at files path))
+
+module _ {R A : Type 0} (told : R → Option (List ℕ)) (r : R) (s : Source) (read : List ℕ → Result A MetaFault) where
+  abbrev Read : Files → List ℕ → Result A EarlyFault → Type 0
+  Read files path result = Takes {X = A} (opening files path ∷ reading s (read (bytes_at files path)) ∷ []) (λ a. read (bytes_at files path) ≡ Ok a) result
+
+  value_read : (a : A) (answer : Result A MetaFault) → OrOutside (Ok a) answer → answer ≡ Ok a
+  value_read a answer (inl e) = absurd (ok_no_err a refused.Read e)
+  value_read a answer (inr (inl e)) = absurd (ok_no_err a refused.Memory e)
+  value_read a answer (inr (inr e)) = sym e
+
+  fault_read : (f : MetaFault) (answer : Result A MetaFault) → OrOutside (Err f) answer
+      → (wrong s answer ≡ Some (early.Report s f)) ⊎ IsAmong (early.Report s f) (early.Report s refused.Read ∷ early.Report s refused.Memory ∷ [])
+  fault_read f answer (inl e) = inr (inl (ap (early.Report s) (err_same {A = A} f refused.Read e)))
+  fault_read f answer (inr (inl e)) = inr (inr (inl (ap (early.Report s) (err_same {A = A} f refused.Memory e))))
+  fault_read f answer (inr (inr e)) = inl (ap (wrong s) (sym e))
+
+  pub reads_value : (known : Option Files) (path : List ℕ) (a : A) → IfSome known (λ files. IsOpened told r files path)
+      → IfSome (told r) (λ bytes. OrOutside (Ok a) (read bytes)) → IfSome known (λ files. Read files path (Ok a))
+  reads_value None path a is answer = tt
+  reads_value (Some files) path a is answer =
+      let e = value_read a (read (bytes_at files path)) (subst (λ k. IfSome k (λ bytes. OrOutside (Ok a) (read bytes))) is.1 answer) in
+      ((is.0.0, (ap (wrong s) e, tt)), e)
+
+  pub reads_fault : (known : Option Files) (path : List ℕ) (f : MetaFault) → IfSome known (λ files. IsOpened told r files path)
+      → IfSome (told r) (λ bytes. OrOutside {A = A} (Err f) (read bytes)) → IfSome known (λ files. Read files path (Err (early.Report s f)))
+  reads_fault None path f is answer = tt
+  reads_fault (Some files) path f is answer =
+      let o = early.Report s f in
+      stops_later (opening files path ∷ []) (reading s (read (bytes_at files path)) ∷ []) o is.0
+      (stops_at (reading s (read (bytes_at files path))) [] o
+      (fault_read f (read (bytes_at files path)) (subst (λ k. IfSome k (λ bytes. OrOutside {A = A} (Err f) (read bytes))) is.1 answer)))
+
+-- a file that was not opened is not read
+pub reads_none : {A : Type 0} (s : Source) (read : List ℕ → Result A MetaFault) (known : Option Files) (path : List ℕ) (o : EarlyFault) → IfSome known (λ files. Stops (opening files path ∷ []) o)
+    → IfSome known (λ files. Stops (opening files path ∷ reading s (read (bytes_at files path)) ∷ []) o)
+reads_none s read None path o stop = tt
+reads_none s read (Some files) path o stop = stops_first (opening files path ∷ []) (reading s (read (bytes_at files path)) ∷ []) o stop
+
+-- THE METADATA
+
+abbrev most : ℕ
+most = profile.metadata + 1
+
+abbrev unread : List EarlyFault
+unread = early.Report source.Report refused.Read ∷ early.Memory ∷ []
+
+abbrev pub IsMetadata : {V : Type 0} → (V → List ℕ) → Files → List ℕ → Result V EarlyFault → Type 0
+IsMetadata items files path result = Takes (metadata_steps files path) (λ v. items v ≡ take most (bytes_at files path)) result
+
+pub metadata_read : {R V : Type 0} (told : R → Option (List ℕ)) (r : R) (items : V → List ℕ) (known : Option Files) (path : List ℕ) (result : Result V EarlyFault)
+    → IfSome known (λ files. IsOpened told r files path) → IfSome (told r) (λ bytes. IfOk result (λ v. items v ≡ take most bytes)) → IfErr result (λ o. IsAmong o unread)
+    → IfSome known (λ files. IsMetadata items files path result)
+metadata_read told r items None path result is bytes refusal = tt
+metadata_read told r items (Some files) path (Ok v) is bytes refusal =
+    ((is.0.0, (refl, tt)), subst (λ k. IfSome k (λ b. items v ≡ take most b)) is.1 bytes)
+metadata_read told r items (Some files) path (Err o) is bytes refusal =
+    stops_later (opening files path ∷ []) (step None unread ∷ []) o is.0 (stops_at (step None unread) [] o (inr refusal))
+
+pub metadata_none : (known : Option Files) (path : List ℕ) (o : EarlyFault) → IfSome known (λ files. Stops (opening files path ∷ []) o)
+    → IfSome known (λ files. Stops (metadata_steps files path) o)
+metadata_none None path o s = tt
+metadata_none (Some files) path o s = stops_first (opening files path ∷ []) (step None unread ∷ []) o s
+
+-- a reader read up to the limit
+pub read_most : {R : Type 0} (told : R → Option (List ℕ)) (r inner : R) (limit : ℕ) (start items : List ℕ) → inner ≡ r → limit ≡ most → start ≡ []
+    → IfSome (option_map (take limit) (told inner)) (λ xs. items ≡ start ++ xs) → IfSome (told r) (λ bytes. items ≡ take most bytes)
+read_most told r inner limit start items same is empty h =
+    let one = subst (λ x. IfSome (option_map (take limit) (told x)) (λ xs. items ≡ start ++ xs)) same h in
+    let two = subst (λ k. IfSome (option_map (take k) (told r)) (λ xs. items ≡ start ++ xs)) is one in
+    most_of (told r) (subst (λ s. IfSome (option_map (take most) (told r)) (λ xs. items ≡ s ++ xs)) empty two)
+  where
+    most_of : (known : Option (List ℕ)) → IfSome (option_map (take most) known) (λ xs. items ≡ xs) → IfSome known (λ bytes. items ≡ take most bytes)
+    most_of None e = tt
+    most_of (Some bytes) e = e
+
+-- LOOKING AT WHAT WAS READ
+
+module _ {A : Type 0} (answer : Result A MetaFault) where
+  pub looks_value : (a : A) → answer ≡ Ok a → Takes {X = A} (looking answer ∷ []) (λ x. answer ≡ Ok x) (Ok a)
+  looks_value a e = ((ap (wrong source.Report) e, tt), e)
+
+  pub looks_fault : (f : MetaFault) → (f ≡ refused.Memory) ⊎ (answer ≡ Err f) → Takes {X = A} (looking answer ∷ []) (λ x. answer ≡ Ok x) (Err (early.Report source.Report f))
+  looks_fault f (inl e) = stops_at (looking answer) [] (early.Report source.Report f) (inr (inl (ap (early.Report source.Report) e)))
+  looks_fault f (inr e) = stops_at (looking answer) [] (early.Report source.Report f) (inl (ap (wrong source.Report) e))
+
+-- ALL STEPS
+
+-- the steps after the first ones
+abbrev from_report : Files → (base meta types : List ℕ) → List Step
+from_report files base meta types = looking (report_at files base meta types) ∷ []
+
+abbrev from_parameters : Files → (base meta types : List ℕ) → List Step
+from_parameters files base meta types = parameters_steps files base (value_or None (url_at files meta)) ++ from_report files base meta types
+
+abbrev from_url : Files → (base meta types : List ℕ) → List Step
+from_url files base meta types = looking (url_at files meta) ∷ [] ++ from_parameters files base meta types
+
+abbrev from_types : Files → (base meta types : List ℕ) → List Step
+from_types files base meta types = types_steps files types ++ from_url files base meta types
+
+abbrev pub HasRead : Files → List ℕ → List ℕ → Type 0
+HasRead files meta items = Passes (metadata_steps files meta) × (items ≡ take most (bytes_at files meta))
+
+abbrev pub HasTypes : Files → List ℕ → TypesValue → Type 0
+HasTypes files types known = Passes (types_steps files types) × (types_at files types ≡ Ok known)
+
+abbrev pub HasUrl : List ℕ → Option (List ℕ) → Type 0
+HasUrl items url = Passes (looking (url_result profile items) ∷ []) × (url_result profile items ≡ Ok url)
+
+abbrev pub HasParameters : Files → List ℕ → Option (List ℕ) → ParametersValue → Type 0
+HasParameters files base url given = Passes (parameters_steps files base url) × (parameters_at files base url ≡ Ok given)
+
+url_same : (files : Files) (meta items : List ℕ) → items ≡ take most (bytes_at files meta) → url_result profile items ≡ url_at files meta
+url_same files meta items is = ap (url_result profile) is ∙ url_taken profile (bytes_at files meta)
+
+url_named : (files : Files) (meta items : List ℕ) (url : Option (List ℕ)) → items ≡ take most (bytes_at files meta) → url_result profile items ≡ Ok url → value_or None (url_at files meta) ≡ url
+url_named files meta items url is named = ap (value_or None) (sym (url_same files meta items is) ∙ named)
+
+module _ (files : Files) (base meta types : List ℕ) where
+  pub metadata_stops : (o : EarlyFault) → Stops (metadata_steps files meta) o → IsReport files base meta types (Err o)
+  metadata_stops o s = stops_first (metadata_steps files meta) (from_types files base meta types) o s
+
+  pub types_stops : (items : List ℕ) (o : EarlyFault) → HasRead files meta items → Stops (types_steps files types) o → IsReport files base meta types (Err o)
+  types_stops items o read s =
+      stops_later (metadata_steps files meta) (from_types files base meta types) o read.0
+      (stops_first (types_steps files types) (from_url files base meta types) o s)
+
+  pub url_stops : (items : List ℕ) (known : TypesValue) (o : EarlyFault) → HasRead files meta items → HasTypes files types known
+      → Stops (looking (url_result profile items) ∷ []) o → IsReport files base meta types (Err o)
+  url_stops items known o read typed s =
+      stops_later (metadata_steps files meta) (from_types files base meta types) o read.0
+      (stops_later (types_steps files types) (from_url files base meta types) o typed.0
+      (stops_first (looking (url_at files meta) ∷ []) (from_parameters files base meta types) o
+      (subst (λ w. Stops (looking w ∷ []) o) (url_same files meta items read.1) s)))
+
+  pub parameters_stops : (items : List ℕ) (known : TypesValue) (url : Option (List ℕ)) (o : EarlyFault) → HasRead files meta items → HasTypes files types known → HasUrl items url
+      → Stops (parameters_steps files base url) o → IsReport files base meta types (Err o)
+  parameters_stops items known url o read typed named s =
+      stops_later (metadata_steps files meta) (from_types files base meta types) o read.0
+      (stops_later (types_steps files types) (from_url files base meta types) o typed.0
+      (stops_later (looking (url_at files meta) ∷ []) (from_parameters files base meta types) o
+      (subst (λ w. Passes (looking w ∷ [])) (url_same files meta items read.1) named.0)
+      (stops_first (parameters_steps files base (value_or None (url_at files meta))) (from_report files base meta types) o
+      (subst (λ u. Stops (parameters_steps files base u) o) (sym (url_named files meta items url read.1 named.1)) s))))
+
+  -- the report, from the parts that were read
+  report_same : (items : List ℕ) (known : TypesValue) (url : Option (List ℕ)) (given : ParametersValue) → HasRead files meta items
+      → HasTypes files types known → HasUrl items url → HasParameters files base url given
+      → report_result profile given known items ≡ report_at files base meta types
+  report_same items known url given read typed named parameters =
+      let is_known : value_or [] (types_at files types) ≡ known = ap (value_or []) typed.1 in
+      let is_given : parameters_of files base meta ≡ given =
+      ap (λ u. value_or [] (parameters_at files base u)) (url_named files meta items url read.1 named.1) ∙ ap (value_or []) parameters.1 in
+      ap (report_result profile given known) read.1 ∙ report_taken profile given known (bytes_at files meta)
+      ∙ ap (λ g. report_result profile g known (bytes_at files meta)) (sym is_given)
+      ∙ ap (λ k. report_result profile (parameters_of files base meta) k (bytes_at files meta)) (sym is_known)
+
+  pub report_ends : (items : List ℕ) (known : TypesValue) (url : Option (List ℕ)) (given : ParametersValue) (result : Result ReportValue EarlyFault)
+      → HasRead files meta items → HasTypes files types known → HasUrl items url → HasParameters files base url given
+      → Takes {X = ReportValue} (looking (report_result profile given known items) ∷ []) (λ r. report_result profile given known items ≡ Ok r) result
+      → IsReport files base meta types result
+  report_ends items known url given result read typed named parameters takes =
+      last result (subst (λ w. Takes {X = ReportValue} (looking w ∷ []) (λ r. w ≡ Ok r) result) (report_same items known url given read typed named parameters) takes)
+    where
+      looked : Passes (looking (url_at files meta) ∷ [])
+      looked = subst (λ w. Passes (looking w ∷ [])) (url_same files meta items read.1) named.0
+
+      found : Passes (parameters_steps files base (value_or None (url_at files meta)))
+      found = subst (λ u. Passes (parameters_steps files base u)) (sym (url_named files meta items url read.1 named.1)) parameters.0
+
+      last : (result : Result ReportValue EarlyFault) → Takes {X = ReportValue} (from_report files base meta types) (λ r. report_at files base meta types ≡ Ok r) result
+          → IsReport files base meta types result
+      last (Ok r) takes = (
+        passes_both (metadata_steps files meta) (from_types files base meta types) read.0
+            (passes_both (types_steps files types) (from_url files base meta types) typed.0
+            (passes_both (looking (url_at files meta) ∷ []) (from_parameters files base meta types) looked
+            (passes_both (parameters_steps files base (value_or None (url_at files meta))) (from_report files base meta types) found takes.0))),
+        takes.1,
+      )
+      last (Err o) takes =
+          stops_later (metadata_steps files meta) (from_types files base meta types) o read.0
+          (stops_later (types_steps files types) (from_url files base meta types) o typed.0
+          (stops_later (looking (url_at files meta) ∷ []) (from_parameters files base meta types) o looked
+          (stops_later (parameters_steps files base (value_or None (url_at files meta))) (from_report files base meta types) o found takes)))
+
+-- the same, for a folder that tells its files
+pub metadata_stop : (told : Option Files) (base meta types : List ℕ) (o : EarlyFault) → IfSome told (λ files. Stops (metadata_steps files meta) o)
+    → IfSome told (λ files. IsReport files base meta types (Err o))
+metadata_stop None base meta types o s = tt
+metadata_stop (Some files) base meta types o s = metadata_stops files base meta types o s
+
+pub types_stop : (told : Option Files) (base meta types items : List ℕ) (o : EarlyFault) → IfSome told (λ files. HasRead files meta items)
+    → IfSome told (λ files. Stops (types_steps files types) o) → IfSome told (λ files. IsReport files base meta types (Err o))
+types_stop None base meta types items o read s = tt
+types_stop (Some files) base meta types items o read s = types_stops files base meta types items o read s
+
+pub url_stop : (told : Option Files) (base meta types items : List ℕ) (known : TypesValue) (o : EarlyFault) → IfSome told (λ files. HasRead files meta items)
+    → IfSome told (λ files. HasTypes files types known) → Stops (looking (url_result profile items) ∷ []) o → IfSome told (λ files. IsReport files base meta types (Err o))
+url_stop None base meta types items known o read typed s = tt
+url_stop (Some files) base meta types items known o read typed s = url_stops files base meta types items known o read typed s
+
+pub parameters_stop : (told : Option Files) (base meta types items : List ℕ) (known : TypesValue) (url : Option (List ℕ)) (o : EarlyFault) → IfSome told (λ files. HasRead files meta items)
+    → IfSome told (λ files. HasTypes files types known) → HasUrl items url → IfSome told (λ files. Stops (parameters_steps files base url) o)
+    → IfSome told (λ files. IsReport files base meta types (Err o))
+parameters_stop None base meta types items known url o read typed named s = tt
+parameters_stop (Some files) base meta types items known url o read typed named s = parameters_stops files base meta types items known url o read typed named s
+
+pub report_stop : (told : Option Files) (base meta types items : List ℕ) (known : TypesValue) (url : Option (List ℕ)) (given : ParametersValue) (result : Result ReportValue EarlyFault)
+    → IfSome told (λ files. HasRead files meta items) → IfSome told (λ files. HasTypes files types known) → HasUrl items url → IfSome told (λ files. HasParameters files base url given)
+    → Takes {X = ReportValue} (looking (report_result profile given known items) ∷ []) (λ r. report_result profile given known items ≡ Ok r) result
+    → IfSome told (λ files. IsReport files base meta types result)
+report_stop None base meta types items known url given result read typed named parameters takes = tt
+report_stop (Some files) base meta types items known url given result read typed named parameters takes =
+    report_ends files base meta types items known url given result read typed named parameters takes
+
+-- THE PARAMETERS FILE
+
+abbrev pub IsParameters : Files → List ℕ → Option (List ℕ) → Result ParametersValue EarlyFault → Type 0
+IsParameters files base url result = Takes {X = ParametersValue} (parameters_steps files base url) (λ p. parameters_at files base url ≡ Ok p) result
+
+pub no_parameters : (known : Option Files) (base : List ℕ) (url : Option (List ℕ)) (given : ParametersValue) → url ≡ None → given ≡ []
+    → IfSome known (λ files. IsParameters files base url (Ok given))
+no_parameters None base url given none is = tt
+no_parameters (Some files) base url given none is = subst (λ u. IsParameters files base u (Ok given)) (sym none) (tt, ap Ok (sym is))
+
+pub no_path : (known : Option Files) (base url : List ℕ) (o : EarlyFault) → o ≡ early.Memory → IfSome known (λ files. IsParameters files base (Some url) (Err o))
+no_path None base url o is = tt
+no_path (Some files) base url o is =
+    stops_at (opening files (base ++ url)) (reading source.Parameters (parameters_at files base (Some url)) ∷ []) o (inr (inl is))
+
+abbrev ReadAt : Files → List ℕ → Result ParametersValue EarlyFault → Type 0
+ReadAt files path result =
+    Takes {X = ParametersValue} (opening files path ∷ reading source.Parameters (parameters_result (grid (bytes_at files path))) ∷ []) (λ p.
+    parameters_result (grid (bytes_at files path)) ≡ Ok p) result
+
+pub at_path : (known : Option Files) (base url path : List ℕ) (result : Result ParametersValue EarlyFault) → path ≡ base ++ url → IfSome known (λ files. ReadAt files path result)
+    → IfSome known (λ files. IsParameters files base (Some url) result)
+at_path known base url path result is read = subst (λ p. IfSome known (λ files. ReadAt files p result)) is read

@@ -1,0 +1,28 @@
+-- The files of a folder, and the folder of a path.
+use Rattle.std.specs.Prelude.{⊤, ◌≡◌, ◌≢◌, ◌⊎◌, ℕ, List, [], ◌∷◌, ◌++◌, Option, Some, None, if◌then◌else◌}
+use Rattle.std.specs.List.{All}
+use Rattle.std.specs.Str.{bytes_eq}
+use Rattle.std.specs.Borrow.{Bor}
+
+-- the bytes of the file at each path
+abbrev pub Files : Type 0
+Files = List ℕ → Option (List ℕ)
+
+-- a path without a reader has no file, and the file of a reader is the bytes that are left in it
+abbrev pub IsFileOf : {R : Type 0} → (R → Option (List ℕ)) → Option R → Option (List ℕ) → Type 0
+IsFileOf told None None = ⊤
+IsFileOf told None (Some bytes) = ⊥
+IsFileOf told (Some r) None = ⊥
+IsFileOf told (Some r) (Some bytes) = told r ≡ Some bytes
+
+-- a path up to and including its last slash, or nothing if it has none
+pub record IsFolderOf (base path : List ℕ) : Type 0 where
+  pub name : List ℕ
+  pub split : path ≡ base ++ name
+  pub no_slash : All (λ b. b ≢ 47) name
+  pub whole : (base ≡ []) ⊎ ((front : List ℕ) × (base ≡ front ++ 47 ∷ []))
+
+-- the bytes of the first file with this path
+abbrev pub first_at : List (Bor (List ℕ) × Bor (List ℕ)) → Files
+first_at [] path = None
+first_at (f ∷ rest) path = if bytes_eq f.0.now path then Some f.1.now else first_at rest path

@@ -1,0 +1,128 @@
+-- The steps in which a report is read before its tables, in order, and the report that the files of a folder give.
+-- xBRL-CSV 1.0 (the metadata, the parameters file).
+use Rattle.std.specs.Prelude.{⊤, ◌≡◌, ◌⊎◌, ℕ, List, [], ◌∷◌, ◌++◌, Option, Some, None, Result, Ok, Err, unwrap_or}
+use Rattle.oim_records.specs.Grids.{grid}
+use Rattle.oim_report.specs.Parameters.{ParametersValue}
+use Rattle.oim_meta.specs.ParametersFile.{parameters_result}
+use Rattle.oim_report.specs.ReportValue.{ReportValue}
+use Rattle.oim_report.specs.Types.{TypesValue}
+use Rattle.oim_meta.specs.TypesFile.{types_result}
+use Rattle.oim_meta.specs.declared.fault.MetaFault.{MetaFault}
+use Rattle.oim_meta.specs.declared.fault.MetaFault.TheVariants as refused
+use Rattle.oim_files.specs.Folders.{Files}
+use Rattle.oim_files.specs.Metadata.{profile, report_result, url_result}
+use Rattle.oim_files.specs.declared.early_fault.EarlyFault.{EarlyFault}
+use Rattle.oim_files.specs.declared.early_fault.EarlyFault.TheVariants as early
+use Rattle.oim_files.specs.declared.early_fault.Source.{Source}
+use Rattle.oim_files.specs.declared.early_fault.Source.TheVariants as source
+
+-- ---- what the files say
+
+-- the bytes of the file at a path
+abbrev pub bytes_at : Files → List ℕ → List ℕ
+bytes_at files path = unwrap_or (files path) []
+
+-- the value of a file, or an empty one if it has a fault
+abbrev pub value_or : {A : Type 0} → A → Result A MetaFault → A
+value_or empty (Ok a) = a
+value_or empty (Err f) = empty
+
+-- the types table
+abbrev pub types_at : Files → List ℕ → Result TypesValue MetaFault
+types_at files types = types_result (grid (bytes_at files types))
+
+-- the URL of the parameters file, if the metadata has one
+abbrev pub url_at : Files → List ℕ → Result (Option (List ℕ)) MetaFault
+url_at files meta = url_result profile (bytes_at files meta)
+
+-- the parameters, or none if no file is named
+abbrev pub parameters_at : Files → List ℕ → Option (List ℕ) → Result ParametersValue MetaFault
+parameters_at files base None = Ok []
+parameters_at files base (Some url) = parameters_result (grid (bytes_at files (base ++ url)))
+
+abbrev pub parameters_of : Files → (base meta : List ℕ) → ParametersValue
+parameters_of files base meta = value_or [] (parameters_at files base (value_or None (url_at files meta)))
+
+-- the report
+abbrev pub report_at : Files → (base meta types : List ℕ) → Result ReportValue MetaFault
+report_at files base meta types = report_result profile (parameters_of files base meta) (value_or [] (types_at files types)) (bytes_at files meta)
+
+-- ---- the steps
+
+-- a step: the early fault that names the fault of the files at this step, if they have one, and the early faults that are possible whatever the
+-- files hold, since a read may fail and memory may run out
+pub record Step : Type 0 where
+  pub fault : Option EarlyFault
+  pub refusals : List EarlyFault
+
+abbrev pub step : Option EarlyFault → List EarlyFault → Step
+step fault refusals = record { fault = fault; refusals = refusals }
+
+-- there is no file
+abbrev pub missing : List ℕ → Option (List ℕ) → Option EarlyFault
+missing path None = Some (early.CannotRead path)
+missing path (Some bytes) = None
+
+-- the file of this source has a fault
+abbrev pub wrong : {A : Type 0} → Source → Result A MetaFault → Option EarlyFault
+wrong s (Ok a) = None
+wrong s (Err f) = Some (early.Report s f)
+
+abbrev pub opening : Files → List ℕ → Step
+opening files path = step (missing path (files path)) (early.Memory ∷ [])
+
+abbrev pub reading : {A : Type 0} → Source → Result A MetaFault → Step
+reading s answer = step (wrong s answer) (early.Report s refused.Read ∷ early.Report s refused.Memory ∷ [])
+
+-- the metadata that was read is looked at, and no file is read
+abbrev pub looking : {A : Type 0} → Result A MetaFault → Step
+looking answer = step (wrong source.Report answer) (early.Report source.Report refused.Memory ∷ [])
+
+abbrev pub metadata_steps : Files → List ℕ → List Step
+metadata_steps files meta = opening files meta ∷ step None (early.Report source.Report refused.Read ∷ early.Memory ∷ []) ∷ []
+
+abbrev pub types_steps : Files → List ℕ → List Step
+types_steps files types = opening files types ∷ reading source.Types (types_at files types) ∷ []
+
+abbrev pub parameters_steps : Files → List ℕ → Option (List ℕ) → List Step
+parameters_steps files base None = []
+parameters_steps files base (Some url) = opening files (base ++ url) ∷ reading source.Parameters (parameters_at files base (Some url)) ∷ []
+
+-- the metadata is read, then the types table; then the parameters file's URL is looked up and that file is read; last, the report is made
+-- from the metadata
+abbrev pub steps : Files → (base meta types : List ℕ) → List Step
+steps files base meta types =
+    metadata_steps files meta
+    ++ (types_steps files types
+    ++ (looking (url_at files meta) ∷ []
+    ++ (parameters_steps files base (value_or None (url_at files meta))
+    ++ looking (report_at files base meta types) ∷ [])))
+
+-- ---- how they are taken
+
+abbrev pub IsAmong : EarlyFault → List EarlyFault → Type 0
+IsAmong o [] = ⊥
+IsAmong o (x ∷ xs) = (o ≡ x) ⊎ IsAmong o xs
+
+-- none of the steps has a fault
+abbrev pub Passes : List Step → Type 0
+Passes [] = ⊤
+Passes (s ∷ later) = (s.fault ≡ None) × Passes later
+
+-- reading ends at a step, by its fault or by one of its refusals, and no step before it has a fault
+pub record Stops (steps : List Step) (o : EarlyFault) : Type 0 where
+  pub before : List Step
+  pub here : Step
+  pub later : List Step
+  pub split : steps ≡ before ++ here ∷ later
+  pub passed : Passes before
+  pub ends : (here.fault ≡ Some o) ⊎ IsAmong o here.refusals
+
+-- all steps passed and the value is right, or reading ends at one of them
+abbrev pub Takes : {X : Type 0} → List Step → (X → Type 0) → Result X EarlyFault → Type 0
+Takes steps right (Ok x) = Passes steps × right x
+Takes steps right (Err o) = Stops steps o
+
+-- the report that the files give, or the step at which reading them ends
+abbrev pub IsReport : Files → (base meta types : List ℕ) → Result ReportValue EarlyFault → Type 0
+IsReport files base meta types result = Takes {X = ReportValue} (steps files base meta types) (λ r. report_at files base meta types ≡ Ok r) result

@@ -1,0 +1,37 @@
+//! The files of a report in a folder, and the report that they give.
+//!
+//! What is proved, of any folder that tells its files honestly:
+//!
+//! - `report_of` gives the report that the files define, or the first fault in the order in which they are read: the
+//!   metadata, up to one byte past the limit, the types table, the parameters file that the metadata names, and
+//!   last the report that the metadata says (`specs/Steps.antt`). Only a read that fails or memory that runs out
+//!   may end it earlier, and it is said at which file;
+//! - `metadata_at`, `types_in`, `url_in` and `parameters_in` are its steps one by one, with the same clauses;
+//! - `folder_of` gives a path up to and including its last `/`, and `path_in` the path of a file in a folder
+//!   (`specs/Folders.antt`);
+//! - no step changes a file.
+//!
+//! A call:
+//!
+//! ```
+//! /// Whether the files of a folder give a report of one table.
+//! fn gives_one_table(alloc: Global, folder: &mut Texts<'_>) -> bool {
+//!     let report: Result<Report, EarlyFault> = report_of(
+//!         alloc,
+//!         folder,
+//!         folder_of("f/m.json"),
+//!         "f/m.json",
+//!         "t.csv",
+//!     );
+//!     report.is_ok_and(|report| report.tables() == 1)
+//! }
+//! ```
+#![tactic(auto)]
+
+mod early_fault;
+mod folder;
+mod steps;
+
+pub use early_fault::{EarlyFault, Source};
+pub use folder::{Folder, Texts, folder_of};
+pub use steps::{metadata_at, parameters_in, path_in, report_of, types_in, url_in};

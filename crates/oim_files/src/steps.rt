@@ -1,0 +1,242 @@
+//! The steps in which a report is read from its files. Each step reads a file, or fails with the early fault that
+//! names the file and its fault.
+
+ghost use Rattle.std.specs.Prelude.{◌≡◌, ◌≢◌, ◌⊎◌, ◌+◌, ◌++◌, [], ◌∷◌, IfErr, IfOk, IfSome, Ok, Some, option_map, string_bytes, take};
+ghost use Rattle.std.specs.IoError.{error_kind};
+ghost use Rattle.serde_json.specs.View.{view};
+ghost use Rattle.oim_meta.specs.Reading.{Reads};
+ghost use Rattle.oim_files.specs.Metadata.{profile, report_in as said_in, url_result};
+ghost use Rattle.oim_files.specs.Steps.{IsAmong, IsReport, Takes, bytes_at, looking, metadata_steps, opening, parameters_at, parameters_steps, types_at, types_steps};
+ghost use Rattle.oim_files.specs.declared.early_fault.EarlyFault.TheVariants as early;
+ghost use Rattle.oim_files.specs.declared.early_fault.Source.TheVariants as source;
+ghost use Rattle.oim_meta.specs.declared.fault.MetaFault.TheVariants as refused;
+
+use crate::early_fault::{EarlyFault, Source};
+use crate::folder::Folder;
+use oim_meta::{
+    Limits, MetaFault, Metadata, Parameters, Report, Types, parameter_url, read_parameters,
+    read_types,
+};
+use oim_names::Text;
+use std::alloc::{AllocError, Global};
+use std::io;
+use std::io::{ErrorKind, Read};
+
+/// The path of a file in the report's folder. Fails if memory runs out.
+pub fn path_in(alloc: Global, base: &str, url: &str) -> Result<String, AllocError>
+    ensures { IfOk result (λ s. string_bytes s ≡ base.now ++ url.now) }
+{
+    let mut path = String::from_str(alloc, base)?;
+    path.push_str(url)?;
+    Ok(path)
+}
+
+/// That the file at this path cannot be opened.
+fn cannot_read(alloc: Global, path: &str) -> EarlyFault
+    ensures { (result ≡ early.CannotRead path.now) ⊎ (result ≡ early.Memory) }
+{
+    match Text::from_str(alloc, path) {
+        Ok(path) => EarlyFault::CannotRead(path),
+        Err(_) => EarlyFault::Memory,
+    }
+}
+
+/// A reader of the file at a path.
+fn opened<R: Read + Drop, F: Folder<R>>(
+    alloc: Global,
+    folder: &mut F,
+    path: &str,
+) -> Result<R, EarlyFault>
+    ensures same { F.files folder.new ≡ F.files folder.old }
+    ensures gives { IfSome (F.files folder.old) (λ files.
+        Takes (opening files path.now ∷ []) (λ r. R.remaining r ≡ Some (bytes_at files path.now)) result) }
+{
+    match folder.open(path) {
+        Some(reader) => Ok(reader),
+        None => Err(cannot_read(alloc, path)),
+    }
+}
+
+/// Why the metadata was not read to its end.
+fn unread(error: io::Error) -> EarlyFault
+    ensures memory { error_kind error ≡ ErrorKind.OutOfMemory → result ≡ early.Memory }
+    ensures read { error_kind error ≢ ErrorKind.OutOfMemory → result ≡ early.Report source.Report refused.Read }
+    ensures one { IsAmong result (early.Report source.Report refused.Read ∷ early.Memory ∷ []) }
+{
+    match error.kind() {
+        ErrorKind::OutOfMemory => EarlyFault::Memory,
+        _ => EarlyFault::Report(Source::Report, MetaFault::Read),
+    }
+}
+
+/// The bytes of a metadata, up to one byte past the limit.
+fn bytes_of<R: Read + Drop>(alloc: Global, reader: R) -> Result<Vec<u8>, EarlyFault>
+    ensures bytes { IfSome (R.remaining reader) (λ bytes. IfOk result (λ v. v.items ≡ take (profile.metadata + 1) bytes)) }
+    ensures refused { IfErr result (λ e. IsAmong e (early.Report source.Report refused.Read ∷ early.Memory ∷ [])) }
+{
+    let mut bytes = Vec::new(alloc);
+    let most = Limits::profile().metadata as u64 + 1;
+    match reader.take(most).read_to_end(&mut bytes) {
+        Ok(_) => Ok(bytes),
+        Err(error) => Err(unread(error)),
+    }
+}
+
+/// The bytes of the metadata file, up to one byte past the limit.
+pub fn metadata_at<R: Read + Drop, F: Folder<R>>(
+    alloc: Global,
+    folder: &mut F,
+    path: &str,
+) -> Result<Vec<u8>, EarlyFault>
+    ensures same { F.files folder.new ≡ F.files folder.old }
+    ensures gives { IfSome (F.files folder.old) (λ files.
+        Takes (metadata_steps files path.now) (λ v. v.items ≡ take (profile.metadata + 1) (bytes_at files path.now)) result) }
+{
+    match opened(alloc, folder, path) {
+        Ok(reader) => bytes_of(alloc, reader),
+        Err(early) => Err(early),
+    }
+}
+
+/// The types of the types table.
+pub fn types_in<R: Read + Drop, F: Folder<R>>(
+    alloc: Global,
+    folder: &mut F,
+    path: &str,
+) -> Result<Types, EarlyFault>
+    ensures same { F.files folder.new ≡ F.files folder.old }
+    ensures gives { IfSome (F.files folder.old) (λ files. Takes (types_steps files path.now) (λ t. types_at files path.now ≡ Ok t) result) }
+{
+    let reader = match opened(alloc, folder, path) {
+        Ok(reader) => reader,
+        Err(early) => return Err(early),
+    };
+    match read_types(alloc, reader) {
+        Ok(types) => Ok(types),
+        Err(fault) => Err(EarlyFault::Report(Source::Types, fault)),
+    }
+}
+
+/// The parameters of the file whose path is `base` followed by its URL.
+fn parameters_of<R: Read + Drop, F: Folder<R>>(
+    alloc: Global,
+    folder: &mut F,
+    base: &str,
+    url: &str,
+) -> Result<Parameters, EarlyFault>
+    ensures same { F.files folder.new ≡ F.files folder.old }
+    ensures gives { IfSome (F.files folder.old) (λ files.
+        Takes (parameters_steps files base.now (Some url.now)) (λ p. parameters_at files base.now (Some url.now) ≡ Ok p) result) }
+{
+    let Ok(path) = path_in(alloc, base, url) else {
+        return Err(EarlyFault::Memory);
+    };
+    let reader = match opened(alloc, folder, path.as_str()) {
+        Ok(reader) => reader,
+        Err(early) => return Err(early),
+    };
+    match read_parameters(alloc, reader) {
+        Ok(parameters) => Ok(parameters),
+        Err(fault) => Err(EarlyFault::Report(Source::Parameters, fault)),
+    }
+}
+
+/// The parameters of the named parameters file, or no parameters if no file is named.
+pub fn parameters_in<R: Read + Drop, F: Folder<R>>(
+    alloc: Global,
+    folder: &mut F,
+    base: &str,
+    url: Option<Text>,
+) -> Result<Parameters, EarlyFault>
+    ensures same { F.files folder.new ≡ F.files folder.old }
+    ensures gives { IfSome (F.files folder.old) (λ files.
+        Takes (parameters_steps files base.now url) (λ p. parameters_at files base.now url ≡ Ok p) result) }
+{
+    match url {
+        Some(url) => parameters_of(alloc, folder, base, url.as_str()),
+        None => Ok(Parameters::none(alloc)),
+    }
+}
+
+/// A string as a text, if there is one. It takes no memory.
+fn text_of(string: Option<String>) -> Option<Text>
+    ensures { result ≡ option_map string_bytes string }
+{
+    match string {
+        Some(string) => Some(Text::new(string)),
+        None => None,
+    }
+}
+
+/// The URL of the parameters file, if the metadata has one.
+pub fn url_in(alloc: Global, metadata: &[u8]) -> Result<Option<Text>, EarlyFault>
+    ensures gives { Takes (looking (url_result profile metadata.now) ∷ []) (λ u. url_result profile metadata.now ≡ Ok u) result }
+{
+    match parameter_url(alloc, metadata, &Limits::profile()) {
+        Ok(url) => Ok(text_of(url)),
+        Err(fault) => Err(EarlyFault::Report(Source::Report, fault)),
+    }
+}
+
+/// The metadata that has these bytes, and the URL of its parameters file, if it has one. The bytes are let go.
+fn metadata_in(alloc: Global, bytes: Vec<u8>) -> Result<(Metadata, Option<Text>), EarlyFault>
+    ensures gives { Takes (looking (url_result profile bytes.items) ∷ []) (λ m. Reads profile bytes.items (view m.0) × (url_result profile bytes.items ≡ Ok m.1)) result }
+{
+    let metadata = match Metadata::read(alloc, bytes.as_slice(), &Limits::profile()) {
+        Ok(metadata) => metadata,
+        Err(fault) => return Err(EarlyFault::Report(Source::Report, fault)),
+    };
+    match metadata.parameter_url(alloc) {
+        Ok(url) => Ok((metadata, text_of(url))),
+        Err(fault) => Err(EarlyFault::Report(Source::Report, fault)),
+    }
+}
+
+/// The report of a metadata, with its parameters and its types.
+fn report_in(
+    alloc: Global,
+    metadata: Metadata,
+    parameters: Parameters,
+    types: Types,
+) -> Result<Report, EarlyFault>
+    ensures gives { Takes (looking (said_in profile parameters types (view metadata)) ∷ []) (λ r. said_in profile parameters types (view metadata) ≡ Ok r) result }
+{
+    match metadata.report_at(alloc, parameters, types, Limits::profile()) {
+        Ok(report) => Ok(report),
+        Err(refusal) => Err(EarlyFault::Report(Source::Report, refusal.fault())),
+    }
+}
+
+/// The report that the files of a folder give: the metadata at `meta`, with the types table at `types`
+/// and the parameters file that the metadata names, whose path is `base` followed by its URL. Fails with
+/// the early fault that names the first fault, in the order in which the files are read: first the metadata,
+/// up to one byte past the limit, then the types table, then the parameters file; last, the report is
+/// made from the metadata. A read that fails ends the run with `Read` (17) and the source of its file.
+pub fn report_of<R: Read + Drop, F: Folder<R>>(
+    alloc: Global,
+    folder: &mut F,
+    base: &str,
+    meta: &str,
+    types: &str,
+) -> Result<Report, EarlyFault>
+    ensures same { F.files folder.new ≡ F.files folder.old }
+    ensures gives { IfSome (F.files folder.old) (λ files. IsReport files base.now meta.now types.now result) }
+{
+    let bytes = match metadata_at(alloc, folder, meta) {
+        Ok(bytes) => bytes,
+        Err(early) => return Err(early),
+    };
+    let types = match types_in(alloc, folder, types) {
+        Ok(types) => types,
+        Err(early) => return Err(early),
+    };
+    let (metadata, url) = match metadata_in(alloc, bytes) {
+        Ok(found) => found,
+        Err(early) => return Err(early),
+    };
+    let parameters = match parameters_in(alloc, folder, base, url) {
+        Ok(parameters) => parameters,
+        Err(early) => return Err(early),
+    };
+    report_in(alloc, metadata, parameters, types)
+}

@@ -1,0 +1,146 @@
+//! The JSON of a metadata, read once.
+
+ghost use Rattle.std.specs.Prelude.{◌≡◌, IfOk, OnOk, IfErr, Some, None, Ok, Err, if◌then◌else◌};
+ghost use Rattle.std.specs.Option.{option_map};
+ghost use Rattle.std.specs.String.{string_bytes};
+ghost use Rattle.serde_json.specs.View.{view};
+ghost use Rattle.oim_meta.specs.FirstFault.{first_fault};
+ghost use Rattle.oim_meta.specs.Order.{IsInOrder};
+ghost use Rattle.oim_meta.specs.Reading.{IsJson, IsNoJson, IsFaultOf, IsUnread, IsUrlFaultOf, IsUrlOf, Reads, first_url_fault};
+ghost use Rattle.oim_meta.specs.Refusals.{IsFirstOf};
+ghost use Rattle.oim_meta.specs.Value.{report_of};
+ghost use Rattle.oim_meta.specs.WalkReport.{in_metadata};
+
+use crate::document::no_report;
+use crate::fault::MetaFault;
+use crate::lookup::text_at;
+use crate::refusal::Refusal;
+use crate::report::report_in;
+use crate::walk::parameters::bad_parameter_url;
+use oim_report::{Limits, Parameters, Report, Types};
+use serde_json::{Error, Value};
+use std::alloc::Global;
+use std::marker::Model;
+
+/// The JSON of a metadata, read once. A contract sees its value, in which the members of each object stand in byte order of name.
+#[derive(Drop)]
+pub struct Metadata {
+    value: Value,
+}
+
+impl Model for Metadata {
+    ghost use Rattle.std.specs.Coded.{codes};
+    ghost use Rattle.serde_json.specs.contracts.value.Value as json;
+    ghost use Rattle.serde_json.specs.View.{view as seen};
+    ghost use Rattle.serde_json.specs.declared.value.Value.{Value as Json};
+    ghost use Rattle.oim_meta.specs.Order.{IsInOrder};
+
+    ghost Value = { Json };
+
+    ghost coded = { Prim.hlevel (codes, json.the_row.coded) };
+
+    ghost view = { λ m. m.value };
+
+    ghost invariant = { λ m. IsInOrder (seen m.value) };
+}
+
+/// The fault of bytes that could not be read as JSON.
+fn fault_of(error: &Error) -> MetaFault
+    ensures { IsFaultOf error.now result }
+{
+    if error.is_memory() {
+        MetaFault::Memory
+    } else {
+        MetaFault::Syntax
+    }
+}
+
+/// The JSON value of the bytes.
+fn parse(alloc: Global, bytes: &[u8]) -> Result<Value, MetaFault>
+    ensures json { IfOk result (λ v. IsJson bytes.now (view v)) }
+    ensures order { IfOk result (λ v. IsInOrder (view v)) }
+    ensures none { IfErr result (IsNoJson bytes.now) }
+{
+    let text = bytes.strip_prefix(b"\xef\xbb\xbf").unwrap_or(bytes);
+    match Value::from_slice(alloc, text) {
+        Ok(value) => Ok(value),
+        Err(error) => Err(fault_of(&error)),
+    }
+}
+
+/// Fails with a fault if it is there.
+fn refuse_if(is_there: bool, fault: MetaFault) -> Result<(), MetaFault>
+    ensures { result ≡ (if is_there then Err fault else Ok tt) }
+{
+    if is_there { Err(fault) } else { Ok(()) }
+}
+
+/// Refuses what is not a report, and a name of the parameters file that is not a plain path.
+fn check_url(report: &Value) -> Result<(), MetaFault>
+    ensures sound { OnOk result (first_url_fault (view report.now) ≡ None) }
+    ensures fault { IfErr result (λ fault. first_url_fault (view report.now) ≡ Some fault) }
+{
+    refuse_if(no_report(report), MetaFault::NotReport)?;
+    refuse_if(bad_parameter_url(report), MetaFault::BadParameter)
+}
+
+impl Metadata {
+    /// Reads the JSON of a metadata, for the name of its parameters file and for its report. One byte-order mark at the start
+    /// of the bytes is skipped.
+    ///
+    /// # Errors
+    ///
+    /// `TooLarge` if there are more bytes than the limit; `Syntax` if they are not well-formed JSON in UTF-8; `Memory` if memory
+    /// runs out.
+    pub fn read(alloc: Global, bytes: &[u8], limits: &Limits) -> Result<Metadata, MetaFault>
+        ensures json { IfOk result (λ m. Reads limits.now bytes.now (view m)) }
+        ensures order { IfOk result (λ m. IsInOrder (view m)) }
+        ensures fault { IfErr result (IsUnread limits.now bytes.now) }
+    {
+        if bytes.len() > limits.metadata {
+            return Err(MetaFault::TooLarge);
+        }
+        Ok(Metadata {
+            value: parse(alloc, bytes)?,
+        })
+    }
+
+    /// The name of the parameters file that the metadata gives (xBRL-CSV 1.0, parameterURL), a plain path, or `None` if it
+    /// gives none.
+    ///
+    /// # Errors
+    ///
+    /// `NotReport`, or `BadParameter` if the name is not a text or not a plain path; no other fault is looked for. `Memory` if
+    /// memory runs out.
+    pub fn parameter_url(&self, alloc: Global) -> Result<Option<String>, MetaFault>
+        ensures value { IfOk result (λ url. IsUrlOf (view self.now) (option_map string_bytes url)) }
+        ensures fault { IfErr result (IsUrlFaultOf (view self.now)) }
+    {
+        check_url(&self.value)?;
+        match text_at(&self.value, "parameterURL") {
+            Some(url) => Ok(Some(String::from_str(alloc, url)?)),
+            None => Ok(None),
+        }
+    }
+
+    /// The report that the metadata says, with the parameters of its parameters file and its types; or its first fault, and
+    /// the keys that lead to the fault's place.
+    ///
+    /// # Errors
+    ///
+    /// The first finding of the metadata, as `read_report_at` tells it behind the reading of the bytes. `Memory` if memory runs
+    /// out, which may come in place of a fault.
+    pub fn report_at(
+        self,
+        alloc: Global,
+        parameters: Parameters,
+        types: Types,
+        limits: Limits,
+    ) -> Result<Report, Refusal>
+        ensures sound { OnOk result (first_fault limits parameters types (view self) ≡ None) }
+        ensures value { IfOk result (λ r. r ≡ report_of parameters types (view self)) }
+        ensures fault { IfErr result (IsFirstOf (in_metadata limits parameters types (view self))) }
+    {
+        report_in(alloc, self.value, parameters, types, limits)
+    }
+}

@@ -1,0 +1,149 @@
+//! A buffer before a writer. It tells contracts all that was written into it, and what of that the writer took.
+
+ghost use Rattle.std.specs.Prelude.{◌≡◌, ◌≤◌, ◌+◌, ◌-◌, ◌<◌, ℕ, List, [], ◌++◌, drop, take, length, true, vec_len, vec_capacity};
+ghost use Rattle.std.specs.Io.{WritesAtMost};
+ghost use Rattle.std.specs.Io.KnownBytes.{Appends, Keeps, WriteAppends};
+ghost use Rattle.oim_run.specs.Buffers.{told_behind};
+ghost use Rattle.oim_json.specs.declared.mark.Mark.TheVariants.{Fine};
+
+use oim_json::{Mark, Sink};
+use std::io;
+use std::io::{ErrorKind, Write};
+use told::Told;
+
+/// Gathers bytes before they go to a writer. As a sink it holds what the writer holds and what waits.
+pub(crate) struct Buffer<W> {
+    /// The writer.
+    writer: W,
+    /// What waits before it.
+    waiting: Vec<u8>,
+    /// Whether a write failed.
+    mark: Mark,
+    /// What the writer was at first, for contracts alone.
+    first: Told<W>,
+}
+
+/// Takes the first bytes out.
+fn remove_front(bytes: &mut Vec<u8>, count: usize)
+    requires { count ≤ vec_len bytes.old }
+    ensures items { bytes.new.items ≡ drop count bytes.old.items }
+    ensures len { vec_len bytes.new ≡ vec_len bytes.old - count }
+    ensures capacity { vec_capacity bytes.new ≡ vec_capacity bytes.old }
+{
+    let len = bytes.len();
+    bytes.as_mut_slice().copy_within(count..len, 0);
+    bytes.truncate(len - count);
+}
+
+/// Writes some of the bytes. Where a signal came before anything was written, it asks again.
+fn write_through_signals<W: Write>(writer: &mut W, bytes: &[u8]) -> io::Result<usize>
+    ensures bound { WritesAtMost result bytes.now }
+    ensures bytes { WriteAppends (W.contents writer.old) (W.contents writer.new) result bytes.now }
+{
+    for _ in 0..u64::MAX {
+        match writer.write(bytes) {
+            Ok(count) => return Ok(count),
+            Err(error) => {
+                if error.kind() != ErrorKind::Interrupted {
+                    return Err(error);
+                }
+            }
+        }
+    }
+    Err(io::Error::from(ErrorKind::Interrupted))
+}
+
+impl<W: Write> Buffer<W> {
+    /// A buffer before this writer, in which nothing waits.
+    pub(crate) fn new(writer: W, waiting: Vec<u8>) -> Buffer<W>
+        requires { waiting.items ≡ [] }
+        ensures told { ⟦<Buffer<W> as Sink>⟧.told result ≡ told_behind (W.contents writer) (W.contents writer) [] }
+        ensures fine { ⟦<Buffer<W> as Sink>⟧.mark result ≡ Fine }
+    {
+        let first = Told::seen(&writer);
+        Buffer {
+            writer,
+            waiting,
+            mark: Mark::Fine,
+            first,
+        }
+    }
+
+    /// Writes what waits, and answers whether all of it was written. What was not still waits.
+    fn empty(&mut self) -> bool
+        ensures told { Keeps (⟦<Buffer<W> as Sink>⟧.told self.old) (⟦<Buffer<W> as Sink>⟧.told self.new) }
+        ensures empty { result ≡ true → self.new.waiting.items ≡ [] }
+        ensures mark { self.new.mark ≡ self.old.mark }
+    {
+        while !self.waiting.is_empty() {
+            match write_through_signals(&mut self.writer, self.waiting.as_slice()) {
+                Ok(0) | Err(_) => return false,
+                Ok(count) => remove_front(&mut self.waiting, count),
+            }
+        }
+        true
+    }
+
+    /// Lets all of these bytes wait. If memory runs out none does.
+    fn put(&mut self, bytes: &[u8]) -> io::Result<usize>
+        ensures bound { WritesAtMost result bytes.now }
+        ensures bytes { WriteAppends (⟦<Buffer<W> as Sink>⟧.told self.old) (⟦<Buffer<W> as Sink>⟧.told self.new) result bytes.now }
+        ensures mark { self.new.mark ≡ self.old.mark }
+    {
+        match self.waiting.extend_from_slice(bytes) {
+            Ok(()) => Ok(bytes.len()),
+            Err(_) => Err(io::Error::from(ErrorKind::OutOfMemory)),
+        }
+    }
+
+    /// Takes some of the bytes. Those that fit wait; others go to the writer, behind all that waits.
+    fn take_some(&mut self, bytes: &[u8]) -> io::Result<usize>
+        ensures bound { WritesAtMost result bytes.now }
+        ensures bytes { WriteAppends (⟦<Buffer<W> as Sink>⟧.told self.old) (⟦<Buffer<W> as Sink>⟧.told self.new) result bytes.now }
+        ensures mark { self.new.mark ≡ self.old.mark }
+    {
+        if bytes.len() < self.waiting.capacity() - self.waiting.len() {
+            return self.put(bytes);
+        }
+        if !self.empty() {
+            return Err(io::Error::from(ErrorKind::WriteZero));
+        }
+        if bytes.len() < self.waiting.capacity() {
+            return self.put(bytes);
+        }
+        write_through_signals(&mut self.writer, bytes)
+    }
+
+    /// Writes what waits, flushes the writer and gives it back, with whether both could be done.
+    pub(crate) fn finish(self) -> (W, bool)
+        ensures all { result.1 ≡ true → Keeps (⟦<Buffer<W> as Sink>⟧.told self) (told_behind (W.contents self.first.value) (W.contents result.0) []) }
+        ensures some { (rest : List ℕ) × Keeps (⟦<Buffer<W> as Sink>⟧.told self) (told_behind (W.contents self.first.value) (W.contents result.0) rest) }
+    {
+        let mut buffer = self;
+        let is_written = buffer.empty();
+        let Buffer {
+            mut writer,
+            waiting: _,
+            mark: _,
+            first: _,
+        } = buffer;
+        let is_flushed = is_written && writer.flush().is_ok();
+        (writer, is_flushed)
+    }
+}
+
+impl<W: Write> Sink for Buffer<W> {
+    ghost told = { λ s. told_behind (W.contents s.first.value) (W.contents s.writer) s.waiting.items };
+
+    ghost mark = { λ s. s.mark };
+
+    fn write_some(&mut self, bytes: &[u8]) -> io::Result<usize> {
+        let answer = self.take_some(bytes);
+        match &answer {
+            Ok(0) => self.mark = Mark::Zero,
+            Ok(_) => {}
+            Err(_) => self.mark = Mark::Failed,
+        }
+        answer
+    }
+}

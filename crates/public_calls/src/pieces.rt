@@ -1,0 +1,108 @@
+//! Calls of `oim_decode` for the pieces of a table.
+
+ghost use Rattle.std.specs.Prelude.{◌≤◌, ◌+◌};
+
+use crate::held::report;
+use oim_decode::{
+    JoinedPiece, PieceAnswer, PieceDecoder, PieceJoin, TableHead, file_in_pieces,
+    joined_pieces_are_read, open_pieces, rows_in_pieces,
+};
+use oim_meta::Report;
+use oim_records::RecordReader;
+use oim_rows::{RowForm, TableFault, TableKind, whole_fault};
+use std::alloc::Global;
+use std::test::Fail;
+
+/// A piece of a table, decoded and joined, whose first row has this number.
+fn next_piece(
+    alloc: Global,
+    decoder: &mut PieceDecoder<'_>,
+    join: &mut PieceJoin,
+    piece: &[u8],
+    first: u32,
+) -> Result<JoinedPiece, TableFault>
+    requires { first ≤ decoder.old.reading.limit + 1 }
+{
+    let mut bytes = Vec::new(alloc);
+    if bytes.extend_from_slice(piece).is_err() {
+        return Err(whole_fault(decoder.form().table(), TableKind::Memory));
+    }
+    let answer: PieceAnswer = decoder.decode(bytes, first);
+    Ok(join.join(decoder.form(), first, answer))
+}
+
+/// Whether the first piece of a table has no fault.
+fn joins(alloc: Global, decoder: &mut PieceDecoder<'_>, piece: &[u8]) -> bool {
+    let mut join = PieceJoin::new(alloc);
+    match next_piece(alloc, decoder, &mut join, piece, 1) {
+        Ok(joined) => joined.fault().is_none(),
+        Err(_) => false,
+    }
+}
+
+/// The same of a table with this form, which has no more rows than can be numbered.
+fn decodes(alloc: Global, form: RowForm<'_>, piece: &[u8]) -> bool
+    requires { form.limit ≤ 4294967294 }
+{
+    match PieceDecoder::new(alloc, form) {
+        Ok(mut decoder) => joins(alloc, &mut decoder, piece),
+        Err(_) => false,
+    }
+}
+
+/// The same of a report's first table, whose header is the first of these records.
+fn reads_a_piece(
+    alloc: Global,
+    report: &Report,
+    records: &mut RecordReader<&[u8]>,
+    piece: &[u8],
+) -> bool {
+    if report.tables() == 0 {
+        return false;
+    }
+    match RowForm::read(alloc, report, 0, 10, records) {
+        Ok(form) => decodes(alloc, form, piece),
+        Err(_) => false,
+    }
+}
+
+/// The same of a header of these bytes.
+fn reads_pieces(alloc: Global, report: &Report, header: &[u8], piece: &[u8]) -> bool {
+    match RecordReader::open(alloc, header) {
+        Ok(mut records) => reads_a_piece(alloc, report, &mut records, piece),
+        Err(_) => false,
+    }
+}
+
+#[test]
+fn calls_of_pieces(rt: HostRuntime) -> Result<(), Fail> {
+    rows_in_pieces();
+    file_in_pieces();
+    joined_pieces_are_read();
+    let report = report(rt.alloc())?;
+    assert!(rt; reads_pieces(rt.alloc(), &report, b"cash,note\n", b"1,n\n2,m\n"));
+    Ok(())
+}
+
+/// Whether what decodes pieces of a report's first table is made of its file's head.
+fn makes_a_decoder(alloc: Global, report: &Report, head: &TableHead) -> bool {
+    if report.tables() == 0 {
+        return false;
+    }
+    head.decoder(alloc, report, 0, 10).is_ok()
+}
+
+/// Whether it is, where the first piece of the file has this many rows behind the header.
+fn opens_pieces(alloc: Global, report: &Report, file: &[u8], rows: u64) -> bool {
+    match open_pieces(alloc, file) {
+        Ok(Some((head, _))) => head.rows() == rows && makes_a_decoder(alloc, report, &head),
+        _ => false,
+    }
+}
+
+#[test]
+fn calls_of_heads(rt: HostRuntime) -> Result<(), Fail> {
+    let report = report(rt.alloc())?;
+    assert!(rt; opens_pieces(rt.alloc(), &report, b"cash,note\n1,n\n2,m\n", 2));
+    Ok(())
+}
