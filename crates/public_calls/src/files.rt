@@ -38,11 +38,11 @@ fn reads_entries(alloc: Global, folder: &mut Texts<'_>) -> bool {
     types_in(alloc, folder, "t.csv").is_ok() && parameters_in(alloc, folder, "f/", None).is_ok()
 }
 
-/// Whether a fault of a folder's report is explained at the whole file.
-fn explains_the_file(alloc: Global, folder: &mut Texts<'_>) -> Result<bool, AllocError> {
+/// Whether the fault of a metadata without a document type is explained at the key that is not there.
+fn explains_the_key(alloc: Global, folder: &mut Texts<'_>) -> Result<bool, AllocError> {
     let fault = MetaFault::NotReport;
     let text = explain_report(alloc, "m.json", "t.csv", folder, Source::Report, fault)?;
-    Ok(text.as_str().starts_with("    m.json\n"))
+    Ok(text.as_str().starts_with("    /documentInfo/documentType\n"))
 }
 
 /// Whether a file is there at the path of a file in a folder.
@@ -61,6 +61,6 @@ fn calls_of_files(rt: HostRuntime) -> Result<(), Fail> {
     let folder = &mut Texts { files: &files };
     assert!(rt; gives_one_table(rt.alloc(), folder) && reads_entries(rt.alloc(), folder));
     assert!(rt; !names_parameters(rt.alloc(), folder) && finds(rt.alloc(), folder)?);
-    assert!(rt; explains_the_file(rt.alloc(), folder)?);
+    assert!(rt; explains_the_key(rt.alloc(), folder)?);
     Ok(())
 }

@@ -94,6 +94,6 @@ fn calls_of_other_files(rt: HostRuntime) {
 fn calls_of_a_metadata_read_once(rt: HostRuntime) -> Result<(), Fail> {
     let metadata = reads_once(rt.alloc(), METADATA.as_bytes())?;
     assert!(rt; names_none(rt.alloc(), &metadata));
-    assert!(rt; !says_a_report(rt.alloc(), metadata));
+    assert!(rt; says_a_report(rt.alloc(), metadata));
     Ok(())
 }
