@@ -22,11 +22,11 @@
 //! A call:
 //!
 //! ```
-//! /// Whether a fault of a folder's report is explained at the whole file.
-//! fn explains_the_file(alloc: Global, folder: &mut Texts<'_>) -> Result<bool, AllocError> {
+//! /// Whether the fault of a metadata without a document type is explained at the key that is not there.
+//! fn explains_the_key(alloc: Global, folder: &mut Texts<'_>) -> Result<bool, AllocError> {
 //!     let fault = MetaFault::NotReport;
 //!     let text = explain_report(alloc, "m.json", "t.csv", folder, Source::Report, fault)?;
-//!     Ok(text.as_str().starts_with("    m.json\n"))
+//!     Ok(text.as_str().starts_with("    /documentInfo/documentType\n"))
 //! }
 //! ```
 #![tactic(auto)]
