@@ -5,8 +5,8 @@ use crate::settings::settings;
 use oim_json::{Layout, Marked};
 use oim_meta::{Limits, Report};
 use oim_run::{
-    Conversion, Folder, METADATA, Outcome, Request, Settings, Source, TABLE, TYPES, Texts,
-    convert_as, convert_held, convert_report, convert_texts, convert_to, line, request_of, run,
+    Conversion, Course, Folder, METADATA, Outcome, Request, Settings, Source, TABLE, TYPES, Texts,
+    convert_as, convert_report, convert_to, line, request_of, run,
     run_to, shown, status, terminal_line,
 };
 use std::alloc::{AllocError, Global};
@@ -79,13 +79,7 @@ fn refuses(rt: &(impl AllocGlobal + Threads + Wait + Sync), settings: &Settings)
     is_of_types(&refused)
 }
 
-/// Whether the held report is converted to a sink.
-fn converts_held(rt: &(impl AllocGlobal + Threads + Wait + Sync)) -> bool {
-    let mut document = Vec::new(rt.alloc());
-    status(&convert_held(rt, rt.alloc(), &mut Marked::new(&mut document))) == 0
-}
-
-/// Whether it is to a writer behind a buffer.
+/// Whether the built-in report is converted to a writer.
 fn converts_to(rt: &(impl AllocGlobal + Threads + Wait + Sync)) -> bool {
     let (outcome, document) = convert_to(rt, rt.alloc(), Vec::new(rt.alloc()));
     status(&outcome) == 0 && document.as_slice().ends_with(b"}}\n")
@@ -118,7 +112,7 @@ fn converts_once(rt: &(impl AllocGlobal + Threads + Wait + Sync), settings: &Set
 fn calls_of_other_runs(rt: HostRuntime) -> Result<(), Fail> {
     let settings = settings(rt.alloc())?;
     assert!(rt; refuses(&rt, &settings));
-    assert!(rt; converts_held(&rt) && converts_to(&rt));
+    assert!(rt; converts_to(&rt));
     assert!(rt; converts_once(&rt, &settings));
     Ok(())
 }
@@ -131,37 +125,13 @@ fn converts_a_report(
     let tables = vec![in rt.alloc(); Some(TABLE.as_bytes())]?;
     let mut document = Vec::new(rt.alloc());
     let sink = &mut Marked::new(&mut document);
-    let outcome = convert_report(
-        rt,
-        rt.alloc(),
-        report,
-        tables,
-        1,
-        1,
-        Limits::profile(),
-        Layout::Compact,
-        sink,
-    );
-    Ok(status(&outcome) == 0)
-}
-
-/// Whether one whose files are given by their bytes is.
-fn converts_texts(rt: &(impl AllocGlobal + Threads + Wait + Sync)) -> Result<bool, AllocError> {
-    let tables = vec![in rt.alloc(); Some(TABLE.as_bytes())]?;
-    let mut document = Vec::new(rt.alloc());
-    let sink = &mut Marked::new(&mut document);
-    let outcome = convert_texts(
-        rt,
-        rt.alloc(),
-        METADATA.as_bytes(),
-        TYPES.as_bytes(),
-        tables,
-        2,
-        1,
-        Limits::profile(),
-        Layout::Compact,
-        sink,
-    );
+    let course = Course {
+        workers: 1,
+        ring: 1,
+        limits: Limits::profile(),
+        layout: Layout::Compact,
+    };
+    let outcome = convert_report(rt, rt.alloc(), report, tables, course, sink);
     Ok(status(&outcome) == 0)
 }
 
@@ -169,6 +139,5 @@ fn converts_texts(rt: &(impl AllocGlobal + Threads + Wait + Sync)) -> Result<boo
 fn calls_of_conversions_to_outcomes(rt: HostRuntime) -> Result<(), Fail> {
     let report = report_of(rt.alloc(), &[])?;
     assert!(rt; converts_a_report(&rt, &report)?);
-    assert!(rt; converts_texts(&rt)?);
     Ok(())
 }

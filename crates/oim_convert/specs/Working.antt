@@ -1,12 +1,12 @@
 -- The results of the workers of a conversion and of its merge.
-use Rattle.std.specs.Prelude.{◌≡◌, ◌≤◌, ℕ, All, Option, List, [], cond, false, length, vec_capacity, vec_len}
+use Rattle.std.specs.Prelude.{◌≡◌, ◌≤◌, ℕ, All, Option, List, [], false, length, vec_capacity, vec_len}
 use Rattle.oim_json.specs.Sinks.{SinkView}
 use Rattle.oim_merge.specs.Merging.{EndEach, IsFresh, Merges, rings_of, taken_of}
-use Rattle.oim_report.specs.ReportValue.{ReportValue}
-use Rattle.oim_crew.specs.Claims.{Claiming}
+use Rattle.oim_report.specs.declared.report.Report.{Report}
 use Rattle.oim_convert.specs.Jobs.{CanServe, gives_of}
-use Rattle.oim_crew.specs.Shifts.{ArePosts, CanServeAll, IsShift}
+use Rattle.oim_crew.specs.Shifts.{ArePosts, CanServeAll, IsShift, serving}
 use Rattle.oim_crew.specs.declared.crew.Posts.{Posts}
+use Rattle.oim_crew.specs.declared.site.Site.{Site}
 use Rattle.oim_convert.specs.declared.job.Job.{Job}
 use Rattle.oim_convert.specs.declared.job.Receipt.{Receipt}
 use Rattle.oim_convert.specs.declared.server.Serving.{Serving}
@@ -25,17 +25,17 @@ pub record IsMerged (unmerged : Unmerged) (old new : SinkView) (merged : Merged)
   pub written : Merges unmerged.layout old new unmerged.head.items (taken_of merged.drains.items) merged.faults.items merged.end
 
 -- what workers and a merge need: tables that both servers can serve, a station and a flag for each worker, and drains
-pub record CanWork {R S T C X : Type 0} (report : ReportValue) (server spare : Serving) (claims : Claiming (Job R))
-    (posts : Posts (Job R) Receipt S T C) (stops : List X) (unmerged : Unmerged) : Type 0 where
-  pub items : CanServeAll (CanServe report server.limits.rows) claims.items × CanServeAll (CanServe report spare.limits.rows) claims.items
-  pub ready : ArePosts claims posts
-  pub flags : length stops ≡ claims.workers
+pub record CanWork {R S T U C X : Type 0} (site : Site (Job R) Serving U Report) (posts : Posts (Job R) Receipt S T C) (stops : List X) (unmerged : Unmerged) : Type 0 where
+  pub items : CanServeAll (CanServe site.shared.now site.server.now.limits.rows) site.claims.now.items
+  pub spare : CanServeAll (CanServe site.shared.now site.spare.now.limits.rows) site.claims.now.items
+  pub ready : ArePosts site.claims.now posts
+  pub flags : length stops ≡ site.claims.now.workers
   pub fresh : CanMerge unmerged
 
 -- the shift of each worker, by the server that was used, which is the spare one if no worker was to be started; and what was merged
-pub record HasWorked {R : Type 0} (told : R → Option (List ℕ)) (report : ReportValue) (server spare : Serving) (claims : Claiming (Job R))
-    (starts : ℕ) (unmerged : Unmerged) (old new : SinkView) (worked : Worked R) : Type 0 where
-  pub shifts : All (IsShift (gives_of told (cond worked.served server spare) report) claims) worked.shifts.items
-  pub count : vec_len worked.shifts ≡ claims.workers
-  pub alone : starts ≡ 0 → worked.served ≡ false
+pub record HasWorked {R U : Type 0} (told : R → Option (List ℕ)) (site : Site (Job R) Serving U Report) (starts : ℕ) (unmerged : Unmerged)
+    (old new : SinkView) (worked : Worked R) : Type 0 where
+  pub shifts : All (IsShift (gives_of told (serving worked.shifts.served site) site.shared.now) site.claims.now) worked.shifts.list.items
+  pub count : vec_len worked.shifts.list ≡ site.claims.now.workers
+  pub alone : starts ≡ 0 → worked.shifts.served ≡ false
   pub merged : IsMerged unmerged old new worked.merged

@@ -9,8 +9,8 @@ ghost use Rattle.oim_convert.specs.Preparing.{IsReturnRoom};
 ghost use Rattle.oim_crew.specs.Shifts.{IsShift};
 
 use crate::job::{Job, Receipt};
-use crate::slots::{place_all, settle_all};
-use oim_crew::{Claims, Seat, Shift, all_idle};
+use crate::slots::{Terms, place_all, settle_all};
+use oim_crew::{Claims, Seat, Shifts, all_idle};
 use oim_report::{Limits, Report};
 use oim_ring::{Closed, Drain, Drained};
 use std::alloc::{AllocError, Global};
@@ -47,29 +47,28 @@ pub(crate) fn return_room<R: Drop>(
 
 /// Settles each drain with the token of its table, and closes the claims with the seats of all
 /// workers, which shows that there is one receipt for each table. `None` if the end of a ring was
-/// lost, or if no worker has drawn. Only the clauses use `report`, `limits` and `served`.
+/// lost, or if no worker has drawn. Only the clauses use `report` and `limits`.
 pub(crate) fn finish<R: Read + Drop>(
     report: &Report,
     limits: Limits,
-    served: bool,
     claims: Claims<Job<R>>,
-    shifts: Vec<Shift<Job<R>, Receipt>>,
+    shifts: Shifts<Job<R>, Receipt>,
     drains: Vec<Drain>,
     room: ReturnRoom<R>,
 ) -> Option<Vec<Drained>>
-    requires shifts { All (IsShift (Gives R.remaining report.now limits.rows served) claims) shifts.items }
-    requires workers { vec_len shifts ≡ claims.workers }
+    requires shifts { All (IsShift (Gives R.remaining report.now limits.rows shifts.served) claims) shifts.list.items }
+    requires workers { vec_len shifts.list ≡ claims.workers }
     requires drains { Each (IsEnded claims.items) 0 drains.items }
     requires count { length drains.items ≡ length claims.items }
     requires room { IsReturnRoom (length claims.items) claims.workers room }
-    ensures cover { IfSome result (λ all. EachOnceBelow (length claims.items) (tables_promised shifts.items)) }
+    ensures cover { IfSome result (λ all. EachOnceBelow (length claims.items) (tables_promised shifts.list.items)) }
     ensures taken { IfSome result (λ all. all.items ≡ map (λ d. d.taken) drains.items) }
-    ensures tables { IfSome result (λ all. Each (IsTable R.remaining report.now limits.rows served claims.items) 0 all.items) }
-    ensures lost { IfNone result ((list_all (λ shift. shift.stopped) shifts.items ≡ true) ⊎ Any (λ receipt. receipt.closed ≡ None) (receipts_of shifts.items)) }
+    ensures tables { IfSome result (λ all. Each (IsTable R.remaining report.now limits.rows shifts.served claims.items) 0 all.items) }
+    ensures lost { IfNone result ((list_all (λ shift. shift.stopped) shifts.list.items ≡ true) ⊎ Any (λ receipt. receipt.closed ≡ None) (receipts_of shifts.list.items)) }
 {
     // This does not happen: a worker that was started draws, since its flag is never set, and if none
     // was started, one seat has drawn on this thread.
-    if all_idle(shifts.as_slice()) {
+    if all_idle(shifts.list.as_slice()) {
         return None;
     }
     let ReturnRoom {
@@ -78,8 +77,14 @@ pub(crate) fn finish<R: Read + Drop>(
         settled,
     } = room;
     let slots = slots.as_mut_slice();
-    let seats = place_all(report, limits, served, &claims, shifts, slots, seats);
-    let all = settle_all(report, limits, served, &claims, drains, slots, settled);
+    let terms = Terms {
+        report,
+        limits,
+        served: shifts.served,
+        claims: &claims,
+    };
+    let seats = place_all(&terms, shifts.list, slots, seats);
+    let all = settle_all(&terms, drains, slots, settled);
     claims.close(seats);
     all
 }

@@ -113,13 +113,14 @@ fn run_ready<R: Read + Drop + Send, T: Threads + Wait + Sync, W: Sink>(
         unmerged,
         room,
     } = ready;
-    let (claims, worked) = work_crew(rt, alloc, report, limits, crew, starts, unmerged, sink);
-    let Worked {
-        shifts,
-        merged,
-        served,
-    } = worked;
-    match finish(report, limits, served, claims, shifts, merged.drains, room) {
+    let server = Serving {
+        alloc,
+        limits,
+        threaded: true,
+    };
+    let (claims, worked) = work_crew(rt, report, server, crew, starts, unmerged, sink);
+    let Worked { shifts, merged } = worked;
+    match finish(report, limits, claims, shifts, merged.drains, room) {
         Some(drains) => Ok(Run {
             drains,
             faults: merged.faults,

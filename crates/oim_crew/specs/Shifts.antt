@@ -1,10 +1,12 @@
 -- What workers begin with, and what they hand back.
-use Rattle.std.specs.Prelude.{◌≡◌, ◌≤◌, ℕ, All, true, List, [], slice_get, length, MatchBool, Some, vec_len, vec_capacity}
+use Rattle.std.specs.Prelude.{◌≡◌, ◌≤◌, ◌+◌, ℕ, All, Bool, true, List, [], cond, slice_get, length, MatchBool, Some, vec_len, vec_capacity}
 use Rattle.std.specs.List.{AllZip, list_all}
 use Rattle.std.specs.declared.thread.PromisedHandle.{PromisedHandle}
 use Rattle.oim_crew.specs.Claims.{Claiming, Drawer, fresh}
 use Rattle.oim_crew.specs.declared.crew.Crew.{Crew}
 use Rattle.oim_crew.specs.declared.crew.Posts.{Posts}
+use Rattle.oim_crew.specs.declared.crew.UnderWay.{UnderWay}
+use Rattle.oim_crew.specs.declared.site.Site.{Site}
 use Rattle.oim_crew.specs.declared.worker.Shift.{Shift}
 use Rattle.oim_crew.specs.declared.worker.Station.{Station}
 use Rattle.oim_crew.specs.declared.worker.ShiftOf.{ShiftOf}
@@ -54,3 +56,13 @@ module _ {V O : Type 0} where
   pub record IsCrew {S T C : Type 0} (crew : Crew V O S T C) : Type 0 where
     pub posts : ArePosts crew.claims crew.posts
     pub stops : length crew.stops.items ≡ crew.claims.workers
+
+-- the server, or the spare one where that is in use
+abbrev pub serving : {V S T C : Type 0} → Bool → Site V S T C → S
+serving used site = cond used site.server.now site.spare.now
+
+-- a worker for each seat, that was started or has handed its shift back, and room for the shifts of all
+pub record AreUnderWay {V O S T C : Type 0} (gives : S → C → ℕ → V → O → Type 0) (site : Site V S T C) (crew : UnderWay V O S T C) : Type 0 where
+  pub workers : IsUnderWay gives (serving crew.served site) site.shared.now site.claims.now crew.room.started.items crew.room.shifts.items
+  pub count : vec_len crew.room.started + vec_len crew.room.shifts ≡ site.claims.now.workers
+  pub room : site.claims.now.workers ≤ vec_capacity crew.room.shifts

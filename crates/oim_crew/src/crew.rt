@@ -3,10 +3,11 @@
 ghost use Rattle.std.specs.Prelude.{◌≡◌, ◌≤◌, ◌<◌, ◌+◌, ◌^◌, [], false, All, IfOk, cond, length, replicate, vec_len, vec_capacity};
 ghost use Rattle.std.specs.List.{list_all};
 ghost use Rattle.oim_crew.specs.Claims.{fresh};
-ghost use Rattle.oim_crew.specs.Shifts.{CanServeAll, IsAlone, IsCrew, IsShift, IsStation, IsUnderWay};
+ghost use Rattle.oim_crew.specs.Shifts.{ArePosts, AreUnderWay, CanServeAll, IsAlone, IsCrew, IsShift, IsStation, IsUnderWay, serving};
 
 use crate::claims::Claims;
 use crate::seat::Seat;
+use crate::site::Site;
 use crate::worker::{Serve, Shift, ShiftOf, Station, start, work};
 use std::alloc::{AllocError, Global};
 use std::sync::atomic::AtomicBool;
@@ -20,6 +21,22 @@ pub struct Room<V, O, S: Serve<V, O, T, C>, T, C> {
     pub shifts: Vec<Shift<V, O>>,
 }
 
+/// The workers of a crew that is at work.
+#[derive(Drop)]
+pub struct UnderWay<V, O, S: Serve<V, O, T, C>, T, C> {
+    pub room: Room<V, O, S, T, C>,
+    /// Whether the server is in use, and not the spare one.
+    pub served: bool,
+}
+
+/// What the workers of a crew handed back.
+#[derive(Drop)]
+pub struct Shifts<V, O> {
+    pub list: Vec<Shift<V, O>>,
+    /// Whether the server was in use, and not the spare one.
+    pub served: bool,
+}
+
 /// Starts a worker at each of the first `starts` stations, as far as threads can be made.
 fn start_each<
     's,
@@ -31,30 +48,25 @@ fn start_each<
     C: Sync + 's,
 >(
     scope: &Scope<'s, E>,
-    rt: &'s T,
-    shared: &'s C,
-    server: &'s S,
-    claims: &'s Claims<V>,
+    site: &Site<'s, V, S, T, C>,
     stations: Vec<Station<V, O>>,
     stops: &'s [AtomicBool],
     starts: usize,
     room: &mut Room<V, O, S, T, C>,
 )
-    requires items { CanServeAll (S.can_serve server.now shared.now) claims.now.items }
-    requires stations { All (IsStation claims.now) stations.items }
+    requires items { CanServeAll (S.can_serve site.now.server.now site.now.shared.now) site.now.claims.now.items }
+    requires stations { All (IsStation site.now.claims.now) stations.items }
     requires stops { length stops.now ≡ vec_len stations }
     requires empty { (room.old.started.items ≡ []) × (room.old.shifts.items ≡ []) }
     requires room { (vec_len stations ≤ vec_capacity room.old.started) × (vec_len stations ≤ vec_capacity room.old.shifts) }
-    ensures under_way { IsUnderWay S.gives server.now shared.now claims.now room.new.started.items room.new.shifts.items }
+    ensures under_way { IsUnderWay S.gives site.now.server.now site.now.shared.now site.now.claims.now room.new.started.items room.new.shifts.items }
     ensures count { vec_len room.new.started + vec_len room.new.shifts ≡ vec_len stations }
     ensures room { vec_len stations ≤ vec_capacity room.new.shifts }
     ensures alone { starts ≡ 0 → IsAlone room.new.started.items room.new.shifts.items }
 {
     let mut place = 0;
     for station in stations {
-        let stop = &stops[place];
-        let may = place < starts;
-        match start(scope, rt, shared, server, claims, station, stop, may) {
+        match start(scope, site, station, &stops[place], place < starts) {
             Ok(handle) => room.started.push_reserved(handle),
             Err(shift) => room.shifts.push_reserved(shift),
         }
@@ -70,23 +82,18 @@ pub fn all_idle<V, O>(shifts: &[Shift<V, O>]) -> bool
 }
 
 /// If no worker could be started, draws all items on this thread and serves each with the spare
-/// server. Tells whether the server is in use, and not the spare one. Only the clauses use `server`.
+/// server. Tells whether the server is in use, and not the spare one.
 fn spare_unless_started<V: Drop, O: Drop, S: Serve<V, O, T, C> + Drop, T, C>(
-    rt: &T,
-    shared: &C,
-    server: &S,
-    spare: &S,
-    claims: &Claims<V>,
+    site: &Site<'_, V, S, T, C>,
     room: &mut Room<V, O, S, T, C>,
 ) -> bool
-    requires items { CanServeAll (S.can_serve spare.now shared.now) claims.now.items }
-    requires under_way { IsUnderWay S.gives server.now shared.now claims.now room.old.started.items room.old.shifts.items }
-    ensures under_way { IsUnderWay S.gives (cond result server.now spare.now) shared.now claims.now room.new.started.items room.new.shifts.items }
+    requires items { CanServeAll (S.can_serve site.now.spare.now site.now.shared.now) site.now.claims.now.items }
+    requires under_way { IsUnderWay S.gives site.now.server.now site.now.shared.now site.now.claims.now room.old.started.items room.old.shifts.items }
+    ensures under_way { IsUnderWay S.gives (serving result site.now) site.now.shared.now site.now.claims.now room.new.started.items room.new.shifts.items }
     ensures count { (vec_len room.new.started ≡ vec_len room.old.started) × (vec_len room.new.shifts ≡ vec_len room.old.shifts) }
     ensures room { vec_capacity room.new.shifts ≡ vec_capacity room.old.shifts }
     ensures alone { IsAlone room.old.started.items room.old.shifts.items → result ≡ false }
 {
-    let _ = server;
     if room.started.len() > 0 || !all_idle(room.shifts.as_slice()) {
         return true;
     }
@@ -98,13 +105,14 @@ fn spare_unless_started<V: Drop, O: Drop, S: Serve<V, O, T, C> + Drop, T, C>(
         done,
         stopped: _,
     } = shift;
-    let served = work(rt, shared, spare, claims, Station { seat, done });
+    let station = Station { seat, done };
+    let served = work(site.rt, site.shared, site.spare, site.claims, station);
     room.shifts.push_reserved(served);
     false
 }
 
-/// Starts workers at the first `starts` stations. If none could be started, serves all items on this
-/// thread with the spare server. Tells whether the server is in use, and not the spare one.
+/// Starts workers at the first `starts` of the posts. If none could be started, serves all items on this
+/// thread with the spare server.
 pub fn start_crew<
     's,
     E,
@@ -115,61 +123,46 @@ pub fn start_crew<
     C: Sync + 's,
 >(
     scope: &Scope<'s, E>,
-    rt: &'s T,
-    shared: &'s C,
-    server: &'s S,
-    spare: &S,
-    claims: &'s Claims<V>,
-    stations: Vec<Station<V, O>>,
+    site: &Site<'s, V, S, T, C>,
+    posts: Posts<V, O, S, T, C>,
     stops: &'s [AtomicBool],
     starts: usize,
-    room: &mut Room<V, O, S, T, C>,
-) -> bool
-    requires items { CanServeAll (S.can_serve server.now shared.now) claims.now.items × CanServeAll (S.can_serve spare.now shared.now) claims.now.items }
-    requires stations { All (IsStation claims.now) stations.items }
-    requires stops { length stops.now ≡ vec_len stations }
-    requires empty { (room.old.started.items ≡ []) × (room.old.shifts.items ≡ []) }
-    requires room { (vec_len stations ≤ vec_capacity room.old.started) × (vec_len stations ≤ vec_capacity room.old.shifts) }
-    ensures under_way { IsUnderWay S.gives (cond result server.now spare.now) shared.now claims.now room.new.started.items room.new.shifts.items }
-    ensures count { vec_len room.new.started + vec_len room.new.shifts ≡ vec_len stations }
-    ensures room { vec_len stations ≤ vec_capacity room.new.shifts }
-    ensures alone { starts ≡ 0 → result ≡ false }
+) -> UnderWay<V, O, S, T, C>
+    requires items { CanServeAll (S.can_serve site.now.server.now site.now.shared.now) site.now.claims.now.items }
+    requires spare { CanServeAll (S.can_serve site.now.spare.now site.now.shared.now) site.now.claims.now.items }
+    requires posts { ArePosts site.now.claims.now posts }
+    requires stops { length stops.now ≡ site.now.claims.now.workers }
+    ensures under_way { AreUnderWay S.gives site.now result }
+    ensures alone { starts ≡ 0 → result.served ≡ false }
 {
-    start_each(
-        scope, rt, shared, server, claims, stations, stops, starts, room,
-    );
-    spare_unless_started(rt, shared, server, spare, claims, room)
+    let Posts { stations, mut room } = posts;
+    start_each(scope, site, stations, stops, starts, &mut room);
+    let served = spare_unless_started(site, &mut room);
+    UnderWay { room, served }
 }
 
-/// Joins the workers that were started, and gives the shifts of all workers. Only the clauses use the
-/// parameters other than `rt` and `room`.
+/// Joins the workers that were started, and gives the shifts of all workers.
 pub fn join_crew<V: Drop, O: Drop, S: Serve<V, O, T, C> + Drop, T: Threads, C>(
-    rt: &T,
-    shared: &C,
-    server: &S,
-    spare: &S,
-    used: bool,
-    claims: &Claims<V>,
-    room: Room<V, O, S, T, C>,
-) -> Vec<Shift<V, O>>
-    requires under_way { IsUnderWay S.gives (cond used server.now spare.now) shared.now claims.now room.started.items room.shifts.items }
-    requires room { vec_len room.started + vec_len room.shifts ≤ vec_capacity room.shifts }
-    ensures shifts { All (IsShift (S.gives (cond used server.now spare.now) shared.now) claims.now) result.items }
-    ensures count { vec_len result ≡ vec_len room.started + vec_len room.shifts }
+    site: &Site<'_, V, S, T, C>,
+    under_way: UnderWay<V, O, S, T, C>,
+) -> Shifts<V, O>
+    requires under_way { AreUnderWay S.gives site.now under_way }
+    ensures shifts { All (IsShift (S.gives (serving result.served site.now) site.now.shared.now) site.now.claims.now) result.list.items }
+    ensures count { vec_len result.list ≡ site.now.claims.now.workers }
+    ensures served { result.served ≡ under_way.served }
 {
-    let _ = shared;
-    let _ = server;
-    let _ = spare;
-    let _ = used;
-    let _ = claims;
+    let UnderWay { room, served } = under_way;
     let Room {
         started,
         mut shifts,
     } = room;
     for handle in started {
-        shifts.push_reserved(handle.join(rt));
+        shifts.push_reserved(handle.join(site.rt));
     }
-    shifts
+    Shifts {
+        list: shifts,
+        served,
+    }
 }
 
 /// The stations at which the workers of a crew begin, and the room for the workers.

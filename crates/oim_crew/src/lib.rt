@@ -32,10 +32,12 @@ mod claims;
 mod crew;
 mod seat;
 mod seats;
+mod site;
 mod view;
 mod worker;
 
 pub use claims::Claims;
-pub use crew::{Crew, Posts, Room, all_idle, crew_of, join_crew, start_crew};
+pub use crew::{Crew, Posts, Room, Shifts, UnderWay, all_idle, crew_of, join_crew, start_crew};
 pub use seat::Seat;
+pub use site::Site;
 pub use worker::{Serve, Shift, ShiftOf, Station};

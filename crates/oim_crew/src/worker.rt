@@ -6,6 +6,7 @@ ghost use Rattle.oim_crew.specs.Shifts.{CanServeAll, IsShift, IsStarted, IsStati
 
 use crate::claims::Claims;
 use crate::seat::Seat;
+use crate::site::Site;
 use std::snapshot::Snapshot;
 use std::sync::atomic::{AtomicBool, Ordering};
 use std::thread::{Promise, PromisedHandle, Scope};
@@ -122,23 +123,21 @@ pub(crate) fn start<
     C: Sync + 's,
 >(
     scope: &Scope<'s, E>,
-    rt: &'s T,
-    shared: &'s C,
-    server: &'s S,
-    claims: &'s Claims<V>,
+    site: &Site<'s, V, S, T, C>,
     station: Station<V, O>,
     stop: &'s AtomicBool,
     may_start: bool,
 ) -> Result<PromisedHandle<Shift<V, O>, ShiftOf<V, S, T, C>>, Shift<V, O>>
-    requires items { CanServeAll (S.can_serve server.now shared.now) claims.now.items }
-    requires station { IsStation claims.now station }
-    ensures started { IfOk result (λ h. IsStarted server.now shared.now claims.now h) }
-    ensures refused { IfErr result (λ shift. IsShift (S.gives server.now shared.now) claims.now shift) }
+    requires items { CanServeAll (S.can_serve site.now.server.now site.now.shared.now) site.now.claims.now.items }
+    requires station { IsStation site.now.claims.now station }
+    ensures started { IfOk result (λ h. IsStarted site.now.server.now site.now.shared.now site.now.claims.now h) }
+    ensures refused { IfErr result (λ shift. IsShift (S.gives site.now.server.now site.now.shared.now) site.now.claims.now shift) }
     ensures unasked { may_start ≡ false → MatchResult result (λ _. ⊥) (λ shift. shift.stopped ≡ true) }
 {
     if !may_start {
         return Err(idle(station));
     }
+    let (rt, shared, server, claims) = (site.rt, site.shared, site.server, site.claims);
     let promise = ShiftOf {
         claims: Snapshot::of(claims),
         server: Snapshot::of(server),

@@ -18,10 +18,9 @@ use Rattle.oim_meta.specs.declared.fault.MetaFault.{MetaFault}
 use Rattle.oim_rows.specs.Streams.{Stream}
 use Rattle.oim_run.proofs.Threads.{answered, in_range, left, never_lost}
 use Rattle.oim_run.proofs.Waiting.{appends_then, keeps_same, took_all, took_some}
-use Rattle.oim_run.specs.Buffers.{told_behind}
 use Rattle.oim_json.specs.declared.mark.Mark.TheVariants as «marks»
 use Rattle.oim_files.specs.Metadata.{profile}
-use Rattle.oim_run.specs.Conversion.{Buffered, ConvertedTexts, Ends, SaysWith, Texts, flushed}
+use Rattle.oim_run.specs.Buffers.{Buffered, flushed, told_behind}
 use Rattle.oim_files.specs.Folders.{Files, IsFolderOf}
 use Rattle.oim_run.specs.Naming.{outcome_by}
 use Rattle.oim_run.specs.Outcomes.{EndsAs, Leaves, table_ids}
@@ -61,45 +60,6 @@ converted layout workers ring readers limit report files old new r names o named
     (answered layout report limit files old new names named (early_fault workers ring readers (length report.tables)) r
     (never_lost workers ring readers (length report.tables)) histories headline faults writes))
 
--- a report that is given by texts
-no_report : (layout : Layout) (early : Option ConvertFault) (report : ReportValue) (ss : List Stream) (old new : SinkView) (s : Source)
-    (f : MetaFault) → EndsAs layout early report ss old new (outcome.Report s f) → ⊥
-no_report layout None report ss old new s f ends = ends
-no_report layout (Some g) report ss old new s f (inl is, none) = cc
-no_report layout (Some g) report ss old new s f (inr is, none) = cc
-
-unwritten : (layout : Layout) (early : Option ConvertFault) (report : ReportValue) (ss : List Stream) (old new : SinkView)
-    → EndsAs layout early report ss old new (outcome.Run fault.Memory) → Unwritten old new
-unwritten layout None report ss old new ends = ends
-unwritten layout (Some g) report ss old new ends = ends.1
-
-module _ (given : Texts) (old new : SinkView) (report : ReportValue) (says : SaysWith given.limits given.metadata given.types report) where
-  abbrev found : Option ConvertFault
-  found = early_fault given.workers given.ring (length given.files) (length report.tables)
-
-  abbrev said : List Stream
-  said = streams report given.limits.rows given.files
-
-  all_texts : (o : Outcome) → EndsAs given.layout found report said old new o → ConvertedTexts given old new o
-  all_texts o e = record { report = report; says = says; ends = e }
-
-  pub ends : (o : Outcome) → EndsAs given.layout found report said old new o → Ends given old new o
-  ends outcome.Done e = all_texts outcome.Done e
-  ends (outcome.Report source.Report f) e = absurd (no_report given.layout found report said old new source.Report f e)
-  ends (outcome.Report source.Types f) e = absurd (no_report given.layout found report said old new source.Types f e)
-  ends (outcome.Report source.Parameters f) e = absurd (no_report given.layout found report said old new source.Parameters f e)
-  ends (outcome.Tables named) e = all_texts (outcome.Tables named) e
-  ends (outcome.CannotRead p) e = all_texts (outcome.CannotRead p) e
-  ends (outcome.CannotWrite p) e = all_texts (outcome.CannotWrite p) e
-  ends (outcome.Output w) e = all_texts (outcome.Output w) e
-  ends (outcome.Run fault.Memory) e = unwritten given.layout found report said old new e
-  ends (outcome.Run fault.BadWorkers) e = all_texts (outcome.Run fault.BadWorkers) e
-  ends (outcome.Run fault.BadSize) e = all_texts (outcome.Run fault.BadSize) e
-  ends (outcome.Run fault.WrongReaders) e = all_texts (outcome.Run fault.WrongReaders) e
-  ends (outcome.Run fault.Lost) e = all_texts (outcome.Run fault.Lost) e
-  ends (outcome.Run (fault.Tables t)) e = all_texts (outcome.Run (fault.Tables t)) e
-  ends (outcome.Run (fault.Write w)) e = all_texts (outcome.Run (fault.Write w)) e
-
 -- a report whose tables each have a file or none
 run_ends : (layout : Layout) (workers ring : ℕ) (report : ReportValue) (files : List (Option (List ℕ))) (old new : SinkView) (o : Outcome) → length files ≡ length report.tables
     → EndsAs layout (early_fault workers ring (length files) (length report.tables)) report (streams report profile.rows files) old new o
@@ -135,6 +95,17 @@ one_more told (Some at) base path tables i rs rs' r l is more are opened =
 
 pub one_longer : {A : Type 0} (xs ys : List A) (x : A) (n : ℕ) → ys ≡ xs ++ x ∷ [] → length xs ≡ n → length ys ≡ n + 1
 one_longer xs ys x n more is = ap length more ∙ length-append xs (x ∷ []) ∙ ap (λ k. k + 1) is
+
+-- a run through a buffer, of the paths and words that its settings have
+pub over_same : (files : Files) (meta meta' types types' : List ℕ) (workers workers' ring ring' : ℕ) (layout layout' : Layout) (old new : Option (List ℕ)) (o : Outcome)
+    → (meta ≡ meta') × (types ≡ types') → (workers ≡ workers') × (ring ≡ ring') × (layout ≡ layout')
+    → Buffered (EndsOver files meta types workers ring layout) old new o → Buffered (EndsOver files meta' types' workers' ring' layout') old new o
+over_same files meta meta' types types' workers workers' ring ring' layout layout' old new o paths others ends =
+    subst (λ l. Buffered (EndsOver files meta' types' workers' ring' l) old new o) others.2
+    (subst (λ r. Buffered (EndsOver files meta' types' workers' r layout) old new o) others.1
+    (subst (λ w. Buffered (EndsOver files meta' types' w ring layout) old new o) others.0
+    (subst (λ t. Buffered (EndsOver files meta' t workers ring layout) old new o) paths.1
+    (subst (λ m. Buffered (EndsOver files m types workers ring layout) old new o) paths.0 ends))))
 
 -- a run that stops before the conversion
 pub stops : (known : Option Files) (base meta types : List ℕ) (workers ring : ℕ) (layout : Layout) (sink : SinkView) (e : EarlyFault) (o : Outcome) → IsFolderOf base meta

@@ -25,7 +25,7 @@ use Rattle.oim_rows.specs.Header.{fault_at}
 use Rattle.oim_rows.specs.declared.fault.TableFault.{TableFault}
 use Rattle.oim_rows.specs.declared.fault.TableKind.TheVariants as table
 use Rattle.oim_run.specs.CommandLine.{AreLayouts, Words, command_line, is_given}
-use Rattle.oim_run.specs.Conversion.{flushed}
+use Rattle.oim_run.specs.Buffers.{flushed}
 use Rattle.oim_files.specs.Folders.{Files}
 use Rattle.oim_run.specs.Lines.{line_of, status_of, terminal_line_of, unprinted_status, words_status}
 use Rattle.oim_run.specs.Naming.{outcome_at}

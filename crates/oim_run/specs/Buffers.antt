@@ -1,5 +1,13 @@
--- The bytes that wait before a writer, and what it holds.
-use Rattle.std.specs.Prelude.{ℕ, nat_le, if◌then◌else◌, List, ◌∷◌, ◌++◌, Option, Some, None, length}
+-- The bytes that wait before a writer, what it holds, and how a run through a buffer ends.
+use Rattle.std.specs.Prelude.{◌≡◌, ◌⊎◌, ℕ, nat_le, if◌then◌else◌, List, ◌∷◌, ◌++◌, Option, Some, None, length}
+use mathlib.Core.List.{IsPrefix}
+use Rattle.std.specs.Io.KnownBytes.{Appends, Keeps}
+use Rattle.oim_convert.specs.declared.fault.ConvertFault.TheVariants as fault
+use Rattle.oim_json.specs.Sinks.{SinkView}
+use Rattle.oim_json.specs.declared.mark.Mark.TheVariants as «marks»
+use Rattle.oim_json.specs.declared.mark.WriteFault.TheVariants as write
+use Rattle.oim_run.specs.declared.outcome.Outcome.{Outcome}
+use Rattle.oim_run.specs.declared.outcome.Outcome.TheVariants as outcome
 
 -- what a writer holds and then what waits before it, behind the number of bytes that it held at first, as long as it holds as many
 abbrev pub told_since : ℕ → List ℕ → List ℕ → Option (List ℕ)
@@ -10,3 +18,31 @@ abbrev pub told_behind : Option (List ℕ) → Option (List ℕ) → List ℕ �
 told_behind None now waiting = None
 told_behind (Some first) None waiting = None
 told_behind (Some first) (Some now) waiting = told_since (length first) now waiting
+
+-- a failed flush is a failed write, if a document was written before it
+abbrev pub flushed : Outcome → Outcome
+flushed outcome.Done = outcome.Output write.Failed
+flushed (outcome.Tables named) = outcome.Output write.Failed
+flushed o = o
+
+-- what was written to a sink on the way from one view of it to the other, a writer holds behind what it held
+abbrev pub HoldsAll : (before after : SinkView) (old new : Option (List ℕ)) → Type 0
+HoldsAll before after old new = (text : List ℕ) → Appends before.told after.told text → Appends old new text
+
+-- the same of a beginning of it
+abbrev pub HoldsSome : (before after : SinkView) (old new : Option (List ℕ)) → Type 0
+HoldsSome before after old new = (text : List ℕ) → Appends before.told after.told text → (first : List ℕ) × IsPrefix first text × Appends old new first
+
+-- a run to a writer, of which old and new are what it holds, through a buffer: the run ended like this at the buffer, and the writer holds
+-- all that was written there; or the buffer could not be flushed at the end, and the writer holds a beginning of that
+pub record EndsBehind (ends : SinkView → SinkView → Outcome → Type 0) (old new : Option (List ℕ)) (o : Outcome) : Type 0 where
+  pub ended : Outcome
+  pub before : SinkView
+  pub after : SinkView
+  pub fine : before.mark ≡ «marks».Fine
+  pub run : ends before after ended
+  pub last : ((o ≡ ended) × HoldsAll before after old new) ⊎ ((o ≡ flushed ended) × HoldsSome before after old new)
+
+-- the same, or memory ran out for the buffer, and nothing is written
+abbrev pub Buffered : (SinkView → SinkView → Outcome → Type 0) → (old new : Option (List ℕ)) → Outcome → Type 0
+Buffered ends old new o = ((o ≡ outcome.Run fault.Memory) × Keeps old new) ⊎ EndsBehind ends old new o

@@ -1,6 +1,5 @@
 pub mod Buffers
 pub mod CommandLine
-pub mod Conversion
 pub mod Early
 pub mod Lines
 pub mod Naming

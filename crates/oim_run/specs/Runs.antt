@@ -1,5 +1,6 @@
 -- How a run over a folder ends.
-use Rattle.std.specs.Prelude.{◌≡◌, ◌⊎◌, ℕ, List, ◌++◌, map, Option, Ok}
+use Rattle.std.specs.Prelude.{◌≡◌, ◌⊎◌, ℕ, if◌then◌else◌, List, [], ◌∷◌, ◌++◌, map, Option, Some, None, Ok}
+use Rattle.std.specs.Str.{bytes_eq}
 use Rattle.oim_convert.specs.Answer.{streams}
 use Rattle.oim_convert.specs.Runs.{early_fault}
 use Rattle.oim_convert.specs.declared.fault.ConvertFault.{ConvertFault}
@@ -13,6 +14,11 @@ use Rattle.oim_run.specs.Outcomes.{EndsAs}
 use Rattle.oim_files.specs.Steps.{Passes, report_at, steps}
 use Rattle.oim_run.specs.Early.{EndsAt}
 use Rattle.oim_run.specs.declared.outcome.Outcome.{Outcome}
+
+-- a folder in memory: each path with its bytes, of which the first counts
+abbrev pub files_of : List (List ℕ × List ℕ) → Files
+files_of [] path = None
+files_of (f ∷ rest) path = if bytes_eq f.0 path then Some f.1 else files_of rest path
 
 -- the file of a table, if the folder has one at the table's path
 abbrev pub table_file : Files → List ℕ → Table → Option (List ℕ)

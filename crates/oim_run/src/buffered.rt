@@ -1,18 +1,14 @@
 //! Runs that write their document to a writer through a buffer, which is flushed at the end.
 
-ghost use Rattle.std.specs.Prelude.{◌≡◌, IfSome, Some, [], ◌∷◌, if◌then◌else◌};
-ghost use Rattle.oim_json.specs.declared.layout.Layout.TheVariants as layouts;
+ghost use Rattle.std.specs.Prelude.{◌≡◌, IfSome, if◌then◌else◌};
 ghost use Rattle.oim_json.specs.declared.mark.WriteFault.TheVariants as writes;
-ghost use Rattle.oim_files.specs.Metadata.{profile};
-ghost use Rattle.oim_run.specs.Conversion.{Buffered, Ends, flushed, texts};
+ghost use Rattle.oim_run.specs.Buffers.{Buffered, flushed};
 ghost use Rattle.oim_run.specs.Outcomes.{Leaves};
 ghost use Rattle.oim_run.specs.Runs.{EndsOver, range_fault};
 ghost use Rattle.oim_run.specs.declared.outcome.Outcome.TheVariants as outcomes;
 
 use crate::buffer::Buffer;
-use crate::conversion::convert_held;
 use crate::early::no_memory;
-use crate::held::{METADATA, TABLE, TYPES};
 use crate::outcome::Outcome;
 use crate::running::run;
 use crate::settings::Settings;
@@ -72,21 +68,6 @@ pub fn run_to<R: Read + Drop + Send, F: Folder<R>, T: Threads + Wait + Sync, W: 
     };
     let mut buffer = Buffer::new(to, waiting);
     let outcome = run(rt, alloc, settings, folder, &mut buffer);
-    let (writer, is_flushed) = buffer.finish();
-    (after_flush(outcome, is_flushed), writer)
-}
-
-/// Converts the built-in report to a writer through a buffer, and flushes it. The answer is how that ended,
-/// and the writer, which then holds what [`run_to`] says.
-pub fn convert_to<T: Threads + Wait + Sync, W: Write>(rt: &T, alloc: Global, to: W) -> (Outcome, W)
-    ensures { Buffered (Ends (texts 1 1 layouts.Compact profile METADATA.now TYPES.now (Some TABLE.now ∷ [])))
-        (W.contents to) (W.contents result.1) result.0 }
-{
-    let Ok(waiting) = Vec::with_capacity(alloc, ROOM) else {
-        return (no_memory(), to);
-    };
-    let mut buffer = Buffer::new(to, waiting);
-    let outcome = convert_held(rt, alloc, &mut buffer);
     let (writer, is_flushed) = buffer.finish();
     (after_flush(outcome, is_flushed), writer)
 }

@@ -1,25 +1,20 @@
-//! Converting a report whose tables are given by readers, or whose files are all given by their bytes.
+//! Converting a report whose tables are given by readers.
 
-ghost use Rattle.std.specs.Prelude.{◌≡◌, ◌≤◌, ◌<◌, ℕ, List, [], ◌∷◌, Option, Some, None, IfOk, true, ◌==◌, if◌then◌else◌, length, slice_set, vec_capacity};
+ghost use Rattle.std.specs.Prelude.{◌≡◌, ◌≤◌, ◌<◌, ℕ, List, [], Option, Some, None, IfOk, true, ◌==◌, if◌then◌else◌, length, slice_set, vec_capacity};
 ghost use Rattle.oim_convert.specs.Answer.{streams};
 ghost use Rattle.oim_convert.specs.Files.{AreFilesOf};
 ghost use Rattle.oim_convert.specs.Runs.{early_fault};
 ghost use Rattle.oim_convert.specs.Serial.{AreFew};
 ghost use Rattle.oim_convert.specs.declared.fault.ConvertFault.TheVariants as convert_faults;
 ghost use Rattle.oim_json.specs.Sinks.{sink_at};
-ghost use Rattle.oim_json.specs.declared.layout.Layout.TheVariants as layouts;
 ghost use Rattle.oim_run.specs.Naming.{outcome_alone, outcome_by, with_names};
-ghost use Rattle.oim_files.specs.Metadata.{profile};
-ghost use Rattle.oim_run.specs.Conversion.{Ends, Reads, texts};
 ghost use Rattle.oim_run.specs.Outcomes.{EndsAs, Leaves, name_in, table_ids};
 
-use crate::held::{METADATA, TABLE, TYPES};
 use crate::outcome::Outcome;
 use oim_convert::{ConvertFault, LARGEST_RING, Run, convert, convert_serial};
-use oim_files::Source;
 use oim_json::{Layout, Sink};
 use oim_merge::MergeEnd;
-use oim_meta::{Limits, Parameters, Report, read_report, read_types};
+use oim_meta::{Limits, Report};
 use oim_names::{Items, Text};
 use oim_rows::TableFault;
 use std::alloc::{AllocError, Global};
@@ -28,24 +23,15 @@ use std::mem;
 use std::sync::Wait;
 use std::thread::Threads;
 
-/// The report of a metadata with the types of a types table and without a parameters file. Fails with
-/// the outcome that names the fault of the types table, or else of the metadata.
-fn read_texts(
-    alloc: Global,
-    metadata: &[u8],
-    types: &[u8],
-    limits: Limits,
-) -> Result<Report, Outcome>
-    ensures { Reads limits metadata.now types.now result }
-{
-    let types = match read_types(alloc, types) {
-        Ok(types) => types,
-        Err(fault) => return Err(Outcome::Report(Source::Types, fault)),
-    };
-    match read_report(alloc, metadata, Parameters::none(alloc), types, limits) {
-        Ok(report) => Ok(report),
-        Err(fault) => Err(Outcome::Report(Source::Report, fault)),
-    }
+/// How a report is converted.
+#[derive(Clone, Copy)]
+pub struct Course {
+    /// How many tables are decoded at once, 1 to 64.
+    pub workers: usize,
+    /// How many blocks of facts of one table may wait, 1 to 65,536.
+    pub ring: usize,
+    pub limits: Limits,
+    pub layout: Layout,
 }
 
 /// The identifiers of the tables, in table order. Fails if memory runs out.
@@ -144,9 +130,9 @@ fn is_alone(workers: usize, ring: usize) -> bool
 }
 
 /// Converts a report, given a reader of each table's file in table order, or `None` for a table without
-/// a file (xBRL-CSV 1.0). Writes its document in xBRL-JSON 1.0 to the sink, in the given layout, with
-/// `workers` workers and rings of `ring` blocks, or with one worker on the caller's thread alone.
-/// `limits.rows` is at most 4,294,967,294.
+/// a file (xBRL-CSV 1.0). Writes its document in xBRL-JSON 1.0 to the sink, in the layout of the course, with
+/// its workers and rings, or with one worker on the caller's thread alone. `course.limits.rows` is at most
+/// 4,294,967,294.
 ///
 /// The answer is how the conversion ended. It is the same for every number of workers, ring size and
 /// schedule, apart from failed reads and running out of memory or threads. The names that the outcome
@@ -157,19 +143,22 @@ pub fn convert_report<R: Read + Drop + Send, T: Threads + Wait + Sync, W: Sink>(
     alloc: Global,
     report: &Report,
     readers: Vec<Option<R>>,
-    workers: usize,
-    ring: usize,
-    limits: Limits,
-    layout: Layout,
+    course: Course,
     sink: &mut W,
 ) -> Outcome
-    requires { limits.rows ≤ 4294967294 }
+    requires { course.limits.rows ≤ 4294967294 }
     ensures ends { (files : List (Option (List ℕ))) → AreFilesOf R.remaining readers.items files
-        → EndsAs layout (early_fault workers ring (length files) (length report.now.tables)) report.now (streams report.now limits.rows files)
+        → EndsAs course.layout (early_fault course.workers course.ring (length files) (length report.now.tables)) report.now (streams report.now course.limits.rows files)
         (sink_at (W.mark sink.old) (W.told sink.old)) (sink_at (W.mark sink.new) (W.told sink.new)) result }
-    ensures leaves { Leaves (early_fault workers ring (length readers.items) (length report.now.tables))
+    ensures leaves { Leaves (early_fault course.workers course.ring (length readers.items) (length report.now.tables))
         (sink_at (W.mark sink.old) (W.told sink.old)) (sink_at (W.mark sink.new) (W.told sink.new)) result }
 {
+    let Course {
+        workers,
+        ring,
+        limits,
+        layout,
+    } = course;
     let Ok(names) = names_of(alloc, report) else {
         return Outcome::Run(ConvertFault::Memory);
     };
@@ -184,61 +173,4 @@ pub fn convert_report<R: Read + Drop + Send, T: Threads + Wait + Sync, W: Sink>(
         rt, alloc, report, readers, workers, ring, limits, layout, sink,
     );
     ending(alloc, names, room, answer)
-}
-
-/// Converts a report without a parameters file, given the bytes of its metadata and of its types table,
-/// and a reader of each table's file in table order, or `None` for a table without a file (xBRL-CSV
-/// 1.0). Writes its document in xBRL-JSON 1.0 to the sink, in the given layout, with `workers` workers
-/// and rings of `ring` blocks, and answers how the run ended. `limits.rows` is at most 4,294,967,294. It
-/// waits for its workers.
-pub fn convert_texts<R: Read + Drop + Send, T: Threads + Wait + Sync, W: Sink>(
-    rt: &T,
-    alloc: Global,
-    metadata: &[u8],
-    types: &[u8],
-    tables: Vec<Option<R>>,
-    workers: usize,
-    ring: usize,
-    limits: Limits,
-    layout: Layout,
-    sink: &mut W,
-) -> Outcome
-    requires { limits.rows ≤ 4294967294 }
-    ensures { (files : List (Option (List ℕ))) → AreFilesOf R.remaining tables.items files
-        → Ends (texts workers ring layout limits metadata.now types.now files) (sink_at (W.mark sink.old) (W.told sink.old)) (sink_at (W.mark sink.new) (W.told sink.new)) result }
-{
-    let report = match read_texts(alloc, metadata, types, limits) {
-        Ok(report) => report,
-        Err(outcome) => return outcome,
-    };
-    convert_report(
-        rt, alloc, &report, tables, workers, ring, limits, layout, sink,
-    )
-}
-
-/// Converts the built-in report, within the limits of this profile, with one worker and a ring of one
-/// block, to a document in the compact layout.
-pub fn convert_held<T: Threads + Wait + Sync, W: Sink>(
-    rt: &T,
-    alloc: Global,
-    sink: &mut W,
-) -> Outcome
-    ensures { Ends (texts 1 1 layouts.Compact profile METADATA.now TYPES.now (Some TABLE.now ∷ [])) (sink_at (W.mark sink.old) (W.told sink.old)) (sink_at (W.mark sink.new) (W.told sink.new)) result }
-{
-    let mut tables = Vec::new(alloc);
-    if tables.push(Some(TABLE.as_bytes())).is_err() {
-        return Outcome::Run(ConvertFault::Memory);
-    }
-    convert_texts(
-        rt,
-        alloc,
-        METADATA.as_bytes(),
-        TYPES.as_bytes(),
-        tables,
-        1,
-        1,
-        Limits::profile(),
-        Layout::Compact,
-        sink,
-    )
 }

@@ -1,4 +1,28 @@
-//! The built-in report: its metadata, its types table and the file of its one table.
+//! The built-in report: a folder in memory with its metadata, its types table and the file of its one table.
+
+ghost use Rattle.std.specs.Prelude.{◌≡◌, IfOk, [], ◌∷◌};
+ghost use Rattle.oim_json.specs.declared.layout.Layout.TheVariants as layouts;
+ghost use Rattle.oim_run.specs.Buffers.{Buffered};
+ghost use Rattle.oim_run.specs.Runs.{EndsOver, files_of};
+
+use crate::buffered::run_to;
+use crate::early::no_memory;
+use crate::outcome::Outcome;
+use crate::settings::Settings;
+use oim_files::Texts;
+use oim_json::Layout;
+use oim_names::Text;
+use std::alloc::{AllocError, Global};
+use std::io::Write;
+use std::sync::Wait;
+use std::thread::Threads;
+
+/// The paths of its files.
+const META_PATH: &str = "meta.json";
+
+const TYPES_PATH: &str = "types.csv";
+
+const TABLE_PATH: &str = "t1.csv";
 
 /// The metadata, in the JSON of xBRL-CSV 1.0.
 pub const METADATA: &str = r#"{"documentInfo":{"documentType":"https://xbrl.org/2021/xbrl-csv",
@@ -31,3 +55,35 @@ pub const TABLE: &str = r#"cash,note
 100,first
 200,second
 "#;
+
+/// The settings of a run over its folder, with one worker and a ring of one block.
+fn held_settings(alloc: Global) -> Result<Settings, AllocError>
+    ensures paths { IfOk result (λ s. (s.meta ≡ META_PATH.now) × (s.types ≡ TYPES_PATH.now)) }
+    ensures others { IfOk result (λ s. (s.workers ≡ 1) × (s.ring ≡ 1) × (s.layout ≡ layouts.Compact)) }
+{
+    Ok(Settings {
+        meta: Text::from_str(alloc, META_PATH)?,
+        types: Text::from_str(alloc, TYPES_PATH)?,
+        workers: 1,
+        ring: 1,
+        out: None,
+        layout: Layout::Compact,
+    })
+}
+
+/// Converts the built-in report to a writer through a buffer, as [`run_to`] does with a folder of its files. The answer is how that
+/// ended, and the writer.
+pub fn convert_to<T: Threads + Wait + Sync, W: Write>(rt: &T, alloc: Global, to: W) -> (Outcome, W)
+    ensures { Buffered (EndsOver (files_of ((META_PATH.now, METADATA.now) ∷ (TYPES_PATH.now, TYPES.now) ∷ (TABLE_PATH.now, TABLE.now) ∷ []))
+        META_PATH.now TYPES_PATH.now 1 1 layouts.Compact) (W.contents to) (W.contents result.1) result.0 }
+{
+    let Ok(settings) = held_settings(alloc) else {
+        return (no_memory(), to);
+    };
+    let files = [
+        (META_PATH, METADATA.as_bytes()),
+        (TYPES_PATH, TYPES.as_bytes()),
+        (TABLE_PATH, TABLE.as_bytes()),
+    ];
+    run_to(rt, alloc, &settings, &mut Texts { files: &files }, to)
+}

@@ -14,12 +14,10 @@
 //!   every refused table in table order, each by its identifier with its first fault, and the unfinished
 //!   document up to and including the first of them (`specs/Outcomes.antt`). This holds for every number
 //!   of workers, ring size and schedule of the threads;
-//! - `convert_report` says the same of a report whose tables are given by readers, `convert_texts` of
-//!   one whose files are given by their bytes, and `convert_held` of the built-in report
-//!   (`specs/Conversion.antt`);
-//! - `run_to` and `convert_to` say how a run through a buffer ended, and what the writer behind it holds,
-//!   where that tells it: all that the run wrote, or a beginning of it where the last flush failed, which
-//!   after a document, whole or unfinished, is a failed write;
+//! - `convert_report` says the same of a report whose tables are given by readers;
+//! - `run_to` says how a run through a buffer ended, and what the writer behind it holds, where that tells it: all
+//!   that the run wrote, or a beginning of it where the last flush failed, which after a document, whole or
+//!   unfinished, is a failed write (`specs/Buffers.antt`). `convert_to` is such a run over the built-in report;
 //! - `convert_as` runs exactly one conversion, to the output that the settings name, and answers its
 //!   outcome; or none, if that output is written as an input's path (`specs/Outputs.antt`);
 //! - `status` and `line` give the exit status and the lines on standard error of each outcome, with one
@@ -58,9 +56,9 @@ mod request;
 mod running;
 mod settings;
 
-pub use buffered::{convert_to, run_to};
-pub use conversion::{convert_held, convert_report, convert_texts};
-pub use held::{METADATA, TABLE, TYPES};
+pub use buffered::run_to;
+pub use conversion::{Course, convert_report};
+pub use held::{METADATA, TABLE, TYPES, convert_to};
 pub use oim_explain::{
     Explanation, FaultPlace, ReportAgain, explain_metadata, explain_report, explain_table,
     explanation_text, fault_header, fault_place, fault_row, lines_are_of_records, report_again,

@@ -9,7 +9,7 @@ ghost use Rattle.oim_run.specs.Early as spec;
 ghost use Rattle.oim_run.specs.Outcomes.{EndsAs, Leaves};
 ghost use Rattle.oim_run.specs.Runs.{EndsOver, range_fault, table_files};
 
-use crate::conversion::convert_report;
+use crate::conversion::{Course, convert_report};
 use crate::early::{ended_early, no_memory};
 use crate::outcome::Outcome;
 use crate::settings::Settings;
@@ -63,17 +63,15 @@ fn run_tables<R: Read + Drop + Send, F: Folder<R>, T: Threads + Wait + Sync, W: 
     ensures leaves { Leaves (range_fault settings.now.workers settings.now.ring) (sink_at (W.mark sink.old) (W.told sink.old)) (sink_at (W.mark sink.new) (W.told sink.new)) result }
 {
     match find_tables(alloc, folder, base, report) {
-        Ok(readers) => convert_report(
-            rt,
-            alloc,
-            report,
-            readers,
-            settings.workers,
-            settings.ring,
-            Limits::profile(),
-            settings.layout,
-            sink,
-        ),
+        Ok(readers) => {
+            let course = Course {
+                workers: settings.workers,
+                ring: settings.ring,
+                limits: Limits::profile(),
+                layout: settings.layout,
+            };
+            convert_report(rt, alloc, report, readers, course, sink)
+        }
         Err(outcome) => outcome,
     }
 }

@@ -1,7 +1,8 @@
 //! Calls of `oim_crew`, but for those that need a scope of threads: `oim_convert` makes these.
 
 use oim_crew::{
-    Claims, Crew, Posts, Room, Seat, Serve, Shift, ShiftOf, Station, all_idle, crew_of,
+    Claims, Crew, Posts, Room, Seat, Serve, Shift, ShiftOf, Shifts, Site, Station, UnderWay, all_idle,
+    crew_of,
 };
 use std::alloc::{AllocError, Global};
 use std::test::Fail;
@@ -51,12 +52,42 @@ fn results_of(shift: Shift<char, char>, _promise: &ShiftOf<char, Echo, (), ()>) 
     shift.done
 }
 
+/// What the workers share.
+fn site_of<'s>(
+    nothing: &'s (),
+    server: &'s Echo,
+    claims: &'s Claims<char>,
+) -> Site<'s, char, Echo, (), ()> {
+    Site {
+        rt: nothing,
+        shared: nothing,
+        server,
+        spare: server,
+        claims,
+    }
+}
+
+/// The shifts of a crew of which no worker was started.
+fn shifts_of(room: Room<char, char, Echo, (), ()>) -> Shifts<char, char> {
+    let crew = UnderWay {
+        room,
+        served: false,
+    };
+    let UnderWay { room, served } = crew;
+    Shifts {
+        list: room.shifts,
+        served,
+    }
+}
+
 /// A crew of two workers for two items.
 fn is_ready(alloc: Global) -> Result<bool, AllocError> {
     let items = vec![in alloc; 'a', 'b']?;
     let crew: Crew<char, char, Echo, (), ()> = crew_of(alloc, items, 2)?;
+    let _ = site_of(&(), &Echo, &crew.claims);
     let (stations, room) = stations_of(crew.posts);
-    Ok(stations.len() == 2 && crew.stops.len() == 2 && all_idle(room.shifts.as_slice()))
+    let shifts = shifts_of(room);
+    Ok(stations.len() == 2 && crew.stops.len() == 2 && all_idle(shifts.list.as_slice()))
 }
 
 #[test]

@@ -10,17 +10,17 @@ use Rattle.oim_convert.proofs.returning.finish.Goals as goal
 
 pub place_all-seats-requires-clause-slots : goal.place_all-seats-requires-clause-slots
 place_all-seats-requires-clause-slots g c =
-    slots_begin g.R.Read.remaining c.args.report.now c.args.limits.rows c.args.served c.args.claims.items (length c.args.claims.items) c.as_mut_slice-slots.result.now
+    slots_begin g.R.Read.remaining c.args.report.now c.args.limits.rows c.args.shifts.served c.args.claims.items (length c.args.claims.items) c.as_mut_slice-slots.result.now
     (c.as_mut_slice-slots.ensures.value ∙ c.requires.room.slots)
 
 pub close-requires-clause-mine : goal.close-requires-clause-mine
 close-requires-clause-mine g c =
-    seats_mine g.R.Read.remaining c.args.report.now c.args.limits.rows c.args.served c.args.claims c.args.shifts.items c.place_all-seats.result.items c.requires.shifts c.place_all-seats.ensures.seats
+    seats_mine g.R.Read.remaining c.args.report.now c.args.limits.rows c.args.shifts.served c.args.claims c.args.shifts.list.items c.place_all-seats.result.items c.requires.shifts c.place_all-seats.ensures.seats
 
 pub close-requires-clause-finished : goal.close-requires-clause-finished
 close-requires-clause-finished g c =
     let busy = subst (λ l. list_all (λ s. s.stopped) l ≡ false) c.as_slice.ensures.value (sym c.all_idle.ensures ∙ c.if-all_idle.false) in
-    some_finished g.R.Read.remaining c.args.report.now c.args.limits.rows c.args.served c.args.claims c.args.shifts.items
+    some_finished g.R.Read.remaining c.args.report.now c.args.limits.rows c.args.shifts.served c.args.claims c.args.shifts.list.items
     c.place_all-seats.result.items c.requires.shifts c.place_all-seats.ensures.seats busy
 
 if_some : {A : Type 0} (o : Option A) (P : Type 0) → P → IfSome o (λ _. P)
@@ -33,19 +33,19 @@ if_none None P Q f p = f p
 
 pub returns-clause-cover : goal.returns-clause-cover
 returns-clause-cover g c =
-    if_some c.settle_all-all.result (EachOnceBelow (length c.args.claims.items) (tables_promised c.args.shifts.items))
-    (covered g.R.Read.remaining c.args.report.now c.args.limits.rows c.args.served c.args.claims c.args.shifts.items c.place_all-seats.result.items
+    if_some c.settle_all-all.result (EachOnceBelow (length c.args.claims.items) (tables_promised c.args.shifts.list.items))
+    (covered g.R.Read.remaining c.args.report.now c.args.limits.rows c.args.shifts.served c.args.claims c.args.shifts.list.items c.place_all-seats.result.items
     c.requires.shifts c.place_all-seats.ensures.seats c.close.ensures)
 
 pub returns-clause-lost : goal.returns-clause-lost
 returns-clause-lost g c =
-    let tokens = receipts_of c.args.shifts.items in
+    let tokens = receipts_of c.args.shifts.list.items in
     let first = c.as_mut_slice-slots.result.now in
     let after = c.place_all-seats.new.slots in
     let n = length c.args.claims.items in
     let len : length first ≡ n = ap length (c.as_mut_slice-slots.ensures.value ∙ c.requires.room.slots) ∙ replicate_len n None in
     let each =
-    covered g.R.Read.remaining c.args.report.now c.args.limits.rows c.args.served c.args.claims c.args.shifts.items c.place_all-seats.result.items
+    covered g.R.Read.remaining c.args.report.now c.args.limits.rows c.args.shifts.served c.args.claims c.args.shifts.list.items c.place_all-seats.result.items
     c.requires.shifts c.place_all-seats.ensures.seats c.close.ensures in
-    if_none c.settle_all-all.result (Contains after None) ((list_all (λ s. s.stopped) c.args.shifts.items ≡ true) ⊎ Any (λ (t : Receipt). t.closed ≡ None) tokens)
+    if_none c.settle_all-all.result (Contains after None) ((list_all (λ s. s.stopped) c.args.shifts.list.items ≡ true) ⊎ Any (λ (t : Receipt). t.closed ≡ None) tokens)
     (λ gap. inr (lost_receipt tokens first after n len c.place_all-seats.ensures.placed each gap)) c.settle_all-all.ensures.lost

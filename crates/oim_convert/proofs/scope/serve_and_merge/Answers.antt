@@ -3,8 +3,8 @@ use Rattle.std.proofs.Crossing.{crosses}
 use Rattle.oim_convert.proofs.Sends.{job_send, receipt_send}
 use Rattle.oim_convert.proofs.scope.serve_and_merge.Goals as goal
 
-pub start_crew-served-requires-send-V : goal.start_crew-served-requires-send-V
-start_crew-served-requires-send-V g c κs within = search (sendable, crosses, job_send) depth 20
+pub start_crew-crew-requires-send-V : goal.start_crew-crew-requires-send-V
+start_crew-crew-requires-send-V g c κs within = search (sendable, crosses, job_send) depth 20
 
-pub start_crew-served-requires-send-O : goal.start_crew-served-requires-send-O
-start_crew-served-requires-send-O g c κs within = search (sendable, crosses, receipt_send) depth 20
+pub start_crew-crew-requires-send-O : goal.start_crew-crew-requires-send-O
+start_crew-crew-requires-send-O g c κs within = search (sendable, crosses, receipt_send) depth 20

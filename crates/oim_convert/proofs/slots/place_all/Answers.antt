@@ -11,7 +11,7 @@ use Rattle.oim_convert.proofs.slots.place_all.Goals as goal
 
 pub loop-shift-preserved : goal.loop-shift-preserved
 loop-shift-preserved g c =
-    let gives = Gives g.R.Read.remaining c.args.report.now c.args.limits.rows c.args.served in
+    let gives = Gives g.R.Read.remaining c.args.terms.now.report.now c.args.terms.now.limits.rows c.args.terms.now.served in
     let old = c.loop-shift.invariant in
     let step = c.in-Some.ensures.steps in
     let rest = into_iter_items c.next.new.self in
@@ -19,7 +19,7 @@ loop-shift-preserved g c =
     let before = c.loop-shift.slots in
     let pushed = c.push_reserved.ensures in
     record {
-      left = (all-first (IsShift gives c.args.claims.now) _ _ _ step.0 old.left).1;
+      left = (all-first (IsShift gives c.args.terms.now.claims.now) _ _ _ step.0 old.left).1;
       slots = c.place_shift.ensures.slots;
       placed =
           ap (λ l. placed (receipts_of rest) l) c.place_shift.ensures.placed

@@ -9,7 +9,7 @@ use Rattle.oim_convert.proofs.slots.place_shift.Goals as goal
 
 pub loop-receipt-init : goal.loop-receipt-init
 loop-receipt-init g c =
-    let told = g.R.Read.remaining in let report = c.args.report.now in let limit = c.args.limits.rows in let served = c.args.served in let plan = c.args.claims.now.items in
+    let told = g.R.Read.remaining in let report = c.args.terms.now.report.now in let limit = c.args.terms.now.limits.rows in let served = c.args.terms.now.served in let plan = c.args.terms.now.claims.now.items in
     let all : into_iter_items c.into_iter-receipt-iterator.result ≡ c.args.shift.done.items = c.into_iter-receipt-iterator.ensures.into_iter_gives.0 in record {
       left = subst (λ l. All (Fulfills told report limit served plan) l) (sym all)
           (receipts_fulfill told report limit served plan c.args.shift.seat.numbers c.args.shift.done.items c.requires.shift.served);
@@ -19,7 +19,7 @@ loop-receipt-init g c =
 
 pub loop-receipt-preserved : goal.loop-receipt-preserved
 loop-receipt-preserved g c =
-    let told = g.R.Read.remaining in let report = c.args.report.now in let limit = c.args.limits.rows in let served = c.args.served in let plan = c.args.claims.now.items in
+    let told = g.R.Read.remaining in let report = c.args.terms.now.report.now in let limit = c.args.terms.now.limits.rows in let served = c.args.terms.now.served in let plan = c.args.terms.now.claims.now.items in
     let old = c.loop-receipt.invariant in
     let step = c.in-Some.ensures.steps in
     let rest = into_iter_items c.next.new.self in

@@ -5,7 +5,7 @@ use Rattle.oim_convert.proofs.slots.place_shift.Given as goal
 
 abbrev pub invariant-loop-receipt : goal.invariant-loop-receipt
 invariant-loop-receipt g l = record {
-  left : All (Fulfills g.R.Read.remaining l.report l.limits.rows l.served l.claims.items) (into_iter_items l.receipt-iterator);
-  slots : EachSlot g.R.Read.remaining l.report l.limits.rows l.served l.claims.items l.slots;
+  left : All (Fulfills g.R.Read.remaining l.terms.report.now l.terms.limits.rows l.terms.served l.terms.claims.now.items) (into_iter_items l.receipt-iterator);
+  slots : EachSlot g.R.Read.remaining l.terms.report.now l.terms.limits.rows l.terms.served l.terms.claims.now.items l.slots;
   placed : placed (into_iter_items l.receipt-iterator) l.slots ≡ placed l.fn.shift.done.items l.fn.slots;
 }

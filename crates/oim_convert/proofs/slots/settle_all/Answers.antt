@@ -13,7 +13,7 @@ use Rattle.oim_convert.proofs.slots.settle_all.Goals.{After-settled-in-loop-drai
 
 -- the token in the slot is that of the table
 token_is : (g : given.Over) (c : After-settled-in-loop-drain-1 g)
-    → IsSentOf g.R.Read.remaining c.args.report.now c.args.limits.rows c.args.served c.args.claims.now.items (length c.loop-drain.settled.items) c.in_ok-closed.closed
+    → IsSentOf g.R.Read.remaining c.args.terms.now.report.now c.args.terms.now.limits.rows c.args.terms.now.served c.args.terms.now.claims.now.items (length c.loop-drain.settled.items) c.in_ok-closed.closed
 token_is g c =
     let r = c.loop-drain.invariant in
     let at : c.len-at.result ≡ length c.loop-drain.settled.items = c.len-at.ensures ∙ c.loop-drain.settled.ok.0 in
@@ -21,14 +21,14 @@ token_is g c =
     let lt : c.len-at.result < length c.loop-drain.slots = omega arith in
     let here = r.4 c.len-at.result c.in_ok-closed.closed (slot_read c.loop-drain.slots c.len-at.result c.index-slots-at.result c.in_ok-closed.closed
     lt (sym c.take.ensures.value ∙ c.in_ok-closed.was)) in
-    subst (λ (n : ℕ). IsSentOf g.R.Read.remaining c.args.report.now c.args.limits.rows c.args.served c.args.claims.now.items n c.in_ok-closed.closed) at here
+    subst (λ (n : ℕ). IsSentOf g.R.Read.remaining c.args.terms.now.report.now c.args.terms.now.limits.rows c.args.terms.now.served c.args.terms.now.claims.now.items n c.in_ok-closed.closed) at here
 
 -- the drain is that of the table
 drain_is : (g : given.Over) (c : After-settled-in-loop-drain-1 g)
-    → IsEnded c.args.claims.now.items (length c.loop-drain.settled.items) c.in-Some.drain
-    × Each (IsEnded c.args.claims.now.items) (suc (length c.loop-drain.settled.items)) (into_iter_items c.next.new.self)
+    → IsEnded c.args.terms.now.claims.now.items (length c.loop-drain.settled.items) c.in-Some.drain
+    × Each (IsEnded c.args.terms.now.claims.now.items) (suc (length c.loop-drain.settled.items)) (into_iter_items c.next.new.self)
 drain_is g c =
-    each_first (IsEnded c.args.claims.now.items) (length c.loop-drain.settled.items) c.in-Some.drain (into_iter_items c.next.new.self)
+    each_first (IsEnded c.args.terms.now.claims.now.items) (length c.loop-drain.settled.items) c.in-Some.drain (into_iter_items c.next.new.self)
     (into_iter_items c.loop-drain.drain-iterator) c.in-Some.ensures.steps.0
     c.loop-drain.invariant.3
 
@@ -43,8 +43,8 @@ loop-drain-preserved g c =
     let r = c.loop-drain.invariant in
     let b : After-settled-in-loop-drain-1 g = c.before.before in
     let s = token_is g b in let d = drain_is g b in
-    let told = g.R.Read.remaining in let report = c.args.report.now in let limit = c.args.limits.rows in let served = c.args.served in
-    let plan = c.args.claims.now.items in
+    let told = g.R.Read.remaining in let report = c.args.terms.now.report.now in let limit = c.args.terms.now.limits.rows in let served = c.args.terms.now.served in
+    let plan = c.args.terms.now.claims.now.items in
     let done = c.loop-drain.settled.items in
     let steps = c.in-Some.ensures.steps in
     let pushed = c.push_reserved.ensures.items in

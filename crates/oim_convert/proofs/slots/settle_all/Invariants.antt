@@ -9,7 +9,7 @@ invariant-loop-drain g l =
     (vec_len l.settled + into_iter_len l.drain-iterator ≤ vec_capacity l.settled)
     × (length l.slots ≡ vec_len l.settled + into_iter_len l.drain-iterator)
     × (map (λ d. d.taken) l.fn.drains.items ≡ l.settled.items ++ map (λ d. d.taken) (into_iter_items l.drain-iterator))
-    × Each (IsEnded l.claims.items) (length l.settled.items) (into_iter_items l.drain-iterator)
-    × EachSlot g.R.Read.remaining l.report l.fn.limits.rows l.served l.claims.items l.slots
-    × Each (IsTable g.R.Read.remaining l.report l.fn.limits.rows l.served l.claims.items) 0 l.settled.items
+    × Each (IsEnded l.terms.claims.now.items) (length l.settled.items) (into_iter_items l.drain-iterator)
+    × EachSlot g.R.Read.remaining l.terms.report.now l.terms.limits.rows l.terms.served l.terms.claims.now.items l.slots
+    × Each (IsTable g.R.Read.remaining l.terms.report.now l.terms.limits.rows l.terms.served l.terms.claims.now.items) 0 l.settled.items
     × ((t : ℕ) → length l.settled.items ≤ t → slice_index_or l.slots t None ≡ slice_index_or l.fn.slots t None)

@@ -40,7 +40,7 @@ finish-requires-clause-room g c = subst (λ (z : Claiming (Job g.row.R.Denot)). 
 
 pub returns-in-Some-clause-tables : goal.returns-in-Some-clause-tables
 returns-in-Some-clause-tables g c =
-    let served = c.work_crew-claims.result.1.served in (
+    let served = c.work_crew-claims.result.1.shifts.served in (
       served,
       c.work_crew-claims.ensures.alone,
       subst (λ (z : Claiming (Job g.row.R.Denot)).

@@ -1,11 +1,11 @@
-use Rattle.std.proofs.Common.{arith, cond, subst}
-use Rattle.oim_crew.specs.Shifts.{IsShift, IsStarted}
+use Rattle.std.proofs.Common.{arith, subst}
+use Rattle.oim_crew.specs.Shifts.{IsShift, IsStarted, serving}
 use Rattle.oim_crew.proofs.LongerLists.{all-first, all-more}
 use Rattle.oim_crew.proofs.crew.join_crew.Goals as goal
 
 pub loop-handle-preserved : goal.loop-handle-preserved
 loop-handle-preserved g c =
-    let shared = c.args.shared.now in let server = cond c.args.used c.args.server.now c.args.spare.now in let now = c.args.claims.now in let old = c.loop-handle.invariant in
+    let shared = c.args.site.now.shared.now in let server = serving c.args.under_way.served c.args.site.now in let now = c.args.site.now.claims.now in let old = c.loop-handle.invariant in
     let step = c.in-Some.ensures.steps in
     let next = all-first (IsStarted server shared now) _ _ _ step.0 old.left in
     let pushed = c.push_reserved.ensures in

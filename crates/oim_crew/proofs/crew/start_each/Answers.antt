@@ -7,7 +7,7 @@ use Rattle.oim_crew.proofs.crew.start_each.Goals.{in-Ok, in-Err}
 
 pub loop-station-preserved : goal.loop-station-preserved
 loop-station-preserved g c =
-    let server = c.args.server.now in let shared = c.args.shared.now in let gives = g.S.Serve.gives server shared in let now = c.args.claims.now in let old = c.loop-station.invariant in
+    let server = c.args.site.now.server.now in let shared = c.args.site.now.shared.now in let gives = g.S.Serve.gives server shared in let now = c.args.site.now.claims.now in let old = c.loop-station.invariant in
     let step = c.in-Some.ensures.steps in
     let next = all-first (IsStation now) _ _ _ step.0 old.left in
     elim c.match-start.branch [

@@ -5,9 +5,9 @@ use Rattle.oim_crew.proofs.crew.start_each.Given as goal
 
 abbrev pub invariant-loop-station : goal.invariant-loop-station
 invariant-loop-station g l = record {
-  left : All (IsStation l.claims) (into_iter_items l.station-iterator);
-  started : All (IsStarted l.server l.shared l.claims) l.room.started.items;
-  refused : All (IsShift (g.S.Serve.gives l.server l.shared) l.claims) l.room.shifts.items;
+  left : All (IsStation l.site.claims.now) (into_iter_items l.station-iterator);
+  started : All (IsStarted l.site.server.now l.site.shared.now l.site.claims.now) l.room.started.items;
+  refused : All (IsShift (g.S.Serve.gives l.site.server.now l.site.shared.now) l.site.claims.now) l.room.shifts.items;
   count : vec_len l.room.started + vec_len l.room.shifts ≡ l.place;
   all : l.place + into_iter_len l.station-iterator ≡ length l.stops;
   alone : l.starts ≡ 0 → IsAlone l.room.started.items l.room.shifts.items;

@@ -11,13 +11,13 @@ returns-then-is_alone-clause-ends g c = λ files are.
     let report = c.args.report.now in
     let readers = length c.args.readers.items in
     let many : readers ≡ length files = as_many g.R.Read.remaining c.args.readers.items files are in
-    alone_ends c.args.layout report c.args.limits.rows files
+    alone_ends c.args.course.layout report c.args.course.limits.rows files
     (sink_at (g.W.Sink.mark c.args.sink.now) (g.W.Sink.told c.args.sink.now))
     (sink_at (g.W.Sink.mark c.convert_serial-answer.new.sink) (g.W.Sink.told c.convert_serial-answer.new.sink))
     c.in-Ok.names.items c.in-Ok.ensures readers (length report.tables)
-    (early_fault c.args.workers c.args.ring (length files) (length report.tables))
+    (early_fault c.args.course.workers c.args.course.ring (length files) (length report.tables))
     c.convert_serial-answer.result c.ending_alone.result
-    (subst (λ n. early_fault c.args.workers c.args.ring n (length report.tables) ≡ early_alone readers (length report.tables)) many
+    (subst (λ n. early_fault c.args.course.workers c.args.course.ring n (length report.tables) ≡ early_alone readers (length report.tables)) many
     (c.is_alone.ensures c.if-is_alone.true readers (length report.tables)))
     c.ending_alone.ensures c.convert_serial-answer.ensures.readers (c.convert_serial-answer.ensures.converts files are)
 
@@ -25,18 +25,18 @@ pub returns-then-is_alone-clause-leaves : goal.returns-then-is_alone-clause-leav
 returns-then-is_alone-clause-leaves g c =
     let report = c.args.report.now in
     let readers = length c.args.readers.items in
-    alone_leaves c.args.layout report
+    alone_leaves c.args.course.layout report
     (sink_at (g.W.Sink.mark c.args.sink.now) (g.W.Sink.told c.args.sink.now))
     (sink_at (g.W.Sink.mark c.convert_serial-answer.new.sink) (g.W.Sink.told c.convert_serial-answer.new.sink))
     c.in-Ok.names.items readers (length report.tables)
-    (early_fault c.args.workers c.args.ring readers (length report.tables))
+    (early_fault c.args.course.workers c.args.course.ring readers (length report.tables))
     c.convert_serial-answer.result c.ending_alone.result
     (c.is_alone.ensures c.if-is_alone.true readers (length report.tables))
     c.ending_alone.ensures c.convert_serial-answer.ensures.readers c.convert_serial-answer.ensures.leaves
 
 pub returns-clause-ends : goal.returns-clause-ends
 returns-clause-ends g c = λ files are.
-    converted c.args.layout c.args.workers c.args.ring (length c.args.readers.items) c.args.limits.rows c.args.report.now files
+    converted c.args.course.layout c.args.course.workers c.args.course.ring (length c.args.readers.items) c.args.course.limits.rows c.args.report.now files
     (sink_at (g.W.Sink.mark c.args.sink.now) (g.W.Sink.told c.args.sink.now))
     (sink_at (g.W.Sink.mark c.convert-answer.new.sink) (g.W.Sink.told c.convert-answer.new.sink))
     c.convert-answer.result c.in-Ok.names.items c.ending.result
@@ -45,14 +45,14 @@ returns-clause-ends g c = λ files are.
 
 pub returns-clause-leaves : goal.returns-clause-leaves
 returns-clause-leaves g c =
-    converted_leaves c.args.layout c.args.workers c.args.ring (length c.args.readers.items) c.args.report.now
+    converted_leaves c.args.course.layout c.args.course.workers c.args.course.ring (length c.args.readers.items) c.args.report.now
     (sink_at (g.W.Sink.mark c.args.sink.now) (g.W.Sink.told c.args.sink.now))
     (sink_at (g.W.Sink.mark c.convert-answer.new.sink) (g.W.Sink.told c.convert-answer.new.sink))
     c.convert-answer.result c.in-Ok.names.items c.ending.result c.ending.ensures c.convert-answer.ensures.faults c.convert-answer.ensures.writes
 
 pub ending-requires-clause-room : goal.ending-requires-clause-room
 ending-requires-clause-room g c =
-    roomy c.args.layout c.args.report.now (length c.args.report.now.tables) (vec_capacity c.in-Ok-with_capacity.room)
+    roomy c.args.course.layout c.args.report.now (length c.args.report.now.tables) (vec_capacity c.in-Ok-with_capacity.room)
     (sink_at (g.W.Sink.mark c.args.sink.now) (g.W.Sink.told c.args.sink.now))
     (sink_at (g.W.Sink.mark c.convert-answer.new.sink) (g.W.Sink.told c.convert-answer.new.sink))
     c.convert-answer.result (search rules) c.convert-answer.ensures.writes

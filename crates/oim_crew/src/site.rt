@@ -1,0 +1,14 @@
+//! What the workers of a crew share.
+
+use crate::claims::Claims;
+
+/// What the workers of a crew share: the runtime's handle, what they serve from, the server, the spare one, which serves where no worker
+/// can be started, and the claims of the items.
+#[derive(Drop)]
+pub struct Site<'s, V, S, T, C> {
+    pub rt: &'s T,
+    pub shared: &'s C,
+    pub server: &'s S,
+    pub spare: &'s S,
+    pub claims: &'s Claims<V>,
+}
