@@ -1,7 +1,6 @@
 //! The scope of threads in which workers decode tables while the caller's thread merges.
 
 ghost use Rattle.std.specs.Prelude.{◌≡◌, false, true, All, length, vec_len};
-ghost use Rattle.oim_json.specs.Sinks.{sink_at};
 ghost use Rattle.oim_convert.specs.Jobs.{CanServe, Gives};
 ghost use Rattle.oim_crew.specs.Shifts.{CanServeAll, IsCrew, IsShift};
 ghost use Rattle.oim_convert.specs.Working.{CanMerge, CanWork, HasWorked, IsMerged};
@@ -41,7 +40,7 @@ pub(crate) struct Merged {
 /// Merges all drains into the sink.
 fn merge_all<T: Wait, W: Sink>(rt: &T, unmerged: Unmerged, sink: &mut W) -> Merged
     requires { CanMerge unmerged }
-    ensures { IsMerged unmerged (sink_at (W.mark sink.old) (W.told sink.old)) (sink_at (W.mark sink.new) (W.told sink.new)) result }
+    ensures { IsMerged unmerged (W.seen sink.old) (W.seen sink.new) result }
 {
     let Unmerged {
         mut drains,
@@ -83,7 +82,7 @@ fn serve_and_merge<'s, E, R: Read + Drop + Send + 's, T: Threads + Wait + Sync +
     sink: &mut W,
 ) -> Worked<R>
     requires { CanWork site.now posts stops.now unmerged }
-    ensures { HasWorked R.remaining site.now starts unmerged (sink_at (W.mark sink.old) (W.told sink.old)) (sink_at (W.mark sink.new) (W.told sink.new)) result }
+    ensures { HasWorked R.remaining site.now starts unmerged (W.seen sink.old) (W.seen sink.new) result }
 {
     let crew = start_crew(scope, site, posts, stops, starts);
     let merged = merge_all(site.rt, unmerged, sink);
@@ -101,7 +100,7 @@ fn work_and_merge<R: Read + Drop + Send, T: Threads + Wait + Sync, W: Sink>(
     sink: &mut W,
 ) -> Worked<R>
     requires { CanWork site.now posts stops.now unmerged }
-    ensures { HasWorked R.remaining site.now starts unmerged (sink_at (W.mark sink.old) (W.told sink.old)) (sink_at (W.mark sink.new) (W.told sink.new)) result }
+    ensures { HasWorked R.remaining site.now starts unmerged (W.seen sink.old) (W.seen sink.new) result }
 {
     let lent = &mut *sink;
     let returned = thread::scope(
@@ -111,7 +110,7 @@ fn work_and_merge<R: Read + Drop + Send, T: Threads + Wait + Sync, W: Sink>(
             requires { CanWork site.now posts stops.now unmerged }
             ensures same_sink { result.sink.ghost_name ≡ lent.entry.ghost_name }
             ensures worked { HasWorked R.remaining site.entry.now starts unmerged
-                (sink_at (W.mark lent.entry.now) (W.told lent.entry.now)) (sink_at (W.mark result.sink.now) (W.told result.sink.now)) result.worked }
+                (W.seen lent.entry.now) (W.seen result.sink.now) result.worked }
         {
             let worked = serve_and_merge(scope, site, posts, stops, starts, unmerged, lent);
             Returned { worked, sink: lent }
@@ -140,7 +139,7 @@ pub(crate) fn work_crew<R: Read + Drop + Send, T: Threads + Wait + Sync, W: Sink
     ensures shifts { All (IsShift (Gives R.remaining report.now server.limits.rows result.1.shifts.served) result.0) result.1.shifts.list.items }
     ensures count { vec_len result.1.shifts.list ≡ result.0.workers }
     ensures alone { starts ≡ 0 → result.1.shifts.served ≡ false }
-    ensures merged { IsMerged unmerged (sink_at (W.mark sink.old) (W.told sink.old)) (sink_at (W.mark sink.new) (W.told sink.new)) result.1.merged }
+    ensures merged { IsMerged unmerged (W.seen sink.old) (W.seen sink.new) result.1.merged }
 {
     let Crew {
         claims,

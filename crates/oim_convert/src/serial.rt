@@ -2,7 +2,6 @@
 
 ghost use Rattle.std.specs.Prelude.{◌≡◌, ◌≢◌, ◌↔◌, ◌≤◌, ◌<◌, ℕ, List, [], Option, Some, Err, IfErr, IfSome, OnOk, length, vec_capacity};
 ghost use Rattle.oim_json.specs.JsonText.{head_text};
-ghost use Rattle.oim_json.specs.Sinks.{sink_at};
 ghost use Rattle.oim_merge.specs.Histories.{refusals};
 ghost use Rattle.oim_merge.specs.Writers.{Continues, IsBroken};
 ghost use Rattle.oim_rows.specs.Streams.{table_stream};
@@ -33,8 +32,8 @@ fn write_blocks<R: Read + Drop, W: Sink>(
 ) -> Result<Ending, WriteFault>
     requires table { blocks.old.table ≡ table }
     requires begun { blocks.old.pending ≡ [] }
-    requires sink { writer.old.sink ≡ sink_at (W.mark sink.old) (W.told sink.old) }
-    ensures sink { writer.new.sink ≡ sink_at (W.mark sink.new) (W.told sink.new) }
+    requires sink { writer.old.sink ≡ W.seen sink.old }
+    ensures sink { writer.new.sink ≡ W.seen sink.new }
     ensures took { TookBlocks writer.old writer.new (λ facts. IfSome blocks.old.left (λ s. Gave table s facts result)) }
     ensures broken { IfErr result (λ fault. IsBroken writer.new fault) }
 {
@@ -69,8 +68,8 @@ fn convert_file<R: Read + Drop, W: Sink>(
 ) -> Result<Ending, WriteFault>
     requires place { table < length report.now.tables }
     requires rows { limits.rows ≤ 4294967294 }
-    requires sink { writer.old.sink ≡ sink_at (W.mark sink.old) (W.told sink.old) }
-    ensures sink { writer.new.sink ≡ sink_at (W.mark sink.new) (W.told sink.new) }
+    requires sink { writer.old.sink ≡ W.seen sink.old }
+    ensures sink { writer.new.sink ≡ W.seen sink.new }
     ensures took { TookBlocks writer.old writer.new (λ facts. IfSome (R.remaining reader) (λ bytes. Gave table (table_stream report.now table limits.rows (Some bytes)) facts result)) }
     ensures broken { IfErr result (λ fault. IsBroken writer.new fault) }
 {
@@ -93,8 +92,8 @@ fn convert_table<R: Read + Drop, W: Sink>(
 ) -> Result<Ending, WriteFault>
     requires place { table < length report.now.tables }
     requires rows { limits.rows ≤ 4294967294 }
-    requires sink { writer.old.sink ≡ sink_at (W.mark sink.old) (W.told sink.old) }
-    ensures sink { writer.new.sink ≡ sink_at (W.mark sink.new) (W.told sink.new) }
+    requires sink { writer.old.sink ≡ W.seen sink.old }
+    ensures sink { writer.new.sink ≡ W.seen sink.new }
     ensures took { TookBlocks writer.old writer.new (λ facts. (file : Option (List ℕ)) → IsFileOf R.remaining reader file
         → Gave table (table_stream report.now table limits.rows file) facts result) }
     ensures broken { IfErr result (λ fault. IsBroken writer.new fault) }
@@ -121,8 +120,8 @@ fn convert_tables<R: Read + Drop, W: Sink>(
     requires empty { faults.old.items ≡ [] }
     requires room { length readers.items ≤ vec_capacity faults.old }
     requires begun { writer.old.items ≡ [] }
-    requires sink { writer.old.sink ≡ sink_at (W.mark sink.old) (W.told sink.old) }
-    ensures sink { writer.new.sink ≡ sink_at (W.mark sink.new) (W.told sink.new) }
+    requires sink { writer.old.sink ≡ W.seen sink.old }
+    ensures sink { writer.new.sink ≡ W.seen sink.new }
     ensures continues { Continues writer.old writer.new }
     ensures broken { IfErr result (λ fault. IsBroken writer.new fault) }
     ensures faults { OnOk result (faults.new.items ≡ refusals writer.new.items) }
@@ -161,10 +160,10 @@ fn write_tables<R: Read + Drop, W: Sink>(
     requires empty { faults.items ≡ [] }
     requires room { length readers.items ≤ vec_capacity faults }
     requires begun { writer.items ≡ [] }
-    requires sink { writer.sink ≡ sink_at (W.mark sink.old) (W.told sink.old) }
+    requires sink { writer.sink ≡ W.seen sink.old }
     ensures converts { (files : List (Option (List ℕ))) → AreFilesOf R.remaining readers.items files
-        → Converts writer.layout report.now (streams report.now limits.rows files) writer.before (sink_at (W.mark sink.new) (W.told sink.new)) result }
-    ensures leaves { Leaves writer.before (sink_at (W.mark sink.new) (W.told sink.new)) result }
+        → Converts writer.layout report.now (streams report.now limits.rows files) writer.before (W.seen sink.new) result }
+    ensures leaves { Leaves writer.before (W.seen sink.new) result }
     ensures begun { HasBegun result }
     ensures few { AreFew (length readers.items) result }
 {
@@ -209,12 +208,12 @@ pub fn convert_serial<R: Read + Drop, W: Sink>(
 
     // What is written and answered, if the readers tell their bytes.
     ensures converts { (files : List (Option (List ℕ))) → AreFilesOf R.remaining readers.items files
-        → Converts layout report.now (streams report.now limits.rows files) (sink_at (W.mark sink.old) (W.told sink.old)) (sink_at (W.mark sink.new) (W.told sink.new)) result }
+        → Converts layout report.now (streams report.now limits.rows files) (W.seen sink.old) (W.seen sink.new) result }
     ensures tables { (files : List (Option (List ℕ))) → AreFilesOf R.remaining readers.items files → IsOfTables (length report.now.tables) result }
 
     // What holds for all readers.
     ensures readers { (result ≡ Err fault.WrongReaders) ↔ (length readers.items ≢ length report.now.tables) }
-    ensures leaves { Leaves (sink_at (W.mark sink.old) (W.told sink.old)) (sink_at (W.mark sink.new) (W.told sink.new)) result }
+    ensures leaves { Leaves (W.seen sink.old) (W.seen sink.new) result }
     ensures few { AreFew (length report.now.tables) result }
 {
     if readers.len() != report.tables() {

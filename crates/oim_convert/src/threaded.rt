@@ -9,7 +9,6 @@ ghost use Rattle.oim_convert.specs.Preparing.{HasRun, HasTables, IsReady};
 ghost use Rattle.oim_convert.specs.Runs.{AnswersFault, AreHistories, AreStreams, AreThreaded, AreUncut, Writes, early_fault};
 ghost use Rattle.oim_convert.specs.Served.{AreServed};
 ghost use Rattle.oim_json.specs.JsonText.{head_text};
-ghost use Rattle.oim_json.specs.Sinks.{sink_at};
 ghost use Rattle.oim_ring.specs.Limits.{IsRingSize};
 
 use crate::fault::ConvertFault;
@@ -106,7 +105,7 @@ fn run_ready<R: Read + Drop + Send, T: Threads + Wait + Sync, W: Sink>(
     requires head { ready.unmerged.head.items ≡ head_text report.now }
     ensures run { HasRun result }
     ensures tables { IfOk result (λ run. HasTables R.remaining report.now limits.rows starts ready.crew.claims.items run.drains.items) }
-    ensures writes { Writes ready.unmerged.layout report.now (length report.now.tables) (sink_at (W.mark sink.old) (W.told sink.old)) (sink_at (W.mark sink.new) (W.told sink.new)) result }
+    ensures writes { Writes ready.unmerged.layout report.now (length report.now.tables) (W.seen sink.old) (W.seen sink.new) result }
 {
     let Ready {
         crew,
@@ -176,13 +175,13 @@ pub fn convert<R: Read + Drop + Send, T: Threads + Wait + Sync, W: Sink>(
         → IfOk result (λ run. AreUnserved 0 (streams report.now limits.rows files) run.drains.items ⊎ AreThreaded run.drains.items) }
     ensures headline { (files : List (Option (List ℕ))) → AreFilesOf R.remaining readers.items files
         → IfOk result (λ run. AreUncut run.drains.items → AreStreams (streams report.now limits.rows files) run.drains.items
-        × IsAnswer layout report.now (streams report.now limits.rows files) (sink_at (W.mark sink.old) (W.told sink.old)) (sink_at (W.mark sink.new) (W.told sink.new)) run.faults.items run.end) }
+        × IsAnswer layout report.now (streams report.now limits.rows files) (W.seen sink.old) (W.seen sink.new) run.faults.items run.end) }
 
     // What holds for all readers: the history of each table by its own reader, each fault exactly when it
     // applies, and what is written.
     ensures tables { IfOk result (λ run. AreServed R.remaining report.now limits.rows workers readers.items run.drains.items) }
     ensures faults { AnswersFault (early_fault workers size (length readers.items) (length report.now.tables)) result }
-    ensures writes { Writes layout report.now (length report.now.tables) (sink_at (W.mark sink.old) (W.told sink.old)) (sink_at (W.mark sink.new) (W.told sink.new)) result }
+    ensures writes { Writes layout report.now (length report.now.tables) (W.seen sink.old) (W.seen sink.new) result }
 {
     convert_with_starts(
         rt, alloc, report, readers, workers, workers, size, limits, layout, sink,
@@ -213,7 +212,7 @@ pub fn convert_with_starts<R: Read + Drop + Send, T: Threads + Wait + Sync, W: S
         → IfOk result (λ run. AreUnserved 0 (streams report.now limits.rows files) run.drains.items ⊎ AreThreaded run.drains.items) }
     ensures headline { (files : List (Option (List ℕ))) → AreFilesOf R.remaining readers.items files
         → IfOk result (λ run. AreUncut run.drains.items → AreStreams (streams report.now limits.rows files) run.drains.items
-        × IsAnswer layout report.now (streams report.now limits.rows files) (sink_at (W.mark sink.old) (W.told sink.old)) (sink_at (W.mark sink.new) (W.told sink.new)) run.faults.items run.end) }
+        × IsAnswer layout report.now (streams report.now limits.rows files) (W.seen sink.old) (W.seen sink.new) run.faults.items run.end) }
 
     // If no worker is to be started, NoThread ends every table.
     ensures alone { starts ≡ 0 → (files : List (Option (List ℕ))) → AreFilesOf R.remaining readers.items files
@@ -223,7 +222,7 @@ pub fn convert_with_starts<R: Read + Drop + Send, T: Threads + Wait + Sync, W: S
     // applies, and what is written.
     ensures tables { IfOk result (λ run. AreServed R.remaining report.now limits.rows starts readers.items run.drains.items) }
     ensures faults { AnswersFault (early_fault workers size (length readers.items) (length report.now.tables)) result }
-    ensures writes { Writes layout report.now (length report.now.tables) (sink_at (W.mark sink.old) (W.told sink.old)) (sink_at (W.mark sink.new) (W.told sink.new)) result }
+    ensures writes { Writes layout report.now (length report.now.tables) (W.seen sink.old) (W.seen sink.new) result }
 {
     match fault_before(workers, size, readers.len(), report.tables()) {
         Some(fault) => return Err(fault),

@@ -14,7 +14,7 @@ none_waits a b c waited waits text first second none =
 
 -- a text that is longer than a chunk
 pub put_past : (a b c : SinkView) (waited waits text : List ℕ) (r : Result (Unit {0}) WriteFault)
-    → Wrote a b waited → waits ≡ [] → WritesAll b.mark c.mark b.told c.told r text → Puts a c waited waits text r
+    → Wrote a b waited → waits ≡ [] → WritesAll b c r text → Puts a c waited waits text r
 put_past a b c waited waits text (Ok u) first none second = none_waits a b c waited waits text first second none
 put_past a b c waited waits text (Err fault) first none second = broke_later a b c waited text fault first second
 
@@ -39,7 +39,7 @@ pub broke_sooner : (a b : SinkView) (w x y : List ℕ) (fault : WriteFault) → 
 broke_sooner a b w x y fault p = subst (λ t. Broke a b t fault) (append_assoc w x y) (broke_before a b (w ++ x) y fault p)
 
 -- what waits is written in the end
-pub put_out : (a b c : SinkView) (w text : List ℕ) (r : Result (Unit {0}) WriteFault) → IsPut a b [] w text → WritesAll b.mark c.mark b.told c.told r w → WritesAll a.mark c.mark a.told c.told r text
+pub put_out : (a b c : SinkView) (w text : List ℕ) (r : Result (Unit {0}) WriteFault) → IsPut a b [] w text → WritesAll b c r w → WritesAll a c r text
 put_out a b c w text (Ok u) p q = subst (λ t. Wrote a c t) (sym p.rest) (wrote_twice a b c p.written w p.wrote q)
 put_out a b c w text (Err fault) p q = subst (λ t. Broke a c t fault) (sym p.rest) (broke_later a b c p.written w fault p.wrote q)
 

@@ -16,17 +16,6 @@ mark_of faults.Zero = «marks».Zero
 abbrev pub AppendsPrefix : Option (List ℕ) → Option (List ℕ) → List ℕ → Type 0
 AppendsPrefix old new bs = (written : List ℕ) × IsPrefix written bs × Appends old new written × (length written < length bs)
 
--- one write of bs took the n bytes that it answered and kept the mark, where n is not 0. Else it took nothing and left its mark
-abbrev pub WritesSome : {E : Type 0} → Mark → Mark → Option (List ℕ) → Option (List ℕ) → Result ℕ E → List ℕ → Type 0
-WritesSome mark mark' old new r bs =
-    MatchResult r
-    (λ n. (n ≤ length bs) × (n ≡ 0 → (mark' ≡ «marks».Zero) × Keeps old new) × (0 < n → (mark' ≡ mark) × Appends old new (take n bs)))
-    (λ _. (mark' ≡ «marks».Failed) × Keeps old new)
-
--- all of bs was written and the mark kept, or a beginning was and the mark is the fault
-abbrev pub WritesAll : Mark → Mark → Option (List ℕ) → Option (List ℕ) → Result (Unit {0}) WriteFault → List ℕ → Type 0
-WritesAll mark mark' old new r bs = MatchResult r (λ _. (mark' ≡ mark) × Appends old new bs) (λ e. (mark' ≡ mark_of e) × AppendsPrefix old new bs)
-
 -- a sink, by its mark and the bytes that it tells
 pub record SinkView : Type 0 where
   pub mark : Mark
@@ -42,6 +31,17 @@ Wrote old new text = (new.mark ≡ old.mark) × Appends old.told new.told text
 -- a write failed on the way, and a beginning of the text was written
 abbrev pub Broke : SinkView → SinkView → List ℕ → WriteFault → Type 0
 Broke old new text fault = (new.mark ≡ mark_of fault) × AppendsPrefix old.told new.told text
+
+-- one write of bs took the n bytes that it answered and kept the mark, where n is not 0. Else it took nothing and left its mark
+abbrev pub WritesSome : {E : Type 0} → SinkView → SinkView → Result ℕ E → List ℕ → Type 0
+WritesSome old new r bs =
+    MatchResult r
+    (λ n. (n ≤ length bs) × (n ≡ 0 → (new.mark ≡ «marks».Zero) × Keeps old.told new.told) × (0 < n → Wrote old new (take n bs)))
+    (λ _. (new.mark ≡ «marks».Failed) × Keeps old.told new.told)
+
+-- all of a text was written and the mark kept, or a beginning was and the mark is the fault
+abbrev pub WritesAll : SinkView → SinkView → Result (Unit {0}) WriteFault → List ℕ → Type 0
+WritesAll old new r text = MatchResult r (λ _. Wrote old new text) (λ e. Broke old new text e)
 
 -- nothing was written
 abbrev pub Unwritten : SinkView → SinkView → Type 0

@@ -2,7 +2,7 @@
 
 ghost use Rattle.std.specs.Prelude.{◌≡◌, ◌≤◌, ◌+◌, ◌++◌, [], length};
 ghost use Rattle.oim_json.specs.Chunks.{Puts};
-ghost use Rattle.oim_json.specs.Sinks.{WritesAll, sink_at};
+ghost use Rattle.oim_json.specs.Sinks.{WritesAll};
 
 use crate::mark::WriteFault;
 use crate::sink::{Sink, write_all_of};
@@ -59,7 +59,7 @@ impl Chunk {
     /// Writes what waits. Nothing waits then, also where the write failed.
     pub(crate) fn flush<W: Sink>(&mut self, sink: &mut W) -> Result<(), WriteFault>
         ensures empty { self.new ≡ [] }
-        ensures writes { WritesAll (W.mark sink.old) (W.mark sink.new) (W.told sink.old) (W.told sink.new) result self.old }
+        ensures writes { WritesAll (W.seen sink.old) (W.seen sink.new) result self.old }
     {
         let answer = write_all_of(sink, &self.bytes[..self.filled]);
         self.filled = 0;
@@ -69,7 +69,7 @@ impl Chunk {
     /// Puts a text behind what waits. Where there is no room for it, what waits is written first; and
     /// a text that is longer than a chunk is written at once.
     pub(crate) fn put<W: Sink>(&mut self, sink: &mut W, text: &[u8]) -> Result<(), WriteFault>
-        ensures { Puts (sink_at (W.mark sink.old) (W.told sink.old)) (sink_at (W.mark sink.new) (W.told sink.new)) self.old self.new text.now result }
+        ensures { Puts (W.seen sink.old) (W.seen sink.new) self.old self.new text.now result }
     {
         if text.len() <= self.room() {
             self.append(text);

@@ -1,9 +1,8 @@
 //! Sinks that take bytes.
 
-ghost use Rattle.std.specs.Prelude.{◌≡◌, ℕ, ◌<◌, List, Option, length};
-ghost use Rattle.oim_json.specs.declared.mark.Mark.{Mark};
+ghost use Rattle.std.specs.Prelude.{◌≡◌, ◌<◌, length};
 ghost use Rattle.oim_json.specs.declared.mark.Mark.TheVariants.{Fine};
-ghost use Rattle.oim_json.specs.Sinks.{WritesSome, WritesAll};
+ghost use Rattle.oim_json.specs.Sinks.{SinkView, WritesAll, WritesSome, sink_at};
 
 use crate::mark::{Mark, WriteFault};
 use std::io;
@@ -11,15 +10,13 @@ use std::io::Write;
 
 /// What takes bytes, and remembers whether a write failed.
 pub trait Sink {
-    /// The bytes that the sink holds, where it tells them.
-    ghost told: { Self → Option (List ℕ) };
-
-    ghost mark: { Self → Mark };
+    /// The mark that its last write left, and the bytes that it holds, where it tells them.
+    ghost seen: { Self → SinkView };
 
     /// Writes some of the bytes, and answers how many: at most all of them, and 0 where it takes none.
     fn write_some(&mut self, bytes: &[u8]) -> io::Result<usize>
         requires { 0 < length bytes.now }
-        ensures { WritesSome (mark self.old) (mark self.new) (told self.old) (told self.new) result bytes.now };
+        ensures { WritesSome (seen self.old) (seen self.new) result bytes.now };
 }
 
 /// A sink over a writer.
@@ -32,8 +29,8 @@ pub struct Marked<W> {
 impl<W: Write> Marked<W> {
     /// A sink that holds what the writer holds, and is marked Fine.
     pub fn new(writer: W) -> Marked<W>
-        ensures told { ⟦<Marked<W> as Sink>⟧.told result ≡ W.contents writer }
-        ensures fine { ⟦<Marked<W> as Sink>⟧.mark result ≡ Fine }
+        ensures told { (⟦<Marked<W> as Sink>⟧.seen result).told ≡ W.contents writer }
+        ensures fine { (⟦<Marked<W> as Sink>⟧.seen result).mark ≡ Fine }
     {
         Marked {
             writer,
@@ -43,16 +40,14 @@ impl<W: Write> Marked<W> {
 
     /// The writer, which holds what the sink holds. It writes and flushes nothing.
     pub fn into_writer(self) -> W
-        ensures { W.contents result ≡ ⟦<Marked<W> as Sink>⟧.told self }
+        ensures { W.contents result ≡ (⟦<Marked<W> as Sink>⟧.seen self).told }
     {
         self.writer
     }
 }
 
 impl<W: Write> Sink for Marked<W> {
-    ghost told = { λ s. W.contents s.writer };
-
-    ghost mark = { λ s. s.mark };
+    ghost seen = { λ s. sink_at s.mark (W.contents s.writer) };
 
     /// Asks the writer once, offers it all the bytes and answers what it answered, also where a write has
     /// failed before. The clause says what is known of one write of these bytes, and the mark. That the
@@ -71,7 +66,7 @@ impl<W: Write> Sink for Marked<W> {
 /// Writes all the bytes. If a write answers an error (`Failed`) or takes nothing (`Zero`), a beginning
 /// of them is written. No bytes are Ok without a write, also where a write has failed before.
 pub fn write_all_of<W: Sink>(sink: &mut W, bytes: &[u8]) -> Result<(), WriteFault>
-    ensures { WritesAll (W.mark sink.old) (W.mark sink.new) (W.told sink.old) (W.told sink.new) result bytes.now }
+    ensures { WritesAll (W.seen sink.old) (W.seen sink.new) result bytes.now }
 {
     let mut at = 0;
     while at < bytes.len() {

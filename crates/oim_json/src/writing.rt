@@ -3,7 +3,7 @@
 ghost use Rattle.std.specs.Prelude.{◌≡◌, ◌++◌};
 ghost use Rattle.oim_json.specs.Chunks.{Puts};
 ghost use Rattle.oim_json.specs.Document.{line_start, more_members, piece};
-ghost use Rattle.oim_json.specs.Sinks.{WritesAll, sink_at};
+ghost use Rattle.oim_json.specs.Sinks.{WritesAll};
 ghost use Rattle.oim_json.specs.declared.layout.Layout.TheVariants.{Lines};
 
 use crate::block::Block;
@@ -22,7 +22,7 @@ pub fn write_members<W: Sink>(
     any: bool,
     block: &Block,
 ) -> Result<(), WriteFault>
-    ensures { WritesAll (W.mark sink.old) (W.mark sink.new) (W.told sink.old) (W.told sink.new) result (more_members layout any block.now) }
+    ensures { WritesAll (W.seen sink.old) (W.seen sink.new) result (more_members layout any block.now) }
 {
     match layout {
         Layout::Compact => write_all_of(sink, block.bytes_behind(any)),
@@ -32,7 +32,7 @@ pub fn write_members<W: Sink>(
 
 // Writes each member on a line of its own.
 fn write_lines<W: Sink>(sink: &mut W, any: bool, block: &Block) -> Result<(), WriteFault>
-    ensures { WritesAll (W.mark sink.old) (W.mark sink.new) (W.told sink.old) (W.told sink.new) result (more_members Lines any block.now) }
+    ensures { WritesAll (W.seen sink.old) (W.seen sink.new) result (more_members Lines any block.now) }
 {
     let mut chunk = Chunk::new();
     let mut has_any = any;
@@ -52,7 +52,7 @@ fn put_line<W: Sink>(
     any: bool,
     text: &[u8],
 ) -> Result<(), WriteFault>
-    ensures { Puts (sink_at (W.mark sink.old) (W.told sink.old)) (sink_at (W.mark sink.new) (W.told sink.new)) chunk.old chunk.new (piece any (line_start Lines ++ text.now)) result }
+    ensures { Puts (W.seen sink.old) (W.seen sink.new) chunk.old chunk.new (piece any (line_start Lines ++ text.now)) result }
 {
     match chunk.put(sink, line_break(any)) {
         Ok(()) => chunk.put(sink, text),

@@ -1,7 +1,6 @@
 //! Merging the rings.
 
 ghost use Rattle.std.specs.Prelude.{◌≡◌, ◌≤◌, ◌<◌, ◌+◌, ◌++◌, [], length, vec_len, vec_capacity};
-ghost use Rattle.oim_json.specs.Sinks.{sink_at};
 ghost use Rattle.oim_merge.specs.Histories.{refusals};
 ghost use Rattle.oim_merge.specs.Merging.{IsFresh, EndEach, Merges, rings_of, taken_of};
 ghost use Rattle.oim_merge.specs.Writers.{given};
@@ -38,7 +37,7 @@ pub fn merge<R: Wait, W: Sink>(
     requires room { length drains.old ≤ vec_capacity faults.old }
     ensures rings { rings_of drains.new ≡ rings_of drains.old }
     ensures ended { EndEach (taken_of drains.new) }
-    ensures merged { Merges layout (sink_at (W.mark sink.old) (W.told sink.old)) (sink_at (W.mark sink.new) (W.told sink.new)) head.now (taken_of drains.new) faults.new.items result }
+    ensures merged { Merges layout (W.seen sink.old) (W.seen sink.new) head.now (taken_of drains.new) faults.new.items result }
 {
     let mut writer = DocumentWriter::begin(layout, head, sink);
     for drain in drains.iter_mut() {
@@ -57,10 +56,10 @@ fn take_all<R: Wait, W: Sink>(
 )
     requires fresh { drain.old.taken ≡ [] }
     requires room { vec_len faults.old < vec_capacity faults.old }
-    requires sink { writer.old.sink ≡ sink_at (W.mark sink.old) (W.told sink.old) }
+    requires sink { writer.old.sink ≡ W.seen sink.old }
     ensures ring { drain.new.ring ≡ drain.old.ring }
     ensures ended { EndsOnce drain.new.taken }
-    ensures given { writer.new ≡ given writer.old drain.new.taken (sink_at (W.mark sink.new) (W.told sink.new)) }
+    ensures given { writer.new ≡ given writer.old drain.new.taken (W.seen sink.new) }
     ensures faults { faults.new.items ≡ faults.old.items ++ refusals drain.new.taken }
     ensures count { vec_len faults.new ≤ vec_len faults.old + 1 }
     ensures room { vec_capacity faults.new ≡ vec_capacity faults.old }

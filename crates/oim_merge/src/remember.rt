@@ -32,7 +32,7 @@ pub(crate) struct Now<'a, W> {
 }
 
 impl<W: Sink> Tells<SinkState> for Now<'_, W> {
-    ghost told = { λ n. sink_at (W.mark n.sink.now) (W.told n.sink.now) };
+    ghost told = { λ n. W.seen n.sink.now };
 }
 
 /// Bytes.

@@ -1,7 +1,7 @@
 //! The writer of a document.
 
 ghost use Rattle.std.specs.Prelude.{◌≡◌, ◌≤◌, ◌<◌, ◌+◌, ◌++◌, [], ◌∷◌, IfSome, IfNone, vec_len, vec_capacity};
-ghost use Rattle.oim_json.specs.Sinks.{SinkView, sink_at};
+ghost use Rattle.oim_json.specs.Sinks.{SinkView};
 ghost use Rattle.oim_json.specs.declared.layout.Layout.{Layout};
 ghost use Rattle.oim_merge.specs.Histories.{refusals};
 ghost use Rattle.oim_merge.specs.Merging.{EndsWith};
@@ -49,7 +49,7 @@ impl Model for DocumentWriter {
 impl DocumentWriter {
     /// Begins a document: writes its head.
     pub fn begin<W: Sink>(layout: Layout, head: &[u8], sink: &mut W) -> DocumentWriter
-        ensures { result ≡ writing layout head.now [] (sink_at (W.mark sink.old) (W.told sink.old)) (sink_at (W.mark sink.new) (W.told sink.new)) }
+        ensures { result ≡ writing layout head.now [] (W.seen sink.old) (W.seen sink.new) }
     {
         let before = Told::of(&Now { sink: &*sink });
         let progress = write_head(head, sink);
@@ -65,8 +65,8 @@ impl DocumentWriter {
 
     /// Takes a block of a table, and writes its facts if the document is still being written.
     pub fn put<W: Sink>(&mut self, block: &Block, sink: &mut W)
-        requires { self.old.sink ≡ sink_at (W.mark sink.old) (W.told sink.old) }
-        ensures { self.new ≡ given self.old (items.Block block.now ∷ []) (sink_at (W.mark sink.new) (W.told sink.new)) }
+        requires { self.old.sink ≡ W.seen sink.old }
+        ensures { self.new ≡ given self.old (items.Block block.now ∷ []) (W.seen sink.new) }
     {
         write_block(block, &mut self.progress, self.layout, sink);
         self.items = Told::of(&WithBlock {
@@ -107,8 +107,8 @@ impl DocumentWriter {
 
     /// Ends the document: writes the tail if no table was refused and no write failed.
     pub fn finish<W: Sink>(self, sink: &mut W) -> MergeEnd
-        requires { self.sink ≡ sink_at (W.mark sink.old) (W.told sink.old) }
-        ensures { EndsWith self.before (sink_at (W.mark sink.new) (W.told sink.new)) (whole_text self) (refusals self.items) result }
+        requires { self.sink ≡ W.seen sink.old }
+        ensures { EndsWith self.before (W.seen sink.new) (whole_text self) (refusals self.items) result }
     {
         match self.progress.standing {
             Standing::Open => match write_all_of(sink, tail(self.layout)) {
@@ -123,7 +123,7 @@ impl DocumentWriter {
 
 /// Writes the head.
 fn write_head<W: Sink>(head: &[u8], sink: &mut W) -> Progress
-    ensures { Begins head.now (sink_at (W.mark sink.old) (W.told sink.old)) (sink_at (W.mark sink.new) (W.told sink.new)) result }
+    ensures { Begins head.now (W.seen sink.old) (W.seen sink.new) result }
 {
     let standing = match write_all_of(sink, head) {
         Ok(()) => Standing::Open,
@@ -137,7 +137,7 @@ fn write_head<W: Sink>(head: &[u8], sink: &mut W) -> Progress
 
 /// Writes a block if the document is still being written. A block has at least one fact.
 fn write_block<W: Sink>(block: &Block, progress: &mut Progress, layout: Layout, sink: &mut W)
-    ensures { Advances progress.old progress.new layout (sink_at (W.mark sink.old) (W.told sink.old)) (sink_at (W.mark sink.new) (W.told sink.new)) (items.Block block.now ∷ []) }
+    ensures { Advances progress.old progress.new layout (W.seen sink.old) (W.seen sink.new) (items.Block block.now ∷ []) }
 {
     let any = block.count() > 0;
     match progress.standing {

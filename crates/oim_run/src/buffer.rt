@@ -57,8 +57,8 @@ impl<W: Write> Buffer<W> {
     /// A buffer before this writer, in which nothing waits.
     pub(crate) fn new(writer: W, waiting: Vec<u8>) -> Buffer<W>
         requires { waiting.items ≡ [] }
-        ensures told { ⟦<Buffer<W> as Sink>⟧.told result ≡ told_behind (W.contents writer) (W.contents writer) [] }
-        ensures fine { ⟦<Buffer<W> as Sink>⟧.mark result ≡ Fine }
+        ensures told { (⟦<Buffer<W> as Sink>⟧.seen result).told ≡ told_behind (W.contents writer) (W.contents writer) [] }
+        ensures fine { (⟦<Buffer<W> as Sink>⟧.seen result).mark ≡ Fine }
     {
         let first = Told::seen(&writer);
         Buffer {
@@ -71,7 +71,7 @@ impl<W: Write> Buffer<W> {
 
     /// Writes what waits, and answers whether all of it was written. What was not still waits.
     fn empty(&mut self) -> bool
-        ensures told { Keeps (⟦<Buffer<W> as Sink>⟧.told self.old) (⟦<Buffer<W> as Sink>⟧.told self.new) }
+        ensures told { Keeps (⟦<Buffer<W> as Sink>⟧.seen self.old).told (⟦<Buffer<W> as Sink>⟧.seen self.new).told }
         ensures empty { result ≡ true → self.new.waiting.items ≡ [] }
         ensures mark { self.new.mark ≡ self.old.mark }
     {
@@ -87,7 +87,7 @@ impl<W: Write> Buffer<W> {
     /// Lets all of these bytes wait. If memory runs out none does.
     fn put(&mut self, bytes: &[u8]) -> io::Result<usize>
         ensures bound { WritesAtMost result bytes.now }
-        ensures bytes { WriteAppends (⟦<Buffer<W> as Sink>⟧.told self.old) (⟦<Buffer<W> as Sink>⟧.told self.new) result bytes.now }
+        ensures bytes { WriteAppends (⟦<Buffer<W> as Sink>⟧.seen self.old).told (⟦<Buffer<W> as Sink>⟧.seen self.new).told result bytes.now }
         ensures mark { self.new.mark ≡ self.old.mark }
     {
         match self.waiting.extend_from_slice(bytes) {
@@ -99,7 +99,7 @@ impl<W: Write> Buffer<W> {
     /// Takes some of the bytes. Those that fit wait; others go to the writer, behind all that waits.
     fn take_some(&mut self, bytes: &[u8]) -> io::Result<usize>
         ensures bound { WritesAtMost result bytes.now }
-        ensures bytes { WriteAppends (⟦<Buffer<W> as Sink>⟧.told self.old) (⟦<Buffer<W> as Sink>⟧.told self.new) result bytes.now }
+        ensures bytes { WriteAppends (⟦<Buffer<W> as Sink>⟧.seen self.old).told (⟦<Buffer<W> as Sink>⟧.seen self.new).told result bytes.now }
         ensures mark { self.new.mark ≡ self.old.mark }
     {
         if bytes.len() < self.waiting.capacity() - self.waiting.len() {
@@ -116,8 +116,8 @@ impl<W: Write> Buffer<W> {
 
     /// Writes what waits, flushes the writer and gives it back, with whether both could be done.
     pub(crate) fn finish(self) -> (W, bool)
-        ensures all { result.1 ≡ true → Keeps (⟦<Buffer<W> as Sink>⟧.told self) (told_behind (W.contents self.first.value) (W.contents result.0) []) }
-        ensures some { (rest : List ℕ) × Keeps (⟦<Buffer<W> as Sink>⟧.told self) (told_behind (W.contents self.first.value) (W.contents result.0) rest) }
+        ensures all { result.1 ≡ true → Keeps (⟦<Buffer<W> as Sink>⟧.seen self).told (told_behind (W.contents self.first.value) (W.contents result.0) []) }
+        ensures some { (rest : List ℕ) × Keeps (⟦<Buffer<W> as Sink>⟧.seen self).told (told_behind (W.contents self.first.value) (W.contents result.0) rest) }
     {
         let mut buffer = self;
         let is_written = buffer.empty();
@@ -133,9 +133,9 @@ impl<W: Write> Buffer<W> {
 }
 
 impl<W: Write> Sink for Buffer<W> {
-    ghost told = { λ s. told_behind (W.contents s.first.value) (W.contents s.writer) s.waiting.items };
+    ghost use Rattle.oim_json.specs.Sinks.{sink_at};
 
-    ghost mark = { λ s. s.mark };
+    ghost seen = { λ s. sink_at s.mark (told_behind (W.contents s.first.value) (W.contents s.writer) s.waiting.items) };
 
     fn write_some(&mut self, bytes: &[u8]) -> io::Result<usize> {
         let answer = self.take_some(bytes);

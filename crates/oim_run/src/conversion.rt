@@ -6,7 +6,6 @@ ghost use Rattle.oim_convert.specs.Files.{AreFilesOf};
 ghost use Rattle.oim_convert.specs.Runs.{early_fault};
 ghost use Rattle.oim_convert.specs.Serial.{AreFew};
 ghost use Rattle.oim_convert.specs.declared.fault.ConvertFault.TheVariants as convert_faults;
-ghost use Rattle.oim_json.specs.Sinks.{sink_at};
 ghost use Rattle.oim_run.specs.Naming.{outcome_alone, outcome_by, with_names};
 ghost use Rattle.oim_run.specs.Outcomes.{EndsAs, Leaves, name_in, table_ids};
 
@@ -149,9 +148,9 @@ pub fn convert_report<R: Read + Drop + Send, T: Threads + Wait + Sync, W: Sink>(
     requires { course.limits.rows ≤ 4294967294 }
     ensures ends { (files : List (Option (List ℕ))) → AreFilesOf R.remaining readers.items files
         → EndsAs course.layout (early_fault course.workers course.ring (length files) (length report.now.tables)) report.now (streams report.now course.limits.rows files)
-        (sink_at (W.mark sink.old) (W.told sink.old)) (sink_at (W.mark sink.new) (W.told sink.new)) result }
+        (W.seen sink.old) (W.seen sink.new) result }
     ensures leaves { Leaves (early_fault course.workers course.ring (length readers.items) (length report.now.tables))
-        (sink_at (W.mark sink.old) (W.told sink.old)) (sink_at (W.mark sink.new) (W.told sink.new)) result }
+        (W.seen sink.old) (W.seen sink.new) result }
 {
     let Course {
         workers,

@@ -4,7 +4,6 @@ ghost use Rattle.std.specs.Prelude.{◌≡◌, IfSome, IfErr, IfOk, length};
 ghost use Rattle.oim_convert.specs.Answer.{streams};
 ghost use Rattle.oim_convert.specs.Files.{AreFilesOf};
 ghost use Rattle.oim_files.specs.Metadata.{profile};
-ghost use Rattle.oim_json.specs.Sinks.{sink_at};
 ghost use Rattle.oim_run.specs.Early as spec;
 ghost use Rattle.oim_run.specs.Outcomes.{EndsAs, Leaves};
 ghost use Rattle.oim_run.specs.Runs.{EndsOver, range_fault, table_files};
@@ -59,8 +58,8 @@ fn run_tables<R: Read + Drop + Send, F: Folder<R>, T: Threads + Wait + Sync, W: 
 ) -> Outcome
     ensures ends { IfSome (F.files folder.old) (λ files.
         EndsAs settings.now.layout (range_fault settings.now.workers settings.now.ring) report.now (streams report.now profile.rows (table_files files base.now report.now))
-        (sink_at (W.mark sink.old) (W.told sink.old)) (sink_at (W.mark sink.new) (W.told sink.new)) result) }
-    ensures leaves { Leaves (range_fault settings.now.workers settings.now.ring) (sink_at (W.mark sink.old) (W.told sink.old)) (sink_at (W.mark sink.new) (W.told sink.new)) result }
+        (W.seen sink.old) (W.seen sink.new) result) }
+    ensures leaves { Leaves (range_fault settings.now.workers settings.now.ring) (W.seen sink.old) (W.seen sink.new) result }
 {
     match find_tables(alloc, folder, base, report) {
         Ok(readers) => {
@@ -109,10 +108,10 @@ pub fn run<R: Read + Drop + Send, F: Folder<R>, T: Threads + Wait + Sync, W: Sin
     // For a folder that tells its files: how the run ends.
     ensures ends { IfSome (F.files folder.old) (λ files.
         EndsOver files settings.now.meta settings.now.types settings.now.workers settings.now.ring settings.now.layout
-        (sink_at (W.mark sink.old) (W.told sink.old)) (sink_at (W.mark sink.new) (W.told sink.new)) result) }
+        (W.seen sink.old) (W.seen sink.new) result) }
 
     // For every folder: what each outcome leaves behind.
-    ensures leaves { Leaves (range_fault settings.now.workers settings.now.ring) (sink_at (W.mark sink.old) (W.told sink.old)) (sink_at (W.mark sink.new) (W.told sink.new)) result }
+    ensures leaves { Leaves (range_fault settings.now.workers settings.now.ring) (W.seen sink.old) (W.seen sink.new) result }
 {
     let meta = settings.meta.as_str();
     let types = settings.types.as_str();

@@ -1,6 +1,5 @@
 use Rattle.std.specs.Prelude.{ℕ, List, length}
 use Rattle.std.proofs.Common.{ap, sym, ◌∙◌, subst}
-use Rattle.oim_json.specs.Sinks.{sink_at}
 use Rattle.oim_ring.specs.Ends.{DrainView}
 use Rattle.oim_merge.specs.Merging.{EndEach, Merges, rings_of, taken_of}
 use Rattle.oim_convert.proofs.WrittenBack.{written_back}
@@ -8,8 +7,8 @@ use Rattle.oim_convert.proofs.scope.merge_all.Goals as goal
 
 pub returns : goal.returns
 returns g c =
-    let old = sink_at (g.W.Sink.mark c.args.sink.now) (g.W.Sink.told c.args.sink.now) in
-    let new = sink_at (g.W.Sink.mark c.merge-end.new.sink) (g.W.Sink.told c.merge-end.new.sink) in
+    let old = g.W.Sink.seen c.args.sink.now in
+    let new = g.W.Sink.seen c.merge-end.new.sink in
     let before = c.args.unmerged.drains in
     let after = c.merge-end.new.drains in
     let layout = c.args.unmerged.layout in

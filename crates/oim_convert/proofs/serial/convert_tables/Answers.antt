@@ -1,7 +1,6 @@
 use Rattle.std.specs.Prelude.{◌≡◌, ◌∷◌, [], List, ℕ, Option, Ok, Err, length}
 use Rattle.std.proofs.Common.{◌∙◌, ap, refl, subst, sym, arith}
 use Rattle.std.specs.Vec.Iter.{into_iter_items}
-use Rattle.oim_json.specs.Sinks.{sink_at}
 use Rattle.oim_merge.specs.Histories.{all_of, facts_before, refusals}
 use Rattle.oim_merge.specs.Writers.{WriterView}
 use Rattle.oim_resolve.specs.FactParts.{FactParts as Fact}

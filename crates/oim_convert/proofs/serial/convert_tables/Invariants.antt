@@ -1,7 +1,6 @@
 use Rattle.std.proofs.Common.{◌≡◌, ◌≤◌, ◌+◌, length}
 use Rattle.std.specs.Prelude.{List, ℕ, Option, vec_len, vec_capacity}
 use Rattle.std.specs.Vec.Iter.{into_iter_items}
-use Rattle.oim_json.specs.Sinks.{sink_at}
 use Rattle.oim_merge.specs.Histories.{refusals}
 use Rattle.oim_merge.specs.Writers.{Continues}
 use Rattle.oim_convert.specs.Files.{AreFilesOf}
@@ -11,7 +10,7 @@ use Rattle.oim_convert.proofs.serial.convert_tables.Given as goal
 abbrev pub invariant-loop-reader : goal.invariant-loop-reader
 invariant-loop-reader g l = record {
   left : l.table + length (into_iter_items l.reader-iterator) ≡ length l.report.tables;
-  sink : l.writer.sink ≡ sink_at (g.W.Sink.mark l.sink) (g.W.Sink.told l.sink);
+  sink : l.writer.sink ≡ g.W.Sink.seen l.sink;
   continues : Continues l.fn.writer l.writer;
   faults : l.faults.items ≡ refusals l.writer.items;
   count : vec_len l.faults ≤ l.table;

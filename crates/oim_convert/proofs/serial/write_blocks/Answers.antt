@@ -1,7 +1,6 @@
 use Rattle.std.specs.Prelude.{◌++◌, IfSome, Ok, Err}
 use Rattle.std.proofs.Common.{ap, refl, ◌∙◌}
 use Rattle.std.proofs.lemmas.Option.{IfSome_then}
-use Rattle.oim_json.specs.Sinks.{sink_at}
 use Rattle.oim_merge.specs.Writers.{WriterView}
 use Rattle.oim_ring.specs.declared.item.Ending.TheVariants.{Closed, Refused}
 use Rattle.oim_convert.specs.Steps.{Gave}
@@ -27,7 +26,7 @@ loop-preserved g c =
       sink = ap (λ (w : WriterView). w.sink) c.put.ensures;
       took = took_more c.args.writer.now c.loop.writer (λ facts. IfSome first (λ whole. IsReading table whole facts old.pending old.left))
           (λ facts. IfSome first (λ whole. IsReading table whole facts new.pending new.left)) c.loop.invariant.took c.put.new.self block
-          (sink_at (g.W.Sink.mark c.put.new.sink) (g.W.Sink.told c.put.new.sink)) c.put.ensures
+          (g.W.Sink.seen c.put.new.sink) c.put.ensures
           (λ facts reading. IfSome_then first reading (λ whole r. block_given table whole facts old.pending new.pending new.left old.left block (facts ++ block) r gives refl));
     }
 
@@ -38,7 +37,7 @@ returns-in-Some-clause-took g c =
     let gives = rw (c.in-Ok-Some.field-0-is, c.loop.invariant.table) at c.in-Ok-Some.ensures.next in
     took_more c.args.writer.now c.loop.writer (λ facts. IfSome first (λ whole. IsReading table whole facts old.pending old.left))
     (λ facts. IfSome first (λ s. Gave table s facts (Err c.in-Some.fault))) c.loop.invariant.took c.put.new.self block
-    (sink_at (g.W.Sink.mark c.put.new.sink) (g.W.Sink.told c.put.new.sink)) c.put.ensures
+    (g.W.Sink.seen c.put.new.sink) c.put.ensures
     (λ facts reading. IfSome_then first reading (λ whole r. so_far table whole (facts ++ block) new.pending new.left
     (block_given table whole facts old.pending new.pending new.left old.left block (facts ++ block) r gives refl)))
 

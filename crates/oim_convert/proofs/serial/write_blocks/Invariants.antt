@@ -1,5 +1,4 @@
 use Rattle.std.proofs.Common.{◌≡◌, IfSome}
-use Rattle.oim_json.specs.Sinks.{sink_at}
 use Rattle.oim_convert.specs.Steps.{TookBlocks}
 use Rattle.oim_convert.proofs.SentFacts.{IsReading}
 use Rattle.oim_convert.proofs.serial.write_blocks.Given as goal
@@ -7,6 +6,6 @@ use Rattle.oim_convert.proofs.serial.write_blocks.Given as goal
 abbrev pub invariant-loop : goal.invariant-loop
 invariant-loop g l = record {
   table : l.blocks.table ≡ l.table;
-  sink : l.writer.sink ≡ sink_at (g.W.Sink.mark l.sink) (g.W.Sink.told l.sink);
+  sink : l.writer.sink ≡ g.W.Sink.seen l.sink;
   took : TookBlocks l.fn.writer l.writer (λ facts. IfSome l.fn.blocks.left (λ whole. IsReading l.table whole facts l.blocks.pending l.blocks.left));
 }

@@ -1,7 +1,6 @@
 use Rattle.std.specs.Prelude.{◌≡◌, ℕ, List, length}
 use Rattle.std.proofs.Common.{ap, refl, sym, ◌∙◌, subst}
 use Rattle.oim_json.specs.JsonText.{head_text}
-use Rattle.oim_json.specs.Sinks.{sink_at}
 use Rattle.oim_merge.specs.Merging.{EndEach, Merges, taken_of}
 use Rattle.oim_ring.specs.Ends.{DrainView}
 use Rattle.oim_ring.specs.declared.item.Item.{Item}
@@ -53,8 +52,8 @@ returns-in-Some-clause-writes g c =
     let ended = c.work_crew-claims.result.1.merged.drains.items in
     let taken : c.in-Some.drains.items ≡ taken_of ended = c.in-Some.ensures.taken in
     let merged = c.work_crew-claims.result.1.merged in
-    let old = sink_at (g.W.Sink.mark c.args.sink.now) (g.W.Sink.told c.args.sink.now) in
-    let new = sink_at (g.W.Sink.mark c.work_crew-claims.new.sink) (g.W.Sink.told c.work_crew-claims.new.sink) in
+    let old = g.W.Sink.seen c.args.sink.now in
+    let new = g.W.Sink.seen c.work_crew-claims.new.sink in
     let Wrote : List ℕ → List (List Item) → Type 0 = λ head hs. Merges c.args.ready.unmerged.layout old new head hs merged.faults.items merged.end in
     let written : Wrote (head_text c.args.report.now) (taken_of ended) = subst (λ h. Wrote h (taken_of ended)) c.requires.head c.work_crew-claims.ensures.merged.written in record {
       count = as_many (λ (d : DrainView). d.taken) ended c.in-Some.drains.items (sym taken)
@@ -67,8 +66,8 @@ pub returns-in-None-clause-writes : goal.returns-in-None-clause-writes
 returns-in-None-clause-writes g c =
     let ended = c.work_crew-claims.result.1.merged.drains.items in
     let merged = c.work_crew-claims.result.1.merged in
-    let old = sink_at (g.W.Sink.mark c.args.sink.now) (g.W.Sink.told c.args.sink.now) in
-    let new = sink_at (g.W.Sink.mark c.work_crew-claims.new.sink) (g.W.Sink.told c.work_crew-claims.new.sink) in
+    let old = g.W.Sink.seen c.args.sink.now in
+    let new = g.W.Sink.seen c.work_crew-claims.new.sink in
     let Wrote : List ℕ → Type 0 = λ head. Merges c.args.ready.unmerged.layout old new head (taken_of ended) merged.faults.items merged.end in (
       merged.faults.items,
       merged.end,

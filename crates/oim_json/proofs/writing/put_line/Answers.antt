@@ -2,16 +2,16 @@ use Rattle.std.specs.Prelude.{◌++◌}
 use Rattle.std.proofs.Common.{◌∙◌, ap, subst}
 use Rattle.oim_json.specs.Chunks.{Puts}
 use Rattle.oim_json.specs.Document.{line_start}
-use Rattle.oim_json.specs.Sinks.{Broke, sink_at}
+use Rattle.oim_json.specs.Sinks.{Broke}
 use Rattle.oim_json.specs.declared.layout.Layout.TheVariants.{Lines}
 use Rattle.oim_json.proofs.Chunks.{broke_sooner, piece_of_two, put_twice}
 use Rattle.oim_json.proofs.writing.put_line.Goals as goal
 
 pub returns-in-Ok : goal.returns-in-Ok
 returns-in-Ok g c =
-    let old = sink_at (g.W.Sink.mark c.args.sink.now) (g.W.Sink.told c.args.sink.now) in
-    let now = sink_at (g.W.Sink.mark c.put.new.sink) (g.W.Sink.told c.put.new.sink) in
-    let new = sink_at (g.W.Sink.mark c.put-in-Ok.new.sink) (g.W.Sink.told c.put-in-Ok.new.sink) in
+    let old = g.W.Sink.seen c.args.sink.now in
+    let now = g.W.Sink.seen c.put.new.sink in
+    let new = g.W.Sink.seen c.put-in-Ok.new.sink in
     let text = c.args.text.now in
     let is = ap (λ t. t ++ text) c.line_break.ensures ∙ piece_of_two c.args.any (line_start Lines) text in
     subst (λ t. Puts old new c.args.chunk.now c.put-in-Ok.new.self t c.put-in-Ok.result) is
@@ -19,8 +19,8 @@ returns-in-Ok g c =
 
 pub returns-in-Err : goal.returns-in-Err
 returns-in-Err g c =
-    let old = sink_at (g.W.Sink.mark c.args.sink.now) (g.W.Sink.told c.args.sink.now) in
-    let now = sink_at (g.W.Sink.mark c.put.new.sink) (g.W.Sink.told c.put.new.sink) in
+    let old = g.W.Sink.seen c.args.sink.now in
+    let now = g.W.Sink.seen c.put.new.sink in
     let text = c.args.text.now in
     let is = ap (λ t. t ++ text) c.line_break.ensures ∙ piece_of_two c.args.any (line_start Lines) text in
     subst (λ t. Broke old now (c.args.chunk.now ++ t) c.in-Err.fault) is

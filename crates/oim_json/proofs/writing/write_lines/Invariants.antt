@@ -1,7 +1,6 @@
 use Rattle.std.proofs.Common.{◌≡◌, [], take}
 use Rattle.oim_json.specs.Chunks.{IsPut}
 use Rattle.oim_json.specs.Document.{has_any, more_members}
-use Rattle.oim_json.specs.Sinks.{sink_at}
 use Rattle.oim_json.specs.declared.layout.Layout.TheVariants.{Lines}
 use Rattle.oim_json.proofs.writing.write_lines.Given as goal
 
@@ -9,5 +8,5 @@ use Rattle.oim_json.proofs.writing.write_lines.Given as goal
 abbrev pub invariant-loop-i : goal.invariant-loop-i
 invariant-loop-i g l = record {
   has : l.has_any ≡ has_any l.any (take l.i l.block);
-  put : IsPut (sink_at (g.W.Sink.mark l.fn.sink) (g.W.Sink.told l.fn.sink)) (sink_at (g.W.Sink.mark l.sink) (g.W.Sink.told l.sink)) [] l.chunk (more_members Lines l.any (take l.i l.block));
+  put : IsPut (g.W.Sink.seen l.fn.sink) (g.W.Sink.seen l.sink) [] l.chunk (more_members Lines l.any (take l.i l.block));
 }

@@ -1,7 +1,6 @@
 use Rattle.std.specs.Prelude.{◌<◌, ◌++◌, List, length}
 use Rattle.std.proofs.Common.{arith, ap, refl, sym, ◌∙◌, subst}
 use Rattle.std.proofs.lemmas.List.Elements.{All-map}
-use Rattle.oim_json.specs.Sinks.{sink_at}
 use Rattle.oim_ring.specs.Ends.{DrainView}
 use Rattle.oim_ring.specs.Items.{EndsOnce}
 use Rattle.oim_ring.specs.declared.item.Item.{Item}
@@ -15,8 +14,8 @@ use Rattle.oim_merge.proofs.merging.merge.Goals as goal
 pub loop-drain-init : goal.loop-drain-init
 loop-drain-init g c =
     let fresh : FreshFrom c.args.drains.now 0 = λ k d le lt. c.requires.fresh k d lt in
-    let first = sink_at (g.W.Sink.mark c.args.sink.now) (g.W.Sink.told c.args.sink.now) in
-    let now = sink_at (g.W.Sink.mark c.begin-writer.new.sink) (g.W.Sink.told c.begin-writer.new.sink) in
+    let first = g.W.Sink.seen c.args.sink.now in
+    let now = g.W.Sink.seen c.begin-writer.new.sink in
     let none = fresh_all c.args.drains.now fresh in record {
       rings = refl;
       fresh = fresh;
@@ -32,8 +31,8 @@ loop-drain-preserved g c =
     let r = c.loop-drain.invariant in
     let ds = c.loop-drain.drains in let i = c.loop-drain.drain-index in let d = c.take_all.new.drain in
     let lt : i < length ds = omega arith in
-    let first = sink_at (g.W.Sink.mark c.args.sink.now) (g.W.Sink.told c.args.sink.now) in
-    let later = sink_at (g.W.Sink.mark c.take_all.new.sink) (g.W.Sink.told c.take_all.new.sink) in
+    let first = g.W.Sink.seen c.args.sink.now in
+    let later = g.W.Sink.seen c.take_all.new.sink in
     let more = all_set ds i d lt r.fresh in record {
       rings = rings_set ds i d c.drain-item.result lt c.take_all.ensures.ring ∙ r.rings;
       fresh = fresh_set ds i d lt r.fresh;
@@ -51,8 +50,8 @@ returns-clause-ended g c =
 
 pub returns-clause-merged : goal.returns-clause-merged
 returns-clause-merged g c =
-    let first = sink_at (g.W.Sink.mark c.args.sink.now) (g.W.Sink.told c.args.sink.now) in
-    let last = sink_at (g.W.Sink.mark c.finish.new.sink) (g.W.Sink.told c.finish.new.sink) in
+    let first = g.W.Sink.seen c.args.sink.now in
+    let last = g.W.Sink.seen c.finish.new.sink in
     let r = c.loop-drain.invariant in
     let hs = taken_of c.loop-drain.drains in
     let ends = subst (λ (w : WriterView). EndsWith w.before last (whole_text w) (refusals w.items) c.finish.result) r.writer c.finish.ensures in

@@ -1,5 +1,4 @@
 use Rattle.std.proofs.Common.{◌≡◌, true}
-use Rattle.oim_json.specs.Sinks.{sink_at}
 use Rattle.oim_ring.specs.Items.{blocks_only}
 use Rattle.oim_merge.specs.Writers.{given}
 use Rattle.oim_merge.proofs.merging.take_all.Given as goal
@@ -9,5 +8,5 @@ invariant-loop g l = record {
   ring : l.drain.ring ≡ l.fn.drain.ring;
   blocks : blocks_only l.drain.taken ≡ true;
   faults : l.faults ≡ l.fn.faults;
-  given : l.writer ≡ given l.fn.writer l.drain.taken (sink_at (g.W.Sink.mark l.sink) (g.W.Sink.told l.sink));
+  given : l.writer ≡ given l.fn.writer l.drain.taken (g.W.Sink.seen l.sink);
 }

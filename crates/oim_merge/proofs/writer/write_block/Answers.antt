@@ -2,7 +2,7 @@ use Rattle.std.specs.Prelude.{◌≤◌, ◌∷◌, [], Bool, true, length}
 use Rattle.std.proofs.Common.{arith, sym, subst}
 use Rattle.std.proofs.lemmas.Bool.{lt-ltb}
 use Rattle.oim_json.specs.Document.{more_members}
-use Rattle.oim_json.specs.Sinks.{Broke, SinkView, Wrote, sink_at}
+use Rattle.oim_json.specs.Sinks.{Broke, SinkView, Wrote}
 use Rattle.oim_json.specs.declared.layout.Layout.{Layout}
 use Rattle.oim_merge.specs.Steps.{StandsAt}
 use Rattle.oim_merge.specs.Writers.{given}
@@ -14,7 +14,7 @@ use Rattle.oim_merge.proofs.writer.write_block.Goals as goal
 pub returns-in-Ok : goal.returns-in-Ok
 returns-in-Ok g c = λ w same left st.
     let p = c.args.progress.now in let fs = c.args.block.now in
-    let later = sink_at (g.W.Sink.mark c.write_members.new.sink) (g.W.Sink.told c.write_members.new.sink) in
+    let later = g.W.Sink.seen c.write_members.new.sink in
     let some : 1 ≤ length fs = omega (arith, c.count-any.ensures.count, c.count-any.ensures.some) in
     let begun = stands_as w p.any p.standing standings.Open c.in-Open.is st in
     let wrote = subst (λ (l : Layout). Wrote w.sink later (more_members l p.any fs)) (sym same) (subst (λ (s : SinkView). Wrote s later (more_members c.args.layout p.any fs)) (sym left) c.in-Ok.ensures) in
@@ -24,7 +24,7 @@ returns-in-Ok g c = λ w same left st.
 pub returns-in-Err : goal.returns-in-Err
 returns-in-Err g c = λ w same left st.
     let p = c.args.progress.now in let fs = c.args.block.now in let fault = c.in-Err.fault in
-    let later = sink_at (g.W.Sink.mark c.write_members.new.sink) (g.W.Sink.told c.write_members.new.sink) in
+    let later = g.W.Sink.seen c.write_members.new.sink in
     let broke = subst (λ (l : Layout). Broke w.sink later (more_members l p.any fs) fault) (sym same)
     (subst (λ (s : SinkView). Broke s later (more_members c.args.layout p.any fs) fault) (sym left) c.in-Err.ensures) in
     block_broken w p.any fs later (stands_as w p.any p.standing standings.Open c.in-Open.is st) fault broke

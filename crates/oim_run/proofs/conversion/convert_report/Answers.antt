@@ -1,5 +1,4 @@
 use Rattle.oim_convert.specs.Runs.{early_fault}
-use Rattle.oim_json.specs.Sinks.{sink_at}
 use Rattle.std.proofs.Common.{length, rules, subst, vec_capacity, ◌≡◌}
 use Rattle.oim_run.proofs.OneThread.{alone_ends, alone_leaves, early_alone}
 use Rattle.oim_run.proofs.Threads.{roomy}
@@ -12,8 +11,8 @@ returns-then-is_alone-clause-ends g c = λ files are.
     let readers = length c.args.readers.items in
     let many : readers ≡ length files = as_many g.R.Read.remaining c.args.readers.items files are in
     alone_ends c.args.course.layout report c.args.course.limits.rows files
-    (sink_at (g.W.Sink.mark c.args.sink.now) (g.W.Sink.told c.args.sink.now))
-    (sink_at (g.W.Sink.mark c.convert_serial-answer.new.sink) (g.W.Sink.told c.convert_serial-answer.new.sink))
+    (g.W.Sink.seen c.args.sink.now)
+    (g.W.Sink.seen c.convert_serial-answer.new.sink)
     c.in-Ok.names.items c.in-Ok.ensures readers (length report.tables)
     (early_fault c.args.course.workers c.args.course.ring (length files) (length report.tables))
     c.convert_serial-answer.result c.ending_alone.result
@@ -26,8 +25,8 @@ returns-then-is_alone-clause-leaves g c =
     let report = c.args.report.now in
     let readers = length c.args.readers.items in
     alone_leaves c.args.course.layout report
-    (sink_at (g.W.Sink.mark c.args.sink.now) (g.W.Sink.told c.args.sink.now))
-    (sink_at (g.W.Sink.mark c.convert_serial-answer.new.sink) (g.W.Sink.told c.convert_serial-answer.new.sink))
+    (g.W.Sink.seen c.args.sink.now)
+    (g.W.Sink.seen c.convert_serial-answer.new.sink)
     c.in-Ok.names.items readers (length report.tables)
     (early_fault c.args.course.workers c.args.course.ring readers (length report.tables))
     c.convert_serial-answer.result c.ending_alone.result
@@ -37,8 +36,8 @@ returns-then-is_alone-clause-leaves g c =
 pub returns-clause-ends : goal.returns-clause-ends
 returns-clause-ends g c = λ files are.
     converted c.args.course.layout c.args.course.workers c.args.course.ring (length c.args.readers.items) c.args.course.limits.rows c.args.report.now files
-    (sink_at (g.W.Sink.mark c.args.sink.now) (g.W.Sink.told c.args.sink.now))
-    (sink_at (g.W.Sink.mark c.convert-answer.new.sink) (g.W.Sink.told c.convert-answer.new.sink))
+    (g.W.Sink.seen c.args.sink.now)
+    (g.W.Sink.seen c.convert-answer.new.sink)
     c.convert-answer.result c.in-Ok.names.items c.ending.result
     c.in-Ok.ensures c.ending.ensures (as_many g.R.Read.remaining c.args.readers.items files are)
     (c.convert-answer.ensures.histories files are) (c.convert-answer.ensures.headline files are) c.convert-answer.ensures.faults c.convert-answer.ensures.writes
@@ -46,13 +45,13 @@ returns-clause-ends g c = λ files are.
 pub returns-clause-leaves : goal.returns-clause-leaves
 returns-clause-leaves g c =
     converted_leaves c.args.course.layout c.args.course.workers c.args.course.ring (length c.args.readers.items) c.args.report.now
-    (sink_at (g.W.Sink.mark c.args.sink.now) (g.W.Sink.told c.args.sink.now))
-    (sink_at (g.W.Sink.mark c.convert-answer.new.sink) (g.W.Sink.told c.convert-answer.new.sink))
+    (g.W.Sink.seen c.args.sink.now)
+    (g.W.Sink.seen c.convert-answer.new.sink)
     c.convert-answer.result c.in-Ok.names.items c.ending.result c.ending.ensures c.convert-answer.ensures.faults c.convert-answer.ensures.writes
 
 pub ending-requires-clause-room : goal.ending-requires-clause-room
 ending-requires-clause-room g c =
     roomy c.args.course.layout c.args.report.now (length c.args.report.now.tables) (vec_capacity c.in-Ok-with_capacity.room)
-    (sink_at (g.W.Sink.mark c.args.sink.now) (g.W.Sink.told c.args.sink.now))
-    (sink_at (g.W.Sink.mark c.convert-answer.new.sink) (g.W.Sink.told c.convert-answer.new.sink))
+    (g.W.Sink.seen c.args.sink.now)
+    (g.W.Sink.seen c.convert-answer.new.sink)
     c.convert-answer.result (search rules) c.convert-answer.ensures.writes

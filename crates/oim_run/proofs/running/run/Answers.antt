@@ -1,5 +1,5 @@
 use Rattle.std.proofs.Common.{◌≡◌, subst, IfSome, List, ℕ, Option}
-use Rattle.oim_json.specs.Sinks.{SinkView, sink_at}
+use Rattle.oim_json.specs.Sinks.{SinkView}
 use Rattle.oim_json.specs.declared.layout.Layout.{Layout}
 use Rattle.oim_convert.specs.Answer.{streams}
 use Rattle.oim_files.specs.Metadata.{profile}
@@ -25,13 +25,13 @@ returns-in-Err-clause-ends g c =
     let workers = c.args.settings.now.workers in
     let ring = c.args.settings.now.ring in
     let layout = c.args.settings.now.layout in
-    let sink = sink_at (g.W.Sink.mark c.args.sink.now) (g.W.Sink.told c.args.sink.now) in
+    let sink = g.W.Sink.seen c.args.sink.now in
     named told meta _ types _ workers ring layout sink sink c.ended_early.result c.as_str-meta.ensures c.as_str-types.ensures
     (stops told c.folder_of-base.result.now meta types workers ring layout sink c.in-Err.fault c.ended_early.result c.folder_of-base.ensures c.in-Err.ensures.gives c.ended_early.ensures)
 
 pub returns-in-Err-clause-leaves : goal.returns-in-Err-clause-leaves
 returns-in-Err-clause-leaves g c =
-    early_leaves (range_fault c.args.settings.now.workers c.args.settings.now.ring) (sink_at (g.W.Sink.mark c.args.sink.now) (g.W.Sink.told c.args.sink.now))
+    early_leaves (range_fault c.args.settings.now.workers c.args.settings.now.ring) (g.W.Sink.seen c.args.sink.now)
     c.in-Err.fault c.ended_early.result c.ended_early.ensures
 
 pub returns-in-Ok-clause-ends : goal.returns-in-Ok-clause-ends
@@ -43,8 +43,8 @@ returns-in-Ok-clause-ends g c =
     let ring = c.args.settings.now.ring in
     let layout = c.args.settings.now.layout in
     let report = c.in-Ok.report in
-    let old = sink_at (g.W.Sink.mark c.args.sink.now) (g.W.Sink.told c.args.sink.now) in
-    let new = sink_at (g.W.Sink.mark c.run_tables.new.sink) (g.W.Sink.told c.run_tables.new.sink) in
+    let old = g.W.Sink.seen c.args.sink.now in
+    let new = g.W.Sink.seen c.run_tables.new.sink in
     let base = c.folder_of-base.result.now in
     named told meta _ types _ workers ring layout old new c.run_tables.result c.as_str-meta.ensures c.as_str-types.ensures
     (runs told base meta types workers ring layout old new c.run_tables.result report c.folder_of-base.ensures c.in-Ok.ensures.gives

@@ -1,5 +1,4 @@
 use Rattle.std.proofs.Common.{subst, length}
-use Rattle.oim_json.specs.Sinks.{sink_at}
 use Rattle.oim_convert.specs.Answer.{streams}
 use Rattle.oim_convert.specs.Runs.{early_fault}
 use Rattle.oim_run.specs.Outcomes.{EndsAs}
@@ -14,8 +13,8 @@ returns-in-Ok-clause-ends g c =
     let workers = c.args.settings.now.workers in
     let ring = c.args.settings.now.ring in
     let layout = c.args.settings.now.layout in
-    let old = sink_at (g.W.Sink.mark c.args.sink.now) (g.W.Sink.told c.args.sink.now) in
-    let new = sink_at (g.W.Sink.mark c.convert_report.new.sink) (g.W.Sink.told c.convert_report.new.sink) in
+    let old = g.W.Sink.seen c.args.sink.now in
+    let new = g.W.Sink.seen c.convert_report.new.sink in
     tables_end g.R.Read.remaining told c.args.base.now workers ring layout old new c.convert_report.result report c.in-Ok.readers.items c.in-Ok.ensures.finds
     (λ files are.
     subst (λ l. EndsAs layout (early_fault workers ring (length files) (length report.tables)) report (streams report l.rows files) old new c.convert_report.result) c.profile.ensures
@@ -24,16 +23,16 @@ returns-in-Ok-clause-ends g c =
 pub returns-in-Ok-clause-leaves : goal.returns-in-Ok-clause-leaves
 returns-in-Ok-clause-leaves g c =
     run_leaves c.args.settings.now.workers c.args.settings.now.ring (length c.in-Ok.readers.items) (length c.args.report.now.tables)
-    (sink_at (g.W.Sink.mark c.args.sink.now) (g.W.Sink.told c.args.sink.now))
-    (sink_at (g.W.Sink.mark c.convert_report.new.sink) (g.W.Sink.told c.convert_report.new.sink))
+    (g.W.Sink.seen c.args.sink.now)
+    (g.W.Sink.seen c.convert_report.new.sink)
     c.convert_report.result c.in-Ok.ensures.count c.convert_report.ensures.leaves
 
 pub returns-in-Err-clause-ends : goal.returns-in-Err-clause-ends
 returns-in-Err-clause-ends g c =
     short_end (g.F.Folder.files c.args.folder.now) c.args.base.now c.args.settings.now.workers c.args.settings.now.ring c.args.settings.now.layout
-    (sink_at (g.W.Sink.mark c.args.sink.now) (g.W.Sink.told c.args.sink.now)) c.in-Err.outcome c.args.report.now c.in-Err.ensures.short
+    (g.W.Sink.seen c.args.sink.now) c.in-Err.outcome c.args.report.now c.in-Err.ensures.short
 
 pub returns-in-Err-clause-leaves : goal.returns-in-Err-clause-leaves
 returns-in-Err-clause-leaves g c =
-    short_leaves (range_fault c.args.settings.now.workers c.args.settings.now.ring) (sink_at (g.W.Sink.mark c.args.sink.now) (g.W.Sink.told c.args.sink.now))
+    short_leaves (range_fault c.args.settings.now.workers c.args.settings.now.ring) (g.W.Sink.seen c.args.sink.now)
     c.in-Err.outcome c.in-Err.ensures.short

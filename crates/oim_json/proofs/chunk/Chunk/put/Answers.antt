@@ -1,17 +1,16 @@
-use Rattle.oim_json.specs.Sinks.{sink_at}
 use Rattle.oim_json.proofs.Chunks.{put_past}
 use Rattle.oim_json.proofs.Writes.{broke_before}
 use Rattle.oim_json.proofs.chunk.Chunk.put.Goals as goal
 
 pub returns-in-Err : goal.returns-in-Err
 returns-in-Err g c =
-    let old = sink_at (g.W.Sink.mark c.args.sink.now) (g.W.Sink.told c.args.sink.now) in
-    let new = sink_at (g.W.Sink.mark c.flush.new.sink) (g.W.Sink.told c.flush.new.sink) in
+    let old = g.W.Sink.seen c.args.sink.now in
+    let new = g.W.Sink.seen c.flush.new.sink in
     broke_before old new c.args.self.now c.args.text.now c.in-Err.fault c.in-Err.ensures.writes
 
 pub returns : goal.returns
 returns g c =
-    let old = sink_at (g.W.Sink.mark c.args.sink.now) (g.W.Sink.told c.args.sink.now) in
-    let now = sink_at (g.W.Sink.mark c.flush.new.sink) (g.W.Sink.told c.flush.new.sink) in
-    let new = sink_at (g.W.Sink.mark c.write_all_of.new.sink) (g.W.Sink.told c.write_all_of.new.sink) in
+    let old = g.W.Sink.seen c.args.sink.now in
+    let now = g.W.Sink.seen c.flush.new.sink in
+    let new = g.W.Sink.seen c.write_all_of.new.sink in
     put_past old now new c.args.self.now c.flush.new.self c.args.text.now c.write_all_of.result c.in-Ok.ensures.writes c.in-Ok.ensures.empty c.write_all_of.ensures

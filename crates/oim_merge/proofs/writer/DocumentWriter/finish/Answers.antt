@@ -1,6 +1,6 @@
 use Rattle.std.proofs.Common.{◌≡◌, ap, subst, sym}
 use Rattle.oim_json.specs.Document.{tail_text}
-use Rattle.oim_json.specs.Sinks.{Broke, SinkView, Wrote, sink_at}
+use Rattle.oim_json.specs.Sinks.{Broke, SinkView, Wrote}
 use Rattle.oim_json.specs.declared.layout.Layout.{Layout}
 use Rattle.oim_merge.specs.Histories.{refusals}
 use Rattle.oim_merge.specs.Merging.{EndsWith}
@@ -14,22 +14,22 @@ use Rattle.oim_merge.proofs.writer.DocumentWriter.finish.Goals as goal
 pub returns-in-Ok : goal.returns-in-Ok
 returns-in-Ok g c =
     let w = c.args.self in let p = c.self.inside.progress in
-    let later = sink_at (g.W.Sink.mark c.write_all_of.new.sink) (g.W.Sink.told c.write_all_of.new.sink) in
+    let later = g.W.Sink.seen c.write_all_of.new.sink in
     let st = stands_as w p.any p.standing standings.Open c.in-Open.is (subst (λ (v : WriterView). StandsAt v p.any p.standing) c.self.view_is c.self.invariant) in
     let layout : c.self.inside.layout ≡ w.layout = ap (λ (v : WriterView). v.layout) c.self.view_is in
     let wrote = rw c.tail.ensures at c.in-Ok.ensures in
     tail_written w p.any later st (subst (λ (s : SinkView). Wrote s later (tail_text w.layout)) (sym c.requires)
-    (subst (λ (l : Layout). Wrote (sink_at (g.W.Sink.mark c.args.sink.now) (g.W.Sink.told c.args.sink.now)) later (tail_text l)) layout wrote))
+    (subst (λ (l : Layout). Wrote (g.W.Sink.seen c.args.sink.now) later (tail_text l)) layout wrote))
 
 pub returns-in-Open : goal.returns-in-Open
 returns-in-Open g c =
     let w = c.args.self in let p = c.self.inside.progress in let fault = c.in-Err.fault in
-    let later = sink_at (g.W.Sink.mark c.write_all_of.new.sink) (g.W.Sink.told c.write_all_of.new.sink) in
+    let later = g.W.Sink.seen c.write_all_of.new.sink in
     let st = stands_as w p.any p.standing standings.Open c.in-Open.is (subst (λ (v : WriterView). StandsAt v p.any p.standing) c.self.view_is c.self.invariant) in
     let layout : c.self.inside.layout ≡ w.layout = ap (λ (v : WriterView). v.layout) c.self.view_is in
     let broke = rw c.tail.ensures at c.in-Err.ensures in
     tail_broken w p.any later fault st (subst (λ (s : SinkView). Broke s later (tail_text w.layout) fault) (sym c.requires)
-    (subst (λ (l : Layout). Broke (sink_at (g.W.Sink.mark c.args.sink.now) (g.W.Sink.told c.args.sink.now)) later (tail_text l) fault) layout broke))
+    (subst (λ (l : Layout). Broke (g.W.Sink.seen c.args.sink.now) later (tail_text l) fault) layout broke))
 
 pub returns-in-Refused : goal.returns-in-Refused
 returns-in-Refused g c =
