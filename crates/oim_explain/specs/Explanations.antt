@@ -6,8 +6,8 @@ use Rattle.oim_meta.specs.Paths.{Path}
 use Rattle.oim_meta.specs.Findings.{finding}
 use Rattle.oim_meta.specs.Reading.{IsUrlFault, SaysReport}
 use Rattle.oim_meta.specs.Refusals.{IsFinding}
-use Rattle.oim_meta.specs.declared.fault.MetaFault.{MetaFault}
-use Rattle.oim_meta.specs.declared.fault.MetaFault.TheVariants as refused
+use Rattle.oim_entries.specs.declared.fault.MetaFault.{MetaFault}
+use Rattle.oim_entries.specs.declared.fault.MetaFault.TheVariants as refused
 use Rattle.oim_meta.specs.declared.findings.Finding.{Finding}
 use Rattle.oim_report.specs.Parameters.{ParametersValue}
 use Rattle.oim_report.specs.ReportValue.{ReportValue}

@@ -5,7 +5,7 @@ ghost use Rattle.oim_meta.specs.Findings.{finding as finding_at};
 ghost use Rattle.oim_meta.specs.Reading.{SaysReport};
 ghost use Rattle.oim_meta.specs.Refusals.{IsRefusal};
 ghost use Rattle.oim_report.specs.ReportValue.{ReportValue};
-ghost use Rattle.oim_meta.specs.declared.fault.MetaFault.TheVariants as refused;
+ghost use Rattle.oim_entries.specs.declared.fault.MetaFault.TheVariants as refused;
 ghost use Rattle.oim_files.specs.Metadata.{profile};
 ghost use Rattle.oim_explain.specs.Explanations.{ExplainsMetadata, HasBadUrl, HasOther, place_of, url_place};
 

@@ -9,7 +9,7 @@ use Rattle.serde_json.specs.Data.{Data, Members, member, no_members, object, str
 use Rattle.oim_meta.specs.BadParameters.{has_bad_parameter_url}
 use Rattle.oim_meta.specs.Faults.{has_no_report}
 use Rattle.oim_meta.specs.PlainPath.{is_plain_path}
-use Rattle.oim_meta.specs.declared.fault.MetaFault.TheVariants as refused
+use Rattle.oim_entries.specs.declared.fault.MetaFault.TheVariants as refused
 use Rattle.oim_records.specs.Grids.{records_left}
 use Rattle.oim_report.specs.ReportValue.{ReportValue}
 use Rattle.oim_report.specs.declared.limits.Limits.{Limits}

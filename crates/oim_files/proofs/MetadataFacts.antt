@@ -20,8 +20,8 @@ use Rattle.oim_meta.proofs.Refused.{url_of_unread}
 use Rattle.oim_report.specs.ReportValue.{ReportValue}
 use Rattle.oim_report.specs.Types.{TypesValue}
 use Rattle.oim_meta.specs.Value.{report_of}
-use Rattle.oim_meta.specs.declared.fault.MetaFault.{MetaFault}
-use Rattle.oim_meta.specs.declared.fault.MetaFault.TheVariants as meta
+use Rattle.oim_entries.specs.declared.fault.MetaFault.{MetaFault}
+use Rattle.oim_entries.specs.declared.fault.MetaFault.TheVariants as meta
 use Rattle.oim_report.specs.declared.limits.Limits.{Limits}
 use Rattle.oim_files.specs.Metadata.{in_json, json_of, read_as, report_in, report_result, unless_fault, url_in, url_result}
 

@@ -30,14 +30,14 @@ use Rattle.std.proofs.Common.{
   append_assoc,
 }
 use Rattle.oim_files.specs.Folders.{IsFileOf}
-use Rattle.oim_meta.specs.CsvFiles.{OrOutside}
+use Rattle.oim_entries.specs.CsvFiles.{OrOutside}
 use Rattle.oim_records.specs.Grids.{grid}
 use Rattle.oim_report.specs.Parameters.{ParametersValue}
-use Rattle.oim_meta.specs.ParametersFile.{parameters_result}
+use Rattle.oim_entries.specs.ParametersFile.{parameters_result}
 use Rattle.oim_report.specs.ReportValue.{ReportValue}
 use Rattle.oim_report.specs.Types.{TypesValue}
-use Rattle.oim_meta.specs.declared.fault.MetaFault.{MetaFault}
-use Rattle.oim_meta.specs.declared.fault.MetaFault.TheVariants as refused
+use Rattle.oim_entries.specs.declared.fault.MetaFault.{MetaFault}
+use Rattle.oim_entries.specs.declared.fault.MetaFault.TheVariants as refused
 use Rattle.oim_files.proofs.MetadataFacts.{report_taken, url_taken}
 use Rattle.oim_files.specs.Folders.{Files}
 use Rattle.oim_files.specs.Metadata.{profile, report_result, url_result}

@@ -10,8 +10,8 @@ use Rattle.oim_meta.specs.Reading.{after_mark, first_url_fault}
 use Rattle.oim_report.specs.ReportValue.{ReportValue}
 use Rattle.oim_report.specs.Types.{TypesValue}
 use Rattle.oim_meta.specs.Value.{report_of}
-use Rattle.oim_meta.specs.declared.fault.MetaFault.{MetaFault}
-use Rattle.oim_meta.specs.declared.fault.MetaFault.TheVariants as meta
+use Rattle.oim_entries.specs.declared.fault.MetaFault.{MetaFault}
+use Rattle.oim_entries.specs.declared.fault.MetaFault.TheVariants as meta
 use Rattle.oim_report.specs.declared.limits.Limits.{Limits}
 
 -- the limits of this profile

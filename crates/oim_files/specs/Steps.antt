@@ -3,12 +3,12 @@
 use Rattle.std.specs.Prelude.{⊤, ◌≡◌, ◌⊎◌, ℕ, List, [], ◌∷◌, ◌++◌, Option, Some, None, Result, Ok, Err, unwrap_or}
 use Rattle.oim_records.specs.Grids.{grid}
 use Rattle.oim_report.specs.Parameters.{ParametersValue}
-use Rattle.oim_meta.specs.ParametersFile.{parameters_result}
+use Rattle.oim_entries.specs.ParametersFile.{parameters_result}
 use Rattle.oim_report.specs.ReportValue.{ReportValue}
 use Rattle.oim_report.specs.Types.{TypesValue}
-use Rattle.oim_meta.specs.TypesFile.{types_result}
-use Rattle.oim_meta.specs.declared.fault.MetaFault.{MetaFault}
-use Rattle.oim_meta.specs.declared.fault.MetaFault.TheVariants as refused
+use Rattle.oim_entries.specs.TypesFile.{types_result}
+use Rattle.oim_entries.specs.declared.fault.MetaFault.{MetaFault}
+use Rattle.oim_entries.specs.declared.fault.MetaFault.TheVariants as refused
 use Rattle.oim_files.specs.Folders.{Files}
 use Rattle.oim_files.specs.Metadata.{profile, report_result, url_result}
 use Rattle.oim_files.specs.declared.early_fault.EarlyFault.{EarlyFault}

@@ -9,7 +9,7 @@ ghost use Rattle.oim_files.specs.Metadata.{profile, report_in as said_in, url_re
 ghost use Rattle.oim_files.specs.Steps.{IsAmong, IsReport, Takes, bytes_at, looking, metadata_steps, opening, parameters_at, parameters_steps, types_at, types_steps};
 ghost use Rattle.oim_files.specs.declared.early_fault.EarlyFault.TheVariants as early;
 ghost use Rattle.oim_files.specs.declared.early_fault.Source.TheVariants as source;
-ghost use Rattle.oim_meta.specs.declared.fault.MetaFault.TheVariants as refused;
+ghost use Rattle.oim_entries.specs.declared.fault.MetaFault.TheVariants as refused;
 
 use crate::early_fault::{EarlyFault, Source};
 use crate::folder::Folder;

@@ -10,9 +10,9 @@ use Rattle.oim_cells.specs.declared.cells.NumberKind.TheVariants.{Integer}
 use Rattle.oim_names.specs.Bindings.{Bindings}
 use Rattle.oim_names.specs.Names.{is_name_start, is_name_char, is_plain_char, is_ncname, is_identifier}
 use Rattle.oim_names.specs.QName.{qname_of}
-use Rattle.oim_meta.specs.declared.fault.MetaFault.{MetaFault}
-use Rattle.oim_meta.specs.declared.fault.MetaFault.TheVariants.{NotReport, BadNamespaces, BadTaxonomy, Unsupported, BadIdentifier, BadTemplate, ColumnKinds}
-use Rattle.oim_meta.specs.declared.fault.MetaFault.TheVariants.{UnknownTemplate, UnknownColumn, BadDimension, BadDecimals, BadParameter, TooLarge, Syntax, BadTypes, Memory, Read}
+use Rattle.oim_entries.specs.declared.fault.MetaFault.{MetaFault}
+use Rattle.oim_entries.specs.declared.fault.MetaFault.TheVariants.{NotReport, BadNamespaces, BadTaxonomy, Unsupported, BadIdentifier, BadTemplate, ColumnKinds}
+use Rattle.oim_entries.specs.declared.fault.MetaFault.TheVariants.{UnknownTemplate, UnknownColumn, BadDimension, BadDecimals, BadParameter, TooLarge, Syntax, BadTypes, Memory, Read}
 use Rattle.oim_report.specs.declared.kind.Kind.{Kind}
 use Rattle.oim_report.specs.declared.typed_name.TypedName.{TypedName}
 use Rattle.oim_report.specs.declared.kind.Kind.TheVariants.{Number, Text, Boolean, Date, Name, Other, Explicit, Typed}

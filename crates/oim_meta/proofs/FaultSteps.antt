@@ -5,9 +5,9 @@ use Rattle.std.proofs.Math.Bool.{and-false}
 use Rattle.std.proofs.lemmas.List.Folds.{list_any-append}
 use Rattle.serde_json.specs.Data.{Data, null, boolean, number, string, array, object, Members, no_members, member}
 use Rattle.serde_json.specs.Find.{as_object}
-use Rattle.oim_meta.specs.declared.fault.MetaFault.{MetaFault}
+use Rattle.oim_entries.specs.declared.fault.MetaFault.{MetaFault}
 use Rattle.oim_meta.specs.declared.findings.Finding.{Finding}
-use Rattle.oim_meta.specs.FaultNames.{fault_number}
+use Rattle.oim_entries.specs.FaultNames.{fault_number}
 use Rattle.oim_meta.specs.Members.{any_member, if_there, no_object_or}
 use Rattle.oim_meta.specs.Faults.{is_no_object}
 use Rattle.oim_meta.specs.Findings.{found}

@@ -1,9 +1,9 @@
 -- The first finding is of the fault with the least number that has a place, at the first of its places.
 use Rattle.std.proofs.Common.{◌≡◌, ◌∙◌, ◌<◌, ◌≤◌, ℕ, List, [], ◌∷◌, Option, Some, Bool, true, false, refl, sym, arith, nat_eq, if◌then◌else◌}
 use Rattle.std.specs.Prelude.{nat_lt, fold}
-use Rattle.oim_meta.specs.declared.fault.MetaFault.{MetaFault}
+use Rattle.oim_entries.specs.declared.fault.MetaFault.{MetaFault}
 use Rattle.oim_meta.specs.declared.findings.Finding.{Finding}
-use Rattle.oim_meta.specs.FaultNames.{fault_number}
+use Rattle.oim_entries.specs.FaultNames.{fault_number}
 use Rattle.oim_meta.specs.Findings.{sooner, first_of}
 use Rattle.oim_meta.specs.FindingPlaces.{IsFirst, is_of, places_of}
 use Rattle.oim_meta.specs.Paths.{Path}

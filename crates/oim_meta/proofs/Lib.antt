@@ -3,11 +3,6 @@ pub mod Strips
 pub mod Rising
 pub mod Counted
 pub mod Bound
-pub mod FieldFacts
-pub mod EntryFacts
-pub mod TypeFacts
-pub mod WholeFileLaws
-pub mod KindLaws
 pub mod Unrepeated
 pub mod Placed
 pub mod ReadOrder
@@ -15,8 +10,8 @@ pub mod Ordered
 pub mod OwnUris
 pub mod OwnTexts
 mod Examples
+mod ExamplesBytes
 mod ExamplesFaults
-mod ExamplesFiles
 mod ExamplesShapes
 pub mod LeastFault
 pub mod FirstFinding

@@ -6,8 +6,8 @@ use Rattle.serde_json.specs.Find.{get}
 use Rattle.oim_report.specs.declared.limits.Limits.{Limits}
 use Rattle.oim_report.specs.Parameters.{ParametersValue}
 use Rattle.oim_report.specs.Types.{TypesValue}
-use Rattle.oim_meta.specs.declared.fault.MetaFault.{MetaFault}
-use Rattle.oim_meta.specs.declared.fault.MetaFault.TheVariants as fault
+use Rattle.oim_entries.specs.declared.fault.MetaFault.{MetaFault}
+use Rattle.oim_entries.specs.declared.fault.MetaFault.TheVariants as fault
 use Rattle.oim_meta.specs.declared.findings.Finding.{Finding}
 use Rattle.oim_meta.specs.declared.refusal.Refusal.{Refusal}
 use Rattle.oim_meta.specs.declared.refusal.Refusal.TheVariants.{Found, Memory}

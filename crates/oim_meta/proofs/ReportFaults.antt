@@ -6,11 +6,11 @@ use Rattle.oim_names.specs.Bindings.{Bindings}
 use Rattle.oim_report.specs.declared.limits.Limits.{Limits}
 use Rattle.oim_report.specs.Parameters.{ParametersValue}
 use Rattle.oim_report.specs.Types.{TypesValue}
-use Rattle.oim_meta.specs.declared.fault.MetaFault.{MetaFault}
-use Rattle.oim_meta.specs.declared.fault.MetaFault.TheVariants.{Syntax, NotReport, BadNamespaces, BadTaxonomy, Unsupported, BadIdentifier, BadTemplate, ColumnKinds, UnknownTemplate}
-use Rattle.oim_meta.specs.declared.fault.MetaFault.TheVariants.{UnknownColumn, BadDimension, BadDecimals, BadParameter, BadTypes, TooLarge, Memory, Read}
+use Rattle.oim_entries.specs.declared.fault.MetaFault.{MetaFault}
+use Rattle.oim_entries.specs.declared.fault.MetaFault.TheVariants.{Syntax, NotReport, BadNamespaces, BadTaxonomy, Unsupported, BadIdentifier, BadTemplate, ColumnKinds, UnknownTemplate}
+use Rattle.oim_entries.specs.declared.fault.MetaFault.TheVariants.{UnknownColumn, BadDimension, BadDecimals, BadParameter, BadTypes, TooLarge, Memory, Read}
 use Rattle.oim_meta.specs.Members.{section, any_member}
-use Rattle.oim_meta.specs.FaultNames.{fault_number}
+use Rattle.oim_entries.specs.FaultNames.{fault_number}
 use Rattle.oim_meta.specs.Prefixes.{prefixes_of}
 use Rattle.oim_meta.specs.Faults.{any_column, has_bad_identifier, has_bad_shape, has_mixed_column, is_bad_key}
 use Rattle.oim_meta.specs.BadDimensions.{has_bad_dimensions}

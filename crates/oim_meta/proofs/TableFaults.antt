@@ -6,8 +6,8 @@ use Rattle.serde_json.specs.Find.{get}
 use Rattle.oim_names.specs.Names.{is_identifier}
 use Rattle.oim_report.specs.declared.limits.Limits.{Limits}
 use Rattle.oim_report.specs.Parameters.{ParametersValue}
-use Rattle.oim_meta.specs.declared.fault.MetaFault.{MetaFault}
-use Rattle.oim_meta.specs.declared.fault.MetaFault.TheVariants.{BadIdentifier, BadTemplate, UnknownTemplate, BadParameter, TooLarge}
+use Rattle.oim_entries.specs.declared.fault.MetaFault.{MetaFault}
+use Rattle.oim_entries.specs.declared.fault.MetaFault.TheVariants.{BadIdentifier, BadTemplate, UnknownTemplate, BadParameter, TooLarge}
 use Rattle.oim_meta.specs.Members.{section, any_member, if_there, no_object_or}
 use Rattle.oim_meta.specs.BadParameters.{is_bad_parameter, has_bad_parameters, is_given, has_bad_parameter_url}
 use Rattle.oim_meta.specs.Counts.{count_of}

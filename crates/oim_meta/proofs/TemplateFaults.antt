@@ -6,8 +6,8 @@ use Rattle.oim_names.specs.Bindings.{Bindings}
 use Rattle.oim_names.specs.Names.{is_identifier}
 use Rattle.oim_report.specs.declared.limits.Limits.{Limits}
 use Rattle.oim_report.specs.Types.{TypesValue}
-use Rattle.oim_meta.specs.declared.fault.MetaFault.{MetaFault}
-use Rattle.oim_meta.specs.declared.fault.MetaFault.TheVariants.{BadIdentifier, BadTemplate, ColumnKinds, UnknownColumn, BadDimension, BadDecimals, TooLarge}
+use Rattle.oim_entries.specs.declared.fault.MetaFault.{MetaFault}
+use Rattle.oim_entries.specs.declared.fault.MetaFault.TheVariants.{BadIdentifier, BadTemplate, ColumnKinds, UnknownColumn, BadDimension, BadDecimals, TooLarge}
 use Rattle.oim_meta.specs.Members.{section, any_member, if_there, no_object_or}
 use Rattle.oim_meta.specs.Counts.{has_too_many_columns}
 use Rattle.oim_meta.specs.Faults.{any_column, is_no_object, is_no_flag, is_no_text, is_fact, is_mixed_column, has_bad_section, has_bad_sources, is_bad_key, is_bad_group, is_bad_column, is_bad_template}

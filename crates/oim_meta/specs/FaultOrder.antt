@@ -1,9 +1,9 @@
 -- The first fault of a metadata is the one with the least number. The fault of too many tables or columns has the greatest number among them.
 use Rattle.std.specs.Prelude.{◌≡◌, ◌≤◌, Option, Some, None, true, false}
 use Rattle.serde_json.specs.Data.{Data}
-use Rattle.oim_meta.specs.declared.fault.MetaFault.{MetaFault}
+use Rattle.oim_entries.specs.declared.fault.MetaFault.{MetaFault}
 use Rattle.oim_report.specs.declared.limits.Limits.{Limits}
-use Rattle.oim_meta.specs.FaultNames.{fault_number}
+use Rattle.oim_entries.specs.FaultNames.{fault_number}
 use Rattle.oim_meta.specs.FirstFault.{has_fault}
 use Rattle.oim_report.specs.Parameters.{ParametersValue}
 use Rattle.oim_report.specs.Types.{TypesValue}

@@ -2,9 +2,9 @@
 -- a place, at the first of its places.
 use Rattle.std.specs.Prelude.{◌≡◌, ◌<◌, List, [], ◌∷◌, Bool, nat_eq, Option, Some, None, if◌then◌else◌}
 use Rattle.std.specs.List.{list_any}
-use Rattle.oim_meta.specs.declared.fault.MetaFault.{MetaFault}
+use Rattle.oim_entries.specs.declared.fault.MetaFault.{MetaFault}
 use Rattle.oim_meta.specs.declared.findings.Finding.{Finding}
-use Rattle.oim_meta.specs.FaultNames.{fault_number}
+use Rattle.oim_entries.specs.FaultNames.{fault_number}
 use Rattle.oim_meta.specs.Paths.{Path}
 
 abbrev pub is_of : MetaFault → Finding → Bool

@@ -1,9 +1,9 @@
 -- What is wrong with a metadata, and where.
 use Rattle.std.specs.Prelude.{List, [], ◌∷◌, Bool, Option, Some, None, nat_lt, fold, if◌then◌else◌}
-use Rattle.oim_meta.specs.declared.fault.MetaFault.{MetaFault}
+use Rattle.oim_entries.specs.declared.fault.MetaFault.{MetaFault}
 use Rattle.oim_meta.specs.declared.findings.Finding.{Finding}
 use Rattle.oim_meta.specs.declared.findings.Found.{Found}
-use Rattle.oim_meta.specs.FaultNames.{fault_number}
+use Rattle.oim_entries.specs.FaultNames.{fault_number}
 use Rattle.oim_meta.specs.Paths.{Path, place_path}
 
 -- a fault at a place

@@ -2,9 +2,9 @@
 use Rattle.std.specs.Prelude.{Bool, false, Option, List, [], ◌∷◌, ◌++◌, codes, find}
 use Rattle.serde_json.specs.Data.{Data}
 use Rattle.serde_json.specs.Find.{get}
-use Rattle.oim_meta.specs.declared.fault.MetaFault.{MetaFault}
-use Rattle.oim_meta.specs.declared.fault.MetaFault.TheVariants.{Syntax, NotReport, BadNamespaces, BadTaxonomy, Unsupported, BadIdentifier, BadTemplate, ColumnKinds, UnknownTemplate}
-use Rattle.oim_meta.specs.declared.fault.MetaFault.TheVariants.{UnknownColumn, BadDimension, BadDecimals, BadParameter, BadTypes, TooLarge, Memory, Read}
+use Rattle.oim_entries.specs.declared.fault.MetaFault.{MetaFault}
+use Rattle.oim_entries.specs.declared.fault.MetaFault.TheVariants.{Syntax, NotReport, BadNamespaces, BadTaxonomy, Unsupported, BadIdentifier, BadTemplate, ColumnKinds, UnknownTemplate}
+use Rattle.oim_entries.specs.declared.fault.MetaFault.TheVariants.{UnknownColumn, BadDimension, BadDecimals, BadParameter, BadTypes, TooLarge, Memory, Read}
 use Rattle.oim_report.specs.declared.limits.Limits.{Limits}
 use Rattle.oim_report.specs.Parameters.{ParametersValue}
 use Rattle.oim_report.specs.Types.{TypesValue}

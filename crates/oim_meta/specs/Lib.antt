@@ -1,13 +1,7 @@
-pub mod TypeWords
-pub mod TypesFile
-pub mod CsvFiles
-pub mod ParametersFile
-pub mod WholeFile
 pub mod Members
 pub mod Order
 pub mod Written
 pub mod Decimals
-pub mod FaultNames
 pub mod Paths
 pub mod Findings
 pub mod FindingPlaces

@@ -1,8 +1,8 @@
 -- Why a metadata is refused, and where.
 use Rattle.std.specs.Prelude.{◌≡◌, ◌<◌, ◌≤◌, ◌⊎◌, ℕ, List, [], Some, length}
 use Rattle.serde_json.specs.Data.{Data}
-use Rattle.oim_meta.specs.declared.fault.MetaFault.{MetaFault}
-use Rattle.oim_meta.specs.declared.fault.MetaFault.TheVariants as fault
+use Rattle.oim_entries.specs.declared.fault.MetaFault.{MetaFault}
+use Rattle.oim_entries.specs.declared.fault.MetaFault.TheVariants as fault
 use Rattle.oim_meta.specs.declared.findings.Finding.{Finding}
 use Rattle.oim_meta.specs.declared.refusal.Refusal.{Refusal}
 use Rattle.oim_meta.specs.declared.refusal.Refusal.TheVariants.{Found, Memory}

@@ -5,7 +5,7 @@ use Rattle.serde_json.specs.Data.{Data, Members, no_members, member}
 use Rattle.serde_json.specs.Find.{get}
 use Rattle.oim_names.specs.Bindings.{Bindings}
 use Rattle.oim_names.specs.Names.{is_identifier}
-use Rattle.oim_meta.specs.declared.fault.MetaFault.TheVariants.{BadIdentifier, BadTemplate, ColumnKinds, UnknownColumn, BadDimension, BadDecimals, TooLarge}
+use Rattle.oim_entries.specs.declared.fault.MetaFault.TheVariants.{BadIdentifier, BadTemplate, ColumnKinds, UnknownColumn, BadDimension, BadDecimals, TooLarge}
 use Rattle.oim_meta.specs.declared.findings.Finding.{Finding}
 use Rattle.oim_report.specs.declared.limits.Limits.{Limits}
 use Rattle.oim_report.specs.Types.{TypesValue}

@@ -3,7 +3,7 @@ use Rattle.std.specs.Prelude.{ℕ, List, [], ◌∷◌, ◌++◌, not, nat_lt, O
 use Rattle.serde_json.specs.Data.{Data}
 use Rattle.serde_json.specs.Find.{get}
 use Rattle.oim_names.specs.Names.{is_identifier}
-use Rattle.oim_meta.specs.declared.fault.MetaFault.TheVariants.{BadIdentifier, BadTemplate, UnknownTemplate, BadParameter, TooLarge}
+use Rattle.oim_entries.specs.declared.fault.MetaFault.TheVariants.{BadIdentifier, BadTemplate, UnknownTemplate, BadParameter, TooLarge}
 use Rattle.oim_meta.specs.declared.findings.Finding.{Finding}
 use Rattle.oim_report.specs.declared.limits.Limits.{Limits}
 use Rattle.oim_report.specs.Parameters.{ParametersValue}

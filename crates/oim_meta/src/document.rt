@@ -10,12 +10,12 @@ ghost use Rattle.oim_meta.specs.Walk.{in_members};
 ghost use Rattle.oim_meta.specs.WalkReport.{in_document, in_info, in_info_in, in_namespaces, in_prefix};
 
 use crate::counts::count;
-use crate::fault::MetaFault;
 use crate::findings::Findings;
 use crate::lookup::{object_at, text_at};
 use crate::order::repeats_text;
 use crate::place::Part;
 use crate::shapes::{is_no_object_at, is_no_text_at, is_no_texts};
+use oim_entries::MetaFault;
 use oim_names::is_ncname;
 use serde_json::{Map, Value};
 use std::alloc::{AllocError, Global};

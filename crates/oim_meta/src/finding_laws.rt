@@ -5,7 +5,7 @@ ghost use Rattle.serde_json.specs.Data.{Data};
 ghost use Rattle.oim_report.specs.declared.limits.Limits.{Limits as LimitsValue};
 ghost use Rattle.oim_report.specs.Parameters.{ParametersValue};
 ghost use Rattle.oim_report.specs.Types.{TypesValue};
-ghost use Rattle.oim_meta.specs.declared.fault.MetaFault.{MetaFault as Fault};
+ghost use Rattle.oim_entries.specs.declared.fault.MetaFault.{MetaFault as Fault};
 ghost use Rattle.oim_meta.specs.declared.findings.Finding.{Finding as FindingValue};
 ghost use Rattle.oim_meta.specs.Findings.{first_of};
 ghost use Rattle.oim_meta.specs.FindingPlaces.{IsFirst, has};

@@ -4,8 +4,8 @@ ghost use Rattle.std.specs.Prelude.{◌≡◌, ◌++◌, ◌∷◌, [], option_m
 ghost use Rattle.oim_meta.specs.Findings.{finding, found, first_of, seen_found};
 ghost use Rattle.oim_meta.specs.Paths.{place_path};
 
-use crate::fault::MetaFault;
 use crate::place::Place;
+use oim_entries::MetaFault;
 use oim_names::{Items, Text};
 use std::marker::Model;
 use told::{Tells, Told};

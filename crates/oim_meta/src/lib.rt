@@ -37,17 +37,12 @@ mod build;
 mod counts;
 mod decimals;
 mod document;
-mod entries;
-mod fault;
 mod fault_laws;
-mod fields;
-mod file_laws;
 mod finding_laws;
 mod findings;
 mod lookup;
 mod metadata;
 mod order;
-mod parameters;
 mod paths;
 mod place;
 mod read;
@@ -56,25 +51,22 @@ mod report;
 mod shape_laws;
 mod shapes;
 mod text_laws;
-mod type_words;
-mod types;
 mod walk;
 mod written;
 
-pub use fault::MetaFault;
 pub use fault_laws::first_fault_is_least;
-pub use file_laws::{fault_is_of_earliest_record, types_are_of_all_records};
 pub use finding_laws::{a_walk_finds_all_faults, first_finding_is_least};
 pub use findings::Finding;
 pub use metadata::Metadata;
+pub use oim_entries::{
+    MetaFault, fault_is_of_earliest_record, read_parameters, read_types, types_are_of_all_records,
+};
 pub use oim_records::{ReadFault, Records};
 pub use oim_report::{
     Column, ColumnKind, Info, Kind, Level, Limits, Parameters, Report, Side, Table, Template,
     TypedName, Types, Written, WrittenDecimals,
 };
-pub use parameters::read_parameters;
 pub use read::{parameter_url, read_report, read_report_at};
 pub use refusal::Refusal;
 pub use shape_laws::faults_of_shape_are_parts_without_it;
 pub use text_laws::a_text_writes_one_value;
-pub use types::read_types;

@@ -12,11 +12,11 @@ ghost use Rattle.oim_meta.specs.Value.{report_of};
 ghost use Rattle.oim_meta.specs.WalkReport.{in_metadata};
 
 use crate::document::no_report;
-use crate::fault::MetaFault;
 use crate::lookup::text_at;
 use crate::refusal::Refusal;
 use crate::report::report_in;
 use crate::walk::parameters::bad_parameter_url;
+use oim_entries::MetaFault;
 use oim_report::{Limits, Parameters, Report, Types};
 use serde_json::{Error, Value};
 use std::alloc::Global;

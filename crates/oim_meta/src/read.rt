@@ -6,9 +6,9 @@ ghost use Rattle.std.specs.String.{string_bytes};
 ghost use Rattle.oim_meta.specs.Reading.{SaysReport, IsFault, SaysUrl, IsUrlFault};
 ghost use Rattle.oim_meta.specs.Refusals.{IsRefusal};
 
-use crate::fault::MetaFault;
 use crate::metadata::Metadata;
 use crate::refusal::Refusal;
+use oim_entries::MetaFault;
 use oim_report::{Limits, Parameters, Report, Types};
 use std::alloc::Global;
 

@@ -4,9 +4,9 @@ ghost use Rattle.std.specs.Prelude.{◌≡◌, None, OnOk, IfErr};
 ghost use Rattle.oim_meta.specs.Findings.{first_of};
 ghost use Rattle.oim_meta.specs.Refusals.{IsFirstOf, fault_in, refusal_of};
 
-use crate::fault::MetaFault;
 use crate::findings::{Finding, Findings};
 use crate::place::keys;
+use oim_entries::MetaFault;
 use oim_names::Items;
 use std::alloc::{AllocError, Global};
 

@@ -14,7 +14,7 @@ use Rattle.oim_json.specs.declared.layout.Layout.{Layout}
 use Rattle.oim_report.specs.Readers.{no_table}
 use Rattle.oim_report.specs.ReportValue.{ReportValue}
 use Rattle.oim_report.specs.declared.data.Table.{Table}
-use Rattle.oim_meta.specs.declared.fault.MetaFault.{MetaFault}
+use Rattle.oim_entries.specs.declared.fault.MetaFault.{MetaFault}
 use Rattle.oim_rows.specs.Streams.{Stream}
 use Rattle.oim_run.proofs.Threads.{answered, in_range, left, never_lost}
 use Rattle.oim_run.proofs.Waiting.{appends_then, keeps_same, took_all, took_some}

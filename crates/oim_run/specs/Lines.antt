@@ -3,7 +3,7 @@ use Rattle.std.specs.Prelude.{ℕ, List, [], ◌∷◌, ◌++◌, codes}
 use Rattle.std.specs.Fmt.{decimal}
 use Rattle.clap.specs.declared.error.kind.ErrorKind.{ErrorKind}
 use Rattle.clap.specs.declared.error.kind.ErrorKind.TheVariants as kind
-use Rattle.oim_meta.specs.FaultNames.{fault_name, fault_number}
+use Rattle.oim_entries.specs.FaultNames.{fault_name, fault_number}
 use Rattle.oim_rows.specs.FaultNames as table_fault
 use Rattle.oim_convert.specs.FaultNames as convert_fault
 use Rattle.oim_explain.specs.Shown.{shown}

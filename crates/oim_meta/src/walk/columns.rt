@@ -7,7 +7,6 @@ ghost use Rattle.oim_meta.specs.Paths.{part_path};
 ghost use Rattle.oim_meta.specs.Value.{column_level as level_in, groups_of as groups_in, column_of};
 ghost use Rattle.oim_meta.specs.Walk.{in_column, in_column_itself, in_column_level, in_groups, in_members};
 
-use crate::fault::MetaFault;
 use crate::findings::Findings;
 use crate::place::Part;
 use crate::shapes::is_no_flag_at;
@@ -15,6 +14,7 @@ use crate::walk::Walk;
 use crate::walk::kinds::{is_mixed, kind_of};
 use crate::walk::levels::{bad_decimals, decimals, no_level};
 use crate::walk::sources::Columns;
+use oim_entries::MetaFault;
 use oim_names::{Items, Text, is_identifier};
 use oim_report::{Column, ColumnKind, Level};
 use serde_json::Value;

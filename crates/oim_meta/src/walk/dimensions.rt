@@ -10,7 +10,6 @@ ghost use Rattle.oim_meta.specs.Paths.{part_path};
 ghost use Rattle.oim_meta.specs.Walk.{in_dimension, in_dimensions, in_members};
 ghost use Rattle.oim_cells.specs.Cells.{meaning_of};
 
-use crate::fault::MetaFault;
 use crate::findings::Findings;
 use crate::lookup::object_at;
 use crate::place::Part;
@@ -18,6 +17,7 @@ use crate::shapes::is_no_object_at;
 use crate::walk::Walk;
 use crate::written::{strip_back, strip_front, written};
 use oim_cells::{CellMeaning, meaning};
+use oim_entries::MetaFault;
 use oim_names::{Items, Text, is_identifier, qname};
 use oim_report::{Kind, Written};
 use serde_json::{Map, Value};

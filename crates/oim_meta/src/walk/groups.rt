@@ -6,12 +6,12 @@ ghost use Rattle.oim_meta.specs.Members.{map_members, section};
 ghost use Rattle.oim_meta.specs.Value.{named_level};
 ghost use Rattle.oim_meta.specs.Walk.{in_group, in_groups, in_members};
 
-use crate::fault::MetaFault;
 use crate::findings::Findings;
 use crate::lookup::object_at;
 use crate::place::Part;
 use crate::shapes::is_no_object_at;
 use crate::walk::Walk;
+use oim_entries::MetaFault;
 use oim_names::{Items, Text};
 use oim_report::Level;
 use serde_json::{Map, Value};

@@ -10,11 +10,11 @@ ghost use Rattle.oim_meta.specs.Paths.{part_path};
 ghost use Rattle.oim_meta.specs.Walk.{in_level};
 
 use crate::decimals::{whole, written_decimals};
-use crate::fault::MetaFault;
 use crate::findings::Findings;
 use crate::place::Part;
 use crate::walk::Walk;
 use crate::written::strip_front;
+use oim_entries::MetaFault;
 use oim_names::{Items, is_identifier};
 use oim_report::{Level, WrittenDecimals};
 use serde_json::Value;

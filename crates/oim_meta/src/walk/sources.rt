@@ -10,12 +10,12 @@ ghost use Rattle.oim_meta.specs.Walk.{in_sources};
 
 use crate::build::names::Names;
 use crate::build::places::places;
-use crate::fault::MetaFault;
 use crate::findings::Findings;
 use crate::lookup::list_at;
 use crate::place::Part;
 use crate::shapes::is_no_texts;
 use crate::walk::kinds::kind_of;
+use oim_entries::MetaFault;
 use oim_names::Items;
 use oim_report::ColumnKind;
 use serde_json::Value;

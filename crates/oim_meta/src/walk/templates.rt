@@ -10,13 +10,13 @@ ghost use Rattle.oim_meta.specs.Walk.{in_columns, in_members, in_template, in_te
 use crate::build::names::Names;
 use crate::build::places::place_at;
 use crate::counts::count_at;
-use crate::fault::MetaFault;
 use crate::findings::Findings;
 use crate::lookup::{object_at, text_at};
 use crate::place::Part;
 use crate::shapes::{is_no_object_at, is_no_text_at};
 use crate::walk::Walk;
 use crate::walk::sources::Columns;
+use oim_entries::MetaFault;
 use oim_names::{Items, Text, is_identifier};
 use oim_report::{Column, Template};
 use serde_json::{Map, Value};

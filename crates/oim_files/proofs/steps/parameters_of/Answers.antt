@@ -1,6 +1,6 @@
 use Rattle.std.proofs.Common.{Err, Ok, refl, rules}
 use Rattle.oim_records.specs.Grids.{grid}
-use Rattle.oim_meta.specs.ParametersFile.{parameters_result}
+use Rattle.oim_entries.specs.ParametersFile.{parameters_result}
 use Rattle.oim_files.specs.declared.early_fault.EarlyFault.TheVariants as early
 use Rattle.oim_files.specs.declared.early_fault.Source.TheVariants as source
 use Rattle.oim_files.proofs.StepFacts.{at_path, no_path, reads_fault, reads_none, reads_value}

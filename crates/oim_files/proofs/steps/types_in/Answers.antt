@@ -1,5 +1,5 @@
 use Rattle.oim_records.specs.Grids.{grid}
-use Rattle.oim_meta.specs.TypesFile.{types_result}
+use Rattle.oim_entries.specs.TypesFile.{types_result}
 use Rattle.oim_files.specs.declared.early_fault.Source.TheVariants as source
 use Rattle.oim_files.proofs.StepFacts.{reads_fault, reads_none, reads_value}
 use Rattle.oim_files.proofs.steps.types_in.Goals as goal

@@ -1,7 +1,7 @@
 use Rattle.std.proofs.Common.{◌≡◌, ◌++◌, ◌∷◌, [], codes}
 use Rattle.serde_json.specs.Find.{get}
 use Rattle.serde_json.specs.View.{view}
-use Rattle.oim_meta.specs.declared.fault.MetaFault.TheVariants.{NotReport, Unsupported}
+use Rattle.oim_entries.specs.declared.fault.MetaFault.TheVariants.{NotReport, Unsupported}
 use Rattle.oim_meta.specs.Faults.{has_no_report, is_no_empty_object}
 use Rattle.oim_meta.specs.Findings.{found}
 use Rattle.oim_meta.specs.Members.{if_there}

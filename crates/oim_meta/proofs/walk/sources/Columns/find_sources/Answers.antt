@@ -1,6 +1,6 @@
 use Rattle.std.proofs.Common.{◌≡◌, ◌++◌, ◌∷◌, [], codes}
 use Rattle.serde_json.specs.View.{view}
-use Rattle.oim_meta.specs.declared.fault.MetaFault.TheVariants.{BadTemplate, UnknownColumn}
+use Rattle.oim_entries.specs.declared.fault.MetaFault.TheVariants.{BadTemplate, UnknownColumn}
 use Rattle.oim_meta.specs.Faults.{has_bad_sources}
 use Rattle.oim_meta.specs.UnknownColumn.{has_unknown_source}
 use Rattle.oim_meta.specs.Findings.{found}

@@ -1,0 +1,237 @@
+-- Parameters files, types tables and the bytes of a metadata on worked cases, at their limits. The answers come from xBRL-CSV 1.0 and from this
+-- project's own formats.
+use Rattle.std.proofs.Common.{◌≡◌, ℕ, List, [], ◌∷◌, Option, Some, None, Ok, Err, refl, codes, map}
+use Rattle.std.specs.Str.{chars, is_utf8}
+use lib.Utf8.{encode}
+use Rattle.oim_cells.specs.declared.cells.NumberKind.TheVariants.{Integer, Decimal, Double}
+use Rattle.oim_names.specs.Names.{is_name_start, is_name_char, is_plain_char, is_ncname, is_identifier}
+use Rattle.csv.specs.Machine.{next_record}
+use Rattle.csv.specs.Reading.{records_from, strip_bom}
+use Rattle.csv.specs.Records.{field_at}
+use Rattle.csv.specs.declared.error.ErrorKind.TheVariants as kind
+use Rattle.oim_entries.specs.CsvFiles.{EntryFile, all_of, fault_of_read, file_result, text_field}
+use Rattle.oim_records.specs.ReadFaults.{fault_of_kind}
+use Rattle.oim_entries.specs.WholeFile.{kind_said, record_at}
+use Rattle.oim_records.specs.declared.read_fault.ReadFault.TheVariants as read
+use Rattle.oim_entries.specs.declared.type_words.TypeWords.TheVariants.{Plain, Wider}
+use Rattle.oim_entries.specs.FaultNames.{fault_number, fault_name}
+use Rattle.oim_records.specs.Grids.{Record, grid, records_left}
+use Rattle.oim_entries.specs.ParametersFile.{parameters_file, parameters_result}
+use Rattle.oim_names.specs.Lookup.{value_at}
+use Rattle.oim_entries.specs.TypeWords.{Words, plain_words, wider_words, words_chosen, words_in}
+use Rattle.oim_entries.specs.TypesFile.{types_file, types_result}
+use Rattle.oim_report.specs.Named.{value_under}
+use Rattle.oim_report.specs.Types.{kind_in}
+use Rattle.oim_entries.specs.declared.fault.MetaFault.TheVariants.{Syntax, NotReport, BadNamespaces, BadTaxonomy, Unsupported, BadIdentifier, BadTemplate, ColumnKinds, UnknownTemplate}
+use Rattle.oim_entries.specs.declared.fault.MetaFault.TheVariants.{UnknownColumn, BadDimension, BadDecimals, BadParameter, BadTypes, TooLarge, Memory, Read}
+use Rattle.oim_report.specs.declared.kind.Kind.{Kind}
+use Rattle.oim_report.specs.declared.typed_name.TypedName.{TypedName}
+use Rattle.oim_report.specs.declared.kind.Kind.TheVariants.{Number, Text, Boolean, Date, Name, Other, Explicit, Typed}
+
+-- RECORDS (RFC 4180), after a byte-order mark: a quoted field with a quote, and a line without a character
+grids :
+    (grid (codes "a") ≡ (codes "a" ∷ []) ∷ [])
+    × (grid (239 ∷ 187 ∷ 191 ∷ 97 ∷ 44 ∷ 34 ∷ 98 ∷ 34 ∷ 34 ∷ 99 ∷ 34 ∷ 13 ∷ 10 ∷ 13 ∷ 10 ∷ 100 ∷ [])
+    ≡ (codes "a" ∷ (98 ∷ 34 ∷ 99 ∷ []) ∷ []) ∷ (codes "d" ∷ []) ∷ [])
+unfolding records_left records_from strip_bom next_record
+grids = (refl, refl)
+
+-- a field at a place: one that is UTF-8, one that is not, and none
+fields : map (text_field (codes "a" ∷ (255 ∷ []) ∷ [])) (0 ∷ 1 ∷ 2 ∷ []) ≡ Some (codes "a") ∷ None ∷ None ∷ []
+unfolding field_at is_utf8 chars encode
+fields = refl
+
+-- PARAMETERS
+abbrev name_value : Record
+name_value = codes "name" ∷ codes "value" ∷ []
+
+abbrev parameter : List ℕ → List ℕ → Record
+parameter name value = name ∷ value ∷ []
+
+parameters :
+    (parameters_result (name_value ∷ []) ≡ Ok [])
+    × (parameters_result (name_value ∷ parameter (codes "b") (codes "#x") ∷ parameter (codes "a") [] ∷ []) ≡ Ok ((codes "b", codes "#x") ∷ (codes "a", []) ∷ []))
+unfolding all_of is_identifier is_plain_char is_name_char is_name_start chars is_utf8 encode
+parameters = (refl, refl)
+
+bad_parameters_headers :
+    map parameters_result ([] ∷ (parameter (codes "value") (codes "name") ∷ []) ∷ (parameter (codes "name") (codes "Value") ∷ []) ∷ ((codes "name" ∷ []) ∷ [])
+    ∷ ((codes "name" ∷ codes "value" ∷ [] ∷ []) ∷ []) ∷ (parameter (codes "a") (codes "1") ∷ []) ∷ [])
+    ≡ Err BadParameter ∷ Err BadParameter ∷ Err BadParameter ∷ Err BadParameter ∷ Err BadParameter ∷ Err BadParameter ∷ []
+unfolding all_of is_utf8 chars encode
+bad_parameters_headers = refl
+
+-- another length, bytes that are not UTF-8, a name that is not an identifier, and a name twice
+bad_parameters :
+    map (λ rs. parameters_result (name_value ∷ rs))
+    (((codes "a" ∷ []) ∷ []) ∷ ((codes "a" ∷ codes "1" ∷ codes "2" ∷ []) ∷ []) ∷ (parameter (codes "a") (255 ∷ []) ∷ []) ∷ (parameter (255 ∷ []) (codes "1") ∷ [])
+    ∷ (parameter (codes "a.b") (codes "1") ∷ [])
+    ∷ (parameter [] (codes "1") ∷ []) ∷ (parameter (codes "a") (codes "1") ∷ parameter (codes "b") [] ∷ parameter (codes "a") (codes "2") ∷ []) ∷ [])
+    ≡ Err BadParameter ∷ Err BadParameter ∷ Err BadParameter ∷ Err BadParameter ∷ Err BadParameter ∷ Err BadParameter ∷ Err BadParameter ∷ []
+unfolding all_of is_identifier is_plain_char is_name_char is_name_start chars is_utf8 encode
+bad_parameters = refl
+
+-- 65,536 parameters are accepted; one record more is too many, whatever it holds
+parameters_limit :
+    (all_of parameters_file 65_535 [] (parameter (codes "a") [] ∷ []) ≡ Ok ((codes "a", []) ∷ []))
+    × (all_of parameters_file 65_536 [] ([] ∷ []) ≡ Err TooLarge)
+    × (all_of parameters_file 65_534 [] (parameter (codes "a") [] ∷ parameter (codes "b") [] ∷ []) ≡ Ok ((codes "a", []) ∷ (codes "b", []) ∷ []))
+    × (all_of parameters_file 65_535 [] (parameter (codes "a") [] ∷ [] ∷ []) ≡ Err TooLarge)
+unfolding all_of is_identifier is_plain_char is_name_char is_name_start chars is_utf8 encode
+parameters_limit = (refl, refl, refl, refl)
+
+-- the header is not among the records that the limit counts
+abbrev at_most_one : EntryFile Record
+at_most_one = record { limit = 1; bad = BadTypes; start = []; after = λ _ r. Some r }
+
+whole_files :
+    (file_result BadTypes (λ _. Some at_most_one) (name_value ∷ (codes "a" ∷ []) ∷ []) ≡ Ok (codes "a" ∷ []))
+    × (file_result BadTypes (λ _. Some at_most_one) (name_value ∷ (codes "a" ∷ []) ∷ (codes "b" ∷ []) ∷ []) ≡ Err TooLarge)
+unfolding all_of
+whole_files = (refl, refl)
+
+-- TYPES
+abbrev namespace_name_type : Record
+namespace_name_type = codes "namespace" ∷ codes "name" ∷ codes "type" ∷ []
+
+abbrev typed : List ℕ → List ℕ → List ℕ → Record
+typed uri name word = uri ∷ name ∷ word ∷ []
+
+-- a record as contracts see it
+abbrev known : List ℕ → List ℕ → Kind → TypedName
+known uri name k = record { uri = uri; local = name; kind = k }
+
+-- the words under `type`, and those under `type2`
+abbrev kinds_by : Words → List (List ℕ) → List (Option Kind)
+kinds_by words ws = map (λ w. value_at w words) ws
+
+abbrev old_words : List (List ℕ)
+old_words = codes "integer" ∷ codes "decimal" ∷ codes "double" ∷ codes "text" ∷ codes "other" ∷ codes "explicit" ∷ codes "typed" ∷ codes "Text" ∷ [] ∷ []
+
+abbrev old_kinds : List (Option Kind)
+old_kinds = Some (Number Integer) ∷ Some (Number Decimal) ∷ Some (Number Double) ∷ Some Text ∷ Some Other ∷ Some Explicit ∷ Some Typed ∷ None ∷ None ∷ []
+
+abbrev new_words : List (List ℕ)
+new_words = codes "boolean" ∷ codes "date" ∷ codes "qname" ∷ codes "QName" ∷ []
+
+words :
+    (kinds_by plain_words old_words ≡ old_kinds) × (kinds_by plain_words new_words ≡ None ∷ None ∷ None ∷ None ∷ [])
+    × (kinds_by wider_words old_words ≡ old_kinds) × (kinds_by wider_words new_words ≡ Some Boolean ∷ Some Date ∷ Some Name ∷ None ∷ [])
+words = (refl, refl, refl, refl)
+
+words_of_tables : map (λ t. value_at (codes "date") (words_in t)) (Plain ∷ Wider ∷ []) ≡ None ∷ Some Date ∷ []
+words_of_tables = refl
+
+-- the header chooses the words
+words_by_header : map (λ w. words_chosen (typed (codes "namespace") (codes "name") w)) (codes "type" ∷ codes "type2" ∷ codes "type1" ∷ codes "Type2" ∷ [])
+    ≡ Some plain_words ∷ Some wider_words ∷ None ∷ None ∷ []
+unfolding is_utf8 chars encode
+words_by_header = refl
+
+abbrev namespace_name_type2 : Record
+namespace_name_type2 = codes "namespace" ∷ codes "name" ∷ codes "type2" ∷ []
+
+abbrev open_boolean : List Record
+open_boolean = typed (codes "u") (codes "Open") (codes "boolean") ∷ typed (codes "u") (codes "Cash") (codes "integer") ∷ []
+
+new_word_under_each_header :
+    (types_result (namespace_name_type2 ∷ open_boolean) ≡ Ok (known (codes "u") (codes "Open") Boolean ∷ known (codes "u") (codes "Cash") (Number Integer) ∷ []))
+    × (types_result (namespace_name_type ∷ open_boolean) ≡ Err BadTypes)
+unfolding all_of is_ncname is_name_char is_name_start chars is_utf8 encode
+new_word_under_each_header = (refl, refl)
+
+-- one name in two namespaces; a namespace can be any text, and a name can have a dot
+types :
+    (types_result (namespace_name_type ∷ []) ≡ Ok [])
+    × (types_result (namespace_name_type ∷ typed (codes "u") (codes "a") (codes "text") ∷ typed [] (codes "a") (codes "typed") ∷ typed (codes "u") (codes "b.c") (codes "other") ∷ [])
+    ≡ Ok (known (codes "u") (codes "a") Text ∷ known [] (codes "a") Typed ∷ known (codes "u") (codes "b.c") Other ∷ []))
+unfolding all_of is_ncname is_name_char is_name_start chars is_utf8 encode
+types = (refl, refl)
+
+kinds_found :
+    map (kind_in (known (codes "u") (codes "a") Text ∷ known (codes "u") (codes "b") Other ∷ known (codes "v") (codes "a") Typed ∷ []) (codes "v"))
+    (codes "a" ∷ codes "b" ∷ codes "v" ∷ []) ≡ Some Typed ∷ None ∷ None ∷ []
+kinds_found = refl
+
+-- the same, of the groups by which the kinds are looked up
+kinds_under :
+    map (value_under ((codes "u", (codes "a", Text) ∷ (codes "b", Other) ∷ []) ∷ (codes "v", (codes "a", Typed) ∷ []) ∷ []) (codes "v"))
+    (codes "a" ∷ codes "b" ∷ codes "v" ∷ []) ≡ Some Typed ∷ None ∷ None ∷ []
+kinds_under = refl
+
+-- a name of a namespace has the kind of its first record
+abbrev three_types : List Record
+three_types = typed (codes "u") (codes "a") (codes "text") ∷ typed (codes "v") (codes "a") (codes "typed") ∷ typed (codes "u") (codes "a") (codes "other") ∷ []
+
+kinds_of_records :
+    (kind_said plain_words three_types (codes "u") (codes "a") ≡ Some Text) × (kind_said plain_words three_types (codes "v") (codes "a") ≡ Some Typed)
+    × (kind_said plain_words three_types (codes "a") (codes "u") ≡ None) × (kind_said plain_words three_types (codes "u") (codes "b") ≡ None)
+unfolding is_utf8 chars encode
+kinds_of_records = (refl, refl, refl, refl)
+
+records_at : map (record_at ((codes "a" ∷ []) ∷ (codes "b" ∷ []) ∷ [])) (0 ∷ 1 ∷ 2 ∷ []) ≡ Some (codes "a" ∷ []) ∷ Some (codes "b" ∷ []) ∷ None ∷ []
+records_at = refl
+
+bad_types_headers :
+    map types_result ([] ∷ (typed (codes "name") (codes "namespace") (codes "type") ∷ []) ∷ (typed (codes "namespace") (codes "name") (codes "kind") ∷ [])
+    ∷ (typed (codes "namespace") (codes "names") (codes "type") ∷ [])
+    ∷ ((codes "namespace" ∷ codes "name" ∷ []) ∷ []) ∷ ((codes "namespace" ∷ codes "name" ∷ codes "type" ∷ [] ∷ []) ∷ []) ∷ [])
+    ≡ Err BadTypes ∷ Err BadTypes ∷ Err BadTypes ∷ Err BadTypes ∷ Err BadTypes ∷ Err BadTypes ∷ []
+unfolding all_of is_utf8 chars encode
+bad_types_headers = refl
+
+bad_types :
+    map (λ rs. types_result (namespace_name_type ∷ rs))
+    (((codes "u" ∷ codes "a" ∷ []) ∷ []) ∷ ((codes "u" ∷ codes "a" ∷ codes "text" ∷ [] ∷ []) ∷ []) ∷ (typed (255 ∷ []) (codes "a") (codes "text") ∷ [])
+    ∷ (typed (codes "u") (255 ∷ []) (codes "text") ∷ [])
+    ∷ (typed (codes "u") (codes "a") (255 ∷ []) ∷ []) ∷ (typed (codes "u") (codes "a:b") (codes "text") ∷ []) ∷ (typed (codes "u") (codes "a") (codes "money") ∷ [])
+    ∷ (typed (codes "u") (codes "a") (codes "text") ∷ typed (codes "u") (codes "a") (codes "other") ∷ []) ∷ [])
+    ≡ Err BadTypes ∷ Err BadTypes ∷ Err BadTypes ∷ Err BadTypes ∷ Err BadTypes ∷ Err BadTypes ∷ Err BadTypes ∷ Err BadTypes ∷ []
+unfolding all_of is_ncname is_name_char is_name_start chars is_utf8 encode
+bad_types = refl
+
+-- 1,048,576 records are accepted; one more is too many, whatever it holds
+types_limit :
+    (all_of (types_file plain_words) 1_048_575 [] (typed (codes "u") (codes "a") (codes "text") ∷ []) ≡ Ok (known (codes "u") (codes "a") Text ∷ []))
+    × (all_of (types_file plain_words) 1_048_576 [] ([] ∷ []) ≡ Err TooLarge)
+unfolding all_of is_ncname is_name_char is_name_start chars is_utf8 encode
+types_limit = (refl, refl)
+
+-- the fault is that of the earliest bad record
+earliest : all_of parameters_file 65_535 [] ([] ∷ [] ∷ []) ≡ Err BadParameter
+unfolding all_of
+earliest = refl
+
+-- THE FAULTS
+numbers :
+    map fault_number (Syntax ∷ NotReport ∷ BadNamespaces ∷ BadTaxonomy ∷ Unsupported ∷ BadIdentifier ∷ BadTemplate ∷ ColumnKinds ∷ UnknownTemplate
+    ∷ UnknownColumn ∷ BadDimension ∷ BadDecimals ∷ BadParameter ∷ BadTypes ∷ TooLarge ∷ Memory ∷ Read ∷ [])
+    ≡ 1 ∷ 2 ∷ 3 ∷ 4 ∷ 5 ∷ 6 ∷ 7 ∷ 8 ∷ 9 ∷ 10 ∷ 11 ∷ 12 ∷ 13 ∷ 14 ∷ 15 ∷ 16 ∷ 17 ∷ []
+numbers = refl
+
+faults_of_readers : (map fault_of_read (read.Read ∷ read.Memory ∷ []) ≡ Read ∷ Memory ∷ []) × (fault_of_kind kind.OutOfMemory ≡ read.Memory)
+faults_of_readers = (refl, refl)
+
+-- every other error of the CSV reader is a failed read
+failed_reader : (e : _) → fault_of_kind (kind.Io e) ≡ read.Read
+failed_reader e = refl
+
+field_of_no_text : (p e : _) → fault_of_kind (kind.Utf8 p e) ≡ read.Read
+field_of_no_text p e = refl
+
+another_length : (p expected found : _) → fault_of_kind (kind.UnequalLengths p expected found) ≡ read.Read
+another_length p expected found = refl
+
+value_not_written : (t : _) → fault_of_kind (kind.Serialize t) ≡ read.Read
+value_not_written t = refl
+
+record_of_no_value : (p e : _) → fault_of_kind (kind.Deserialize p e) ≡ read.Read
+record_of_no_value p e = refl
+
+names :
+    map fault_name (Syntax ∷ NotReport ∷ BadNamespaces ∷ BadTaxonomy ∷ Unsupported ∷ BadIdentifier ∷ BadTemplate ∷ ColumnKinds ∷ UnknownTemplate
+    ∷ UnknownColumn ∷ BadDimension ∷ BadDecimals ∷ BadParameter ∷ BadTypes ∷ TooLarge ∷ Memory ∷ Read ∷ [])
+    ≡ codes "Syntax" ∷ codes "NotReport" ∷ codes "BadNamespaces" ∷ codes "BadTaxonomy" ∷ codes "Unsupported" ∷ codes "BadIdentifier" ∷ codes "BadTemplate"
+    ∷ codes "ColumnKinds" ∷ codes "UnknownTemplate"
+    ∷ codes "UnknownColumn" ∷ codes "BadDimension" ∷ codes "BadDecimals" ∷ codes "BadParameter" ∷ codes "BadTypes" ∷ codes "TooLarge" ∷ codes "Memory" ∷ codes "Read" ∷ []
+names = refl

@@ -1,0 +1,82 @@
+-- The texts of a record, field by field.
+use Rattle.std.proofs.Common.{◌≡◌, ℕ, [], ◌∷◌, Option, Some, None, Bool, true, false, refl, length}
+use Rattle.std.specs.Prelude.{IsUtf8}
+use Rattle.std.specs.Option.{option_and_then}
+use Rattle.std.specs.Str.{is_utf8}
+use Rattle.std.proofs.lemmas.Str.{IsUtf8-from_is_utf8, is_utf8-from_IsUtf8}
+use Rattle.csv.specs.Records.{field_at}
+use Rattle.oim_entries.specs.CsvFiles.{text_field, text_of, three_texts, two_texts}
+use Rattle.oim_records.specs.Grids.{Field, Record}
+
+-- a field that is text, and one that is not
+pub text-there : (r : Record) (i : ℕ) (f t : Field) → Some f ≡ field_at r i → t ≡ f → IsUtf8 f → Some t ≡ text_field r i
+text-there r i f t there same utf8 = rw (← there, is_utf8-from_IsUtf8 f utf8, same) refl
+
+pub text-bad : (r : Record) (i : ℕ) (f : Field) → Some f ≡ field_at r i → (IsUtf8 f → ⊥) → None ≡ text_field r i
+text-bad r i f there bad = rw (← there) (by (is_utf8 f) refl)
+  where
+    by : (b : Bool) → is_utf8 f ≡ b → None ≡ text_of f
+    by true e = absurd (bad (IsUtf8-from_is_utf8 f e))
+    by false e = rw e refl
+
+-- two texts, one after the other
+both : Option Field → Option Field → Option (Field × Field)
+both x y = option_and_then (λ a. option_and_then (λ b. Some (a, b)) y) x
+
+two-fields : (r : Record) → length r ≡ 2 → two_texts r ≡ both (text_field r 0) (text_field r 1)
+unfolding field_at both
+two-fields [] e = cc e
+two-fields (a ∷ []) e = cc e
+two-fields (a ∷ b ∷ []) e = by (is_utf8 a) (is_utf8 b) refl refl
+  where
+    by : (x y : Bool) → is_utf8 a ≡ x → is_utf8 b ≡ y → two_texts (a ∷ b ∷ []) ≡ both (text_of a) (text_of b)
+    by true true h k = rw (h, k) refl
+    by true false h k = rw (h, k) refl
+    by false y h k = rw h refl
+two-fields (a ∷ b ∷ c ∷ r) e = cc e
+
+pub two-there : (r : Record) (a b : Field) → length r ≡ 2 → Some a ≡ text_field r 0 → Some b ≡ text_field r 1 → Some (a, b) ≡ two_texts r
+unfolding both
+two-there r a b e f g = rw (two-fields r e, ← f, ← g) refl
+
+pub two-first : (r : Record) → length r ≡ 2 → None ≡ text_field r 0 → None ≡ two_texts r
+unfolding both
+two-first r e f = rw (two-fields r e, ← f) refl
+
+pub two-second : (r : Record) (a : Field) → length r ≡ 2 → Some a ≡ text_field r 0 → None ≡ text_field r 1 → None ≡ two_texts r
+unfolding both
+two-second r a e f g = rw (two-fields r e, ← f, ← g) refl
+
+-- three texts, one after the other
+all_three : Option Field → Option Field → Option Field → Option (Field × Field × Field)
+all_three x y z = option_and_then (λ a. option_and_then (λ b. option_and_then (λ c. Some (a, b, c)) z) y) x
+
+three-fields : (r : Record) → length r ≡ 3 → three_texts r ≡ all_three (text_field r 0) (text_field r 1) (text_field r 2)
+unfolding field_at all_three
+three-fields [] e = cc e
+three-fields (a ∷ []) e = cc e
+three-fields (a ∷ b ∷ []) e = cc e
+three-fields (a ∷ b ∷ c ∷ []) e = by (is_utf8 a) (is_utf8 b) (is_utf8 c) refl refl refl
+  where
+    by : (x y z : Bool) → is_utf8 a ≡ x → is_utf8 b ≡ y → is_utf8 c ≡ z → three_texts (a ∷ b ∷ c ∷ []) ≡ all_three (text_of a) (text_of b) (text_of c)
+    by true true true h k l = rw (h, k, l) refl
+    by true true false h k l = rw (h, k, l) refl
+    by true false z h k l = rw (h, k) refl
+    by false y z h k l = rw h refl
+three-fields (a ∷ b ∷ c ∷ d ∷ r) e = cc e
+
+pub three-there : (r : Record) (a b c : Field) → length r ≡ 3 → Some a ≡ text_field r 0 → Some b ≡ text_field r 1 → Some c ≡ text_field r 2 → Some (a, b, c) ≡ three_texts r
+unfolding all_three
+three-there r a b c e f g h = rw (three-fields r e, ← f, ← g, ← h) refl
+
+pub three-first : (r : Record) → length r ≡ 3 → None ≡ text_field r 0 → None ≡ three_texts r
+unfolding all_three
+three-first r e f = rw (three-fields r e, ← f) refl
+
+pub three-second : (r : Record) (a : Field) → length r ≡ 3 → Some a ≡ text_field r 0 → None ≡ text_field r 1 → None ≡ three_texts r
+unfolding all_three
+three-second r a e f g = rw (three-fields r e, ← f, ← g) refl
+
+pub three-third : (r : Record) (a b : Field) → length r ≡ 3 → Some a ≡ text_field r 0 → Some b ≡ text_field r 1 → None ≡ text_field r 2 → None ≡ three_texts r
+unfolding all_three
+three-third r a b e f g h = rw (three-fields r e, ← f, ← g, ← h) refl

@@ -1,0 +1,6 @@
+pub mod FieldFacts
+pub mod EntryFacts
+pub mod TypeFacts
+pub mod WholeFileLaws
+pub mod KindLaws
+mod ExamplesFiles

@@ -1,0 +1,6 @@
+pub mod TypeWords
+pub mod TypesFile
+pub mod CsvFiles
+pub mod ParametersFile
+pub mod WholeFile
+pub mod FaultNames

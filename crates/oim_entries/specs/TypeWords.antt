@@ -1,0 +1,53 @@
+-- The words of a types table, each with the kind of concept or dimension that it stands for. The header chooses the table of words.
+use Rattle.std.specs.Prelude.{ℕ, List, [], ◌∷◌, ◌&&◌, Option, None, if◌then◌else◌, codes}
+use Rattle.std.specs.Option.{option_and_then}
+use Rattle.std.specs.Str.{bytes_eq}
+use Rattle.oim_names.specs.Lookup.{value_at}
+use Rattle.oim_cells.specs.declared.cells.NumberKind.TheVariants as number
+use Rattle.oim_entries.specs.CsvFiles.{three_texts}
+use Rattle.oim_records.specs.Grids.{Field, Record}
+use Rattle.oim_report.specs.declared.kind.Kind.{Kind}
+use Rattle.oim_report.specs.declared.kind.Kind.TheVariants as kind
+use Rattle.oim_entries.specs.declared.type_words.TypeWords.{TypeWords}
+use Rattle.oim_entries.specs.declared.type_words.TypeWords.TheVariants.{Plain, Wider}
+
+-- a table of words
+abbrev pub Words : Type 0
+Words = List (List ℕ × Kind)
+
+-- under `type`
+abbrev pub plain_words : Words
+plain_words =
+    (codes "integer", kind.Number number.Integer)
+    ∷ (codes "decimal", kind.Number number.Decimal)
+    ∷ (codes "double", kind.Number number.Double)
+    ∷ (codes "text", kind.Text)
+    ∷ (codes "other", kind.Other)
+    ∷ (codes "explicit", kind.Explicit)
+    ∷ (codes "typed", kind.Typed)
+    ∷ []
+
+-- under `type2`: three words more
+abbrev pub wider_words : Words
+wider_words =
+    (codes "boolean", kind.Boolean)
+    ∷ (codes "date", kind.Date)
+    ∷ (codes "qname", kind.Name)
+    ∷ plain_words
+
+-- each table under the name that a header gives for it
+abbrev pub tables_of_words : List (List ℕ × Words)
+tables_of_words = (codes "type", plain_words) ∷ (codes "type2", wider_words) ∷ []
+
+-- a header is namespace,name and the name of a table of words
+abbrev pub words_named : Field × Field × Field → Option Words
+words_named p = if bytes_eq p.0 (codes "namespace") && bytes_eq p.1 (codes "name") then value_at p.2 tables_of_words else None
+
+-- the table of words that a header chooses
+abbrev pub words_chosen : Record → Option Words
+words_chosen header = option_and_then words_named (three_texts header)
+
+-- the same tables, as a program names them
+abbrev pub words_in : TypeWords → Words
+words_in Plain = plain_words
+words_in Wider = wider_words

@@ -1,0 +1,26 @@
+//! Laws over the definitions that the readers of files cite.
+
+ghost use Rattle.std.specs.Prelude.{◌≡◌, ◌↔◌, ℕ, List, [], Ok, Err};
+ghost use Rattle.oim_entries.specs.CsvFiles.{all_of};
+ghost use Rattle.oim_records.specs.Grids.{Record};
+ghost use Rattle.oim_entries.specs.ParametersFile.{parameters_file};
+ghost use Rattle.oim_report.specs.Types.{TypesValue, kind_in};
+ghost use Rattle.oim_entries.specs.TypeWords.{Words};
+ghost use Rattle.oim_entries.specs.TypesFile.{types_file};
+ghost use Rattle.oim_entries.specs.WholeFile.{IsEarliestBad, kind_said};
+
+use crate::fault::MetaFault;
+
+/// A file of entries has a fault exactly where a record is bad, and then it is the fault of the earliest bad record.
+pub fn fault_is_of_earliest_record()
+    ensures parameters { (rs : List Record) (e : MetaFault)
+        → (all_of parameters_file 0 [] rs ≡ Err e) ↔ IsEarliestBad parameters_file 0 [] rs e }
+    ensures types { (words : Words) (rs : List Record) (e : MetaFault)
+        → (all_of (types_file words) 0 [] rs ≡ Err e) ↔ IsEarliestBad (types_file words) 0 [] rs e }
+{}
+
+/// The types of a table say of a name just what its records say, by the words that the header chose.
+pub fn types_are_of_all_records()
+    ensures { (words : Words) (rs : List Record) (types : TypesValue) → all_of (types_file words) 0 [] rs ≡ Ok types
+        → (uri local : List ℕ) → kind_in types uri local ≡ kind_said words rs uri local }
+{}

@@ -1,6 +1,0 @@
-use Rattle.std.proofs.Common.{[]}
-use Rattle.oim_meta.proofs.KindLaws.{said-all}
-use Rattle.oim_meta.proofs.file_laws.types_are_of_all_records.Goals as goal
-
-pub returns : goal.returns
-returns c = λ words rs types e uri local. said-all words 0 [] types rs uri local e
