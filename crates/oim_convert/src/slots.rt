@@ -11,6 +11,7 @@ use oim_ring::{Closed, Drain, Drained};
 use std::io::Read;
 
 /// What the tables of a conversion were decoded by. Only clauses use it.
+#[derive(Drop)]
 pub(crate) struct Terms<'a, R> {
     pub(crate) report: &'a Report,
     pub(crate) limits: Limits,
@@ -20,11 +21,7 @@ pub(crate) struct Terms<'a, R> {
 }
 
 /// Puts the token of a receipt into the slot of its table.
-fn place<R: Read>(
-    terms: &Terms<'_, R>,
-    receipt: Receipt,
-    slots: &mut [Option<Closed>],
-)
+fn place<R: Read>(terms: &Terms<'_, R>, receipt: Receipt, slots: &mut [Option<Closed>])
     requires receipt { Fulfills R.remaining terms.now.report.now terms.now.limits.rows terms.now.served terms.now.claims.now.items receipt }
     requires slots { EachSlot R.remaining terms.now.report.now terms.now.limits.rows terms.now.served terms.now.claims.now.items slots.old }
     requires room { length slots.old ≡ length terms.now.claims.now.items }
