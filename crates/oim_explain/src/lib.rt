@@ -26,7 +26,8 @@
 //! fn explains_the_key(alloc: Global, folder: &mut Texts<'_>) -> Result<bool, AllocError> {
 //!     let fault = MetaFault::NotReport;
 //!     let text = explain_report(alloc, "m.json", "t.csv", folder, Source::Report, fault)?;
-//!     Ok(text.as_str().starts_with("    /documentInfo/documentType\n"))
+//!     let place = "    /documentInfo/documentType\n";
+//!     Ok(text.as_str().starts_with(place))
 //! }
 //! ```
 #![tactic(auto)]

@@ -42,7 +42,8 @@ fn reads_entries(alloc: Global, folder: &mut Texts<'_>) -> bool {
 fn explains_the_key(alloc: Global, folder: &mut Texts<'_>) -> Result<bool, AllocError> {
     let fault = MetaFault::NotReport;
     let text = explain_report(alloc, "m.json", "t.csv", folder, Source::Report, fault)?;
-    Ok(text.as_str().starts_with("    /documentInfo/documentType\n"))
+    let place = "    /documentInfo/documentType\n";
+    Ok(text.as_str().starts_with(place))
 }
 
 /// Whether a file is there at the path of a file in a folder.
