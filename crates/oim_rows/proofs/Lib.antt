@@ -3,6 +3,7 @@ mod Repeats
 mod FactLists
 pub mod StreamLaws
 mod ReadCells
+mod EarlyCells
 mod WholeLaw
 mod DotFacts
 mod FactIds

@@ -14,7 +14,7 @@ use Rattle.oim_report.specs.declared.data.Column.{Column}
 use Rattle.oim_report.specs.declared.data.ColumnKind.{ColumnKind}
 use Rattle.oim_report.specs.declared.data.ColumnKind.TheVariants as content
 use Rattle.oim_resolve.specs.Cell.{cell_of}
-use Rattle.oim_resolve.specs.Facts.{cell_result}
+use Rattle.oim_resolve.specs.Facts.{cell_result, early_result}
 use Rattle.oim_resolve.specs.declared.fact.CellFault.{CellFault}
 use Rattle.oim_resolve.specs.FactParts.{FactParts as Fact}
 use Rattle.oim_resolve.specs.declared.fact.Row.{Row}
@@ -120,6 +120,11 @@ at_place table n p (Err k) = Err (fault_at table n p (kind.Cell k))
 abbrev pub fact_at : ReportValue → ℕ → Row → ℕ → Option ℕ → Result (Option Fact) TableFault
 fact_at report table row p None = Ok None
 fact_at report table row p (Some c) = if is_fact_column (columns_of report table) c then at_place table row.number (p + 1) (cell_result (cell_of report table row c)) else Ok None
+
+-- the same by the first two steps of the cell, where these settle it. They take no memory
+abbrev pub early_fact_at : ReportValue → ℕ → Row → ℕ → Option ℕ → Option (Result (Option Fact) TableFault)
+early_fact_at report table row p None = Some (Ok None)
+early_fact_at report table row p (Some c) = if is_fact_column (columns_of report table) c then option_map (at_place table row.number (p + 1)) (early_result (cell_of report table row c)) else Some (Ok None)
 
 -- one more answer in front
 abbrev pub in_front : Result (Option Fact) TableFault → Result (List Fact) TableFault → Result (List Fact) TableFault

@@ -1,6 +1,6 @@
 //! How the records of one table become the facts of its rows.
 
-ghost use Rattle.std.specs.Prelude.{◌≡◌, ◌≤◌, Err, IfOk, IfSome, OnOk};
+ghost use Rattle.std.specs.Prelude.{◌≡◌, ◌≤◌, Err, IfOk, IfSome, OnErr, OnOk};
 ghost use Rattle.oim_rows.specs.RowFacts.{IsNewId, IsTextRecord, id_place_of, ids_after, row_fault, row_result};
 ghost use Rattle.oim_rows.specs.Streams.{OrNoMemory};
 
@@ -52,11 +52,12 @@ impl Decoder<'_> {
         self.form.table()
     }
 
-    /// Adds the identifier of a row to those before it.
+    /// Adds the identifier of a row to those before it. Where memory is short nothing is added.
     fn add_id(&self, alloc: Global, ids: &mut RowIds, row: &Fields<'_>) -> Result<(), AllocError>
         requires texts { IsTextRecord row.now }
         requires new { IsNewId (id_place_of self.now) ids.old row.now }
-        ensures { OnOk result (ids.new ≡ ids_after (id_place_of self.now) ids.old row.now) }
+        ensures added { OnOk result (ids.new ≡ ids_after (id_place_of self.now) ids.old row.now) }
+        ensures same { OnErr result (ids.new ≡ ids.old) }
     {
         if let Some(place) = self.form.id_place() {
             ids.push(alloc, text_at(row, Some(place)))?;
@@ -64,7 +65,7 @@ impl Decoder<'_> {
         Ok(())
     }
 
-    /// The facts of row `number`. The row's identifier joins those of the rows before it.
+    /// The facts of row `number`. The row's identifier joins those of the rows before it, and none does where the row is refused.
     pub(crate) fn facts(
         &self,
         alloc: Global,
@@ -75,6 +76,7 @@ impl Decoder<'_> {
         ensures facts { OrNoMemory (self.now).table result (row_result self.now number ids.old row.now) }
         ensures own { IfSome (row_fault self.now number ids.old row.now) (λ fault. result ≡ Err fault) }
         ensures ids { OnOk result (ids.new ≡ ids_after (id_place_of self.now) ids.old row.now) }
+        ensures same { OnErr result (ids.new ≡ ids.old) }
         ensures within { OnOk result (number ≤ (self.now).limit) }
     {
         if let Some(fault) = self.form.fault_of_row(number, ids, row) {

@@ -166,14 +166,17 @@ impl<'a> RowForm<'a> {
     }
 }
 
-ghost use Rattle.std.specs.Prelude.{◌++◌, codes, decimal, Some};
+ghost use Rattle.std.specs.Prelude.{◌++◌, codes, decimal, OnErr, Some};
 
 /// Appends the identifier of a row of a table that has no column for it: `r_` and the row's number.
-/// Fails where memory is short.
+/// Fails where memory is short, and then nothing is appended.
 pub fn push_row_number(id: &mut String, number: u32) -> Result<(), AllocError>
-    ensures { OnOk result (string_bytes id.new ≡ string_bytes id.old ++ (codes "r_" ++ decimal number)) }
+    ensures added { OnOk result (string_bytes id.new ≡ string_bytes id.old ++ (codes "r_" ++ decimal number)) }
+    ensures same { OnErr result (string_bytes id.new ≡ string_bytes id.old) }
 {
     let mut buffer = Buffer::new();
+    let digits = buffer.format(number);
+    id.reserve(2 + digits.len())?;
     id.push_str("r_")?;
-    id.push_str(buffer.format(number))
+    id.push_str(digits)
 }

@@ -1,10 +1,10 @@
 //! How the cells of a row become its facts.
 
-ghost use Rattle.std.specs.Prelude.{◌≡◌, ◌<◌, Err, IfOk, OnOk, length, map};
+ghost use Rattle.std.specs.Prelude.{◌≡◌, ◌<◌, Err, IfOk, IfSome, OnOk, length, map};
 ghost use Rattle.std.specs.List.{range_with_len};
 ghost use Rattle.std.specs.String.{string_bytes};
 ghost use Rattle.oim_report.specs.Readers.{columns_of};
-ghost use Rattle.oim_rows.specs.RowFacts.{IsTextRecord, fact_at, facts_from, field_or_empty, holds_facts};
+ghost use Rattle.oim_rows.specs.RowFacts.{IsTextRecord, early_fact_at, fact_at, facts_from, field_or_empty, holds_facts};
 ghost use Rattle.oim_rows.specs.RowFacts.{id_place_of, is_fact_column, row_id_text, row_of, source_of_column};
 ghost use Rattle.oim_rows.specs.Streams.{OrNoMemory};
 
@@ -146,7 +146,8 @@ impl RowPlan<'_> {
         Ok(Row::new(number, Text::new(id), cells))
     }
 
-    /// The fact under one header cell of a row of the table at this place.
+    /// The fact under one header cell of a row of the table at this place. Where the first two steps of its cell settle it, that
+    /// is the answer, however much memory there is.
     fn fact_of_cell(
         &self,
         alloc: Global,
@@ -157,7 +158,8 @@ impl RowPlan<'_> {
     ) -> Result<Option<Fact>, TableFault>
         requires table { table ≡ (self.now).table }
         requires cells { length row.now.cells ≡ length (columns_of (self.now).report (self.now).table) }
-        ensures { OrNoMemory (self.now).table result (fact_at (self.now).report (self.now).table row.now place column) }
+        ensures fact { OrNoMemory (self.now).table result (fact_at (self.now).report (self.now).table row.now place column) }
+        ensures early { IfSome (early_fact_at (self.now).report (self.now).table row.now place column) (λ answer. result ≡ answer) }
     {
         let Some(column) = column else {
             return Ok(None);

@@ -1,6 +1,6 @@
 //! The rows of one table, one at a time.
 
-ghost use Rattle.std.specs.Prelude.{◌≡◌, ◌⊎◌, ◌≤◌, ◌<◌, ◌+◌, ◌∷◌, [], IfOk, IfErr, IfSome, OnSome, None, Some, Ok, true, option_map, length};
+ghost use Rattle.std.specs.Prelude.{◌≡◌, ◌⊎◌, ◌≤◌, ◌<◌, ◌+◌, ◌∷◌, [], IfOk, IfErr, IfSome, OnErr, OnSome, None, Some, Ok, true, option_map, length};
 ghost use Rattle.oim_records.specs.Grids.{grid};
 ghost use Rattle.oim_rows.specs.Header.{file_header_fault};
 ghost use Rattle.oim_rows.specs.RowFacts.{id_place_of, ids_after, row_result};
@@ -75,6 +75,7 @@ fn take_row(
     ensures early { IfSome (early_row_answer decoder.now number ids.old found row.now) (λ answer. result ≡ answer) }
     ensures row { found ≡ Ok true → OrNoMemory (decoder.now).table result (row_answer (row_result decoder.now number ids.old row.now)) }
     ensures ids { IfOk result (λ o. OnSome o (ids.new ≡ ids_after (id_place_of decoder.now) ids.old row.now)) }
+    ensures same { OnErr result (ids.new ≡ ids.old) }
     ensures within { IfOk result (λ o. OnSome o (number ≤ (decoder.now).limit)) }
 {
     match found {
@@ -96,6 +97,7 @@ fn read_row<R: Read + Drop>(
     number: u32,
 ) -> Result<Option<RowFacts>, TableFault>
     ensures next { IfSome records.old.left (λ rs. GivesNext (decoder.now).table (stream_from decoder.now number ids.old rs) result (option_map (stream_from decoder.now (number + 1) ids.new) records.new.left)) }
+    ensures same { OnErr result (ids.new ≡ ids.old) }
     ensures within { IfOk result (λ o. OnSome o (number ≤ (decoder.now).limit)) }
 {
     let found = records.read();
