@@ -20,10 +20,12 @@ use std::alloc::{AllocError, Global};
 use std::marker::Model;
 use told::{Tells, Told};
 
-/// How many texts are kept at first, and at most.
+/// How many texts are kept at first, how many where few come back, and how many at most.
 const FEWEST: usize = 32;
 
-const MOST: usize = 256;
+const MANY: usize = 256;
+
+const MOST: usize = 2048;
 
 /// How many places a text may have.
 const WAYS: usize = 4;
@@ -39,8 +41,7 @@ pub(crate) struct Reference<'a> {
     answers: Vec<CachedAnswer>,
     /// The place of the answer to the text of the row at hand.
     current: usize,
-    /// How many texts were read since there are so many places.
-    misses: usize,
+    misses: Misses,
     text: Told<Text>,
 }
 
@@ -53,6 +54,13 @@ impl<'a> Model for Reference<'a> {
     ghost view = { λ s. record { report = s.report.now; key = record { purpose = s.purpose; source = seen_source s.source }; text = s.text.value } };
 
     ghost invariant = { λ s. IsKept s.report.now s.purpose s.text.value s.current s.answers.items };
+}
+
+/// The texts that were read since counting began: how many, and a number for the first of them.
+#[derive(Clone, Copy)]
+struct Misses {
+    count: u32,
+    first: u32,
 }
 
 /// A text that is told by itself.
@@ -112,14 +120,47 @@ fn number_of(text: &[u8]) -> u64 {
     number
 }
 
+/// A number for a text, of which the upper half differs wherever the lower does.
+#[inline(always)]
+fn mixed_number_of(text: &[u8]) -> u64 {
+    number_of(text).wrapping_mul(0x9e37_79b9_7f4a_7c15)
+}
+
+impl Misses {
+    /// No texts.
+    fn new() -> Misses {
+        Misses { count: 0, first: 0 }
+    }
+
+    /// Counts a text, and answers whether so many places are too few: below `MANY` where more texts were read than there are
+    /// places, and below `MOST` where the first of the texts comes back. Then counting begins again.
+    fn add(&mut self, text: &[u8], places: usize) -> bool {
+        let number = (mixed_number_of(text) >> 32) as u32;
+        let is_back = self.count > 0 && self.first == number;
+        if self.count == 0 {
+            self.first = number;
+        }
+        self.count = self.count.saturating_add(1);
+        let count = self.count as usize;
+        let are_few = if places < MANY {
+            count > places
+        } else {
+            is_back && places < MOST
+        };
+        if are_few || count > MOST {
+            self.count = 0;
+        }
+        are_few && places >= FEWEST
+    }
+}
+
 /// The place of a text among so many, a power of two of them. Any place would do: no answer depends on it.
 #[inline(always)]
 fn place_for(text: &[u8], places: usize) -> usize
     requires { 0 < places }
     ensures { result < places }
 {
-    let mixed = number_of(text).wrapping_mul(0x9e37_79b9_7f4a_7c15);
-    (mixed >> 40) as usize & (places - 1)
+    (mixed_number_of(text) >> 40) as usize & (places - 1)
 }
 
 /// The place at a step beside a place among so many, a power of two of them.
@@ -185,7 +226,7 @@ fn add_places(
 }
 
 /// Reads a text that is not kept, and answers the place where it is kept now: its own, or one of those beside it. Doubles the
-/// places where as many were read, up to the most. Fails where memory is short.
+/// places where they are too few. Fails where memory is short.
 #[cold]
 #[inline(never)]
 fn read_text(
@@ -193,7 +234,7 @@ fn read_text(
     report: &Report,
     purpose: Purpose,
     answers: &mut Vec<CachedAnswer>,
-    misses: &mut usize,
+    misses: &mut Misses,
     text: &str,
 ) -> (usize, Result<(), AllocError>)
     requires some { 0 < length answers.old.items }
@@ -201,14 +242,13 @@ fn read_text(
     ensures { IsKept report.now purpose text.now result.0 answers.new.items }
 {
     let count = answers.len();
-    let place = next_place(answers.as_slice(), text.as_bytes(), *misses);
+    let place = next_place(answers.as_slice(), text.as_bytes(), misses.count as usize);
     let kept = &mut answers[place];
     let read = kept.read(alloc, report, purpose, text);
-    *misses = misses.saturating_add(1);
-    if read.is_err() || *misses <= count || count < FEWEST || count >= MOST {
+    let are_few = misses.add(text.as_bytes(), count);
+    if read.is_err() || !are_few {
         return (place, read);
     }
-    *misses = 0;
     (place, add_places(alloc, answers, count))
 }
 
@@ -219,7 +259,7 @@ fn find_text(
     report: &Report,
     purpose: Purpose,
     answers: &mut Vec<CachedAnswer>,
-    misses: &mut usize,
+    misses: &mut Misses,
     text: &str,
 ) -> (usize, Result<(), AllocError>)
     requires some { 0 < length answers.old.items }
@@ -256,7 +296,7 @@ impl<'a> Reference<'a> {
             source,
             answers,
             current: 0,
-            misses: 0,
+            misses: Misses::new(),
             text: Told::of(&TextNote { text: "" }),
         })
     }
