@@ -1,5 +1,5 @@
 -- Names put in byte order.
-use Rattle.std.proofs.Common.{◌≡◌, ◌<◌, ◌≤◌, ℕ, zero, suc, ◌+◌, Result, Ok, Err, refl, subst, inl, inr, List, [], ◌∷◌, ◌++◌, length, take, drop, get_or, sym, ap, ◌∙◌, append_assoc, arith}
+use Rattle.std.proofs.Common.{◌≡◌, ◌<◌, ◌≤◌, ℕ, zero, suc, ◌+◌, Result, Ok, Err, true, refl, subst, inl, inr, List, [], ◌∷◌, ◌++◌, length, take, drop, get_or, sym, ap, ◌∙◌, append_assoc, arith}
 use Rattle.std.specs.Ordering.{match_ordering, nat_cmp}
 use Rattle.std.specs.Cmp.Lexicographic.{slice_cmp}
 use Rattle.std.specs.declared.cmp.Ordering.{Ordering}
@@ -82,6 +82,11 @@ strictly (k ∷ ks) rise = (rise.0, strictly ks rise.1)
 inserted_last : {X : Type 0} (xs : List X) (x : X) (i : ℕ) → i ≡ length xs → insert xs i x ≡ xs ++ x ∷ []
 inserted_last xs x i e = ap (λ ys. ys ++ x ∷ drop i xs) (take_all i xs (omega arith)) ∙ ap (λ ys. xs ++ x ∷ ys) (drop_all i xs (omega arith))
 
+less_of : (o : Ordering) → is_lt o ≡ true → o ≡ Less
+less_of Less e = refl
+less_of Equal e = absurd (cc)
+less_of Greater e = absurd (cc)
+
 -- names that rise, searched for a name
 module _ (ks : List (Bor (List ℕ))) (n : Bor (List ℕ)) (rise : IsAscending (held ks)) where
   -- a name at one place is below a name at a later place
@@ -102,6 +107,19 @@ module _ (ks : List (Bor (List ℕ))) (n : Bor (List ℕ)) (rise : IsAscending (
       let next = held_more ks i n k here (get_or_default ks i n k here) (behind i (omega arith) (λ j d lt. less j d (omega arith))) more in
       let same : i + 1 ≡ suc i = omega arith in
       subst (λ q. PutsFrom (held ks) q n.now) same next
+
+  -- a name above the last of them goes behind all
+  pub above_last : (i : ℕ) (e : Bor (List ℕ)) → length ks ≡ suc i → is_lt (order (get_or ks i e).now n.now) ≡ true → held (ks ++ n ∷ []) ≡ put_name (held ks) n.now
+  above_last i e long lt = held_last ks (length ks) n refl (behind (length ks) (omega arith) all)
+    where
+      less : (d : Bor (List ℕ)) → order (get_or ks i d).now n.now ≡ Less
+      less d = ap (λ (k : Bor (List ℕ)). order k.now n.now) (get_or_default ks i d e (omega arith)) ∙ less_of (order (get_or ks i e).now n.now) lt
+
+      all : (j : ℕ) (d : Bor (List ℕ)) → j < length ks → order (get_or ks j d).now n.now ≡ Less
+      all j d lt = elim (cases_lt j i) [
+        | inl before ↦ nat_list_cmp_total.trans (get_or ks j d).now (get_or ks i d).now n.now (below j i d before (omega arith)) (less d)
+        | inr past ↦ let same : i ≡ j = omega arith in subst (λ q. order (get_or ks q d).now n.now ≡ Less) same (less d)
+      ]
 
   -- the names rise to a binary search's comparisons with n
   comparisons_rise : IsNonDecreasingBy (λ k. ordering_index (order k.now n.now)) ks

@@ -1,6 +1,6 @@
 //! What several levels write: names, dimensions and decimals.
 
-ghost use Rattle.std.specs.Prelude.{◌≡◌, ◌∷◌, ◌++◌, [], map, reverse, IfOk, OnOk};
+ghost use Rattle.std.specs.Prelude.{◌≡◌, ◌∷◌, ◌++◌, [], map, reverse, true, IfOk, OnOk};
 ghost use Rattle.std.specs.List.{All, fold};
 ghost use Rattle.std.specs.Option.{option_map};
 ghost use Rattle.oim_report.specs.InOrder.{LevelRises};
@@ -59,11 +59,25 @@ pub(crate) fn decimals_in<'a>(
     written_decimals(&[template, report])
 }
 
-/// Puts a name in its place in byte order, unless it stands there.
+/// Whether a name goes behind all of some names in byte order.
+fn is_last<'a>(names: &[&'a str], name: &'a str) -> bool
+    requires { IsAscending (held names.now) }
+    ensures { result ≡ true → held (names.now ++ name.entry ∷ []) ≡ put_name (held names.now) name.now }
+{
+    match names {
+        [.., last] => *last < name,
+        [] => false,
+    }
+}
+
+/// Puts a name in its place in byte order, unless it stands there. Names often come in that order, so the last place is tried first.
 fn put_name<'a>(names: &mut Vec<&'a str>, name: &'a str) -> Result<(), AllocError>
     requires { IsAscending (held names.old.items) }
     ensures { OnOk result (held names.new.items ≡ put_name (held names.old.items) name.now) }
 {
+    if is_last(names.as_slice(), name) {
+        return Ok(names.push(name)?);
+    }
     match names
         .as_slice()
         .binary_search_by(|other| (*other).cmp(name))
