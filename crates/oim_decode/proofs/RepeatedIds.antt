@@ -30,6 +30,10 @@ one_passed before ids i now next id (place, same) lt is new more = (
       ∙ ap (λ t. before ++ t) (ap (λ (x : Field). take i ids ++ x ∷ []) is ∙ sym (take_more ids i id lt)),
 )
 
+-- whatever ends the search, the first of them have joined those before
+pub begun : (before ids : List Field) (i : ℕ) (now : List Field) → HasPassed before ids i now → (k : ℕ) × (now ≡ before ++ take k ids)
+begun before ids i now passed = (i, passed.1)
+
 pub one_found : (before ids : List Field) (i : ℕ) (now : List Field) (id : Field) → HasPassed before ids i now → i < length ids → id ≡ get_or ids i id → list_any (bytes_eq id) now ≡ true
     → Some i ≡ repeated_from 0 before ids
 one_found before ids i now id (place, same) lt is old =

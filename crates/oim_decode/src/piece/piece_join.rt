@@ -1,6 +1,6 @@
 //! Joining the pieces of a table.
 
-ghost use Rattle.std.specs.Prelude.{◌≡◌, ◌≤◌, ◌+◌, ◌++◌, ◌<◌, [], IfOk, IfSome, None, Ok, length};
+ghost use Rattle.std.specs.Prelude.{◌≡◌, ◌≤◌, ◌+◌, ◌++◌, ◌<◌, [], IfOk, IfSome, None, Ok, ℕ, length, take};
 ghost use Rattle.oim_decode.specs.Apart.{repeated_from, repeated_id};
 ghost use Rattle.oim_rows.specs.Streams.{facts_of_rows};
 ghost use Rattle.oim_decode.specs.PieceAnswers.{IsJoined};
@@ -45,8 +45,9 @@ impl Model for JoinedPiece {
     ghost view = { λ a. record { rows = a.rows; fault = a.fault } };
 }
 
-/// The place of the first identifier that came before, or None; then all of them join those before. Fails where memory is short.
-#[tactic(auto, using(crate::proofs::RepeatedIds::none_passed, crate::proofs::RepeatedIds::one_passed, crate::proofs::RepeatedIds::one_found, crate::proofs::RepeatedIds::all_passed))]
+/// The place of the first identifier that came before, or None; then all of them join those before. Fails where memory is short. In each
+/// case the first of them join, and nothing else.
+#[tactic(auto, using(crate::proofs::RepeatedIds::begun, crate::proofs::RepeatedIds::none_passed, crate::proofs::RepeatedIds::one_passed, crate::proofs::RepeatedIds::one_found, crate::proofs::RepeatedIds::all_passed))]
 fn first_repeated(
     alloc: Global,
     before: &mut RowIds,
@@ -55,6 +56,7 @@ fn first_repeated(
     ensures place { IfOk result (λ place. place ≡ repeated_from 0 before.old ids.now) }
     ensures within { IfOk result (λ place. IfSome place (λ k. k < length ids.now)) }
     ensures ids { result ≡ Ok None → before.new ≡ before.old ++ ids.now }
+    ensures begun { (k : ℕ) × (before.new ≡ before.old ++ take k ids.now) }
 {
     for i in 0..ids.len() {
         let id = ids[i].as_str();
@@ -99,11 +101,13 @@ impl PieceJoin {
     }
 
     /// Joins the answer for the next piece of the table of this form, whose first row has this number: its rows up to the first whose identifier came
-    /// before, which is RepeatedRowId there, or all of them and the piece's own fault. With Memory, and no row, where memory is short.
+    /// before, which is RepeatedRowId there, or all of them and the piece's own fault. With Memory, and no row, where memory is short. The
+    /// identifiers of its first rows join those of the rows before, those of all its rows where there is no fault.
     pub fn join(&mut self, form: &RowForm<'_>, first: u32, answer: PieceAnswer) -> JoinedPiece
         requires { first + length answer.ids ≤ 4294967296 }
         ensures stream { IsJoined form.now first self.old answer result }
         ensures ids { result.fault ≡ None → self.new ≡ self.old ++ answer.ids }
+        ensures begun { (k : ℕ) × (self.new ≡ self.old ++ take k answer.ids) }
     {
         let PieceAnswer {
             mut rows,

@@ -1,6 +1,6 @@
 //! The rows of one table that are not read yet.
 
-ghost use Rattle.std.specs.Prelude.{◌≡◌, ◌⊎◌, ◌≤◌, ◌<◌, ◌+◌, [], IfErr, IfOk, IfSome, None, OnOk, Some, length, option_map, true};
+ghost use Rattle.std.specs.Prelude.{◌≡◌, ◌⊎◌, ◌≤◌, ◌<◌, ◌+◌, [], IfErr, IfOk, IfSome, None, OnErr, OnOk, Some, length, option_map, true};
 ghost use Rattle.oim_records.specs.Grids.{grid};
 ghost use Rattle.oim_rows.specs.Header.{file_header_fault};
 ghost use Rattle.oim_rows.specs.RowFacts.{IsNewId, id_place_of, ids_after, row_fault, row_result};
@@ -165,10 +165,12 @@ fn early_answer<R: Read + Drop>(
     }
 }
 
-/// Adds the identifier of a row to those before it, where its table has a column for them. Fails where memory is short.
+/// Adds the identifier of a row to those before it, where its table has a column for them. Fails where memory is short, and then
+/// nothing is added.
 fn keep_id(alloc: Global, row: &TableRow<'_, '_>, ids: &mut RowIds) -> Result<(), AllocError>
     requires { IsNewId (id_place_of row.now.form) ids.old row.now.fields }
-    ensures { OnOk result (ids.new ≡ ids_after (id_place_of row.now.form) ids.old row.now.fields) }
+    ensures added { OnOk result (ids.new ≡ ids_after (id_place_of row.now.form) ids.old row.now.fields) }
+    ensures same { OnErr result (ids.new ≡ ids.old) }
 {
     if let Some(place) = row.form().id_place() {
         ids.push(alloc, row.text_at(Some(place)))?;
@@ -176,7 +178,8 @@ fn keep_id(alloc: Global, row: &TableRow<'_, '_>, ids: &mut RowIds) -> Result<()
     Ok(())
 }
 
-/// Adds the facts of a row to others. Apart from its cells the row has no fault.
+/// Adds the facts of a row to others. Apart from its cells the row has no fault. Where it is refused, its identifier may have joined
+/// those before it, and nothing else.
 fn add_row<'a>(
     alloc: Global,
     texts: &mut RowTexts<'a>,
@@ -190,6 +193,7 @@ fn add_row<'a>(
     requires row { row_fault row.now.form row.now.number ids.old row.now.fields ≡ None }
     ensures facts { AddsFacts row.now.form.table (row_result row.now.form row.now.number ids.old row.now.fields) facts.old facts.new result }
     ensures ids { OnOk result (ids.new ≡ ids_after (id_place_of row.now.form) ids.old row.now.fields) }
+    ensures refused { OnErr result ((ids.new ≡ ids.old) ⊎ (ids.new ≡ ids_after (id_place_of row.now.form) ids.old row.now.fields)) }
     ensures same { texts.new ≡ texts.old }
 {
     if keep_id(alloc, row, ids).is_err() {
