@@ -42,6 +42,7 @@ mod files;
 mod levels;
 mod line_number;
 mod metadata;
+mod parts;
 mod places;
 mod pointers;
 mod reread;
