@@ -1,9 +1,14 @@
 -- What the explanation of the first finding of a metadata says.
-use Rattle.std.proofs.Common.{◌≡◌, ℕ, List, Option, Some, None, Result, Ok, Err, inl, inr, subst}
+use Rattle.std.proofs.Common.{◌≡◌, ℕ, List, [], Option, Some, None, Result, Ok, Err, inl, inr, refl, subst}
 use Rattle.std.specs.Prelude.{IfNone, IfOk, IfSome}
 use Rattle.oim_meta.specs.Findings.{finding}
+use Rattle.serde_json.specs.Data.{Data}
+use Rattle.oim_meta.specs.FirstFault.{first_fault}
+use Rattle.oim_meta.specs.Reading.{IsUnread, Reads}
+use Rattle.oim_meta.specs.Value.{report_of}
 use Rattle.oim_meta.specs.Refusals.{IsFinding}
 use Rattle.oim_entries.specs.declared.fault.MetaFault.{MetaFault}
+use Rattle.oim_entries.specs.declared.fault.MetaFault.TheVariants as refused
 use Rattle.oim_meta.specs.declared.findings.Finding.{Finding}
 use Rattle.oim_report.specs.Parameters.{ParametersValue}
 use Rattle.oim_report.specs.Types.{TypesValue}
@@ -24,3 +29,22 @@ pub other_finding : {E : Type 0} (limits : Limits) (given : ParametersValue) (ty
 other_finding limits given types bytes f x (Ok (Some e)) found h = tt
 other_finding limits given types bytes f x (Ok None) found h = inr (record { finding = x; found = found; fault = h })
 other_finding limits given types bytes f x (Err e) found h = tt
+
+-- why no JSON is read of the bytes is the finding of the whole
+unread_finding : (limits : Limits) (given : ParametersValue) (types : TypesValue) (bytes : List ℕ) (u : MetaFault) → ¬ (u ≡ refused.Memory) → IsUnread limits bytes u
+    → IsFinding limits given types bytes (finding u [])
+unread_finding limits given types bytes refused.TooLarge known h = inl (h, refl)
+unread_finding limits given types bytes refused.Syntax known h = inr (h.0, inl (h.1, refl))
+unread_finding limits given types bytes refused.Memory known h = absurd (known refl)
+unread_finding limits given types bytes u known h = absurd h
+
+pub other_unread : {E : Type 0} (limits : Limits) (given : ParametersValue) (types : TypesValue) (bytes : List ℕ) (f u : MetaFault) (r : Result (Option Explanation) E)
+    → IsUnread limits bytes u → IfOk r (λ o. ¬ (u ≡ refused.Memory)) → IfOk r (λ o. IfNone o (¬ (u ≡ f))) → IfOk r (λ o. IfNone o (HasOther limits given types bytes f))
+other_unread {E} limits given types bytes f u (Ok o) unread known h =
+    other_finding {E = E} limits given types bytes f (finding u []) (Ok o) (unread_finding limits given types bytes u known unread) h
+other_unread {E} limits given types bytes f u (Err e) unread known h = tt
+
+-- the value that is read of the bytes has no fault, so they say its report
+pub value_sound : (limits : Limits) (given : ParametersValue) (types : TypesValue) (bytes : List ℕ) (d : Data) (f : MetaFault) → Reads limits bytes d
+    → first_fault limits given types d ≡ None → HasOther limits given types bytes f
+value_sound limits given types bytes d f reads h = inl (report_of given types d, (reads.0, (d, reads.1, h, refl)))

@@ -1,13 +1,17 @@
 //! The files of a run that ended with a fault are read again, for its explanation.
 
+ghost use Rattle.serde_json.specs.View.{view};
+ghost use Rattle.oim_meta.specs.Reading.{Reads};
+ghost use Rattle.oim_files.specs.Metadata.{profile};
+
 use crate::entries::{BadRecord, bad_parameter, bad_type};
 use crate::explanation::{Explanation, explanation_text};
 use crate::files::{changed, line_again, of_file, place_in_file, unread};
-use crate::metadata::explain_metadata;
+use crate::metadata::{explain_value, of_unread, read_again};
 use oim_files::{
     EarlyFault, Folder, Source, folder_of, metadata_at, parameters_in, path_in, types_in, url_in,
 };
-use oim_meta::{MetaFault, Parameters, Types};
+use oim_meta::{MetaFault, Metadata, Parameters, Types};
 use oim_names::{Items, Text};
 use std::alloc::{AllocError, Global};
 use std::io::Read;
@@ -17,11 +21,62 @@ fn parameters_again<R: Read + Drop, F: Folder<R>>(
     alloc: Global,
     folder: &mut F,
     base: &str,
-    metadata: &[u8],
+    metadata: &Metadata,
 ) -> Result<Parameters, EarlyFault> {
-    match url_in(alloc, metadata) {
-        Ok(url) => parameters_in(alloc, folder, base, url),
-        Err(_) => Ok(Parameters::none(alloc)),
+    match metadata.parameter_url(alloc) {
+        Ok(Some(url)) => parameters_in(alloc, folder, base, Some(Text::new(url))),
+        _ => Ok(Parameters::none(alloc)),
+    }
+}
+
+/// The explanation, or that the fault is not there any more.
+fn or_changed(
+    alloc: Global,
+    path: &str,
+    explanation: Option<Explanation>,
+) -> Result<Explanation, AllocError> {
+    match explanation {
+        Some(explanation) => Ok(explanation),
+        None => changed(alloc, path),
+    }
+}
+
+/// The explanation of a fault of the metadata that was read of these bytes, with its types.
+fn with_parameters<R: Read + Drop, F: Folder<R>>(
+    alloc: Global,
+    folder: &mut F,
+    path: &str,
+    bytes: &[u8],
+    metadata: Metadata,
+    types: Types,
+    fault: MetaFault,
+) -> Result<Explanation, AllocError>
+    requires { Reads profile bytes.now (view metadata) }
+{
+    match parameters_again(alloc, folder, folder_of(path), &metadata) {
+        Ok(parameters) => {
+            let explanation = explain_value(
+                alloc, path, bytes, metadata, parameters, types, fault,
+            )?;
+            or_changed(alloc, path, explanation)
+        }
+        Err(early) => unread(alloc, path, &early),
+    }
+}
+
+/// The explanation of a fault of the metadata at this path, which has these bytes, with its types. Its JSON is read
+/// once.
+fn of_bytes<R: Read + Drop, F: Folder<R>>(
+    alloc: Global,
+    folder: &mut F,
+    path: &str,
+    bytes: &[u8],
+    types: Types,
+    fault: MetaFault,
+) -> Result<Explanation, AllocError> {
+    match read_again(alloc, bytes) {
+        Ok(metadata) => with_parameters(alloc, folder, path, bytes, metadata, types, fault),
+        Err(found) => or_changed(alloc, path, of_unread(alloc, path, bytes, found, fault)?),
     }
 }
 
@@ -33,18 +88,9 @@ fn with_types<R: Read + Drop, F: Folder<R>>(
     types: Types,
     fault: MetaFault,
 ) -> Result<Explanation, AllocError> {
-    let metadata = match metadata_at(alloc, folder, path) {
-        Ok(metadata) => metadata,
-        Err(early) => return unread(alloc, path, &early),
-    };
-    let metadata = metadata.as_slice();
-    let parameters = match parameters_again(alloc, folder, folder_of(path), metadata) {
-        Ok(parameters) => parameters,
-        Err(early) => return unread(alloc, path, &early),
-    };
-    match explain_metadata(alloc, path, metadata, parameters, types, fault)? {
-        Some(explanation) => Ok(explanation),
-        None => changed(alloc, path),
+    match metadata_at(alloc, folder, path) {
+        Ok(bytes) => of_bytes(alloc, folder, path, bytes.as_slice(), types, fault),
+        Err(early) => unread(alloc, path, &early),
     }
 }
 

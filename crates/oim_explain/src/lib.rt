@@ -43,6 +43,7 @@ mod files;
 mod levels;
 mod line_number;
 mod metadata;
+mod parts;
 mod places;
 mod pointers;
 mod reread;

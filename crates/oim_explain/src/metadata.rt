@@ -1,22 +1,23 @@
 //! The explanation of a fault of the metadata.
 
-ghost use Rattle.std.specs.Prelude.{◌≡◌, IfOk, IfSome, IfNone};
+ghost use Rattle.std.specs.Prelude.{◌≡◌, [], None, IfErr, IfOk, IfSome, IfNone};
+ghost use Rattle.serde_json.specs.View.{view};
 ghost use Rattle.oim_meta.specs.Findings.{finding as finding_at};
-ghost use Rattle.oim_meta.specs.Reading.{SaysReport};
-ghost use Rattle.oim_meta.specs.Refusals.{IsRefusal};
-ghost use Rattle.oim_report.specs.ReportValue.{ReportValue};
+ghost use Rattle.oim_meta.specs.FirstFault.{first_fault};
+ghost use Rattle.oim_meta.specs.Reading.{IsUnread, Reads};
+ghost use Rattle.oim_meta.specs.Refusals.{IsFirstOf};
+ghost use Rattle.oim_meta.specs.WalkReport.{in_metadata};
 ghost use Rattle.oim_entries.specs.declared.fault.MetaFault.TheVariants as refused;
 ghost use Rattle.oim_files.specs.Metadata.{profile};
 ghost use Rattle.oim_explain.specs.Explanations.{ExplainsMetadata, HasBadUrl, HasOther, place_of, url_place};
 
 use crate::causes::cause;
 use crate::explanation::Explanation;
+use crate::parts::part_at;
 use crate::pointers::pointer;
-use crate::standing::{after_mark, standing, value_at};
+use crate::standing::{after_mark, standing};
 use crate::terminal::shown;
-use oim_meta::{
-    Finding, Limits, MetaFault, Parameters, Refusal, Types, parameter_url, read_report_at,
-};
+use oim_meta::{Finding, Limits, MetaFault, Metadata, Parameters, Refusal, Types};
 use oim_names::{Items, Text};
 use serde_json::Value;
 use std::alloc::{AllocError, Global};
@@ -35,11 +36,10 @@ fn place(alloc: Global, path: &str, keys: &[Text]) -> Result<Text, AllocError>
 /// What stands at a place of a metadata that is JSON, and what is wrong with it.
 fn in_value(
     alloc: Global,
-    value: &Value,
+    there: Option<&Value>,
     finding: &Finding,
 ) -> Result<(String, &'static str), AllocError> {
     let keys = finding.place.as_slice();
-    let there = value_at(value, keys);
     Ok((standing(alloc, there)?, cause(finding.fault, keys, there)))
 }
 
@@ -55,19 +55,32 @@ fn in_text(
     Ok((there, cause(finding.fault, &[], None)))
 }
 
-/// What stands at the place of a finding, and what is wrong with it.
+/// What this part of a metadata is, and what is wrong with it.
+fn in_part(
+    alloc: Global,
+    part: &[u8],
+    finding: &Finding,
+) -> Result<(String, &'static str), AllocError> {
+    match Value::from_slice(alloc, part) {
+        Ok(value) => in_value(alloc, Some(&value), finding),
+        Err(error) => in_text(alloc, &error, finding),
+    }
+}
+
+/// What stands at the place of a finding, and what is wrong with it. Only that part is read as JSON.
 fn told(
     alloc: Global,
     bytes: &[u8],
     finding: &Finding,
 ) -> Result<(String, &'static str), AllocError> {
-    if finding.place.as_slice().is_empty() && finding.fault == MetaFault::TooLarge {
+    let keys = finding.place.as_slice();
+    if keys.is_empty() && finding.fault == MetaFault::TooLarge {
         let there = String::from_str(alloc, "(more bytes)")?;
         return Ok((there, cause(finding.fault, &[], None)));
     }
-    match Value::from_slice(alloc, after_mark(bytes)) {
-        Ok(value) => in_value(alloc, &value, finding),
-        Err(error) => in_text(alloc, &error, finding),
+    match part_at(alloc, after_mark(bytes), keys)? {
+        Some(part) => in_part(alloc, part, finding),
+        None => in_value(alloc, None, finding),
     }
 }
 
@@ -102,15 +115,18 @@ fn url_finding(alloc: Global) -> Result<Finding, AllocError>
     })
 }
 
-/// The explanation of a wrong name of the parameters file. `None` if it is not wrong.
+/// The explanation of a wrong name of the parameters file, of the metadata that was read of these bytes. `None` if it is
+/// not wrong.
 fn of_parameter_url(
     alloc: Global,
     path: &str,
     bytes: &[u8],
+    metadata: &Metadata,
 ) -> Result<Option<Explanation>, AllocError>
+    requires { Reads profile bytes.now (view metadata.now) }
     ensures { IfOk result (λ o. IfSome o (λ e. HasBadUrl profile bytes.now refused.BadParameter url_place × (e.place ≡ place_of path.now url_place))) }
 {
-    match parameter_url(alloc, bytes, &Limits::profile()) {
+    match metadata.parameter_url(alloc) {
         Err(MetaFault::BadParameter) => {
             let finding = url_finding(alloc)?;
             Ok(Some(of_finding(alloc, path, bytes, &finding)?))
@@ -139,33 +155,93 @@ fn of_fault(
 }
 
 /// Why a metadata is refused. `None` if it is not.
-fn refusal_of(alloc: Global, bytes: &[u8], parameters: Parameters, types: Types) -> Option<Refusal>
-    ensures some { IfSome result (IsRefusal profile parameters types bytes.now) }
-    ensures none { IfNone result ((r : ReportValue) × SaysReport profile parameters types bytes.now r) }
+fn refusal_of(
+    alloc: Global,
+    metadata: Metadata,
+    parameters: Parameters,
+    types: Types,
+) -> Option<Refusal>
+    ensures some { IfSome result (IsFirstOf (in_metadata profile parameters types (view metadata))) }
+    ensures none { IfNone result (first_fault profile parameters types (view metadata) ≡ None) }
 {
-    match read_report_at(alloc, bytes, parameters, types, Limits::profile()) {
+    match metadata.report_at(alloc, parameters, types, Limits::profile()) {
         Ok(_report) => None,
         Err(refusal) => Some(refusal),
     }
 }
 
-/// The explanation of a fault that is the first finding of the metadata. `None` if it is not.
+/// The explanation of a fault that is the first finding of the metadata that was read of these bytes. `None` if it
+/// is not.
 fn of_first(
     alloc: Global,
     path: &str,
     bytes: &[u8],
+    metadata: Metadata,
     parameters: Parameters,
     types: Types,
     fault: MetaFault,
 ) -> Result<Option<Explanation>, AllocError>
+    requires { Reads profile bytes.now (view metadata) }
     ensures some { IfOk result (λ o. IfSome o (ExplainsMetadata profile parameters types path.now bytes.now fault)) }
     ensures none { IfOk result (λ o. IfNone o (HasOther profile parameters types bytes.now fault)) }
 {
-    match &refusal_of(alloc, bytes, parameters, types) {
+    match &refusal_of(alloc, metadata, parameters, types) {
         None => Ok(None),
         Some(Refusal::Memory) => Err(AllocError),
         Some(Refusal::Found(finding)) => of_fault(alloc, path, bytes, fault, finding),
     }
+}
+
+/// Reads the metadata that has these bytes.
+pub(crate) fn read_again(alloc: Global, bytes: &[u8]) -> Result<Metadata, MetaFault>
+    ensures json { IfOk result (λ m. Reads profile bytes.now (view m)) }
+    ensures fault { IfErr result (IsUnread profile bytes.now) }
+{
+    Metadata::read(alloc, bytes, &Limits::profile())
+}
+
+/// The explanation of a fault for which the metadata is not read. `None` if it is not read for another.
+pub(crate) fn of_unread(
+    alloc: Global,
+    path: &str,
+    bytes: &[u8],
+    unread: MetaFault,
+    fault: MetaFault,
+) -> Result<Option<Explanation>, AllocError>
+    ensures known { IfOk result (λ _. ¬ (unread ≡ refused.Memory)) }
+    ensures some { IfOk result (λ o. IfSome o (λ e. (unread ≡ fault) × (e.place ≡ place_of path.now []))) }
+    ensures none { IfOk result (λ o. IfNone o (¬ (unread ≡ fault))) }
+{
+    if unread == MetaFault::Memory {
+        return Err(AllocError);
+    }
+    let finding = Finding {
+        fault: unread,
+        place: Items::new(alloc),
+    };
+    of_fault(alloc, path, bytes, fault, &finding)
+}
+
+/// The explanation of a fault of the metadata that was read of these bytes, as `explain_metadata` gives it.
+pub(crate) fn explain_value(
+    alloc: Global,
+    path: &str,
+    bytes: &[u8],
+    metadata: Metadata,
+    parameters: Parameters,
+    types: Types,
+    fault: MetaFault,
+) -> Result<Option<Explanation>, AllocError>
+    requires { Reads profile bytes.now (view metadata) }
+    ensures some { IfOk result (λ o. IfSome o (ExplainsMetadata profile parameters types path.now bytes.now fault)) }
+    ensures none { IfOk result (λ o. IfNone o (HasOther profile parameters types bytes.now fault)) }
+{
+    if fault == MetaFault::BadParameter {
+        if let Some(explanation) = of_parameter_url(alloc, path, bytes, &metadata)? {
+            return Ok(Some(explanation));
+        }
+    }
+    of_first(alloc, path, bytes, metadata, parameters, types, fault)
 }
 
 /// The explanation of a fault of the metadata that has these bytes and stands at this path, with the
@@ -183,10 +259,8 @@ pub fn explain_metadata(
     ensures some { IfOk result (λ o. IfSome o (ExplainsMetadata profile parameters types path.now bytes.now fault)) }
     ensures none { IfOk result (λ o. IfNone o (HasOther profile parameters types bytes.now fault)) }
 {
-    if fault == MetaFault::BadParameter {
-        if let Some(explanation) = of_parameter_url(alloc, path, bytes)? {
-            return Ok(Some(explanation));
-        }
+    match read_again(alloc, bytes) {
+        Ok(metadata) => explain_value(alloc, path, bytes, metadata, parameters, types, fault),
+        Err(unread) => of_unread(alloc, path, bytes, unread, fault),
     }
-    of_first(alloc, path, bytes, parameters, types, fault)
 }

@@ -1,23 +1,10 @@
 //! What stands at a place of a JSON value.
 
 use crate::excerpts::excerpt;
-use oim_names::Text;
 use serde_json::Value;
 use std::alloc::{AllocError, Global};
 
 /// The value to which keys lead, if there is one.
-pub(crate) fn value_at<'v>(value: &'v Value, keys: &[Text]) -> Option<&'v Value> {
-    let mut here = value;
-    for key in keys {
-        here = match here.get(key.as_str()) {
-            Some(next) => next,
-            None => return None,
-        };
-    }
-    Some(here)
-}
-
-/// The same for keys of which no list of texts is at hand.
 pub(crate) fn value_under<'v>(value: &'v Value, keys: &[&str]) -> Option<&'v Value> {
     let mut here = value;
     for key in keys {

@@ -1,10 +1,8 @@
-use Rattle.std.proofs.Common.{◌≡◌, inr, refl, rules}
-use Rattle.oim_entries.specs.declared.fault.MetaFault.TheVariants as refused
-use Rattle.oim_explain.specs.Explanations.{url_place}
+use Rattle.oim_files.specs.Metadata.{profile}
+use Rattle.oim_explain.proofs.Findings.{other_unread}
 use Rattle.oim_explain.proofs.metadata.explain_metadata.Goals as goal
 
-pub returns-in-Some-clause-some : goal.returns-in-Some-clause-some
-returns-in-Some-clause-some c =
-    let h = rw c.in-Some.is at c.in_ok-explanation.ensures in
-    let same : c.args.fault ≡ refused.BadParameter = search rules in
-    record { place = url_place; found = inr (same, h.0.1, refl); named = h.1 }
+pub returns-in-Err-clause-none : goal.returns-in-Err-clause-none
+returns-in-Err-clause-none c =
+    other_unread profile c.args.parameters c.args.types c.args.bytes.now c.args.fault c.in-Err.unread c.of_unread.result c.in-Err.ensures.fault
+    c.of_unread.ensures.known c.of_unread.ensures.none
