@@ -6,8 +6,8 @@ use oim_json::{Layout, Marked};
 use oim_meta::{Limits, Report};
 use oim_run::{
     Conversion, Course, Folder, METADATA, Outcome, Request, Settings, Source, TABLE, TYPES, Texts,
-    convert_as, convert_report, convert_to, line, request_of, run,
-    run_to, shown, status, terminal_line,
+    convert_as, convert_report, convert_to, line, request_of, run, run_to, shown, status,
+    terminal_line,
 };
 use std::alloc::{AllocError, Global};
 use std::sync::Wait;

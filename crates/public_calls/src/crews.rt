@@ -1,8 +1,8 @@
 //! Calls of `oim_crew`, but for those that need a scope of threads: `oim_convert` makes these.
 
 use oim_crew::{
-    Claims, Crew, Posts, Room, Seat, Serve, Shift, ShiftOf, Shifts, Site, Station, UnderWay, all_idle,
-    crew_of,
+    Claims, Crew, Posts, Room, Seat, Serve, Shift, ShiftOf, Shifts, Site, Station, UnderWay,
+    all_idle, crew_of,
 };
 use std::alloc::{AllocError, Global};
 use std::test::Fail;
