@@ -21,10 +21,11 @@ use Rattle.oim_run.proofs.Waiting.{appends_then, keeps_same, took_all, took_some
 use Rattle.oim_json.specs.declared.mark.Mark.TheVariants as «marks»
 use Rattle.oim_files.specs.Metadata.{profile}
 use Rattle.oim_run.specs.Buffers.{Buffered, flushed, told_behind}
-use Rattle.oim_files.specs.Folders.{Files, IsFolderOf}
+use Rattle.std.specs.Borrow.{Bor}
+use Rattle.oim_files.specs.Folders.{Files, IsFolderOf, first_at}
 use Rattle.oim_run.specs.Naming.{outcome_by}
 use Rattle.oim_run.specs.Outcomes.{EndsAs, Leaves, table_ids}
-use Rattle.oim_run.specs.Runs.{EndsOver, range_fault, table_file, table_files}
+use Rattle.oim_run.specs.Runs.{EndsOver, files_of, range_fault, table_file, table_files}
 use Rattle.oim_files.specs.Steps.{IsReport}
 use Rattle.oim_files.specs.declared.early_fault.EarlyFault.{EarlyFault}
 use Rattle.oim_files.specs.declared.early_fault.EarlyFault.TheVariants as early
@@ -106,6 +107,14 @@ over_same files meta meta' types types' workers workers' ring ring' layout layou
     (subst (λ w. Buffered (EndsOver files meta' types' w ring layout) old new o) others.0
     (subst (λ t. Buffered (EndsOver files meta' t workers ring layout) old new o) paths.1
     (subst (λ m. Buffered (EndsOver files m types workers ring layout) old new o) paths.0 ends))))
+
+-- what holds of files in memory, by what is lent of them
+pub over_held : (p q r a b x : Bor (List ℕ)) (metadata types table : List ℕ) (P : Files → Type 0) → a.now ≡ metadata → b.now ≡ types → x.now ≡ table
+    → P (first_at ((p, a) ∷ (q, b) ∷ (r, x) ∷ [])) → P (files_of ((p.now, metadata) ∷ (q.now, types) ∷ (r.now, table) ∷ []))
+over_held p q r a b x metadata types table P one two three given =
+    subst (λ z. P (files_of ((p.now, metadata) ∷ (q.now, types) ∷ (r.now, z) ∷ []))) three
+    (subst (λ z. P (files_of ((p.now, metadata) ∷ (q.now, z) ∷ (r.now, x.now) ∷ []))) two
+    (subst (λ z. P (files_of ((p.now, z) ∷ (q.now, b.now) ∷ (r.now, x.now) ∷ []))) one given))
 
 -- a run that stops before the conversion
 pub stops : (known : Option Files) (base meta types : List ℕ) (workers ring : ℕ) (layout : Layout) (sink : SinkView) (e : EarlyFault) (o : Outcome) → IsFolderOf base meta
