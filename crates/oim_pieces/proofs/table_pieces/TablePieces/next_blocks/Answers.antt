@@ -1,0 +1,33 @@
+use Rattle.std.proofs.Common.{◌≡◌, None, ap, sym, subst, ◌∙◌, IfSome}
+use Rattle.oim_decode.specs.Blocks.{ReadsRows}
+use Rattle.oim_rows.specs.Streams.{facts_of_rows}
+use Rattle.oim_pieces.specs.Flights.{EndsWith, KeepsStream, PiecesLeft, behind, left_of, stream_in}
+use Rattle.oim_pieces.proofs.FlightLaws.{stream_then}
+use Rattle.oim_pieces.proofs.Gives.{fault_given, piece_given, short_given}
+use Rattle.oim_pieces.proofs.table_pieces.TablePieces.next_blocks.Goals as goal
+
+pub returns-in-Some-join_front-clause-blocks : goal.returns-in-Some-join_front-clause-blocks
+returns-in-Some-join_front-clause-blocks g c =
+    let flight = c.self.inside.flight in
+    let ahead = c.decode_ahead.new.self in
+    let joined = c.in-Some-join_front.joined in
+    let kept = stream_then (stream_in flight) (stream_in c.start_ahead.new.self) (stream_in ahead) c.start_ahead.ensures.stream c.decode_ahead.ensures.stream in
+    let old = ap (λ o. left_of o (stream_in flight)) (sym c.in-None.is) ∙ ap (λ (p : PiecesLeft). p.left) c.self.view_is in
+    let table = c.decode_ahead.ensures.table ∙ c.start_ahead.ensures.table ∙ ap (λ (p : PiecesLeft). p.table) c.self.view_is in
+    let read = rw c.in-Some-join_front.is at c.join_front.ensures.some in
+    let gave = rw c.in-None.is at c.give.ensures.blocks in
+    piece_given c.args.self.now.table (λ blocks. facts_of_rows blocks.items) c.give.result c.args.self.now.left (stream_in ahead) (stream_in c.join_front.new.self) joined.rows joined.fault
+    _ (subst (λ o. KeepsStream o (stream_in ahead)) old kept) (rw table at read) gave
+
+pub returns-in-Some-join_front-clause-fault : goal.returns-in-Some-join_front-clause-fault
+returns-in-Some-join_front-clause-fault g c =
+    let flight = c.self.inside.flight in
+    let ahead = c.decode_ahead.new.self in
+    let joined = c.in-Some-join_front.joined in
+    let kept = stream_then (stream_in flight) (stream_in c.start_ahead.new.self) (stream_in ahead) c.start_ahead.ensures.stream c.decode_ahead.ensures.stream in
+    let old = ap (λ o. left_of o (stream_in flight)) (sym c.in-None.is) ∙ ap (λ (p : PiecesLeft). p.left) c.self.view_is in
+    let table = c.decode_ahead.ensures.table ∙ c.start_ahead.ensures.table ∙ ap (λ (p : PiecesLeft). p.table) c.self.view_is in
+    let read = rw c.in-Some-join_front.is at c.join_front.ensures.some in
+    let short = rw (c.join_front.ensures.table ∙ table) at c.give.ensures.fault in
+    short_given c.args.self.now.table c.give.result c.args.self.now.left (stream_in ahead) (stream_in c.join_front.new.self) joined.rows joined.fault
+    _ (subst (λ o. KeepsStream o (stream_in ahead)) old kept) (rw table at read) short
