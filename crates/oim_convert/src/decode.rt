@@ -10,6 +10,7 @@ ghost use Rattle.oim_rows.specs.Streams.{table_stream};
 ghost use Rattle.oim_rows.specs.declared.fault.TableKind.TheVariants as kind;
 
 use crate::job::Job;
+use crate::pieces::send_table;
 use crate::sending::{close_waiting, put_waiting};
 use oim_decode::TableBlocks;
 use oim_report::{Limits, Report};
@@ -18,6 +19,7 @@ use oim_rows::{TableFault, TableKind};
 use std::alloc::Global;
 use std::io::Read;
 use std::sync::Wait;
+use std::thread::Threads;
 
 /// The ending of a table that is refused as a whole.
 pub(crate) fn refused(table: usize, kind: TableKind) -> Ending
@@ -33,7 +35,7 @@ pub(crate) fn refused(table: usize, kind: TableKind) -> Ending
 
 /// Decodes a table: sends its facts, and closes its feed with its ending. `None` if the token of the
 /// feed is lost.
-pub(crate) fn decode<R: Read + Drop, T: Wait>(
+pub(crate) fn decode<R: Read + Drop, T: Threads + Wait>(
     rt: &T,
     alloc: Global,
     report: &Report,
@@ -51,11 +53,13 @@ pub(crate) fn decode<R: Read + Drop, T: Wait>(
         table,
         reader,
         mut feed,
+        helpers,
     } = job;
     let ending = match reader {
         None => without_file(report, table),
-        Some(reader) => send_file(rt, alloc, report, table, reader, limits, &mut feed),
+        Some(reader) => send_table(rt, alloc, report, table, reader, limits, &helpers, &mut feed),
     };
+    helpers.table_done();
     close_waiting(rt, feed, ending)
 }
 
@@ -71,7 +75,7 @@ pub(crate) fn without_file(report: &Report, table: usize) -> Ending
 }
 
 /// Sends the facts of a table's file, and gives the table's ending.
-fn send_file<R: Read + Drop, T: Wait>(
+pub(crate) fn send_file<R: Read + Drop, T: Wait>(
     rt: &T,
     alloc: Global,
     report: &Report,

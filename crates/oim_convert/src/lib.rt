@@ -66,6 +66,7 @@ mod job;
 mod lanes;
 mod laws;
 mod limits;
+mod pieces;
 mod returning;
 mod run;
 mod scope;
