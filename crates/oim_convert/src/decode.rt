@@ -57,7 +57,9 @@ pub(crate) fn decode<R: Read + Drop, T: Threads + Wait>(
     } = job;
     let ending = match reader {
         None => without_file(report, table),
-        Some(reader) => send_table(rt, alloc, report, table, reader, limits, &helpers, &mut feed),
+        Some(reader) => send_table(
+            rt, alloc, report, table, reader, limits, &helpers, &mut feed,
+        ),
     };
     helpers.table_done();
     close_waiting(rt, feed, ending)

@@ -13,18 +13,18 @@ module _ (table : ℕ) where
   -- the same end or fault again
   pub again_ended : (left : Option Stream) (o : Option TableFault) → o ≡ None → IfSome (left_of (Some o) left) (λ s. GivesBlock table [] s (Ok None) [] (left_of (Some o) left))
   again_ended left o is = subst (λ p. IfSome (left_of (Some p) left) (λ s. GivesBlock table [] s (Ok None) [] (left_of (Some p) left))) (sym is) (record {
-      rows = [];
-      reads = inl (refl, refl);
-      answers = (refl, refl, refl);
-    })
+    rows = [];
+    reads = inl (refl, refl);
+    answers = (refl, refl, refl);
+  })
 
   pub again_failed : (left : Option Stream) (o : Option TableFault) (e : TableFault) → o ≡ Some e
       → IfSome (left_of (Some o) left) (λ s. GivesBlock table [] s (Err e) [] (left_of (Some o) left))
   again_failed left o e is = subst (λ p. IfSome (left_of (Some p) left) (λ s. GivesBlock table [] s (Err e) [] (left_of (Some p) left))) (sym is) (record {
-      rows = [];
-      reads = inl (refl, refl);
-      answers = (refl, refl, inl refl);
-    })
+    rows = [];
+    reads = inl (refl, refl);
+    answers = (refl, refl, inl refl);
+  })
 
   -- the blocks of a piece
   piece-gives : (s : Stream) (rows : List (List Fact)) (facts : List Fact) (left : Option Stream) → ReadsRows table s rows left → facts ≡ facts_of_rows rows

@@ -3,4 +3,3 @@ pub mod Openings
 pub mod Gives
 pub mod CutLaws
 pub mod SpareLaws
-pub mod Sends

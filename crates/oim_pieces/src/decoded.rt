@@ -85,18 +85,27 @@ impl<'a> Asked<'a> {
     }
 }
 
-/// Decodes a piece, whose first row has this number, and then sets a flag.
-pub(crate) fn decode_and_tell<'a>(
-    decoder: PieceDecoder<'a>,
-    bytes: Vec<u8>,
-    first: u32,
-    done: Arc<AtomicBool>,
-) -> Decoded<'a>
-    requires { first ≤ decoder.reading.limit + 1 }
-    ensures answer { IsAnswer decoder.entry.reading first (records_left state.StartRecord bytes.items) result.answer }
-    ensures reading { result.decoder.reading ≡ decoder.entry.reading }
+/// What a thread is given: a decoder, a piece, the number of its first row, and a flag.
+#[derive(Drop)]
+pub(crate) struct Duty<'a> {
+    pub(crate) decoder: PieceDecoder<'a>,
+    pub(crate) bytes: Vec<u8>,
+    pub(crate) first: u32,
+    pub(crate) done: Arc<AtomicBool>,
+}
+
+/// Decodes a piece, and then sets the flag.
+pub(crate) fn decode_and_tell<'a>(duty: Duty<'a>) -> Decoded<'a>
+    requires { duty.first ≤ duty.decoder.reading.limit + 1 }
+    ensures answer { IsAnswer duty.entry.decoder.reading duty.entry.first (records_left state.StartRecord duty.entry.bytes.items) result.answer }
+    ensures reading { result.decoder.reading ≡ duty.entry.decoder.reading }
 {
-    let mut decoder = decoder;
+    let Duty {
+        mut decoder,
+        bytes,
+        first,
+        done,
+    } = duty;
     let answer = decoder.decode(bytes, first);
     done.store(true, Ordering::SeqCst);
     Decoded { decoder, answer }

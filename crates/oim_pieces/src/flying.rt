@@ -6,7 +6,7 @@ ghost use Rattle.oim_records.specs.Grids.{records_left};
 ghost use Rattle.oim_pieces.specs.Flights.{IsAnswer};
 
 use crate::cutter::CutPiece;
-use crate::decoded::{Asked, Decoded, decode_and_tell};
+use crate::decoded::{Asked, Decoded, Duty, decode_and_tell};
 use crate::decoders::Decoders;
 use crate::helpers::Helpers;
 use oim_decode::{PieceAnswer, PieceDecoder};
@@ -107,7 +107,13 @@ pub(crate) fn start<'s, E>(
     let CutPiece { bytes, first } = piece;
     let asked = Asked::of(decoder.form(), &bytes, first);
     let promise = Asked::of(decoder.form(), &bytes, first);
-    match scope.spawn_with(promise, move || decode_and_tell(decoder, bytes, first, done)) {
+    let duty = Duty {
+        decoder,
+        bytes,
+        first,
+        done,
+    };
+    match scope.spawn_with(promise, move || decode_and_tell(duty)) {
         Ok(handle) => Flying {
             asked,
             coming: Coming::Thread(handle, seen),

@@ -16,7 +16,7 @@ invariant_of-result g c =
       ap (λ (x : Reading). x.table) c.new-2.ensures ∙ sym (ap (λ (x : CutterLeft). x.table) c.new.ensures),
       ap (λ (x : Reading). x.limit) c.new-2.ensures ∙ sym (ap (λ (x : CutterLeft). x.limit) c.new.ensures),
       behind_chain c.args.report.now c.args.table c.args.limit c.args.head c.push_back_reserved.new.self.items f c.new-2.result c.new.result.next items reads
-        (c.here.ensures.1 ∙ c.of_head-asked.ensures.1) (c.here.ensures.2 ∙ c.of_head-asked.ensures.2) c.requires.header next,
+          (c.here.ensures.1 ∙ c.of_head-asked.ensures.1) (c.here.ensures.2 ∙ c.of_head-asked.ensures.2) c.requires.header next,
     )
 
 pub returns-clause-stream : goal.returns-clause-stream

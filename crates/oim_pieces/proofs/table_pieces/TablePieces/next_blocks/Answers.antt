@@ -1,7 +1,6 @@
-use Rattle.std.proofs.Common.{◌≡◌, None, ap, sym, subst, ◌∙◌, IfSome}
-use Rattle.oim_decode.specs.Blocks.{ReadsRows}
+use Rattle.std.proofs.Common.{ap, refl, sym, subst, ◌∙◌}
 use Rattle.oim_rows.specs.Streams.{facts_of_rows}
-use Rattle.oim_pieces.specs.Flights.{EndsWith, KeepsStream, PiecesLeft, behind, left_of, stream_in}
+use Rattle.oim_pieces.specs.Flights.{KeepsStream, PiecesLeft, left_of, stream_in}
 use Rattle.oim_pieces.proofs.FlightLaws.{stream_then}
 use Rattle.oim_pieces.proofs.Gives.{fault_given, piece_given, short_given}
 use Rattle.oim_pieces.proofs.table_pieces.TablePieces.next_blocks.Goals as goal
@@ -31,3 +30,9 @@ returns-in-Some-join_front-clause-fault g c =
     let short = rw (c.join_front.ensures.table ∙ table) at c.give.ensures.fault in
     short_given c.args.self.now.table c.give.result c.args.self.now.left (stream_in ahead) (stream_in c.join_front.new.self) joined.rows joined.fault
     _ (subst (λ o. KeepsStream o (stream_in ahead)) old kept) (rw table at read) short
+
+pub returns-in-None-join_front-clause-fault : goal.returns-in-None-join_front-clause-fault
+returns-in-None-join_front-clause-fault g c =
+    let table = c.join_front.ensures.table ∙ c.decode_ahead.ensures.table ∙ c.start_ahead.ensures.table ∙ ap (λ (p : PiecesLeft). p.table) c.self.view_is in
+    fault_given c.args.self.now.table c.answer_of-in-None-join_front.result c.args.self.now.left (stream_in c.join_front.new.self) _ c.end-end.result
+    (rw table at c.end-end.ensures) c.answer_of-in-None-join_front.ensures.err refl
