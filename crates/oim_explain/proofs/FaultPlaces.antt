@@ -11,7 +11,8 @@ use Rattle.oim_records.specs.Grids.{Record, grid}
 use Rattle.oim_report.specs.ReportValue.{ReportValue}
 use Rattle.oim_resolve.specs.FactParts.{FactParts as Fact}
 use Rattle.oim_rows.specs.Header.{file_header_fault}
-use Rattle.oim_rows.specs.Streams.{GivesNext, IsOutside, Stream, ending, stream_of}
+use Rattle.oim_decode.specs.Blocks.{GivesBlock, ReadsRows}
+use Rattle.oim_rows.specs.Streams.{IsOutside, Stream, ending, stream_of}
 use Rattle.oim_rows.specs.declared.fault.TableFault.{TableFault}
 use Rattle.oim_explain.specs.Explanations.{IsReportOf}
 use Rattle.oim_explain.specs.FaultRows.{FoundIn, HasRecordOf, HasRow, IsFaultOf, IsPlaceAt, IsRowAt, as_text, byte_shown, fault_in, field_in, is_of_file, row_at, unknown_place}
@@ -21,31 +22,49 @@ use Rattle.oim_explain.specs.declared.rows.RowAgain.{RowAgain}
 
 -- ---- the fault
 
--- the stream that is left has the fault of the file
+-- the fault of a stream that is left is that of the file, unless the reader failed or memory ran out
+abbrev LeavesFault : ReportValue → ℕ → List ℕ → Stream → Type 0
+LeavesFault report table bytes s = (s.fault ≡ fault_in report table bytes) ⊎ ((e : TableFault) × IsOutside table e × (s.fault ≡ Some e))
+
 abbrev pub KeepsFault : ReportValue → ℕ → Option (List ℕ) → Option Stream → Type 0
 KeepsFault report table None left = ⊤
 KeepsFault report table (Some bytes) None = ⊥
-KeepsFault report table (Some bytes) (Some s) = s.fault ≡ fault_in report table bytes
+KeepsFault report table (Some bytes) (Some s) = LeavesFault report table bytes s
 
 pub keeps_start : (report : ReportValue) (table limit : ℕ) (known : Option (List ℕ)) (left : Option Stream) → limit ≡ profile.rows
     → IfSome known (λ bytes. left ≡ Some (stream_of report table limit (grid bytes))) → KeepsFault report table known left
 keeps_start report table limit None left same is = tt
 keeps_start report table limit (Some bytes) left same is =
-    subst (KeepsFault report table (Some bytes)) (sym is) (ap (λ l. (stream_of report table l (grid bytes)).fault) same)
+    subst (KeepsFault report table (Some bytes)) (sym is) (inl (ap (λ l. (stream_of report table l (grid bytes)).fault) same))
 
-pub keeps_next : (report : ReportValue) (table at : ℕ) (known : Option (List ℕ)) (left after : Option Stream) (facts : List Fact) → KeepsFault report table known left
-    → IfSome left (λ s. GivesNext at s (Ok (Some facts)) after) → KeepsFault report table known after
-keeps_next report table at None left after facts keeps gives = tt
-keeps_next report table at (Some bytes) None after facts keeps gives = absurd keeps
-keeps_next report table at (Some bytes) (Some s) None facts keeps gives = absurd gives
-keeps_next report table at (Some bytes) (Some s) (Some rest) facts keeps gives = sym (ap (λ (x : Stream). x.fault) gives) ∙ keeps
+-- rows that were read leave the fault
+reads_fault : (report : ReportValue) (table : ℕ) (bytes : List ℕ) (s rest : Stream) (rows : List (List Fact)) → ReadsRows table s rows (Some rest)
+    → LeavesFault report table bytes s → LeavesFault report table bytes rest
+reads_fault report table bytes s rest rows (inl same) (inl is) = inl (sym same.1 ∙ is)
+reads_fault report table bytes s rest rows (inl same) (inr out) = inr (out.0, out.1, sym same.1 ∙ out.2)
+reads_fault report table bytes s rest rows (inr ended) keeps = inr (ended.1, ended.2, ap (λ (x : Stream). x.fault) ended.3)
 
-pub keeps_found : (report : ReportValue) (table at : ℕ) (known : Option (List ℕ)) (left after : Option Stream) (e : TableFault) → at ≡ table → KeepsFault report table known left
-    → IfSome left (λ s. GivesNext at s (Err e) after) → IfSome known (λ bytes. IsFaultOf report table bytes e)
-keeps_found report table at None left after e same keeps gives = tt
-keeps_found report table at (Some bytes) None after e same keeps gives = absurd keeps
-keeps_found report table at (Some bytes) (Some s) after e same keeps (inl outside) = inl (subst (λ t. IsOutside t e) same outside)
-keeps_found report table at (Some bytes) (Some s) after e same keeps (inr is) = inr (sym keeps ∙ ap (λ (x : Stream). x.fault) is)
+pub keeps_next : (report : ReportValue) (table at : ℕ) (known : Option (List ℕ)) (left after : Option Stream) (before facts pending : List Fact) → at ≡ table
+    → KeepsFault report table known left → IfSome left (λ s. GivesBlock at before s (Ok (Some facts)) pending after) → KeepsFault report table known after
+keeps_next report table at None left after before facts pending same keeps gives = tt
+keeps_next report table at (Some bytes) None after before facts pending same keeps gives = absurd keeps
+keeps_next report table at (Some bytes) (Some s) None before facts pending same keeps gives = absurd gives.reads
+keeps_next report table at (Some bytes) (Some s) (Some rest) before facts pending same keeps gives =
+    reads_fault report table bytes s rest gives.rows (subst (λ t. ReadsRows t s gives.rows (Some rest)) same gives.reads) keeps
+
+-- the fault that is left is answered
+answered : (report : ReportValue) (table : ℕ) (bytes : List ℕ) (e : TableFault) → LeavesFault report table bytes (ending (Some e)) → IsFaultOf report table bytes e
+answered report table bytes e (inl is) = inr (sym is)
+answered report table bytes e (inr out) = inl (subst (λ x. IsOutside table x) (sym (ap (λ o. unwrap_or o e) out.2)) out.1)
+
+pub keeps_found : (report : ReportValue) (table at : ℕ) (known : Option (List ℕ)) (left after : Option Stream) (before pending : List Fact) (e : TableFault) → at ≡ table
+    → KeepsFault report table known left → IfSome left (λ s. GivesBlock at before s (Err e) pending after) → IfSome known (λ bytes. IsFaultOf report table bytes e)
+keeps_found report table at None left after before pending e same keeps gives = tt
+keeps_found report table at (Some bytes) None after before pending e same keeps gives = absurd keeps
+keeps_found report table at (Some bytes) (Some s) after before pending e same keeps gives =
+    let reads : ReadsRows at s gives.rows (Some (ending (Some e))) = subst (λ a. ReadsRows at s gives.rows a) gives.answers.1 gives.reads in
+    answered report table bytes e
+    (reads_fault report table bytes s (ending (Some e)) gives.rows (subst (λ t. ReadsRows t s gives.rows (Some (ending (Some e)))) same reads) keeps)
 
 refused : (report : ReportValue) (table limit : ℕ) (records : List Record) (e : TableFault) → file_header_fault report table records ≡ Some e
     → stream_of report table limit records ≡ ending (Some e)
