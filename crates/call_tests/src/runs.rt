@@ -97,7 +97,7 @@ struct Counting {
     runs: usize,
 }
 
-impl<T> Conversion<T> for Counting {
+impl<T: Threads + Wait + Sync> Conversion<T> for Counting {
     fn to_standard_output(&mut self, _threads: &T) -> Outcome {
         self.runs = self.runs.saturating_add(1);
         Outcome::Done

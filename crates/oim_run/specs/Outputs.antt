@@ -1,5 +1,5 @@
 -- Where a document goes, and which outcome its run has.
-use Rattle.std.specs.Prelude.{◌≡◌, ◌⊎◌, ◌≤◌, ℕ, List, [], ◌∷◌, ◌++◌, Option, Some, None}
+use Rattle.std.specs.Prelude.{◌≡◌, ◌⊎◌, ◌≤◌, ℕ, List, [], ◌∷◌, ◌++◌, Option, Some, None, IfSome}
 use Rattle.oim_run.specs.CommandLine.{IsInput}
 use Rattle.oim_run.specs.Lines.{status_of}
 use Rattle.oim_run.specs.Early.{no_memory}
@@ -41,3 +41,13 @@ IsLeftUnwritten (Some path) ended o = (status_of ended ≤ 1) × IsUnwritten pat
 -- what is told last of a run that ended so: its outcome, or that the file of the faults cannot be written
 abbrev pub IsToldLast : Option (List ℕ) → Outcome → Outcome → Type 0
 IsToldLast faults ended o = (o ≡ ended) ⊎ IsLeftUnwritten faults ended o
+
+-- a program that converts so ends with this status: its conversion is run once, where it tells what it ran, and none is run for a path that is an
+-- input's. The status is that of the conversion's outcome, or of the file of the faults that cannot be written behind it
+pub record EndsTold (s : Settings) (faults : Option (List ℕ)) (before after : Option Ran) (status : ℕ) : Type 0 where
+  pub ended : Outcome
+  pub once : IfSome before (λ ran. EndsFor s ran after ended)
+  pub input : IfSome s.out (λ path. IsInput s path → IsUnwritten path ended)
+  pub last : Outcome
+  pub told : IsToldLast faults ended last
+  pub exit : status ≡ status_of last

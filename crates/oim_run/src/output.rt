@@ -12,8 +12,8 @@ use std::alloc::Global;
 use std::sync::Wait;
 use std::thread::Threads;
 
-/// The conversion of a report to one output or another.
-pub trait Conversion<T> {
+/// The conversion of a report to one output or another, on threads that a `T` starts.
+pub trait Conversion<T: Threads + Wait + Sync> {
     /// The conversions that were run so far, each with its output and its outcome, if that is told.
     ghost ran: { Self → Option Ran } = { λ _. None };
 

@@ -22,7 +22,7 @@ use std::sync::atomic::{AtomicBool, Ordering};
 use std::{fs, io};
 
 /// The outcome of a run that cannot write the file at this path.
-pub fn cannot_write(alloc: Global, path: &str) -> Outcome
+fn cannot_write(alloc: Global, path: &str) -> Outcome
     ensures { IsUnwritten path.now result }
 {
     match Text::from_str(alloc, path) {

@@ -10,9 +10,11 @@
 //!
 //! - the exit status is that of the outcome, or of the kind of fault that the words have; 3 where the
 //!   help or the version that they ask for cannot be printed;
-//! - an output that is written as the path of the metadata or of the types table cannot be written
-//!   (`convert_apart`). That no other path leads to a file of the report is looked at by device and inode,
-//!   and only tests show it.
+//! - exactly one conversion is run, to the output that the words name, and the exit status is that of its
+//!   outcome, or of the file of the faults that cannot be written behind it; none is run for an output that
+//!   is written as the path of the metadata or of the types table (`convert_and_tell`, over any
+//!   `Conversion`). That no other path leads to a file of the report is looked at by device and inode, and
+//!   only tests show it.
 //!
 //! Nothing is claimed about what the system's files hold, what its output takes, what it says about the
 //! arguments, or the line that `--progress` shows.
@@ -29,11 +31,11 @@ mod paths;
 mod progress;
 mod said;
 
-use faults::{refused_before, write_faults};
+use faults::refused_before;
 use oim_convert::ConvertFault;
 use oim_run::{Outcome, convert_to, request_of};
-use output::convert_apart;
-use said::{explained, told, told_as_asked};
+use output::FromDisk;
+use said::{convert_and_tell, explained, told};
 use std::alloc::Global;
 use std::io;
 use std::io::ErrorKind;
@@ -63,12 +65,12 @@ fn started<T: Threads + Wait + Sync>(
     if let Some(outcome) = refused_before(rt, alloc, &request) {
         return told(rt, alloc, &outcome);
     }
-    let outcome = convert_apart(rt, threads, alloc, &request);
-    let status = told_as_asked(rt, alloc, &request, &outcome);
-    match write_faults(rt, alloc, &request, &outcome) {
-        Some(unwritten) => told(rt, alloc, &unwritten),
-        None => status,
-    }
+    let mut conversion = FromDisk {
+        rt,
+        alloc,
+        request: &request,
+    };
+    convert_and_tell(rt, threads, alloc, &request, &mut conversion)
 }
 
 /// Runs with the arguments of the process, and gives the exit status.

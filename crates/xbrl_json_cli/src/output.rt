@@ -1,18 +1,18 @@
 //! The output of a run: a file or standard output, written through a buffer.
 
-ghost use Rattle.std.specs.Prelude.{◌≡◌, IfNone, IfSome};
+ghost use Rattle.std.specs.Prelude.{IfSome};
 ghost use Rattle.oim_run.specs.CommandLine.{IsInput};
-ghost use Rattle.oim_run.specs.Outputs.{IsUnwritten};
+ghost use Rattle.oim_run.specs.Outputs.{EndsFor, IsUnwritten};
 
 use crate::disk::Disk;
 use crate::emptied::OpenOutput;
-use crate::faults::{FaultsFile, cannot_write};
+use crate::faults::FaultsFile;
 use crate::file_id::{FileId, Written};
 use crate::new_file::NewFile;
 use crate::paths::reached;
 use crate::progress::{Counted, Progress};
 use oim_json::WriteFault;
-use oim_run::{Folder, Outcome, Request, Settings, run_to};
+use oim_run::{Conversion, Folder, Outcome, Request, Settings, convert_as, run_to};
 use std::alloc::Global;
 use std::fs::Metadata;
 use std::io::{IsTerminal, Read, Write};
@@ -174,53 +174,46 @@ fn convert_into<T: Threads + Wait + Sync>(
     }
 }
 
-/// The outcome of a conversion to the file at this path: its own, or that the file cannot be written.
-fn outcome_at(alloc: Global, path: &str, converted: Option<Outcome>) -> Outcome
-    ensures own { IfSome converted (λ o. result ≡ o) }
-    ensures none { IfNone converted (IsUnwritten path.now result) }
-{
-    match converted {
-        Some(outcome) => outcome,
-        None => cannot_write(alloc, path),
-    }
+/// The conversion of the report that the words name, from the system's files. A file of the report (the metadata,
+/// the types table, the parameters file or a table), by whatever path, cannot be written, and stays as it was.
+#[derive(Clone, Copy)]
+pub struct FromDisk<'a> {
+    /// The system.
+    pub rt: &'a HostRuntime,
+    /// Where memory comes from.
+    pub alloc: Global,
+    /// What the words ask for.
+    pub request: &'a Request,
 }
 
-/// Runs over the system's files, and writes the document to the file `settings.out`, or to standard
-/// output. A file of the report (the metadata, the types table, the parameters file or a table), by
-/// whatever path, cannot be written, and stays as it was. `threads` starts the workers' threads.
-fn convert_once<T: Threads + Wait + Sync>(
-    rt: &HostRuntime,
-    threads: &T,
-    alloc: Global,
-    request: &Request,
-) -> Outcome
-    ensures { IfSome request.now.settings.out (λ path. IsInput request.now.settings path → IsUnwritten path result) }
-{
-    let Some(path) = &request.settings.out else {
+impl<'a, T: Threads + Wait + Sync> Conversion<T> for FromDisk<'a> {
+    fn to_standard_output(&mut self, threads: &T) -> Outcome {
         let written = Written::new(None, None);
-        return run_watched(rt, threads, alloc, request, &written, io::writer(rt));
-    };
-    let path = path.as_str();
-    if request.settings.reads(path) {
-        return cannot_write(alloc, path);
+        let to = io::writer(self.rt);
+        run_watched(self.rt, threads, self.alloc, self.request, &written, to)
     }
-    outcome_at(alloc, path, convert_into(rt, threads, alloc, request, path))
+
+    fn to_file(&mut self, threads: &T, path: &str) -> Option<Outcome> {
+        convert_into(self.rt, threads, self.alloc, self.request, path)
+    }
 }
 
-/// Runs over the system's files as `convert_once` does, with the numbers of standard input, output and error
-/// taken: where the program was started without one of them, the first file that it opens would get that
-/// number, and what is printed would go into the document. A file that holds nothing and is open for
-/// reading takes it, so that printing fails.
-pub fn convert_apart<T: Threads + Wait + Sync>(
+/// Converts as `convert_as` does, with the numbers of standard input, output and error taken: where the
+/// program was started without one of them, the first file that it opens would get that number, and what is
+/// printed would go into the document. A file that holds nothing and is open for reading takes it, so that
+/// printing fails.
+pub fn convert_apart<T: Threads + Wait + Sync, C: Conversion<T>>(
     rt: &HostRuntime,
     threads: &T,
     alloc: Global,
-    request: &Request,
+    settings: &Settings,
+    conversion: &mut C,
 ) -> Outcome
-    ensures { IfSome request.now.settings.out (λ path. IsInput request.now.settings path → IsUnwritten path result) }
+    ensures once { IfSome (C.ran conversion.old) (λ before. EndsFor settings.now before (C.ran conversion.new) result) }
+    ensures input { IfSome settings.now.out (λ path. IsInput settings.now path → IsUnwritten path result) }
 {
     let _input = fs::open(rt, NOTHING);
     let _output = fs::open(rt, NOTHING);
     let _error = fs::open(rt, NOTHING);
-    convert_once(rt, threads, alloc, request)
+    convert_as(threads, alloc, settings, conversion)
 }

@@ -3,11 +3,16 @@
 ghost use Rattle.std.specs.Prelude.{◌≡◌, ◌⊎◌, if◌then◌else◌};
 ghost use Rattle.clap.specs.Values.{kind_of};
 ghost use Rattle.oim_run.specs.Lines.{status_of, unprinted_status, words_status};
+ghost use Rattle.oim_run.specs.Outputs.{EndsTold};
 
 use crate::explain::{explain_fault, explain_tables};
-use oim_run::{Outcome, Request, Settings, line, shown, status, terminal_line};
+use crate::faults::write_faults;
+use crate::output::convert_apart;
+use oim_run::{Conversion, Outcome, Request, Settings, line, shown, status, terminal_line};
 use std::alloc::{AllocError, Global};
 use std::io::{Eprint, IsTerminal, Print};
+use std::sync::Wait;
+use std::thread::Threads;
 
 /// What is printed if standard output does not take the help or the version.
 const UNPRINTED: &str = "xbrl-json: output: Write (56)\n";
@@ -30,7 +35,7 @@ pub fn told(rt: &HostRuntime, alloc: Global, outcome: &Outcome) -> u8
 
 /// Prints the lines of an outcome, with the places of its faults if the words ask for them, and gives the
 /// exit status.
-pub fn told_as_asked(rt: &HostRuntime, alloc: Global, request: &Request, outcome: &Outcome) -> u8
+fn told_as_asked(rt: &HostRuntime, alloc: Global, request: &Request, outcome: &Outcome) -> u8
     ensures { result ≡ status_of outcome.now }
 {
     if request.explain {
@@ -52,6 +57,25 @@ fn told_with_places(rt: &HostRuntime, alloc: Global, settings: &Settings, outcom
     let status = told(rt, alloc, outcome);
     explain_fault(rt, alloc, settings, outcome);
     status
+}
+
+/// Converts as the words ask for, tells how that ended, and writes the file of the faults. Gives the exit
+/// status: that of what was told last.
+pub fn convert_and_tell<T: Threads + Wait + Sync, C: Conversion<T>>(
+    rt: &HostRuntime,
+    threads: &T,
+    alloc: Global,
+    request: &Request,
+    conversion: &mut C,
+) -> u8
+    ensures { EndsTold request.now.settings request.now.faults (C.ran conversion.old) (C.ran conversion.new) result }
+{
+    let outcome = convert_apart(rt, threads, alloc, &request.settings, conversion);
+    let status = told_as_asked(rt, alloc, request, &outcome);
+    match write_faults(rt, alloc, request, &outcome) {
+        Some(unwritten) => told(rt, alloc, &unwritten),
+        None => status,
+    }
 }
 
 /// A text without control characters but the ends of its lines.
