@@ -8,14 +8,16 @@
 //! What is proved of a run, its lines and its status is said by the crate `oim_run`. This crate is the
 //! edge: it opens the system's files, shows the progress, and prints. Of it is proved:
 //!
-//! - the exit status is that of the outcome, or of the kind of fault that the words have; 3 where the
-//!   help or the version that they ask for cannot be printed;
-//! - an output that is written as the path of the metadata or of the types table cannot be written
-//!   (`convert_apart`). That no other path leads to a file of the report is looked at by device and inode,
-//!   and only tests show it.
+//! - over any files, outputs and teller (`convert_and_tell`): exactly one run is made, to the output that the words name,
+//!   and its outcome is told once, or that the output did not end well; none is made for an output that is written as
+//!   the path of the metadata or of the types table. The exit status is that of the outcome, or of the file of the
+//!   faults that cannot be written behind it;
+//! - the exit status for words that are refused is that of the kind of their fault, and 3 where the help or the version
+//!   that they ask for cannot be printed.
 //!
-//! Nothing is claimed about what the system's files hold, what its output takes, what it says about the
-//! arguments, or the line that `--progress` shows.
+//! Nothing is claimed about what the system's files hold, what its outputs do (`SystemOutputs`: only tests show that a
+//! file of the report is no output by any path, and that a file gets its name once it is whole), that `converted` hands in
+//! these and makes one call, what the system says about the arguments, or the line that `--progress` shows.
 #![tactic(auto)]
 
 mod disk;
