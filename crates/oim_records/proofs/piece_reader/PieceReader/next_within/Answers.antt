@@ -10,7 +10,7 @@ returns-then-self-clause-piece g c =
     let old = bytes_left c.args.self.now in
     let held = c.loop.self.held in
     let behind = c.loop.self.behind in
-    let piece = take c.take_all.result.1 c.take_all.result.0.items in
+    let piece = take c.take_all.result.1.at c.take_all.result.0.items in
     let end : IsAtEnd behind = subst IsAtEnd (ap (λ (t : TextLeft). t.behind) c.self.view_is) (c.self.invariant.1 c.if-self.true) in
     subst (λ t. TakesBytes old piece (bytes_left t)) (sym c.take_all.ensures.rest)
     (subst (λ f. TakesBytes old f (prepend_known [] behind)) (sym c.take_all.ensures.all) (rest-taken old behind held c.loop.invariant end))
@@ -20,12 +20,12 @@ returns-then-is_enough-clause-piece g c =
     let old = bytes_left c.args.self.now in
     let held = c.loop.self.held in
     let behind = c.loop.self.behind in
-    let at = c.cut-at.result.at in
-    let rows = c.cut-at.result.rows in
+    let at = c.cut-cut.result.at in
+    let rows = c.cut-cut.result.rows in
     subst (λ t. TakesBytes old (take at c.in-Ok.front.items) (bytes_left t)) (sym c.in-Ok.ensures.rest)
-    (subst (λ f. TakesBytes old f (prepend_known (drop at held) behind)) (sym c.in-Ok.ensures.front) (front-taken old behind held at rows c.loop.invariant c.cut-at.ensures.divides))
+    (subst (λ f. TakesBytes old f (prepend_known (drop at held) behind)) (sym c.in-Ok.ensures.front) (front-taken old behind held at rows c.loop.invariant c.cut-cut.ensures.divides))
 
 pub returns-then-self-2-clause-failed : goal.returns-then-self-2-clause-failed
 returns-then-self-2-clause-failed g c =
-    let zero : c.cut-at.result.at ≡ 0 = omega arith in
-    λ _. no-cut c.loop.self.held c.cut-at.result.at zero c.cut-at.ensures.last
+    let zero : c.cut-cut.result.at ≡ 0 = omega arith in
+    λ _. no-cut c.loop.self.held c.cut-cut.result.at zero c.cut-cut.ensures.last

@@ -1,0 +1,8 @@
+//! A piece of a file that holds whole records.
+
+/// A piece of a file, and how many records it has.
+#[derive(Drop)]
+pub struct FilePiece {
+    pub bytes: Vec<u8>,
+    pub records: u64,
+}
