@@ -134,7 +134,12 @@ impl<'a> RowForm<'a> {
     }
 
     /// The same of a row whose fields are known to be text, none of which is tested again.
-    fn fault_of_texts(&self, number: u32, ids: &RowIds, row: &TextFields<'_>) -> Option<TableFault>
+    pub fn fault_of_texts(
+        &self,
+        number: u32,
+        ids: &RowIds,
+        row: &TextFields<'_>,
+    ) -> Option<TableFault>
         ensures { result ≡ row_fault self.now number ids.now row.now }
     {
         if count_of_texts(row) != self.header.len() {
