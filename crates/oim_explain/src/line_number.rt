@@ -180,10 +180,10 @@ pub(crate) fn line_of<R: Read + Drop>(alloc: Global, reader: R, number: usize) -
     }
     let mut lines = LineCounter::of(number);
     for _ in 0..u64::MAX {
-        let Ok(Some(piece)) = pieces.next(PIECE) else {
+        let Ok(Some(piece)) = pieces.next(PIECE, false) else {
             return None;
         };
-        lines.pass(piece.as_slice());
+        lines.pass(piece.bytes.as_slice());
         if let Some(line) = lines.line() {
             return Some(line);
         }

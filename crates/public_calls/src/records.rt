@@ -2,8 +2,8 @@
 
 use csv::ByteRecord;
 use oim_records::{
-    Cut, FieldText, Fields, PieceReader, PieceRecords, ReadFault, RecordReader, Records,
-    TextFields, last_cut, rows_of, text_law,
+    Cut, FieldText, Fields, FilePiece, PieceReader, PieceRecords, ReadFault, RecordReader, Records,
+    TextFields, last_cut, text_law,
 };
 use std::alloc::Global;
 use std::test::Fail;
@@ -18,17 +18,20 @@ fn reads_a_record(alloc: Global) -> Result<bool, ReadFault> {
 const FILE: &[u8] = b"a,b\nc,d\n";
 
 /// The first piece of a file.
-fn first_piece(alloc: Global, file: &[u8]) -> Result<Option<Vec<u8>>, ReadFault> {
+fn first_piece(alloc: Global, file: &[u8]) -> Result<Option<FilePiece>, ReadFault> {
     let mut pieces = PieceReader::new(alloc, file);
+    pieces.keep_room(Vec::new(alloc));
     pieces.skip_mark()?;
-    pieces.next(4_096)
+    pieces.next(4_096, true)
 }
 
 /// Whether the first record of a piece has two fields, as bytes and as text.
-fn reads_a_piece(alloc: Global, piece: Vec<u8>) -> bool {
-    let mut records = PieceRecords::new(alloc, piece);
+fn reads_a_piece(alloc: Global, piece: FilePiece) -> bool {
+    let is_all = piece.records == 2;
+    let mut records = PieceRecords::new(alloc, piece.bytes);
     let is_read = records.read().is_ok();
-    is_read && has_bytes(&records.fields()) && has_texts(records.text_fields())
+    let has_both = has_bytes(&records.fields()) && has_texts(records.text_fields());
+    is_all && is_read && has_both && records.take_room(alloc).as_slice() == FILE
 }
 
 /// The same of the first piece of a file.
@@ -68,7 +71,7 @@ fn reads_by_csv(alloc: Global, file: &[u8]) -> bool {
 /// The place behind a text's last whole record.
 fn cuts() -> bool {
     let cut: Cut = last_cut(b"a\nb");
-    cut.at == 2 && cut.rows == 1 && rows_of(b"a\nb") == 2
+    cut.at == 2 && cut.rows == 1
 }
 
 #[test]

@@ -178,11 +178,11 @@ fn put_pieces<R: Read + Drop>(
     told: &mut Vec<u8>,
 ) -> Result<usize, AllocError> {
     for count in 0..20usize {
-        let Ok(Some(piece)) = pieces.next(size) else {
+        let Ok(Some(piece)) = pieces.next(size, false) else {
             return Ok(count);
         };
-        texts.extend_from_slice(&piece)?;
-        records.load(piece);
+        texts.extend_from_slice(&piece.bytes)?;
+        records.load(piece.bytes);
         put_piece(records, told)?;
     }
     Ok(20)
