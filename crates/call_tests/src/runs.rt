@@ -5,9 +5,9 @@ use crate::settings::settings;
 use oim_json::{Layout, Marked};
 use oim_meta::{Limits, Report};
 use oim_run::{
-    Conversion, Course, Folder, METADATA, Outcome, Request, Settings, Source, TABLE, TYPES, Texts,
-    convert_as, convert_report, convert_to, line, request_of, run, run_to, shown, status,
-    terminal_line,
+    Course, Ending, Folder, METADATA, Outcome, Outputs, Request, Settings, Source, TABLE, TYPES,
+    Teller, Texts, cannot_write, convert_as, convert_report, convert_to, held_told, line,
+    request_of, run, run_to, shown, status, tell, terminal_line,
 };
 use std::alloc::{AllocError, Global};
 use std::sync::Wait;
@@ -85,27 +85,70 @@ fn converts_to(rt: &(impl AllocGlobal + Threads + Wait + Sync)) -> bool {
     status(&outcome) == 0 && document.as_slice().ends_with(b"}}\n")
 }
 
-/// A conversion of a caller's own, which counts how often it is run.
+/// Outputs of a caller's own, which count the whole documents that were ended.
 #[derive(Drop)]
 struct Counting {
-    runs: usize,
+    alloc: Global,
+    whole: usize,
 }
 
-impl<T> Conversion<T> for Counting {
-    fn to_standard_output(&mut self, _threads: &T) -> Outcome {
-        self.runs = self.runs.saturating_add(1);
-        Outcome::Done
+impl Outputs<Vec<u8>> for Counting {
+    fn standard_output(&mut self) -> Vec<u8> {
+        Vec::new(self.alloc)
     }
 
-    fn to_file(&mut self, _threads: &T, _path: &str) -> Option<Outcome> {
+    fn file(&mut self, _path: &str) -> Option<Vec<u8>> {
         None
     }
+
+    fn end(&mut self, writer: Vec<u8>, ran: &Outcome) -> Ending {
+        if matches!(ran, Outcome::Done) && writer.as_slice().ends_with(b"}}\n") {
+            self.whole = self.whole.saturating_add(1);
+        }
+        Ending::Kept
+    }
 }
 
-/// Whether one conversion is run, to where the settings say.
-fn converts_once(rt: &(impl AllocGlobal + Threads + Wait + Sync), settings: &Settings) -> bool {
-    let mut conversion = Counting { runs: 0 };
-    status(&convert_as(rt, rt.alloc(), settings, &mut conversion)) == 0 && conversion.runs == 1
+/// Whether one document is converted, to where the words say.
+fn converts_once(rt: &(impl AllocGlobal + Threads + Wait + Sync)) -> bool {
+    let mut outputs = Counting {
+        alloc: rt.alloc(),
+        whole: 0,
+    };
+    let Ok(request) = request_of(rt.alloc(), &["m.json", "--types", "t.csv"]) else {
+        return false;
+    };
+    let outcome = convert_as(rt, rt.alloc(), &request, &mut Held, &mut outputs);
+    status(&outcome) == 0 && outputs.whole == 1
+}
+
+/// A teller of a caller's own, which counts the bytes that it was given.
+#[derive(Clone, Copy)]
+struct Listening {
+    bytes: usize,
+}
+
+impl Teller for Listening {
+    fn is_terminal(&self) -> bool {
+        false
+    }
+
+    fn say(&mut self, text: &str) {
+        self.bytes = self.bytes.saturating_add(text.len());
+    }
+}
+
+/// Whether a person is told that a file cannot be written.
+fn is_told(alloc: Global) -> bool {
+    let mut teller = Listening { bytes: 0 };
+    tell(&mut teller, alloc, &cannot_write(alloc, "d.json")) == 3 && teller.bytes == 31
+}
+
+/// Whether the built-in report is converted, and nothing is told of it.
+fn is_silent(rt: &(impl AllocGlobal + Threads + Wait + Sync)) -> bool {
+    let mut teller = Listening { bytes: 0 };
+    let (status, document) = held_told(rt, rt.alloc(), Vec::new(rt.alloc()), &mut teller);
+    status == 0 && teller.bytes == 0 && document.as_slice().ends_with(b"}}\n")
 }
 
 #[test]
@@ -113,7 +156,8 @@ fn calls_of_other_runs(rt: HostRuntime) -> Result<(), Fail> {
     let settings = settings(rt.alloc())?;
     assert!(rt; refuses(&rt, &settings));
     assert!(rt; converts_to(&rt));
-    assert!(rt; converts_once(&rt, &settings));
+    assert!(rt; converts_once(&rt) && is_told(rt.alloc()));
+    assert!(rt; is_silent(&rt));
     Ok(())
 }
 

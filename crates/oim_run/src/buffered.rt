@@ -31,7 +31,7 @@ fn has_document(outcome: &Outcome) -> bool
 
 /// The outcome after the output was flushed, or could not be. After a document, whole or unfinished, a
 /// flush that fails is a failed write.
-fn after_flush(outcome: Outcome, is_flushed: bool) -> Outcome
+pub(crate) fn after_flush(outcome: Outcome, is_flushed: bool) -> Outcome
     ensures { result ≡ (if is_flushed then outcome else flushed outcome) }
 {
     if !is_flushed && has_document(&outcome) {

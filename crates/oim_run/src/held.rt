@@ -3,12 +3,14 @@
 ghost use Rattle.std.specs.Prelude.{◌≡◌, IfOk, [], ◌∷◌};
 ghost use Rattle.oim_json.specs.declared.layout.Layout.TheVariants as layouts;
 ghost use Rattle.oim_run.specs.Buffers.{Buffered};
+ghost use Rattle.oim_run.specs.Outputs.{RunsTold};
 ghost use Rattle.oim_run.specs.Runs.{EndsOver, files_of};
 
 use crate::buffered::run_to;
 use crate::early::no_memory;
 use crate::outcome::Outcome;
 use crate::settings::Settings;
+use crate::teller::{Teller, tell};
 use oim_files::Texts;
 use oim_json::Layout;
 use oim_names::Text;
@@ -86,4 +88,20 @@ pub fn convert_to<T: Threads + Wait + Sync, W: Write>(rt: &T, alloc: Global, to:
         (TABLE_PATH, TABLE.as_bytes()),
     ];
     run_to(rt, alloc, &settings, &mut Texts { files: &files }, to)
+}
+
+/// Converts the built-in report to a writer as [`convert_to`] does, and tells how that ended. The answer is the exit status, and
+/// the writer.
+pub fn held_told<T: Threads + Wait + Sync, W: Write, L: Teller>(
+    rt: &T,
+    alloc: Global,
+    to: W,
+    teller: &mut L,
+) -> (u8, W)
+    ensures { RunsTold (Buffered (EndsOver (files_of ((META_PATH.now, METADATA.now) ∷ (TYPES_PATH.now, TYPES.now) ∷ (TABLE_PATH.now, TABLE.now) ∷ []))
+        META_PATH.now TYPES_PATH.now 1 1 layouts.Compact)) (W.contents to) (W.contents result.1)
+        (L.terminal teller.old) (L.said teller.old) (L.said teller.new) result.0 }
+{
+    let (outcome, writer) = convert_to(rt, alloc, to);
+    (tell(teller, alloc, &outcome), writer)
 }

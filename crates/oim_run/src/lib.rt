@@ -18,11 +18,12 @@
 //! - `run_to` says how a run through a buffer ended, and what the writer behind it holds, where that tells it: all
 //!   that the run wrote, or a beginning of it where the last flush failed, which after a document, whole or
 //!   unfinished, is a failed write (`specs/Buffers.antt`). `convert_to` is such a run over the built-in report;
-//! - `convert_as` runs exactly one conversion, to the output that the settings name, and answers its
-//!   outcome; or none, if that output is written as an input's path (`specs/Outputs.antt`);
+//! - `convert_as` makes exactly one such run, to the writer of the output that the words name, ends that output, and
+//!   answers the run's outcome, or that the output did not end well; or it makes none, if the output is written as an
+//!   input's path or cannot be opened (`specs/Outputs.antt`);
 //! - `status` and `line` give the exit status and the lines on standard error of each outcome, with one
 //!   line for each refused table, and `terminal_line` the same without a path's control characters
-//!   (`specs/Lines.antt`).
+//!   (`specs/Lines.antt`); `tell` tells these lines once.
 //!
 //! It passes on what `oim_files` says of the files of a report, and `oim_explain` of a fault.
 //!
@@ -49,16 +50,19 @@ mod buffer;
 mod buffered;
 mod conversion;
 mod early;
+mod ending;
 mod held;
 mod outcome;
 mod output;
 mod request;
 mod running;
 mod settings;
+mod teller;
 
 pub use buffered::run_to;
 pub use conversion::{Course, convert_report};
-pub use held::{METADATA, TABLE, TYPES, convert_to};
+pub use ending::{Ending, cannot_write};
+pub use held::{METADATA, TABLE, TYPES, convert_to, held_told};
 pub use oim_explain::{
     Explanation, FaultPlace, ReportAgain, explain_metadata, explain_report, explain_table,
     explanation_text, fault_header, fault_place, fault_row, lines_are_of_records, report_again,
@@ -66,7 +70,8 @@ pub use oim_explain::{
 };
 pub use oim_files::{EarlyFault, Folder, Source, Texts};
 pub use outcome::{Outcome, line, status, table_line, terminal_line};
-pub use output::{Conversion, convert_as};
+pub use output::{Outputs, convert_as};
 pub use request::{Request, job, request_of};
 pub use running::run;
 pub use settings::Settings;
+pub use teller::{Teller, tell};

@@ -15,9 +15,16 @@ pub struct Emptied<'a> {
     written: &'a Written,
     /// Whether nothing has to be taken out of it.
     is_empty: bool,
+    /// Whether it was made when it was opened.
+    is_new: bool,
 }
 
 impl<'a> Emptied<'a> {
+    /// Whether it was made when it was opened.
+    pub fn is_new(&self) -> bool {
+        self.is_new
+    }
+
     /// Takes out what is in the file.
     fn empty(&mut self) -> io::Result<()> {
         if self.written.is_read() {
@@ -89,6 +96,7 @@ impl OpenOutput {
             file: self.file,
             written,
             is_empty: self.is_empty,
+            is_new: self.is_new,
         }
     }
 }

@@ -2,34 +2,23 @@
 //! about the system's files.
 
 ghost use Rattle.std.specs.Prelude.{IfSome};
-ghost use Rattle.oim_run.specs.Outputs.{IsLeftUnwritten, IsUnwritten};
+ghost use Rattle.oim_run.specs.Outputs.{IsLeftUnwritten};
 
 use crate::explain::Ordinary;
 use crate::file_id::FileId;
 use crate::new_file::NewFile;
 use crate::paths::{reached, true_path};
-use oim_convert::ConvertFault;
 use oim_names::Text;
 use oim_rows::TableFault;
 use oim_run::{
-    EarlyFault, FaultPlace, Outcome, ReportAgain, Request, Settings, fault_header, fault_place,
-    fault_row, report_again, status,
+    EarlyFault, FaultPlace, Outcome, ReportAgain, Request, Settings, cannot_write, fault_header,
+    fault_place, fault_row, report_again, status,
 };
 use std::alloc::{AllocError, Global};
 use std::fs::{Metadata, OpenOptions};
 use std::io::{BufWriter, ErrorKind, Write};
 use std::sync::atomic::{AtomicBool, Ordering};
 use std::{fs, io};
-
-/// The outcome of a run that cannot write the file at this path.
-pub fn cannot_write(alloc: Global, path: &str) -> Outcome
-    ensures { IsUnwritten path.now result }
-{
-    match Text::from_str(alloc, path) {
-        Ok(path) => Outcome::CannotWrite(path),
-        Err(_) => Outcome::Run(ConvertFault::Memory),
-    }
-}
 
 /// The file of the faults while the run works, and whether the report was seen to read it.
 #[derive(Drop)]
@@ -99,12 +88,9 @@ impl<'a> FaultsFile<'a> {
         }
     }
 
-    /// The outcome of a run that ended so: that this file cannot be written, if the report reads it.
-    pub fn ended(&self, alloc: Global, outcome: Outcome) -> Outcome {
-        match self.path {
-            Some(path) if self.is_read.load(Ordering::SeqCst) => cannot_write(alloc, path),
-            _ => outcome,
-        }
+    /// Whether the report was seen to read this file.
+    pub fn is_read(&self) -> bool {
+        self.is_read.load(Ordering::SeqCst)
     }
 }
 
@@ -116,6 +102,11 @@ pub struct Unless<'a, W> {
 }
 
 impl<'a, W> Unless<'a, W> {
+    /// The writer.
+    pub fn into_inner(self) -> W {
+        self.to
+    }
+
     /// Fails if the report was seen to read the file.
     fn look(&self) -> io::Result<()> {
         if self.is_read.load(Ordering::SeqCst) {

@@ -1,5 +1,6 @@
 //! Which file a document goes to, and whether the report reads it.
 
+use std::cell::Cell;
 use std::fs::Metadata;
 use std::io;
 use std::os::unix::fs::MetadataExt;
@@ -36,21 +37,27 @@ impl FileId {
 #[derive(Drop)]
 pub struct Written {
     /// The document's file, if it is there when the run begins, and an ordinary one.
-    document: Option<FileId>,
+    document: Cell<Option<FileId>>,
     /// The new file beside it, if the document is written there first.
-    beside: Option<FileId>,
+    beside: Cell<Option<FileId>>,
     /// Whether the report reads one of them.
     is_read: AtomicBool,
 }
 
 impl Written {
-    /// The document's file, and the new one beside it, if there are such files.
-    pub fn new(document: Option<FileId>, beside: Option<FileId>) -> Written {
+    /// No file, as long as none is open.
+    pub fn new() -> Written {
         Written {
-            document,
-            beside,
+            document: Cell::new(None),
+            beside: Cell::new(None),
             is_read: AtomicBool::new(false),
         }
+    }
+
+    /// Takes note of the document's file, and of the new one beside it, if there are such files.
+    pub fn are(&self, document: Option<FileId>, beside: Option<FileId>) {
+        self.document.set(document);
+        self.beside.set(beside);
     }
 
     /// Looks at a file that the report reads, by its metadata, and gives whether it is one of these.
@@ -61,8 +68,8 @@ impl Written {
         let Some(file) = FileId::of(metadata) else {
             return false;
         };
-        let is_one = self.document.is_some_and(|it| it.is(file))
-            || self.beside.is_some_and(|it| it.is(file));
+        let is_one = self.document.get().is_some_and(|it| it.is(file))
+            || self.beside.get().is_some_and(|it| it.is(file));
         if is_one {
             self.is_read.store(true, Ordering::SeqCst);
         }

@@ -8,14 +8,16 @@
 //! What is proved of a run, its lines and its status is said by the crate `oim_run`. This crate is the
 //! edge: it opens the system's files, shows the progress, and prints. Of it is proved:
 //!
-//! - the exit status is that of the outcome, or of the kind of fault that the words have; 3 where the
-//!   help or the version that they ask for cannot be printed;
-//! - an output that is written as the path of the metadata or of the types table cannot be written
-//!   (`convert_apart`). That no other path leads to a file of the report is looked at by device and inode,
-//!   and only tests show it.
+//! - over any files, outputs and teller (`convert_and_tell`): exactly one run is made, to the output that the words name,
+//!   and its outcome is told once, or that the output did not end well; none is made for an output that is written as
+//!   the path of the metadata or of the types table. The exit status is that of the outcome, or of the file of the
+//!   faults that cannot be written behind it;
+//! - the exit status for words that are refused is that of the kind of their fault, and 3 where the help or the version
+//!   that they ask for cannot be printed.
 //!
-//! Nothing is claimed about what the system's files hold, what its output takes, what it says about the
-//! arguments, or the line that `--progress` shows.
+//! Nothing is claimed about what the system's files hold, what its outputs do (`SystemOutputs`: only tests show that a
+//! file of the report is no output by any path, and that a file gets its name once it is whole), that `converted` hands in
+//! these and makes one call, what the system says about the arguments, or the line that `--progress` shows.
 #![tactic(auto)]
 
 mod disk;
@@ -29,17 +31,53 @@ mod paths;
 mod progress;
 mod said;
 
-use faults::{refused_before, write_faults};
+use disk::Disk;
+use faults::{FaultsFile, refused_before};
+use file_id::Written;
 use oim_convert::ConvertFault;
-use oim_run::{Outcome, convert_to, request_of};
-use output::convert_apart;
-use said::{explained, told, told_as_asked};
+use oim_run::{Outcome, Request, held_told, request_of, tell};
+use output::SystemOutputs;
+use progress::Progress;
+use said::{StandardError, convert_and_tell, explained};
 use std::alloc::Global;
 use std::io;
-use std::io::ErrorKind;
+use std::io::{ErrorKind, IsTerminal};
 use std::process::ExitCode;
 use std::sync::Wait;
 use std::thread::Threads;
+
+/// Converts as the words ask for, from the system's files to its outputs, and gives the exit status. If the words
+/// ask for it, standard error shows the progress of the run.
+fn converted<T: Threads + Wait + Sync>(
+    rt: &HostRuntime,
+    threads: &T,
+    alloc: Global,
+    request: &Request,
+) -> u8 {
+    let written = &Written::new();
+    let faults = &FaultsFile::of(rt, alloc, request);
+    let progress = if request.progress {
+        Progress::start(rt, rt.stderr().is_terminal())
+    } else {
+        None
+    };
+    let progress = progress.as_ref();
+    let mut disk = Disk {
+        rt,
+        written,
+        faults,
+        progress,
+    };
+    let mut outputs = SystemOutputs {
+        rt,
+        request,
+        written,
+        faults,
+        progress,
+    };
+    let errors = &mut StandardError { rt };
+    convert_and_tell(rt, threads, alloc, request, &mut disk, &mut outputs, errors)
+}
 
 /// Runs with these words, which do not include the program's name, and gives the exit status.
 fn started<T: Threads + Wait + Sync>(
@@ -48,9 +86,10 @@ fn started<T: Threads + Wait + Sync>(
     alloc: Global,
     words: &[&str],
 ) -> u8 {
+    let errors = &mut StandardError { rt };
     if words.is_empty() {
-        let (outcome, _) = convert_to(threads, alloc, io::writer(rt));
-        return told(rt, alloc, &outcome);
+        let (status, _) = held_told(threads, alloc, io::writer(rt), errors);
+        return status;
     }
     let request = match request_of(alloc, words) {
         Ok(request) => request,
@@ -60,14 +99,9 @@ fn started<T: Threads + Wait + Sync>(
         let _ = rt.eprint("error: --whole wants --out FILE\n");
         return 2;
     }
-    if let Some(outcome) = refused_before(rt, alloc, &request) {
-        return told(rt, alloc, &outcome);
-    }
-    let outcome = convert_apart(rt, threads, alloc, &request);
-    let status = told_as_asked(rt, alloc, &request, &outcome);
-    match write_faults(rt, alloc, &request, &outcome) {
-        Some(unwritten) => told(rt, alloc, &unwritten),
-        None => status,
+    match refused_before(rt, alloc, &request) {
+        Some(outcome) => tell(errors, alloc, &outcome),
+        None => converted(rt, threads, alloc, &request),
     }
 }
 
@@ -78,7 +112,7 @@ fn program<T: Threads + Wait + Sync>(rt: &HostRuntime, threads: &T) -> u8 {
     let args = match std::env::args(rt) {
         Ok(args) => args,
         Err(error) if error.kind() == ErrorKind::OutOfMemory => {
-            return told(rt, alloc, &no_memory);
+            return tell(&mut StandardError { rt }, alloc, &no_memory);
         }
         Err(_) => {
             let _ = rt.eprintln("error: an argument is not UTF-8");
@@ -86,12 +120,12 @@ fn program<T: Threads + Wait + Sync>(rt: &HostRuntime, threads: &T) -> u8 {
         }
     };
     let Ok(args) = args.skip(1).collect::<Vec<String>>(alloc) else {
-        return told(rt, alloc, &no_memory);
+        return tell(&mut StandardError { rt }, alloc, &no_memory);
     };
     let words = args.iter().map(|word| word.as_str());
     match words.collect::<Vec<&str>>(alloc) {
         Ok(words) => started(rt, threads, alloc, words.as_slice()),
-        Err(_) => told(rt, alloc, &no_memory),
+        Err(_) => tell(&mut StandardError { rt }, alloc, &no_memory),
     }
 }
 

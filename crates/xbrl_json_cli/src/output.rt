@@ -1,74 +1,44 @@
-//! The output of a run: a file or standard output, written through a buffer.
+//! The system's outputs: standard output, and the file that the words name.
 
-ghost use Rattle.std.specs.Prelude.{◌≡◌, IfNone, IfSome};
-ghost use Rattle.oim_run.specs.CommandLine.{IsInput};
-ghost use Rattle.oim_run.specs.Outputs.{IsUnwritten};
-
-use crate::disk::Disk;
-use crate::emptied::OpenOutput;
-use crate::faults::{FaultsFile, cannot_write};
+use crate::emptied::{Emptied, OpenOutput};
+use crate::faults::{FaultsFile, Unless};
 use crate::file_id::{FileId, Written};
 use crate::new_file::NewFile;
 use crate::paths::reached;
 use crate::progress::{Counted, Progress};
-use oim_json::WriteFault;
-use oim_run::{Folder, Outcome, Request, Settings, run_to};
+use oim_run::{Ending, Outcome, Outputs, Request, Settings};
 use std::alloc::Global;
 use std::fs::Metadata;
-use std::io::{IsTerminal, Read, Write};
-use std::sync::Wait;
-use std::thread::Threads;
+use std::io::{Printer, Write};
 use std::{fs, io};
 
-/// The system's file that holds nothing.
-const NOTHING: &str = "/dev/null";
-
-/// Runs over a folder, writes the document to a writer, and lets that go. Gives the outcome.
-fn run_over<R: Read + Drop + Send, F: Folder<R>, T: Threads + Wait + Sync, W: Write + Drop>(
-    threads: &T,
-    alloc: Global,
-    settings: &Settings,
-    folder: &mut F,
-    to: W,
-) -> Outcome {
-    let (outcome, _to) = run_to(threads, alloc, settings, folder, to);
-    outcome
+/// What the document is written to.
+#[derive(Drop)]
+pub enum To<'a> {
+    /// Standard output.
+    Standard(Printer<'a, HostRuntime>),
+    /// The file at the path, over what was in it.
+    Over(Emptied<'a>),
+    /// A new file, which is to have the path once it holds the whole document.
+    Beside(NewFile),
 }
 
-/// Runs over the system's files, writes the document to a writer, and flushes it. If the words ask for
-/// it, standard error shows the progress of the run.
-fn run_watched<'a, T: Threads + Wait + Sync, W: Write + Drop>(
-    rt: &'a HostRuntime,
-    threads: &T,
-    alloc: Global,
-    request: &'a Request,
-    written: &Written,
-    to: W,
-) -> Outcome {
-    let progress = if request.progress {
-        Progress::start(rt, rt.stderr().is_terminal())
-    } else {
-        None
-    };
-    let progress = progress.as_ref();
-    let faults = FaultsFile::of(rt, alloc, request);
-    let mut disk = Disk {
-        rt,
-        written,
-        faults: &faults,
-        progress,
-    };
-    let outcome = run_over(
-        threads,
-        alloc,
-        &request.settings,
-        &mut disk,
-        Counted::new(faults.writer(to), progress),
-    );
-    if let Some(progress) = progress {
-        progress.end();
+impl<'a> Write for To<'a> {
+    fn write(&mut self, buf: &[u8]) -> io::Result<usize> {
+        match self {
+            To::Standard(to) => to.write(buf),
+            To::Over(to) => to.write(buf),
+            To::Beside(new) => new.file.write(buf),
+        }
     }
-    faults.ended(alloc, outcome)
+
+    fn flush(&mut self) -> io::Result<()> {
+        match self {
+            To::Standard(to) => to.flush(),
+            To::Over(to) => to.flush(),
+            To::Beside(new) => new.file.flush(),
+        }
+    }
 }
 
 /// Whether the metadata or the types table is one of the files that the run writes.
@@ -85,142 +55,129 @@ fn unmake(rt: &HostRuntime, alloc: Global, path: &str) {
     }
 }
 
-/// Runs, and writes the document over the file at a path, which is made if it is not there. `None` if the
-/// file cannot be written, or the report reads it; then it is as it was.
-fn convert_over<T: Threads + Wait + Sync>(
-    rt: &HostRuntime,
-    threads: &T,
-    alloc: Global,
-    request: &Request,
-    path: &str,
-) -> Option<Outcome> {
-    let output = OpenOutput::open(rt, path)?;
-    let is_new = output.is_new();
-    let written = Written::new(output.id(), None);
-    if !reads_one(rt, &request.settings, &written) {
-        let to = output.into_writer(&written);
-        let outcome = run_watched(rt, threads, alloc, request, &written, to);
-        if is_new && matches!(outcome, Outcome::CannotWrite(_)) {
-            unmake(rt, alloc, path);
+/// The outputs of a run over the system's files. No contract says what they do.
+#[derive(Drop)]
+pub struct SystemOutputs<'a> {
+    /// The system.
+    pub rt: &'a HostRuntime,
+    /// What the words ask for.
+    pub request: &'a Request,
+    /// The files that the run writes, which the report's files are compared with.
+    pub written: &'a Written,
+    /// The file of the tables' faults, which they are compared with too.
+    pub faults: &'a FaultsFile<'a>,
+    /// Counts the bytes that are written, if there is one.
+    pub progress: Option<&'a Progress<'a, HostRuntime>>,
+}
+
+impl<'a> SystemOutputs<'a> {
+    /// The writer to this, whose bytes are counted. It takes nothing once the report was seen to read the file of the
+    /// faults.
+    fn writer(&self, to: To<'a>) -> Counted<'a, HostRuntime, Unless<'a, To<'a>>> {
+        Counted::new(self.faults.writer(to), self.progress)
+    }
+
+    /// Opens the file at a path, to be written over; it is made if it is not there. `None` if it cannot be
+    /// written, or is the metadata or the types table; then it is as it was.
+    fn over(&self, path: &str) -> Option<To<'a>> {
+        let output = OpenOutput::open(self.rt, path)?;
+        self.written.are(output.id(), None);
+        if reads_one(self.rt, &self.request.settings, self.written) {
+            if output.is_new() {
+                unmake(self.rt, self.rt.alloc(), path);
+            }
+            return None;
         }
-        if !written.is_read() {
-            return Some(outcome);
+        Some(To::Over(output.into_writer(self.written)))
+    }
+
+    /// Makes a new file beside the one at a path. `None` if there can be no such file, or the one at the path
+    /// is the metadata or the types table.
+    fn beside(&self, path: &str, old: Option<Metadata>) -> Option<To<'a>> {
+        let (rt, alloc) = (self.rt, self.rt.alloc());
+        let old_id = old.as_ref().and_then(|it| FileId::of(it));
+        let new = NewFile::make(rt, alloc, reached(rt, alloc, path)?, old)?;
+        self.written.are(old_id, new.id());
+        if reads_one(rt, &self.request.settings, self.written) {
+            new.remove(rt);
+            return None;
+        }
+        Some(To::Beside(new))
+    }
+
+    /// Opens the file at a path. With `--whole` it is replaced once the document is whole, if it is an
+    /// ordinary one or not there.
+    fn open(&self, path: &str) -> Option<To<'a>> {
+        if !self.request.whole {
+            return self.over(path);
+        }
+        match fs::metadata(self.rt, path) {
+            Ok(old) if old.is_file() => self.beside(path, Some(old)),
+            Err(_) if fs::symlink_metadata(self.rt, path).is_err() => self.beside(path, None),
+            _ => self.over(path),
         }
     }
-    if is_new {
-        unmake(rt, alloc, path);
-    }
-    None
-}
 
-/// Runs, and writes the document into a new file beside the one at a path, whose name it takes once the
-/// document is whole. `None` if there can be no such file, or the report reads the one at the path; that
-/// one stays as it was unless the outcome is `Done`.
-fn convert_beside<T: Threads + Wait + Sync>(
-    rt: &HostRuntime,
-    threads: &T,
-    alloc: Global,
-    request: &Request,
-    path: &str,
-    old: Option<Metadata>,
-) -> Option<Outcome> {
-    let old_id = old.as_ref().and_then(|it| FileId::of(it));
-    let mut new = NewFile::make(rt, alloc, reached(rt, alloc, path)?, old)?;
-    let written = Written::new(old_id, new.id());
-    if reads_one(rt, &request.settings, &written) {
-        new.remove(rt);
-        return None;
-    }
-    let outcome = run_watched(rt, threads, alloc, request, &written, &mut new.file);
-    if written.is_read() {
-        new.remove(rt);
-        return None;
-    }
-    Some(ended_beside(rt, new, outcome))
-}
-
-/// Gives the new file the document's name after a run that ended well, and else removes it. The outcome
-/// is that of the run, or a failed write if the file could not get the name.
-fn ended_beside(rt: &HostRuntime, new: NewFile, outcome: Outcome) -> Outcome {
-    if !matches!(outcome, Outcome::Done) {
-        new.remove(rt);
-        return outcome;
-    }
-    if new.take_name(rt) {
-        Outcome::Done
-    } else {
-        Outcome::Output(WriteFault::Failed)
-    }
-}
-
-/// Runs, and writes the document to the file at a path. With `--whole` the file is replaced once the
-/// document is whole, if it is an ordinary one or not there. `None` if it cannot be written.
-fn convert_into<T: Threads + Wait + Sync>(
-    rt: &HostRuntime,
-    threads: &T,
-    alloc: Global,
-    request: &Request,
-    path: &str,
-) -> Option<Outcome> {
-    if !request.whole {
-        return convert_over(rt, threads, alloc, request, path);
-    }
-    match fs::metadata(rt, path) {
-        Ok(old) if old.is_file() => { convert_beside(rt, threads, alloc, request, path, Some(old)) }
-        Err(_) if fs::symlink_metadata(rt, path).is_err() => {
-            convert_beside(rt, threads, alloc, request, path, None)
+    /// How an output ends, by the files that the report was seen to read.
+    fn seen(&self) -> Ending {
+        if self.written.is_read() {
+            Ending::IsRead
+        } else if self.faults.is_read() {
+            Ending::FaultsAreRead
+        } else {
+            Ending::Kept
         }
-        _ => convert_over(rt, threads, alloc, request, path),
+    }
+
+    /// Removes the file that was written over, if it was made here and the report reads a file that the run
+    /// writes.
+    fn end_over(&self, is_new: bool) -> Ending {
+        let how = self.seen();
+        if let (true, Some(path)) = (
+            is_new && !matches!(how, Ending::Kept),
+            &self.request.settings.out,
+        ) {
+            unmake(self.rt, self.rt.alloc(), path.as_str());
+        }
+        how
+    }
+
+    /// Gives the new file the document's name after a run that ended well, and else removes it.
+    fn end_beside(&self, new: NewFile, ran: &Outcome) -> Ending {
+        let how = self.seen();
+        if !matches!(how, Ending::Kept) || !matches!(ran, Outcome::Done) {
+            new.remove(self.rt);
+            return how;
+        }
+        if new.take_name(self.rt) {
+            Ending::Kept
+        } else {
+            Ending::NotKept
+        }
     }
 }
 
-/// The outcome of a conversion to the file at this path: its own, or that the file cannot be written.
-fn outcome_at(alloc: Global, path: &str, converted: Option<Outcome>) -> Outcome
-    ensures own { IfSome converted (λ o. result ≡ o) }
-    ensures none { IfNone converted (IsUnwritten path.now result) }
-{
-    match converted {
-        Some(outcome) => outcome,
-        None => cannot_write(alloc, path),
+impl<'a> Outputs<Counted<'a, HostRuntime, Unless<'a, To<'a>>>> for SystemOutputs<'a> {
+    fn standard_output(&mut self) -> Counted<'a, HostRuntime, Unless<'a, To<'a>>> {
+        self.writer(To::Standard(io::writer(self.rt)))
     }
-}
 
-/// Runs over the system's files, and writes the document to the file `settings.out`, or to standard
-/// output. A file of the report (the metadata, the types table, the parameters file or a table), by
-/// whatever path, cannot be written, and stays as it was. `threads` starts the workers' threads.
-fn convert_once<T: Threads + Wait + Sync>(
-    rt: &HostRuntime,
-    threads: &T,
-    alloc: Global,
-    request: &Request,
-) -> Outcome
-    ensures { IfSome request.now.settings.out (λ path. IsInput request.now.settings path → IsUnwritten path result) }
-{
-    let Some(path) = &request.settings.out else {
-        let written = Written::new(None, None);
-        return run_watched(rt, threads, alloc, request, &written, io::writer(rt));
-    };
-    let path = path.as_str();
-    if request.settings.reads(path) {
-        return cannot_write(alloc, path);
+    fn file(&mut self, path: &str) -> Option<Counted<'a, HostRuntime, Unless<'a, To<'a>>>> {
+        Some(self.writer(self.open(path)?))
     }
-    outcome_at(alloc, path, convert_into(rt, threads, alloc, request, path))
-}
 
-/// Runs over the system's files as `convert_once` does, with the numbers of standard input, output and error
-/// taken: where the program was started without one of them, the first file that it opens would get that
-/// number, and what is printed would go into the document. A file that holds nothing and is open for
-/// reading takes it, so that printing fails.
-pub fn convert_apart<T: Threads + Wait + Sync>(
-    rt: &HostRuntime,
-    threads: &T,
-    alloc: Global,
-    request: &Request,
-) -> Outcome
-    ensures { IfSome request.now.settings.out (λ path. IsInput request.now.settings path → IsUnwritten path result) }
-{
-    let _input = fs::open(rt, NOTHING);
-    let _output = fs::open(rt, NOTHING);
-    let _error = fs::open(rt, NOTHING);
-    convert_once(rt, threads, alloc, request)
+    fn end(
+        &mut self,
+        writer: Counted<'a, HostRuntime, Unless<'a, To<'a>>>,
+        ran: &Outcome,
+    ) -> Ending {
+        if let Some(progress) = self.progress {
+            progress.end();
+        }
+        match writer.into_inner().into_inner() {
+            To::Standard(_) => self.seen(),
+            To::Over(to) => self.end_over(to.is_new()),
+            To::Beside(new) => self.end_beside(new, ran),
+        }
+    }
 }

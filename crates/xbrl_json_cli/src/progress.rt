@@ -191,6 +191,11 @@ impl<'a, H, W> Counted<'a, H, W> {
     pub fn new(writer: W, progress: Option<&'a Progress<'a, H>>) -> Counted<'a, H, W> {
         Counted { writer, progress }
     }
+
+    /// The writer.
+    pub fn into_inner(self) -> W {
+        self.writer
+    }
 }
 
 impl<'a, H: Eprint + Clock, W: Write> Write for Counted<'a, H, W> {

@@ -1,57 +1,132 @@
 //! What the program prints when a run ends, and its exit status.
 
-ghost use Rattle.std.specs.Prelude.{◌≡◌, ◌⊎◌, if◌then◌else◌};
+ghost use Rattle.std.specs.Prelude.{◌≡◌, ◌⊎◌};
 ghost use Rattle.clap.specs.Values.{kind_of};
 ghost use Rattle.oim_run.specs.Lines.{status_of, unprinted_status, words_status};
+ghost use Rattle.oim_run.specs.Outputs.{EndsFor, EndsTold, Says, SaysLast};
 
 use crate::explain::{explain_fault, explain_tables};
-use oim_run::{Outcome, Request, Settings, line, shown, status, terminal_line};
+use crate::faults::write_faults;
+use oim_run::{Folder, Outcome, Outputs, Request, Teller, convert_as, shown, status, tell};
 use std::alloc::{AllocError, Global};
-use std::io::{Eprint, IsTerminal, Print};
+use std::fs;
+use std::io::{Eprint, IsTerminal, Print, Read, Write};
+use std::sync::Wait;
+use std::thread::Threads;
+
+/// The system's file that holds nothing.
+const NOTHING: &str = "/dev/null";
 
 /// What is printed if standard output does not take the help or the version.
 const UNPRINTED: &str = "xbrl-json: output: Write (56)\n";
 
-/// Prints the lines of an outcome, and gives its exit status. What cannot be printed is left out: where
-/// memory runs out for the lines, nothing is printed. A terminal gets no control character of a path.
-pub fn told(rt: &HostRuntime, alloc: Global, outcome: &Outcome) -> u8
-    ensures { result ≡ status_of outcome.now }
-{
-    let lines = if rt.stderr().is_terminal() {
-        terminal_line(alloc, outcome)
-    } else {
-        line(alloc, outcome)
-    };
-    if let Ok(lines) = lines {
-        let _ = rt.eprint(lines.as_str());
-    }
-    status(outcome)
+/// Standard error.
+#[derive(Drop)]
+pub struct StandardError<'a> {
+    /// The system.
+    pub rt: &'a HostRuntime,
 }
 
-/// Prints the lines of an outcome, with the places of its faults if the words ask for them, and gives the
-/// exit status.
-pub fn told_as_asked(rt: &HostRuntime, alloc: Global, request: &Request, outcome: &Outcome) -> u8
-    ensures { result ≡ status_of outcome.now }
-{
-    if request.explain {
-        told_with_places(rt, alloc, &request.settings, outcome)
-    } else {
-        told(rt, alloc, outcome)
+impl<'a> Teller for StandardError<'a> {
+    fn is_terminal(&self) -> bool {
+        self.rt.stderr().is_terminal()
+    }
+
+    fn say(&mut self, text: &str) {
+        let _ = self.rt.eprint(text);
     }
 }
 
-/// Prints the lines of an outcome as `told` does, and below the line of each fault where it is, and gives
-/// the exit status.
-fn told_with_places(rt: &HostRuntime, alloc: Global, settings: &Settings, outcome: &Outcome) -> u8
-    ensures { result ≡ status_of outcome.now }
+/// Tells the lines of an outcome, with the places of its faults if the words ask for them. The lines of tables with
+/// their places are printed one by one, and not as one text.
+fn told_as_asked<L: Teller>(
+    rt: &HostRuntime,
+    alloc: Global,
+    request: &Request,
+    outcome: &Outcome,
+    to: &mut L,
+)
+    ensures says { Says (L.terminal to.old) outcome.now (L.said to.old) (L.said to.new) }
+    ensures same { L.terminal to.new ≡ L.terminal to.old }
 {
+    if !request.explain {
+        tell(to, alloc, outcome);
+        return;
+    }
     if let Outcome::Tables(tables) = outcome {
-        explain_tables(rt, alloc, settings, tables.as_slice());
-        return status(outcome);
+        explain_tables(rt, alloc, &request.settings, tables.as_slice());
+        return;
     }
-    let status = told(rt, alloc, outcome);
-    explain_fault(rt, alloc, settings, outcome);
-    status
+    tell(to, alloc, outcome);
+    explain_fault(rt, alloc, &request.settings, outcome);
+}
+
+/// Writes the file of the faults of a run that ended so, with this exit status. If that cannot be written, tells so, and
+/// gives the exit status of that.
+fn faults_told<L: Teller>(
+    rt: &HostRuntime,
+    alloc: Global,
+    request: &Request,
+    outcome: &Outcome,
+    to: &mut L,
+) -> u8
+    ensures { SaysLast (L.terminal to.old) request.now.faults outcome.now (L.said to.old) (L.said to.new) result }
+{
+    match write_faults(rt, alloc, request, outcome) {
+        Some(unwritten) => tell(to, alloc, &unwritten),
+        None => status(outcome),
+    }
+}
+
+/// Converts as `convert_as` does, with the numbers of standard input, output and error taken: where the
+/// program was started without one of them, the first file that it opens would get that number, and what is
+/// printed would go into the document. A file that holds nothing and is open for reading takes it, so that
+/// printing fails.
+fn convert_apart<
+    R: Read + Drop + Send,
+    F: Folder<R>,
+    T: Threads + Wait + Sync,
+    W: Write,
+    O: Outputs<W>,
+>(
+    rt: &HostRuntime,
+    threads: &T,
+    alloc: Global,
+    request: &Request,
+    folder: &mut F,
+    outputs: &mut O,
+) -> Outcome
+    ensures { EndsFor (F.files folder.old) request.now (O.done outputs.old) (O.done outputs.new) result }
+{
+    let _input = fs::open(rt, NOTHING);
+    let _output = fs::open(rt, NOTHING);
+    let _error = fs::open(rt, NOTHING);
+    convert_as(threads, alloc, request, folder, outputs)
+}
+
+/// Converts as the words ask for, tells how that ended, and writes the file of the faults. Gives the exit
+/// status: that of what was told last. `threads` starts the workers' threads.
+pub fn convert_and_tell<
+    R: Read + Drop + Send,
+    F: Folder<R>,
+    T: Threads + Wait + Sync,
+    W: Write,
+    O: Outputs<W>,
+    L: Teller,
+>(
+    rt: &HostRuntime,
+    threads: &T,
+    alloc: Global,
+    request: &Request,
+    folder: &mut F,
+    outputs: &mut O,
+    to: &mut L,
+) -> u8
+    ensures { EndsTold (F.files folder.old) request.now (O.done outputs.old) (O.done outputs.new) (L.terminal to.old) (L.said to.old) (L.said to.new) result }
+{
+    let outcome = convert_apart(rt, threads, alloc, request, folder, outputs);
+    told_as_asked(rt, alloc, request, &outcome, to);
+    faults_told(rt, alloc, request, &outcome, to)
 }
 
 /// A text without control characters but the ends of its lines.
