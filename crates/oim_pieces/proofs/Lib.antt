@@ -1,0 +1,5 @@
+pub mod FlightLaws
+pub mod Openings
+pub mod Gives
+pub mod CutLaws
+pub mod SpareLaws
