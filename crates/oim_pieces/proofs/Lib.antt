@@ -1,3 +1,4 @@
+pub mod Sends
 pub mod FlightLaws
 pub mod Openings
 pub mod Gives

@@ -102,7 +102,7 @@ struct Tools<'a> {
 }
 
 /// A decoder, and a flag that is not set. `None` where memory is short.
-fn tools<'a>(alloc: Global, decoders: &mut Decoders<'a>) -> Option<Tools<'a>>
+fn ready_tools<'a>(alloc: Global, decoders: &mut Decoders<'a>) -> Option<Tools<'a>>
     ensures decoder { IfSome result (λ t. t.decoder.reading ≡ decoders.old) }
     ensures same { decoders.new ≡ decoders.old }
 {
@@ -195,7 +195,7 @@ pub(crate) fn launch<'s, E>(
     if piece.is_short || !helpers.take() {
         return decode_here(mine, piece);
     }
-    match tools(alloc, decoders) {
+    match ready_tools(alloc, decoders) {
         Some(tools) => start(scope, helpers, tools, piece),
         None => {
             helpers.give_back();
