@@ -47,7 +47,7 @@ fn fault_before(workers: usize, size: usize, readers: usize, tables: usize) -> O
 
 /// What a conversion needs, prepared before anything is written.
 #[derive(Drop)]
-struct Ready<R: Read + Drop, T: Wait> {
+struct Ready<R: Read + Drop, T: Threads + Wait> {
     crew: Crew<Job<R>, Receipt, Serving, T, Report>,
     unmerged: Unmerged,
     room: ReturnRoom<R>,
@@ -55,7 +55,7 @@ struct Ready<R: Read + Drop, T: Wait> {
 
 /// Everything that a conversion with this many workers and rings of this size needs. Fails if memory
 /// runs out.
-fn prepare<R: Read + Drop, T: Wait>(
+fn prepare<R: Read + Drop, T: Threads + Wait>(
     alloc: Global,
     report: &Report,
     readers: Vec<Option<R>>,
@@ -72,7 +72,7 @@ fn prepare<R: Read + Drop, T: Wait>(
     ensures seats { IfOk result (λ ready. ready.crew.claims.workers ≡ workers) }
     ensures rings { IfOk result (λ ready. All (λ job. job.feed.size ≡ size) ready.crew.claims.items) }
 {
-    let (jobs, drains) = open_lanes(alloc, readers, size)?;
+    let (jobs, drains) = open_lanes(alloc, readers, workers, size)?;
     let room = return_room(alloc, jobs.len(), workers)?;
     let crew = crew_of(alloc, jobs, workers)?;
     let faults = Vec::with_capacity(alloc, drains.len())?;
