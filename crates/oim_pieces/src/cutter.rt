@@ -6,7 +6,7 @@ ghost use Rattle.oim_records.specs.Grids.{records_left};
 ghost use Rattle.oim_records.specs.Reads.{KeepsLeft, left_behind};
 ghost use Rattle.oim_pieces.specs.Cutting.{IsOver, TakesRows};
 
-use oim_records::{PieceReader, rows_of};
+use oim_records::PieceReader;
 use oim_rows::{TableFault, TableKind, fault_of_read, whole_fault};
 use std::io::Read;
 use std::marker::Model;
@@ -107,14 +107,14 @@ impl<R: Read + Drop> Cutter<R> {
             self.over = Some(Some(whole_fault(self.table, TableKind::Memory)));
             return None;
         }
-        match self.pieces.next(self.size) {
-            Ok(Some(bytes)) => {
+        match self.pieces.next(self.size, true) {
+            Ok(Some(piece)) => {
                 let first = self.next as u32;
-                let is_short = bytes.len() < self.size / 2;
+                let is_short = piece.bytes.len() < self.size / 2;
                 self.is_slow = is_short;
-                self.next += rows_of(&bytes);
+                self.next += piece.records;
                 Some(CutPiece {
-                    bytes,
+                    bytes: piece.bytes,
                     first,
                     is_short,
                 })
