@@ -5,4 +5,5 @@ pub mod Apart
 pub mod Pieces
 pub mod PieceAnswers
 pub mod RowEnds
+pub mod KeptIds
 pub mod Heads

@@ -1,15 +1,16 @@
 //! What a piece gives by itself.
 
-ghost use Rattle.std.specs.Prelude.{◌≡◌, ◌++◌, ◌<◌, IfOk, None, Some, option_to_list, vec_capacity, vec_len};
+ghost use Rattle.std.specs.Prelude.{◌≡◌, ◌++◌, ◌<◌, IfOk, IfSome, None, Some, option_to_list, vec_capacity, vec_len};
 ghost use Rattle.std.specs.Option.{is_none};
 ghost use Rattle.oim_rows.specs.RowFacts.{IsTextRecord, id_place_of};
 ghost use Rattle.oim_decode.specs.Apart.{id_in};
 ghost use Rattle.oim_decode.specs.PieceAnswers.{AddsApart, cells_apart, no_rows, refused as no_memory};
 
+use crate::piece::piece_id::PieceId;
 use crate::piece::piece_rows::PieceRows;
+use crate::piece::rooms::Rooms;
 use crate::table::row_texts::RowTexts;
 use oim_fast::TableRow;
-use oim_names::Text;
 use oim_records::Fields;
 use oim_rows::{TableFault, TableKind, whole_fault};
 use std::alloc::{AllocError, Global};
@@ -21,7 +22,7 @@ use std::marker::Model;
 #[derive(Drop)]
 pub struct PieceAnswer {
     pub(crate) rows: PieceRows,
-    pub(crate) ids: Vec<Text>,
+    pub(crate) ids: Vec<PieceId>,
     pub(crate) fault: Option<TableFault>,
 }
 
@@ -33,19 +34,30 @@ impl Model for PieceAnswer {
     ghost view = { λ a. record { rows = a.rows; ids = a.ids.items; fault = a.fault } };
 }
 
-/// The identifier of a row, where its table has a column for them. Fails where memory is short.
-fn id_of(alloc: Global, row: &TableRow<'_, '_>) -> Result<Option<Text>, AllocError>
-    ensures { IfOk result (λ o. id_in (id_place_of row.now.form) row.now.fields ≡ option_to_list o) }
+/// The identifier of a row, where its table has a column for it, and room for it behind others. Fails where memory is short.
+#[inline]
+fn id_of(
+    alloc: Global,
+    row: &TableRow<'_, '_>,
+    ids: &mut Vec<PieceId>,
+) -> Result<Option<PieceId>, AllocError>
+    ensures id { IfOk result (λ o. id_in (id_place_of row.now.form) row.now.fields ≡ option_to_list o) }
+    ensures room { IfOk result (λ o. IfSome o (λ _. vec_len ids.new < vec_capacity ids.new)) }
+    ensures same { ids.new.items ≡ ids.old.items }
 {
     match row.form().id_place() {
-        Some(place) => Ok(Some(Text::from_str(alloc, row.text_at(Some(place)))?)),
+        Some(place) => {
+            ids.reserve(1)?;
+            Ok(Some(PieceId::new(alloc, row.text_at(Some(place)))?))
+        }
         None => Ok(None),
     }
 }
 
 /// Adds an identifier to others, where there is room for it.
-fn keep_id(ids: &mut Vec<Text>, id: Option<Text>)
-    requires { vec_len ids.old < vec_capacity ids.old }
+#[inline]
+fn keep_id(ids: &mut Vec<PieceId>, id: Option<PieceId>)
+    requires { IfSome id (λ _. vec_len ids.old < vec_capacity ids.old) }
     ensures { ids.new.items ≡ ids.old.items ++ option_to_list id }
 {
     if let Some(id) = id {
@@ -82,13 +94,14 @@ impl PieceAnswer {
     }
 
     /// Adds a row that has no fault apart from its cells, or ends with the fault of the first of its cells that has one, or with Memory where
-    /// memory is short. Says whether the row was added.
+    /// memory is short. Says whether the row was added. `rooms` has memory for its texts.
     pub(crate) fn push_row<'a>(
         &mut self,
         alloc: Global,
         texts: &mut RowTexts<'a>,
         row: &TableRow<'a, '_>,
         fields: &Fields<'_>,
+        rooms: &mut Rooms,
     ) -> bool
         requires form { row.now.form ≡ texts.old }
         requires fields { fields.now ≡ row.now.fields }
@@ -98,15 +111,11 @@ impl PieceAnswer {
         ensures added { result ≡ is_none self.new.fault }
         ensures same { texts.new ≡ texts.old }
     {
-        let Ok(id) = id_of(alloc, row) else {
+        let Ok(id) = id_of(alloc, row, &mut self.ids) else {
             self.end(whole_fault(row.table(), TableKind::Memory));
             return false;
         };
-        if self.ids.reserve(1).is_err() {
-            self.end(whole_fault(row.table(), TableKind::Memory));
-            return false;
-        }
-        match self.rows.push_row(alloc, texts, row, fields) {
+        match self.rows.push_row(alloc, texts, row, fields, rooms) {
             Ok(()) => {
                 keep_id(&mut self.ids, id);
                 true

@@ -1,17 +1,19 @@
 //! Decoding pieces of a table.
 
-ghost use Rattle.std.specs.Prelude.{◌≡◌, ◌≤◌, ◌+◌, [], IfOk, None, drop, length};
+ghost use Rattle.std.specs.Prelude.{◌≡◌, ◌≤◌, ◌+◌, [], IfOk, IfSome, None, drop, length};
 ghost use Rattle.csv.specs.declared.parser.State.TheVariants as state;
 ghost use Rattle.oim_records.specs.Grids.{records_left};
 ghost use Rattle.oim_decode.specs.PieceAnswers.{IsDecoded, StepsRow};
+ghost use Rattle.oim_rows.specs.RowFacts.{row_fault};
 
 use crate::piece::piece_answer::PieceAnswer;
+use crate::piece::rooms::Rooms;
 use crate::piece::table_head::TableHead;
 use crate::table::row_texts::RowTexts;
 use itoa::Buffer;
 use oim_fast::TableRow;
-use oim_records::PieceRecords;
-use oim_rows::{RowForm, RowIds, TableKind, whole_fault};
+use oim_records::{Fields, PieceRecords, TextFields};
+use oim_rows::{RowForm, RowIds, TableFault, TableKind, whole_fault};
 use std::alloc::{AllocError, Global};
 use std::marker::Model;
 
@@ -23,6 +25,8 @@ pub struct PieceDecoder<'a> {
     form: RowForm<'a>,
     texts: RowTexts<'a>,
     records: PieceRecords,
+    // memory for texts
+    rooms: Rooms,
     // the identifiers of other rows: none is known
     ids: RowIds,
 }
@@ -38,6 +42,23 @@ impl<'a> Model for PieceDecoder<'a> {
     ghost invariant = { λ a. (a.texts ≡ a.form) × (a.ids ≡ []) × (a.form.limit < 2 ^ 32 - 1) };
 }
 
+/// The first fault of row `number` apart from those of its cells, where `texts` is the row as text if it is that. Then no field is tested again.
+fn fault_of(
+    form: &RowForm<'_>,
+    number: u32,
+    ids: &RowIds,
+    row: &Fields<'_>,
+    texts: &Option<TextFields<'_>>,
+) -> Option<TableFault>
+    requires { IfSome texts.now (λ t. t ≡ row.now) }
+    ensures { result ≡ row_fault form.now number ids.now row.now }
+{
+    match texts {
+        Some(texts) => form.fault_of_texts(number, ids, texts),
+        None => form.fault_of_row(number, ids, row),
+    }
+}
+
 impl<'a> PieceDecoder<'a> {
     /// What decodes pieces of the table of this form, whose rows are at most 4,294,967,294. Fails where memory is short.
     pub fn new(alloc: Global, form: RowForm<'a>) -> Result<PieceDecoder<'a>, AllocError>
@@ -50,6 +71,7 @@ impl<'a> PieceDecoder<'a> {
             form,
             texts,
             records: PieceRecords::new(alloc, Vec::new(alloc)),
+            rooms: Rooms::new(alloc),
             ids: RowIds::new(alloc),
         })
     }
@@ -75,6 +97,21 @@ impl PieceDecoder<'_> {
     {
         self.records.load(piece);
         self.decode_left(first)
+    }
+
+    /// Gives back the vector of the last piece, with whatever bytes, so that a later piece can be read to it. No record is left then.
+    pub fn take_room(&mut self) -> Vec<u8>
+        ensures reading { self.new.reading ≡ self.old.reading }
+        ensures left { self.new.left ≡ [] }
+    {
+        self.records.take_room(self.alloc)
+    }
+
+    /// Keeps the memory of a vector for texts that are decoded later.
+    pub fn keep_room(&mut self, room: Vec<u8>)
+        ensures { self.new ≡ self.old }
+    {
+        self.rooms.keep(room);
     }
 
     /// Decodes the rows behind the header in the head of the table. The answer is as that of `decode`.
@@ -127,15 +164,14 @@ impl PieceDecoder<'_> {
             }
         }
         let fields = self.records.fields();
-        if let Some(fault) = self.form.fault_of_row(number, &self.ids, &fields) {
+        let texts = self.records.text_fields();
+        if let Some(fault) = fault_of(&self.form, number, &self.ids, &fields, &texts) {
             answer.end(fault);
             return false;
         }
-        let Some(texts) = self.records.text_fields() else {
-            unreachable!()
-        };
+        let Some(texts) = texts else { unreachable!() };
         let mut buffer = Buffer::new();
         let row = TableRow::new(&self.form, number, buffer.format(number), &texts);
-        answer.push_row(self.alloc, &mut self.texts, &row, &fields)
+        answer.push_row(self.alloc, &mut self.texts, &row, &fields, &mut self.rooms)
     }
 }

@@ -7,9 +7,9 @@ ghost use Rattle.oim_decode.specs.PieceAnswers.{IsJoined};
 
 use crate::piece::piece_answer::PieceAnswer;
 use crate::piece::piece_blocks::blocks_of;
+use crate::piece::piece_id::PieceId;
 use crate::piece::piece_rows::PieceRows;
 use oim_json::Block;
-use oim_names::Text;
 use oim_rows::{RowForm, RowIds, TableFault, TableKind, whole_fault};
 use std::alloc::{AllocError, Global};
 use std::marker::Model;
@@ -51,7 +51,7 @@ impl Model for JoinedPiece {
 fn first_repeated(
     alloc: Global,
     before: &mut RowIds,
-    ids: &[Text],
+    ids: &[PieceId],
 ) -> Result<Option<usize>, AllocError>
     ensures place { IfOk result (λ place. place ≡ repeated_from 0 before.old ids.now) }
     ensures within { IfOk result (λ place. IfSome place (λ k. k < length ids.now)) }

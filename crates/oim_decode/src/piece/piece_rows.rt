@@ -7,6 +7,7 @@ ghost use Rattle.oim_rows.specs.RowFacts.{IsTextRecord};
 ghost use Rattle.oim_decode.specs.PieceAnswers.{AddsRowFacts};
 ghost use Rattle.oim_decode.specs.RowEnds.{stretches};
 
+use crate::piece::rooms::Rooms;
 use crate::piece::written_rows::WrittenRows;
 use crate::table::row_texts::RowTexts;
 use crate::table::table_blocks::has_room;
@@ -62,12 +63,13 @@ impl PieceRows {
         }
     }
 
-    /// Begins a new stretch. Fails where memory is short. The rows stay.
+    /// Begins a new stretch, whose texts are put to `room`. Fails where memory is short. The rows stay.
     #[tactic(auto, using(crate::proofs::RowCounts::closed))]
-    fn close(&mut self, alloc: Global) -> Result<(), AllocError>
+    fn close(&mut self, alloc: Global, room: Vec<u8>) -> Result<(), AllocError>
         ensures { self.new ≡ self.old }
     {
-        let full = mem::replace(&mut self.last, WrittenRows::new(alloc));
+        let next = self.last.like(alloc, room)?;
+        let full = mem::replace(&mut self.last, next);
         match self.full.push(full) {
             Ok(()) => Ok(()),
             Err(failed) => {
@@ -99,7 +101,7 @@ impl PieceRows {
         (full, last)
     }
 
-    /// Adds the facts of a row.
+    /// Adds the facts of a row. `rooms` has memory for their texts.
     ///
     /// Fails with the fault of the row's first cell that has one, and with Memory where memory is short. Then nothing is added.
     #[tactic(auto, using(crate::proofs::RowCounts::adds_behind))]
@@ -109,6 +111,7 @@ impl PieceRows {
         texts: &mut RowTexts<'a>,
         row: &TableRow<'a, '_>,
         fields: &Fields<'_>,
+        rooms: &mut Rooms,
     ) -> Result<(), TableFault>
         requires form { row.now.form ≡ texts.old }
         requires fields { fields.now ≡ row.now.fields }
@@ -116,7 +119,8 @@ impl PieceRows {
         ensures facts { AddsRowFacts row.now.form.table (facts_of_row row.now) self.old self.new result }
         ensures same { texts.new ≡ texts.old }
     {
-        if !has_room(self.last.count(), row.form().header().len()) && self.close(alloc).is_err() {
+        let is_full = !has_room(self.last.count(), row.form().header().len());
+        if is_full && self.close(alloc, rooms.take(alloc)).is_err() {
             return Err(whole_fault(row.table(), TableKind::Memory));
         }
         self.last.push_row(alloc, texts, row, fields)

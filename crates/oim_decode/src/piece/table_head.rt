@@ -9,7 +9,7 @@ ghost use Rattle.oim_rows.specs.Streams.{IsOutside};
 ghost use Rattle.oim_decode.specs.Heads.{reading_in};
 
 use crate::piece::piece_decoder::PieceDecoder;
-use oim_records::{PieceReader, ReadFault, RecordReader, rows_of};
+use oim_records::{FilePiece, PieceReader, ReadFault, RecordReader};
 use oim_report::Report;
 use oim_rows::{RowForm, TableFault, TableKind, fault_of_read, whole_fault};
 use std::alloc::{AllocError, Global};
@@ -24,10 +24,12 @@ const MARK: [u8; 3] = [0xEF, 0xBB, 0xBF];
 pub struct TableHead {
     // a mark, and then the piece
     marked: Vec<u8>,
+    // how many records the piece has
+    records: u64,
 }
 
 impl Model for TableHead {
-    ghost use Rattle.std.specs.Prelude.{◌≡◌, ◌++◌, List, drop};
+    ghost use Rattle.std.specs.Prelude.{◌≡◌, ◌++◌, List, drop, length};
     ghost use Rattle.csv.specs.declared.parser.State.TheVariants as state;
     ghost use Rattle.oim_records.specs.Grids.{Record, records_left};
     ghost use Rattle.oim_decode.specs.Heads.{mark};
@@ -36,19 +38,20 @@ impl Model for TableHead {
 
     ghost view = { λ a. records_left state.StartRecord (drop 3 a.marked.items) };
 
-    ghost invariant = { λ a. a.marked.items ≡ mark ++ drop 3 a.marked.items };
+    ghost invariant = { λ a. (a.marked.items ≡ mark ++ drop 3 a.marked.items) × (a.records ≡ length (records_left state.StartRecord (drop 3 a.marked.items))) };
 }
 
 /// The first piece that has a record, or `None` where no record is left. Pieces without a record are passed over.
-fn first_piece<R: Read + Drop>(pieces: &mut PieceReader<R>) -> Result<Option<Vec<u8>>, ReadFault>
-    ensures piece { IfOk result (λ o. IfSome o (λ piece. KeepsLeft (left_behind [] pieces.old) (left_behind (records_left state.StartRecord piece.items) pieces.new))) }
-    ensures some { IfOk result (λ o. IfSome o (λ piece. 1 ≤ length (records_left state.StartRecord piece.items))) }
+fn first_piece<R: Read + Drop>(pieces: &mut PieceReader<R>) -> Result<Option<FilePiece>, ReadFault>
+    ensures piece { IfOk result (λ o. IfSome o (λ piece. KeepsLeft (left_behind [] pieces.old) (left_behind (records_left state.StartRecord piece.bytes.items) pieces.new))) }
+    ensures records { IfOk result (λ o. IfSome o (λ piece. piece.records ≡ length (records_left state.StartRecord piece.bytes.items))) }
+    ensures some { IfOk result (λ o. IfSome o (λ piece. 1 ≤ length (records_left state.StartRecord piece.bytes.items))) }
     ensures none { IfOk result (λ o. IfNone o (IfSome (left_behind [] pieces.old) (λ records. records ≡ []))) }
 {
     for _ in 0..u64::MAX {
-        match pieces.next(1)? {
+        match pieces.next(1, false)? {
             Some(piece) => {
-                if rows_of(&piece) > 0 {
+                if piece.records > 0 {
                     return Ok(Some(piece));
                 }
             }
@@ -83,14 +86,18 @@ pub fn open_pieces<R: Read + Drop>(
 }
 
 impl TableHead {
-    /// The head with these bytes. Fails where memory is short.
-    fn of(alloc: Global, piece: &[u8]) -> Result<TableHead, AllocError>
-        ensures { IfOk result (λ head. head ≡ records_left state.StartRecord piece.now) }
+    /// The head with the bytes of a piece. Fails where memory is short.
+    fn of(alloc: Global, piece: &FilePiece) -> Result<TableHead, AllocError>
+        requires { piece.now.records ≡ length (records_left state.StartRecord piece.now.bytes.items) }
+        ensures { IfOk result (λ head. head ≡ records_left state.StartRecord piece.now.bytes.items) }
     {
         let mut marked = Vec::new(alloc);
         marked.extend_from_slice(&MARK)?;
-        marked.extend_from_slice(piece)?;
-        Ok(TableHead { marked })
+        marked.extend_from_slice(&piece.bytes)?;
+        Ok(TableHead {
+            marked,
+            records: piece.records,
+        })
     }
 
     /// The bytes of the piece.
@@ -104,7 +111,7 @@ impl TableHead {
     pub fn rows(&self) -> u64
         ensures { result ≡ length self.now - 1 }
     {
-        rows_of(self.bytes()).saturating_sub(1)
+        self.records.saturating_sub(1)
     }
 
     /// The piece itself. Fails where memory is short.

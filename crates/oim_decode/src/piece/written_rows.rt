@@ -1,6 +1,6 @@
 //! The texts of the facts of some rows.
 
-ghost use Rattle.std.specs.Prelude.{◌≡◌, ◌≤◌, ◌-◌, ◌∷◌, [], get_or, length, take};
+ghost use Rattle.std.specs.Prelude.{◌≡◌, ◌≤◌, ◌-◌, ◌∷◌, [], IfOk, get_or, length, take};
 ghost use Rattle.oim_fast.specs.Facts.{facts_of_row};
 ghost use Rattle.oim_rows.specs.RowFacts.{IsTextRecord};
 ghost use Rattle.oim_rows.specs.Streams.{facts_of_rows};
@@ -15,7 +15,7 @@ use oim_names::Items;
 use oim_records::Fields;
 use oim_resolve::Fact;
 use oim_rows::{TableFault, TableKind, whole_fault};
-use std::alloc::Global;
+use std::alloc::{AllocError, Global};
 use std::marker::Model;
 use told::{Tells, Told};
 
@@ -73,6 +73,17 @@ impl WrittenRows {
             ends: Vec::new(alloc),
             rows: none(),
         }
+    }
+
+    /// No rows, with memory for as many texts as these have, that of `room` first. Fails where memory is short.
+    pub(crate) fn like(&self, alloc: Global, room: Vec<u8>) -> Result<WrittenRows, AllocError>
+        ensures { IfOk result (λ rows. rows ≡ []) }
+    {
+        Ok(WrittenRows {
+            facts: self.facts.like(alloc, room)?,
+            ends: Vec::with_capacity(alloc, self.ends.len())?,
+            rows: none(),
+        })
     }
 
     /// How many facts there are.

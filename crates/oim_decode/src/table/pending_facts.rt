@@ -7,6 +7,7 @@ ghost use Rattle.oim_decode.specs.RowTexts.{AddsFacts, facts_in};
 
 use crate::table::fact_list::{first, none, rest, then};
 use crate::table::row_texts::RowTexts;
+use crate::table::table_blocks::MOST;
 use oim_fast::{TableRow, TextBuffer};
 use oim_json::Block;
 use oim_names::Items;
@@ -17,6 +18,9 @@ use std::alloc::{AllocError, Global};
 use std::marker::Model;
 use std::mem;
 use told::{Tells, Told};
+
+/// How many bytes more than the last texts have are made ready for others.
+const AHEAD: usize = 2048;
 
 /// The texts of facts, each behind a comma. A contract sees the list of facts, which no code holds.
 #[derive(Drop)]
@@ -59,6 +63,19 @@ impl PendingFacts {
             ends: Vec::new(alloc),
             facts: none(),
         }
+    }
+
+    /// No facts, with memory for as many texts as these have, and some more, that of `room` first. Fails where memory is short.
+    pub(crate) fn like(&self, alloc: Global, room: Vec<u8>) -> Result<PendingFacts, AllocError>
+        ensures { IfOk result (λ facts. facts ≡ []) }
+    {
+        let length = self.bytes.len();
+        let more = length.saturating_add(length / 16).saturating_add(AHEAD);
+        Ok(PendingFacts {
+            bytes: TextBuffer::within(room, more)?,
+            ends: Vec::with_capacity(alloc, MOST)?,
+            facts: none(),
+        })
     }
 
     /// How many facts there are.

@@ -9,7 +9,7 @@ use Rattle.oim_decode.proofs.piece.table_head.TableHead.form.Goals as goal
 pub returns-clause-form : goal.returns-clause-form
 returns-clause-form c =
     let starts = subst (λ t. StartsFile (Some t) c.in-Ok.records.left) c.as_slice.ensures.value c.in-Ok.ensures in
-    let all = marked_records c.self.inside.marked.items c.in-Ok.records.left c.self.invariant starts in
+    let all = marked_records c.self.inside.marked.items c.in-Ok.records.left c.self.invariant.0 starts in
     rw (← c.self.view_is)
     (head_forms c.args.report.now c.args.table c.args.limit (records_left state.StartRecord (drop 3 c.self.inside.marked.items)) c.in-Ok.records.left c.read.new.records.left c.read.result all c.read.ensures.header
     c.read.ensures.form)
@@ -17,13 +17,13 @@ returns-clause-form c =
 pub returns-clause-header : goal.returns-clause-header
 returns-clause-header c =
     let starts = subst (λ t. StartsFile (Some t) c.in-Ok.records.left) c.as_slice.ensures.value c.in-Ok.ensures in
-    let all = marked_records c.self.inside.marked.items c.in-Ok.records.left c.self.invariant starts in
+    let all = marked_records c.self.inside.marked.items c.in-Ok.records.left c.self.invariant.0 starts in
     rw (← c.self.view_is)
     (head_fines c.args.report.now c.args.table c.args.limit (records_left state.StartRecord (drop 3 c.self.inside.marked.items)) c.in-Ok.records.left c.read.new.records.left c.read.result all c.read.ensures.header)
 
 pub returns-clause-fault : goal.returns-clause-fault
 returns-clause-fault c =
     let starts = subst (λ t. StartsFile (Some t) c.in-Ok.records.left) c.as_slice.ensures.value c.in-Ok.ensures in
-    let all = marked_records c.self.inside.marked.items c.in-Ok.records.left c.self.invariant starts in
+    let all = marked_records c.self.inside.marked.items c.in-Ok.records.left c.self.invariant.0 starts in
     rw (← c.self.view_is)
     (head_faults c.args.report.now c.args.table c.args.limit (records_left state.StartRecord (drop 3 c.self.inside.marked.items)) c.in-Ok.records.left c.read.result all c.read.ensures.fault)

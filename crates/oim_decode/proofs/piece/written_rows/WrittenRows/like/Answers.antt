@@ -1,0 +1,8 @@
+use Rattle.std.proofs.Common.{◌∙◌}
+use Rattle.oim_decode.proofs.RowCounts.{none_counted}
+use Rattle.oim_decode.proofs.piece.written_rows.WrittenRows.like.Goals as goal
+
+pub invariant_of-result : goal.invariant_of-result
+invariant_of-result c =
+    let none = none_counted c.none.result.value c.none.ensures in
+    (c.in_ok-like.ensures ∙ none.0, c.in_ok-with_capacity.ensures.items ∙ none.1)

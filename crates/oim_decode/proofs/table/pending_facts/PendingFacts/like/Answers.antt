@@ -1,0 +1,10 @@
+use Rattle.std.proofs.Common.{ap, sym, ◌∙◌}
+use Rattle.oim_json.specs.Blocks.{behind_commas, ends_from}
+use Rattle.oim_json.proofs.Blocks.{nothing_written}
+use Rattle.oim_decode.proofs.table.pending_facts.PendingFacts.like.Goals as goal
+
+pub invariant_of-result : goal.invariant_of-result
+invariant_of-result c = (
+  c.in_ok-within.ensures.items ∙ nothing_written.0 ∙ ap behind_commas (sym c.none.ensures),
+  c.in_ok-with_capacity.ensures.items ∙ nothing_written.1 ∙ ap (ends_from 0) (sym c.none.ensures),
+)
