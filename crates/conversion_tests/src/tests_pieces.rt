@@ -5,12 +5,11 @@ use oim_json::Block;
 use oim_meta::{Limits, Report};
 use oim_pieces::{Helpers, PIECE_SIZE, TablePieces};
 use std::alloc::{AllocError, Global};
-use std::io;
 use std::io::Read;
 use std::sync::Wait;
 use std::test::Fail;
-use std::thread;
 use std::thread::{Scope, Threads};
+use std::{io, thread};
 
 /// A reader of these bytes, at most `step` per call.
 #[derive(Clone, Copy)]

@@ -94,7 +94,7 @@ pub(crate) fn send_file<R: Read + Drop, T: Wait>(
     requires file { IsTableFile file }
     requires fresh { feed.old.sent ≡ [] }
     ensures ring { feed.new.ring ≡ feed.old.ring }
-    ensures given { IsSentOfFile R.remaining file (facts_in feed.new.sent) result }
+    ensures given { IsSentOfFile R.remaining file.entry (facts_in feed.new.sent) result }
 {
     let TableFile {
         report,

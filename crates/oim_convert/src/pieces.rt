@@ -28,7 +28,7 @@ pub(crate) fn send_table<R: Read + Drop, T: Threads + Wait>(
     requires file { IsTableFile file }
     requires fresh { feed.old.sent ≡ [] }
     ensures ring { feed.new.ring ≡ feed.old.ring }
-    ensures given { IsSentOfFile R.remaining file (facts_in feed.new.sent) result }
+    ensures given { IsSentOfFile R.remaining file.entry (facts_in feed.new.sent) result }
 {
     if helpers.are_idle() {
         send_in_scope(rt, alloc, file, helpers, feed)
@@ -54,7 +54,7 @@ fn send_in_scope<R: Read + Drop, T: Threads + Wait>(
     requires file { IsTableFile file }
     requires fresh { feed.old.sent ≡ [] }
     ensures ring { feed.new.ring ≡ feed.old.ring }
-    ensures given { IsSentOfFile R.remaining file (facts_in feed.new.sent) result }
+    ensures given { IsSentOfFile R.remaining file.entry (facts_in feed.new.sent) result }
 {
     let lent = &mut *feed;
     let sent = thread::scope(
@@ -93,7 +93,7 @@ fn send_pieces<'s, E, R: Read + Drop, T: Threads + Wait>(
     requires file { IsTableFile file }
     requires fresh { feed.old.sent ≡ [] }
     ensures ring { feed.new.ring ≡ feed.old.ring }
-    ensures given { IsSentOfFile R.remaining file (facts_in feed.new.sent) result }
+    ensures given { IsSentOfFile R.remaining file.entry (facts_in feed.new.sent) result }
 {
     let TableFile {
         report,
@@ -130,7 +130,7 @@ fn send_left<'s, E, R: Read + Drop, T: Threads + Wait>(
 }
 
 /// Sends blocks, one after another.
-#[tactic(auto, using(crate::proofs::PutBlocks::block_put, crate::proofs::PutBlocks::all_put))]
+#[tactic(auto, using(crate::proofs::PutBlocks::all_put))]
 fn put_all<T: Wait>(rt: &T, feed: &mut Feed, blocks: Vec<Block>)
     ensures ring { feed.new.ring ≡ feed.old.ring }
     ensures sent { facts_in feed.new.sent ≡ facts_in feed.old.sent ++ facts_of_rows blocks.items }
