@@ -31,11 +31,12 @@ fn next_piece(
     Ok(join.join(decoder.form(), first, answer))
 }
 
-/// Whether the first piece of a table has no fault.
+/// Whether the first piece of a table has no fault, and its vector is given back.
 fn joins(alloc: Global, decoder: &mut PieceDecoder<'_>, piece: &[u8]) -> bool {
     let mut join = PieceJoin::new(alloc);
+    decoder.keep_room(Vec::new(alloc));
     match next_piece(alloc, decoder, &mut join, piece, 1) {
-        Ok(joined) => joined.fault().is_none(),
+        Ok(joined) => joined.fault().is_none() && decoder.take_room().len() == piece.len(),
         Err(_) => false,
     }
 }
