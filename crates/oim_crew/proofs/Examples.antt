@@ -80,6 +80,7 @@ module _ (id : TableId) (started : Vec (PromisedHandle (Shift ℕ ℕ) (ShiftOf 
       );
       count = omega (arith, zero, long);
       room = omega (arith, room);
+      spare = λ _. none;
     }
 
     -- so the server is not in use
@@ -110,9 +111,14 @@ module _ (id : TableId) (started : Vec (PromisedHandle (Shift ℕ ℕ) (ShiftOf 
       );
       count = omega (arith, long, zero);
       room = omega (arith, room);
+      spare = λ e. absurd (cc);
     }
 
     -- where a worker was started, the spare server is not in use
+    no_spare_beside_a_worker : started.items ≡ handle ∷ [] → AreUnderWay sums (site id) (at_work false) → ⊥
+    no_spare_beside_a_worker one crew = let e : handle ∷ [] ≡ [] = sym one ∙ crew.spare refl in cc
+
+    -- nor is it by its promise
     spare_not_at_work : started.items ≡ handle ∷ [] → handle.promise.server.value ≡ 10 → AreUnderWay sums (site id) (at_work false) → ⊥
     spare_not_at_work one server crew =
         let mine = All-head (IsStarted 20 1 (one_seat id)) handle [] (subst (All (IsStarted 20 1 (one_seat id))) one crew.workers.0) in

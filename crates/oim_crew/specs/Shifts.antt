@@ -1,5 +1,5 @@
 -- What workers begin with, and what they hand back.
-use Rattle.std.specs.Prelude.{◌≡◌, ◌≤◌, ◌+◌, ℕ, All, Bool, true, List, [], cond, slice_get, length, MatchBool, Some, vec_len, vec_capacity}
+use Rattle.std.specs.Prelude.{◌≡◌, ◌≤◌, ◌+◌, ℕ, All, Bool, true, List, [], cond, slice_get, length, MatchBool, Some, vec_len, vec_capacity, false}
 use Rattle.std.specs.List.{AllZip, list_all}
 use Rattle.std.specs.declared.thread.PromisedHandle.{PromisedHandle}
 use Rattle.oim_crew.specs.Claims.{Claiming, Drawer, fresh}
@@ -61,8 +61,10 @@ module _ {V O : Type 0} where
 abbrev pub serving : {V S T C : Type 0} → Bool → Site V S T C → S
 serving used site = cond used site.server.now site.spare.now
 
--- a worker for each seat, that was started or has handed its shift back, and room for the shifts of all
+-- a worker for each seat, that was started or has handed its shift back, and room for the shifts of all; where the spare server is in use, none was
+-- started
 pub record AreUnderWay {V O S T C : Type 0} (gives : S → C → ℕ → V → O → Type 0) (site : Site V S T C) (crew : UnderWay V O S T C) : Type 0 where
   pub workers : IsUnderWay gives (serving crew.served site) site.shared.now site.claims.now crew.room.started.items crew.room.shifts.items
   pub count : vec_len crew.room.started + vec_len crew.room.shifts ≡ site.claims.now.workers
   pub room : site.claims.now.workers ≤ vec_capacity crew.room.shifts
+  pub spare : crew.served ≡ false → crew.room.started.items ≡ []

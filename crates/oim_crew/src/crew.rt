@@ -93,6 +93,7 @@ fn spare_unless_started<V: Drop, O: Drop, S: Serve<V, O, T, C> + Drop, T, C>(
     ensures count { (vec_len room.new.started ≡ vec_len room.old.started) × (vec_len room.new.shifts ≡ vec_len room.old.shifts) }
     ensures room { vec_capacity room.new.shifts ≡ vec_capacity room.old.shifts }
     ensures alone { IsAlone room.old.started.items room.old.shifts.items → result ≡ false }
+    ensures none { result ≡ false → room.new.started.items ≡ [] }
 {
     if room.started.len() > 0 || !all_idle(room.shifts.as_slice()) {
         return true;
