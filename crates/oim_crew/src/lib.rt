@@ -2,15 +2,14 @@
 //!
 //! What is proved of `Claims`, with which threads share out the items:
 //!
-//! - a draw gives a number and the item at its place, and no seat draws that number again
-//!   (`specs/Claims.antt`);
-//! - once a seat was answered `None`, all seats together have drawn each number once
-//!   (`specs/Numbers.antt`).
+//! - a draw gives a number and the item at its place (`specs/Claims.antt`);
+//! - where one of the seats was answered `None`, `close` with all of them shows that they together have drawn each number
+//!   once, so none twice (`specs/Numbers.antt`).
 //!
 //! And of a crew, which serves the items:
 //!
 //! - `crew_of` makes all that its workers need before any of them starts. A worker that `start_crew` started has promised a
-//!   shift by the server; where it tells that the spare server is in use, all shifts are that one's, so none was started;
+//!   shift by the server; where it tells that the spare server is in use, all shifts are that one's, and no worker was started;
 //! - `join_crew` gives the shift of each worker: for each number that its seat drew, what the server gives of the item under
 //!   that number (`specs/Shifts.antt`).
 //!
