@@ -6,7 +6,7 @@ ghost use Rattle.oim_records.specs.Grids.{records_left};
 ghost use Rattle.oim_records.specs.Reads.{KeepsLeft, left_behind};
 ghost use Rattle.oim_pieces.specs.Cutting.{IsOver, TakesRows};
 
-use oim_records::PieceReader;
+use oim_records::{FilePiece, PieceReader};
 use oim_rows::{TableFault, TableKind, fault_of_read, whole_fault};
 use std::io::Read;
 use std::marker::Model;
@@ -89,6 +89,13 @@ impl<R: Read + Drop> Cutter<R> {
         self.over
     }
 
+    /// Keeps the room of a vector for pieces that are cut later.
+    pub(crate) fn keep_room(&mut self, room: Vec<u8>)
+        ensures { self.new ≡ self.old }
+    {
+        self.pieces.keep_room(room);
+    }
+
     /// The next piece, or `None` where no more is cut: at the end of the file, where the reader failed, or where memory is short.
     #[tactic(auto, using(crate::proofs::FlightLaws::rows_few, crate::proofs::CutLaws::cut_taken, crate::proofs::CutLaws::cut_ended, crate::proofs::CutLaws::cut_failed))]
     pub(crate) fn cut(&mut self) -> Option<CutPiece>
@@ -108,13 +115,13 @@ impl<R: Read + Drop> Cutter<R> {
             return None;
         }
         match self.pieces.next(self.size, true) {
-            Ok(Some(piece)) => {
+            Ok(Some(FilePiece { bytes, records })) => {
                 let first = self.next as u32;
-                let is_short = piece.bytes.len() < self.size / 2;
+                let is_short = bytes.len() < self.size / 2;
                 self.is_slow = is_short;
-                self.next += piece.records;
+                self.next += records;
                 Some(CutPiece {
-                    bytes: piece.bytes,
+                    bytes,
                     first,
                     is_short,
                 })

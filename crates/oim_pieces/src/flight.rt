@@ -192,7 +192,8 @@ impl<'a, R: Read + Drop> Flight<'a, R> {
         rt: &T,
         helpers: &Helpers,
     ) -> Option<JoinedPiece>
-        ensures some { IfSome (stream_in self.old) (λ whole. IfSome result (λ s. ReadsRows self.old.cutter.table whole s.rows (behind s.fault (stream_in self.new)))) }
+        ensures some { IfSome (stream_in self.old) (λ whole. IfSome result (λ s.
+            ReadsRows self.old.cutter.table whole s.rows (behind s.fault (stream_in self.new)))) }
         ensures none { IfNone result ((self.old.pieces ≡ []) × (self.new ≡ self.old)) }
         ensures table { self.new.cutter.table ≡ self.old.cutter.table }
     {

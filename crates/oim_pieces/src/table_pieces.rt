@@ -62,10 +62,12 @@ impl<'a, R: Read + Drop> TablePieces<'a, R> {
 
         // The facts of the table, where its header has no fault.
         ensures start { IfOk result (λ pieces. pieces.table ≡ table) }
-        ensures stream { IfSome (R.remaining reader) (λ bytes. IfOk result (λ pieces. pieces.left ≡ Some (stream_of report.now table limits.rows (grid bytes)))) }
+        ensures stream { IfSome (R.remaining reader) (λ bytes.
+            IfOk result (λ pieces. pieces.left ≡ Some (stream_of report.now table limits.rows (grid bytes)))) }
 
         // Its fault, unless the reader failed or memory was refused.
-        ensures fault { IfSome (R.remaining reader) (λ bytes. IfErr result (λ e. IsOutside table e ⊎ (file_header_fault report.now table (grid bytes) ≡ Some e))) }
+        ensures fault { IfSome (R.remaining reader) (λ bytes.
+            IfErr result (λ e. IsOutside table e ⊎ (file_header_fault report.now table (grid bytes) ≡ Some e))) }
     {
         let (head, pieces) = match open_pieces(alloc, reader) {
             Ok(Some(opened)) => opened,
@@ -96,7 +98,8 @@ impl<'a, R: Read + Drop> TablePieces<'a, R> {
         rt: &T,
         helpers: &Helpers,
     ) -> Result<Option<Vec<Block>>, TableFault>
-        ensures blocks { IfSome self.old.left (λ s. IfOk result (λ o. IfSome o (λ blocks. GivesBlock self.old.table [] s (Ok (Some (facts_of_rows blocks.items))) [] self.new.left))) }
+        ensures blocks { IfSome self.old.left (λ s. IfOk result (λ o. IfSome o (λ blocks.
+            GivesBlock self.old.table [] s (Ok (Some (facts_of_rows blocks.items))) [] self.new.left))) }
         ensures end { IfSome self.old.left (λ s. IfOk result (λ o. IfNone o (GivesBlock self.old.table [] s (Ok None) [] self.new.left))) }
         ensures fault { IfSome self.old.left (λ s. IfErr result (λ e. GivesBlock self.old.table [] s (Err e) [] self.new.left)) }
         ensures same { self.new.table ≡ self.old.table }
@@ -123,7 +126,8 @@ impl<'a, R: Read + Drop> TablePieces<'a, R> {
         helpers: &Helpers,
         joined: JoinedPiece,
     ) -> Result<Option<Vec<Block>>, TableFault>
-        ensures blocks { IfOk result (λ o. IfSome o (λ blocks. (facts_of_rows blocks.items ≡ facts_of_rows joined.rows) × (self.new.left ≡ behind joined.fault self.old.left))) }
+        ensures blocks { IfOk result (λ o. IfSome o (λ blocks.
+            (facts_of_rows blocks.items ≡ facts_of_rows joined.rows) × (self.new.left ≡ behind joined.fault self.old.left))) }
         ensures some { IfOk result (λ o. IsSome o) }
         ensures fault { IfErr result (λ e. (e ≡ file_fault self.old.table kind.Memory) × (self.new.left ≡ Some (ending (Some e)))) }
         ensures same { self.new.table ≡ self.old.table }
