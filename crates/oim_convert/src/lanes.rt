@@ -37,11 +37,12 @@ pub(crate) fn open_lanes<R: Drop>(
     for reader in readers {
         let table = jobs.len();
         let (feed, drain) = lanes.open(alloc, size)?;
+        let shared = Arc::try_clone(&helpers)?;
         jobs.push(Job {
             table,
             reader,
             feed,
-            helpers: Arc::try_clone(&helpers)?,
+            helpers: shared,
         })?;
         drains.push(drain)?;
     }
