@@ -8,9 +8,10 @@ use Rattle.oim_pieces.proofs.cutter.Cutter.cut.Goals as goal
 
 pub overflow_add-self : goal.overflow_add-self
 overflow_add-self g c =
-    let few = rows_few c.in-Ok-Some.bytes.items in
+    let piece = c.in-Ok-Some.field-0-0 in
+    let few = rows_few piece.bytes.items in
     let is = rw c.in-Ok-Some.field-0-is at c.in-Ok-Some.ensures.records in
-    omega (arith, few, is, c.if-self.false, c.self.invariant.0, c.in-Ok-Some.bytes.ok, c.in-Ok-Some.bytes.small)
+    omega (arith, few, is, c.if-self.false, c.self.invariant.0, piece.bytes.ok, piece.bytes.small)
 
 pub returns-in-Ok-None-clause-none : goal.returns-in-Ok-None-clause-none
 returns-in-Ok-None-clause-none g c =
