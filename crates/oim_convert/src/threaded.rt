@@ -142,8 +142,8 @@ fn run_ready<R: Read + Drop + Send, T: Threads + Wait + Sync, W: Sink>(
 /// Each history is its table's stream, or a beginning of it that a failed read (`Read`) or running out
 /// of memory (`Memory`) ended; or every table is refused with `NoThread`, and never only some are. That
 /// holds of each table whose reader tells its bytes, whatever those of the others tell. They
-/// all are if no worker could be started. That they are in no other case no clause of this call can say,
-/// since nothing tells it which threads the system gave. The run has the fault of each refused table, in
+/// all are if no worker could be started, and in no other case: no clause of this call can say so, since
+/// nothing tells it which threads the system gave. The run has the fault of each refused table, in
 /// table order, however it ends. The end is `Complete` if no table is refused; `Refused` if one is, and
 /// then the document is unfinished after the facts of the first refused table; or `Write` if a write failed
 /// before that, and then a beginning of the document is written.

@@ -2,19 +2,19 @@
 //!
 //! What is proved of `Claims`, with which threads share out the items:
 //!
-//! - a draw gives a number and the item at its place, and no seat draws that number again
-//!   (`specs/Claims.antt`);
-//! - once a seat was answered `None`, all seats together have drawn each number once
-//!   (`specs/Numbers.antt`).
+//! - a draw gives a number and the item at its place (`specs/Claims.antt`);
+//! - where one of the seats was answered `None`, `close` with all of them shows that they together have drawn each number
+//!   once, so none twice (`specs/Numbers.antt`).
 //!
 //! And of a crew, which serves the items:
 //!
-//! - `crew_of` makes all that its workers need before any of them starts. A worker that `start_crew` started has promised a
-//!   shift by the server; where it tells that the spare server is in use, all shifts are that one's, so none was started;
+//! - `crew_of` makes all that its workers need before any of them starts. Where `start_crew` tells that the server is in use, each
+//!   worker has promised a shift by it or handed one back, and else by the spare one;
 //! - `join_crew` gives the shift of each worker: for each number that its seat drew, what the server gives of the item under
 //!   that number (`specs/Shifts.antt`).
 //!
-//! That a worker is started where the system has a thread for it, no contract can say: tests show it.
+//! That a worker is started where the system has a thread for it, no contract can say: tests show it. That the spare server serves only
+//! where none was started, no clause says: `start_crew` is written so.
 //!
 //! A call:
 //!

@@ -85,8 +85,7 @@ fn run_tables<R: Read + Drop + Send, F: Folder<R>, T: Threads + Wait + Sync, W: 
 /// The answer is how the run ended. If the metadata, the types table or the parameters file has a fault,
 /// it is the first one, in the order in which the files are read, and nothing is written. Otherwise it is
 /// how the conversion of the tables ended. A table whose file does not exist has the fault `NoFile`,
-/// unless it is optional. The system's files are opened once a worker has drawn their table; if opening
-/// fails, the table's read fails.
+/// unless it is optional.
 ///
 /// `Done` means that exactly the document of the files' bytes is written, in this layout. `Tables` means
 /// that these tables are refused, each with its first fault, in table order, and that the unfinished
