@@ -1,9 +1,10 @@
 -- A text of ASCII characters is its bytes, so a test of its characters is one of its bytes.
-use Rattle.std.proofs.Common.{◌≡◌, ℕ, zero, suc, ◌<◌, List, [], ◌∷◌, length, get_or, drop, refl, ap, ◌∙◌, Bool, true, false, ◌&&◌, nat_lt, arith}
-use Rattle.std.specs.List.{list_all}
+use Rattle.std.proofs.Common.{◌≡◌, ℕ, zero, suc, ◌+◌, ◌<◌, List, [], ◌∷◌, ◌++◌, length, get_or, take, drop, refl, sym, ap, ◌∙◌, Bool, true, false, cond, ◌&&◌, nat_lt, arith}
+use Rattle.std.specs.List.{list_all, prefix_len}
 use Rattle.std.specs.Str.{chars, IsAscii, IsUtf8, is_utf8}
-use Rattle.std.proofs.lemmas.Str.{chars-IsAscii, is_utf8-from_IsUtf8}
-use Rattle.oim_names.specs.Names.{begins_and_goes_on}
+use Rattle.std.proofs.lemmas.List.{at_drop_more, take-append-drop}
+use Rattle.std.proofs.lemmas.Str.{IsUtf8-from_ascii, chars-IsAscii, is_utf8-from_IsUtf8}
+use Rattle.oim_names.specs.Names.{begins_and_goes_on, is_name_start, is_name_char, is_ncname}
 
 both : (a b : Bool) → (a && b) ≡ true → (a ≡ true) × (b ≡ true)
 both true b h = (refl, h)
@@ -39,3 +40,31 @@ ascii_name first other (b ∷ bs) u some h rest =
     let spelt : chars (b ∷ bs) ≡ b ∷ bs = chars-IsAscii (b ∷ bs) (one_more b bs (is_low first b h) (are_ascii other bs rest)) in
     ap (λ d. d && begins_and_goes_on first other (chars (b ∷ bs))) (is_utf8-from_IsUtf8 (b ∷ bs) u)
     ∙ ap (begins_and_goes_on first other) spelt ∙ ap (λ d. d && list_all other bs) (both (nat_lt b 128) (first b) h).1 ∙ all_pass other bs rest
+
+-- what stands before the first item that fails a test passes it
+front_passes : (p : ℕ → Bool) (xs : List ℕ) → list_all p (take (prefix_len p xs) xs) ≡ true
+front_passes p [] = refl
+front_passes p (x ∷ xs) = by (p x) refl (front_passes p xs)
+  where
+    on : 1 + prefix_len p xs ≡ suc (prefix_len p xs)
+    on = omega arith
+
+    by : (b : Bool) → p x ≡ b → list_all p (take (prefix_len p xs) xs) ≡ true → list_all p (take (cond b (1 + prefix_len p xs) 0) (x ∷ xs)) ≡ true
+    by true e k = ap (λ n. list_all p (take n (x ∷ xs))) on ∙ ap (λ d. d && list_all p (take (prefix_len p xs) xs)) e ∙ k
+    by false e k = refl
+
+-- the name at the beginning of a text: a byte that may begin one, and those behind it that may stand in one
+pub front_name : (t : List ℕ) → 0 < length t → is_ascii_and is_name_start (get_or t 0 0) ≡ true
+    → is_ncname (take (1 + prefix_len (is_ascii_and is_name_char) (drop 1 t)) t) ≡ true
+unfolding is_ncname
+front_name [] some h = absurd (omega arith)
+front_name (b ∷ bs) some h =
+    let n = prefix_len (is_ascii_and is_name_char) bs in
+    let on : 1 + n ≡ suc n = omega arith in
+    let rest = front_passes (is_ascii_and is_name_char) bs in
+    let ascii = one_more b (take n bs) (is_low is_name_start b h) (are_ascii is_name_char (take n bs) rest) in
+    ap (λ k. is_ncname (take k (b ∷ bs))) on ∙ ascii_name is_name_start is_name_char (b ∷ take n bs) (IsUtf8-from_ascii (b ∷ take n bs) ascii) (omega arith) h rest
+
+-- a list cut at one of its items
+pub cut_at : (t : List ℕ) (n m : ℕ) → n < length t → get_or t n 0 ≡ m → t ≡ take n t ++ m ∷ drop (n + 1) t
+cut_at t n m h e = sym (take-append-drop n t) ∙ ap (λ s. take n t ++ s) (at_drop_more (λ xs. xs) t n 0 h ∙ ap (λ c. c ∷ drop (n + 1) t) e)

@@ -6,11 +6,11 @@ use Rattle.std.proofs.lemmas.List.Elements.{All-from_recursion}
 use Rattle.std.proofs.lemmas.List.Splits.{slice_split_none, slice_split_at, length-slice_split, join_with_byte-slice_split}
 use Rattle.std.proofs.lemmas.Bool.{eq-eqb}
 use Rattle.std.proofs.lemmas.Slice.Eq.{bytes_eq-Decides}
-use Rattle.oim_names.specs.Names.{is_name_start, is_name_char}
-use Rattle.oim_names.specs.Bindings.{Bindings}
-use Rattle.oim_names.specs.QName.{Name, Lacks, IsQName, qname_of}
+use Rattle.oim_names.specs.Names.{is_name_start, is_name_char, is_ncname}
+use Rattle.oim_names.specs.Bindings.{Bindings, uri_of}
+use Rattle.oim_names.specs.QName.{Name, Lacks, IsQName, qname, qname_of}
 use Rattle.oim_names.specs.Unit.{IsProduct, measure, product, IsSide, bare, bracketed, IsUnit, whole, quotient, HasMeasures, IsPure, pure_name, is_bracketed, inside}
-use Rattle.oim_names.specs.Unit.{is_side, above_of, below_of, is_unit, is_pure_name}
+use Rattle.oim_names.specs.Unit.{are_measures, is_side, above_of, below_of, is_unit, is_pure_name}
 use Rattle.oim_names.proofs.Cut.{before_mark, after_mark, name_lacks, front_is_text, rest_is_text}
 use Rattle.oim_names.proofs.Colons.{of_qname, has_mark, qname_value, qname_sound, qname_uncut}
 use Rattle.oim_names.proofs.Parentheses.{bracketed_is, inside_brackets, inside_other, inside_lacks}
@@ -54,9 +54,6 @@ product_lacks m k n (product b s t x more q r) u =
 abbrev is_measure : Bindings → List ℕ → Bool
 is_measure b text = is_some (qname_of b text)
 
-abbrev are_measures : Bindings → List ℕ → Bool
-are_measures b text = list_all (is_measure b) (slice_split (λ c. c == 42) text)
-
 product_complete : {b : Bindings} {t : List ℕ} {ns : List Name} → IsProduct b t ns → IsUtf8 t → are_measures b t ≡ true
 product_complete (measure b t x q) u =
     let e = slice_split_none (λ c. c == 42) t (All-from_recursion (λ c. (c == 42) ≡ false) t (qname_lacks 42 star q u)) in
@@ -68,6 +65,30 @@ product_complete (product b s t x more q r) u =
     let w = rest_is_text 42 (s ++ 42 ∷ t) s t (omega arith) v refl in
     let p = slice_split_at (λ c. c == 42) s 42 t (All-from_recursion (λ c. (c == 42) ≡ false) s (qname_lacks 42 star q f)) refl in
     ap (are_measures b) e ∙ ap (list_all (is_measure b)) p ∙ both_true (is_measure b s) (are_measures b t) (ap is_some (qname_value b s x f q)) (product_complete r w)
+
+-- a measure before the first `*`: the text has measures where what stands behind that has
+pub measures_behind : (b : Bindings) (t p o l r : List ℕ) → IsUtf8 t → t ≡ p ++ 58 ∷ o → is_ncname p ≡ true → o ≡ l ++ 42 ∷ r → is_ncname l ≡ true
+    → is_some (uri_of b p) ≡ true → are_measures b t ≡ are_measures b r
+measures_behind b t p o l r u e n f m k = by (uri_of b p) refl k
+  where
+    name : List ℕ
+    name = (p ++ codes ":") ++ l
+
+    named : name ≡ p ++ 58 ∷ l
+    named = append_assoc p (codes ":") l
+
+    same : t ≡ name ++ 42 ∷ r
+    same = e ∙ ap (λ s. p ++ 58 ∷ s) f ∙ sym (append_assoc p (58 ∷ l) (42 ∷ r)) ∙ ap (λ s. s ++ 42 ∷ r) (sym named)
+
+    front : IsUtf8 name
+    front = front_is_text 42 t name r (omega arith) u same
+
+    by : (o : Option (List ℕ)) → uri_of b p ≡ o → is_some o ≡ true → are_measures b t ≡ are_measures b r
+    by None i k = absurd (cc)
+    by (Some x) i k =
+        let q : IsQName b name (x, l) = qname b p l x n m i in
+        let cut = slice_split_at (λ c. c == 42) name 42 r (All-from_recursion (λ c. (c == 42) ≡ false) name (qname_lacks 42 star q front)) refl in
+        ap (are_measures b) same ∙ ap (list_all (is_measure b)) cut ∙ ap (λ d. d && are_measures b r) (ap is_some (qname_value b name (x, l) front q))
 
 measure_named : (b : Bindings) (t : List ℕ) → is_measure b t ≡ true → (x : Name) × IsQName b t x
 measure_named b t h = by (qname_of b t) refl h

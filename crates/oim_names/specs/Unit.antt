@@ -44,9 +44,13 @@ is_bracketed text = (slice_index text 0 == 40) && (slice_index text (length text
 abbrev pub inside : List ℕ → List ℕ
 inside text = if is_bracketed text then take (length text - 2) (drop 1 text) else text
 
--- a side: what stands between the `*` are QNames
+-- what stands between the `*` are QNames
+abbrev pub are_measures : Bindings → List ℕ → Bool
+are_measures names text = list_all (λ measure. is_some (qname_of names measure)) (slice_split (λ c. c == 42) text)
+
+-- a side: such a text, bare or in parentheses
 abbrev pub is_side : Bindings → List ℕ → Bool
-is_side names text = list_all (λ measure. is_some (qname_of names measure)) (slice_split (λ c. c == 42) (inside text))
+is_side names text = are_measures names (inside text)
 
 -- what stands above the line, and what stands below
 abbrev pub above_of : List ℕ → List ℕ

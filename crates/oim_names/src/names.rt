@@ -1,7 +1,7 @@
 //! Names by their characters: NCNames, identifiers and row identifiers.
 
-ghost use Rattle.std.specs.Prelude.{◌≡◌, ◌&&◌, nat_lt, IsTrue};
-ghost use Rattle.std.specs.List.{list_all};
+ghost use Rattle.std.specs.Prelude.{◌≡◌, ◌<◌, ◌≤◌, ◌++◌, ◌∷◌, ◌&&◌, nat_lt, IfSome, IsTrue, length, take, true};
+ghost use Rattle.std.specs.List.{list_all, prefix_len};
 ghost use Rattle.oim_names.specs.Names.{is_name_start as name_start, is_name_char as name_char, is_plain_char as plain_char, is_ncname as ncname};
 ghost use Rattle.oim_names.specs.Names.{is_identifier as identifier, is_row_identifier as row_identifier};
 
@@ -40,19 +40,21 @@ fn is_plain_char(c: char) -> bool
 }
 
 /// Whether a byte is an ASCII character that may begin a name.
+#[tactic(auto, unfolding(crate::specs::Names::is_name_start))]
 #[inline(always)]
 fn is_ascii_name_start(byte: u8) -> bool
     ensures { result ≡ (nat_lt byte 128 && name_start byte) }
 {
-    byte < 128 && is_name_start(byte as char)
+    matches!(byte, b'A'..=b'Z' | b'_' | b'a'..=b'z')
 }
 
 /// Whether a byte is an ASCII character that may stand in a name.
+#[tactic(auto, unfolding(crate::specs::Names::is_name_start, crate::specs::Names::is_name_char))]
 #[inline(always)]
 fn is_ascii_name_char(byte: u8) -> bool
     ensures { result ≡ (nat_lt byte 128 && name_char byte) }
 {
-    byte < 128 && is_name_char(byte as char)
+    matches!(byte, b'A'..=b'Z' | b'_' | b'a'..=b'z' | b'-' | b'.' | b'0'..=b'9')
 }
 
 /// Whether a byte is an ASCII character that may stand in an identifier.
@@ -85,6 +87,40 @@ fn is_ascii_ncname(text: &str) -> bool
         [first, others @ ..] => is_ascii_name_start(*first) && are_name_chars(others),
         [] => false,
     }
+}
+
+/// How many bytes at the beginning are ASCII characters that may stand in a name.
+fn name_chars_len(bytes: &[u8]) -> usize
+    ensures within { result ≤ length bytes.now }
+    ensures chars { result ≡ prefix_len (λ c. nat_lt c 128 && name_char c) bytes.now }
+{
+    bytes
+        .iter()
+        .take_while(|byte| is_ascii_name_char(**byte))
+        .count()
+}
+
+/// How many bytes at the beginning of a text are an NCName of ASCII characters, or 0 where it begins with none.
+fn ascii_ncname_len(text: &str) -> usize
+    ensures within { result ≤ length text.now }
+    ensures name { 0 < result → ncname (take result text.now) ≡ true }
+{
+    match text.as_bytes() {
+        [first, others @ ..] if is_ascii_name_start(*first) => 1 + name_chars_len(others),
+        _ => 0,
+    }
+}
+
+/// The NCName of ASCII characters before an ASCII mark, and what stands behind the mark, where a text begins so.
+pub(crate) fn cut_ascii_ncname(text: &str, mark: u8) -> Option<(&str, &str)>
+    requires { mark < 128 }
+    ensures { IfSome result (λ p. (text.now ≡ p.0.now ++ mark ∷ p.1.now) × (ncname p.0.now ≡ true)) }
+{
+    let len = ascii_ncname_len(text);
+    if len == 0 || len == text.len() || text.as_bytes()[len] != mark {
+        return None;
+    }
+    Some((&text[..len], &text[len + 1..]))
 }
 
 /// Whether a text is an identifier of ASCII characters.

@@ -1,9 +1,10 @@
 //! Units of numeric facts.
 
-ghost use Rattle.std.specs.Prelude.{◌≡◌, ◌↔◌, Some, IsSome, is_some};
+ghost use Rattle.std.specs.Prelude.{◌≡◌, ◌↔◌, ◌<◌, Some, IfSome, IsSome, is_some, length};
 ghost use Rattle.oim_names.specs.QName.{qname_of};
-ghost use Rattle.oim_names.specs.Unit.{HasMeasures, IsPure, inside as text_inside, is_side as side_in, is_unit as unit_in, is_pure_name, unit_of};
+ghost use Rattle.oim_names.specs.Unit.{HasMeasures, IsPure, inside as text_inside, are_measures as measures_in, is_side as side_in, is_unit as unit_in, is_pure_name, unit_of};
 
+use crate::names::cut_ascii_ncname;
 use crate::{Namespaces, UnitKind, qname};
 
 /// The text without the one pair of parentheses around it, if it has them.
@@ -26,13 +27,35 @@ fn is_measure(names: &Namespaces, text: &str) -> bool
     qname(names, text).is_some()
 }
 
+/// What stands behind the first QName and its `*`, where the QName has only ASCII characters.
+fn after_measure<'a>(names: &Namespaces, text: &'a str) -> Option<&'a str>
+    ensures measures { IfSome result (λ rest. measures_in names.now rest.now ≡ measures_in names.now text.now) }
+    ensures shorter { IfSome result (λ rest. length rest.now < length text.now) }
+{
+    let (prefix, others) = cut_ascii_ncname(text, b':')?;
+    let (_, rest) = cut_ascii_ncname(others, b'*')?;
+    names.uri(prefix)?;
+    Some(rest)
+}
+
+/// Whether a text is QNames joined by `*`.
+fn are_measures(names: &Namespaces, text: &str) -> bool
+    ensures { result ≡ measures_in names.now text.now }
+{
+    let mut measures = text;
+    while let Some(rest) = after_measure(names, measures) {
+        measures = rest;
+    }
+    measures
+        .split('*')
+        .all(|measure| is_measure(names, measure))
+}
+
 /// Whether a text is a side: QNames joined by `*`, bare or in one pair of parentheses.
 fn is_side(names: &Namespaces, text: &str) -> bool
     ensures { result ≡ side_in names.now text.now }
 {
-    inside(text)
-        .split('*')
-        .all(|measure| is_measure(names, measure))
+    are_measures(names, inside(text))
 }
 
 /// Whether a text is a side, or two sides with `/` between them.
