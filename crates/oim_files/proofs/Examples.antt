@@ -8,7 +8,7 @@ use Rattle.csv.specs.Reading.{records_from, strip_bom}
 use Rattle.serde_json.specs.Data.{Data, Members, member, no_members, object, string}
 use Rattle.oim_meta.specs.BadParameters.{has_bad_parameter_url}
 use Rattle.oim_meta.specs.Faults.{has_no_report}
-use Rattle.oim_meta.specs.PlainPath.{is_plain_path}
+use Rattle.oim_names.specs.PlainPath.{is_plain_path}
 use Rattle.oim_entries.specs.declared.fault.MetaFault.TheVariants as refused
 use Rattle.oim_records.specs.Grids.{records_left}
 use Rattle.oim_report.specs.ReportValue.{ReportValue}

@@ -4,7 +4,7 @@ use Rattle.serde_json.specs.Data.{Data, null, string, object, Members, no_member
 use Rattle.oim_meta.specs.Reading.{after_mark, first_url_fault}
 use Rattle.oim_meta.specs.Faults.{has_no_report}
 use Rattle.oim_meta.specs.BadParameters.{has_bad_parameter_url}
-use Rattle.oim_meta.specs.PlainPath.{is_plain_path}
+use Rattle.oim_names.specs.PlainPath.{is_plain_path}
 use Rattle.oim_entries.specs.declared.fault.MetaFault.TheVariants.{NotReport}
 use Rattle.oim_entries.specs.declared.fault.MetaFault.TheVariants.{BadParameter}
 

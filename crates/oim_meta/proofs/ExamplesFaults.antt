@@ -18,7 +18,7 @@ use Rattle.oim_report.specs.declared.typed_name.TypedName.{TypedName}
 use Rattle.oim_report.specs.declared.kind.Kind.TheVariants.{Number, Text, Boolean, Date, Name, Other, Explicit, Typed}
 use Rattle.oim_report.specs.Types.{TypesValue}
 use Rattle.oim_meta.specs.Written.{strip_front, strip_back}
-use Rattle.oim_meta.specs.PlainPath.{is_plain_path}
+use Rattle.oim_names.specs.PlainPath.{is_plain_path}
 use Rattle.oim_meta.specs.Faults.{has_no_report, has_bad_namespaces, has_bad_taxonomy, is_unsupported, has_bad_identifier, has_bad_shape, has_mixed_column, has_unknown_template}
 use Rattle.oim_meta.specs.UnknownColumn.{has_unknown_column}
 use Rattle.oim_meta.specs.BadDimensions.{is_dimension, is_typed, name_in, is_bad_dimension, has_bad_dimensions}

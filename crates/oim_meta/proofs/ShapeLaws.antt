@@ -8,7 +8,7 @@ use Rattle.oim_meta.specs.Members.{text_at, any_member, any_item, if_there, no_o
 use Rattle.oim_meta.specs.Faults.{is_csv, has_no_report, is_no_texts, has_bad_taxonomy, is_no_empty_list, is_no_empty_object, info_at, is_unsupported}
 use Rattle.oim_meta.specs.Faults.{has_bad_section, is_bad_group, is_fact, has_bad_sources, is_bad_column, is_bad_template, lacks_url, is_bad_table, has_bad_shape}
 use Rattle.oim_meta.specs.Faults.{is_no_text, is_no_object, is_no_flag}
-use Rattle.oim_meta.specs.PlainPath.{is_plain_path}
+use Rattle.oim_names.specs.PlainPath.{is_plain_path}
 use Rattle.oim_meta.specs.Shapes.{AllMembers, AllItems, IsText, IsFlag, IsObject, IsObjectOf, IsListOf, IsCsvDocument, HasTaxonomy, StandsAlone}
 use Rattle.oim_meta.specs.Shapes.{MayHaveDimensions, IsGroup, IsColumn, IsTemplate, IsTable, HasShape, Refutes}
 use Rattle.oim_meta.proofs.Unrepeated.{left, right}

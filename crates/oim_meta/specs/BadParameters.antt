@@ -6,7 +6,7 @@ use Rattle.oim_names.specs.Lookup.{value_at}
 use Rattle.oim_names.specs.Names.{is_identifier}
 use Rattle.oim_report.specs.Parameters.{ParametersValue}
 use Rattle.oim_meta.specs.Members.{is_text, section, any_member, if_there, no_object_or}
-use Rattle.oim_meta.specs.PlainPath.{is_plain_path}
+use Rattle.oim_names.specs.PlainPath.{is_plain_path}
 
 -- a name that is not an identifier, or a value that is not a text
 abbrev pub is_bad_parameter : List ℕ → Data → Bool

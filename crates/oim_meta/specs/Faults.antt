@@ -6,7 +6,7 @@ use Rattle.serde_json.specs.Find.{get, as_array, as_bool}
 use Rattle.oim_names.specs.Names.{is_identifier, is_ncname}
 use Rattle.oim_meta.specs.Members.{is_text, is_object, text_at, section, any_member, any_item, if_there, no_object_or}
 use Rattle.oim_meta.specs.Order.{repeats_text}
-use Rattle.oim_meta.specs.PlainPath.{is_plain_path}
+use Rattle.oim_names.specs.PlainPath.{is_plain_path}
 
 -- documentType is that of xBRL-CSV
 abbrev pub is_csv : Data → Bool

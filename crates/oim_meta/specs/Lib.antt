@@ -5,7 +5,6 @@ pub mod Decimals
 pub mod Paths
 pub mod Findings
 pub mod FindingPlaces
-pub mod PlainPath
 pub mod Faults
 pub mod Shapes
 pub mod Levels

@@ -6,7 +6,7 @@ use Rattle.serde_json.specs.Find.{get, as_array, as_bool, as_object, as_str}
 use Rattle.oim_names.specs.Names.{is_identifier, is_ncname}
 use Rattle.oim_meta.specs.Members.{section, text_at, text_of}
 use Rattle.oim_meta.specs.Faults.{info_at, template_name}
-use Rattle.oim_meta.specs.PlainPath.{is_plain_path}
+use Rattle.oim_names.specs.PlainPath.{is_plain_path}
 use Rattle.oim_report.specs.declared.data.ColumnKind.{ColumnKind}
 use Rattle.oim_report.specs.declared.data.ColumnKind.TheVariants.{Fact, Groups, Comment}
 

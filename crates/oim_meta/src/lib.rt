@@ -43,7 +43,6 @@ mod findings;
 mod lookup;
 mod metadata;
 mod order;
-mod paths;
 mod place;
 mod read;
 mod refusal;

@@ -6,3 +6,4 @@ pub mod Unit
 pub mod Language
 pub mod Fault
 pub mod Texts
+pub mod PlainPath

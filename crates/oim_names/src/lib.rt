@@ -1,5 +1,5 @@
-//! The names of an Open Information Model 1.0 report: identifiers, prefixes with their URIs, qualified names, units and
-//! languages. The crate also has the text and list types that the other crates share.
+//! The names of an Open Information Model 1.0 report: identifiers, prefixes with their URIs, qualified names, units,
+//! languages and paths of files. The crate also has the text and list types that the other crates share.
 //!
 //! What is proved:
 //!
@@ -9,6 +9,7 @@
 //!   byte order of prefix. `add` gives each fault exactly where it is due, and a call that fails changes nothing.
 //! - [`qname`], [`sqname`], [`unit`] and [`language`] give a value exactly where the grammar has the text, and then the
 //!   value of the grammar. They also equal short functions, which the contracts of the crates above cite.
+//! - [`is_plain_path`] is true exactly of the paths that have no barred character and no bad segment.
 //!
 //! `add`, `language` and the calls that copy or grow a text, a list or namespaces take memory. The others take none.
 //!
@@ -27,6 +28,7 @@
 mod languages;
 mod names;
 mod namespaces;
+mod paths;
 mod qnames;
 mod text;
 mod unit_kind;
@@ -35,6 +37,7 @@ mod units;
 pub use languages::language;
 pub use names::{is_identifier, is_ncname, is_row_identifier};
 pub use namespaces::{NameFault, Namespaces};
+pub use paths::is_plain_path;
 pub use qnames::{qname, sqname};
 pub use text::{Items, Text, find, find_in_order};
 pub use unit_kind::UnitKind;

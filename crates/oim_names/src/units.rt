@@ -1,6 +1,8 @@
 //! Units of numeric facts.
 
 ghost use Rattle.std.specs.Prelude.{◌≡◌, ◌↔◌, ◌<◌, Some, IfSome, IsSome, is_some, length};
+ghost use Rattle.std.specs.Prelude.{true};
+ghost use Rattle.oim_names.specs.Bindings.{uri_of};
 ghost use Rattle.oim_names.specs.QName.{qname_of};
 ghost use Rattle.oim_names.specs.Unit.{HasMeasures, IsPure, inside as text_inside, are_measures as measures_in, is_side as side_in, is_unit as unit_in, is_pure_name, unit_of};
 
@@ -27,23 +29,45 @@ fn is_measure(names: &Namespaces, text: &str) -> bool
     qname(names, text).is_some()
 }
 
-/// What stands behind the first QName and its `*`, where the QName has only ASCII characters.
-fn after_measure<'a>(names: &Namespaces, text: &'a str) -> Option<&'a str>
-    ensures measures { IfSome result (λ rest. measures_in names.now rest.now ≡ measures_in names.now text.now) }
-    ensures shorter { IfSome result (λ rest. length rest.now < length text.now) }
+/// Whether a prefix is bound, where `known` is one that is.
+fn is_bound(names: &Namespaces, known: Option<&str>, prefix: &str) -> bool
+    requires { IfSome known (λ k. is_some (uri_of names.now k.now) ≡ true) }
+    ensures { result ≡ is_some (uri_of names.now prefix.now) }
+{
+    match known {
+        Some(known) if known == prefix => true,
+        _ => names.uri(prefix).is_some(),
+    }
+}
+
+/// The prefix of the first QName, and what stands behind that and its `*`, where the QName has only ASCII characters. `known` is a prefix
+/// that is bound.
+fn after_measure<'a>(
+    names: &Namespaces,
+    known: Option<&str>,
+    text: &'a str,
+) -> Option<(&'a str, &'a str)>
+    requires { IfSome known (λ k. is_some (uri_of names.now k.now) ≡ true) }
+    ensures prefix { IfSome result (λ r. is_some (uri_of names.now r.0.now) ≡ true) }
+    ensures measures { IfSome result (λ r. measures_in names.now r.1.now ≡ measures_in names.now text.now) }
+    ensures shorter { IfSome result (λ r. length r.1.now < length text.now) }
 {
     let (prefix, others) = cut_ascii_ncname(text, b':')?;
     let (_, rest) = cut_ascii_ncname(others, b'*')?;
-    names.uri(prefix)?;
-    Some(rest)
+    if !is_bound(names, known, prefix) {
+        return None;
+    }
+    Some((prefix, rest))
 }
 
 /// Whether a text is QNames joined by `*`.
 fn are_measures(names: &Namespaces, text: &str) -> bool
     ensures { result ≡ measures_in names.now text.now }
 {
+    let mut known = None;
     let mut measures = text;
-    while let Some(rest) = after_measure(names, measures) {
+    while let Some((prefix, rest)) = after_measure(names, known, measures) {
+        known = Some(prefix);
         measures = rest;
     }
     measures

@@ -2,7 +2,7 @@
 
 use oim_names::{
     Items, NameFault, Namespaces, Text, UnitKind, find, find_in_order, is_identifier, is_ncname,
-    is_row_identifier, language, qname, sqname, unit,
+    is_plain_path, is_row_identifier, language, qname, sqname, unit,
 };
 use std::alloc::{AllocError, Global};
 use std::test::Fail;
@@ -34,6 +34,11 @@ fn tells_names() -> bool {
     is_identifier("a-b_1") && is_row_identifier("1a") && is_ncname("a.b") && !is_identifier("1a")
 }
 
+/// The test of paths.
+fn tells_paths() -> bool {
+    is_plain_path("a/t1.csv") && !is_plain_path("../t1.csv")
+}
+
 /// Whether a text is a language.
 fn is_language(alloc: Global, text: &str) -> bool {
     matches!(language(alloc, text), Ok(Some(_)))
@@ -59,7 +64,9 @@ fn finds(entries: &[(Text, u8)]) -> bool {
 #[test]
 fn calls_of_names(rt: HostRuntime) -> Result<(), Fail> {
     let names = bound(rt.alloc())?;
-    assert!(rt; reads_names(&names) && tells_names() && is_language(rt.alloc(), "en-GB"));
+    assert!(rt;
+        reads_names(&names) && tells_names() && tells_paths() && is_language(rt.alloc(), "en-GB")
+    );
     Ok(())
 }
 

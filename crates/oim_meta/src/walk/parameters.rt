@@ -12,12 +12,11 @@ ghost use Rattle.oim_meta.specs.WalkTables.{in_given, in_own_parameters, in_para
 use crate::build::made::text_of;
 use crate::findings::Findings;
 use crate::lookup::object_at;
-use crate::paths::is_plain_path;
 use crate::place::Part;
 use crate::shapes::is_no_object_at;
 use crate::walk::Walk;
 use oim_entries::MetaFault;
-use oim_names::{Items, Text, is_identifier};
+use oim_names::{Items, Text, is_identifier, is_plain_path};
 use serde_json::{Map, Value};
 use std::alloc::AllocError;
 

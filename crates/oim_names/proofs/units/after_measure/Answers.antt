@@ -1,5 +1,4 @@
-use Rattle.std.proofs.Common.{◌≡◌, sym, ap, ◌∙◌, is_some, true}
-use Rattle.std.specs.Option.{option_map}
+use Rattle.std.proofs.Common.{◌≡◌, sym, is_some, true}
 use Rattle.oim_names.specs.Bindings.{uri_of}
 use Rattle.oim_names.proofs.Measures.{measures_behind}
 use Rattle.oim_names.proofs.units.after_measure.Goals as goal
@@ -8,6 +7,6 @@ pub returns-clause-measures : goal.returns-clause-measures
 returns-clause-measures c =
     let names = c.args.names.now in
     let prefix = c.in_ok-prefix.prefix.now in
-    let known : is_some (uri_of names prefix) ≡ true = ap is_some (sym c.uri.ensures) ∙ ap (λ o. is_some (option_map (λ u. u.now) o)) c.in_ok-uri.was in
+    let known : is_some (uri_of names prefix) ≡ true = cc in
     sym (measures_behind names c.args.text.now prefix c.in_ok-prefix.others.now c.in_ok-rest.field-0-0.now c.in_ok-rest.rest.now c.utf8.text
     c.in_ok-prefix.ensures.0 c.in_ok-prefix.ensures.1 c.in_ok-rest.ensures.0 c.in_ok-rest.ensures.1 known)

@@ -2,7 +2,7 @@
 
 ghost use Rattle.std.specs.Prelude.{◌≡◌};
 ghost use Rattle.std.specs.List.{list_any};
-ghost use Rattle.oim_meta.specs.PlainPath.{is_barred as barred, is_bad_segment as bad_segment, first_segment, later_segments, is_plain_path as plain_path};
+ghost use Rattle.oim_names.specs.PlainPath.{is_barred as barred, is_bad_segment as bad_segment, first_segment, later_segments, is_plain_path as plain_path};
 
 fn is_barred(byte: u8) -> bool
     ensures { result ≡ barred byte }
@@ -43,10 +43,10 @@ fn goes_on_badly(path: &[u8]) -> bool
     false
 }
 
-/// Whether a path is relative and plain: it has no character with a meaning in URLs, and no segment that is
-/// empty, `.` or `..`.
+/// Whether a path is relative and plain, so that it means the same as a URL and as the path of a file: it has no control character (U+0000
+/// to U+001F), none of `\ : ? # %`, and no segment that is empty, `.` or `..`. It takes no memory.
 #[tactic(auto, unfolding(crate::specs::PlainPath::is_plain_path))]
-pub(crate) fn is_plain_path(path: &str) -> bool
+pub fn is_plain_path(path: &str) -> bool
     ensures { result ≡ plain_path path.now }
 {
     let bytes = path.as_bytes();
