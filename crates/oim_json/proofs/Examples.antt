@@ -1,6 +1,7 @@
 -- The worked texts of facts, of the head and of documents.
-use Rattle.std.proofs.Common.{◌≡◌, [], ◌∷◌, ◌++◌, Some, None, true, false, refl, codes, negsuc}
+use Rattle.std.proofs.Common.{◌≡◌, ◌∙◌, ◌<◌, ℕ, suc, List, Result, [], ◌∷◌, ◌++◌, Some, None, Ok, Err, true, false, ap, arith, length, sym, refl, codes, negsuc}
 use Rattle.std.specs.List.{list_all}
+use Rattle.std.specs.Str.{bytes_eq}
 use Rattle.std.specs.Fmt.{digits}
 use Rattle.oim_report.specs.ReportValue.{ReportValue}
 use Rattle.oim_resolve.specs.FactParts.{FactParts as Fact}
@@ -9,9 +10,10 @@ use Rattle.oim_json.specs.Document.{has_any, members, more_members, piece, tail_
 use Rattle.oim_json.specs.FaultNames.{number_of, name_of}
 use Rattle.oim_json.specs.JsonText.{escaped_byte, is_unescaped, quoted, value_text, dimension_text, decimals_text, comma_before, member_text, namespace_text, base_url_text, head_text}
 use Rattle.oim_json.specs.Lines.{cut_at_line_feeds, with_commas}
-use Rattle.oim_json.specs.Sinks.{mark_of}
+use Rattle.oim_json.specs.Sinks.{SinkView, WritesAll, WritesSome, mark_of, sink_at}
 use Rattle.oim_json.specs.declared.layout.Layout.TheVariants.{Compact, Lines}
 use Rattle.oim_json.specs.declared.mark.Mark.TheVariants as marks
+use Rattle.oim_json.specs.declared.mark.WriteFault.{WriteFault}
 use Rattle.oim_json.specs.declared.mark.WriteFault.TheVariants as faults
 
 cash : Fact
@@ -173,3 +175,79 @@ lines_cut = refl
 
 members_with_commas : with_commas (codes "\"a\":1" ∷ codes "\"b\":2" ∷ codes "\"c\":3" ∷ []) ≡ codes "\"a\":1," ∷ codes "\"b\":2," ∷ codes "\"c\":3" ∷ []
 members_with_commas = refl
+
+-- ONE WRITE of three bytes to a sink that holds two: it took the bytes that it answered, and kept its mark
+abbrev holding : List ℕ → SinkView
+holding bs = sink_at marks.Fine (Some bs)
+
+differ : (a b : List ℕ) → bytes_eq a b ≡ false → bytes_eq a a ≡ true → a ≡ b → ⊥
+differ a b apart same e = let t : true ≡ false = sym same ∙ ap (bytes_eq a) e ∙ apart in cc
+
+abbrev writes_some : Result ℕ ℕ → SinkView → Type 0
+writes_some r new = WritesSome (holding (codes "ab")) new r (codes "cde")
+
+two_bytes_taken : writes_some (Ok 2) (holding (codes "abcd"))
+two_bytes_taken = (omega arith, (λ none. absurd (omega (arith, none))), λ some. (refl, refl))
+
+all_bytes_taken : writes_some (Ok 3) (holding (codes "abcde"))
+all_bytes_taken = (omega arith, (λ none. absurd (omega (arith, none))), λ some. (refl, refl))
+
+one_byte_not_told : writes_some (Ok 1) (holding (codes "abcd")) → ⊥
+one_byte_not_told it = differ (codes "abcd") (codes "abc") refl refl (it.2 (omega arith)).1
+
+last_bytes_taken : writes_some (Ok 2) (holding (codes "abde")) → ⊥
+last_bytes_taken it = differ (codes "abde") (codes "abcd") refl refl (it.2 (omega arith)).1
+
+more_than_all_taken : (new : SinkView) → writes_some (Ok 4) new → ⊥
+more_than_all_taken new it = absurd (omega (arith, it.0))
+
+marked_though_taken : writes_some (Ok 2) (sink_at marks.Failed (Some (codes "abcd"))) → ⊥
+marked_though_taken it = absurd (cc (it.2 (omega arith)).0)
+
+-- a write that answers 0 leaves its mark, and so does one that fails: neither took a byte
+nothing_taken : writes_some (Ok 0) (sink_at marks.Zero (Some (codes "ab")))
+nothing_taken = (omega arith, (λ none. (refl, refl)), λ some. absurd (omega (arith, some)))
+
+nothing_taken_unseen : writes_some (Ok 0) (holding (codes "ab")) → ⊥
+nothing_taken_unseen it = absurd (cc (it.1 refl).0)
+
+write_failed : writes_some (Err 5) (sink_at marks.Failed (Some (codes "ab")))
+write_failed = (refl, refl)
+
+write_failed_unseen : writes_some (Err 5) (holding (codes "ab")) → ⊥
+write_failed_unseen it = absurd (cc it.0)
+
+taken_and_failed : writes_some (Err 5) (sink_at marks.Failed (Some (codes "abc"))) → ⊥
+taken_and_failed it = differ (codes "abc") (codes "ab") refl refl it.1
+
+-- a sink that told its bytes tells them on; of one that does not, only the mark is known
+tells_no_longer : writes_some (Ok 2) (sink_at marks.Fine None) → ⊥
+tells_no_longer it = (it.2 (omega arith)).1
+
+never_told : WritesSome {E = ℕ} (sink_at marks.Fine None) (sink_at marks.Fine None) (Ok 2) (codes "cde")
+never_told = (omega arith, (λ none. absurd (omega (arith, none))), λ some. (refl, tt))
+
+-- A WHOLE TEXT: all of it, or a proper beginning and the mark of the fault
+abbrev writes_all : Result (Unit {0}) WriteFault → SinkView → Type 0
+writes_all r new = WritesAll (holding (codes "ab")) new r (codes "cde")
+
+text_written : writes_all (Ok tt) (holding (codes "abcde"))
+text_written = (refl, refl)
+
+last_byte_lost : writes_all (Ok tt) (holding (codes "abcd")) → ⊥
+last_byte_lost it = differ (codes "abcd") (codes "abcde") refl refl it.1
+
+text_broke_off : writes_all (Err faults.Zero) (sink_at marks.Zero (Some (codes "abc")))
+text_broke_off = (refl, (codes "c", (codes "de", refl), refl, omega arith))
+
+text_not_begun : writes_all (Err faults.Failed) (sink_at marks.Failed (Some (codes "ab")))
+text_not_begun = (refl, ([], (codes "cde", refl), refl, omega arith))
+
+another_mark_left : writes_all (Err faults.Zero) (sink_at marks.Failed (Some (codes "abc"))) → ⊥
+another_mark_left it = absurd (cc it.0)
+
+failed_behind_the_text : writes_all (Err faults.Failed) (sink_at marks.Failed (Some (codes "abcde"))) → ⊥
+failed_behind_the_text it = all_of it.1.0 it.1.2 it.1.3
+  where
+    all_of : (written : List ℕ) → codes "abcde" ≡ codes "ab" ++ written → length written < 3 → ⊥
+    all_of written e short = let long : 5 ≡ suc (suc (length written)) = ap length e in omega (arith, long, short)
