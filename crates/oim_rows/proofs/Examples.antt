@@ -15,15 +15,16 @@ use Rattle.oim_cells.specs.Cells.{meaning_of}
 use Rattle.oim_records.specs.Grids.{Record, records_left}
 use Rattle.oim_report.specs.declared.data.Written.TheVariants as written
 use Rattle.oim_report.specs.declared.kind.Kind.TheVariants as type
-use Rattle.oim_resolve.specs.Facts.{cell_result, fact_of, rest_faults}
+use Rattle.oim_resolve.specs.Facts.{cell_result, early_result, fact_of, rest_faults}
 use Rattle.oim_resolve.specs.FactParts.{FactParts as Fact}
 use Rattle.oim_resolve.specs.declared.fact.CellFault.TheVariants as cell
+use Rattle.oim_resolve.specs.declared.fact.Row.{Row}
 use Rattle.oim_rows.specs.FaultNames.{name_of, number_of}
 use Rattle.oim_records.specs.declared.read_fault.ReadFault.TheVariants as read
 use Rattle.oim_rows.specs.Header.{fault_at, file_fault, file_header_fault, header_fault, header_of, is_column, names_row_id}
 use Rattle.oim_rows.specs.Identifiers.{facts_of_tables}
 use Rattle.oim_rows.specs.Progressing.{answered_of, left_of}
-use Rattle.oim_rows.specs.RowFacts.{Reading, cell_at, facts_from, holds_facts, id_kind, is_fact_column, row_fault, row_id_text, row_result, source_of_column}
+use Rattle.oim_rows.specs.RowFacts.{Reading, cell_at, early_fact_at, fact_at, facts_from, holds_facts, id_kind, is_fact_column, row_fault, row_id_text, row_result, source_of_column}
 use Rattle.oim_rows.specs.Streams.{answer_of, early_header_fault, early_row_answer, ending, facts_of, fault_of_read, kept_answer, row_answer, stream_from, stream_of, table_stream}
 use Rattle.oim_rows.specs.WholeTable.{ids_of, row_after, row_at}
 use Rattle.oim_rows.specs.declared.fault.TableKind.TheVariants as kind
@@ -174,6 +175,35 @@ place_of_a_cell : facts_from (report false) 0 (record { number = 4; id = codes "
     ∷ []) ≡ Err (fault_at 0 4 3 (kind.Cell cell.UnknownSpecial))
 unfolding cell_result rest_faults fact_of meaning_of chars
 place_of_a_cell = refl
+
+-- what the first two steps of a cell settle, here of row 4 under an empty header cell, then k and cash: no fact where no column of facts stands or the
+-- cell says nothing; the fault at its place in the header; of a cell that these steps pass they say nothing, whatever its third step comes to
+abbrev cell_four : List ℕ → Row
+cell_four cash = record { number = 4; id = codes "a"; cells = cash ∷ codes "#foo" ∷ [] }
+
+early_without_a_fact : early_fact_at (report false) 0 (cell_four (codes "x")) 0 None ∷ early_fact_at (report false) 0 (cell_four (codes "x")) 1 (Some 1)
+    ∷ early_fact_at (report false) 0 (cell_four []) 2 (Some 0) ∷ []
+    ≡ Some (Ok None) ∷ Some (Ok None) ∷ Some (Ok None) ∷ []
+unfolding early_result meaning_of chars
+early_without_a_fact = refl
+
+early_fault : early_fact_at (report false) 0 (cell_four (codes "#foo")) 2 (Some 0) ≡ Some (Err (fault_at 0 4 3 (kind.Cell cell.UnknownSpecial)))
+unfolding early_result meaning_of chars
+early_fault = refl
+
+-- the column states no concept
+abbrev no_concept : ReportValue
+no_concept = record (report false) {
+  templates = record { id = codes "m"; columns = record { id = codes "cash"; kind = content.Fact; level = no_level; groups = []; from = [] } ∷ []; row_id_column = None; level = no_level } ∷ [];
+}
+
+early_fault_of_a_concept : early_fact_at no_concept 0 (cell_four (codes "x")) 0 (Some 0) ≡ Some (Err (fault_at 0 4 1 (kind.Cell cell.NoConcept)))
+unfolding early_result meaning_of chars
+early_fault_of_a_concept = refl
+
+late_fact : (early_fact_at (report false) 0 (cell_four (codes "x")) 2 (Some 0) ≡ None) × (fact_at (report false) 0 (cell_four (codes "x")) 2 (Some 0) ≡ Ok (Some (note (codes "a") (codes "x"))))
+unfolding early_result cell_result rest_faults fact_of meaning_of chars is_ncname is_name_char is_name_start qname_of is_utf8 lib.Utf8.encode
+late_fact = (refl, refl)
 
 -- what a failed reader gives, and an answer that takes no memory
 faults_of_reads : (fault_of_read 2 read.Read ≡ file_fault 2 kind.Read) × (fault_of_read 2 read.Memory ≡ file_fault 2 kind.Memory)
