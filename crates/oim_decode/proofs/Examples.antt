@@ -1,6 +1,12 @@
 -- The definitions, executed on worked cases.
-use Rattle.std.proofs.Common.{◌≡◌, ℕ, List, Option, [], ◌∷◌, Some, None, Ok, Err, true, false, refl, ap, arith, codes, map, inl, inr}
+use lib.Utf8.{encode}
+use Rattle.std.proofs.Common.{◌≡◌, ◌++◌, ℕ, List, Option, [], ◌∷◌, Some, None, Ok, Err, true, false, refl, ap, arith, codes, map, inl, inr}
+use Rattle.csv.specs.Reading.{strip_bom}
 use Rattle.oim_records.specs.Grids.{Record}
+use Rattle.oim_report.specs.Readers.{no_level}
+use Rattle.oim_report.specs.ReportValue.{ReportValue}
+use Rattle.oim_report.specs.declared.data.Column.{Column}
+use Rattle.oim_report.specs.declared.data.ColumnKind.TheVariants as content
 use Rattle.oim_resolve.specs.FactParts.{FactParts as Fact}
 use Rattle.oim_rows.specs.FaultNames.{number_of}
 use Rattle.oim_rows.specs.Header.{fault_at, file_fault}
@@ -9,6 +15,7 @@ use Rattle.oim_rows.specs.declared.fault.TableFault.{TableFault}
 use Rattle.oim_rows.specs.declared.fault.TableKind.TheVariants as kind
 use Rattle.oim_decode.specs.RowTexts.{AddsFacts, facts_in}
 use Rattle.oim_decode.specs.Blocks.{AddsNone, AnswersFacts, CountsRow, GivesFound, IsBehind, LeavesNone, ReadsRows, TakesOne, answered_of, has_row, left_of, turns_left}
+use Rattle.oim_decode.specs.Heads.{header_in, mark, reading_in}
 use Rattle.oim_decode.specs.declared.table.table_blocks.Progress.TheVariants as progress
 
 abbrev a : Fact
@@ -144,3 +151,43 @@ another_fault (inr h) = absurd (omega (arith, h.1))
 
 waits_for_ever : LeavesNone (Err failed) (a ∷ []) → ⊥
 waits_for_ever h = absurd (cc h)
+
+-- HEADS. U+FEFF in UTF-8, which a reader of records passes over once
+mark_of_a_file : mark ≡ encode 0xFEFF
+unfolding encode
+mark_of_a_file = refl
+
+mark_passed_over : (strip_bom (mark ++ codes "cash") ≡ codes "cash") × (strip_bom (mark ++ mark) ≡ mark)
+unfolding strip_bom
+mark_passed_over = (refl, refl)
+
+-- the first record is the header, also where it is empty or the only one
+abbrev cash_record : Record
+cash_record = codes "cash" ∷ codes "k" ∷ []
+
+first_is_the_header : (header_in (cash_record ∷ ([] ∷ []) ∷ []) ≡ cash_record) × (header_in (([] ∷ []) ∷ cash_record ∷ []) ≡ [] ∷ []) × (header_in [] ≡ [])
+first_is_the_header = (refl, refl, refl)
+
+abbrev column : List ℕ → Column
+column id = record { id = id; kind = content.Plain; level = no_level; groups = []; from = [] }
+
+-- a report of two tables, each under a template of its own
+abbrev report : ReportValue
+report = record {
+  info = record { base_url = None; taxonomy = [] };
+  namespaces = [];
+  types = [];
+  level = no_level;
+  templates = record { id = codes "m"; columns = column (codes "cash") ∷ column (codes "k") ∷ []; row_id_column = None; level = no_level }
+      ∷ record { id = codes "n"; columns = column (codes "k") ∷ []; row_id_column = None; level = no_level } ∷ [];
+  tables = record { id = codes "t1"; url = codes "t1.csv"; is_optional = false; template = 0; parameters = [] }
+      ∷ record { id = codes "t2"; url = codes "t2.csv"; is_optional = false; template = 1; parameters = [] } ∷ [];
+  parameters = [];
+}
+
+-- rows are read by the columns that the first record names, in its order, of the table's own template; an empty cell names none
+rows_under_the_header : reading_in report 0 9 ((codes "k" ∷ [] ∷ codes "cash" ∷ []) ∷ cash_record ∷ []) ≡ record { report = report; table = 0; limit = 9; header = Some 1 ∷ None ∷ Some 0 ∷ [] }
+rows_under_the_header = refl
+
+rows_of_the_second_table : reading_in report 1 7 ((codes "k" ∷ []) ∷ []) ≡ record { report = report; table = 1; limit = 7; header = Some 0 ∷ [] }
+rows_of_the_second_table = refl
