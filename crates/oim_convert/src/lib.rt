@@ -29,8 +29,8 @@
 //!   histories, one for each table, or a beginning of it.
 //!
 //! Inside, a run is answered only after its claims were closed with all their seats, so the workers gave
-//! one receipt for each table (`finish` in `src/returning.rt`), and a worker that was started has promised
-//! tables that are decoded, so none is refused for want of a thread where one was started.
+//! one receipt for each table (`finish` in `src/returning.rt`). That no table is refused for want of a thread
+//! where a worker was started no clause says: `start_crew` is written so, and tests show it.
 //!
 //! What is proved of the facts (`written_identifiers_differ`): whatever files the tables have, no two
 //! facts of the defined answer have one identifier, and no two of those that the histories of a run

@@ -5,6 +5,11 @@
 //! table's first fault. A row with any fault gives no fact. A failed read, or running out of memory, may end a table at
 //! any row. After the end or a fault it answers the same again and reads nothing.
 //!
+//! A table can also be decoded in pieces: `open_pieces` gives the head of its file and the pieces behind it, a `PieceDecoder`
+//! what the records of a piece give by themselves, and a `PieceJoin` takes the pieces in their order and finds the row
+//! identifiers that came before. However the records are cut, that is the table's stream (`rows_in_pieces`, `file_in_pieces`,
+//! `joined_pieces_are_read`). That a caller takes the pieces in order, and counts their rows, no clause here says.
+//!
 //! A row goes one of two ways. The fast way (`oim_fast`) writes the texts of its facts straight from the bytes of its cells,
 //! or leaves the row alone. Such a row, and so each row with a fault, goes the plain way: `oim_rows` gives its facts as values
 //! or its first fault, and `oim_json` writes them. No fact of the fast way lies in memory as a value, and the list of the

@@ -11,7 +11,8 @@ ghost use Rattle.oim_entries.specs.WholeFile.{IsEarliestBad, kind_said};
 
 use crate::fault::MetaFault;
 
-/// A file of entries has a fault exactly where a record is bad, and then it is the fault of the earliest bad record.
+/// The records behind the header of a parameters file or a types table have a fault exactly where one of them is bad or past the limit,
+/// and then it is the fault of the earliest such record.
 pub fn fault_is_of_earliest_record()
     ensures parameters { (rs : List Record) (e : MetaFault)
         → (all_of parameters_file 0 [] rs ≡ Err e) ↔ IsEarliestBad parameters_file 0 [] rs e }

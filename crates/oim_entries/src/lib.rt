@@ -3,9 +3,10 @@
 //!
 //! What is proved:
 //!
-//! - `read_parameters` and `read_types` answer a value exactly where the file has no fault, and else the fault of its earliest bad record
-//!   (`specs/ParametersFile.antt`, `specs/TypesFile.antt`, `specs/CsvFiles.antt`), apart from running out of memory and readers that fail;
-//! - what that says of a whole file (`fault_is_of_earliest_record`, `types_are_of_all_records`, `specs/WholeFile.antt`);
+//! - `read_parameters` and `read_types`, over readers that tell their bytes, answer a value exactly where the file has no fault, and else
+//!   that of its header or of its earliest bad record (`specs/ParametersFile.antt`, `specs/TypesFile.antt`, `specs/CsvFiles.antt`), apart
+//!   from running out of memory and readers that fail;
+//! - what that says of all records behind the header (`fault_is_of_earliest_record`, `types_are_of_all_records`, `specs/WholeFile.antt`);
 //! - the number and the name of each fault (`specs/FaultNames.antt`).
 //!
 //! A call:

@@ -214,7 +214,7 @@ fn explained<R: Read + Drop, F: Folder<R>>(
 
 /// The lines that explain a fault of the metadata and the types table at these paths, or of the parameters file, which
 /// are read again: three lines, four blanks deep, each with its line feed. They say so where the fault is not there
-/// any more, or a file cannot be read again. Fails if memory runs out.
+/// any more, or a file cannot be read again. Fails if memory runs out. No clause says this: tests show it.
 pub fn explain_report<R: Read + Drop, F: Folder<R>>(
     alloc: Global,
     meta: &str,

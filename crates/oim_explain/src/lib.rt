@@ -12,12 +12,12 @@
 //! - the line of a record (`line_of_record`) is that of its first byte (`lines_are_of_records`,
 //!   `specs/LineNumbers.antt`);
 //! - `explanation_text` gives the lines of an explanation, with nothing of it left out;
-//! - `shown` gives a text without control characters (`specs/Shown.antt`);
+//! - `shown` gives a text with an escape for each control character (`specs/Shown.antt`);
 //! - `fault_row` gives the record of a fault in the file of faults, which is read as its eight fields
 //!   whatever comes behind it (`specs/FaultRows.antt`).
 //!
 //! What only tests show: the sentences, what an explanation says stands at a place, the places elsewhere that a fault
-//! comes from, and what is said of a types table and a parameters file.
+//! comes from, what is said of a types table and a parameters file, and all that `explain_report` says, which has no clause.
 //!
 //! A call:
 //!

@@ -1,19 +1,22 @@
-//! The metadata of a report in xBRL-CSV 1.0, its parameters and its types, read from their files into a `Report`.
+//! The metadata of a report in xBRL-CSV 1.0, read from its bytes into a `Report`.
 //!
 //! What the crate promises:
 //! - `read_report` answers a report exactly where the metadata has no fault, and then the report
 //!   that its JSON spells out (`specs/Value.antt`); else exactly its first fault, in the order of
 //!   `specs/FirstFault.antt`, one predicate for each fault number;
-//! - `parameter_url`, `read_parameters` and `read_types` answer a value exactly where there is no fault,
-//!   and else the first fault; that of a parameters file or types table is the fault of its earliest
-//!   bad record;
+//! - `read_report_at` says the same, and of the fault the keys that lead to its place: of all that a walk over
+//!   the metadata finds the first (`specs/WalkReport.antt`, `a_walk_finds_all_faults`, `first_finding_is_least`);
+//! - `parameter_url` answers a value exactly where it has no fault, and else the first one;
+//! - a `Metadata` is the JSON of a metadata, read once. Its `parameter_url` and `report_at` say of its value what
+//!   the calls above say of bytes;
 //! - a dimension's text has a fault exactly where it writes no value, and else it writes the one value that
 //!   the report has (`a_text_writes_one_value`, `specs/Writes.antt`);
 //! - a metadata has a fault of its document type, namespaces, taxonomy, extensions, identifiers, shape, kinds of
 //!   columns or templates exactly where a part is not what `specs/Shapes.antt` says it is
 //!   (`faults_of_shape_are_parts_without_it`).
 //!
-//! All this holds apart from running out of memory and readers that fail. The layers above never meet a half-checked report.
+//! All this holds apart from running out of memory, which may come in place of a fault. The files of the parameters and of the
+//! types are read by `oim_entries`, whose names this crate passes on.
 //!
 //! A call:
 //!

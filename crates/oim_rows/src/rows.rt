@@ -30,9 +30,10 @@ enum Progress {
     Failed(TableFault),
 }
 
-/// The rows of one table that are left. It borrows the table's report. A contract sees the table's
-/// place, the limit, how many rows were given, what is answered again once it is settled, the
-/// stream that is left where the reader tells its bytes, and the records that are unread.
+/// The rows of one table that are left (xBRL-CSV 1.0, table files: the first record is the header, and each
+/// record behind it a row). It borrows the table's report. A contract sees the table's place, the limit,
+/// how many rows were given, what is answered again once it is settled, and, where the reader tells its
+/// bytes, the stream that is left and the records that are unread.
 #[derive(Drop)]
 pub struct Rows<'a, R: Read + Drop> {
     alloc: Global,

@@ -26,10 +26,11 @@ enum Progress {
     Failed(TableFault),
 }
 
-/// The facts of one table that are left, as blocks of text. It borrows the table's report. A contract
-/// sees the table's place, the limit, how many rows were read, the facts that are read and not given,
-/// the stream behind them where the reader tells its bytes, and what is answered again once the
-/// table is settled.
+/// The facts of one table that are left, as blocks of text (xBRL-CSV 1.0, table files: the first record is
+/// the header, and each record behind it a row). It borrows the table's report. A contract sees the
+/// table's place, the limit, how many rows were read, the facts that are read and not given, the stream
+/// behind them and the records that are unread, where the reader tells its bytes, and what is answered
+/// again once the table is settled.
 #[derive(Drop)]
 pub struct TableBlocks<'a, R: Read + Drop> {
     alloc: Global,
