@@ -3,12 +3,14 @@
 //!
 //! What is proved:
 //!
-//! - [`is_identifier`], [`is_row_identifier`] and [`is_ncname`] are true exactly of the texts whose characters lie in the
-//!   sets of XML 1.0 fifth edition.
+//! - [`is_identifier`], [`is_row_identifier`] and [`is_ncname`] are true exactly of the texts of one or more characters of
+//!   which the first and each other lie in sets of XML 1.0 fifth edition (`specs/Names.antt`).
 //! - [`Namespaces`] is a finite map from prefixes, which are NCNames, to URIs, of which none stands twice. It is listed in
-//!   byte order of prefix. `add` gives each fault exactly where it is due, and a call that fails changes nothing.
-//! - [`qname`], [`sqname`], [`unit`] and [`language`] give a value exactly where the grammar has the text, and then the
-//!   value of the grammar. They also equal short functions, which the contracts of the crates above cite.
+//!   byte order of prefix. `add` gives `BadPrefix` and `Repeated` exactly where they are due, and a call that fails changes
+//!   nothing.
+//! - [`qname`], [`sqname`], [`unit`] and [`language`] give a value exactly where the grammar has the text. For a QName and an
+//!   SQName it is the one value of the grammar, and for a unit it tells whether that is the pure number's. All four equal
+//!   short functions, which the contracts of the crates above cite.
 //! - [`is_plain_path`] is true exactly of the paths that have no barred character and no bad segment.
 //!
 //! `add`, `language` and the calls that copy or grow a text, a list or namespaces take memory. The others take none.

@@ -43,8 +43,8 @@ fn goes_on_badly(path: &[u8]) -> bool
     false
 }
 
-/// Whether a path is relative and plain, so that it means the same as a URL and as the path of a file: it has no control character (U+0000
-/// to U+001F), none of `\ : ? # %`, and no segment that is empty, `.` or `..`. It takes no memory.
+/// Whether a path is relative and plain: it has no control character (U+0000 to U+001F), none of `\ : ? # %`, and no segment that is empty,
+/// `.` or `..`. Such a path is taken to mean the same as a URL and as the path of a file. It takes no memory.
 #[tactic(auto, unfolding(crate::specs::PlainPath::is_plain_path))]
 pub fn is_plain_path(path: &str) -> bool
     ensures { result ≡ plain_path path.now }
