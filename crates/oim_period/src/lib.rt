@@ -11,7 +11,8 @@
 //!   No text means two periods.
 //! - [`Period::start_instant`] and [`Period::end_instant`] give the sides of a duration, and `None` for an instant.
 //! - [`is_date`] is true exactly of the texts that write one day of the calendar.
-//! - [`Period::text`] gives the one written form, and reading it gives the period again. It fails only where memory runs out.
+//! - [`Period::text`] gives the one written form, and reading it gives the period again. Its only error is
+//!   `AllocError`.
 //!
 //! `read`, `is_date` and the sides take no memory. `specs/Periods.antt` has the same rules as functions, which the contracts of
 //! other crates cite.
