@@ -3,7 +3,7 @@
 //! What the crate promises:
 //! - the readers of a `Report` give its parts, and `clone_report` an equal report;
 //! - the parts of any `Report` are in byte order of name, and its tables, templates and columns have identifiers
-//!   (`stands_in_order`, `specs/InOrder.antt`), and each place that a part names is in range;
+//!   (`stands_in_order`, `specs/InOrder.antt`), and each place that `row_id_column` gives or a `column` names is in range;
 //! - `Types::kind_of` gives the kind that the records of the types say, and `Parameters` their names and values.
 //!
 //! It knows nothing of JSON or of files.

@@ -95,7 +95,7 @@ impl Report {
     }
 
     /// The place of the column with this identifier in a table's template, counted from 0 in byte order of
-    /// identifier, or `None` where there is none. It does not look through all columns.
+    /// identifier, or `None` where there is none. It does not look through all of more than eight columns.
     #[tactic(auto, using(crate::proofs::GroupOrder::columns_rise))]
     pub fn place_of_column(&self, i: usize, name: &[u8]) -> Option<usize>
         requires { i < length self.now.tables }
@@ -163,7 +163,8 @@ impl Report {
         }
     }
 
-    /// The value of the table's parameter with this name, else of the report's. It does not look through all names.
+    /// The value of the table's parameter with this name, else of the report's. It does not look
+    /// through all of more than eight names.
     #[tactic(auto, using(crate::proofs::GroupOrder::parameters_rise))]
     pub fn parameter(&self, i: usize, name: &str) -> Option<&str>
         requires { i < length self.now.tables }
