@@ -5,7 +5,7 @@
 //! - `report_of` gives the report that the files define, or the first fault in the order in which they are read: the
 //!   metadata, up to one byte past the limit, the types table, the parameters file that the metadata names, and
 //!   last the report that the metadata says (`specs/Steps.antt`). Only a read that fails or memory that runs out
-//!   may end it earlier, and it is said at which file;
+//!   may end it elsewhere, at a step that can end so: then it is `Read` with the source of that step's file, or `Memory`;
 //! - `metadata_at`, `types_in`, `url_in` and `parameters_in` are its steps one by one, with the same clauses;
 //! - `folder_of` gives a path up to and including its last `/`, and `path_in` the path of a file in a folder
 //!   (`specs/Folders.antt`);

@@ -211,7 +211,8 @@ fn report_in(
 /// and the parameters file that the metadata names, whose path is `base` followed by its URL. Fails with
 /// the early fault that names the first fault, in the order in which the files are read: first the metadata,
 /// up to one byte past the limit, then the types table, then the parameters file; last, the report is
-/// made from the metadata. A read that fails ends the run with `Read` (17) and the source of its file.
+/// made from the metadata. A read that fails or memory that runs out may end it at an earlier step, or in place of
+/// that step's fault: with `Read` (17) and the source of its file, or with `Memory`.
 pub fn report_of<R: Read + Drop, F: Folder<R>>(
     alloc: Global,
     folder: &mut F,
