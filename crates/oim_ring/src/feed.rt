@@ -65,7 +65,7 @@ impl Model for Closed {
 pub enum CloseFault {
     /// 65: the ring is full. The feed and the ending come back unchanged.
     Full(Feed, Ending),
-    /// 66: the ending was sent, but there is no token of the finished feed.
+    /// 66: the ending was sent, but there is no token of the finished feed. No clause says what was sent.
     Lost,
 }
 
@@ -140,8 +140,8 @@ impl Feed {
 
     /// Sends the ending and gives the token of the finished feed. Fails with `Full`, which gives the feed
     /// and the ending back unchanged, if the ring is full; it is not while fewer items were sent than its
-    /// size. Fails with `Lost` if the ending was sent but there is no token. It allocates no memory and
-    /// does not wait.
+    /// size. Fails with `Lost` if the ending was sent but there is no token; no clause says what was sent
+    /// then. It allocates no memory and does not wait.
     pub fn close(self, ending: Ending) -> Result<Closed, CloseFault>
         ensures { Closes self ending result }
     {
@@ -185,8 +185,8 @@ impl Feed {
     }
 
     /// A vector for the texts of a block: that of a block that any of the report's drains gave back, with
-    /// what it held, or an empty one, as always before the writer has reached this feed's table. It
-    /// allocates no memory.
+    /// what it held, or an empty one, as always before the writer has reached this feed's table. No clause
+    /// says what it holds. It allocates no memory.
     pub fn room<R: Wait>(&self, rt: &R, alloc: Global) -> Vec<u8> {
         match self.backlog.kept_room(rt) {
             Some(room) => room,

@@ -3,9 +3,10 @@
 //!
 //! What is proved:
 //!
-//! - `lane` and `Lanes::open` give the two empty ends of one new ring;
+//! - `lane` and `Lanes::open` give the two ends of one ring, with nothing sent or taken yet;
 //! - when `put` or `close` succeeds, it has sent its item; neither finds the ring full while fewer
-//!   items were sent than its size, and when it is full they give everything back unchanged;
+//!   items were sent than its size, and when it is full they give everything back unchanged. Of what was
+//!   sent when `close` is `Lost` nothing is said;
 //! - of the items that a feed sent, only the last can be an ending;
 //! - when `take` gives an item, it has taken it, and `None` has changed nothing;
 //! - `settle` shows that the items taken are the items sent, each once and in order.
@@ -14,11 +15,11 @@
 //! `Feed::wait_for_turn` and `Drain::wait` sleep, until the other end or the writer has moved or, in the
 //! last, for some milliseconds. `Feed::room` and `Drain::give_back`, which hand the vectors of written
 //! blocks back to the feeds, may wait for one another for a moment. `Lanes`
-//! opens the rings of one report, whose feeds wait for their turn while too many blocks wait in all
-//! rings together.
+//! opens the rings of one report, whose feeds wait for their turn while too many facts wait in all
+//! rings together. Of these calls no clause says more than that what was sent and taken stays the same.
 //!
 //! What only tests show: that a ring holds no more items than its size, that `take` finds what was put,
-//! that `close` gives the token while the drain is there, and that a wait ends.
+//! that `close` gives the token while the drain is there, that a wait ends, and that feeds are held back.
 //!
 //! A call:
 //!

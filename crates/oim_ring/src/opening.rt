@@ -16,7 +16,8 @@ use std::sync::Arc;
 pub const LARGEST_RING: usize = 65_536;
 
 /// Opens the rings of one report, in table order. Once as many facts wait in them together as may, a
-/// feed that waits for its turn is held back, apart from that of the table that the writer takes.
+/// feed that waits for its turn is held back, apart from that of the table that the writer takes: tests
+/// show it, and no clause.
 #[derive(Drop)]
 pub struct Lanes {
     backlog: Arc<Backlog>,
@@ -33,8 +34,8 @@ impl Lanes {
     }
 
     /// The two ends of the next table's ring, with room for `size` blocks, 1 to `LARGEST_RING`, and
-    /// beside them for the ending, so that `close` does not find it full. Nothing was sent or taken yet.
-    /// Fails if memory runs out.
+    /// beside them for the ending, so that `close` does not find it full; of that room no clause speaks.
+    /// Nothing was sent or taken yet. Fails if memory runs out.
     pub fn open(&mut self, alloc: Global, size: usize) -> Result<(Feed, Drain), AllocError>
         requires { IsRingSize size }
         ensures feed { IfOk result (λ r. (r.0.size ≡ size) × (r.0.sent ≡ [])) }
@@ -75,7 +76,7 @@ impl Lanes {
     }
 }
 
-/// The two ends of a new ring on its own, with room for `size` items, 1 to `LARGEST_RING`. Nothing was
+/// The two ends of a ring on its own, with room for `size` items, 1 to `LARGEST_RING`. Nothing was
 /// sent or taken yet. Fails if memory runs out.
 pub fn lane(alloc: Global, size: usize) -> Result<(Feed, Drain), AllocError>
     requires { IsRingSize size }
