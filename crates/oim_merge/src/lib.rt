@@ -5,17 +5,17 @@
 //! - its sink took the text of the items that it was given (`specs/Histories.antt`) in the given layout:
 //!   the head and the facts of the blocks before the first refusal; or after a failed write, which
 //!   `fault` tells, a beginning of it;
-//! - `finish` writes the tail exactly if no table is refused.
+//! - `finish` writes the tail if no table is refused and no write fails, and nothing if a table is refused.
 //!
 //! What is proved of `merge`:
 //!
-//! - it takes each drain, in order, to its ending and no further;
+//! - it takes each drain to its ending and no further;
 //! - it writes the text of the items taken in the given layout: the head, the facts of the blocks before
 //!   the first refusal, and the tail exactly if no table is refused;
 //! - it gives the fault of each ending that is `Refused`, in table order, however the merge ends;
 //! - it answers `Complete` only if there is no such ending, and `Refused` only if there is one;
-//! - it answers `Write` if a write failed or took nothing before the text was whole; then it wrote a
-//!   beginning of the text, and the fault is the sink's mark.
+//! - when it answers `Write`, it wrote a beginning of the text and not all of it, and the fault is the sink's
+//!   mark; when it answers another, it wrote the whole text, and the mark is as it was.
 //!
 //! It waits, and it is not proved that it returns.
 //!

@@ -15,7 +15,8 @@ use std::sync::Wait;
 
 /// Writes the document that begins with `head` and has the facts of all drains, in order, in the given
 /// layout (xBRL-JSON 1.0). It takes each drain to its ending and no further. It writes until a refusal
-/// or a write fault, and after that it only empties the drains. Nothing may have been taken from any
+/// or a write fault, and after that it only empties the drains; that it asks the sink for nothing more
+/// after a write fault is tested, and no clause says it. Nothing may have been taken from any
 /// drain before, and `faults` must be empty and have room for one fault for each drain. It waits for
 /// items, and allocates only what the sink allocates.
 ///

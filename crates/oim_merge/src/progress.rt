@@ -9,7 +9,7 @@ pub enum MergeEnd {
     Complete,
     /// A table was refused. The facts before the first refusal are written.
     Refused,
-    /// A write failed or took nothing, before any table was refused.
+    /// A write failed or took nothing before all was written. A beginning of the document is.
     Write(WriteFault),
 }
 

@@ -19,8 +19,9 @@ use std::marker::Model;
 use told::Told;
 
 /// Writes a document (xBRL-JSON 1.0) to a sink: its head, the facts of blocks up to the first table that
-/// is refused, and the tail if none is. After a failed write it writes nothing more. Each call is given
-/// the sink, which nothing else may write to meanwhile.
+/// is refused, and the tail if none is. After a failed write it writes nothing more: a test shows it, and the
+/// clauses say that a beginning of the text was written. Each call is given the sink, which nothing else may
+/// write to meanwhile.
 ///
 /// Contracts see the layout, the head, the items so far, and the sink: as it was before the head, and as
 /// the writer left it. That the sink took the text of these items, the type keeps.
@@ -92,8 +93,8 @@ impl DocumentWriter {
         });
     }
 
-    /// The first write fault. Without one, the text of the items so far is written; with one, a beginning
-    /// of it is.
+    /// The fault of the write that failed, if one did. Without it, the text of the items so far is written;
+    /// with it, a beginning of that is.
     pub fn fault(&self) -> Option<WriteFault>
         ensures written { IfNone result (IsWritten self.now) }
         ensures broken { IfSome result (λ fault. IsBroken self.now fault) }
