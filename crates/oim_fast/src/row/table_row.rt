@@ -107,7 +107,8 @@ impl<'a, 'r> TableRow<'a, 'r> {
         }
     }
 
-    /// The bytes of the text at a place, with what stands behind them where that can be read, and how many they are.
+    /// The bytes of the text at a place, with others behind them where some can be read, and how many the text's are. Of the others
+    /// nothing is said.
     #[inline(always)]
     pub fn bytes_at(&self, place: usize) -> (&'r [u8], usize)
         ensures bytes { take result.1 result.0.now ≡ field_or_empty self.now.fields (Some place) }

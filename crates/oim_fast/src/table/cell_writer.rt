@@ -139,7 +139,7 @@ impl<'a> CellWriter<'a> {
     }
 
     /// Appends the text of each fact of the row at hand behind a comma, and where each of them ends. False where the row is not by
-    /// the fast way. Fails where memory is short. Then a beginning of it is left behind what was there.
+    /// the fast way. Fails where memory is short. Then something may be left behind what was there.
     #[inline(always)]
     pub(crate) fn put_cells(
         &mut self,

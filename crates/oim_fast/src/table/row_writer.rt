@@ -46,9 +46,9 @@ impl<'a> RowWriter<'a> {
     /// Appends the text of each fact of a row behind a comma, as xBRL-JSON 1.0 has it, and where each of them ends, in bytes
     /// from the front of the text.
     ///
-    /// Answers false where the row is not by the fast way: it has a fault, or a rare form. Fails where memory is short. After
-    /// false and after a failure a beginning of the row may be left behind what was there, in both lists, so who calls cuts
-    /// it back.
+    /// Answers false where the row is not by the fast way: where it has a fault, and for good rows of rare forms, of which no clause
+    /// says more. Fails where memory is short. After false and after a failure something may be left behind what was there, in both
+    /// lists, so who calls cuts it back.
     pub fn put_row(
         &mut self,
         alloc: Global,
