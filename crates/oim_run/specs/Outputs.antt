@@ -1,4 +1,4 @@
--- Where a document goes, what is done with its output, and which outcome its run has.
+-- Where a document goes, what is done with its output, which outcome its run has, and what is said of it.
 use Rattle.std.specs.Prelude.{◌≡◌, ◌⊎◌, ◌≤◌, Bool, true, false, ℕ, List, [], ◌∷◌, ◌++◌, Option, Some, None, IfSome}
 use Rattle.oim_files.specs.Folders.{Files}
 use Rattle.oim_run.specs.Buffers.{Buffered, flushed}
@@ -26,7 +26,7 @@ pub data Deed : Type 0 where
 abbrev pub Did : (before : Option (List Deed)) → List Deed → (after : Option (List Deed)) → Type 0
 Did before deeds after = IfSome before (λ earlier. after ≡ Some (earlier ++ deeds))
 
--- ---- what is told
+-- ---- what is to be told
 
 -- the file at the path cannot be written, or memory ran out for saying so
 abbrev pub IsUnwritten : List ℕ → Outcome → Type 0
@@ -37,7 +37,7 @@ abbrev pub IsUnwrittenAt : Option (List ℕ) → (ran o : Outcome) → Type 0
 IsUnwrittenAt None ran o = o ≡ ran
 IsUnwrittenAt (Some path) ran o = IsUnwritten path o
 
--- what is told of a run that ended so, by how its output ended: its own outcome; a failed write, if there was a document; or that a file cannot be written
+-- what is to be told of a run that ended so, by how its output ended: its own outcome; a failed write, if there was a document; or that a file cannot be written
 abbrev pub IsToldBy : (out faults : Option (List ℕ)) → Ending → (ran o : Outcome) → Type 0
 IsToldBy out faults ending.Kept ran o = o ≡ ran
 IsToldBy out faults ending.NotKept ran o = o ≡ flushed ran
@@ -53,7 +53,7 @@ RunsTo told s old new o =
     × Buffered (Leaves (range_fault s.workers s.ring)) old new o
 
 -- a run was made to the open output whose writer holds this at first. That output is ended, with what its writer holds then, and nothing else is done with
--- any. What is told is the run's outcome, by how the output ended
+-- any. What is to be told is the run's outcome, by how the output ended
 pub record RunsInto (runs : (old new : Option (List ℕ)) → Outcome → Type 0) (out faults : Option (List ℕ)) (first : Option (List ℕ)) (before after : Option (List Deed)) (o : Outcome) : Type 0 where
   pub last : Option (List ℕ)
   pub ran : Outcome
@@ -78,7 +78,7 @@ IntoFile told q path before after o = (IsInput q.settings path × (after ≡ bef
     ⊎ ((¬ IsInput q.settings path) × Did before (Opened (Some path) None ∷ []) after × IsUnwritten path o)
     ⊎ ((¬ IsInput q.settings path) × RunsOnce (RunsTo told q.settings) q.settings.out q.faults (Some path) before after o)
 
--- the conversion that the words ask for: exactly one run is made, to the output that they name, and its outcome is told; or none, and that is told
+-- the conversion that the words ask for: exactly one run is made, to the output that they name, and its outcome is to be told; or none, and that is
 abbrev pub IntoOutput : Option Files → Request → Option (List ℕ) → (before after : Option (List Deed)) → Outcome → Type 0
 IntoOutput told q None before after o = RunsOnce (RunsTo told q.settings) q.settings.out q.faults None before after o
 IntoOutput told q (Some path) before after o = IntoFile told q path before after o
@@ -103,7 +103,8 @@ Said = List (List ℕ)
 abbrev pub IsTerminal : Option Bool → Bool → Type 0
 IsTerminal terminal is = IfSome terminal (λ it. is ≡ it)
 
--- the lines of an outcome were said, as one text, to a terminal as it gets them, and to any other as they are; or memory ran out for them, and nothing was said
+-- the lines of an outcome were said once, as one text, to a terminal as it gets them, and to any other as they are; or nothing was said, as where memory ran out for
+-- them
 abbrev pub Says : Option Bool → Outcome → (before after : Option Said) → Type 0
 Says terminal o before after = IfSome before (λ earlier. (after ≡ Some earlier)
     ⊎ (IsTerminal terminal false × (after ≡ Some (earlier ++ line_of o ∷ [])))
@@ -116,7 +117,8 @@ SaysLast terminal faults ended before after status =
     ((after ≡ before) × (status ≡ status_of ended))
     ⊎ ((last : Outcome) × IsLeftUnwritten faults ended last × Says terminal last before after × (status ≡ status_of last))
 
--- a program that was given these words and converts so ends with this status: the conversion that they ask for is made, once, and its outcome is told, once
+-- a program that was given these words and converts so ends with this status: the conversion that they ask for is made, once or not at all, and its outcome is told
+-- at most once
 pub record EndsTold (told : Option Files) (q : Request) (before after : Option (List Deed)) (terminal : Option Bool) (silent said : Option Said) (status : ℕ) : Type 0 where
   pub ended : Outcome
   pub once : EndsFor told q before after ended
@@ -124,7 +126,7 @@ pub record EndsTold (told : Option Files) (q : Request) (before after : Option (
   pub says : Says terminal ended silent between
   pub last : SaysLast terminal q.faults ended between said status
 
--- a run to a writer, of which old and new are what it holds, is made, its outcome is told, and this is the exit status
+-- a run to a writer, of which old and new are what it holds, is made, its outcome is told at most once, and this is the exit status
 pub record RunsTold (runs : (old new : Option (List ℕ)) → Outcome → Type 0) (old new : Option (List ℕ)) (terminal : Option Bool) (silent said : Option Said) (status : ℕ) : Type 0 where
   pub ran : Outcome
   pub run : runs old new ran

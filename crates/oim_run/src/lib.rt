@@ -23,7 +23,7 @@
 //!   input's path or cannot be opened (`specs/Outputs.antt`);
 //! - `status` and `line` give the exit status and the lines on standard error of each outcome, with one
 //!   line for each refused table, and `terminal_line` the same without a path's control characters
-//!   (`specs/Lines.antt`); `tell` tells these lines once.
+//!   (`specs/Lines.antt`); `tell` tells these lines at most once, and gives the status.
 //!
 //! It passes on what `oim_files` says of the files of a report, and `oim_explain` of a fault.
 //!

@@ -8,12 +8,13 @@
 //! What is proved of a run, its lines and its status is said by the crate `oim_run`. This crate is the
 //! edge: it opens the system's files, shows the progress, and prints. Of it is proved:
 //!
-//! - over any files, outputs and teller (`convert_and_tell`): exactly one run is made, to the output that the words name,
-//!   and its outcome is told once, or that the output did not end well; none is made for an output that is written as
-//!   the path of the metadata or of the types table. The exit status is that of the outcome, or of the file of the
-//!   faults that cannot be written behind it;
-//! - the exit status for words that are refused is that of the kind of their fault, and 3 where the help or the version
-//!   that they ask for cannot be printed.
+//! - over any files, outputs and teller (`convert_and_tell`): exactly one run is made, to the output that the words name, or
+//!   none: for an output that is written as the path of the metadata or of the types table, or that cannot be opened. Its
+//!   outcome, or that the output did not end well, is told at most once. Nothing is told where memory ran out for the lines;
+//!   and with `--explain` the lines of refused tables are printed past the teller, of which no clause speaks. The exit
+//!   status is that of the outcome, or of the file of the faults that cannot be written behind it;
+//! - the exit status for words that are refused is that of the kind of their fault (`explained`); for the help or the version
+//!   it is 0 or 3, and only tests show that it is 3 exactly where they cannot be printed.
 //!
 //! Nothing is claimed about what the system's files hold, what its outputs do (`SystemOutputs`: only tests show that a
 //! file of the report is no output by any path, and that a file gets its name once it is whole), that `converted` hands in
