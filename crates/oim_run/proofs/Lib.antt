@@ -9,3 +9,5 @@ mod Threads
 mod OneThread
 mod Examples
 mod ExamplesNaming
+mod ExamplesBuffers
+mod ExamplesOutputs
