@@ -58,11 +58,12 @@ fn is_ascii_name_char(byte: u8) -> bool
 }
 
 /// Whether a byte is an ASCII character that may stand in an identifier.
+#[tactic(auto, unfolding(crate::specs::Names::is_name_start, crate::specs::Names::is_name_char, crate::specs::Names::is_plain_char))]
 #[inline(always)]
 fn is_ascii_plain_char(byte: u8) -> bool
     ensures { result ≡ (nat_lt byte 128 && plain_char byte) }
 {
-    byte < 128 && is_plain_char(byte as char)
+    matches!(byte, b'0'..=b'9') || matches!(byte, b'A'..=b'Z' | b'_' | b'a'..=b'z' | b'-')
 }
 
 /// Whether all bytes are ASCII characters that may stand in a name.

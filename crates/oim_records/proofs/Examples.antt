@@ -1,14 +1,14 @@
 -- The definitions on small texts that show each rule. The answers come from RFC 4180; where a text is no RFC 4180 they are those of the
 -- `csv` crate of Rust with headers off and records of any length.
-use Rattle.std.proofs.Common.{◌≡◌, ◌++◌, ℕ, List, [], ◌∷◌, Bool, true, false, Some, None, codes, map, refl}
-use Rattle.std.specs.List.{list_all, list_any}
+use Rattle.std.proofs.Common.{◌≡◌, ◌++◌, ℕ, zero, suc, List, [], ◌∷◌, Bool, true, false, Some, None, codes, map, refl, arith}
+use Rattle.std.specs.List.{All, list_all, list_any}
 use Rattle.std.specs.Str.{chars, is_utf8}
 use Rattle.csv.specs.Machine.{next_record}
 use Rattle.csv.specs.Reading.{records_from, strip_bom}
 use Rattle.csv.specs.declared.parser.State.TheVariants as state
 use Rattle.oim_records.specs.Bytes.{ends_field, ends_line, is_quote, joins_field, is_unquoted}
 use Rattle.oim_records.specs.Cuts.{ended, is_between, state_after}
-use Rattle.oim_records.specs.Fields.{fields_in}
+use Rattle.oim_records.specs.Fields.{IsReadTo, IsWithin, fields_in}
 use Rattle.oim_records.specs.Grids.{Record, grid, records_left}
 use Rattle.oim_records.specs.PieceTaking.{bytes_left}
 use Rattle.oim_records.specs.Pieces.{unread}
@@ -18,6 +18,7 @@ use Rattle.oim_records.specs.Reads.{left_in}
 use Rattle.oim_records.specs.Runs.{behind, is_quoted, is_special, moved, skipped, stops}
 use Rattle.oim_records.specs.Scans.{fresh, scanned}
 use Rattle.oim_records.specs.Texts.{is_ascii, is_high, is_not_text}
+use Rattle.oim_records.specs.declared.field.FieldRange.{FieldRange}
 use Rattle.oim_records.specs.declared.place.Place.TheVariants as place
 use Rattle.oim_records.specs.declared.scan.Scan.{Scan}
 
@@ -200,6 +201,19 @@ texts = refl
 -- PLACES OF FIELDS, and what is left of a text, a piece and a file
 field_places : fields_in (codes "ab,cd") (record { start = 0; end = 2 } ∷ record { start = 3; end = 5 } ∷ record { start = 5; end = 5 } ∷ []) ≡ codes "ab" ∷ codes "cd" ∷ [] ∷ []
 field_places = refl
+
+-- two fields of a record are read, and the third begins
+abbrev two_places : List FieldRange
+two_places = record { start = 0; end = 2 } ∷ record { start = 3; end = 5 } ∷ []
+
+two_read : IsReadTo (codes "ab,cd,e\n") (codes "ab,cd,e\n") two_places 0 6
+unfolding next_record
+two_read = record { reads = refl; within = λ k d lt. each k d lt; behind = refl }
+  where
+    each : All (IsWithin 6) two_places
+    each zero d lt = (omega arith, omega arith)
+    each (suc zero) d lt = (omega arith, omega arith)
+    each (suc (suc k)) d lt = absurd (omega arith)
 
 nothing_read : unread two_rows ≡ record { left = two_rows; fields = [] }
 nothing_read = refl

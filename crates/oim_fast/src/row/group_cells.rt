@@ -45,11 +45,30 @@ pub(crate) struct GroupCells<'a> {
     pub(crate) list: Vec<GroupCell<'a>>,
 }
 
+/// How many groups are looked through one by one at most.
+const FEW: usize = 8;
+
+/// The place of the group of a name among a few, where it is found.
+fn place_among(groups: &[(Text, Level)], name: &str) -> Choice
+    requires { IsRising (keys_of groups.now) }
+    ensures { (column : ColumnValue) → groups.now ≡ column.groups → Says column (a_text name.now) result }
+{
+    for i in 0..groups.len() {
+        if groups[i].0.as_str() == name {
+            return Choice::Group(i);
+        }
+    }
+    Choice::Unknown
+}
+
 /// The place of the group of a name, where it is found.
 fn place_of(groups: &[(Text, Level)], name: &str) -> Choice
     requires { IsRising (keys_of groups.now) }
     ensures { (column : ColumnValue) → groups.now ≡ column.groups → Says column (a_text name.now) result }
 {
+    if groups.len() <= FEW {
+        return place_among(groups, name);
+    }
     match groups.binary_search_by(|group| group.0.as_str().cmp(name)) {
         Ok(place) => Choice::Group(place),
         Err(_) => Choice::Unknown,

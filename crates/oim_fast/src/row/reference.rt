@@ -103,6 +103,14 @@ fn word_at(text: &[u8], at: usize) -> u64
     ])
 }
 
+/// Four bytes of a text as a number.
+#[inline(always)]
+fn half_word_at(text: &[u8], at: usize) -> u64
+    requires { at + 4 ≤ length text.now }
+{
+    u64::from(u32::from_le_bytes([text[at], text[at + 1], text[at + 2], text[at + 3]]))
+}
+
 /// A number for a text. Texts of up to 24 bytes seldom have the same.
 #[inline(always)]
 fn number_of(text: &[u8]) -> u64 {
@@ -112,6 +120,9 @@ fn number_of(text: &[u8]) -> u64 {
         let middle = word_at(text, len / 2 - 4);
         let last = word_at(text, len - 8);
         return first ^ middle.rotate_left(21) ^ last.rotate_left(42);
+    }
+    if len >= 4 {
+        return half_word_at(text, 0) ^ half_word_at(text, len - 4).rotate_left(27) ^ (len as u64);
     }
     let mut number = len as u64;
     for i in 0..len {

@@ -141,13 +141,17 @@ fn copy_run(room: &mut [u8], at: usize, text: &[u8], left: usize) -> usize
     if run < left { run } else { left }
 }
 
-/// Writes a byte as JSON has it. Six bytes may be written in all. Answers where it ends.
+/// Writes a byte as JSON has it. Six bytes may be written in all. Answers where it ends. Mostly it is a quote.
 #[inline(always)]
+#[tactic(auto, unfolding(oim_json::specs::JsonText::escaped_byte))]
 fn copy_byte(room: &mut [u8], at: usize, byte: u8) -> usize
     requires { at + 6 ≤ length room.old }
     ensures bytes { Placed room.old room.new at (escaped_byte byte) result }
     ensures within { result ≤ at + 6 }
 {
+    if byte == b'"' {
+        return copy_short(room, at, b"\\\"");
+    }
     let (escape, size) = escape_of(byte);
     room[at..at + 6].copy_from_slice(&escape);
     at + size

@@ -1,0 +1,21 @@
+use Rattle.std.proofs.Common.{◌+◌, ap, arith}
+use Rattle.oim_records.specs.Bytes.{ends_field}
+use Rattle.oim_records.proofs.Ends.{ends-first, ends-next, plain-read}
+use Rattle.oim_records.proofs.record.read_plain.Goals as goal
+
+pub loop-left-preserved : goal.loop-left-preserved
+loop-left-preserved c =
+    let i = c.loop-left.invariant in
+    let xs = c.args.text.now in
+    let from = c.args.from in
+    let start = c.loop-left.start in
+    let mark = c.lowest-mark.result in
+    let here = i.marks.within mark c.lowest-mark.ensures.set in
+    let comma = c.if-text-stop-ne44.false in
+    let end = ends-first xs from start c.loop-left.left mark i.marks i.low c.lowest-mark.ensures.set c.lowest-mark.ensures.below (omega arith) (ap ends_field comma) in
+    record {
+      fields = λ old first h. plain-read old xs c.loop-left.ranges.items c.push.new.self.items first start (from + mark) c.if-text-start-eq34.false end (omega arith) comma c.in_ok-push.ensures.items (i.fields old first h);
+      low = omega arith;
+      high = omega arith;
+      marks = ends-next xs from start c.loop-left.left c.without-left.result mark i.marks c.lowest-mark.ensures.set c.without-left.ensures.cleared c.lowest-mark.ensures.below c.without-left.ensures.kept c.without-left.ensures.no_more;
+    }
