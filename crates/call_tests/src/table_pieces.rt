@@ -1,0 +1,53 @@
+//! Calls of `oim_pieces`.
+
+use crate::report::report_of;
+use oim_meta::{Limits, Report};
+use oim_pieces::{Helpers, PIECE_SIZE, TablePieces};
+use oim_rows::TableFault;
+use std::alloc::Global;
+use std::sync::Wait;
+use std::test::Fail;
+use std::thread;
+use std::thread::{Scope, Threads};
+
+/// The number of blocks in the first piece of a report's first table, whose file has these bytes.
+fn first_piece<'s, E, T: Threads>(
+    scope: &Scope<'s, E>,
+    rt: &T,
+    alloc: Global,
+    report: &'s Report,
+    file: &[u8],
+) -> Result<usize, TableFault> {
+    if report.tables() == 0 {
+        return Ok(0);
+    }
+    let limits = Limits::profile();
+    let mut table = TablePieces::open(alloc, report, 0, file, limits, PIECE_SIZE)?;
+    let helpers = Helpers::new(1, 4);
+    match table.next_blocks(scope, rt, &helpers)? {
+        Some(blocks) => Ok(blocks.len()),
+        None => Ok(0),
+    }
+}
+
+/// Whether the first piece of a table has this many blocks.
+fn has_blocks(
+    rt: &(impl AllocGlobal + Threads + Wait + Sync),
+    report: &Report,
+    file: &[u8],
+    blocks: usize,
+) -> bool {
+    let alloc = rt.alloc();
+    let given = thread::scope(thread::scope_env(), rt, move |scope| {
+        first_piece(scope, rt, alloc, report, file)
+    });
+    matches!(given, Ok(count) if count == blocks)
+}
+
+#[test]
+fn calls_of_table_pieces(rt: HostRuntime) -> Result<(), Fail> {
+    let report = report_of(rt.alloc(), &[])?;
+    assert!(rt; Helpers::new(1, 2).are_idle());
+    assert!(rt; has_blocks(&rt, &report, b"cash\n1\n", 1));
+    Ok(())
+}
