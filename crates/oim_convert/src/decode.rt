@@ -15,6 +15,7 @@ use crate::pieces::send_table;
 use crate::sending::{close_waiting, put_waiting};
 use crate::table_file::TableFile;
 use oim_decode::TableBlocks;
+use oim_pieces::Helpers;
 use oim_report::{Limits, Report};
 use oim_ring::{Closed, Ending, Feed};
 use oim_rows::{TableFault, TableKind};
@@ -57,6 +58,7 @@ pub(crate) fn decode<R: Read + Drop, T: Threads + Wait>(
         mut feed,
         helpers,
     } = job;
+    helpers.start();
     let ending = match reader {
         None => without_file(report, table),
         Some(reader) => {
@@ -69,7 +71,7 @@ pub(crate) fn decode<R: Read + Drop, T: Threads + Wait>(
             send_table(rt, alloc, file, &helpers, &mut feed)
         }
     };
-    helpers.table_done();
+    helpers.rest();
     close_waiting(rt, feed, ending)
 }
 
@@ -89,6 +91,7 @@ pub(crate) fn send_file<R: Read + Drop, T: Wait>(
     rt: &T,
     alloc: Global,
     file: TableFile<'_, R>,
+    helpers: &Helpers,
     feed: &mut Feed,
 ) -> Ending
     requires file { IsTableFile file }
@@ -103,7 +106,7 @@ pub(crate) fn send_file<R: Read + Drop, T: Wait>(
         limits,
     } = file;
     match TableBlocks::open(alloc, report, table, reader, limits) {
-        Ok(mut blocks) => send_blocks(rt, alloc, &mut blocks, feed),
+        Ok(mut blocks) => send_blocks(rt, alloc, &mut blocks, helpers, feed),
         Err(fault) => Ending::Refused(fault),
     }
 }
@@ -113,6 +116,7 @@ fn send_blocks<R: Read + Drop, T: Wait>(
     rt: &T,
     alloc: Global,
     blocks: &mut TableBlocks<'_, R>,
+    helpers: &Helpers,
     feed: &mut Feed,
 ) -> Ending
     requires begun { blocks.old.pending ≡ [] }
@@ -122,7 +126,7 @@ fn send_blocks<R: Read + Drop, T: Wait>(
 {
     for _ in rt.forever() {
         match blocks.next_block(feed.room(rt, alloc)) {
-            Ok(Some(block)) => put_waiting(rt, feed, block),
+            Ok(Some(block)) => put_waiting(rt, helpers, feed, block),
             Ok(None) => return Ending::Closed,
             Err(fault) => return Ending::Refused(fault),
         }

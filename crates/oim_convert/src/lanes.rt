@@ -5,13 +5,16 @@ ghost use Rattle.oim_convert.specs.Jobs.{Each, IsLane, IsOpened};
 ghost use Rattle.oim_ring.specs.Limits.{IsRingSize};
 
 use crate::job::Job;
-use oim_pieces::Helpers;
+use oim_pieces::{Helpers, PIECE_SIZE};
 use oim_ring::{Drain, Lanes};
 use std::alloc::{AllocError, Global};
 use std::sync::Arc;
 
 /// As many facts as fill this many rings may wait in all rings together.
 const FULL_RINGS: usize = 4;
+
+/// The most facts that may wait in all rings together, but for those of the table that is written.
+const MOST_AHEAD: usize = 16_384;
 
 /// How many facts a full block has.
 const FULL_BLOCK: usize = 256;
@@ -30,8 +33,8 @@ pub(crate) fn open_lanes<R: Drop>(
     ensures count { IfOk result (λ r. length r.1.items ≡ length r.0.items) }
     ensures sizes { IfOk result (λ r. All (λ job. job.feed.size ≡ size) r.0.items) }
 {
-    let mut lanes = Lanes::new(alloc, size.saturating_mul(FULL_RINGS * FULL_BLOCK))?;
-    let helpers = Arc::new(alloc, Helpers::new(readers.len(), workers))?;
+    let mut lanes = Lanes::new(alloc, size.saturating_mul(FULL_RINGS * FULL_BLOCK).min(MOST_AHEAD))?;
+    let helpers = Arc::new(alloc, Helpers::new(workers, PIECE_SIZE))?;
     let mut jobs = Vec::new(alloc);
     let mut drains = Vec::new(alloc);
     for reader in readers {

@@ -9,7 +9,7 @@ use crate::decode::send_file;
 use crate::sending::put_waiting;
 use crate::table_file::TableFile;
 use oim_json::Block;
-use oim_pieces::{Helpers, PIECE_SIZE, TablePieces};
+use oim_pieces::{Helpers, TablePieces};
 use oim_ring::{Ending, Feed};
 use std::alloc::Global;
 use std::io::Read;
@@ -17,7 +17,8 @@ use std::sync::Wait;
 use std::thread;
 use std::thread::{Scope, Threads};
 
-/// Sends the facts of a table's file, and gives the table's ending. Where workers are idle, threads decode pieces of it.
+/// Sends the facts of a table's file, and gives the table's ending. Where there are other workers, threads decode pieces of it in
+/// the places of those that are idle.
 pub(crate) fn send_table<R: Read + Drop, T: Threads + Wait>(
     rt: &T,
     alloc: Global,
@@ -30,10 +31,10 @@ pub(crate) fn send_table<R: Read + Drop, T: Threads + Wait>(
     ensures ring { feed.new.ring ≡ feed.old.ring }
     ensures given { IsSentOfFile R.remaining file.entry (facts_in feed.new.sent) result }
 {
-    if helpers.are_idle() {
-        send_in_scope(rt, alloc, file, helpers, feed)
+    if helpers.is_alone() {
+        send_file(rt, alloc, file, helpers, feed)
     } else {
-        send_file(rt, alloc, file, feed)
+        send_in_scope(rt, alloc, file, helpers, feed)
     }
 }
 
@@ -87,7 +88,7 @@ fn send_pieces<'s, E, R: Read + Drop, T: Threads + Wait>(
     rt: &T,
     alloc: Global,
     file: TableFile<'s, R>,
-    helpers: &Helpers,
+    helpers: &'s Helpers,
     feed: &mut Feed,
 ) -> Ending
     requires file { IsTableFile file }
@@ -101,9 +102,30 @@ fn send_pieces<'s, E, R: Read + Drop, T: Threads + Wait>(
         reader,
         limits,
     } = file;
-    match TablePieces::open(alloc, report, table, reader, limits, PIECE_SIZE) {
-        Ok(mut pieces) => send_left(scope, rt, &mut pieces, helpers, feed),
+    match TablePieces::open(alloc, helpers, report, table, reader, limits) {
+        Ok(mut pieces) => {
+            let ending = send_left(scope, rt, alloc, &mut pieces, helpers, feed);
+            give_back_rooms(rt, &mut pieces, feed);
+            ending
+        }
         Err(fault) => Ending::Refused(fault),
+    }
+}
+
+/// Gives back the memory that a table kept for texts, so that others use it.
+fn give_back_rooms<R: Read + Drop, T: Wait>(
+    rt: &T,
+    pieces: &mut TablePieces<'_, R>,
+    feed: &mut Feed,
+)
+    ensures ring { feed.new.ring ≡ feed.old.ring }
+    ensures sent { feed.new.sent ≡ feed.old.sent }
+{
+    for _ in 0..usize::MAX {
+        match pieces.free_room() {
+            Some(room) => feed.give_back(rt, room),
+            None => return,
+        }
     }
 }
 
@@ -111,6 +133,7 @@ fn send_pieces<'s, E, R: Read + Drop, T: Threads + Wait>(
 fn send_left<'s, E, R: Read + Drop, T: Threads + Wait>(
     scope: &Scope<'s, E>,
     rt: &T,
+    alloc: Global,
     pieces: &mut TablePieces<'s, R>,
     helpers: &Helpers,
     feed: &mut Feed,
@@ -120,8 +143,8 @@ fn send_left<'s, E, R: Read + Drop, T: Threads + Wait>(
     ensures given { IfSome pieces.old.left (λ s. IsGiven pieces.old.table s (facts_in feed.new.sent) result) }
 {
     for _ in rt.forever() {
-        match pieces.next_blocks(scope, rt, helpers) {
-            Ok(Some(blocks)) => put_all(rt, feed, blocks),
+        match pieces.next_blocks(scope, rt) {
+            Ok(Some(blocks)) => put_all(rt, alloc, pieces, helpers, feed, blocks),
             Ok(None) => return Ending::Closed,
             Err(fault) => return Ending::Refused(fault),
         }
@@ -129,13 +152,22 @@ fn send_left<'s, E, R: Read + Drop, T: Threads + Wait>(
     unreachable!()
 }
 
-/// Sends blocks, one after another.
+/// Sends blocks, one after another. The memory of blocks that were written goes to later pieces.
 #[tactic(auto, using(crate::proofs::PutBlocks::all_put))]
-fn put_all<T: Wait>(rt: &T, feed: &mut Feed, blocks: Vec<Block>)
+fn put_all<R: Read + Drop, T: Wait>(
+    rt: &T,
+    alloc: Global,
+    pieces: &mut TablePieces<'_, R>,
+    helpers: &Helpers,
+    feed: &mut Feed,
+    blocks: Vec<Block>,
+)
     ensures ring { feed.new.ring ≡ feed.old.ring }
     ensures sent { facts_in feed.new.sent ≡ facts_in feed.old.sent ++ facts_of_rows blocks.items }
+    ensures pieces { pieces.new ≡ pieces.old }
 {
     for block in blocks {
-        put_waiting(rt, feed, block);
+        put_waiting(rt, helpers, feed, block);
+        pieces.keep_room(feed.room(rt, alloc));
     }
 }

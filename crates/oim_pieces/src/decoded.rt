@@ -5,11 +5,10 @@ ghost use Rattle.csv.specs.declared.parser.State.TheVariants as state;
 ghost use Rattle.oim_records.specs.Grids.{records_left};
 ghost use Rattle.oim_pieces.specs.Flights.{IsAnswer};
 
+use crate::helpers::Helpers;
 use oim_decode::{PieceAnswer, PieceDecoder, TableHead};
 use oim_rows::RowForm;
 use std::snapshot::Snapshot;
-use std::sync::Arc;
-use std::sync::atomic::{AtomicBool, Ordering};
 use std::thread::Promise;
 use told::{Tells, Told};
 
@@ -85,16 +84,16 @@ impl<'a> Asked<'a> {
     }
 }
 
-/// What a thread is given: a decoder, a piece, the number of its first row, and a flag.
+/// What a thread is given: a decoder, a piece, the number of its first row, and the count in which it has a place.
 #[derive(Drop)]
 pub(crate) struct Duty<'a> {
     pub(crate) decoder: PieceDecoder<'a>,
     pub(crate) bytes: Vec<u8>,
     pub(crate) first: u32,
-    pub(crate) done: Arc<AtomicBool>,
+    pub(crate) helpers: &'a Helpers,
 }
 
-/// Decodes a piece, and then sets the flag.
+/// Decodes a piece, and then gives the place back.
 pub(crate) fn decode_and_tell<'a>(duty: Duty<'a>) -> Decoded<'a>
     requires { duty.first ≤ duty.decoder.reading.limit + 1 }
     ensures answer { IsAnswer duty.entry.decoder.reading duty.entry.first (records_left state.StartRecord duty.entry.bytes.items) result.answer }
@@ -104,9 +103,9 @@ pub(crate) fn decode_and_tell<'a>(duty: Duty<'a>) -> Decoded<'a>
         mut decoder,
         bytes,
         first,
-        done,
+        helpers,
     } = duty;
     let answer = decoder.decode(bytes, first);
-    done.store(true, Ordering::SeqCst);
+    helpers.give_back();
     Decoded { decoder, answer }
 }

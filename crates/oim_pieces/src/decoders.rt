@@ -17,6 +17,12 @@ pub(crate) struct Decoders<'a> {
     limit: u32,
     head: TableHead,
     spare: Vec<PieceDecoder<'a>>,
+    // memory for texts
+    rooms: Vec<Vec<u8>>,
+    // how many vectors the texts of a piece take
+    usual: usize,
+    // memory for the bytes of a piece
+    bytes: Option<Vec<u8>>,
 }
 
 impl<'a> Model for Decoders<'a> {
@@ -53,11 +59,24 @@ impl<'a> Decoders<'a> {
             limit,
             head,
             spare: Vec::new(alloc),
+            rooms: Vec::new(alloc),
+            usual: 0,
+            bytes: None,
         }
     }
 
     /// A decoder that no thread has, or a new one. `None` where memory is short.
     pub(crate) fn take(&mut self) -> Option<PieceDecoder<'a>>
+        ensures decoder { IfSome result (λ d. d.reading ≡ self.old) }
+        ensures same { self.new ≡ self.old }
+    {
+        let mut decoder = self.ready()?;
+        self.lend_rooms(&mut decoder);
+        Some(decoder)
+    }
+
+    /// A decoder that no thread has, or a new one. `None` where memory is short.
+    fn ready(&mut self) -> Option<PieceDecoder<'a>>
         ensures decoder { IfSome result (λ d. d.reading ≡ self.old) }
         ensures same { self.new ≡ self.old }
     {
@@ -73,11 +92,75 @@ impl<'a> Decoders<'a> {
         }
     }
 
+    /// Keeps the memory of a vector for texts that are decoded later.
+    pub(crate) fn keep_room(&mut self, room: Vec<u8>)
+        ensures { self.new ≡ self.old }
+    {
+        let _ = self.rooms.push(room);
+    }
+
+    /// Notes how many vectors the texts of a piece took.
+    pub(crate) fn expect(&mut self, count: usize)
+        ensures { self.new ≡ self.old }
+    {
+        self.usual = count;
+    }
+
+    /// Gives a decoder memory for the texts of a piece, of that which was kept.
+    pub(crate) fn lend_rooms(&mut self, decoder: &mut PieceDecoder<'a>)
+        ensures decoder { decoder.new ≡ decoder.old }
+        ensures same { self.new ≡ self.old }
+    {
+        for _ in 0..self.usual {
+            match self.rooms.pop() {
+                Some(room) => decoder.keep_room(room),
+                None => return,
+            }
+        }
+    }
+
+    /// Takes back the memory for texts that a decoder did not use.
+    pub(crate) fn take_rooms(&mut self, decoder: &mut PieceDecoder<'a>)
+        ensures decoder { decoder.new ≡ decoder.old }
+        ensures same { self.new ≡ self.old }
+    {
+        for _ in 0..usize::MAX {
+            match decoder.free_room() {
+                Some(room) => self.keep_room(room),
+                None => return,
+            }
+        }
+    }
+
+    /// Gives back a vector whose memory was kept for texts, if there is one.
+    pub(crate) fn free_room(&mut self) -> Option<Vec<u8>>
+        ensures { self.new ≡ self.old }
+    {
+        self.rooms.pop()
+    }
+
+    /// Keeps the memory of a piece that was decoded.
+    pub(crate) fn keep_bytes(&mut self, bytes: Vec<u8>)
+        ensures { self.new ≡ self.old }
+    {
+        self.bytes = Some(bytes);
+    }
+
+    /// The memory of a piece that was decoded, if some is kept.
+    pub(crate) fn free_bytes(&mut self) -> Option<Vec<u8>>
+        ensures { self.new ≡ self.old }
+    {
+        self.bytes.take()
+    }
+
     /// Keeps a decoder that a thread gave back. Where memory is short, it is dropped.
     pub(crate) fn keep(&mut self, decoder: PieceDecoder<'a>)
         requires { decoder.reading ≡ self.old }
         ensures { self.new ≡ self.old }
     {
+        let mut decoder = decoder;
+        self.take_rooms(&mut decoder);
+        self.keep_bytes(decoder.take_room());
         if self.spare.reserve(1).is_ok() {
             self.spare.push_reserved(decoder);
         }

@@ -27,7 +27,7 @@ use std::thread::{Scope, Threads};
 /// the identifiers of the rows that were given, the pieces, and what is left to be cut.
 #[derive(Drop)]
 pub(crate) struct Flight<'a, R: Read + Drop> {
-    alloc: Global,
+    helpers: &'a Helpers,
     cutter: Cutter<R>,
     // what decodes pieces here
     mine: PieceDecoder<'a>,
@@ -77,7 +77,6 @@ fn first_decoder<'a>(
 /// Joins a piece, waiting for its answer.
 fn join_piece<'a, T: Threads>(
     rt: &T,
-    helpers: &Helpers,
     decoders: &mut Decoders<'a>,
     form: &RowForm<'a>,
     join: &mut PieceJoin,
@@ -89,20 +88,20 @@ fn join_piece<'a, T: Threads>(
     ensures same { decoders.new ≡ decoders.old }
 {
     let first = piece.first();
-    let answer = piece.settle(rt, decoders, helpers);
+    let answer = piece.settle(rt, decoders);
     join.join(form, first, answer)
 }
 
 impl<'a, R: Read + Drop> Flight<'a, R> {
-    /// The table at this place of a report, with this head, and pieces of about `size` bytes behind it. The rows of the head are under way.
+    /// The table at this place of a report, with this head, and the pieces behind it. The rows of the head are under way.
     pub(crate) fn behind(
         alloc: Global,
+        helpers: &'a Helpers,
         report: &'a Report,
         table: usize,
         limit: u32,
         head: TableHead,
         pieces: PieceReader<R>,
-        size: usize,
     ) -> Result<Flight<'a, R>, TableFault>
         requires place { table < length report.now.tables }
         requires rows { limit ≤ 4294967294 }
@@ -126,8 +125,8 @@ impl<'a, R: Read + Drop> Flight<'a, R> {
             return Err(whole_fault(table, TableKind::Memory));
         }
         Ok(Flight {
-            alloc,
-            cutter: Cutter::new(pieces, table, limit, 1 + rows, size),
+            helpers,
+            cutter: Cutter::new(pieces, table, limit, 1 + rows, helpers.size()),
             mine,
             decoders: Decoders::new(alloc, report, table, limit, head),
             join: PieceJoin::new(alloc),
@@ -136,27 +135,48 @@ impl<'a, R: Read + Drop> Flight<'a, R> {
         })
     }
 
-    /// Has the next pieces decoded, while workers are idle or the piece at the front is not decoded yet.
+    /// Keeps the memory of a vector for texts that are decoded later.
+    pub(crate) fn keep_room(&mut self, room: Vec<u8>)
+        ensures { self.new ≡ self.old }
+    {
+        self.decoders.keep_room(room);
+    }
+
+    /// Notes how many vectors the texts of a piece took.
+    pub(crate) fn expect(&mut self, count: usize)
+        ensures { self.new ≡ self.old }
+    {
+        self.decoders.expect(count);
+    }
+
+    /// Gives back a vector whose memory was kept for texts, if there is one.
+    pub(crate) fn free_room(&mut self) -> Option<Vec<u8>>
+        ensures { self.new ≡ self.old }
+    {
+        self.decoders.free_room()
+    }
+
+    /// Has the next pieces decoded, while there are places for threads, and the next one where no piece is under way.
     #[tactic(auto, using(crate::proofs::FlightLaws::stream_then, crate::proofs::FlightLaws::stream_same))]
-    pub(crate) fn go_ahead<E>(&mut self, scope: &Scope<'a, E>, helpers: &Helpers)
+    pub(crate) fn go_ahead<E>(&mut self, scope: &Scope<'a, E>)
         ensures stream { KeepsStream (stream_in self.old) (stream_in self.new) }
         ensures table { self.new.cutter.table ≡ self.old.cutter.table }
     {
-        for _ in 0..helpers.window() {
-            if !self.may_cut(helpers) || !self.cut_next(scope, helpers) {
+        for _ in 0..self.helpers.window() {
+            if !self.may_cut() || !self.cut_next(scope) {
                 return;
             }
         }
     }
 
     /// Whether one more piece is to be cut. The rows of the head, and all that a slow reader gave, wait for no others. No contract says so.
-    fn may_cut(&self, helpers: &Helpers) -> bool {
+    fn may_cut(&self) -> bool {
         match self.flying.front() {
-            Some(piece) => {
+            Some(_) => {
                 self.has_given
                     && !self.cutter.is_slow()
-                    && self.flying.len() < helpers.window()
-                    && (helpers.are_idle() || !piece.is_here())
+                    && self.flying.len() < self.helpers.window()
+                    && self.helpers.are_idle()
             }
             None => true,
         }
@@ -164,20 +184,22 @@ impl<'a, R: Read + Drop> Flight<'a, R> {
 
     /// Cuts the next piece and has it decoded. False where no piece is left or memory is short.
     #[tactic(auto, using(crate::proofs::FlightLaws::chained_more, crate::proofs::FlightLaws::stream_more, crate::proofs::FlightLaws::stream_kept, crate::proofs::FlightLaws::stream_same))]
-    fn cut_next<E>(&mut self, scope: &Scope<'a, E>, helpers: &Helpers) -> bool
+    fn cut_next<E>(&mut self, scope: &Scope<'a, E>) -> bool
         ensures stream { KeepsStream (stream_in self.old) (stream_in self.new) }
         ensures table { self.new.cutter.table ≡ self.old.cutter.table }
     {
         if self.flying.reserve(1).is_err() {
             return false;
         }
+        if let Some(bytes) = self.decoders.free_bytes() {
+            self.cutter.keep_room(bytes);
+        }
         let Some(piece) = self.cutter.cut() else {
             return false;
         };
         let flying = launch(
             scope,
-            helpers,
-            self.alloc,
+            self.helpers,
             &mut self.decoders,
             &mut self.mine,
             piece,
@@ -187,11 +209,7 @@ impl<'a, R: Read + Drop> Flight<'a, R> {
     }
 
     /// Joins the piece at the front, waiting for its answer. `None` where no piece is under way.
-    pub(crate) fn join_front<T: Threads>(
-        &mut self,
-        rt: &T,
-        helpers: &Helpers,
-    ) -> Option<JoinedPiece>
+    pub(crate) fn join_front<T: Threads>(&mut self, rt: &T) -> Option<JoinedPiece>
         ensures some { IfSome (stream_in self.old) (λ whole. IfSome result (λ s.
             ReadsRows self.old.cutter.table whole s.rows (behind s.fault (stream_in self.new)))) }
         ensures none { IfNone result ((self.old.pieces ≡ []) × (self.new ≡ self.old)) }
@@ -201,7 +219,6 @@ impl<'a, R: Read + Drop> Flight<'a, R> {
         self.has_given = true;
         let joined = join_piece(
             rt,
-            helpers,
             &mut self.decoders,
             self.mine.form(),
             &mut self.join,
@@ -211,23 +228,23 @@ impl<'a, R: Read + Drop> Flight<'a, R> {
     }
 
     /// Waits for the pieces that are under way, whose answers nobody needs.
-    pub(crate) fn drain<T: Threads>(&mut self, rt: &T, helpers: &Helpers)
+    pub(crate) fn drain<T: Threads>(&mut self, rt: &T)
         ensures { self.new.cutter.table ≡ self.old.cutter.table }
     {
         for _ in 0..usize::MAX {
-            if !self.drop_front(rt, helpers) {
+            if !self.drop_front(rt) {
                 return;
             }
         }
     }
 
     /// Waits for the piece at the front. False where no piece is under way.
-    fn drop_front<T: Threads>(&mut self, rt: &T, helpers: &Helpers) -> bool
+    fn drop_front<T: Threads>(&mut self, rt: &T) -> bool
         ensures { self.new.cutter.table ≡ self.old.cutter.table }
     {
         match self.flying.pop_front() {
             Some(piece) => {
-                piece.settle(rt, &mut self.decoders, helpers);
+                piece.settle(rt, &mut self.decoders);
                 true
             }
             None => false,

@@ -1,11 +1,11 @@
 //! The pieces of one table, decoded on more than one thread.
 //!
-//! A worker that has drawn a table cuts its file into pieces that end between two records. While other workers are idle, a thread
-//! decodes a piece; otherwise the worker does so itself. `TablePieces` joins the answers in the order of the pieces, so what it
+//! A worker that has drawn a table cuts its file into pieces that end between two records. While fewer threads are at work than may
+//! be, a thread decodes a piece; otherwise the worker does so itself. `TablePieces` joins the answers in the order of the pieces, so what it
 //! gives is the table's stream, whoever decoded what and whenever it was done: a thread has promised what it answers, which says
 //! of which rows that is.
 //!
-//! How many workers are idle is counted by `Helpers`. No contract rests on that count, and each of its answers is right.
+//! `Helpers` counts how many threads are at work. No contract rests on that count: whatever it says, what is given is right.
 //!
 //! A call:
 //!
@@ -13,6 +13,7 @@
 //! /// The number of blocks in the first piece of a report's first table, whose file has these bytes.
 //! fn first_piece<'s, E, T: Threads>(
 //!     scope: &Scope<'s, E>,
+//!     helpers: &'s Helpers,
 //!     rt: &T,
 //!     alloc: Global,
 //!     report: &'s Report,
@@ -22,9 +23,8 @@
 //!         return Ok(0);
 //!     }
 //!     let limits = Limits::profile();
-//!     let mut table = TablePieces::open(alloc, report, 0, file, limits, PIECE_SIZE)?;
-//!     let helpers = Helpers::new(1, 4);
-//!     match table.next_blocks(scope, rt, &helpers)? {
+//!     let mut table = TablePieces::open(alloc, helpers, report, 0, file, limits)?;
+//!     match table.next_blocks(scope, rt)? {
 //!         Some(blocks) => Ok(blocks.len()),
 //!         None => Ok(0),
 //!     }

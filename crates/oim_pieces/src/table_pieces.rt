@@ -20,7 +20,7 @@ use std::marker::Model;
 use std::thread::{Scope, Threads};
 
 /// How many bytes a piece of a table has in a conversion: so many that decoding them takes far longer than starting a thread.
-pub const PIECE_SIZE: usize = 262_144;
+pub const PIECE_SIZE: usize = 131_072;
 
 /// The facts of one table that are left, piece by piece, as blocks of text. It borrows the table's report. A contract sees the table's
 /// place, and the stream that is left, where the reader tells its bytes.
@@ -42,8 +42,8 @@ impl<'a, R: Read + Drop> Model for TablePieces<'a, R> {
 
 impl<'a, R: Read + Drop> TablePieces<'a, R> {
     /// Reads the header of the table at this place of a report, past one byte-order mark, and the rows that were read with it. The rows
-    /// are at most `limits.rows`, itself at most 4,294,967,294. A piece has about `size` bytes, and fewer where the reader gives fewer at a
-    /// time; what is given is the same for each size.
+    /// are at most `limits.rows`, itself at most 4,294,967,294. A piece has about as many bytes as `helpers` says, and fewer where the reader gives fewer at a
+    /// time; what is given is the same for each size, and whoever decodes it.
     ///
     /// Fails with the header's first fault, in this order: NoHeader, UnknownHeader, RepeatedHeader,
     /// NoRowIdColumn. Fails with Read where the reader failed, and with Memory where memory is
@@ -51,11 +51,11 @@ impl<'a, R: Read + Drop> TablePieces<'a, R> {
     #[tactic(auto, using(crate::proofs::Openings::file_fault, crate::proofs::Openings::file_stream))]
     pub fn open(
         alloc: Global,
+        helpers: &'a Helpers,
         report: &'a Report,
         table: usize,
         reader: R,
         limits: Limits,
-        size: usize,
     ) -> Result<TablePieces<'a, R>, TableFault>
         requires place { table < length report.now.tables }
         requires rows { limits.rows ≤ 4294967294 }
@@ -74,7 +74,7 @@ impl<'a, R: Read + Drop> TablePieces<'a, R> {
             Ok(None) => return Err(whole_fault(table, TableKind::NoHeader)),
             Err(fault) => return Err(fault_of_read(table, fault)),
         };
-        match Flight::behind(alloc, report, table, limits.rows, head, pieces, size) {
+        match Flight::behind(alloc, helpers, report, table, limits.rows, head, pieces) {
             Ok(flight) => Ok(TablePieces {
                 alloc,
                 flight,
@@ -96,7 +96,6 @@ impl<'a, R: Read + Drop> TablePieces<'a, R> {
         &mut self,
         scope: &Scope<'a, E>,
         rt: &T,
-        helpers: &Helpers,
     ) -> Result<Option<Vec<Block>>, TableFault>
         ensures blocks { IfSome self.old.left (λ s. IfOk result (λ o. IfSome o (λ blocks.
             GivesBlock self.old.table [] s (Ok (Some (facts_of_rows blocks.items))) [] self.new.left))) }
@@ -108,9 +107,9 @@ impl<'a, R: Read + Drop> TablePieces<'a, R> {
             Some(end) => return answer_of(end),
             None => {}
         }
-        self.flight.go_ahead(scope, helpers);
-        match self.flight.join_front(rt, helpers) {
-            Some(joined) => self.give(rt, helpers, joined),
+        self.flight.go_ahead(scope);
+        match self.flight.join_front(rt) {
+            Some(joined) => self.give(rt, joined),
             None => {
                 let end = self.flight.end();
                 self.settled = Some(end);
@@ -119,11 +118,26 @@ impl<'a, R: Read + Drop> TablePieces<'a, R> {
         }
     }
 
+    /// Keeps the memory of a block that was written, for texts that are decoded later.
+    pub fn keep_room(&mut self, room: Vec<u8>)
+        ensures { self.new ≡ self.old }
+    {
+        if room.capacity() > 0 {
+            self.flight.keep_room(room);
+        }
+    }
+
+    /// Gives back a vector whose memory was kept for texts, if there is one.
+    pub fn free_room(&mut self) -> Option<Vec<u8>>
+        ensures { self.new ≡ self.old }
+    {
+        self.flight.free_room()
+    }
+
     /// The facts of a piece that was joined. Where it has a fault, the table is settled.
     fn give<T: Threads>(
         &mut self,
         rt: &T,
-        helpers: &Helpers,
         joined: JoinedPiece,
     ) -> Result<Option<Vec<Block>>, TableFault>
         ensures blocks { IfOk result (λ o. IfSome o (λ blocks.
@@ -133,23 +147,26 @@ impl<'a, R: Read + Drop> TablePieces<'a, R> {
         ensures same { self.new.table ≡ self.old.table }
     {
         if let Some(fault) = joined.fault() {
-            self.settle(rt, helpers, fault);
+            self.settle(rt, fault);
         }
         match joined.into_blocks(self.alloc) {
-            Ok(blocks) => Ok(Some(blocks)),
+            Ok(blocks) => {
+                self.flight.expect(blocks.len());
+                Ok(Some(blocks))
+            }
             Err(_) => {
                 let fault = whole_fault(self.flight.table(), TableKind::Memory);
-                self.settle(rt, helpers, fault);
+                self.settle(rt, fault);
                 Err(fault)
             }
         }
     }
 
     /// Settles the table with this fault. Nobody needs the pieces that are under way.
-    fn settle<T: Threads>(&mut self, rt: &T, helpers: &Helpers, fault: TableFault)
+    fn settle<T: Threads>(&mut self, rt: &T, fault: TableFault)
         ensures { (self.new.table ≡ self.old.table) × (self.new.left ≡ Some (ending (Some fault))) }
     {
-        self.flight.drain(rt, helpers);
+        self.flight.drain(rt);
         self.settled = Some(Some(fault));
     }
 }

@@ -184,9 +184,13 @@ impl Feed {
         self.backlog.wait(rt);
     }
 
+    /// Keeps the memory of a vector that was got by `room` and is not needed, for blocks of any table of the report.
+    pub fn give_back<R: Wait>(&self, rt: &R, room: Vec<u8>) {
+        self.backlog.keep_room(rt, room);
+    }
+
     /// A vector for the texts of a block: that of a block that any of the report's drains gave back, with
-    /// what it held, or an empty one, as always before the writer has reached this feed's table. It
-    /// allocates no memory.
+    /// what it held, or an empty one. It allocates no memory.
     pub fn room<R: Wait>(&self, rt: &R, alloc: Global) -> Vec<u8> {
         match self.backlog.kept_room(rt) {
             Some(room) => room,

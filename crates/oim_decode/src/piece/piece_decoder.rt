@@ -114,6 +114,13 @@ impl PieceDecoder<'_> {
         self.rooms.keep(room);
     }
 
+    /// Gives back a vector whose memory was kept for texts and not used, if there is one.
+    pub fn free_room(&mut self) -> Option<Vec<u8>>
+        ensures { self.new ≡ self.old }
+    {
+        self.rooms.free()
+    }
+
     /// Decodes the rows behind the header in the head of the table. The answer is as that of `decode`.
     pub fn decode_head(&mut self, head: &TableHead) -> PieceAnswer
         ensures answer { IsDecoded self.old.reading 1 (drop 1 head.now) result }
@@ -137,7 +144,7 @@ impl PieceDecoder<'_> {
         ensures numbers { first + length result.ids ≤ 4294967296 }
         ensures reading { self.new.reading ≡ self.old.reading }
     {
-        let mut answer = PieceAnswer::new(self.alloc);
+        let mut answer = PieceAnswer::within(self.alloc, self.rooms.take(self.alloc));
         let mut number = first;
         for _ in 0..u64::MAX {
             if !self.next_row(number, &mut answer) {

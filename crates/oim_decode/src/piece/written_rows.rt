@@ -75,6 +75,17 @@ impl WrittenRows {
         }
     }
 
+    /// No rows, whose texts are put to `room`. It takes no memory.
+    pub(crate) fn within(alloc: Global, room: Vec<u8>) -> WrittenRows
+        ensures { result ≡ [] }
+    {
+        WrittenRows {
+            facts: PendingFacts::within(alloc, room),
+            ends: Vec::new(alloc),
+            rows: none(),
+        }
+    }
+
     /// No rows, with memory for as many texts as these have, that of `room` first. Fails where memory is short.
     pub(crate) fn like(&self, alloc: Global, room: Vec<u8>) -> Result<WrittenRows, AllocError>
         ensures { IfOk result (λ rows. rows ≡ []) }
