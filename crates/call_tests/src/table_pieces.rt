@@ -13,6 +13,7 @@ use std::thread::{Scope, Threads};
 /// The number of blocks in the first piece of a report's first table, whose file has these bytes.
 fn first_piece<'s, E, T: Threads>(
     scope: &Scope<'s, E>,
+    helpers: &'s Helpers,
     rt: &T,
     alloc: Global,
     report: &'s Report,
@@ -22,9 +23,8 @@ fn first_piece<'s, E, T: Threads>(
         return Ok(0);
     }
     let limits = Limits::profile();
-    let mut table = TablePieces::open(alloc, report, 0, file, limits, PIECE_SIZE)?;
-    let helpers = Helpers::new(1, 4);
-    match table.next_blocks(scope, rt, &helpers)? {
+    let mut table = TablePieces::open(alloc, helpers, report, 0, file, limits)?;
+    match table.next_blocks(scope, rt)? {
         Some(blocks) => Ok(blocks.len()),
         None => Ok(0),
     }
@@ -38,8 +38,10 @@ fn has_blocks(
     blocks: usize,
 ) -> bool {
     let alloc = rt.alloc();
+    let helpers = Helpers::new(4, PIECE_SIZE);
+    let shared = &helpers;
     let given = thread::scope(thread::scope_env(), rt, move |scope| {
-        first_piece(scope, rt, alloc, report, file)
+        first_piece(scope, shared, rt, alloc, report, file)
     });
     matches!(given, Ok(count) if count == blocks)
 }
@@ -47,7 +49,7 @@ fn has_blocks(
 #[test]
 fn calls_of_table_pieces(rt: HostRuntime) -> Result<(), Fail> {
     let report = report_of(rt.alloc(), &[])?;
-    assert!(rt; Helpers::new(1, 2).are_idle());
+    assert!(rt; !Helpers::new(2, PIECE_SIZE).is_alone());
     assert!(rt; has_blocks(&rt, &report, b"cash\n1\n", 1));
     Ok(())
 }

@@ -36,28 +36,25 @@ fn put_blocks(document: &mut Vec<u8>, blocks: &[Block]) -> Result<(), AllocError
     Ok(())
 }
 
-/// The size of the pieces, and the number of workers, of which one has the table and the others are idle.
-type Way = (usize, usize);
-
 /// Adds the facts of a report's first table to the beginning of a document, piece by piece. Tells whether the table has no fault.
 fn put_table<'s, E, T: Threads>(
     scope: &Scope<'s, E>,
     rt: &T,
     alloc: Global,
+    helpers: &'s Helpers,
     report: &'s Report,
     file: Steps<'_>,
-    way: Way,
     document: &mut Vec<u8>,
 ) -> Result<bool, AllocError> {
     if report.tables() == 0 {
         return Ok(false);
     }
-    let Ok(mut table) = TablePieces::open(alloc, report, 0, file, Limits::profile(), way.0) else {
+    let limits = Limits::profile();
+    let Ok(mut table) = TablePieces::open(alloc, helpers, report, 0, file, limits) else {
         return Ok(false);
     };
-    let helpers = Helpers::new(1, way.1);
     for _ in 0..u64::MAX {
-        match table.next_blocks(scope, rt, &helpers) {
+        match table.next_blocks(scope, rt) {
             Ok(Some(blocks)) => put_blocks(document, blocks.as_slice())?,
             Ok(None) => return Ok(true),
             Err(_) => return Ok(false),
@@ -69,17 +66,18 @@ fn put_table<'s, E, T: Threads>(
 /// Whether a table gives this beginning of a document.
 fn is_begun(
     rt: &(impl AllocGlobal + Threads + Wait + Sync),
+    helpers: Helpers,
     report: &Report,
     file: Steps<'_>,
-    way: Way,
     expected: &[u8],
 ) -> Result<bool, AllocError> {
     let alloc = rt.alloc();
     let mut document = Vec::new(alloc);
     document.extend_from_slice(HEAD.as_bytes())?;
     let lent = &mut document;
+    let shared = &helpers;
     let is_good = thread::scope(thread::scope_env(), rt, move |scope| {
-        put_table(scope, rt, alloc, report, file, way, lent)
+        put_table(scope, rt, alloc, shared, report, file, lent)
     })?;
     Ok(is_good && document.as_slice() == expected)
 }
@@ -95,8 +93,10 @@ fn pieces_of_each_size(rt: HostRuntime) -> Result<(), Fail> {
     for (step, size) in SIZES {
         let bytes = text.as_bytes();
         let file = Steps { bytes, step: *step };
-        assert!(rt; is_begun(&rt, &report, file, (*size, 1), expected.as_bytes())?);
-        assert!(rt; is_begun(&rt, &report, file, (*size, 4), expected.as_bytes())?);
+        for workers in [1, 4] {
+            let helpers = Helpers::new(workers, *size);
+            assert!(rt; is_begun(&rt, helpers, &report, file, expected.as_bytes())?);
+        }
     }
     Ok(())
 }

@@ -33,7 +33,10 @@ pub(crate) fn open_lanes<R: Drop>(
     ensures count { IfOk result (λ r. length r.1.items ≡ length r.0.items) }
     ensures sizes { IfOk result (λ r. All (λ job. job.feed.size ≡ size) r.0.items) }
 {
-    let mut lanes = Lanes::new(alloc, size.saturating_mul(FULL_RINGS * FULL_BLOCK).min(MOST_AHEAD))?;
+    let mut lanes = Lanes::new(
+        alloc,
+        size.saturating_mul(FULL_RINGS * FULL_BLOCK).min(MOST_AHEAD),
+    )?;
     let helpers = Arc::new(alloc, Helpers::new(workers, PIECE_SIZE))?;
     let mut jobs = Vec::new(alloc);
     let mut drains = Vec::new(alloc);

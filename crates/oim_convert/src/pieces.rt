@@ -104,11 +104,25 @@ fn send_pieces<'s, E, R: Read + Drop, T: Threads + Wait>(
     } = file;
     match TablePieces::open(alloc, helpers, report, table, reader, limits) {
         Ok(mut pieces) => {
-            let ending = send_left(scope, rt, alloc, &mut pieces, helpers, feed);
+            take_rooms(rt, &mut pieces, feed);
+            let ending = send_left(scope, rt, &mut pieces, helpers, feed);
             give_back_rooms(rt, &mut pieces, feed);
             ending
         }
         Err(fault) => Ending::Refused(fault),
+    }
+}
+
+/// Takes memory for the texts of the next pieces, as far as blocks that were written gave it back.
+fn take_rooms<R: Read + Drop, T: Wait>(rt: &T, pieces: &mut TablePieces<'_, R>, feed: &mut Feed)
+    ensures feed { feed.new ≡ feed.old }
+    ensures pieces { pieces.new ≡ pieces.old }
+{
+    for _ in 0..pieces.wanted_rooms() {
+        match feed.kept_room(rt) {
+            Some(room) => pieces.keep_room(room),
+            None => return,
+        }
     }
 }
 
@@ -133,7 +147,6 @@ fn give_back_rooms<R: Read + Drop, T: Wait>(
 fn send_left<'s, E, R: Read + Drop, T: Threads + Wait>(
     scope: &Scope<'s, E>,
     rt: &T,
-    alloc: Global,
     pieces: &mut TablePieces<'s, R>,
     helpers: &Helpers,
     feed: &mut Feed,
@@ -144,7 +157,10 @@ fn send_left<'s, E, R: Read + Drop, T: Threads + Wait>(
 {
     for _ in rt.forever() {
         match pieces.next_blocks(scope, rt) {
-            Ok(Some(blocks)) => put_all(rt, alloc, pieces, helpers, feed, blocks),
+            Ok(Some(blocks)) => {
+                put_all(rt, helpers, feed, blocks);
+                take_rooms(rt, pieces, feed);
+            }
             Ok(None) => return Ending::Closed,
             Err(fault) => return Ending::Refused(fault),
         }
@@ -152,22 +168,13 @@ fn send_left<'s, E, R: Read + Drop, T: Threads + Wait>(
     unreachable!()
 }
 
-/// Sends blocks, one after another. The memory of blocks that were written goes to later pieces.
+/// Sends blocks, one after another.
 #[tactic(auto, using(crate::proofs::PutBlocks::all_put))]
-fn put_all<R: Read + Drop, T: Wait>(
-    rt: &T,
-    alloc: Global,
-    pieces: &mut TablePieces<'_, R>,
-    helpers: &Helpers,
-    feed: &mut Feed,
-    blocks: Vec<Block>,
-)
+fn put_all<T: Wait>(rt: &T, helpers: &Helpers, feed: &mut Feed, blocks: Vec<Block>)
     ensures ring { feed.new.ring ≡ feed.old.ring }
     ensures sent { facts_in feed.new.sent ≡ facts_in feed.old.sent ++ facts_of_rows blocks.items }
-    ensures pieces { pieces.new ≡ pieces.old }
 {
     for block in blocks {
         put_waiting(rt, helpers, feed, block);
-        pieces.keep_room(feed.room(rt, alloc));
     }
 }

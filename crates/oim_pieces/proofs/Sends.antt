@@ -10,6 +10,8 @@ use Rattle.oim_report.proofs.data.Column.TheSendSync as column
 use Rattle.oim_report.specs.contracts.data.Column as Column
 use Rattle.oim_resolve.proofs.plan.Plan.TheSendSync as plan
 use Rattle.oim_resolve.specs.contracts.plan.Plan as Plan
+use Rattle.oim_pieces.proofs.helpers.Helpers.TheSendSync as helpers
+use Rattle.oim_pieces.specs.contracts.helpers.Helpers as Helpers
 use Rattle.oim_rows.proofs.form.RowForm.TheSendSync as form
 use Rattle.oim_rows.proofs.ids.RowIds.TheSendSync as ids
 use Rattle.oim_rows.specs.contracts.form.RowForm as Form
@@ -39,6 +41,9 @@ writer_send a = writer.the_send a
 
 records_send : IsSend Records.the_row
 records_send = records.the_send
+
+pub helpers_sync : IsSync Helpers.the_row
+helpers_sync = helpers.the_sync
 
 ids_send : IsSend Ids.the_row
 ids_send = ids.the_send

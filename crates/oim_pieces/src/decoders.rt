@@ -8,6 +8,9 @@ use oim_report::Report;
 use std::alloc::Global;
 use std::marker::Model;
 
+/// How many vectors the texts of the first piece of a table are thought to take.
+const FIRST_GUESS: usize = 24;
+
 /// The head of a table, and decoders of its pieces that no thread has. A contract sees how the table's rows are read.
 #[derive(Drop)]
 pub(crate) struct Decoders<'a> {
@@ -60,7 +63,7 @@ impl<'a> Decoders<'a> {
             head,
             spare: Vec::new(alloc),
             rooms: Vec::new(alloc),
-            usual: 0,
+            usual: FIRST_GUESS,
             bytes: None,
         }
     }
@@ -106,13 +109,20 @@ impl<'a> Decoders<'a> {
         self.usual = count;
     }
 
+    /// How many vectors more would serve for the texts of two pieces. No contract says so.
+    pub(crate) fn wanted(&self) -> usize {
+        self.usual
+            .saturating_mul(2)
+            .saturating_sub(self.rooms.len())
+    }
+
     /// Gives a decoder memory for the texts of a piece, of that which was kept.
     pub(crate) fn lend_rooms(&mut self, decoder: &mut PieceDecoder<'a>)
         ensures decoder { decoder.new ≡ decoder.old }
         ensures same { self.new ≡ self.old }
     {
         for _ in 0..self.usual {
-            match self.rooms.pop() {
+            match self.free_room() {
                 Some(room) => decoder.keep_room(room),
                 None => return,
             }
@@ -120,7 +130,7 @@ impl<'a> Decoders<'a> {
     }
 
     /// Takes back the memory for texts that a decoder did not use.
-    pub(crate) fn take_rooms(&mut self, decoder: &mut PieceDecoder<'a>)
+    fn take_rooms(&mut self, decoder: &mut PieceDecoder<'a>)
         ensures decoder { decoder.new ≡ decoder.old }
         ensures same { self.new ≡ self.old }
     {
@@ -139,13 +149,6 @@ impl<'a> Decoders<'a> {
         self.rooms.pop()
     }
 
-    /// Keeps the memory of a piece that was decoded.
-    pub(crate) fn keep_bytes(&mut self, bytes: Vec<u8>)
-        ensures { self.new ≡ self.old }
-    {
-        self.bytes = Some(bytes);
-    }
-
     /// The memory of a piece that was decoded, if some is kept.
     pub(crate) fn free_bytes(&mut self) -> Option<Vec<u8>>
         ensures { self.new ≡ self.old }
@@ -159,8 +162,24 @@ impl<'a> Decoders<'a> {
         ensures { self.new ≡ self.old }
     {
         let mut decoder = decoder;
-        self.take_rooms(&mut decoder);
-        self.keep_bytes(decoder.take_room());
+        self.take_memory(&mut decoder);
+        self.push_spare(decoder);
+    }
+
+    /// Takes back the memory that a decoder keeps, of the piece that it decoded and for texts.
+    pub(crate) fn take_memory(&mut self, decoder: &mut PieceDecoder<'a>)
+        ensures reading { decoder.new.reading ≡ decoder.old.reading }
+        ensures same { self.new ≡ self.old }
+    {
+        self.take_rooms(decoder);
+        self.bytes = Some(decoder.take_room());
+    }
+
+    /// Keeps a decoder that no thread has. Where memory is short, it is dropped.
+    fn push_spare(&mut self, decoder: PieceDecoder<'a>)
+        requires { decoder.reading ≡ self.old }
+        ensures { self.new ≡ self.old }
+    {
         if self.spare.reserve(1).is_ok() {
             self.spare.push_reserved(decoder);
         }

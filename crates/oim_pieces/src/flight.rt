@@ -149,6 +149,11 @@ impl<'a, R: Read + Drop> Flight<'a, R> {
         self.decoders.expect(count);
     }
 
+    /// How many vectors more would serve for the texts of the next pieces. No contract says so.
+    pub(crate) fn wanted_rooms(&self) -> usize {
+        self.decoders.wanted()
+    }
+
     /// Gives back a vector whose memory was kept for texts, if there is one.
     pub(crate) fn free_room(&mut self) -> Option<Vec<u8>>
         ensures { self.new ≡ self.old }

@@ -95,8 +95,7 @@ fn decode_here<'a>(
     let asked = Asked::of(decoder.form(), &bytes, first);
     decoders.lend_rooms(decoder);
     let answer = decoder.decode(bytes, first);
-    decoders.take_rooms(decoder);
-    decoders.keep_bytes(decoder.take_room());
+    decoders.take_memory(decoder);
     Flying::here(asked, answer)
 }
 

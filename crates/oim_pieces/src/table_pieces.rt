@@ -122,9 +122,12 @@ impl<'a, R: Read + Drop> TablePieces<'a, R> {
     pub fn keep_room(&mut self, room: Vec<u8>)
         ensures { self.new ≡ self.old }
     {
-        if room.capacity() > 0 {
-            self.flight.keep_room(room);
-        }
+        self.flight.keep_room(room);
+    }
+
+    /// How many vectors more would serve for the texts of the next pieces. No contract says so.
+    pub fn wanted_rooms(&self) -> usize {
+        self.flight.wanted_rooms()
     }
 
     /// Gives back a vector whose memory was kept for texts, if there is one.

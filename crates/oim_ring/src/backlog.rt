@@ -30,10 +30,10 @@ use std::sync::atomic::{AtomicBool, AtomicUsize, Ordering};
 use std::sync::{Arc, Wait};
 
 /// The most vectors that are kept for new blocks.
-const MOST_ROOMS: usize = 128;
+const MOST_ROOMS: usize = 96;
 
 /// The largest vector that is kept, in bytes.
-const LARGEST_ROOM: usize = 131_072;
+const LARGEST_ROOM: usize = 262_144;
 
 /// How many places there are at which feeds sleep.
 const PLACES: usize = 64;

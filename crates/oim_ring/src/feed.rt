@@ -189,6 +189,11 @@ impl Feed {
         self.backlog.keep_room(rt, room);
     }
 
+    /// A vector that has memory, of a block that any of the report's drains gave back, with what it held, if there is one.
+    pub fn kept_room<R: Wait>(&self, rt: &R) -> Option<Vec<u8>> {
+        self.backlog.kept_room(rt)
+    }
+
     /// A vector for the texts of a block: that of a block that any of the report's drains gave back, with
     /// what it held, or an empty one. It allocates no memory.
     pub fn room<R: Wait>(&self, rt: &R, alloc: Global) -> Vec<u8> {

@@ -64,17 +64,6 @@ fn facts_before(ends: &[usize], count: usize) -> usize
 }
 
 impl WrittenRows {
-    /// No rows. It takes no memory.
-    pub(crate) fn new(alloc: Global) -> WrittenRows
-        ensures { result ≡ [] }
-    {
-        WrittenRows {
-            facts: PendingFacts::new(alloc),
-            ends: Vec::new(alloc),
-            rows: none(),
-        }
-    }
-
     /// No rows, whose texts are put to `room`. It takes no memory.
     pub(crate) fn within(alloc: Global, room: Vec<u8>) -> WrittenRows
         ensures { result ≡ [] }

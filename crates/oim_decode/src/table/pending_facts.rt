@@ -53,6 +53,16 @@ impl Tells<Items<Fact>> for RowNote<'_, '_, '_> {
     ghost told = { λ t. facts_in (facts_of_row t.row.now) };
 }
 
+/// The empty text in the memory of `room`. It takes no memory.
+fn no_text(alloc: Global, room: Vec<u8>) -> TextBuffer
+    ensures { result.items ≡ [] }
+{
+    match TextBuffer::within(room, 0) {
+        Ok(bytes) => bytes,
+        Err(_) => TextBuffer::new(alloc),
+    }
+}
+
 impl PendingFacts {
     /// No facts. It takes no memory.
     pub(crate) fn new(alloc: Global) -> PendingFacts
@@ -70,10 +80,7 @@ impl PendingFacts {
         ensures { result ≡ [] }
     {
         PendingFacts {
-            bytes: match TextBuffer::within(room, 0) {
-                Ok(bytes) => bytes,
-                Err(_) => TextBuffer::new(alloc),
-            },
+            bytes: no_text(alloc, room),
             ends: Vec::new(alloc),
             facts: none(),
         }

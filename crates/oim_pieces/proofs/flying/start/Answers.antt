@@ -1,11 +1,11 @@
 use denote.Param.Send.{sendable}
 use Rattle.std.proofs.Common.{ap, sym, ◌∙◌}
 use Rattle.std.proofs.Crossing.{crosses}
-use Rattle.oim_pieces.proofs.Sends.{answer_send, decoder_send}
+use Rattle.oim_pieces.proofs.Sends.{answer_send, decoder_send, helpers_sync}
 use Rattle.oim_pieces.proofs.flying.start.Goals as goal
 
 pub spawn_with-requires-send-F : goal.spawn_with-requires-send-F
-spawn_with-requires-send-F g c κs within = search (sendable, crosses, decoder_send) depth 24
+spawn_with-requires-send-F g c κs within = search (sendable, crosses, decoder_send, helpers_sync) depth 24
 
 pub spawn_with-requires-send-T : goal.spawn_with-requires-send-T
 spawn_with-requires-send-T g c κs within = search (sendable, crosses, decoder_send, answer_send) depth 24

@@ -1,7 +1,7 @@
 use Rattle.std.proofs.Common.{◌∙◌, ◌++◌, ◌∷◌, [], ap, sym}
 use Rattle.oim_decode.specs.Heads.{reading_in}
 use Rattle.oim_pieces.proofs.SpareLaws.{kept_read}
-use Rattle.oim_pieces.proofs.decoders.Decoders.keep.Goals as goal
+use Rattle.oim_pieces.proofs.decoders.Decoders.push_spare.Goals as goal
 
 pub invariant_of-self : goal.invariant_of-self
 invariant_of-self c =

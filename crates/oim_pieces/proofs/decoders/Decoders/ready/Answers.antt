@@ -1,7 +1,7 @@
 use Rattle.std.proofs.Common.{◌∙◌}
 use Rattle.oim_decode.specs.Heads.{reading_in}
 use Rattle.oim_pieces.proofs.SpareLaws.{others_read, taken_reads}
-use Rattle.oim_pieces.proofs.decoders.Decoders.take.Goals as goal
+use Rattle.oim_pieces.proofs.decoders.Decoders.ready.Goals as goal
 
 pub invariant_of-self : goal.invariant_of-self
 invariant_of-self c =
