@@ -30,6 +30,29 @@ fn first_piece<'s, E, T: Threads>(
     }
 }
 
+/// Whether a count of two workers, and one of one, say who can help.
+fn counts() -> bool {
+    let helpers = Helpers::new(2, PIECE_SIZE);
+    helpers.start();
+    helpers.rest();
+    !helpers.is_alone() && Helpers::new(1, PIECE_SIZE).is_alone()
+}
+
+/// Whether a table gives back the memory that it was given for texts, and asks for more before.
+fn keeps_rooms(alloc: Global, report: &Report, file: &[u8]) -> bool {
+    if report.tables() == 0 {
+        return false;
+    }
+    let helpers = Helpers::new(4, PIECE_SIZE);
+    let limits = Limits::profile();
+    let Ok(mut table) = TablePieces::open(alloc, &helpers, report, 0, file, limits) else {
+        return false;
+    };
+    let asks = table.wanted_rooms() > 0;
+    table.keep_room(Vec::new(alloc));
+    asks && table.free_room().is_some() && table.free_room().is_none()
+}
+
 /// Whether the first piece of a table has this many blocks.
 fn has_blocks(
     rt: &(impl AllocGlobal + Threads + Wait + Sync),
@@ -49,7 +72,8 @@ fn has_blocks(
 #[test]
 fn calls_of_table_pieces(rt: HostRuntime) -> Result<(), Fail> {
     let report = report_of(rt.alloc(), &[])?;
-    assert!(rt; !Helpers::new(2, PIECE_SIZE).is_alone());
+    assert!(rt; counts());
+    assert!(rt; keeps_rooms(rt.alloc(), &report, b"cash\n1\n"));
     assert!(rt; has_blocks(&rt, &report, b"cash\n1\n", 1));
     Ok(())
 }

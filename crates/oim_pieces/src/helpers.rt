@@ -2,6 +2,9 @@
 
 use std::sync::atomic::{AtomicUsize, Ordering};
 
+/// The most pieces of a table that are under way at once, whatever the number of workers, so that they take little memory.
+const MOST_UNDER_WAY: usize = 16;
+
 /// How the pieces of a report's tables are shared out: about how many bytes a piece has, and how many threads are at work, which are
 /// workers that do not wait and threads that decode pieces. No contract says anything about it.
 #[derive(Drop)]
@@ -53,7 +56,7 @@ impl Helpers {
 
     /// How many pieces of a table may be under way at once.
     pub(crate) fn window(&self) -> usize {
-        self.workers.saturating_add(1)
+        self.places().min(MOST_UNDER_WAY)
     }
 
     /// Takes a place for a thread, if there is one. It is to be given back.
