@@ -1,5 +1,6 @@
 //! Tests of conversions, with readers and writers of their own: readers that fail at each place of a file or never end,
-//! tables that wait for one another, writers with room for each number of bytes, workers that are not started, and full rings.
+//! tables that wait for one another, writers with room for each number of bytes, workers that are not started, full rings, and
+//! a table in pieces of each size.
 //!
 //! What a report of files shows as well is left to the scripts over the built program.
 #![tactic(auto)]
@@ -8,6 +9,8 @@
 mod ending;
 #[cfg(test)]
 mod report;
+#[cfg(test)]
+mod tests_pieces;
 #[cfg(test)]
 mod tests_readers;
 #[cfg(test)]

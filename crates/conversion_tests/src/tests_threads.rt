@@ -154,11 +154,12 @@ impl Write for Counting<'_> {
     }
 }
 
-/// Whether one worker converts a table of two halves, which ends only once a member is written, to this document.
+/// Whether this many workers convert a table of two halves, which ends only once a member is written, to this document.
 fn converts_late(
     rt: &(impl AllocGlobal + Threads + Wait + Sync),
     report: &Report,
     file: &[u8],
+    workers: usize,
     expected: &[u8],
 ) -> Result<bool, AllocError> {
     let count = AtomicUsize::new(0);
@@ -174,7 +175,7 @@ fn converts_late(
     let taken = Vec::new(rt.alloc());
     let mut writer = Counting { taken, written };
     let limits = Limits::profile();
-    let way = all_of(1, 1024);
+    let way = all_of(workers, 1024);
     let end = MergeEnd::Complete;
     let is_whole = ends_so(rt, report, readers, way, limits, &mut writer, &[], end);
     Ok(is_whole && writer.taken.as_slice() == expected)
@@ -185,6 +186,8 @@ fn members_are_written_before_their_table_ends(rt: HostRuntime) -> Result<(), Fa
     let report = report_of(rt.alloc(), 1)?;
     let file = file_of(rt.alloc(), 1200)?;
     let expected = document_of(rt.alloc(), 1, 1200, TAIL)?;
-    assert!(rt; converts_late(&rt, &report, file.as_bytes(), expected.as_bytes())?);
+    for workers in [1, 4] {
+        assert!(rt; converts_late(&rt, &report, file.as_bytes(), workers, expected.as_bytes())?);
+    }
     Ok(())
 }

@@ -76,27 +76,27 @@ module _ {R : Type 0} (room : ReturnRoom R) where
   slot_in_use closed used r = let e : None ∷ Some closed ∷ [] ≡ None ∷ None ∷ [] = sym used ∙ r.slots in cc
 
 -- JOBS of two tables, and the drains of their rings
-abbrev job : {R : Type 0} → ℕ → Ring → List Item → Job R
-job table ring sent = record { table = table; reader = None; feed = record { ring = ring; size = 4; sent = sent } }
+abbrev job : {R : Type 0} → Job R → ℕ → Ring → List Item → Job R
+job some table ring sent = record some { table = table; reader = None; feed = record { ring = ring; size = 4; sent = sent } }
 
 abbrev drain : Ring → List Item → DrainView
 drain ring taken = record { ring = ring; taken = taken }
 
-module _ {R : Type 0} (a b : Ring) where
+module _ {R : Type 0} (some : Job R) (a b : Ring) where
   abbrev plan : List (Job R)
-  plan = job 0 a [] ∷ job 1 b [] ∷ []
+  plan = job some 0 a [] ∷ job some 1 b [] ∷ []
 
-  opened : IsOpened 1 (job {R = R} 1 b [])
+  opened : IsOpened 1 (job some 1 b [])
   opened = record { numbered = refl; fresh = refl }
 
-  opened_for_another : IsOpened 0 (job {R = R} 1 b []) → ⊥
+  opened_for_another : IsOpened 0 (job some 1 b []) → ⊥
   opened_for_another it = let e = it.numbered in cc
 
-  opened_and_used : IsOpened 1 (job {R = R} 1 b (Ending Closed ∷ [])) → ⊥
+  opened_and_used : IsOpened 1 (job some 1 b (Ending Closed ∷ [])) → ⊥
   opened_and_used it = let e = it.fresh in cc
 
   lane : IsLane plan 1 (drain b [])
-  lane = record { job = job 1 b []; planned = refl; ring = refl; fresh = refl }
+  lane = record { job = job some 1 b []; planned = refl; ring = refl; fresh = refl }
 
   lane_of_no_table : IsLane plan 2 (drain b []) → ⊥
   lane_of_no_table it = let e = it.planned in cc

@@ -2,6 +2,7 @@ pub mod TableFiles
 pub mod StreamHistories
 pub mod SerialTables
 pub mod SentFacts
+pub mod PutBlocks
 pub mod OpeningLanes
 pub mod SlotsAndLists
 pub mod WrittenBack

@@ -6,6 +6,7 @@ pub mod Steps
 pub mod Serial
 pub mod Served
 pub mod Histories
+pub mod TableFiles
 pub mod Jobs
 pub mod Runs
 pub mod Identifiers

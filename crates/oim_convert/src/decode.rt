@@ -4,20 +4,25 @@ ghost use Rattle.std.specs.Prelude.{◌≡◌, ◌≤◌, ◌<◌, ℕ, List, []
 ghost use Rattle.oim_convert.specs.Answer.{ending_of};
 ghost use Rattle.oim_convert.specs.Files.{IsFileOf};
 ghost use Rattle.oim_convert.specs.Histories.{IsDecoded, IsGiven, facts_in};
+ghost use Rattle.oim_convert.specs.TableFiles.{IsSentOfFile, IsTableFile};
 ghost use Rattle.oim_ring.specs.declared.item.Ending.TheVariants.{Refused};
 ghost use Rattle.oim_rows.specs.Header.{file_fault};
 ghost use Rattle.oim_rows.specs.Streams.{table_stream};
 ghost use Rattle.oim_rows.specs.declared.fault.TableKind.TheVariants as kind;
 
 use crate::job::Job;
+use crate::pieces::send_table;
 use crate::sending::{close_waiting, put_waiting};
+use crate::table_file::TableFile;
 use oim_decode::TableBlocks;
+use oim_pieces::Helpers;
 use oim_report::{Limits, Report};
 use oim_ring::{Closed, Ending, Feed};
 use oim_rows::{TableFault, TableKind};
 use std::alloc::Global;
 use std::io::Read;
 use std::sync::Wait;
+use std::thread::Threads;
 
 /// The ending of a table that is refused as a whole.
 pub(crate) fn refused(table: usize, kind: TableKind) -> Ending
@@ -33,7 +38,7 @@ pub(crate) fn refused(table: usize, kind: TableKind) -> Ending
 
 /// Decodes a table: sends its facts, and closes its feed with its ending. `None` if the token of the
 /// feed is lost.
-pub(crate) fn decode<R: Read + Drop, T: Wait>(
+pub(crate) fn decode<R: Read + Drop, T: Threads + Wait>(
     rt: &T,
     alloc: Global,
     report: &Report,
@@ -51,11 +56,22 @@ pub(crate) fn decode<R: Read + Drop, T: Wait>(
         table,
         reader,
         mut feed,
+        helpers,
     } = job;
+    helpers.start();
     let ending = match reader {
         None => without_file(report, table),
-        Some(reader) => send_file(rt, alloc, report, table, reader, limits, &mut feed),
+        Some(reader) => {
+            let file = TableFile {
+                report,
+                table,
+                reader,
+                limits,
+            };
+            send_table(rt, alloc, file, &helpers, &mut feed)
+        }
     };
+    helpers.rest();
     close_waiting(rt, feed, ending)
 }
 
@@ -71,23 +87,26 @@ pub(crate) fn without_file(report: &Report, table: usize) -> Ending
 }
 
 /// Sends the facts of a table's file, and gives the table's ending.
-fn send_file<R: Read + Drop, T: Wait>(
+pub(crate) fn send_file<R: Read + Drop, T: Wait>(
     rt: &T,
     alloc: Global,
-    report: &Report,
-    table: usize,
-    reader: R,
-    limits: Limits,
+    file: TableFile<'_, R>,
+    helpers: &Helpers,
     feed: &mut Feed,
 ) -> Ending
-    requires place { table < length report.now.tables }
-    requires rows { limits.rows ≤ 4294967294 }
+    requires file { IsTableFile file }
     requires fresh { feed.old.sent ≡ [] }
     ensures ring { feed.new.ring ≡ feed.old.ring }
-    ensures given { IfSome (R.remaining reader) (λ bytes. IsGiven table (table_stream report.now table limits.rows (Some bytes)) (facts_in feed.new.sent) result) }
+    ensures given { IsSentOfFile R.remaining file.entry (facts_in feed.new.sent) result }
 {
+    let TableFile {
+        report,
+        table,
+        reader,
+        limits,
+    } = file;
     match TableBlocks::open(alloc, report, table, reader, limits) {
-        Ok(mut blocks) => send_blocks(rt, alloc, &mut blocks, feed),
+        Ok(mut blocks) => send_blocks(rt, alloc, &mut blocks, helpers, feed),
         Err(fault) => Ending::Refused(fault),
     }
 }
@@ -97,6 +116,7 @@ fn send_blocks<R: Read + Drop, T: Wait>(
     rt: &T,
     alloc: Global,
     blocks: &mut TableBlocks<'_, R>,
+    helpers: &Helpers,
     feed: &mut Feed,
 ) -> Ending
     requires begun { blocks.old.pending ≡ [] }
@@ -106,7 +126,7 @@ fn send_blocks<R: Read + Drop, T: Wait>(
 {
     for _ in rt.forever() {
         match blocks.next_block(feed.room(rt, alloc)) {
-            Ok(Some(block)) => put_waiting(rt, feed, block),
+            Ok(Some(block)) => put_waiting(rt, helpers, feed, block),
             Ok(None) => return Ending::Closed,
             Err(fault) => return Ending::Refused(fault),
         }

@@ -1,13 +1,16 @@
 //! The job that a worker draws, and the receipt that it gives for it.
 
+use oim_pieces::Helpers;
 use oim_ring::{Closed, Feed};
+use std::sync::Arc;
 
-/// A table to decode: its place in the report, its reader if it has a file, and the feed of its ring.
+/// A table to decode: its place in the report, its reader if it has a file, the feed of its ring, and the count of idle workers.
 #[derive(Drop)]
 pub(crate) struct Job<R> {
     pub(crate) table: usize,
     pub(crate) reader: Option<R>,
     pub(crate) feed: Feed,
+    pub(crate) helpers: Arc<Helpers>,
 }
 
 /// The receipt for a table: its place in the report, and the token of its closed feed, or `None` if

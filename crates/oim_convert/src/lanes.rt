@@ -5,19 +5,25 @@ ghost use Rattle.oim_convert.specs.Jobs.{Each, IsLane, IsOpened};
 ghost use Rattle.oim_ring.specs.Limits.{IsRingSize};
 
 use crate::job::Job;
+use oim_pieces::{Helpers, PIECE_SIZE};
 use oim_ring::{Drain, Lanes};
 use std::alloc::{AllocError, Global};
+use std::sync::Arc;
 
 /// As many facts as fill this many rings may wait in all rings together.
 const FULL_RINGS: usize = 4;
 
+/// The most facts that may wait in all rings together, but for those of the table that is written.
+const MOST_AHEAD: usize = 16_384;
+
 /// How many facts a full block has.
 const FULL_BLOCK: usize = 256;
 
-/// A job and a drain for each reader, in order. Nothing was sent or taken yet.
+/// A job and a drain for each reader, in order, for this many workers and rings of this size. Nothing was sent or taken yet.
 pub(crate) fn open_lanes<R: Drop>(
     alloc: Global,
     readers: Vec<Option<R>>,
+    workers: usize,
     size: usize,
 ) -> Result<(Vec<Job<R>>, Vec<Drain>), AllocError>
     requires { IsRingSize size }
@@ -27,16 +33,22 @@ pub(crate) fn open_lanes<R: Drop>(
     ensures count { IfOk result (λ r. length r.1.items ≡ length r.0.items) }
     ensures sizes { IfOk result (λ r. All (λ job. job.feed.size ≡ size) r.0.items) }
 {
-    let mut lanes = Lanes::new(alloc, size.saturating_mul(FULL_RINGS * FULL_BLOCK))?;
+    let mut lanes = Lanes::new(
+        alloc,
+        size.saturating_mul(FULL_RINGS * FULL_BLOCK).min(MOST_AHEAD),
+    )?;
+    let helpers = Arc::new(alloc, Helpers::new(workers, PIECE_SIZE))?;
     let mut jobs = Vec::new(alloc);
     let mut drains = Vec::new(alloc);
     for reader in readers {
         let table = jobs.len();
         let (feed, drain) = lanes.open(alloc, size)?;
+        let shared = Arc::try_clone(&helpers)?;
         jobs.push(Job {
             table,
             reader,
             feed,
+            helpers: shared,
         })?;
         drains.push(drain)?;
     }

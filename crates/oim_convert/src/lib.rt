@@ -66,6 +66,7 @@ mod job;
 mod lanes;
 mod laws;
 mod limits;
+mod pieces;
 mod returning;
 mod run;
 mod scope;
@@ -73,6 +74,7 @@ mod sending;
 mod serial;
 mod server;
 mod slots;
+mod table_file;
 mod threaded;
 
 pub use fault::ConvertFault;

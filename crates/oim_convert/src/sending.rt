@@ -5,22 +5,27 @@ ghost use Rattle.oim_ring.specs.Items.{blocks_only};
 ghost use Rattle.oim_ring.specs.declared.item.Item.TheVariants as items;
 
 use oim_json::Block;
+use oim_pieces::Helpers;
 use oim_ring::{CloseFault, Closed, Ending, Feed};
 use std::sync::Wait;
 
-/// Sends a block once it is the feed's turn, trying again while the ring is full.
-pub(crate) fn put_waiting<T: Wait>(rt: &T, feed: &mut Feed, block: Block)
+/// Sends a block once it is the feed's turn, trying again while the ring is full. While it waits, its worker rests.
+pub(crate) fn put_waiting<T: Wait>(rt: &T, helpers: &Helpers, feed: &mut Feed, block: Block)
     ensures ring { feed.new.ring ≡ feed.old.ring }
     ensures sent { feed.new.sent ≡ feed.old.sent ++ items.Block block ∷ [] }
 {
     let mut block = block;
     for _ in rt.forever() {
+        helpers.rest();
         feed.wait_for_turn(rt);
+        helpers.start();
         match feed.put(block) {
             Ok(()) => return,
             Err(back) => block = back,
         }
+        helpers.rest();
         feed.wait(rt);
+        helpers.start();
     }
     unreachable!()
 }

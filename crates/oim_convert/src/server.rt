@@ -13,6 +13,7 @@ use oim_rows::TableKind;
 use std::alloc::Global;
 use std::io::Read;
 use std::sync::Wait;
+use std::thread::Threads;
 
 /// Decodes the tables of a report, or refuses them if no thread could be made.
 #[derive(Clone, Copy)]
@@ -23,7 +24,7 @@ pub(crate) struct Serving {
     pub(crate) threaded: bool,
 }
 
-impl<R: Read + Drop, T: Wait> Serve<Job<R>, Receipt, T, Report> for Serving {
+impl<R: Read + Drop, T: Threads + Wait> Serve<Job<R>, Receipt, T, Report> for Serving {
     ghost use Rattle.oim_convert.specs.Jobs.{CanServe, gives_of};
 
     ghost can_serve = { λ s report. CanServe report s.limits.rows };
@@ -53,6 +54,7 @@ fn refuse<R: Drop, T: Wait>(rt: &T, job: Job<R>) -> Option<Closed>
         table,
         reader: _,
         feed,
+        helpers: _,
     } = job;
     close_waiting(rt, feed, refused(table, TableKind::NoThread))
 }

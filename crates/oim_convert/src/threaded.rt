@@ -47,7 +47,7 @@ fn fault_before(workers: usize, size: usize, readers: usize, tables: usize) -> O
 
 /// What a conversion needs, prepared before anything is written.
 #[derive(Drop)]
-struct Ready<R: Read + Drop, T: Wait> {
+struct Ready<R: Read + Drop, T: Threads + Wait> {
     crew: Crew<Job<R>, Receipt, Serving, T, Report>,
     unmerged: Unmerged,
     room: ReturnRoom<R>,
@@ -55,7 +55,7 @@ struct Ready<R: Read + Drop, T: Wait> {
 
 /// Everything that a conversion with this many workers and rings of this size needs. Fails if memory
 /// runs out.
-fn prepare<R: Read + Drop, T: Wait>(
+fn prepare<R: Read + Drop, T: Threads + Wait>(
     alloc: Global,
     report: &Report,
     readers: Vec<Option<R>>,
@@ -72,7 +72,7 @@ fn prepare<R: Read + Drop, T: Wait>(
     ensures seats { IfOk result (λ ready. ready.crew.claims.workers ≡ workers) }
     ensures rings { IfOk result (λ ready. All (λ job. job.feed.size ≡ size) ready.crew.claims.items) }
 {
-    let (jobs, drains) = open_lanes(alloc, readers, size)?;
+    let (jobs, drains) = open_lanes(alloc, readers, workers, size)?;
     let room = return_room(alloc, jobs.len(), workers)?;
     let crew = crew_of(alloc, jobs, workers)?;
     let faults = Vec::with_capacity(alloc, drains.len())?;
@@ -142,8 +142,8 @@ fn run_ready<R: Read + Drop + Send, T: Threads + Wait + Sync, W: Sink>(
 /// Each history is its table's stream, or a beginning of it that a failed read (`Read`) or running out
 /// of memory (`Memory`) ended; or every table is refused with `NoThread`, and never only some are. That
 /// holds of each table whose reader tells its bytes, whatever those of the others tell. They
-/// all are if no worker could be started, and in no other case: no clause of this call can say so, since
-/// nothing tells it which threads the system gave. The run has the fault of each refused table, in
+/// all are if no worker could be started. That they are in no other case no clause of this call can say,
+/// since nothing tells it which threads the system gave. The run has the fault of each refused table, in
 /// table order, however it ends. The end is `Complete` if no table is refused; `Refused` if one is, and
 /// then the document is unfinished after the facts of the first refused table; or `Write` if a write failed
 /// before that, and then a beginning of the document is written.

@@ -30,7 +30,7 @@ use std::sync::atomic::{AtomicBool, AtomicUsize, Ordering};
 use std::sync::{Arc, Wait};
 
 /// The most vectors that are kept for new blocks.
-const MOST_ROOMS: usize = 16;
+const MOST_ROOMS: usize = 96;
 
 /// The largest vector that is kept, in bytes.
 const LARGEST_ROOM: usize = 262_144;
@@ -203,12 +203,8 @@ impl BacklogHandle {
         }
     }
 
-    /// A vector that was kept, with what it held, if there is one and the writer has reached this table.
-    /// The blocks of later tables wait long, and each would keep a vector larger than its texts.
+    /// A vector that was kept, with what it held, if there is one.
     pub(crate) fn kept_room<R: Wait>(&self, rt: &R) -> Option<Vec<u8>> {
-        if self.backlog.turn.load(Ordering::SeqCst) < self.table {
-            return None;
-        }
         self.backlog.rooms.pop(rt)
     }
 

@@ -184,9 +184,18 @@ impl Feed {
         self.backlog.wait(rt);
     }
 
+    /// Keeps the memory of a vector that was got by `room` and is not needed, for blocks of any table of the report.
+    pub fn give_back<R: Wait>(&self, rt: &R, room: Vec<u8>) {
+        self.backlog.keep_room(rt, room);
+    }
+
+    /// A vector that has memory, of a block that any of the report's drains gave back, with what it held, if there is one.
+    pub fn kept_room<R: Wait>(&self, rt: &R) -> Option<Vec<u8>> {
+        self.backlog.kept_room(rt)
+    }
+
     /// A vector for the texts of a block: that of a block that any of the report's drains gave back, with
-    /// what it held, or an empty one, as always before the writer has reached this feed's table. No clause
-    /// says what it holds. It allocates no memory.
+    /// what it held, or an empty one. No clause says what it holds. It allocates no memory.
     pub fn room<R: Wait>(&self, rt: &R, alloc: Global) -> Vec<u8> {
         match self.backlog.kept_room(rt) {
             Some(room) => room,

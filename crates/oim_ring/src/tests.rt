@@ -238,16 +238,18 @@ fn blocks_of<T: Wait>(rt: &T, drain: &mut Drain) -> u32 {
     0
 }
 
-/// Whether the vector of a block that was given back reaches the feed of the table that the writer takes,
-/// and only once.
+/// Whether the vector of a block that was given back reaches the feed of any table, and only once, and one that a feed gives back reaches
+/// another feed.
 fn comes_back<T: Wait>(rt: &T, alloc: Global) -> Result<bool, AllocError> {
     let mut lanes = Lanes::new(alloc, 2)?;
     let (feed, drain) = lanes.open(alloc, 1)?;
     let (next, _next_drain) = lanes.open(alloc, 1)?;
     let was_empty = feed.room(rt, alloc).is_empty();
     drain.give_back(rt, block(alloc)?);
-    let is_kept = next.room(rt, alloc).is_empty() && !feed.room(rt, alloc).is_empty();
-    Ok(was_empty && is_kept && feed.room(rt, alloc).is_empty())
+    let room = next.room(rt, alloc);
+    let is_kept = !room.is_empty() && feed.room(rt, alloc).is_empty();
+    next.give_back(rt, room);
+    Ok(was_empty && is_kept && feed.kept_room(rt).is_some() && feed.kept_room(rt).is_none())
 }
 
 #[test]

@@ -22,7 +22,7 @@ const META_HELP: &str = "The metadata file of the report";
 
 const TYPES_HELP: &str = "The types table: the type of each concept and dimension";
 
-const WORKERS_HELP: &str = "How many tables are read at once";
+const WORKERS_HELP: &str = "How many threads read the tables";
 
 const RING_HELP: &str =
     "How many blocks of up to 256 facts may wait for one table; for all tables, about five times as many";
@@ -65,7 +65,7 @@ pub struct Settings {
     pub meta: Text,
     /// The path of the types table.
     pub types: Text,
-    /// How many tables are read at once, 1 to 64.
+    /// How many threads read the tables, 1 to 64.
     pub workers: usize,
     /// How many blocks of facts of one table may wait, 1 to 65,536.
     pub ring: usize,

@@ -36,7 +36,10 @@ fn joins(alloc: Global, decoder: &mut PieceDecoder<'_>, piece: &[u8]) -> bool {
     let mut join = PieceJoin::new(alloc);
     decoder.keep_room(Vec::new(alloc));
     match next_piece(alloc, decoder, &mut join, piece, 1) {
-        Ok(joined) => joined.fault().is_none() && decoder.take_room().len() == piece.len(),
+        Ok(joined) => {
+            let is_whole = joined.fault().is_none() && decoder.take_room().len() == piece.len();
+            is_whole && decoder.free_room().is_none()
+        }
         Err(_) => false,
     }
 }

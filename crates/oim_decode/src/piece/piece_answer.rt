@@ -66,12 +66,12 @@ fn keep_id(ids: &mut Vec<PieceId>, id: Option<PieceId>)
 }
 
 impl PieceAnswer {
-    /// No row, and no fault. It takes no memory.
-    pub(crate) fn new(alloc: Global) -> PieceAnswer
+    /// No row, and no fault. The texts of the first rows are put to `room`. It takes no memory.
+    pub(crate) fn within(alloc: Global, room: Vec<u8>) -> PieceAnswer
         ensures { result ≡ no_rows }
     {
         PieceAnswer {
-            rows: PieceRows::new(alloc),
+            rows: PieceRows::within(alloc, room),
             ids: Vec::new(alloc),
             fault: None,
         }
@@ -81,7 +81,7 @@ impl PieceAnswer {
     pub fn refused(alloc: Global, table: usize) -> PieceAnswer
         ensures { result ≡ no_memory table }
     {
-        let mut answer = PieceAnswer::new(alloc);
+        let mut answer = PieceAnswer::within(alloc, Vec::new(alloc));
         answer.end(whole_fault(table, TableKind::Memory));
         answer
     }

@@ -3,7 +3,7 @@
 ghost use Rattle.std.specs.Prelude.{◌≡◌, ◌≤◌, ◌+◌, [], IfOk, IfSome, None, drop, length};
 ghost use Rattle.csv.specs.declared.parser.State.TheVariants as state;
 ghost use Rattle.oim_records.specs.Grids.{records_left};
-ghost use Rattle.oim_decode.specs.PieceAnswers.{IsDecoded, StepsRow};
+ghost use Rattle.oim_decode.specs.PieceAnswers.{IsDecoded, StepsRow, no_rows};
 ghost use Rattle.oim_rows.specs.RowFacts.{row_fault};
 
 use crate::piece::piece_answer::PieceAnswer;
@@ -114,6 +114,13 @@ impl PieceDecoder<'_> {
         self.rooms.keep(room);
     }
 
+    /// Gives back a vector whose memory was kept for texts and not used, if there is one.
+    pub fn free_room(&mut self) -> Option<Vec<u8>>
+        ensures { self.new ≡ self.old }
+    {
+        self.rooms.free()
+    }
+
     /// Decodes the rows behind the header in the head of the table. The answer is as that of `decode`.
     pub fn decode_head(&mut self, head: &TableHead) -> PieceAnswer
         ensures answer { IsDecoded self.old.reading 1 (drop 1 head.now) result }
@@ -130,6 +137,14 @@ impl PieceDecoder<'_> {
         }
     }
 
+    /// No row yet, in memory that was kept for texts.
+    fn begin(&mut self) -> PieceAnswer
+        ensures answer { result ≡ no_rows }
+        ensures same { self.new ≡ self.old }
+    {
+        PieceAnswer::within(self.alloc, self.rooms.take(self.alloc))
+    }
+
     /// Decodes the records that are left of the piece at hand.
     fn decode_left(&mut self, first: u32) -> PieceAnswer
         requires { first ≤ self.old.reading.limit + 1 }
@@ -137,7 +152,8 @@ impl PieceDecoder<'_> {
         ensures numbers { first + length result.ids ≤ 4294967296 }
         ensures reading { self.new.reading ≡ self.old.reading }
     {
-        let mut answer = PieceAnswer::new(self.alloc);
+        let table = self.form.table();
+        let mut answer = self.begin();
         let mut number = first;
         for _ in 0..u64::MAX {
             if !self.next_row(number, &mut answer) {
@@ -145,7 +161,7 @@ impl PieceDecoder<'_> {
             }
             number += 1;
         }
-        answer.end(whole_fault(self.form.table(), TableKind::Memory));
+        answer.end(whole_fault(table, TableKind::Memory));
         answer
     }
 

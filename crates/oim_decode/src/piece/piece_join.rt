@@ -125,7 +125,7 @@ impl PieceJoin {
                 }
             }
             Err(_) => JoinedPiece {
-                rows: PieceRows::new(self.alloc),
+                rows: PieceRows::within(self.alloc, Vec::new(self.alloc)),
                 fault: Some(whole_fault(form.table(), TableKind::Memory)),
             },
         }

@@ -53,13 +53,13 @@ fn end_of(full: &[WrittenRows], count: usize) -> (usize, usize)
 }
 
 impl PieceRows {
-    /// No rows. It takes no memory.
-    pub(crate) fn new(alloc: Global) -> PieceRows
+    /// No rows. The texts of the first ones are put to `room`. It takes no memory.
+    pub(crate) fn within(alloc: Global, room: Vec<u8>) -> PieceRows
         ensures { result ≡ [] }
     {
         PieceRows {
             full: Vec::new(alloc),
-            last: WrittenRows::new(alloc),
+            last: WrittenRows::within(alloc, room),
         }
     }
 

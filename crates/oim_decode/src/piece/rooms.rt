@@ -24,6 +24,11 @@ impl Rooms {
         }
     }
 
+    /// Takes the vector that was kept last, if there is one.
+    pub(crate) fn free(&mut self) -> Option<Vec<u8>> {
+        self.rooms.pop()
+    }
+
     /// Keeps a vector, where there is memory to note it.
     pub(crate) fn keep(&mut self, room: Vec<u8>) {
         let _ = self.rooms.push(room);

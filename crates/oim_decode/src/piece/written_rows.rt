@@ -64,12 +64,12 @@ fn facts_before(ends: &[usize], count: usize) -> usize
 }
 
 impl WrittenRows {
-    /// No rows. It takes no memory.
-    pub(crate) fn new(alloc: Global) -> WrittenRows
+    /// No rows, whose texts are put to `room`. It takes no memory.
+    pub(crate) fn within(alloc: Global, room: Vec<u8>) -> WrittenRows
         ensures { result ≡ [] }
     {
         WrittenRows {
-            facts: PendingFacts::new(alloc),
+            facts: PendingFacts::within(alloc, room),
             ends: Vec::new(alloc),
             rows: none(),
         }

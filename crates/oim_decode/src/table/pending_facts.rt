@@ -53,6 +53,16 @@ impl Tells<Items<Fact>> for RowNote<'_, '_, '_> {
     ghost told = { λ t. facts_in (facts_of_row t.row.now) };
 }
 
+/// The empty text in the memory of `room`. It takes no memory.
+fn no_text(alloc: Global, room: Vec<u8>) -> TextBuffer
+    ensures { result.items ≡ [] }
+{
+    match TextBuffer::within(room, 0) {
+        Ok(bytes) => bytes,
+        Err(_) => TextBuffer::new(alloc),
+    }
+}
+
 impl PendingFacts {
     /// No facts. It takes no memory.
     pub(crate) fn new(alloc: Global) -> PendingFacts
@@ -65,12 +75,27 @@ impl PendingFacts {
         }
     }
 
+    /// No facts, whose texts are put to `room`. It takes no memory.
+    pub(crate) fn within(alloc: Global, room: Vec<u8>) -> PendingFacts
+        ensures { result ≡ [] }
+    {
+        PendingFacts {
+            bytes: no_text(alloc, room),
+            ends: Vec::new(alloc),
+            facts: none(),
+        }
+    }
+
     /// No facts, with memory for as many texts as these have, and some more, that of `room` first. Fails where memory is short.
     pub(crate) fn like(&self, alloc: Global, room: Vec<u8>) -> Result<PendingFacts, AllocError>
         ensures { IfOk result (λ facts. facts ≡ []) }
     {
         let length = self.bytes.len();
-        let more = length.saturating_add(length / 16).saturating_add(AHEAD);
+        let more = if length <= room.capacity() {
+            0
+        } else {
+            length.saturating_add(length / 16).saturating_add(AHEAD)
+        };
         Ok(PendingFacts {
             bytes: TextBuffer::within(room, more)?,
             ends: Vec::with_capacity(alloc, MOST)?,

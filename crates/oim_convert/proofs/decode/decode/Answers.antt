@@ -22,6 +22,6 @@ returns-clause-history g c =
       | in-Some w ↦ λ file is. file_decoded told w.in-Some.reader file report table limit feed.sent closed.sent e (subst (λ r. IsFileOf told r file) w.in-Some.is is)
           (subst (λ x. IfSome (told w.in-Some.reader) (λ bytes. IsGiven table (table_stream report table limit (Some bytes)) (facts_in feed.sent) x))
           (sym w.ending-is) (subst (λ x. IfSome (told w.in-Some.reader) (λ bytes.
-          IsGiven table (table_stream report table limit (Some bytes)) (facts_in x) w.send_file-ending.result))
-          (sym (ap (λ f. f.sent) w.feed-is)) w.send_file-ending.ensures.given)) only sent
+          IsGiven table (table_stream report table limit (Some bytes)) (facts_in x) w.send_table-ending.result))
+          (sym (ap (λ f. f.sent) w.feed-is)) w.send_table-ending.ensures.given)) only sent
     ]) c.close_waiting.ensures.sent c.close_waiting.ensures.blocks

@@ -13,7 +13,7 @@ pub loop-reader-preserved : goal.loop-reader-preserved
 loop-reader-preserved g c =
     let r = c.loop-reader.invariant in
     let jobs = c.loop-reader.jobs.items in let drains = c.loop-reader.drains.items in
-    let job : Job g.row.R.Denot = record { table = c.len-table.result; reader = c.in-Some.reader; feed = c.in_ok-feed.feed } in
+    let job : Job g.row.R.Denot = record { table = c.len-table.result; reader = c.in-Some.reader; feed = c.in_ok-feed.feed; helpers = c.in_ok-shared.shared } in
     let drain : DrainView = c.in_ok-feed.drain in
     let pushed : c.push.new.self.items ≡ jobs ++ job ∷ [] = c.in_ok-push.ensures.items in
     let drained : c.push-in-loop-reader.new.self.items ≡ drains ++ drain ∷ [] = c.in_ok-push-2.ensures.items in

@@ -1,14 +1,15 @@
-use Rattle.std.proofs.Common.{◌∙◌, ap, arith, length, refl, subst}
+use Rattle.std.proofs.Common.{◌∙◌, ap, arith, length, subst, sym}
 use Rattle.oim_rows.specs.RowFacts.{Reading}
 use Rattle.oim_decode.specs.Apart.{Apart}
 use Rattle.oim_decode.specs.PieceAnswers.{EndsRows, PieceLeft, TakesRow}
-use Rattle.oim_decode.proofs.PieceSteps.{all_decoded, decoded_within, front_within, none_decoded, one_decoded, taken_within}
+use Rattle.oim_decode.proofs.PieceSteps.{HasDecoded, all_decoded, decoded_within, front_within, none_decoded, one_decoded, taken_within}
 use Rattle.oim_decode.proofs.piece.piece_decoder.PieceDecoder.decode_left.Goals as goal
 
 pub loop-init : goal.loop-init
 loop-init c = record {
-  decoded = none_decoded c.args.self.now.reading c.args.first c.args.self.now.left c.new-answer.result c.new-answer.ensures;
-  reading = refl;
+  decoded = subst (λ (p : PieceLeft). HasDecoded c.args.self.now.reading c.args.first c.args.self.now.left c.args.first p.left c.begin-answer.result) (sym c.begin-answer.ensures.same)
+      (none_decoded c.args.self.now.reading c.args.first c.args.self.now.left c.begin-answer.result c.begin-answer.ensures.answer);
+  reading = ap (λ (p : PieceLeft). p.reading) c.begin-answer.ensures.same;
   within = c.requires;
 }
 

@@ -1,0 +1,7 @@
+use Rattle.std.proofs.Common.{◌≡◌}
+use Rattle.oim_convert.proofs.pieces.take_rooms.Given as goal
+
+abbrev pub invariant-loop : goal.invariant-loop
+invariant-loop g l = record {
+  same : l.pieces ≡ l.fn.pieces;
+}

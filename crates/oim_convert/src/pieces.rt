@@ -1,0 +1,172 @@
+//! Decoding the pieces of a table into its ring, on more than one thread.
+
+ghost use Rattle.std.specs.Prelude.{◌≡◌, ◌++◌, [], IfSome};
+ghost use Rattle.oim_convert.specs.Histories.{IsGiven, facts_in};
+ghost use Rattle.oim_convert.specs.TableFiles.{IsSentOfFile, IsTableFile};
+ghost use Rattle.oim_rows.specs.Streams.{facts_of_rows};
+
+use crate::decode::send_file;
+use crate::sending::put_waiting;
+use crate::table_file::TableFile;
+use oim_json::Block;
+use oim_pieces::{Helpers, TablePieces};
+use oim_ring::{Ending, Feed};
+use std::alloc::Global;
+use std::io::Read;
+use std::sync::Wait;
+use std::thread;
+use std::thread::{Scope, Threads};
+
+/// Sends the facts of a table's file, and gives the table's ending. Where there are other workers, threads decode pieces of it in
+/// the places of those that are idle.
+pub(crate) fn send_table<R: Read + Drop, T: Threads + Wait>(
+    rt: &T,
+    alloc: Global,
+    file: TableFile<'_, R>,
+    helpers: &Helpers,
+    feed: &mut Feed,
+) -> Ending
+    requires file { IsTableFile file }
+    requires fresh { feed.old.sent ≡ [] }
+    ensures ring { feed.new.ring ≡ feed.old.ring }
+    ensures given { IsSentOfFile R.remaining file.entry (facts_in feed.new.sent) result }
+{
+    if helpers.is_alone() {
+        send_file(rt, alloc, file, helpers, feed)
+    } else {
+        send_in_scope(rt, alloc, file, helpers, feed)
+    }
+}
+
+/// The ending of a table, and its feed.
+struct Sent<'a> {
+    ending: Ending,
+    feed: &'a mut Feed,
+}
+
+/// Sends the facts of a table's file, with a scope for the threads that decode pieces of it.
+fn send_in_scope<R: Read + Drop, T: Threads + Wait>(
+    rt: &T,
+    alloc: Global,
+    file: TableFile<'_, R>,
+    helpers: &Helpers,
+    feed: &mut Feed,
+) -> Ending
+    requires file { IsTableFile file }
+    requires fresh { feed.old.sent ≡ [] }
+    ensures ring { feed.new.ring ≡ feed.old.ring }
+    ensures given { IsSentOfFile R.remaining file.entry (facts_in feed.new.sent) result }
+{
+    let lent = &mut *feed;
+    let sent = thread::scope(
+        thread::scope_env(),
+        rt,
+        move |scope| -> Sent<'_>
+            requires file { IsTableFile file }
+            requires fresh { lent.now.sent ≡ [] }
+            ensures same_feed { result.feed.ghost_name ≡ lent.entry.ghost_name }
+            ensures ring { result.feed.now.ring ≡ lent.entry.now.ring }
+            ensures given { IsSentOfFile R.remaining file.entry (facts_in result.feed.now.sent) result.ending }
+        {
+            let ending = send_pieces(scope, rt, alloc, file, helpers, lent);
+            Sent { ending, feed: lent }
+        },
+    );
+    let Sent { ending, feed } = sent;
+    take_back(feed);
+    ending
+}
+
+/// Does nothing. Using a returned reference here ties it, for the proof, to the parameter that lent it.
+fn take_back<T>(x: &mut T)
+    ensures { x.new ≡ x.old }
+{}
+
+/// Sends the facts of a table's file, piece by piece, in this scope.
+fn send_pieces<'s, E, R: Read + Drop, T: Threads + Wait>(
+    scope: &Scope<'s, E>,
+    rt: &T,
+    alloc: Global,
+    file: TableFile<'s, R>,
+    helpers: &'s Helpers,
+    feed: &mut Feed,
+) -> Ending
+    requires file { IsTableFile file }
+    requires fresh { feed.old.sent ≡ [] }
+    ensures ring { feed.new.ring ≡ feed.old.ring }
+    ensures given { IsSentOfFile R.remaining file.entry (facts_in feed.new.sent) result }
+{
+    let TableFile {
+        report,
+        table,
+        reader,
+        limits,
+    } = file;
+    match TablePieces::open(alloc, helpers, report, table, reader, limits) {
+        Ok(mut pieces) => {
+            take_rooms(rt, &mut pieces, feed);
+            let ending = send_left(scope, rt, &mut pieces, helpers, feed);
+            give_back_rooms(rt, &mut pieces, feed);
+            ending
+        }
+        Err(fault) => Ending::Refused(fault),
+    }
+}
+
+/// Takes memory for the texts of the next pieces, as far as blocks that were written gave it back.
+fn take_rooms<R: Read + Drop, T: Wait>(rt: &T, pieces: &mut TablePieces<'_, R>, feed: &Feed)
+    ensures { pieces.new ≡ pieces.old }
+{
+    for _ in 0..pieces.wanted_rooms() {
+        match feed.kept_room(rt) {
+            Some(room) => pieces.keep_room(room),
+            None => return,
+        }
+    }
+}
+
+/// Gives back the memory that a table kept for texts, so that others use it.
+fn give_back_rooms<R: Read + Drop, T: Wait>(rt: &T, pieces: &mut TablePieces<'_, R>, feed: &Feed) {
+    for _ in 0..usize::MAX {
+        match pieces.free_room() {
+            Some(room) => feed.give_back(rt, room),
+            None => return,
+        }
+    }
+}
+
+/// Sends the pieces that are left, and gives the table's ending.
+fn send_left<'s, E, R: Read + Drop, T: Threads + Wait>(
+    scope: &Scope<'s, E>,
+    rt: &T,
+    pieces: &mut TablePieces<'s, R>,
+    helpers: &Helpers,
+    feed: &mut Feed,
+) -> Ending
+    requires fresh { feed.old.sent ≡ [] }
+    ensures ring { feed.new.ring ≡ feed.old.ring }
+    ensures given { IfSome pieces.old.left (λ s. IsGiven pieces.old.table s (facts_in feed.new.sent) result) }
+{
+    for _ in rt.forever() {
+        match pieces.next_blocks(scope, rt) {
+            Ok(Some(blocks)) => {
+                put_all(rt, helpers, feed, blocks);
+                take_rooms(rt, pieces, feed);
+            }
+            Ok(None) => return Ending::Closed,
+            Err(fault) => return Ending::Refused(fault),
+        }
+    }
+    unreachable!()
+}
+
+/// Sends blocks, one after another.
+#[tactic(auto, using(crate::proofs::PutBlocks::all_put))]
+fn put_all<T: Wait>(rt: &T, helpers: &Helpers, feed: &mut Feed, blocks: Vec<Block>)
+    ensures ring { feed.new.ring ≡ feed.old.ring }
+    ensures sent { facts_in feed.new.sent ≡ facts_in feed.old.sent ++ facts_of_rows blocks.items }
+{
+    for block in blocks {
+        put_waiting(rt, helpers, feed, block);
+    }
+}

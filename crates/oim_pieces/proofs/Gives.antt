@@ -1,0 +1,93 @@
+-- What a call gives of the stream that is left.
+use Rattle.std.proofs.Common.{◌≡◌, ◌⊎◌, ◌++◌, ℕ, List, [], Option, Some, None, IfSome, IfNone, IfOk, IfErr, Result, Ok, Err, refl, sym, ap, subst, ◌∙◌, append-nil, inl, inr}
+use Rattle.oim_resolve.specs.FactParts.{FactParts as Fact}
+use Rattle.oim_rows.specs.Header.{file_fault}
+use Rattle.oim_rows.specs.Streams.{IsOutside, Stream, ending, facts_of_rows}
+use Rattle.oim_rows.specs.declared.fault.TableFault.{TableFault}
+use Rattle.oim_rows.specs.declared.fault.TableKind.TheVariants as kind
+use Rattle.oim_decode.specs.Blocks.{GivesBlock, ReadsRows}
+use Rattle.oim_decode.proofs.Advances.{broken_off}
+use Rattle.oim_pieces.specs.Flights.{EndsWith, KeepsStream, behind, left_of}
+
+module _ (table : ℕ) where
+  -- the same end or fault again
+  pub again_ended : (left : Option Stream) (o : Option TableFault) → o ≡ None → IfSome (left_of (Some o) left) (λ s. GivesBlock table [] s (Ok None) [] (left_of (Some o) left))
+  again_ended left o is = subst (λ p. IfSome (left_of (Some p) left) (λ s. GivesBlock table [] s (Ok None) [] (left_of (Some p) left))) (sym is) (record {
+    rows = [];
+    reads = inl (refl, refl);
+    answers = (refl, refl, refl);
+  })
+
+  pub again_failed : (left : Option Stream) (o : Option TableFault) (e : TableFault) → o ≡ Some e
+      → IfSome (left_of (Some o) left) (λ s. GivesBlock table [] s (Err e) [] (left_of (Some o) left))
+  again_failed left o e is = subst (λ p. IfSome (left_of (Some p) left) (λ s. GivesBlock table [] s (Err e) [] (left_of (Some p) left))) (sym is) (record {
+    rows = [];
+    reads = inl (refl, refl);
+    answers = (refl, refl, inl refl);
+  })
+
+  -- the blocks of a piece
+  piece-gives : (s : Stream) (rows : List (List Fact)) (facts : List Fact) (left : Option Stream) → ReadsRows table s rows left → facts ≡ facts_of_rows rows
+      → GivesBlock table [] s (Ok (Some facts)) [] left
+  piece-gives s rows facts left reads all = record { rows = rows; reads = reads; answers = sym all ∙ sym (append-nil facts) }
+
+  pub piece_given : {V : Type 0} (facts : V → List Fact) (r : Result (Option V) TableFault) (old now next : Option Stream) (rows : List (List Fact)) (o : Option TableFault) (left : Option Stream)
+      → KeepsStream old now → IfSome now (λ whole. ReadsRows table whole rows (behind o next))
+      → IfOk r (λ p. IfSome p (λ v. (facts v ≡ facts_of_rows rows) × (left ≡ behind o next)))
+      → IfSome old (λ s. IfOk r (λ p. IfSome p (λ v. GivesBlock table [] s (Ok (Some (facts v))) [] left)))
+  piece_given facts r None now next rows o left kept read are = tt
+  piece_given facts (Err e) (Some s) now next rows o left kept read are = tt
+  piece_given facts (Ok None) (Some s) now next rows o left kept read are = tt
+  piece_given facts (Ok (Some v)) (Some s) now next rows o left kept read are =
+      let reads : ReadsRows table s rows (behind o next) = subst (λ (p : Option Stream). IfSome p (λ whole. ReadsRows table whole rows (behind o next))) kept read in
+      piece-gives s rows (facts v) left (subst (λ p. ReadsRows table s rows p) (sym are.1) reads) are.0
+
+  -- memory was refused for the blocks of a piece
+  pub short_given : {A : Type 0} (r : Result A TableFault) (old now next : Option Stream) (rows : List (List Fact)) (o : Option TableFault) (left : Option Stream)
+      → KeepsStream old now → IfSome now (λ whole. ReadsRows table whole rows (behind o next))
+      → IfErr r (λ e. (e ≡ file_fault table kind.Memory) × (left ≡ Some (ending (Some e))))
+      → IfSome old (λ s. IfErr r (λ e. GivesBlock table [] s (Err e) [] left))
+  short_given r None now next rows o left kept read short = tt
+  short_given (Ok a) (Some s) now next rows o left kept read short = tt
+  short_given (Err e) (Some s) now next rows o left kept read short =
+      let reads : ReadsRows table s rows (behind o next) = subst (λ (p : Option Stream). IfSome p (λ whole. ReadsRows table whole rows (behind o next))) kept read in
+      record {
+        rows = rows;
+        reads = subst (λ p. ReadsRows table s rows p) (sym short.1) (broken_off table s rows (behind o next) e reads (inr short.0));
+        answers = (refl, short.1, inr short.0);
+      }
+
+  -- the end
+  pub end_given : {V : Type 0} (r : Result (Option V) TableFault) (old now left : Option Stream) (o : Option TableFault) → KeepsStream old now → EndsWith table now o
+      → IfOk r (λ p. IfNone p (o ≡ None) × IfSome p (λ _. ⊥)) → left ≡ Some (ending o)
+      → IfSome old (λ s. IfOk r (λ p. IfNone p (GivesBlock table [] s (Ok None) [] left)))
+  end_given r None now left o kept ends none is = tt
+  end_given (Err e) (Some s) now left o kept ends none is = tt
+  end_given (Ok (Some v)) (Some s) now left o kept ends none is = tt
+  end_given (Ok None) (Some s) now left o kept ends none is =
+      let ended : EndsWith table (Some s) None = subst (λ (p : Option Stream). EndsWith table p None) kept (subst (λ p. EndsWith table now p) none.0 ends) in
+      let over : left ≡ Some (ending None) = is ∙ ap (λ p. one (ending p)) none.0 in
+      record {
+        rows = [];
+        reads = subst (λ p. ReadsRows table s [] p) (sym over) (inl (ap (λ (t : Stream). t.rows) ended, ap (λ (t : Stream). t.fault) ended));
+        answers = (refl, refl, over);
+      }
+    where
+      one : Stream → Option Stream
+      one t = Some t
+
+  pub fault_given : {A : Type 0} (r : Result A TableFault) (old now left : Option Stream) (o : Option TableFault) → EndsWith table now o → IfErr r (λ e. o ≡ Some e)
+      → left ≡ Some (ending o) → IfSome old (λ s. IfErr r (λ e. GivesBlock table [] s (Err e) [] left))
+  fault_given r None now left o ends some is = tt
+  fault_given (Ok a) (Some s) now left o ends some is = tt
+  fault_given (Err e) (Some s) now left o ends some is =
+      let outside : IsOutside table e = subst (λ p. EndsWith table now p) some ends in
+      let over : left ≡ Some (ending (Some e)) = is ∙ ap (λ p. one (ending p)) some in
+      record {
+        rows = [];
+        reads = subst (λ p. ReadsRows table s [] p) (sym over) (inr ((s.rows, refl), e, outside, refl));
+        answers = (refl, over, inl refl);
+      }
+    where
+      one : Stream → Option Stream
+      one t = Some t

@@ -1,0 +1,6 @@
+pub mod Sends
+pub mod FlightLaws
+pub mod Openings
+pub mod Gives
+pub mod CutLaws
+pub mod SpareLaws

@@ -1,0 +1,52 @@
+-- What decodes a piece, and what it answers, may cross threads.
+use denote.Param.Send.{IsSend, IsSync, sendable}
+use denote.Ref.{NamedLft}
+use Rattle.std.proofs.Crossing.{crosses}
+use Rattle.oim_fast.proofs.table.row_writer.RowWriter.TheSendSync as writer
+use Rattle.oim_fast.specs.contracts.table.row_writer.RowWriter as Writer
+use Rattle.oim_records.proofs.piece_records.PieceRecords.TheSendSync as records
+use Rattle.oim_records.specs.contracts.piece_records.PieceRecords as Records
+use Rattle.oim_report.proofs.data.Column.TheSendSync as column
+use Rattle.oim_report.specs.contracts.data.Column as Column
+use Rattle.oim_resolve.proofs.plan.Plan.TheSendSync as plan
+use Rattle.oim_resolve.specs.contracts.plan.Plan as Plan
+use Rattle.oim_pieces.proofs.helpers.Helpers.TheSendSync as helpers
+use Rattle.oim_pieces.specs.contracts.helpers.Helpers as Helpers
+use Rattle.oim_rows.proofs.form.RowForm.TheSendSync as form
+use Rattle.oim_rows.proofs.ids.RowIds.TheSendSync as ids
+use Rattle.oim_rows.specs.contracts.form.RowForm as Form
+use Rattle.oim_rows.specs.contracts.ids.RowIds as Ids
+use Rattle.oim_rows.specs.contracts.row_plan.RowPlan as RowPlan
+use Rattle.oim_decode.proofs.piece.piece_answer.PieceAnswer.TheSendSync as answer
+use Rattle.oim_decode.specs.contracts.piece.piece_answer.PieceAnswer as Answer
+use Rattle.oim_decode.specs.contracts.piece.piece_decoder.PieceDecoder as Decoder
+
+pub answer_send : IsSend Answer.the_row
+answer_send = answer.the_send
+
+column_sync : IsSync Column.the_row
+column_sync = column.the_sync
+
+plan_send : (a : NamedLft) → IsSend (Plan.the_row a)
+plan_send a = plan.the_send a
+
+row_plan_send : (a : NamedLft) → IsSend (RowPlan.the_row a)
+row_plan_send a = search (sendable, crosses, plan_send, column_sync) depth 20
+
+form_send : (a : NamedLft) → IsSend (Form.the_row a)
+form_send a = form.the_send a
+
+writer_send : (a : NamedLft) → IsSend (Writer.the_row a)
+writer_send a = writer.the_send a
+
+records_send : IsSend Records.the_row
+records_send = records.the_send
+
+pub helpers_sync : IsSync Helpers.the_row
+helpers_sync = helpers.the_sync
+
+ids_send : IsSend Ids.the_row
+ids_send = ids.the_send
+
+pub decoder_send : (a : NamedLft) → IsSend (Decoder.the_row a)
+decoder_send a = search (sendable, crosses, row_plan_send, form_send, writer_send, records_send, ids_send) depth 20

@@ -1,0 +1,37 @@
+use Rattle.std.proofs.Common.{ap, refl, sym, subst, ◌∙◌}
+use Rattle.oim_rows.specs.Streams.{facts_of_rows}
+use Rattle.oim_pieces.specs.Flights.{KeepsStream, PiecesLeft, left_of, stream_in}
+use Rattle.oim_pieces.proofs.Gives.{fault_given, piece_given, short_given}
+use Rattle.oim_pieces.proofs.table_pieces.TablePieces.next_blocks.Goals as goal
+
+pub returns-in-Some-join_front-clause-blocks : goal.returns-in-Some-join_front-clause-blocks
+returns-in-Some-join_front-clause-blocks g c =
+    let flight = c.self.inside.flight in
+    let ahead = c.go_ahead.new.self in
+    let joined = c.in-Some-join_front.joined in
+    let kept = c.go_ahead.ensures.stream in
+    let old = ap (λ o. left_of o (stream_in flight)) (sym c.in-None.is) ∙ ap (λ (p : PiecesLeft). p.left) c.self.view_is in
+    let table = c.go_ahead.ensures.table ∙ ap (λ (p : PiecesLeft). p.table) c.self.view_is in
+    let read = rw c.in-Some-join_front.is at c.join_front.ensures.some in
+    let gave = rw c.in-None.is at c.give.ensures.blocks in
+    piece_given c.args.self.now.table (λ blocks. facts_of_rows blocks.items) c.give.result c.args.self.now.left (stream_in ahead) (stream_in c.join_front.new.self) joined.rows joined.fault
+    _ (subst (λ o. KeepsStream o (stream_in ahead)) old kept) (rw table at read) gave
+
+pub returns-in-Some-join_front-clause-fault : goal.returns-in-Some-join_front-clause-fault
+returns-in-Some-join_front-clause-fault g c =
+    let flight = c.self.inside.flight in
+    let ahead = c.go_ahead.new.self in
+    let joined = c.in-Some-join_front.joined in
+    let kept = c.go_ahead.ensures.stream in
+    let old = ap (λ o. left_of o (stream_in flight)) (sym c.in-None.is) ∙ ap (λ (p : PiecesLeft). p.left) c.self.view_is in
+    let table = c.go_ahead.ensures.table ∙ ap (λ (p : PiecesLeft). p.table) c.self.view_is in
+    let read = rw c.in-Some-join_front.is at c.join_front.ensures.some in
+    let short = rw (c.join_front.ensures.table ∙ table) at c.give.ensures.fault in
+    short_given c.args.self.now.table c.give.result c.args.self.now.left (stream_in ahead) (stream_in c.join_front.new.self) joined.rows joined.fault
+    _ (subst (λ o. KeepsStream o (stream_in ahead)) old kept) (rw table at read) short
+
+pub returns-in-None-join_front-clause-fault : goal.returns-in-None-join_front-clause-fault
+returns-in-None-join_front-clause-fault g c =
+    let table = c.join_front.ensures.table ∙ c.go_ahead.ensures.table ∙ ap (λ (p : PiecesLeft). p.table) c.self.view_is in
+    fault_given c.args.self.now.table c.answer_of-in-None-join_front.result c.args.self.now.left (stream_in c.join_front.new.self) _ c.end-end.result
+    (rw table at c.end-end.ensures) c.answer_of-in-None-join_front.ensures.err refl

@@ -1,0 +1,139 @@
+//! Cutting a table's file into pieces.
+
+ghost use Rattle.std.specs.Prelude.{◌≡◌, ◌≤◌, ◌+◌, [], IfNone, IfSome, length};
+ghost use Rattle.csv.specs.declared.parser.State.TheVariants as state;
+ghost use Rattle.oim_records.specs.Grids.{records_left};
+ghost use Rattle.oim_records.specs.Reads.{KeepsLeft, left_behind};
+ghost use Rattle.oim_pieces.specs.Cutting.{IsOver, TakesRows};
+
+use oim_records::{FilePiece, PieceReader};
+use oim_rows::{TableFault, TableKind, fault_of_read, whole_fault};
+use std::io::Read;
+use std::marker::Model;
+
+/// Whole records of a table's file, the number of the first as a row, and whether they are fewer bytes than half of those that were asked for.
+#[derive(Drop)]
+pub(crate) struct CutPiece {
+    pub(crate) bytes: Vec<u8>,
+    pub(crate) first: u32,
+    pub(crate) is_short: bool,
+}
+
+/// What cuts the file of a table. A contract sees the place of the table, its limit of rows, the number of the next row, the records that are left
+/// where the reader tells its bytes, and, once no more is cut, the fault behind them, if there is one.
+#[derive(Drop)]
+pub(crate) struct Cutter<R: Read + Drop> {
+    pieces: PieceReader<R>,
+    table: usize,
+    limit: u32,
+    next: u64,
+    over: Option<Option<TableFault>>,
+    // how many bytes a piece is to have
+    size: usize,
+    // whether the last piece was short, as at the end of a file and of a reader that gives few bytes at a time
+    is_slow: bool,
+}
+
+impl<R: Read + Drop> Model for Cutter<R> {
+    ghost use Rattle.std.specs.Prelude.{◌≡◌, ◌≤◌, [], IfSome};
+    ghost use Rattle.oim_records.specs.Reads.{left_behind};
+    ghost use Rattle.oim_pieces.specs.Cutting.{CutterLeft, IsOver, left_over};
+
+    ghost Value = { CutterLeft };
+
+    ghost view = { λ a. record { table = a.table; limit = a.limit; next = a.next; left = left_over a.over (left_behind [] a.pieces); over = a.over } };
+
+    ghost invariant = { λ a. (a.limit ≤ 4294967294) × IfSome a.over (IsOver a.table (left_over a.over (left_behind [] a.pieces))) };
+}
+
+impl<R: Read + Drop> Cutter<R> {
+    /// Cuts what a reader of pieces has left of a table, whose next row has this number, into pieces of about `size` bytes.
+    pub(crate) fn new(
+        pieces: PieceReader<R>,
+        table: usize,
+        limit: u32,
+        next: u64,
+        size: usize,
+    ) -> Cutter<R>
+        requires { limit ≤ 4294967294 }
+        ensures { result ≡ record { table = table; limit = limit; next = next; left = left_behind [] pieces; over = None } }
+    {
+        Cutter {
+            pieces,
+            table,
+            limit,
+            next,
+            over: None,
+            size,
+            is_slow: false,
+        }
+    }
+
+    /// The place of the table.
+    pub(crate) fn table(&self) -> usize
+        ensures { result ≡ self.now.table }
+    {
+        self.table
+    }
+
+    /// Whether the records that were cut may be all that the reader has for now, so that they are to wait for no others. No contract says so.
+    pub(crate) fn is_slow(&self) -> bool {
+        self.is_slow
+    }
+
+    /// What ends the table behind the pieces that were cut, once no more is cut.
+    pub(crate) fn over(&self) -> Option<Option<TableFault>>
+        ensures value { result ≡ self.now.over }
+        ensures over { IfSome result (IsOver self.now.table self.now.left) }
+    {
+        self.over
+    }
+
+    /// Keeps the room of a vector for pieces that are cut later.
+    pub(crate) fn keep_room(&mut self, room: Vec<u8>)
+        ensures { self.new ≡ self.old }
+    {
+        self.pieces.keep_room(room);
+    }
+
+    /// The next piece, or `None` where no more is cut: at the end of the file, where the reader failed, or where memory is short.
+    #[tactic(auto, using(crate::proofs::FlightLaws::rows_few, crate::proofs::CutLaws::cut_taken, crate::proofs::CutLaws::cut_ended, crate::proofs::CutLaws::cut_failed))]
+    pub(crate) fn cut(&mut self) -> Option<CutPiece>
+        ensures some { IfSome result (λ piece. TakesRows self.old.left (records_left state.StartRecord piece.bytes.items) self.new.left) }
+        ensures first { IfSome result (λ piece. (piece.first ≡ self.old.next) × (piece.first ≤ self.old.limit + 1)) }
+        ensures next { IfSome result (λ piece. self.new.next ≡ self.old.next + length (records_left state.StartRecord piece.bytes.items)) }
+        ensures none { IfNone result (KeepsLeft self.old.left self.new.left × (self.new.next ≡ self.old.next)) }
+        ensures same { (self.new.table ≡ self.old.table) × (self.new.limit ≡ self.old.limit) }
+    {
+        match self.over {
+            Some(_) => return None,
+            None => {}
+        }
+        if self.next > self.limit as u64 + 1 {
+            // The rows before have the fault TooManyRows, behind which nothing is asked for.
+            self.over = Some(Some(whole_fault(self.table, TableKind::Memory)));
+            return None;
+        }
+        match self.pieces.next(self.size, true) {
+            Ok(Some(FilePiece { bytes, records })) => {
+                let first = self.next as u32;
+                let is_short = bytes.len() < self.size / 2;
+                self.is_slow = is_short;
+                self.next += records;
+                Some(CutPiece {
+                    bytes,
+                    first,
+                    is_short,
+                })
+            }
+            Ok(None) => {
+                self.over = Some(None);
+                None
+            }
+            Err(fault) => {
+                self.over = Some(Some(fault_of_read(self.table, fault)));
+                None
+            }
+        }
+    }
+}

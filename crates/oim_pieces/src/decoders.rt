@@ -1,0 +1,187 @@
+//! The decoders that threads are given.
+
+ghost use Rattle.std.specs.Prelude.{◌≡◌, ◌≤◌, ◌<◌, IfSome, [], length};
+ghost use Rattle.oim_decode.specs.Heads.{reading_in};
+
+use oim_decode::{PieceDecoder, TableHead};
+use oim_report::Report;
+use std::alloc::Global;
+use std::marker::Model;
+
+/// How many vectors the texts of the first piece of a table are thought to take.
+const FIRST_GUESS: usize = 24;
+
+/// The head of a table, and decoders of its pieces that no thread has. A contract sees how the table's rows are read.
+#[derive(Drop)]
+pub(crate) struct Decoders<'a> {
+    alloc: Global,
+    report: &'a Report,
+    table: usize,
+    limit: u32,
+    head: TableHead,
+    spare: Vec<PieceDecoder<'a>>,
+    // memory for texts
+    rooms: Vec<Vec<u8>>,
+    // how many vectors the texts of a piece take
+    usual: usize,
+    // memory for the bytes of a piece
+    bytes: Option<Vec<u8>>,
+}
+
+impl<'a> Model for Decoders<'a> {
+    ghost use Rattle.std.specs.Prelude.{◌≡◌, ◌≤◌, ◌<◌, length};
+    ghost use Rattle.oim_decode.specs.Heads.{reading_in};
+    ghost use Rattle.oim_pieces.specs.Flights.{AllRead};
+    ghost use Rattle.oim_rows.specs.RowFacts.{Reading};
+
+    ghost Value = { Reading };
+
+    ghost view = { λ a. reading_in a.report.now a.table a.limit a.head };
+
+    ghost invariant = { λ a. (a.table < length a.report.now.tables) × (a.limit ≤ 4294967294)
+        × AllRead (reading_in a.report.now a.table a.limit a.head) a.spare.items };
+}
+
+impl<'a> Decoders<'a> {
+    /// No decoder yet of the table at this place of a report, whose rows are at most `limit`.
+    pub(crate) fn new(
+        alloc: Global,
+        report: &'a Report,
+        table: usize,
+        limit: u32,
+        head: TableHead,
+    ) -> Decoders<'a>
+        requires place { table < length report.now.tables }
+        requires rows { limit ≤ 4294967294 }
+        ensures { result ≡ reading_in report.now table limit head }
+    {
+        Decoders {
+            alloc,
+            report,
+            table,
+            limit,
+            head,
+            spare: Vec::new(alloc),
+            rooms: Vec::new(alloc),
+            usual: FIRST_GUESS,
+            bytes: None,
+        }
+    }
+
+    /// A decoder that no thread has, or a new one. `None` where memory is short.
+    pub(crate) fn take(&mut self) -> Option<PieceDecoder<'a>>
+        ensures decoder { IfSome result (λ d. d.reading ≡ self.old) }
+        ensures same { self.new ≡ self.old }
+    {
+        let mut decoder = self.ready()?;
+        self.lend_rooms(&mut decoder);
+        Some(decoder)
+    }
+
+    /// A decoder that no thread has, or a new one. `None` where memory is short.
+    fn ready(&mut self) -> Option<PieceDecoder<'a>>
+        ensures decoder { IfSome result (λ d. d.reading ≡ self.old) }
+        ensures same { self.new ≡ self.old }
+    {
+        if let Some(decoder) = self.spare.pop() {
+            return Some(decoder);
+        }
+        match self
+            .head
+            .decoder(self.alloc, self.report, self.table, self.limit)
+        {
+            Ok(decoder) => Some(decoder),
+            Err(_) => None,
+        }
+    }
+
+    /// Keeps the memory of a vector for texts that are decoded later.
+    pub(crate) fn keep_room(&mut self, room: Vec<u8>)
+        ensures { self.new ≡ self.old }
+    {
+        let _ = self.rooms.push(room);
+    }
+
+    /// Notes how many vectors the texts of a piece took.
+    pub(crate) fn expect(&mut self, count: usize)
+        ensures { self.new ≡ self.old }
+    {
+        self.usual = count;
+    }
+
+    /// How many vectors more would serve for the texts of two pieces. No contract says so.
+    pub(crate) fn wanted(&self) -> usize {
+        self.usual
+            .saturating_mul(2)
+            .saturating_sub(self.rooms.len())
+    }
+
+    /// Gives a decoder memory for the texts of a piece, of that which was kept.
+    pub(crate) fn lend_rooms(&mut self, decoder: &mut PieceDecoder<'a>)
+        ensures decoder { decoder.new ≡ decoder.old }
+        ensures same { self.new ≡ self.old }
+    {
+        for _ in 0..self.usual {
+            match self.free_room() {
+                Some(room) => decoder.keep_room(room),
+                None => return,
+            }
+        }
+    }
+
+    /// Takes back the memory for texts that a decoder did not use.
+    fn take_rooms(&mut self, decoder: &mut PieceDecoder<'a>)
+        ensures decoder { decoder.new ≡ decoder.old }
+        ensures same { self.new ≡ self.old }
+    {
+        for _ in 0..usize::MAX {
+            match decoder.free_room() {
+                Some(room) => self.keep_room(room),
+                None => return,
+            }
+        }
+    }
+
+    /// Gives back a vector whose memory was kept for texts, if there is one.
+    pub(crate) fn free_room(&mut self) -> Option<Vec<u8>>
+        ensures { self.new ≡ self.old }
+    {
+        self.rooms.pop()
+    }
+
+    /// The memory of a piece that was decoded, if some is kept.
+    pub(crate) fn free_bytes(&mut self) -> Option<Vec<u8>>
+        ensures { self.new ≡ self.old }
+    {
+        self.bytes.take()
+    }
+
+    /// Keeps a decoder that a thread gave back. Where memory is short, it is dropped.
+    pub(crate) fn keep(&mut self, decoder: PieceDecoder<'a>)
+        requires { decoder.reading ≡ self.old }
+        ensures { self.new ≡ self.old }
+    {
+        let mut decoder = decoder;
+        self.take_memory(&mut decoder);
+        self.push_spare(decoder);
+    }
+
+    /// Takes back the memory that a decoder keeps, of the piece that it decoded and for texts.
+    pub(crate) fn take_memory(&mut self, decoder: &mut PieceDecoder<'a>)
+        ensures reading { decoder.new.reading ≡ decoder.old.reading }
+        ensures same { self.new ≡ self.old }
+    {
+        self.take_rooms(decoder);
+        self.bytes = Some(decoder.take_room());
+    }
+
+    /// Keeps a decoder that no thread has. Where memory is short, it is dropped.
+    fn push_spare(&mut self, decoder: PieceDecoder<'a>)
+        requires { decoder.reading ≡ self.old }
+        ensures { self.new ≡ self.old }
+    {
+        if self.spare.reserve(1).is_ok() {
+            self.spare.push_reserved(decoder);
+        }
+    }
+}

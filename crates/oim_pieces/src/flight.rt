@@ -1,0 +1,277 @@
+//! The pieces of a table that are under way.
+
+ghost use Rattle.std.specs.Prelude.{◌≡◌, ◌⊎◌, ◌<◌, ◌≤◌, [], All, IfNone, IfOk, IfErr, IfSome, None, Some, length};
+ghost use Rattle.oim_decode.specs.Blocks.{ReadsRows};
+ghost use Rattle.oim_decode.specs.Heads.{reading_in};
+ghost use Rattle.oim_records.specs.Reads.{left_behind};
+ghost use Rattle.oim_rows.specs.Header.{file_header_fault};
+ghost use Rattle.oim_rows.specs.Streams.{IsOutside, ending, stream_of};
+ghost use Rattle.oim_pieces.specs.Flights.{EndsWith, IsFront, KeepsStream, behind, stream_in};
+
+use crate::cutter::Cutter;
+use crate::decoded::Asked;
+use crate::decoders::Decoders;
+use crate::flying::{Flying, launch};
+use crate::helpers::Helpers;
+use oim_decode::{JoinedPiece, PieceDecoder, PieceJoin, TableHead};
+use oim_records::PieceReader;
+use oim_report::Report;
+use oim_rows::{RowForm, TableFault, TableKind, whole_fault};
+use std::alloc::Global;
+use std::collections::VecDeque;
+use std::io::Read;
+use std::marker::Model;
+use std::thread::{Scope, Threads};
+
+/// The pieces of a table that are under way, in their order, and what cuts, decodes and joins them. A contract sees how the rows are read,
+/// the identifiers of the rows that were given, the pieces, and what is left to be cut.
+#[derive(Drop)]
+pub(crate) struct Flight<'a, R: Read + Drop> {
+    helpers: &'a Helpers,
+    cutter: Cutter<R>,
+    // what decodes pieces here
+    mine: PieceDecoder<'a>,
+    decoders: Decoders<'a>,
+    join: PieceJoin,
+    flying: VecDeque<Flying<'a>>,
+    // whether the rows of the head were given
+    has_given: bool,
+}
+
+impl<'a, R: Read + Drop> Model for Flight<'a, R> {
+    ghost use Rattle.std.specs.Prelude.{◌≡◌};
+    ghost use Rattle.oim_pieces.specs.Flights.{AreChained, FlightLeft};
+
+    ghost Value = { FlightLeft };
+
+    ghost view = { λ a. record { reading = a.decoders; ids = a.join; pieces = a.flying.items; cutter = a.cutter } };
+
+    ghost invariant = { λ a. (a.mine.reading ≡ a.decoders) × (a.decoders.table ≡ a.cutter.table) × (a.decoders.limit ≡ a.cutter.limit)
+        × AreChained a.decoders a.flying.items a.cutter.next };
+}
+
+/// A decoder of the table with this head.
+fn first_decoder<'a>(
+    alloc: Global,
+    report: &'a Report,
+    table: usize,
+    limit: u32,
+    head: &TableHead,
+) -> Result<PieceDecoder<'a>, TableFault>
+    requires place { table < length report.now.tables }
+    requires rows { limit ≤ 4294967294 }
+    ensures decoder { IfOk result (λ d. d.reading ≡ reading_in report.now table limit head.now) }
+    ensures header { IfOk result (λ _. file_header_fault report.now table head.now ≡ None) }
+    ensures fault { IfErr result (λ e. IsOutside table e ⊎ (file_header_fault report.now table head.now ≡ Some e)) }
+{
+    let form = match head.form(alloc, report, table, limit) {
+        Ok(form) => form,
+        Err(fault) => return Err(fault),
+    };
+    match PieceDecoder::new(alloc, form) {
+        Ok(decoder) => Ok(decoder),
+        Err(_) => Err(whole_fault(table, TableKind::Memory)),
+    }
+}
+
+/// Joins a piece, waiting for its answer.
+fn join_piece<'a, T: Threads>(
+    rt: &T,
+    decoders: &mut Decoders<'a>,
+    form: &RowForm<'a>,
+    join: &mut PieceJoin,
+    piece: Flying<'a>,
+) -> JoinedPiece
+    requires reading { piece.reading ≡ decoders.old }
+    requires form { form.now ≡ decoders.old }
+    ensures joined { IsFront piece.entry join.old result join.new }
+    ensures same { decoders.new ≡ decoders.old }
+{
+    let first = piece.first();
+    let answer = piece.settle(rt, decoders);
+    join.join(form, first, answer)
+}
+
+impl<'a, R: Read + Drop> Flight<'a, R> {
+    /// The table at this place of a report, with this head, and the pieces behind it. The rows of the head are under way.
+    pub(crate) fn behind(
+        alloc: Global,
+        helpers: &'a Helpers,
+        report: &'a Report,
+        table: usize,
+        limit: u32,
+        head: TableHead,
+        pieces: PieceReader<R>,
+    ) -> Result<Flight<'a, R>, TableFault>
+        requires place { table < length report.now.tables }
+        requires rows { limit ≤ 4294967294 }
+        requires header { 1 ≤ length head }
+        ensures table { IfOk result (λ t. t.cutter.table ≡ table) }
+        ensures stream { IfSome (left_behind head pieces) (λ records. IfOk result (λ t. stream_in t ≡ Some (stream_of report.now table limit records))) }
+        ensures fault { IfErr result (λ e. IsOutside table e ⊎ (file_header_fault report.now table head ≡ Some e)) }
+    {
+        let mut mine = match first_decoder(alloc, report, table, limit, &head) {
+            Ok(mine) => mine,
+            Err(fault) => return Err(fault),
+        };
+        let Ok(mut flying) = VecDeque::with_capacity(alloc, 1) else {
+            return Err(whole_fault(table, TableKind::Memory));
+        };
+        let asked = Asked::of_head(mine.form(), &head);
+        let answer = mine.decode_head(&head);
+        flying.push_back_reserved(Flying::here(asked, answer));
+        let rows = head.rows();
+        if rows == u64::MAX {
+            return Err(whole_fault(table, TableKind::Memory));
+        }
+        Ok(Flight {
+            helpers,
+            cutter: Cutter::new(pieces, table, limit, 1 + rows, helpers.size()),
+            mine,
+            decoders: Decoders::new(alloc, report, table, limit, head),
+            join: PieceJoin::new(alloc),
+            flying,
+            has_given: false,
+        })
+    }
+
+    /// Keeps the memory of a vector for texts that are decoded later.
+    pub(crate) fn keep_room(&mut self, room: Vec<u8>)
+        ensures { self.new ≡ self.old }
+    {
+        self.decoders.keep_room(room);
+    }
+
+    /// Notes how many vectors the texts of a piece took.
+    pub(crate) fn expect(&mut self, count: usize)
+        ensures { self.new ≡ self.old }
+    {
+        self.decoders.expect(count);
+    }
+
+    /// How many vectors more would serve for the texts of the next pieces. No contract says so.
+    pub(crate) fn wanted_rooms(&self) -> usize {
+        self.decoders.wanted()
+    }
+
+    /// Gives back a vector whose memory was kept for texts, if there is one.
+    pub(crate) fn free_room(&mut self) -> Option<Vec<u8>>
+        ensures { self.new ≡ self.old }
+    {
+        self.decoders.free_room()
+    }
+
+    /// Has the next pieces decoded, while there are places for threads, and the next one where no piece is under way.
+    #[tactic(auto, using(crate::proofs::FlightLaws::stream_then, crate::proofs::FlightLaws::stream_same))]
+    pub(crate) fn go_ahead<E>(&mut self, scope: &Scope<'a, E>)
+        ensures stream { KeepsStream (stream_in self.old) (stream_in self.new) }
+        ensures table { self.new.cutter.table ≡ self.old.cutter.table }
+    {
+        for _ in 0..self.helpers.window() {
+            if !self.may_cut() || !self.cut_next(scope) {
+                return;
+            }
+        }
+    }
+
+    /// Whether one more piece is to be cut. The rows of the head, and all that a slow reader gave, wait for no others. No contract says so.
+    fn may_cut(&self) -> bool {
+        match self.flying.front() {
+            Some(_) => {
+                self.has_given
+                    && !self.cutter.is_slow()
+                    && self.flying.len() < self.helpers.window()
+                    && self.helpers.are_idle()
+            }
+            None => true,
+        }
+    }
+
+    /// Cuts the next piece and has it decoded. False where no piece is left or memory is short.
+    #[tactic(auto, using(crate::proofs::FlightLaws::chained_more, crate::proofs::FlightLaws::stream_more, crate::proofs::FlightLaws::stream_kept, crate::proofs::FlightLaws::stream_same))]
+    fn cut_next<E>(&mut self, scope: &Scope<'a, E>) -> bool
+        ensures stream { KeepsStream (stream_in self.old) (stream_in self.new) }
+        ensures table { self.new.cutter.table ≡ self.old.cutter.table }
+    {
+        if self.flying.reserve(1).is_err() {
+            return false;
+        }
+        if let Some(bytes) = self.decoders.free_bytes() {
+            self.cutter.keep_room(bytes);
+        }
+        let Some(piece) = self.cutter.cut() else {
+            return false;
+        };
+        let flying = launch(
+            scope,
+            self.helpers,
+            &mut self.decoders,
+            &mut self.mine,
+            piece,
+        );
+        self.flying.push_back_reserved(flying);
+        true
+    }
+
+    /// Joins the piece at the front, waiting for its answer. `None` where no piece is under way.
+    pub(crate) fn join_front<T: Threads>(&mut self, rt: &T) -> Option<JoinedPiece>
+        ensures some { IfSome (stream_in self.old) (λ whole. IfSome result (λ s.
+            ReadsRows self.old.cutter.table whole s.rows (behind s.fault (stream_in self.new)))) }
+        ensures none { IfNone result ((self.old.pieces ≡ []) × (self.new ≡ self.old)) }
+        ensures table { self.new.cutter.table ≡ self.old.cutter.table }
+    {
+        let piece = self.flying.pop_front()?;
+        self.has_given = true;
+        let joined = join_piece(
+            rt,
+            &mut self.decoders,
+            self.mine.form(),
+            &mut self.join,
+            piece,
+        );
+        Some(joined)
+    }
+
+    /// Waits for the pieces that are under way, whose answers nobody needs.
+    pub(crate) fn drain<T: Threads>(&mut self, rt: &T)
+        ensures { self.new.cutter.table ≡ self.old.cutter.table }
+    {
+        for _ in 0..usize::MAX {
+            if !self.drop_front(rt) {
+                return;
+            }
+        }
+    }
+
+    /// Waits for the piece at the front. False where no piece is under way.
+    fn drop_front<T: Threads>(&mut self, rt: &T) -> bool
+        ensures { self.new.cutter.table ≡ self.old.cutter.table }
+    {
+        match self.flying.pop_front() {
+            Some(piece) => {
+                piece.settle(rt, &mut self.decoders);
+                true
+            }
+            None => false,
+        }
+    }
+
+    /// What ends the table, where no piece is under way.
+    #[tactic(auto, using(crate::proofs::FlightLaws::none_left, crate::proofs::FlightLaws::end_found))]
+    pub(crate) fn end(&self) -> Option<TableFault>
+        requires { self.now.pieces ≡ [] }
+        ensures { EndsWith self.now.cutter.table (stream_in self.now) result }
+    {
+        match self.cutter.over() {
+            Some(end) => end,
+            None => Some(whole_fault(self.cutter.table(), TableKind::Memory)),
+        }
+    }
+
+    /// The place of the table.
+    pub(crate) fn table(&self) -> usize
+        ensures { result ≡ self.now.cutter.table }
+    {
+        self.cutter.table()
+    }
+}

@@ -1,0 +1,44 @@
+//! The pieces of one table, decoded on more than one thread.
+//!
+//! A worker that has drawn a table cuts its file into pieces that end between two records. While fewer threads are at work than may
+//! be, a thread decodes a piece; otherwise the worker does so itself. `TablePieces` joins the answers in the order of the pieces, so what it
+//! gives is the table's stream, whoever decoded what and whenever it was done: a thread has promised what it answers, which says
+//! of which rows that is.
+//!
+//! `Helpers` counts how many threads are at work. No contract rests on that count: whatever it says, what is given is right.
+//!
+//! A call:
+//!
+//! ```
+//! /// The number of blocks in the first piece of a report's first table, whose file has these bytes.
+//! fn first_piece<'s, E, T: Threads>(
+//!     scope: &Scope<'s, E>,
+//!     helpers: &'s Helpers,
+//!     rt: &T,
+//!     alloc: Global,
+//!     report: &'s Report,
+//!     file: &[u8],
+//! ) -> Result<usize, TableFault> {
+//!     if report.tables() == 0 {
+//!         return Ok(0);
+//!     }
+//!     let limits = Limits::profile();
+//!     let mut table = TablePieces::open(alloc, helpers, report, 0, file, limits)?;
+//!     match table.next_blocks(scope, rt)? {
+//!         Some(blocks) => Ok(blocks.len()),
+//!         None => Ok(0),
+//!     }
+//! }
+//! ```
+#![tactic(auto)]
+
+mod cutter;
+mod decoded;
+mod decoders;
+mod flight;
+mod flying;
+mod helpers;
+mod table_pieces;
+
+pub use helpers::Helpers;
+pub use table_pieces::{PIECE_SIZE, TablePieces};

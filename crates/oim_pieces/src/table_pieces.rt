@@ -1,0 +1,186 @@
+//! The facts of a table, piece by piece.
+
+ghost use Rattle.std.specs.Prelude.{◌≡◌, ◌⊎◌, ◌≤◌, ◌<◌, [], IfErr, IfNone, IfOk, IfSome, IsSome, None, Ok, Err, Some, length};
+ghost use Rattle.oim_decode.specs.Blocks.{GivesBlock};
+ghost use Rattle.oim_records.specs.Grids.{grid};
+ghost use Rattle.oim_rows.specs.Header.{file_fault, file_header_fault};
+ghost use Rattle.oim_rows.specs.Streams.{IsOutside, ending, facts_of_rows, stream_of};
+ghost use Rattle.oim_rows.specs.declared.fault.TableKind.TheVariants as kind;
+ghost use Rattle.oim_pieces.specs.Flights.{behind};
+
+use crate::flight::Flight;
+use crate::helpers::Helpers;
+use oim_decode::{JoinedPiece, open_pieces};
+use oim_json::Block;
+use oim_report::{Limits, Report};
+use oim_rows::{TableFault, TableKind, fault_of_read, whole_fault};
+use std::alloc::Global;
+use std::io::Read;
+use std::marker::Model;
+use std::thread::{Scope, Threads};
+
+/// How many bytes a piece of a table has in a conversion: so many that decoding them takes far longer than starting a thread.
+pub const PIECE_SIZE: usize = 131_072;
+
+/// The facts of one table that are left, piece by piece, as blocks of text. It borrows the table's report. A contract sees the table's
+/// place, and the stream that is left, where the reader tells its bytes.
+#[derive(Drop)]
+pub struct TablePieces<'a, R: Read + Drop> {
+    alloc: Global,
+    flight: Flight<'a, R>,
+    // the end or the fault that was found behind all that was given
+    settled: Option<Option<TableFault>>,
+}
+
+impl<'a, R: Read + Drop> Model for TablePieces<'a, R> {
+    ghost use Rattle.oim_pieces.specs.Flights.{PiecesLeft, left_of, stream_in};
+
+    ghost Value = { PiecesLeft };
+
+    ghost view = { λ a. record { table = a.flight.cutter.table; left = left_of a.settled (stream_in a.flight) } };
+}
+
+impl<'a, R: Read + Drop> TablePieces<'a, R> {
+    /// Reads the header of the table at this place of a report, past one byte-order mark, and the rows that were read with it. The rows
+    /// are at most `limits.rows`, itself at most 4,294,967,294. A piece has about as many bytes as `helpers` says, and fewer where the reader gives fewer at a
+    /// time; what is given is the same for each size, and whoever decodes it.
+    ///
+    /// Fails with the header's first fault, in this order: NoHeader, UnknownHeader, RepeatedHeader,
+    /// NoRowIdColumn. Fails with Read where the reader failed, and with Memory where memory is
+    /// short.
+    #[tactic(auto, using(crate::proofs::Openings::file_fault, crate::proofs::Openings::file_stream))]
+    pub fn open(
+        alloc: Global,
+        helpers: &'a Helpers,
+        report: &'a Report,
+        table: usize,
+        reader: R,
+        limits: Limits,
+    ) -> Result<TablePieces<'a, R>, TableFault>
+        requires place { table < length report.now.tables }
+        requires rows { limits.rows ≤ 4294967294 }
+
+        // The facts of the table, where its header has no fault.
+        ensures start { IfOk result (λ pieces. pieces.table ≡ table) }
+        ensures stream { IfSome (R.remaining reader) (λ bytes.
+            IfOk result (λ pieces. pieces.left ≡ Some (stream_of report.now table limits.rows (grid bytes)))) }
+
+        // Its fault, unless the reader failed or memory was refused.
+        ensures fault { IfSome (R.remaining reader) (λ bytes.
+            IfErr result (λ e. IsOutside table e ⊎ (file_header_fault report.now table (grid bytes) ≡ Some e))) }
+    {
+        let (head, pieces) = match open_pieces(alloc, reader) {
+            Ok(Some(opened)) => opened,
+            Ok(None) => return Err(whole_fault(table, TableKind::NoHeader)),
+            Err(fault) => return Err(fault_of_read(table, fault)),
+        };
+        match Flight::behind(alloc, helpers, report, table, limits.rows, head, pieces) {
+            Ok(flight) => Ok(TablePieces {
+                alloc,
+                flight,
+                settled: None,
+            }),
+            Err(fault) => Err(fault),
+        }
+    }
+
+    /// The facts of the next piece in blocks of 1 to 256, in header order and row by row, or None at the end. While workers are idle, threads
+    /// of the scope decode pieces that come later. After the end or a fault it answers the same again.
+    ///
+    /// Fails, where the facts of all rows before were given, with the first fault of the first bad
+    /// row, in this order: Ragged, NotUtf8, TooManyRows, MissingRowId, BadRowId, RepeatedRowId, then
+    /// the faults of its cells from left to right. Fails with Read where the reader failed, and with
+    /// Memory where memory is short.
+    #[tactic(auto, using(crate::proofs::Gives::piece_given, crate::proofs::Gives::short_given, crate::proofs::Gives::end_given, crate::proofs::Gives::fault_given, crate::proofs::Gives::again_ended, crate::proofs::Gives::again_failed))]
+    pub fn next_blocks<E, T: Threads>(
+        &mut self,
+        scope: &Scope<'a, E>,
+        rt: &T,
+    ) -> Result<Option<Vec<Block>>, TableFault>
+        ensures blocks { IfSome self.old.left (λ s. IfOk result (λ o. IfSome o (λ blocks.
+            GivesBlock self.old.table [] s (Ok (Some (facts_of_rows blocks.items))) [] self.new.left))) }
+        ensures end { IfSome self.old.left (λ s. IfOk result (λ o. IfNone o (GivesBlock self.old.table [] s (Ok None) [] self.new.left))) }
+        ensures fault { IfSome self.old.left (λ s. IfErr result (λ e. GivesBlock self.old.table [] s (Err e) [] self.new.left)) }
+        ensures same { self.new.table ≡ self.old.table }
+    {
+        match self.settled {
+            Some(end) => return answer_of(end),
+            None => {}
+        }
+        self.flight.go_ahead(scope);
+        match self.flight.join_front(rt) {
+            Some(joined) => self.give(rt, joined),
+            None => {
+                let end = self.flight.end();
+                self.settled = Some(end);
+                answer_of(end)
+            }
+        }
+    }
+
+    /// Keeps the memory of a block that was written, for texts that are decoded later.
+    pub fn keep_room(&mut self, room: Vec<u8>)
+        ensures { self.new ≡ self.old }
+    {
+        self.flight.keep_room(room);
+    }
+
+    /// How many vectors more would serve for the texts of the next pieces. No contract says so.
+    pub fn wanted_rooms(&self) -> usize {
+        self.flight.wanted_rooms()
+    }
+
+    /// Gives back a vector whose memory was kept for texts, if there is one.
+    pub fn free_room(&mut self) -> Option<Vec<u8>>
+        ensures { self.new ≡ self.old }
+    {
+        self.flight.free_room()
+    }
+
+    /// The facts of a piece that was joined. Where it has a fault, the table is settled.
+    fn give<T: Threads>(
+        &mut self,
+        rt: &T,
+        joined: JoinedPiece,
+    ) -> Result<Option<Vec<Block>>, TableFault>
+        ensures blocks { IfOk result (λ o. IfSome o (λ blocks.
+            (facts_of_rows blocks.items ≡ facts_of_rows joined.rows) × (self.new.left ≡ behind joined.fault self.old.left))) }
+        ensures some { IfOk result (λ o. IsSome o) }
+        ensures fault { IfErr result (λ e. (e ≡ file_fault self.old.table kind.Memory) × (self.new.left ≡ Some (ending (Some e)))) }
+        ensures same { self.new.table ≡ self.old.table }
+    {
+        if let Some(fault) = joined.fault() {
+            self.settle(rt, fault);
+        }
+        match joined.into_blocks(self.alloc) {
+            Ok(blocks) => {
+                self.flight.expect(blocks.len());
+                Ok(Some(blocks))
+            }
+            Err(_) => {
+                let fault = whole_fault(self.flight.table(), TableKind::Memory);
+                self.settle(rt, fault);
+                Err(fault)
+            }
+        }
+    }
+
+    /// Settles the table with this fault. Nobody needs the pieces that are under way.
+    fn settle<T: Threads>(&mut self, rt: &T, fault: TableFault)
+        ensures { (self.new.table ≡ self.old.table) × (self.new.left ≡ Some (ending (Some fault))) }
+    {
+        self.flight.drain(rt);
+        self.settled = Some(Some(fault));
+    }
+}
+
+/// The answer of a settled table.
+fn answer_of(end: Option<TableFault>) -> Result<Option<Vec<Block>>, TableFault>
+    ensures ok { IfOk result (λ o. IfNone o (end ≡ None) × IfSome o (λ _. ⊥)) }
+    ensures err { IfErr result (λ e. end ≡ Some e) }
+{
+    match end {
+        None => Ok(None),
+        Some(fault) => Err(fault),
+    }
+}
