@@ -103,14 +103,27 @@ fn send_pieces<'s, E, R: Read + Drop, T: Threads + Wait>(
         limits,
     } = file;
     match TablePieces::open(alloc, helpers, report, table, reader, limits) {
-        Ok(mut pieces) => {
-            take_rooms(rt, &mut pieces, feed);
-            let ending = send_left(scope, rt, &mut pieces, helpers, feed);
-            give_back_rooms(rt, &mut pieces, feed);
-            ending
-        }
+        Ok(mut pieces) => send_opened(scope, rt, &mut pieces, helpers, feed),
         Err(fault) => Ending::Refused(fault),
     }
+}
+
+/// Sends the pieces of a table that was opened, in memory that goes round, and gives the table's ending.
+fn send_opened<'s, E, R: Read + Drop, T: Threads + Wait>(
+    scope: &Scope<'s, E>,
+    rt: &T,
+    pieces: &mut TablePieces<'s, R>,
+    helpers: &Helpers,
+    feed: &mut Feed,
+) -> Ending
+    requires fresh { feed.old.sent ≡ [] }
+    ensures ring { feed.new.ring ≡ feed.old.ring }
+    ensures given { IfSome pieces.old.left (λ s. IsGiven pieces.old.table s (facts_in feed.new.sent) result) }
+{
+    take_rooms(rt, pieces, feed);
+    let ending = send_left(scope, rt, pieces, helpers, feed);
+    give_back_rooms(rt, pieces, feed);
+    ending
 }
 
 /// Takes memory for the texts of the next pieces, as far as blocks that were written gave it back.
