@@ -15,17 +15,16 @@ use oim_names::Text;
 use std::alloc::{AllocError, Global};
 
 /// The program's version, and the kit that proves it, in the words of `rt version`.
-const VERSION: &str = "0.6.0 (proved with rattle-kit-13f logic dac8208d650f15bf)";
+const VERSION: &str = "0.7.0 (proved with rattle-kit-13f logic dac8208d650f15bf)";
 
 /// The help of each argument.
 const META_HELP: &str = "The metadata file of the report";
 
 const TYPES_HELP: &str = "The types table: the type of each concept and dimension";
 
-const WORKERS_HELP: &str = "How many threads read the tables";
+const WORKERS_HELP: &str = "How many threads decode the tables";
 
-const RING_HELP: &str =
-    "How many blocks of up to 256 facts may wait for one table; for all tables, about five times as many";
+const RING_HELP: &str = "How many blocks of up to 256 facts may wait for one table";
 
 const OUT_HELP: &str =
     "The file of the document, which is emptied first [default: standard output]";
@@ -65,7 +64,7 @@ pub struct Settings {
     pub meta: Text,
     /// The path of the types table.
     pub types: Text,
-    /// How many threads read the tables, 1 to 64.
+    /// How many threads decode the tables, 1 to 64.
     pub workers: usize,
     /// How many blocks of facts of one table may wait, 1 to 65,536.
     pub ring: usize,
