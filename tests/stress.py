@@ -1,0 +1,219 @@
+#!/usr/bin/env python3
+"""The built program under stress: many workers, small rings, one processor or all, slow files and a slow reader of what it writes.
+
+    tests/stress.py PROGRAM
+
+The script makes reports of 1 to 200 tables, empty, short, and so long that they are decoded in pieces, some with identifiers of their own,
+with quotes and line ends of all kinds at places where a piece may end. Each is converted by 2 to 64 workers with rings of 1 to 4 blocks. What is
+written must be the document by this script's own reading; in some reports a row has a fault near the place where a piece ends, and then what
+is written, the lines and the status must be those of one worker. A run that takes longer than a hundred seconds is stopped, and is a
+failure. The last line counts. Needs Linux and Python 3.9 or later.
+"""
+from __future__ import annotations
+
+import json
+import os
+import random
+import subprocess
+import sys
+import tempfile
+import threading
+import time
+from pathlib import Path
+from typing import Dict, List, NamedTuple, Optional, Tuple
+
+NAMESPACES = {"eg": "http://example.com/eg"}
+TAXONOMY = ["http://example.com/eg.xsd"]
+COMMON = {"entity": "eg:A1", "period": "2021-12-31T00:00:00"}
+PIECE = 131_072
+SECONDS = 100
+Row = Tuple[str, str, str]
+
+
+class Table(NamedTuple):
+    """A table's name, its rows (identifier, amount, note), and the row that has a fault, if one has."""
+
+    name: str
+    rows: List[Row]
+    bad: Optional[int]
+
+
+class Way(NamedTuple):
+    """How a report is converted: workers, ring, whether on one processor, the tables that come slowly, and whether the output is read slowly."""
+
+    workers: int
+    ring: int
+    on_one: bool
+    slow: List[str]
+    read_slowly: bool
+
+
+def table(numbers: random.Random, name: str, size: int, has_fault: bool) -> Table:
+    """A table of so many rows. Where it is to have a fault, a row has one whose place is near that of a cut."""
+    rows = []
+    length = 0
+    near = []
+    for at in range(size):
+        note = numbers.choice(["", "plain", 'a "quoted" word', "two\nlines", "\r\n", "größer, höher", "x" * numbers.randrange(60)])
+        rows.append((f"i{at}", str(numbers.randrange(10**6)), note))
+        length += 14 + len(note.encode())
+        if PIECE - 2000 < length % (PIECE + 32_768) < PIECE + 34_000:
+            near.append(at)
+    bad = numbers.choice(near or range(size)) if has_fault and size else None
+    return Table(name, rows, bad)
+
+
+def record(fields: List[str], end: str) -> str:
+    """A record of CSV, each field in quotes."""
+    return ",".join('"' + it.replace('"', '""') + '"' for it in fields) + end
+
+
+def csv_of(numbers: random.Random, it: Table) -> bytes:
+    """The file of a table. A row with a fault has no amount that is a number, or the identifier of the first row."""
+    ends = numbers.choice(["\n", "\r\n", "\r"])
+    lines = [record(["id", "amount", "note"], ends)]
+    for at, (name, amount, note) in enumerate(it.rows):
+        if at == it.bad:
+            name, amount = (it.rows[0][0], amount) if at and numbers.random() < 0.5 else (name, "none")
+        lines.append(record([name, amount, note], ends))
+    return "".join(lines).encode()
+
+
+def write(folder: Path, numbers: random.Random, tables: List[Table]) -> None:
+    """The report's files."""
+    columns = {"id": {}, "amount": {"dimensions": {"concept": "eg:Amount"}}, "note": {"dimensions": {"concept": "eg:Note"}}}
+    info = {"documentType": "https://xbrl.org/2021/xbrl-csv", "namespaces": NAMESPACES, "taxonomy": TAXONOMY}
+    report = {
+        "documentInfo": info,
+        "dimensions": COMMON,
+        "tableTemplates": {"rows": {"rowIdColumn": "id", "columns": columns}},
+        "tables": {it.name: {"template": "rows", "url": f"{it.name}.csv"} for it in tables},
+    }
+    (folder / "meta.json").write_text(json.dumps(report))
+    (folder / "types.csv").write_text(f"namespace,name,type\n{NAMESPACES['eg']},Amount,decimal\n{NAMESPACES['eg']},Note,text\n")
+    for it in tables:
+        (folder / f"{it.name}.csv").write_bytes(csv_of(numbers, it))
+
+
+def text(value: str) -> str:
+    """A text as JSON."""
+    return json.dumps(value, ensure_ascii=False)
+
+
+def document(tables: List[Table]) -> bytes:
+    """The document by this script's own reading."""
+    info = {"documentType": "https://xbrl.org/2021/xbrl-json", "namespaces": NAMESPACES, "taxonomy": TAXONOMY}
+    facts = []
+    for it in sorted(tables, key=lambda it: it.name):
+        for name, amount, note in it.rows:
+            for column, concept, value in (("amount", "eg:Amount", amount), ("note", "eg:Note", note)):
+                if value:
+                    dimensions = json.dumps({"concept": concept, **COMMON}, separators=(",", ":"))
+                    facts.append(f'"{it.name}.{name}.{column}":{{"dimensions":{dimensions},"value":{text(value)}}}')
+    return ('{"documentInfo":' + json.dumps(info, separators=(",", ":")) + ',"facts":{' + ",".join(facts) + "}}\n").encode()
+
+
+def feed(pipe: Path, whole: bytes, step: int) -> None:
+    """Gives a pipe these bytes, a few at a time. One whose reader went away is left."""
+    try:
+        with open(pipe, "wb", buffering=0) as file:
+            for at in range(0, len(whole), step):
+                file.write(whole[at : at + step])
+                time.sleep(0.0005)
+    except BrokenPipeError:
+        pass
+
+
+def read_all(stream, is_slow: bool, into: List[bytes]) -> None:
+    """Reads a stream to its end, now and then waiting."""
+    while True:
+        got = stream.read(65_536)
+        if not got:
+            return
+        into.append(got)
+        if is_slow:
+            time.sleep(0.001)
+
+
+def convert(program: str, folder: Path, way: Way) -> Tuple[int, bytes, bytes]:
+    """The status of a run, and what it wrote to its two outputs."""
+    whole: Dict[str, bytes] = {}
+    feeders = []
+    for name in way.slow:
+        path = folder / f"{name}.csv"
+        whole[name] = path.read_bytes()
+        path.unlink()
+        os.mkfifo(path)
+        feeders.append(threading.Thread(target=feed, args=(path, whole[name], 20_000), daemon=True))
+    words = [program, "meta.json", "--types", "types.csv", "--workers", str(way.workers), "--ring", str(way.ring)]
+    bind = (lambda: os.sched_setaffinity(0, {min(os.sched_getaffinity(0))})) if way.on_one else None
+    try:
+        run = subprocess.Popen(words, cwd=folder, stdin=subprocess.DEVNULL, stdout=subprocess.PIPE, stderr=subprocess.PIPE, preexec_fn=bind)
+        for it in feeders:
+            it.start()
+        wrote: List[bytes] = []
+        said: List[bytes] = []
+        readers = [threading.Thread(target=read_all, args=it, daemon=True) for it in ((run.stdout, way.read_slowly, wrote), (run.stderr, False, said))]
+        for it in readers:
+            it.start()
+        try:
+            status = run.wait(SECONDS)
+        except subprocess.TimeoutExpired:
+            run.kill()
+            return -1, b"", b"it was stopped, since it did not end"
+        for it in readers:
+            it.join(SECONDS)
+        return status, b"".join(wrote), b"".join(said)
+    finally:
+        for name, held in whole.items():
+            path = folder / f"{name}.csv"
+            path.unlink()
+            path.write_bytes(held)
+
+
+def report(numbers: random.Random, kind: int) -> List[Table]:
+    """The tables of a report: one long, a few of all sizes, or many short ones. Every third report has faults."""
+    sizes = [[40_000], [6, 14_000, 0, 1, 9_000, 3], [9_000, 0, 9_000, 12_000], [numbers.choice([0, 1, 2, 40]) for _ in range(200)]][kind % 4]
+    has_faults = kind % 3 == 2
+    return [table(numbers, f"t{at:03}", size, has_faults and size > 0 and numbers.random() < 0.5) for at, size in enumerate(sizes)]
+
+
+def ways(numbers: random.Random, tables: List[Table]) -> List[Way]:
+    """Some ways to convert a report."""
+    found = []
+    for workers in (2, 4, numbers.choice([3, 8, 16]), 64):
+        slow = [it.name for it in tables if it.rows and len(tables) < 10 and numbers.random() < 0.3]
+        found.append(Way(workers, numbers.choice([1, 2, 4]), numbers.random() < 0.4, slow, numbers.random() < 0.3))
+    return found
+
+
+def main(program: str) -> None:
+    """Makes the reports, converts each in some ways, and counts."""
+    well = bad = 0
+    numbers = random.Random(20_261_126)
+    for kind in range(12):
+        tables = report(numbers, kind)
+        with tempfile.TemporaryDirectory() as name:
+            folder = Path(name)
+            write(folder, numbers, tables)
+            wanted = (0, document(tables), b"")
+            if any(it.bad is not None for it in tables):
+                wanted = convert(program, folder, Way(1, 1024, False, [], False))
+                assert wanted[0] == 1, wanted
+            for way in ways(numbers, tables):
+                found = convert(program, folder, way)
+                if found == wanted:
+                    well += 1
+                    continue
+                bad += 1
+                at = len(os.path.commonprefix([wanted[1], found[1]]))
+                print(f"FAILED report {kind}, {way}: status {found[0]}, {found[2][:200]!r}, from byte {at}")
+                print(f"  wanted {wanted[1][max(at - 60, 0) : at + 60]!r}\n  found  {found[1][max(at - 60, 0) : at + 60]!r}")
+    print(f"under stress: {well} as they must be, {bad} not")
+    sys.exit(1 if bad else 0)
+
+
+if __name__ == "__main__":
+    if len(sys.argv) != 2:
+        sys.exit(__doc__)
+    main(os.path.abspath(sys.argv[1]))
