@@ -120,7 +120,6 @@ fn send_opened<'s, E, R: Read + Drop, T: Threads + Wait>(
     ensures ring { feed.new.ring ≡ feed.old.ring }
     ensures given { IfSome pieces.old.left (λ s. IsGiven pieces.old.table s (facts_in feed.new.sent) result) }
 {
-    take_rooms(rt, pieces, feed);
     let ending = send_left(scope, rt, pieces, helpers, feed);
     give_back_rooms(rt, pieces, feed);
     ending

@@ -8,8 +8,8 @@ use oim_report::Report;
 use std::alloc::Global;
 use std::marker::Model;
 
-/// How many vectors the texts of the first piece of a table are thought to take.
-const FIRST_GUESS: usize = 24;
+/// A piece whose texts take fewer vectors than this needs none that others gave back.
+const FEW: usize = 4;
 
 /// The head of a table, and decoders of its pieces that no thread has. A contract sees how the table's rows are read.
 #[derive(Drop)]
@@ -63,7 +63,7 @@ impl<'a> Decoders<'a> {
             head,
             spare: Vec::new(alloc),
             rooms: Vec::new(alloc),
-            usual: FIRST_GUESS,
+            usual: 0,
             bytes: None,
         }
     }
@@ -111,6 +111,9 @@ impl<'a> Decoders<'a> {
 
     /// How many vectors more would serve for the texts of two pieces. No contract says so.
     pub(crate) fn wanted(&self) -> usize {
+        if self.usual < FEW {
+            return 0;
+        }
         self.usual
             .saturating_mul(2)
             .saturating_sub(self.rooms.len())
