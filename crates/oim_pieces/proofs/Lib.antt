@@ -4,3 +4,4 @@ pub mod Openings
 pub mod Gives
 pub mod CutLaws
 pub mod SpareLaws
+pub mod Examples

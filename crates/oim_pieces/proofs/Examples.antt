@@ -1,0 +1,149 @@
+-- Pieces of a table that are under way, on worked cases.
+use Rattle.std.proofs.Common.{◌≡◌, ◌∷◌, ◌+◌, ◌≤◌, [], ℕ, List, Some, None, ap, arith, codes, length, refl, true, inl, inr}
+use Rattle.std.specs.Str.{chars, is_utf8}
+use Rattle.csv.specs.Records.{field_at}
+use Rattle.oim_names.specs.Names.{is_ncname, is_name_char, is_name_start, is_plain_char, is_row_identifier}
+use Rattle.oim_records.specs.Grids.{Record}
+use Rattle.oim_report.specs.Readers.{no_level}
+use Rattle.oim_report.specs.ReportValue.{ReportValue}
+use Rattle.oim_report.specs.declared.data.ColumnKind.TheVariants as content
+use Rattle.oim_rows.specs.Header.{fault_at, file_fault}
+use Rattle.oim_rows.specs.RowFacts.{Reading}
+use Rattle.oim_rows.specs.Streams.{Stream, ending, stream_from}
+use Rattle.oim_rows.specs.declared.fault.TableFault.{TableFault}
+use Rattle.oim_rows.specs.declared.fault.TableKind.TheVariants as kind
+use Rattle.oim_decode.specs.Apart.{Apart, apart_from}
+use Rattle.oim_decode.specs.PieceAnswers.{PieceLeft}
+use Rattle.oim_pieces.specs.Comings.{Comes}
+use Rattle.oim_pieces.specs.Cutting.{IsOver, TakesRows, left_over}
+use Rattle.oim_pieces.specs.Flights.{AllRead, AreChained, EndsWith, FlyingPiece, IsAnswer, IsFront, KeepsStream, behind, first_of, left_of, rows_in, rows_left, stream_in}
+use Rattle.std.specs.declared.thread.PromisedHandle.{PromisedHandle}
+use Rattle.oim_pieces.specs.declared.decoded.Asked.{Asked}
+use Rattle.oim_pieces.specs.declared.decoded.Decoded.{Decoded}
+use Rattle.oim_pieces.specs.declared.flying.Coming.TheVariants.{Here, Thread}
+
+-- a report of one table, each of whose rows has an identifier and no facts
+abbrev report : ReportValue
+report = record {
+  info = record { base_url = None; taxonomy = [] };
+  namespaces = [];
+  types = [];
+  level = no_level;
+  templates = record { id = codes "m"; columns = record { id = codes "k"; kind = content.Plain; level = no_level; groups = []; from = [] } ∷ []; row_id_column = Some 0; level = no_level } ∷ [];
+  tables = record { id = codes "t1"; url = codes "t1.csv"; is_optional = true; template = 0; parameters = [] } ∷ [];
+  parameters = [];
+}
+
+abbrev limited : ℕ → Reading
+limited limit = record { report = report; table = 0; limit = limit; header = Some 0 ∷ [] }
+
+abbrev reading : Reading
+reading = limited 9
+
+abbrev a : Record
+a = codes "k" ∷ []
+
+abbrev b : Record
+b = codes "kk" ∷ []
+
+abbrev c : Record
+c = codes "kkk" ∷ []
+
+abbrev read : TableFault
+read = file_fault 0 kind.Read
+
+-- CUTTING. The end leaves no record; a failure, or no end yet, leaves what there is
+records_left_over : (left_over None (Some (a ∷ [])) ≡ Some (a ∷ [])) × (left_over (Some None) (Some (a ∷ [])) ≡ Some []) × (left_over (Some None) None ≡ Some [])
+    × (left_over (Some (Some read)) (Some (a ∷ [])) ≡ Some (a ∷ []))
+records_left_over = (refl, refl, refl, refl)
+
+over : IsOver 0 (Some []) None × IsOver 0 (Some (a ∷ [])) (Some read) × IsOver 0 (Some (a ∷ [])) (Some (file_fault 0 kind.Memory)) × (IsOver 0 (Some (a ∷ [])) None → ⊥)
+over = (refl, inl refl, inr refl, λ h. absurd (cc h))
+
+piece_cut : TakesRows (Some (a ∷ b ∷ c ∷ [])) (a ∷ b ∷ []) (Some (c ∷ []))
+piece_cut = refl
+
+piece_cut_wrong : (TakesRows (Some (a ∷ b ∷ [])) (b ∷ []) (Some (a ∷ [])) → ⊥) × (TakesRows (Some (a ∷ b ∷ [])) (a ∷ []) (Some []) → ⊥) × (TakesRows (Some (a ∷ [])) (a ∷ []) None → ⊥)
+piece_cut_wrong = (λ h. absurd (cc h), λ h. absurd (cc h), λ h. h)
+
+-- DECODERS AND ANSWERS
+abbrev decoder : ℕ → PieceLeft
+decoder limit = record { reading = limited limit; left = [] }
+
+all_read : AllRead reading (decoder 9 ∷ decoder 9 ∷ []) × (AllRead reading (decoder 9 ∷ decoder 8 ∷ []) → ⊥)
+all_read = ((refl, (refl, tt)), λ h. let limits : 8 ≡ 9 = ap (λ (g : Reading). g.limit) h.1.0 in absurd (omega (arith, limits)))
+
+abbrev ids_of : List (List ℕ) → Apart
+ids_of [] = record { rows = []; ids = []; fault = None }
+ids_of (k ∷ ks) = record { rows = [] ∷ (ids_of ks).rows; ids = k ∷ (ids_of ks).ids; fault = None }
+
+answer_of_a_piece : IsAnswer reading 4 (a ∷ b ∷ []) (ids_of (codes "k" ∷ codes "kk" ∷ []))
+unfolding apart_from chars is_row_identifier is_plain_char is_ncname is_name_char is_name_start field_at is_utf8 lib.Utf8.encode
+answer_of_a_piece = record { decoded = inl refl; few = omega arith }
+
+too_many : IsAnswer reading 4294967295 (a ∷ b ∷ []) (ids_of (codes "k" ∷ codes "kk" ∷ [])) → ⊥
+too_many h = let few : 4294967295 + 2 ≤ 4294967296 = h.few in absurd (omega (arith, few))
+
+-- PIECES: rows 4 and 5, then row 6, and what is cut next begins with row 7
+abbrev front : FlyingPiece
+front = record { reading = reading; first = 4; rows = a ∷ b ∷ [] }
+
+abbrev second : FlyingPiece
+second = record { reading = reading; first = 6; rows = c ∷ [] }
+
+chained : AreChained reading (front ∷ second ∷ []) 7
+chained = (refl, refl, (refl, refl, tt))
+
+not_chained : (AreChained reading (front ∷ second ∷ []) 8 → ⊥) × (AreChained reading (second ∷ front ∷ []) 7 → ⊥) × (AreChained (limited 8) (front ∷ []) 6 → ⊥)
+not_chained = (λ h. absurd (omega (arith, h.2.1)), λ h. absurd (omega (arith, h.1)), λ h. let limits : 9 ≡ 8 = ap (λ (g : Reading). g.limit) h.0 in absurd (omega (arith, limits)))
+
+in_order : (first_of (front ∷ second ∷ []) 7 ≡ 4) × (first_of [] 7 ≡ 7) × (rows_in (front ∷ second ∷ []) ≡ a ∷ b ∷ c ∷ [])
+in_order = (refl, refl, refl)
+
+-- the rows of the pieces and then those behind them: a comes again as row 7, a row before them was c
+whole_stream : (rows_left reading [] (front ∷ second ∷ []) 7 (Some (a ∷ [])) ≡ Some (record { rows = [] ∷ [] ∷ [] ∷ []; fault = Some (fault_at 0 7 1 kind.RepeatedRowId) }))
+    × (rows_left reading (codes "kkk" ∷ []) (front ∷ second ∷ []) 7 (Some []) ≡ Some (record { rows = [] ∷ [] ∷ []; fault = Some (fault_at 0 6 1 kind.RepeatedRowId) }))
+    × (rows_left reading [] (front ∷ []) 6 None ≡ None)
+unfolding stream_from chars is_row_identifier is_plain_char is_ncname is_name_char is_name_start field_at is_utf8 lib.Utf8.encode
+whole_stream = (refl, refl, refl)
+
+stream_of_the_cutter : stream_in (record { reading = limited 6; ids = []; pieces = []; cutter = record { table = 0; limit = 6; next = 6; left = Some (a ∷ b ∷ []); over = None } })
+    ≡ Some (record { rows = [] ∷ []; fault = Some (fault_at 0 7 0 kind.TooManyRows) })
+unfolding stream_from chars is_row_identifier is_plain_char is_ncname is_name_char is_name_start field_at is_utf8 lib.Utf8.encode
+stream_of_the_cutter = refl
+
+kept : KeepsStream (Some (ending None)) (Some (ending None)) × (KeepsStream (Some (ending None)) None → ⊥)
+kept = (refl, λ h. absurd (cc h))
+
+-- ENDS. An end that was found stays, whatever else is left; behind a fault nothing comes
+abbrev one : Stream
+one = record { rows = [] ∷ []; fault = None }
+
+left_of_a_table : (left_of None (Some one) ≡ Some one) × (left_of (Some None) (Some one) ≡ Some (ending None)) × (left_of (Some (Some read)) None ≡ Some (ending (Some read)))
+left_of_a_table = (refl, refl, refl)
+
+behind_a_piece : (behind None (Some one) ≡ Some one) × (behind (Some read) (Some one) ≡ Some (ending (Some read))) × (behind (Some read) None ≡ Some (ending (Some read)))
+behind_a_piece = (refl, refl, refl)
+
+ends : EndsWith 0 (Some (ending None)) None × EndsWith 0 (Some one) (Some read) × (EndsWith 0 (Some one) None → ⊥)
+ends = (refl, inl refl, λ h. let counts : 1 ≡ 0 = ap (λ (s : Stream). length s.rows) h in absurd (omega (arith, counts)))
+
+-- JOINED: b came before, and ends the piece at its row
+front_joined : IsFront front (codes "kk" ∷ []) (record { rows = [] ∷ []; fault = Some (fault_at 0 5 1 kind.RepeatedRowId) }) []
+unfolding apart_from chars is_row_identifier is_plain_char is_ncname is_name_char is_name_start field_at is_utf8 lib.Utf8.encode
+front_joined = record { answer = ids_of (codes "k" ∷ codes "kk" ∷ []); decoded = inl refl; joined = inl refl; behind = λ h. absurd (cc h) }
+
+ids_behind : IsFront second (codes "kk" ∷ []) (record { rows = [] ∷ []; fault = None }) (codes "kk" ∷ codes "kkk" ∷ [])
+unfolding apart_from chars is_row_identifier is_plain_char is_ncname is_name_char is_name_start field_at is_utf8 lib.Utf8.encode
+ids_behind = record { answer = ids_of (codes "kkk" ∷ []); decoded = inl refl; joined = inl refl; behind = λ h. refl }
+
+-- COMING: an answer that is here is for what was asked; a thread has promised one for just that
+abbrev asked : Asked → List Record → Asked
+asked any rows = record any { reading = record any.reading { value = reading }; first = 6; rows = record any.rows { value = rows } }
+
+comes_here : (any : Asked) → Comes (asked any (c ∷ [])) (Here (ids_of (codes "kkk" ∷ [])))
+unfolding apart_from chars is_row_identifier is_plain_char is_ncname is_name_char is_name_start field_at is_utf8 lib.Utf8.encode
+comes_here any = record { decoded = inl refl; few = omega arith }
+
+promised : (any : Asked) (h : PromisedHandle Decoded Asked) → h.promise ≡ asked any (c ∷ []) → Comes (asked any (c ∷ [])) (Thread h)
+promised any h is = (ap (λ (p : Asked). p.reading.value) is, ap (λ (p : Asked). p.first) is, ap (λ (p : Asked). p.rows.value) is)
