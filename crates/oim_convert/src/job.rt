@@ -4,7 +4,7 @@ use oim_pieces::Helpers;
 use oim_ring::{Closed, Feed};
 use std::sync::Arc;
 
-/// A table to decode: its place in the report, its reader if it has a file, the feed of its ring, and the count of idle workers.
+/// A table to decode: its place in the report, its reader if it has a file, the feed of its ring, and the count of threads at work.
 #[derive(Drop)]
 pub(crate) struct Job<R> {
     pub(crate) table: usize,

@@ -13,7 +13,7 @@ use std::sync::Arc;
 /// As many facts as fill this many rings may wait in all rings together.
 const FULL_RINGS: usize = 4;
 
-/// The most facts that may wait in all rings together, but for those of the table that is written.
+/// Once so many facts wait in all rings together, tables before their turn wait.
 const MOST_AHEAD: usize = 16_384;
 
 /// How many facts a full block has.

@@ -18,7 +18,7 @@ use std::thread;
 use std::thread::{Scope, Threads};
 
 /// Sends the facts of a table's file, and gives the table's ending. Where there are other workers, threads decode pieces of it in
-/// the places of those that are idle.
+/// the places of those that rest.
 pub(crate) fn send_table<R: Read + Drop, T: Threads + Wait>(
     rt: &T,
     alloc: Global,
@@ -137,7 +137,7 @@ fn take_rooms<R: Read + Drop, T: Wait>(rt: &T, pieces: &mut TablePieces<'_, R>, 
     }
 }
 
-/// Gives back the memory that a table kept for texts, so that others use it.
+/// Gives back the memory that a table kept for texts, as far as the rings keep it for others.
 fn give_back_rooms<R: Read + Drop, T: Wait>(rt: &T, pieces: &mut TablePieces<'_, R>, feed: &Feed) {
     for _ in 0..usize::MAX {
         match pieces.free_room() {

@@ -95,14 +95,14 @@ impl<'a> Decoders<'a> {
         }
     }
 
-    /// Keeps the memory of a vector for texts that are decoded later.
+    /// Keeps the memory of a vector for texts that are decoded later, where there is memory to note it.
     pub(crate) fn keep_room(&mut self, room: Vec<u8>)
         ensures { self.new ≡ self.old }
     {
         let _ = self.rooms.push(room);
     }
 
-    /// Notes how many vectors the texts of a piece took.
+    /// Notes how many blocks a piece gave, each of which has one vector for its texts.
     pub(crate) fn expect(&mut self, count: usize)
         ensures { self.new ≡ self.old }
     {

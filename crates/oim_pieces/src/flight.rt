@@ -174,7 +174,8 @@ impl<'a, R: Read + Drop> Flight<'a, R> {
         }
     }
 
-    /// Whether one more piece is to be cut. The rows of the head, and all that a slow reader gave, wait for no others. No contract says so.
+    /// Whether one more piece is to be cut. The rows of the head, and a short piece, as a slow reader gives it, wait for no others; behind a longer
+    /// one more is read before it is given. No contract says so.
     fn may_cut(&self) -> bool {
         match self.flying.front() {
             Some(_) => {

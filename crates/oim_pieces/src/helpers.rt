@@ -6,7 +6,7 @@ use std::sync::atomic::{AtomicUsize, Ordering};
 const MOST_UNDER_WAY: usize = 16;
 
 /// How the pieces of a report's tables are shared out: about how many bytes a piece has, and how many threads are at work, which are
-/// workers that do not wait and threads that decode pieces. No contract says anything about it.
+/// workers that do not wait for their ring and threads that decode pieces. No contract says anything about it.
 #[derive(Drop)]
 pub struct Helpers {
     busy: AtomicUsize,
@@ -49,7 +49,7 @@ impl Helpers {
         self.busy.load(Ordering::SeqCst) < self.places()
     }
 
-    /// How many threads may be at work: as many as workers, and one more for the worker that waits for an answer.
+    /// A thread is started only where fewer are at work: as many as workers, and one more for the worker that waits for an answer.
     fn places(&self) -> usize {
         self.workers.saturating_add(1)
     }

@@ -1,9 +1,9 @@
 //! The pieces of one table, decoded on more than one thread.
 //!
-//! A worker that has drawn a table cuts its file into pieces that end between two records. While fewer threads are at work than may
-//! be, a thread decodes a piece; otherwise the worker does so itself. `TablePieces` joins the answers in the order of the pieces, so what it
-//! gives is the table's stream, whoever decoded what and whenever it was done: a thread has promised what it answers, which says
-//! of which rows that is.
+//! A worker that has drawn a table cuts its file into pieces that end between two records. Where there is a place
+//! for a thread, it decodes a piece; else the worker does so itself, as it decodes short pieces and the rows that were read with the header.
+//! `TablePieces` joins the answers in the order of the pieces, so what it gives is the table's stream, or a beginning of it before Read or
+//! Memory, whoever decoded what and whenever it was done: a thread has promised what it answers, which says of which rows that is.
 //!
 //! `Helpers` counts how many threads are at work. No contract rests on that count: whatever it says, what is given is right.
 //!

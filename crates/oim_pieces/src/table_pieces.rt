@@ -43,7 +43,7 @@ impl<'a, R: Read + Drop> Model for TablePieces<'a, R> {
 impl<'a, R: Read + Drop> TablePieces<'a, R> {
     /// Reads the header of the table at this place of a report, past one byte-order mark, and the rows that were read with it. The rows
     /// are at most `limits.rows`, itself at most 4,294,967,294. A piece has about as many bytes as `helpers` says, and fewer where the reader gives fewer at a
-    /// time; what is given is the same for each size, and whoever decodes it.
+    /// time; the facts are the same for each size, and whoever decodes them.
     ///
     /// Fails with the header's first fault, in this order: NoHeader, UnknownHeader, RepeatedHeader,
     /// NoRowIdColumn. Fails with Read where the reader failed, and with Memory where memory is
@@ -84,8 +84,8 @@ impl<'a, R: Read + Drop> TablePieces<'a, R> {
         }
     }
 
-    /// The facts of the next piece in blocks of 1 to 256, in header order and row by row, or None at the end. While workers are idle, threads
-    /// of the scope decode pieces that come later. After the end or a fault it answers the same again.
+    /// The facts of the next piece in blocks of 1 to 256, in header order and row by row, or None at the end. Where there are
+    /// places for them, threads of the scope decode pieces that come later. After the end or a fault it answers the same again, which no clause says.
     ///
     /// Fails, where the facts of all rows before were given, with the first fault of the first bad
     /// row, in this order: Ragged, NotUtf8, TooManyRows, MissingRowId, BadRowId, RepeatedRowId, then
