@@ -38,7 +38,7 @@ fn counts() -> bool {
     !helpers.is_alone() && Helpers::new(1, PIECE_SIZE).is_alone()
 }
 
-/// Whether a table gives back the memory that it was given for texts, and asks for more before.
+/// Whether a table that was just opened needs no memory of others, and gives back what it was given.
 fn keeps_rooms(alloc: Global, report: &Report, file: &[u8]) -> bool {
     if report.tables() == 0 {
         return false;
@@ -48,9 +48,10 @@ fn keeps_rooms(alloc: Global, report: &Report, file: &[u8]) -> bool {
     let Ok(mut table) = TablePieces::open(alloc, &helpers, report, 0, file, limits) else {
         return false;
     };
-    let asks = table.wanted_rooms() > 0;
+    let needs_none = table.wanted_rooms() == 0;
+    table.want(true);
     table.keep_room(Vec::new(alloc));
-    asks && table.free_room().is_some() && table.free_room().is_none()
+    needs_none && table.free_room().is_some() && table.free_room().is_none()
 }
 
 /// Whether the first piece of a table has this many blocks.

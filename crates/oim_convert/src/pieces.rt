@@ -125,10 +125,12 @@ fn send_opened<'s, E, R: Read + Drop, T: Threads + Wait>(
     ending
 }
 
-/// Takes memory for the texts of the next pieces, as far as blocks that were written gave it back.
-fn take_rooms<R: Read + Drop, T: Wait>(rt: &T, pieces: &mut TablePieces<'_, R>, feed: &Feed)
+/// Says whether the writer has reached the table, and takes memory for the texts of the next pieces, as far as blocks that were written gave
+/// it back.
+fn make_ready<R: Read + Drop, T: Wait>(rt: &T, pieces: &mut TablePieces<'_, R>, feed: &Feed)
     ensures { pieces.new ≡ pieces.old }
 {
+    pieces.want(feed.is_reached());
     for _ in 0..pieces.wanted_rooms() {
         match feed.kept_room(rt) {
             Some(room) => pieces.keep_room(room),
@@ -163,7 +165,7 @@ fn send_left<'s, E, R: Read + Drop, T: Threads + Wait>(
         match pieces.next_blocks(scope, rt) {
             Ok(Some(blocks)) => {
                 put_all(rt, helpers, feed, blocks);
-                take_rooms(rt, pieces, feed);
+                make_ready(rt, pieces, feed);
             }
             Ok(None) => return Ending::Closed,
             Err(fault) => return Ending::Refused(fault),

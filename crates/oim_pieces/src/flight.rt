@@ -23,6 +23,9 @@ use std::io::Read;
 use std::marker::Model;
 use std::thread::{Scope, Threads};
 
+/// How many pieces of a table are under way at once where nobody waits for them yet.
+const FEW_UNDER_WAY: usize = 1;
+
 /// The pieces of a table that are under way, in their order, and what cuts, decodes and joins them. A contract sees how the rows are read,
 /// the identifiers of the rows that were given, the pieces, and what is left to be cut.
 #[derive(Drop)]
@@ -36,6 +39,8 @@ pub(crate) struct Flight<'a, R: Read + Drop> {
     flying: VecDeque<Flying<'a>>,
     // whether the rows of the head were given
     has_given: bool,
+    // whether what is given is wanted at once
+    is_wanted: bool,
 }
 
 impl<'a, R: Read + Drop> Model for Flight<'a, R> {
@@ -132,6 +137,7 @@ impl<'a, R: Read + Drop> Flight<'a, R> {
             join: PieceJoin::new(alloc),
             flying,
             has_given: false,
+            is_wanted: false,
         })
     }
 
@@ -167,10 +173,26 @@ impl<'a, R: Read + Drop> Flight<'a, R> {
         ensures stream { KeepsStream (stream_in self.old) (stream_in self.new) }
         ensures table { self.new.cutter.table ≡ self.old.cutter.table }
     {
-        for _ in 0..self.helpers.window() {
+        for _ in 0..self.window() {
             if !self.may_cut() || !self.cut_next(scope) {
                 return;
             }
+        }
+    }
+
+    /// Notes whether what is given is wanted at once.
+    pub(crate) fn want(&mut self, is_wanted: bool)
+        ensures { self.new ≡ self.old }
+    {
+        self.is_wanted = is_wanted;
+    }
+
+    /// How many pieces may be under way at once.
+    fn window(&self) -> usize {
+        if self.is_wanted {
+            self.helpers.window()
+        } else {
+            FEW_UNDER_WAY
         }
     }
 
@@ -181,7 +203,7 @@ impl<'a, R: Read + Drop> Flight<'a, R> {
             Some(_) => {
                 self.has_given
                     && !self.cutter.is_slow()
-                    && self.flying.len() < self.helpers.window()
+                    && self.flying.len() < self.window()
                     && self.helpers.are_idle()
             }
             None => true,

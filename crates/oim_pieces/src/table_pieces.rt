@@ -118,6 +118,13 @@ impl<'a, R: Read + Drop> TablePieces<'a, R> {
         }
     }
 
+    /// Notes whether what is given is wanted at once. Until it is, few pieces are under way, so that they take little memory.
+    pub fn want(&mut self, is_wanted: bool)
+        ensures { self.new ≡ self.old }
+    {
+        self.flight.want(is_wanted);
+    }
+
     /// Keeps the memory of a block that was written, for texts that are decoded later.
     pub fn keep_room(&mut self, room: Vec<u8>)
         ensures { self.new ≡ self.old }

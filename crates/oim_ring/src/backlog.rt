@@ -208,6 +208,11 @@ impl BacklogHandle {
         self.backlog.rooms.pop(rt)
     }
 
+    /// Whether the writer has reached this table.
+    pub(crate) fn is_reached(&self) -> bool {
+        self.backlog.turn.load(Ordering::SeqCst) >= self.table
+    }
+
     /// Whether the backlog holds back the feed of this table.
     pub(crate) fn is_held(&self) -> bool {
         self.backlog.holds(self.table)

@@ -184,6 +184,11 @@ impl Feed {
         self.backlog.wait(rt);
     }
 
+    /// Whether the writer has reached this feed's table. No clause says so.
+    pub fn is_reached(&self) -> bool {
+        self.backlog.is_reached()
+    }
+
     /// Keeps the memory of a vector that was got by `room` and is not needed, for blocks of any table of the report.
     pub fn give_back<R: Wait>(&self, rt: &R, room: Vec<u8>) {
         self.backlog.keep_room(rt, room);

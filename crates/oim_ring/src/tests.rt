@@ -249,7 +249,14 @@ fn comes_back<T: Wait>(rt: &T, alloc: Global) -> Result<bool, AllocError> {
     let room = next.room(rt, alloc);
     let is_kept = !room.is_empty() && feed.room(rt, alloc).is_empty();
     next.give_back(rt, room);
-    Ok(was_empty && is_kept && feed.kept_room(rt).is_some() && feed.kept_room(rt).is_none())
+    let is_first = feed.is_reached() && !next.is_reached();
+    Ok(
+        is_first
+            && was_empty
+            && is_kept
+            && feed.kept_room(rt).is_some()
+            && feed.kept_room(rt).is_none(),
+    )
 }
 
 #[test]

@@ -18,10 +18,10 @@ loop-preserved g c =
     let gives = rw (c.in-Ok-Some.field-0-is, c.loop.invariant.table) at c.in-Ok-Some.ensures.blocks in
     let blocks = c.in-Ok-Some.blocks in
     record {
-      table = ap (λ (p : PiecesLeft). p.table) c.take_rooms.ensures ∙ c.next_blocks.ensures.same ∙ c.loop.invariant.table;
+      table = ap (λ (p : PiecesLeft). p.table) c.make_ready.ensures ∙ c.next_blocks.ensures.same ∙ c.loop.invariant.table;
       ring = c.put_all.ensures.ring ∙ c.loop.invariant.ring;
       reading = IfSome_then c.args.pieces.now.left c.loop.invariant.reading (λ whole r.
-          subst (λ (p : PiecesLeft). IsReading c.args.pieces.now.table whole (facts_in c.put_all.new.feed.sent) [] p.left) (sym c.take_rooms.ensures)
+          subst (λ (p : PiecesLeft). IsReading c.args.pieces.now.table whole (facts_in c.put_all.new.feed.sent) [] p.left) (sym c.make_ready.ensures)
           (block_given c.args.pieces.now.table whole (facts_in c.loop.feed.sent) [] [] c.next_blocks.new.self.left c.loop.pieces.left
           (facts_of_rows blocks.items) (facts_in c.put_all.new.feed.sent) r gives c.put_all.ensures.sent));
     }

@@ -1,5 +1,5 @@
 use Rattle.std.proofs.Common.{◌≡◌}
-use Rattle.oim_convert.proofs.pieces.take_rooms.Given as goal
+use Rattle.oim_convert.proofs.pieces.make_ready.Given as goal
 
 abbrev pub invariant-loop : goal.invariant-loop
 invariant-loop g l = record {
