@@ -1,8 +1,8 @@
 # Completion of xbrl-json for fish: install this file in ~/.config/fish/completions or /usr/share/fish/vendor_completions.d.
 
 complete -c xbrl-json -l types -rF -d 'The types table: the type of each concept and dimension'
-complete -c xbrl-json -l workers -x -d 'How many tables are read at once'
-complete -c xbrl-json -l ring -x -d 'How many blocks of up to 256 facts may wait for one table; for all tables, about five times as many'
+complete -c xbrl-json -l workers -x -d 'How many threads decode the tables'
+complete -c xbrl-json -l ring -x -d 'How many blocks of up to 256 facts may wait for one table'
 complete -c xbrl-json -l out -rF -d 'The file of the document, which is emptied first'
 complete -c xbrl-json -l whole -d 'FILE gets the document only once it is whole, and is else left as it was'
 complete -c xbrl-json -l layout -x -a 'compact lines' -d 'The document on one line, or with a line for each fact'
