@@ -10,7 +10,7 @@ fn is_blank(byte: u8) -> bool
     matches!(byte, b' ' | b'\t' | b'\r' | b'\n')
 }
 
-/// What follows the blank at the front of a text. `None` where the text does not begin with a blank.
+/// A text without a blank at its front, or without more of them. `None` where it does not begin with a blank.
 fn after_blank(text: &str) -> Option<&str>
     ensures { MatchOption result (without_front text.now ≡ text.now)
         (λ r. (without_front text.now ≡ without_front r.now) × (length r.now < length text.now)) }
@@ -21,7 +21,7 @@ fn after_blank(text: &str) -> Option<&str>
     }
 }
 
-/// What stands before the blank at the end of a text. `None` where the text does not end with a blank.
+/// A text without a blank at its end, or without more of them. `None` where it does not end with a blank.
 fn before_blank(text: &str) -> Option<&str>
     ensures { MatchOption result (without_back text.now ≡ text.now)
         (λ r. (without_back text.now ≡ without_back r.now) × (length r.now < length text.now)) }

@@ -3,9 +3,9 @@
 //! What is proved, for every text:
 //!
 //! - [`meaning`] tells the special values (`#none`, `#nil`, `#empty`, a doubled `#`) from plain text. Each text has one meaning.
-//! - [`split_numeral`] gives the numeral of a text and the decimals behind it, as in `1250.5d-2`, exactly where the text has one.
-//!   No text is split in two ways.
-//! - [`decimals`] gives `INF` or a number of places exactly where the text says so.
+//! - [`split_numeral`] gives the numeral that a text writes between the blanks at its ends, and the decimals behind it, as in
+//!   `1250.5d-2`, exactly where it writes one. No text is split in two ways.
+//! - [`decimals`] gives `Infinite` or a number of places exactly where the text says so.
 //! - [`is_boolean`] is true exactly of the four boolean values, and [`trimmed`] takes the blanks off both ends of a text.
 //!
 //! The calls take no memory and never fail.

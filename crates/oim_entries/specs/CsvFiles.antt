@@ -10,7 +10,7 @@ use Rattle.oim_entries.specs.declared.fault.MetaFault.TheVariants as fault
 use Rattle.oim_records.specs.declared.read_fault.ReadFault.{ReadFault}
 use Rattle.oim_records.specs.declared.read_fault.ReadFault.TheVariants as read
 
--- the field at a place, if it is text
+-- a field, if it is text, and the one at a place
 abbrev pub text_of : Field → Option Field
 text_of f = if is_utf8 f then Some f else None
 
@@ -61,7 +61,7 @@ abbrev pub file_result : {S : Type 0} → MetaFault → (Record → Option (Entr
 file_result bad chosen [] = Err bad
 file_result bad chosen (r ∷ rs) = option_map_or (λ f. all_of f 0 f.start rs) (chosen r) (Err bad)
 
--- the answer, unless the reader failed or memory ran out
+-- the answer, or that the reader failed or memory ran out
 abbrev pub OrOutside : {A : Type 0} → Result A MetaFault → Result A MetaFault → Type 0
 OrOutside result answer = (result ≡ Err fault.Read) ⊎ ((result ≡ Err fault.Memory) ⊎ (result ≡ answer))
 

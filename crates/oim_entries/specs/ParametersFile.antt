@@ -30,6 +30,6 @@ parameters_file = record { limit = most_parameters; bad = fault.BadParameter; st
 abbrev pub parameters_chosen : Record → Option (EntryFile ParametersValue)
 parameters_chosen header = if is_parameters_header header then Some parameters_file else None
 
--- the parameters of a file, or the fault of its earliest bad record
+-- the parameters of a file, or the fault of its header or of its earliest bad record
 abbrev pub parameters_result : List Record → Result ParametersValue MetaFault
 parameters_result = file_result fault.BadParameter parameters_chosen

@@ -30,6 +30,6 @@ types_file words = record { limit = most_types; bad = fault.BadTypes; start = []
 abbrev pub types_chosen : Record → Option (EntryFile TypesValue)
 types_chosen header = option_map types_file (words_chosen header)
 
--- the types of a file whose header chooses the words, or the fault of its earliest bad record
+-- the types of a file whose header chooses the words, or the fault of its header or of its earliest bad record
 abbrev pub types_result : List Record → Result TypesValue MetaFault
 types_result = file_result fault.BadTypes types_chosen

@@ -23,7 +23,7 @@ IsEarliestBad {S} f n s rs e = (m : ℕ) × (r : Record) × (t : S) × (record_a
 abbrev pub kind_by : Words → List ℕ → List ℕ → Field × Field × Field → Option Kind
 kind_by words uri local p = if bytes_eq p.0 uri && bytes_eq p.1 local then value_at p.2 words else None
 
--- the kind that the first record of a name in a namespace gives to it
+-- the kind that a name in a namespace has by the first record that gives it one
 abbrev pub kind_said : Words → List Record → List ℕ → List ℕ → Option Kind
 kind_said words [] uri local = None
 kind_said words (r ∷ rs) uri local = option_or (option_and_then (kind_by words uri local) (three_texts r)) (kind_said words rs uri local)

@@ -110,7 +110,7 @@ fn read_records<E: Entries, R: Read>(
     }
 }
 
-/// What a whole file gives, or the fault of its earliest bad record.
+/// What a whole file gives, or the fault of its header or of its earliest bad record.
 pub(crate) fn read_file<E: Entries, R: Read + Drop>(
     alloc: Global,
     reader: R,

@@ -13,15 +13,15 @@ use std::fmt::{Display, Formatter};
 /// Why a metadata, its parameters file or its types table is refused.
 #[derive(Clone, Copy, Debug, PartialEq, Eq)]
 pub enum MetaFault {
-    /// The bytes are not well-formed JSON in UTF-8.
+    /// The bytes are not a JSON text in UTF-8, as `serde_json` reads one.
     Syntax,
     /// The value is not an object, or its document is not of the type xBRL-CSV.
     NotReport,
     /// The namespaces are not an object of texts, a prefix is not an NCName, or a URI has two prefixes.
     BadNamespaces,
-    /// The taxonomy is not a list of texts, or the base URL is not a text.
+    /// The taxonomy is absent or not a list of texts, or the base URL is not a text.
     BadTaxonomy,
-    /// The metadata extends another, or has links.
+    /// `extends` is there and is no empty list, or `links` is there and is no empty object.
     Unsupported,
     /// The key of a template, table or column is not an identifier.
     BadIdentifier,
@@ -31,16 +31,16 @@ pub enum MetaFault {
     ColumnKinds,
     /// A table names a template that is not there.
     UnknownTemplate,
-    /// A template refers to a column that it does not define.
+    /// A template's `rowIdColumn` names no column of it, or a `propertiesFrom` no property group column of it.
     UnknownColumn,
     /// The key of a dimension is not known, or its value is not well-formed.
     BadDimension,
     /// The value of `decimals` is not well-formed.
     BadDecimals,
-    /// Parameters are not texts under identifiers, a name appears twice, or the parameters file's name
-    /// is not a plain path.
+    /// Parameters are not texts under identifiers, a name appears twice, the parameters file's name is not a
+    /// plain path, or that file has a bad header or record.
     BadParameter,
-    /// The types table has a bad record.
+    /// The types table has a bad header or record.
     BadTypes,
     /// There are more bytes, tables, columns or records than the limit.
     TooLarge,

@@ -77,9 +77,9 @@ impl Entries for NamesWithValues {
 ///
 /// # Errors
 ///
-/// The fault of the earliest bad record:
+/// The fault of the header or of the earliest bad record, or that the file could not be read on:
 ///
-/// - `BadParameter`: the file is empty, the header is another, a record does not have two fields, a field is
+/// - `BadParameter`: the file has no record, the header is another, a record does not have two fields, a field is
 ///   not UTF-8, or a name is not an identifier or appears twice;
 /// - `TooLarge`: there is a record after the 65,536th data record, whatever it holds;
 /// - `Memory`: memory ran out;

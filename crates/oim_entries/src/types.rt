@@ -79,9 +79,9 @@ impl Entries for TypeWords {
 ///
 /// # Errors
 ///
-/// The fault of the earliest bad record:
+/// The fault of the header or of the earliest bad record, or that the file could not be read on:
 ///
-/// - `BadTypes`: the file is empty, the header is another, a record does not have three fields, a field is not
+/// - `BadTypes`: the file has no record, the header is another, a record does not have three fields, a field is not
 ///   UTF-8, a name is not an NCName or appears twice in its namespace, or a word is not one of the header's;
 /// - `TooLarge`: there is a record after the 1,048,576th data record, whatever it holds;
 /// - `Memory`: memory ran out;

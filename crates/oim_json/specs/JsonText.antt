@@ -1,4 +1,5 @@
--- The text of a fact and of a report's head in xBRL-JSON: compact, members and names in byte order.
+-- The text of a fact and of a report's head in xBRL-JSON 1.0: compact, the members of each object in byte order, but dimensions and prefixes in
+-- the order of the fact and of the report.
 use Rattle.std.specs.Prelude.{Bool, not, ◌&&◌, ℕ, zero, suc, ◌/◌, ◌%◌, ℤ, List, [], ◌∷◌, ◌++◌, map, flat_map, Option, Some, None, codes, ◌==◌, nat_lt, if◌then◌else◌}
 use Rattle.std.specs.Char.{digit_char}
 use Rattle.std.specs.List.{join_with_byte}

@@ -29,7 +29,7 @@ with_commas [] = []
 with_commas (t ∷ []) = t ∷ []
 with_commas (t ∷ u ∷ ts) = (t ++ codes ",") ∷ with_commas (u ∷ ts)
 
--- the lines of a document that ends after these facts: its head, and each fact's text with its comma
+-- the lines of a document that ends after these facts: its head, and each fact's text, all but the last with a comma
 abbrev pub lines_after : ReportValue → List Fact → List (List ℕ)
 lines_after report facts = head_text report ∷ with_commas (map member_text facts)
 

@@ -15,7 +15,7 @@ use std::marker::Model;
 use told::{Tells, Told};
 
 /// The texts of 1 to 256 facts, joined by commas. A contract sees the list of facts; the block itself
-/// keeps only their texts.
+/// keeps only their texts and where each ends.
 #[derive(Drop)]
 pub struct Block {
     // each text behind a comma
@@ -47,7 +47,7 @@ impl Tells<Items<Fact>> for Lent<'_> {
     ghost told = { λ a. a.facts.now };
 }
 
-/// The block of 1 to 256 facts. It fails only if memory runs out.
+/// The block of 1 to 256 facts. Where memory runs out it fails.
 pub fn block_of(alloc: Global, facts: &[Fact]) -> Result<Block, AllocError>
     requires some { 1 ≤ length facts.now }
     requires most { length facts.now ≤ 256 }
@@ -106,7 +106,7 @@ impl Block {
         if any { bytes } else { without_first(bytes) }
     }
 
-    /// The text of the fact at a place, counted from 0: its identifier and its object.
+    /// The text of the fact at a place below `count`, counted from 0: its identifier and its object.
     pub fn text(&self, i: usize) -> &[u8]
         requires { i < length self.now }
         ensures { option_map member_text (slice_get self.now i) ≡ Some result.now }

@@ -66,8 +66,8 @@ impl Chunk {
         answer
     }
 
-    /// Puts a text behind what waits. Where there is no room for it, what waits is written first; and
-    /// a text that is longer than a chunk is written at once.
+    /// Puts a text behind what waits: what is written, and then what still waits, is what waited and then the text.
+    /// When it is written stands in no clause: where there is no room, and a text longer than a chunk at once.
     pub(crate) fn put<W: Sink>(&mut self, sink: &mut W, text: &[u8]) -> Result<(), WriteFault>
         ensures { Puts (W.seen sink.old) (W.seen sink.new) self.old self.new text.now result }
     {

@@ -23,8 +23,8 @@ pub fn tail(layout: Layout) -> &'static [u8]
     }
 }
 
-/// What stands before the members: the report's information in xBRL-JSON 1.0, on one line. It fails
-/// only if memory runs out.
+/// What stands before the members: the report's information (xBRL-JSON 1.0, documentInfo), on one line.
+/// Where memory runs out it fails.
 pub fn head(alloc: Global, report: &Report) -> Result<Vec<u8>, AllocError>
     ensures { IfOk result (λ bytes. bytes.items ≡ head_text report.now) }
 {

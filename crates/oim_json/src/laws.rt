@@ -17,8 +17,8 @@ pub fn fact_lists_are_one_line()
     ensures { FactListsAreOneLine }
 {}
 
-/// A document in lines, cut at its line feeds, gives its head, each fact's text with its comma, in
-/// order, and where it is finished the closing braces on the last line.
+/// A document in lines, cut at its line feeds, gives its head, each fact's text in order, all but the
+/// last with a comma, and where it is finished the closing braces on the last line.
 pub fn lines_are_members()
     ensures { LinesAreMembers }
 {}

@@ -8,11 +8,11 @@
 //!   head, each fact's text with its comma, and the closing braces (`specs/Lines.antt`);
 //! - `write_members`, if it is Ok, has written the members of a block in the layout asked for;
 //! - `write_all_of`, if it is Ok, has written all of its bytes; else it has written a beginning of them,
-//!   and the sink's mark is the fault that it answers;
+//!   not all, and the sink's mark is the fault that it answers;
 //! - a `Marked` holds what its writer holds, and gives the writer back with what the sink was told.
 //!
 //! What only tests show: that a `Marked` asks its writer once and answers what it answered, and in how
-//! many writes members are written.
+//! many writes members are written in lines.
 //!
 //! A call:
 //!

@@ -29,7 +29,7 @@ impl Model for Member {
     ghost invariant = { λ m. m.bytes.items ≡ member_text m.fact.value };
 }
 
-/// The member of a fact (xBRL-JSON 1.0, the facts object). It fails only if memory runs out.
+/// The member of a fact (xBRL-JSON 1.0, the facts object). Where memory runs out it fails.
 pub fn member_of(alloc: Global, fact: &Fact) -> Result<Member, AllocError>
     ensures { IfOk result (λ m. m ≡ fact.now) }
 {

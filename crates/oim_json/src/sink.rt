@@ -13,7 +13,8 @@ pub trait Sink {
     /// The mark that its last write left, and the bytes that it holds, where it tells them.
     ghost seen: { Self → SinkView };
 
-    /// Writes some of the bytes, and answers how many: at most all of them, and 0 where it takes none.
+    /// Writes some of the bytes, of which there is one at least, and answers how many: at most all of them, and 0
+    /// where it takes none. An error took none. The mark is Zero or Failed then, and else stays.
     fn write_some(&mut self, bytes: &[u8]) -> io::Result<usize>
         requires { 0 < length bytes.now }
         ensures { WritesSome (seen self.old) (seen self.new) result bytes.now };
@@ -64,7 +65,8 @@ impl<W: Write> Sink for Marked<W> {
 }
 
 /// Writes all the bytes. If a write answers an error (`Failed`) or takes nothing (`Zero`), a beginning
-/// of them is written. No bytes are Ok without a write, also where a write has failed before.
+/// of them is written, not all, and the mark is that fault. No bytes are Ok without a write, also where a
+/// write has failed before.
 pub fn write_all_of<W: Sink>(sink: &mut W, bytes: &[u8]) -> Result<(), WriteFault>
     ensures { WritesAll (W.seen sink.old) (W.seen sink.new) result bytes.now }
 {

@@ -32,7 +32,7 @@ fn needs_no_escape(text: &str) -> bool
     text.as_bytes().iter().all(|byte| stands_for_itself(*byte))
 }
 
-/// Appends a text in quotes. Most texts need no escape, and are copied as they are.
+/// Appends a text in quotes. One that needs no escape is copied as it is.
 pub(crate) fn push_text(alloc: Global, out: &mut Vec<u8>, text: &str) -> Result<(), AllocError>
     ensures { OnOk result (out.new.items ≡ out.old.items ++ quoted text.now) }
 {

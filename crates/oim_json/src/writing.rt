@@ -14,8 +14,9 @@ use crate::sink::{Sink, write_all_of};
 
 /// Writes the members of a block's facts, behind those that the document has already, if it has
 /// `any`. If a write answers an error (`Failed`) or takes nothing (`Zero`), a beginning of these members
-/// is written. It takes no memory apart from what the sink takes. A compact block is written as one
-/// text; in lines up to 8,192 bytes are put together for each write: a test shows it, and no clause.
+/// is written, not all, and the mark is that fault. It takes no memory apart from what the sink takes. In how
+/// many writes stands in no clause: a compact block is one text; in lines up to 8,192 bytes are put together
+/// for each write, as a test shows.
 pub fn write_members<W: Sink>(
     sink: &mut W,
     layout: Layout,

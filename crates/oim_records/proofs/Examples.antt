@@ -1,5 +1,5 @@
--- The definitions on small texts that show each rule. The answers come from RFC 4180; where a text is no RFC 4180 they are those of the
--- `csv` crate of Rust with headers off and records of any length.
+-- The definitions on small texts that show each rule. The answers come from RFC 4180; where a text is no RFC 4180, and for lines without a
+-- character, they are those of the `csv` crate of Rust with headers off and records of any length.
 use Rattle.std.proofs.Common.{◌≡◌, ◌++◌, ℕ, zero, suc, List, [], ◌∷◌, Bool, true, false, Some, None, codes, map, refl, arith}
 use Rattle.std.specs.List.{All, list_all, list_any}
 use Rattle.std.specs.Str.{chars, is_utf8}

@@ -13,7 +13,7 @@ abbrev pub IsTaken : List ℕ → Record → List ℕ → Type 0
 IsTaken text fields rest = records_left state.StartRecord text ≡ fields ∷ records_left state.StartRecord rest
 
 -- The text ends at a place, and from another place on its records are left; the fields of the record at hand stand before its end.
--- Where it is known to be UTF-8, so are all of these.
+-- Where it is said to be UTF-8, all fields of these are.
 abbrev pub Holds : List ℕ → ℕ → ℕ → List FieldRange → Bool → Type 0
 Holds bytes end at ranges is_text = (end ≤ length bytes) × (at ≤ end) × All (IsWithin end) ranges
     × (is_text ≡ true → AreTexts (records_left state.StartRecord (drop at (take end bytes))) × AllText (fields_in bytes ranges))
