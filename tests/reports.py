@@ -837,10 +837,12 @@ def each_beginning_of_a_table(folder):
 
 
 def long_cells(folder):
+    """Cells of more bytes than a block has, and than a piece and a read of the file have."""
     write(folder, {"t.csv": TYPES, "m.json": METADATA})
-    for length in (4_096, 4_097, 100_000):
-        write(folder, {"t1.csv": f"note\n{'x' * length}\n"})
-        converts(folder, f"a cell of {length} bytes", f"t1.r_1.note - Note - {'x' * length}")
+    for length in (4_096, 4_097, 100_000, 300_000):
+        long = "x" * length
+        write(folder, {"t1.csv": f"note\nfirst\n{long}\nlast\n"})
+        converts(folder, f"a cell of {length} bytes", f"t1.r_1.note - Note - first; t1.r_2.note - Note - {long}; t1.r_3.note - Note - last")
 
 
 def wide_rows(folder):
