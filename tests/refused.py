@@ -178,6 +178,22 @@ def some_threads_refused(folder, document, pool):
         case(f"threads refused: {mask:04b}, ring {ring}", None if (status, out, err) == wanted else f"{status} {err} {len(out)} of {len(whole)} bytes")
 
 
+def pieces_without_threads(folder, document, pool):
+    """A table of many pieces, whose threads are refused, one or all from one on: the worker decodes the pieces itself, and the document is whole."""
+    rows = 40_000
+    pieces = copied(folder, "pieces", {"t1": "t1"})
+    (pieces / "t1.csv").write_text("name,cash,note\n" + "".join(f"t1{i},{i},a note of some length\n" for i in range(rows)))
+    counts = folder / "counts"
+    status, whole, err = run(pieces, "", ["--workers", "1"])
+    case("a table of many pieces", None if (status, err) == (0, "") and len(json.loads(whole)["facts"]) == 2 * rows else (status, err))
+    case("the same by threads", None if run(pieces, "", ["--workers", "4"], str(counts)) == (0, whole, "") else "another document")
+    threads = int(re.search(r"thread (\d+)", counts.read_text())[1])
+    case("its pieces have threads of their own", None if threads > 8 else f"{threads} threads")
+    todo = [f"thread:{k}" for k in range(2, 10)] + [f"thread:{k}+" for k in range(2, 10)]
+    for refuse, seen in zip(todo, pool.map(lambda it: run(pieces, it, ["--workers", "4"]), todo)):
+        case(f"pieces, {refuse}", None if seen == (0, whole, "") else (seen[0], seen[2], len(seen[1])))
+
+
 def one_worker_without_threads(folder, document, pool):
     """One worker works on the program's own thread."""
     for ring in ("1", "1024"):
@@ -315,7 +331,7 @@ def main():
         status, whole, err = run(folder)
         case("nothing refused", None if (status, err) == (0, "") and len(json.loads(whole)["facts"]) == 18 else (status, err))
         document = Document(whole)
-        for part in (each_call_refused, some_threads_refused, one_worker_without_threads, cut_short, each_open_refused_beside_an_output, an_output_that_cannot_be_emptied, a_whole_output_or_none, a_file_of_faults_or_none, a_first_write_that_fails):
+        for part in (each_call_refused, some_threads_refused, pieces_without_threads, one_worker_without_threads, cut_short, each_open_refused_beside_an_output, an_output_that_cannot_be_emptied, a_whole_output_or_none, a_file_of_faults_or_none, a_first_write_that_fails):
             part(folder, document, pool)
     print(f"on a system that refuses: {count - len(failed)} as they must be, {len(failed)} not")
     sys.exit(1 if failed else 0)
