@@ -1,6 +1,7 @@
 #!/usr/bin/env python3
 """Compares docs/FAULTS.md with the sources: each fault that a crate numbers and names is in the table, and the other way round,
-each is explained in the sources by one sentence, and each sentence of `--explain` is there, word for word, and no other.
+each is explained in the sources by one sentence, and each sentence of `--explain` is there, word for word, and no other. A fault of a cell
+that has its own name among those of a table is the one of that name.
 
     tests/fault_table.py
 
@@ -18,6 +19,9 @@ SENTENCE = re.compile(r'"(\w+ [^"\\\\]*[^"\\\\ ,:])"')
 SENTENCE_ROW = re.compile(r"^\| (all|[\d, ]+) \| (.*) \|$", re.M)
 ROW = re.compile(r"^\| (\d+) (\w+) \|", re.M)
 
+
+# The faults of a cell under their own names among those of a table, which are patterns for who builds on the libraries.
+SAME = re.compile(r"^\s*pub const (\w+): \w+ = \w+::Cell\(\w+::(\w+)\);$", re.M)
 
 # Faults of the metadata at whose file as a whole `--explain` says how they explain themselves; the others have sentences of their own.
 OF_WHOLE_FILES = "MetaFault::Memory", "MetaFault::Read"
@@ -56,6 +60,9 @@ def main():
     wrong += [f"not in docs/FAULTS.md: {it}" for it in sorted(sources - set(rows))]
     wrong += [f"not in the sources: {it}" for it in sorted(set(rows) - sources)]
     wrong += [f"twice: {it}" for it in sorted({it for it in rows if rows.count(it) > 1})]
+    same = SAME.findall((TOP / "crates/oim_rows/src/fault.rt").read_text())
+    wrong += [f"{name} is {variant}" for name, variant in same if name != variant]
+    wrong += [] if len(same) == 11 else [f"{len(same)} faults of a cell have their own names"]
     table = SENTENCE_ROW.findall(next((it for it in sections if it.startswith("What `--explain` says")), ""))
     own, said = sentences_in_sources(), {it for _, it in table}
     of_fault = {(int(number), it) for row, it in table if row != "all" for number in row.split(", ")}

@@ -1,5 +1,5 @@
 -- The faults of a metadata's document, templates and tables (xBRL-CSV 1.0: documentInfo, table templates, columns, tables).
--- A part of the wrong shape has only the fault of its shape.
+-- What is not an object has no members, and what is not a list no items, so nothing is wrong inside it.
 use Rattle.std.specs.Prelude.{ℕ, List, [], Bool, true, false, not, ◌||◌, ◌&&◌, bytes_eq, Option, option_map, option_and_then, unwrap_or, is_some, is_none, codes}
 use Rattle.serde_json.specs.Data.{Data, Items, Members}
 use Rattle.serde_json.specs.Find.{get, as_array, as_bool}

@@ -36,14 +36,14 @@ has_fault limits given types d TooLarge = has_too_many limits d
 has_fault limits given types d Memory = false
 has_fault limits given types d Read = false
 
--- the faults that the metadata alone shows, and those that are looked for with the types, the parameters file's parameters and the limits
+-- the faults up to 10, which the metadata alone shows, and the later ones, which may rest on the types, the parameters file or the limits
 abbrev pub early_faults : List MetaFault
 early_faults = NotReport ∷ BadNamespaces ∷ BadTaxonomy ∷ Unsupported ∷ BadIdentifier ∷ BadTemplate ∷ ColumnKinds ∷ UnknownTemplate ∷ UnknownColumn ∷ []
 
 abbrev pub late_faults : List MetaFault
 late_faults = BadDimension ∷ BadDecimals ∷ BadParameter ∷ TooLarge ∷ []
 
--- the faults in the order in which they are looked for, which is that of their numbers
+-- the faults in the order of their numbers
 abbrev pub faults_in_order : List MetaFault
 faults_in_order = early_faults ++ late_faults
 

@@ -28,7 +28,7 @@ repeats_seen seen (member name d ms) = is_some (value_at (text_of d) seen) || re
 abbrev pub IsAbove : List ℕ → Members → Type 0
 IsAbove name ms = AllByRecursion (λ other. slice_cmp nat_cmp name other ≡ Less) (names_of ms)
 
--- the names of an object rise, and so do those of each object among its values
+-- the names of an object rise, and so do those of each object among its values; of what a list holds nothing is said
 abbrev mutual
   pub IsInOrder : Data → Type 0
   IsInOrder null = ⊤

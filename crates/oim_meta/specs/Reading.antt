@@ -21,7 +21,7 @@ use Rattle.oim_meta.specs.Value.{report_of}
 abbrev pub after_mark : List ℕ → List ℕ
 after_mark bytes = if pointwise nat_eq (take 3 bytes) (239 ∷ 187 ∷ 191 ∷ []) then drop 3 bytes else bytes
 
--- the bytes are JSON text for d
+-- the bytes are JSON text for d, as `serde_json` reads it: up to 127 levels deep, and of a key that comes twice the last value
 abbrev pub IsJson : List ℕ → Data → Type 0
 IsJson bytes d = IsUtf8 (after_mark bytes) × (read (after_mark bytes) ≡ Some d)
 

@@ -79,14 +79,14 @@ MayHaveDimensions d = IfSome (get (codes "dimensions") d) IsObject
 abbrev pub IsGroup : List ℕ → Data → Type 0
 IsGroup name g = (name ≢ []) × IsObject g × MayHaveDimensions g
 
--- a column: an object whose property groups are such, whose comment is a truth value, and which takes properties from a list of texts if
--- it has dimensions
+-- a column: an object whose dimensions, property groups and comment, if they are there, are an object, such groups and a truth value, and which
+-- takes properties from a list of texts, if from any, where it has dimensions
 abbrev pub IsColumn : List ℕ → Data → Type 0
 IsColumn _ c =
     IsObject c × MayHaveDimensions c × IfSome (get (codes "propertyGroups") c) (IsObjectOf IsGroup) × IfSome (get (codes "comment") c) IsFlag
     × (IsSome (get (codes "dimensions") c) → IfSome (get (codes "propertiesFrom") c) (IsListOf IsText))
 
--- a template: it has an object of columns, and rowIdColumn is a text if it is there
+-- a template: it has an object of columns, and dimensions is an object and rowIdColumn a text if they are there
 abbrev pub IsTemplate : List ℕ → Data → Type 0
 IsTemplate _ t =
     IsSomeAnd (get (codes "columns") t) (IsObjectOf IsColumn) × MayHaveDimensions t × IfSome (get (codes "rowIdColumn") t) IsText
@@ -97,7 +97,7 @@ IsTable _ t =
     IsSomeAnd (text_at (codes "url") t) (λ url. is_plain_path url ≡ true) × IfSome (get (codes "template") t) IsText
     × IfSome (get (codes "optional") t) IsFlag
 
--- a metadata of such templates and tables
+-- a metadata: its dimensions are an object, and its templates and tables such, if they are there
 abbrev pub HasShape : Data → Type 0
 HasShape d =
     MayHaveDimensions d × IfSome (get (codes "tableTemplates") d) (IsObjectOf IsTemplate) × IfSome (get (codes "tables") d) (IsObjectOf IsTable)

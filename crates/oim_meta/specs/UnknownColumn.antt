@@ -1,5 +1,5 @@
--- References to columns that a template does not define (xBRL-CSV 1.0: rowIdColumn and propertiesFrom). A part of the wrong
--- shape has only the fault of its shape.
+-- References to columns that a template does not define, or not as property group columns (xBRL-CSV 1.0: rowIdColumn and propertiesFrom). What is
+-- not an object has no members, and what is not a list no items.
 use Rattle.std.specs.Prelude.{ℕ, List, Bool, true, false, not, ◌||◌, ◌&&◌, Option, option_map, option_and_then, unwrap_or, is_none, codes}
 use Rattle.serde_json.specs.Data.{Data}
 use Rattle.serde_json.specs.Find.{get, as_str}
@@ -39,13 +39,13 @@ has_unknown_row_id t = unwrap_or (option_map (lacks_column t) (text_at (codes "r
 abbrev pub is_unknown_source : Data → Data → Bool
 is_unknown_source t d = unwrap_or (option_map (lacks_groups t) (as_str d)) false
 
--- propertiesFrom of a fact column names no property group column
+-- propertiesFrom of a fact column has a text that names no property group column
 abbrev pub has_unknown_source : Data → Data → Bool
 has_unknown_source t c = is_fact (kind_of c) && any_item (is_unknown_source t) (items_at (codes "propertiesFrom") c)
 
 abbrev pub lacks_named_column : Data → Bool
 lacks_named_column t = has_unknown_row_id t || any_member (λ _ c. has_unknown_source t c) (section (codes "columns") t)
 
--- 10: a template refers to a column that it does not define
+-- 10: a rowIdColumn that names no column of its template, or a propertiesFrom that names what is no property group column there
 unfoldable pub has_unknown_column : Data → Bool
 has_unknown_column d = any_member (λ _ t. lacks_named_column t) (section (codes "tableTemplates") d)

@@ -1,5 +1,5 @@
 -- What is wrong with each part of a metadata, and where, in the order of the walk (xBRL-CSV 1.0: table templates, columns, property groups,
--- dimensions and decimals). A part of the wrong shape has only the fault of its shape.
+-- dimensions and decimals). What is not an object has no members, and what is not a list no items, so nothing is found inside it.
 use Rattle.std.specs.Prelude.{ℕ, List, [], ◌∷◌, ◌++◌, Bool, true, not, ◌||◌, ◌&&◌, bytes_eq, unwrap_or, option_map, codes}
 use Rattle.serde_json.specs.Data.{Data, Members, no_members, member}
 use Rattle.serde_json.specs.Find.{get}

@@ -22,7 +22,7 @@ use oim_report::{Info, Parameters, Report, Types};
 use serde_json::Value;
 use std::alloc::{AllocError, Global};
 
-/// What the document says of itself; its texts are taken out of it.
+/// What the document says of itself; the texts of its taxonomy are taken out of it.
 fn info(alloc: Global, document: &mut Value) -> Result<Info, AllocError>
     ensures { IfOk result (λ made. made ≡ info_of (view document.old)) }
 {

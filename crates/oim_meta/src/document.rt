@@ -117,7 +117,7 @@ fn is_no_empty_list(value: &Value) -> bool
     }
 }
 
-/// Whether the document information extends another metadata.
+/// Whether `extends` is there and is not an empty list.
 fn extends_another(info: &Value) -> bool
     ensures { result ≡ if_there not_empty_list (get (codes "extends") (view info.now)) }
 {

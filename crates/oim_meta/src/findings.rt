@@ -10,7 +10,7 @@ use oim_names::{Items, Text};
 use std::marker::Model;
 use told::{Tells, Told};
 
-/// A fault, and the keys that lead to its place.
+/// A fault, and the keys that lead to its place, the outermost first; no keys for the metadata as a whole.
 #[derive(Drop)]
 pub struct Finding {
     pub fault: MetaFault,

@@ -2,11 +2,11 @@
 //!
 //! What the crate promises:
 //! - `read_report` answers a report exactly where the metadata has no fault, and then the report
-//!   that its JSON spells out (`specs/Value.antt`); else exactly its first fault, in the order of
-//!   `specs/FirstFault.antt`, one predicate for each fault number;
+//!   that its JSON spells out (`specs/Value.antt`); else its first fault: of the bytes (`specs/Reading.antt`), then of
+//!   their value in the order of `specs/FirstFault.antt`, one predicate for each fault number;
 //! - `read_report_at` says the same, and of the fault the keys that lead to its place: of all that a walk over
 //!   the metadata finds the first (`specs/WalkReport.antt`, `a_walk_finds_all_faults`, `first_finding_is_least`);
-//! - `parameter_url` answers a value exactly where it has no fault, and else the first one;
+//! - `parameter_url` answers exactly where the metadata has none of the four faults that it names, and else the first of them;
 //! - a `Metadata` is the JSON of a metadata, read once. Its `parameter_url` and `report_at` say of its value what
 //!   the calls above say of bytes;
 //! - a dimension's text has a fault exactly where it writes no value, and else it writes the one value that
@@ -15,7 +15,7 @@
 //!   columns or templates exactly where a part is not what `specs/Shapes.antt` says it is
 //!   (`faults_of_shape_are_parts_without_it`).
 //!
-//! All this holds apart from running out of memory, which may come in place of a fault. The files of the parameters and of the
+//! Where memory runs out, `Memory` may come in place of any of these answers. The files of the parameters and of the
 //! types are read by `oim_entries`, whose names this crate passes on.
 //!
 //! A call:

@@ -22,7 +22,8 @@ use serde_json::{Error, Value};
 use std::alloc::Global;
 use std::marker::Model;
 
-/// The JSON of a metadata, read once. A contract sees its value, in which the members of each object stand in byte order of name.
+/// The JSON of a metadata, read once. A contract sees its value, in which the members of an object stand in byte order of name,
+/// unless a list holds the object.
 #[derive(Drop)]
 pub struct Metadata {
     value: Value,
@@ -86,12 +87,12 @@ fn check_url(report: &Value) -> Result<(), MetaFault>
 
 impl Metadata {
     /// Reads the JSON of a metadata, for the name of its parameters file and for its report. One byte-order mark at the start
-    /// of the bytes is skipped.
+    /// of the bytes is skipped, and of a key that comes twice the last value counts.
     ///
     /// # Errors
     ///
-    /// `TooLarge` if there are more bytes than the limit; `Syntax` if they are not well-formed JSON in UTF-8; `Memory` if memory
-    /// runs out.
+    /// `TooLarge` if there are more than `limits.metadata` bytes; `Syntax` if they are not JSON in UTF-8 (RFC 8259) as `serde_json`
+    /// reads it: at most 127 levels, no number past a double, no escape of half a surrogate pair; `Memory` if memory runs out.
     pub fn read(alloc: Global, bytes: &[u8], limits: &Limits) -> Result<Metadata, MetaFault>
         ensures json { IfOk result (λ m. Reads limits.now bytes.now (view m)) }
         ensures order { IfOk result (λ m. IsInOrder (view m)) }
@@ -110,7 +111,7 @@ impl Metadata {
     ///
     /// # Errors
     ///
-    /// `NotReport`, or `BadParameter` if the name is not a text or not a plain path; no other fault is looked for. `Memory` if
+    /// `NotReport`, else `BadParameter` if the name is not a text or not a plain path; no other fault is answered. `Memory` if
     /// memory runs out.
     pub fn parameter_url(&self, alloc: Global) -> Result<Option<String>, MetaFault>
         ensures value { IfOk result (λ url. IsUrlOf (view self.now) (option_map string_bytes url)) }

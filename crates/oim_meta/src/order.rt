@@ -8,7 +8,7 @@ use oim_report::Named;
 use serde_json::{Map, Value};
 use std::alloc::{AllocError, Global};
 
-/// Whether some member has a text that a member before it has.
+/// Whether some member has a text that a member before it has, where what is not a text counts as the empty one.
 fn repeats_earlier(alloc: Global, members: &Map<String, Value>) -> Result<bool, AllocError>
     ensures { IfOk result (λ repeats. repeats ≡ repeats_seen [] (members_view members.now.entries)) }
 {
@@ -23,7 +23,7 @@ fn repeats_earlier(alloc: Global, members: &Map<String, Value>) -> Result<bool, 
     Ok(false)
 }
 
-/// Whether one text has two names. It looks each text up once. Fails if memory runs out.
+/// Whether one text has two names, where what is not a text counts as the empty one. Fails if memory runs out.
 pub(crate) fn repeats_text(alloc: Global, members: &Map<String, Value>) -> Result<bool, AllocError>
     ensures { IfOk result (λ repeats. repeats ≡ repeated (members_view members.now.entries)) }
 {

@@ -13,7 +13,7 @@ use oim_report::{Limits, Parameters, Report, Types};
 use std::alloc::Global;
 
 /// The report that a metadata says (xBRL-CSV 1.0, metadata), with the parameters of its parameters file and its types;
-/// or its first fault, and the keys that lead to the fault's place.
+/// or its first fault, and the keys that lead to the fault's place. `Metadata::read` says how the bytes are read.
 ///
 /// # Errors
 ///
@@ -39,7 +39,7 @@ pub fn read_report_at(
 }
 
 /// The report that a metadata says (xBRL-CSV 1.0, metadata), with the parameters of its parameters file
-/// and its types.
+/// and its types. `Metadata::read` says how the bytes are read.
 ///
 /// # Errors
 ///
@@ -67,8 +67,8 @@ pub fn read_report(
 ///
 /// # Errors
 ///
-/// `TooLarge` for the bytes, `Syntax`, `NotReport`, or `BadParameter` if the name is not a text or not a
-/// plain path; no other fault is looked for. `Memory` if memory runs out.
+/// The first of `TooLarge` for the bytes, `Syntax`, `NotReport`, and `BadParameter` if the name is not a text or
+/// not a plain path; no other fault is answered. `Memory` if memory runs out.
 pub fn parameter_url(
     alloc: Global,
     bytes: &[u8],

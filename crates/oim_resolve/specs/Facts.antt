@@ -142,7 +142,7 @@ is_of_text kind.Other = false
 is_of_text kind.Explicit = false
 is_of_text kind.Typed = false
 
--- a dimension of the taxonomy is typed or explicit
+-- a dimension of the taxonomy is typed where the types say so, else explicit
 abbrev pub taxonomy_role : Option Kind → Role
 taxonomy_role (Some kind.Typed) = role.Typed
 taxonomy_role (Some kind.Explicit) = role.Explicit
@@ -327,7 +327,7 @@ cell_result c =
     (unless (least (concept_faults c))
     (unless (least (rest_faults c (concept_kind c))) (Ok (Some (fact_of c)))))
 
--- the answer that the first two steps have, if any: no fact where the cell says nothing, else their least fault. They take no memory
+-- the answer that the first two steps have, if any: no fact where the cell says nothing, else the least fault of the first of them that has one
 unfoldable pub early_result : Cell → Option (Result (Option Fact) CellFault)
 early_result c =
     if is_absent (fact_meaning c) then Some (Ok None)

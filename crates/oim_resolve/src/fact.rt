@@ -125,7 +125,7 @@ pub enum CellFault {
     BadPeriod,
     /// The start or the end of an instant is asked for.
     NotDuration,
-    /// Decimals that are neither an integer nor `INF`.
+    /// Decimals that are neither an integer of 32 bits nor `INF`.
     BadDecimals,
     /// The cell of a number is not a numeral.
     BadNumber,

@@ -7,14 +7,14 @@
 //! what each literal gives or what is wrong with it, and which column and which parameter each
 //! reference names. `Plan::resolve` finds the fact of one cell; `resolve` does both for a single
 //! cell. A literal's fault is answered only by a cell that meets it. The dimensions of a `Fact` stand
-//! in byte order of name. Its identifier is that of the table, the row and the column, with points
-//! between them.
+//! in byte order of name, none twice. The identifier of a cell's fact is that of the table, the row and
+//! the column, with points between them.
 //!
 //! `read_value` reads one dimension and `read_concept` a concept, each from what a row gives, and
 //! `fact_value` the fact cell by the kind of its concept.
 //!
-//! In `specs/`, the files without `Program` in their names hold the standard's rules; those with it
-//! describe what the program keeps, and are read beside the code.
+//! In `specs/`, the files named `Program..`, and `Rows`, describe what the program keeps, and are read
+//! beside the code; the others hold the rules.
 //!
 //! A call:
 //!

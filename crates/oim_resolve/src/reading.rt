@@ -81,7 +81,8 @@ fn text_value<'a>(report: &Report, kind: Kind, text: &'a str) -> Result<FactValu
 ///
 /// The cell of a number gives its numeral and what the suffix behind it says; that of a boolean, a date or
 /// a name gives its text without the spaces, tabs, carriage returns and line feeds at both ends; any other
-/// gives its text as it is. `#empty` is read as the empty text, and nil gives no text. It takes no memory.
+/// gives its text as it is. `#empty` is read as the empty text, and nil gives no text, as do an absent and an unknown
+/// meaning, without a fault. It takes no memory.
 ///
 /// - `BadNumber`: the text is not a numeral of the kind;
 /// - `BadFactValue`: the text is not a boolean, not a date (`yyyy-mm-dd`, without time zone), or not a QName

@@ -15,7 +15,7 @@ use Rattle.oim_rows.specs.declared.fault.TableKind.TheVariants as kind
 abbrev pub Header : Type 0
 Header = List (Option ℕ)
 
--- a fault of a table at a row and at a place in the header, each from 1; a place above the greatest 32-bit number is given as that
+-- a fault of a table at a row and at a place in the header, each from 1, or 0 for none; a place above the greatest 32-bit number is given as that
 abbrev pub fault_at : ℕ → ℕ → ℕ → TableKind → TableFault
 fault_at table row column k = record { table = table; row = row; column = min column (2 ^ 32 - 1); kind = k }
 
@@ -72,7 +72,7 @@ abbrev pub names_row_id : Option ℕ → Header → Bool
 names_row_id None h = true
 names_row_id (Some c) h = list_any (is_column c) h
 
--- a cell that does not name a column
+-- the first cell that is not empty and does not name a column
 abbrev pub unknown_fault : ReportValue → ℕ → Record → Option TableFault
 unknown_fault report table r = option_map (λ p. fault_at table 0 (p + 1) kind.UnknownHeader) (position_from (is_unknown (columns_of report table)) 0 r)
 

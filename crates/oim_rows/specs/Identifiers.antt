@@ -16,7 +16,7 @@ facts_of_tables report limit i (file ∷ files) = facts_of (table_stream report 
 abbrev pub HaveOwnIds : List Fact → Type 0
 HaveOwnIds facts = IsDistinct bytes_eq (map (λ (f : Fact). f.id) facts)
 
--- whatever files its tables have, and whatever the limit of rows is, no two facts of the report have one identifier
+-- whatever files its tables have, and whatever the limit of rows is, of 32 bits, no two facts of the report have one identifier
 abbrev pub FactIdsDiffer : ReportValue → Type 0
 FactIdsDiffer report =
     (limit : ℕ) (files : List (Option (List ℕ))) → limit < 2 ^ 32 → length files ≤ length report.tables → HaveOwnIds (facts_of_tables report limit 0 files)

@@ -121,7 +121,7 @@ abbrev pub fact_at : ReportValue → ℕ → Row → ℕ → Option ℕ → Resu
 fact_at report table row p None = Ok None
 fact_at report table row p (Some c) = if is_fact_column (columns_of report table) c then at_place table row.number (p + 1) (cell_result (cell_of report table row c)) else Ok None
 
--- the same by the first two steps of the cell, where these settle it. They take no memory
+-- the same by the first two steps of the cell, where these settle it
 abbrev pub early_fact_at : ReportValue → ℕ → Row → ℕ → Option ℕ → Option (Result (Option Fact) TableFault)
 early_fact_at report table row p None = Some (Ok None)
 early_fact_at report table row p (Some c) = if is_fact_column (columns_of report table) c then option_map (at_place table row.number (p + 1)) (early_result (cell_of report table row c)) else Some (Ok None)

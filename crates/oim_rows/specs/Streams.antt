@@ -69,7 +69,7 @@ abbrev pub fault_of_read : ℕ → ReadFault → TableFault
 fault_of_read table read.Read = file_fault table kind.Read
 fault_of_read table read.Memory = file_fault table kind.Memory
 
--- what the reader's answer for the header gives without memory: its own fault, that there is no record, or a cell that does not name a column
+-- what the reader's answer for the header gives without memory: its own fault, that there is no record, or a cell that is not empty and names no column
 abbrev pub early_header_fault : ReportValue → ℕ → Result Bool ReadFault → Record → Option TableFault
 early_header_fault report table (Err f) r = Some (fault_of_read table f)
 early_header_fault report table (Ok false) r = Some (file_fault table kind.NoHeader)

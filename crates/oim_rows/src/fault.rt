@@ -73,7 +73,7 @@ impl TableKind {
     /// 38: the start or the end of an instant is asked for.
     pub const NotDuration: TableKind = TableKind::Cell(CellFault::NotDuration);
 
-    /// 39: decimals are neither an integer nor `INF`.
+    /// 39: decimals are neither an integer of 32 bits nor `INF`.
     pub const BadDecimals: TableKind = TableKind::Cell(CellFault::BadDecimals);
 
     /// 40: the cell of a number is not a numeral.

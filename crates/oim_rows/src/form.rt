@@ -52,7 +52,7 @@ fn place_of_id(header: &[Option<usize>], column: Option<usize>) -> Option<usize>
 }
 
 impl<'a> RowForm<'a> {
-    /// Reads the header of a table, the first record of its file. The rows are at most `limit`.
+    /// Reads the header of a table: the first record that `records` has left. The rows are at most `limit`.
     ///
     /// Fails with the header's first fault, in this order: NoHeader, UnknownHeader, RepeatedHeader,
     /// NoRowIdColumn. Fails with Read where the reader failed, and with Memory where memory is

@@ -92,7 +92,7 @@ fn has_column(header: &[Option<usize>], column: usize) -> bool
     header.iter().any(|place| is_place(*place, column))
 }
 
-/// The first place whose column stands at an earlier place too, in a header of so many columns at most.
+/// The first place whose column stands at an earlier place too, in a header that names columns of a template of `count`.
 fn first_repeated(
     alloc: Global,
     count: usize,
@@ -143,7 +143,7 @@ fn columns_fault(
 }
 
 /// The columns of a table's header, where `found` is the reader's answer for it and `row` the record.
-/// Memory is taken only once each cell names a column.
+/// Memory is taken only once each cell is empty or names a column.
 fn take_header(
     alloc: Global,
     report: &Report,

@@ -1,11 +1,11 @@
 //! The facts of one table, row by row.
 //!
-//! `Rows` reads a table's file record by record, and keeps none of them: the first record is the
-//! header, and each further record is a row. What it gives is exactly the table's stream: the
+//! `Rows` reads a table's file record by record: the first record is the header, and each further record
+//! is a row. Over a reader that tells its bytes, what it gives is exactly the table's stream: the
 //! facts of each row before the first bad one, in header order, and then the end or the table's
 //! first fault, with its row and its place in the header. A row with any fault does not give any fact.
 //! Only a failed read or running out of memory may end a table earlier. After the end or a fault
-//! it answers the same again and reads nothing. A table ends at the limit of rows at the latest.
+//! it answers the same again and takes no further record. A table ends at the limit of rows at the latest.
 //!
 //! Table files are those of xBRL-CSV 1.0.
 //!

@@ -202,7 +202,7 @@ impl RowPlan<'_> {
         Ok(facts)
     }
 
-    /// The facts of the cells of row `number`, in header order. The row's own faults and its identifier are not looked at.
+    /// The facts of the cells of row `number`, in header order. The row's own faults, and so those of its identifier, are not looked for.
     ///
     /// Fails with the fault of the first cell that has one, and with Memory where memory is short.
     pub fn facts(

@@ -106,8 +106,8 @@ fn read_row<R: Read + Drop>(
 }
 
 impl<'a, R: Read + Drop> Rows<'a, R> {
-    /// Reads the header of the table at this place of a report, past one byte-order mark. The rows
-    /// are at most `limits.rows`, itself at most 4,294,967,294.
+    /// Reads the header of the table at this place of a report, from 0, past one byte-order mark. The rows
+    /// are at most `limits.rows`, itself at most 4,294,967,294; the other limits do not count. (xBRL-CSV 1.0, table files)
     ///
     /// Fails with the header's first fault, in this order: NoHeader, UnknownHeader, RepeatedHeader,
     /// NoRowIdColumn. Fails with Read where the reader failed, and with Memory where memory is
@@ -154,7 +154,7 @@ impl<'a, R: Read + Drop> Rows<'a, R> {
     }
 
     /// The facts of the next row in header order, none of them where the row has none, or None at
-    /// the end. After the end or a fault it answers the same again and reads nothing.
+    /// the end. After the end or a fault it answers the same again and takes no further record.
     ///
     /// Fails with the first fault of the first bad row, in this order: Ragged, NotUtf8,
     /// TooManyRows, MissingRowId, BadRowId, RepeatedRowId, then the faults of its cells from left

@@ -71,7 +71,7 @@ impl<'a> Walk<'a> {
         }
     }
 
-    /// The property groups of a column; only those of a property group column are read.
+    /// The property groups of a column: none but those of a property group column. What is wrong with them is added for any.
     fn column_groups<'v>(
         &self,
         column: (&'v str, &'v str),

@@ -84,8 +84,9 @@ fn read_text(
     }
 }
 
-/// What a dimension that is not dropped gives a fact, or the least fault of its value. A pure unit
-/// gives nothing. The outer error comes only if memory runs out. (xBRL-CSV 1.0, dimensions)
+/// What a dimension that is not dropped gives a fact, or the least fault of its value. An absent value and a pure
+/// unit give nothing, a period the written form of its side, a language its text in lower case, and any other its text.
+/// The outer error comes only if memory runs out. (xBRL-CSV 1.0, dimensions; Open Information Model 1.0)
 ///
 /// - `UnknownSpecial`: it begins with a single `#` and is not a special value;
 /// - `BadReference`: it is nil or empty, and the dimension is not typed;

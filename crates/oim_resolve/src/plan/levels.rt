@@ -13,7 +13,7 @@ use oim_report::{Level, Written, WrittenDecimals};
 use std::alloc::{AllocError, Global};
 
 /// What is written for a dimension, by the first level that writes it: the levels stand from the most
-/// specific to the most general. (xBRL-CSV 1.0, dimensions and property groups)
+/// specific to the most general, the dimensions of each in byte order of name. (xBRL-CSV 1.0, dimensions and property groups)
 #[tactic(auto, using(crate::proofs::Overrides::written_reversed))]
 pub fn written<'a>(levels: &[&'a Level], name: &str) -> Option<&'a Written>
     requires { All (λ l. LevelRises l.now) levels.now }
