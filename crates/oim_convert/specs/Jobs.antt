@@ -36,7 +36,7 @@ module _ {R : Type 0} where
   IsKept told report limit true table reader history = (file : Option (List ℕ)) → IsFileOf told reader file → IsDecoded table (table_stream report table limit file) history
   IsKept told report limit false table reader history = IsUnserved table history
 
-  -- what holds of a job before it is served: it is for the table at its place, and nothing was sent
+  -- what holds of a job before it is served: it is for the table at its place, which the report has, its rows can be counted, and nothing was sent
   abbrev pub CanServe : ReportValue → ℕ → ℕ → Job R → Type 0
   CanServe report limit table job = (job.table ≡ table) × (table < length report.tables) × (limit ≤ 4294967294) × (job.feed.sent ≡ [])
 

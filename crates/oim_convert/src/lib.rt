@@ -1,6 +1,6 @@
 //! The conversion of a whole report: from its tables to its document.
 //!
-//! What is proved of `convert_serial`, which works on one thread:
+//! What is proved of `convert_serial`, which works on one thread, over readers that tell their bytes:
 //!
 //! - `Ok` means that exactly the document of all facts was written, in table order and in the given
 //!   layout (`specs/Answer.antt`);
@@ -30,7 +30,7 @@
 //!
 //! Inside, a run is answered only after its claims were closed with all their seats, so the workers gave
 //! one receipt for each table (`finish` in `src/returning.rt`). That no table is refused for want of a thread
-//! where a worker was started no clause says: `start_crew` is written so, and tests show it.
+//! where a worker was started says `under_way` of `start_crew`, and no clause of `convert` can.
 //!
 //! What is proved of the facts (`written_identifiers_differ`): whatever files the tables have, no two
 //! facts of the defined answer have one identifier, and no two of those that the histories of a run

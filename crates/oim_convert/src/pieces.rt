@@ -125,8 +125,8 @@ fn send_opened<'s, E, R: Read + Drop, T: Threads + Wait>(
     ending
 }
 
-/// Says whether the writer has reached the table, and takes memory for the texts of the next pieces, as far as blocks that were written gave
-/// it back.
+/// Tells the pieces whether the writer has reached the table, and takes memory for the texts of the next ones, as far as blocks that were written
+/// gave it back.
 fn make_ready<R: Read + Drop, T: Wait>(rt: &T, pieces: &mut TablePieces<'_, R>, feed: &Feed)
     ensures { pieces.new ≡ pieces.old }
 {

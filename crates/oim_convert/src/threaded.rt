@@ -132,7 +132,8 @@ fn run_ready<R: Read + Drop + Send, T: Threads + Wait + Sync, W: Sink>(
 /// Converts a report on threads (xBRL-CSV 1.0, tables and table templates; xBRL-JSON 1.0, the report
 /// object and the facts object). `workers` workers draw the tables and decode each into a ring of its own,
 /// of size `size`, while the caller's thread writes the document of all facts to the sink, in table order
-/// and in the given layout. A table without a reader has no file. `limits.rows` is at most 4,294,967,294. It
+/// and in the given layout. In the places of workers that rest, threads decode pieces of tables.
+/// A table without a reader has no file. `limits.rows` is at most 4,294,967,294. It
 /// waits for its workers, and it is not proved that it returns.
 ///
 /// The answer is the same for every number of workers, ring size and schedule: if no reader failed and
@@ -142,7 +143,7 @@ fn run_ready<R: Read + Drop + Send, T: Threads + Wait + Sync, W: Sink>(
 /// Each history is its table's stream, or a beginning of it that a failed read (`Read`) or running out
 /// of memory (`Memory`) ended; or every table is refused with `NoThread`, and never only some are. That
 /// holds of each table whose reader tells its bytes, whatever those of the others tell. They
-/// all are if no worker could be started. That they are in no other case no clause of this call can say,
+/// all are if no worker could be started, and in no other case: no clause of this call can say so,
 /// since nothing tells it which threads the system gave. The run has the fault of each refused table, in
 /// table order, however it ends. The end is `Complete` if no table is refused; `Refused` if one is, and
 /// then the document is unfinished after the facts of the first refused table; or `Write` if a write failed

@@ -102,8 +102,8 @@ impl<V: Drop> Claims<V> {
 
 impl<V> Claims<V> {
     /// Draws the next number with a seat of these claims: gives the number and the item at that
-    /// place, or `None` if all numbers were drawn. A seat that was answered `None` is always answered
-    /// `None` again. A draw does not wait and allocates no memory.
+    /// place, or `None` if all numbers were drawn, which `close` shows. A seat that was answered `None` is
+    /// always answered `None` again. A draw does not wait and allocates no memory.
     pub fn draw(&self, seat: &mut Seat<V>) -> Option<(usize, V)>
         requires { seat.old.claims ≡ self.now }
         ensures { Draws seat.old result seat.new }

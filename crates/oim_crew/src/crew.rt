@@ -113,7 +113,7 @@ fn spare_unless_started<V: Drop, O: Drop, S: Serve<V, O, T, C> + Drop, T, C>(
 }
 
 /// Starts workers at the first `starts` of the posts. If none could be started, serves all items on this
-/// thread with the spare server.
+/// thread with the spare server. That any is started no clause says.
 pub fn start_crew<
     's,
     E,
@@ -212,7 +212,8 @@ fn stations_of<V: Drop, O: Drop>(
     Ok(made)
 }
 
-/// Claims of the items, and everything that this many workers need to serve them.
+/// Claims of the items, and everything that this many workers need to serve them. There must be at least one worker, and
+/// fewer than 2^64 items and workers together. Fails if memory runs out.
 pub fn crew_of<V: Drop, O: Drop, S: Serve<V, O, T, C> + Drop, T, C>(
     alloc: Global,
     items: Vec<V>,

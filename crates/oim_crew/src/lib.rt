@@ -10,8 +10,8 @@
 //!
 //! - `crew_of` makes all that its workers need before any of them starts. A worker that `start_crew` started has promised a
 //!   shift by the server; where it tells that the spare server is in use, all shifts are that one's, and no worker was started;
-//! - `join_crew` gives the shift of each worker: for each number that its seat drew, what the server gives of the item under
-//!   that number (`specs/Shifts.antt`).
+//! - `join_crew` gives the shift of each worker: for each number that its seat drew, what the server in use gives of the item
+//!   under that number (`specs/Shifts.antt`).
 //!
 //! That a worker is started where the system has a thread for it, no contract can say: tests show it.
 //!

@@ -42,7 +42,7 @@ pub struct Shift<V, O> {
     pub stopped: bool,
 }
 
-/// The promise of a worker: a shift of these claims by this server. It exists only in proofs.
+/// The promise of a worker: a shift of these claims by this server. Contracts alone look into it.
 #[derive(Drop)]
 pub struct ShiftOf<V, S, T, C> {
     pub claims: Snapshot<Claims<V>>,

@@ -17,7 +17,8 @@ pub fn rows_in_pieces()
     ensures first { PieceThenRest }
 {}
 
-/// The same from the bytes of a table's file, cut anywhere between two records behind its byte-order mark.
+/// The same from the bytes of a table's file, cut anywhere between two records behind its byte-order mark, where its header has no fault and
+/// stands in the first piece.
 pub fn file_in_pieces()
     ensures { FileInPieces }
 {}

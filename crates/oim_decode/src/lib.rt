@@ -3,7 +3,7 @@
 //! `TableBlocks` reads a table's file record by record, and gives the texts of its facts in blocks. What it gives is
 //! exactly the table's stream: the facts of each row before the first bad one, in header order, and then the end or the
 //! table's first fault. A row with any fault gives no fact. A failed read, or running out of memory, may end a table at
-//! any row. After the end or a fault it answers the same again and reads nothing.
+//! any row. After the end or a fault it answers the same again and takes no record.
 //!
 //! A table can also be decoded in pieces: `open_pieces` gives the head of its file and the pieces behind it, a `PieceDecoder`
 //! what the records of a piece give by themselves, and a `PieceJoin` takes the pieces in their order and finds the row
@@ -11,8 +11,8 @@
 //! `joined_pieces_are_read`). That a caller takes the pieces in order, and counts their rows, no clause here says.
 //!
 //! A row goes one of two ways. The fast way (`oim_fast`) writes the texts of its facts straight from the bytes of its cells,
-//! or leaves the row alone. Such a row, and so each row with a fault, goes the plain way: `oim_rows` gives its facts as values
-//! or its first fault, and `oim_json` writes them. No fact of the fast way lies in memory as a value, and the list of the
+//! or leaves the row alone. Such a row, and so each whose cells have a fault, goes the plain way: `oim_rows` gives its facts as values
+//! or the first of these faults, and `oim_json` writes them. No fact of the fast way lies in memory as a value, and the list of the
 //! facts is kept for contracts alone.
 //!
 //! A call:

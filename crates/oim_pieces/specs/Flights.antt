@@ -20,7 +20,7 @@ pub record FlyingPiece : Type 0 where
   pub first : ℕ
   pub rows : List Record
 
--- the answer for a piece, none of whose rows has a number past 4,294,967,295
+-- the answer for a piece, none of whose identifiers is that of a row past 4,294,967,295
 pub record IsAnswer (g : Reading) (first : ℕ) (rows : List Record) (a : Apart) : Type 0 where
   pub decoded : IsDecoded g first rows a
   pub few : first + length a.ids ≤ 4294967296
@@ -67,7 +67,7 @@ abbrev pub behind : Option TableFault → Option Stream → Option Stream
 behind None next = next
 behind (Some e) next = Some (ending (Some e))
 
--- the stream is this end; a fault may also come from outside the table
+-- the stream is at its end, or the fault comes from outside the table
 abbrev pub EndsWith : ℕ → Option Stream → Option TableFault → Type 0
 EndsWith table left None = IfSome left (λ s. s ≡ ending None)
 EndsWith table left (Some e) = IsOutside table e

@@ -197,7 +197,7 @@ impl<'a, R: Read + Drop> Flight<'a, R> {
     }
 
     /// Whether one more piece is to be cut. The rows of the head, and a short piece, as a slow reader gives it, wait for no others; behind a longer
-    /// one more is read before it is given. No contract says so.
+    /// one others may be read before it is given. No contract says so.
     fn may_cut(&self) -> bool {
         match self.flying.front() {
             Some(_) => {

@@ -19,7 +19,7 @@ use std::io::Read;
 use std::marker::Model;
 use std::thread::{Scope, Threads};
 
-/// How many bytes a piece of a table has in a conversion: so many that decoding them takes far longer than starting a thread.
+/// About how many bytes a piece of a table has in a conversion: so many that decoding them takes far longer than starting a thread.
 pub const PIECE_SIZE: usize = 131_072;
 
 /// The facts of one table that are left, piece by piece, as blocks of text. It borrows the table's report. A contract sees the table's

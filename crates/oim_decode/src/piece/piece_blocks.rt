@@ -48,7 +48,7 @@ fn push_stretches(
     Ok(())
 }
 
-/// The facts of rows in blocks, row by row. Each stretch of rows is a block, or more where its facts are more than a block may have. Fails where
+/// The facts of rows in blocks, row by row. Each stretch that has facts is a block, or more where they are more than a block may have. Fails where
 /// memory is short.
 #[tactic(auto, using(crate::proofs::BlockLists::all_stretches))]
 pub(crate) fn blocks_of(alloc: Global, rows: PieceRows) -> Result<Vec<Block>, AllocError>

@@ -87,8 +87,9 @@ impl<'a> PieceDecoder<'a> {
 }
 
 impl PieceDecoder<'_> {
-    /// Decodes a piece, whose first row has this number. Its text begins where a record may begin, and its end ends a record. The answer
-    /// has the piece's first fault: Ragged, NotUtf8, TooManyRows, MissingRowId, BadRowId or one of a cell; or Memory where memory is short.
+    /// Decodes a piece, whose first row has this number, at most one past the limit of rows. Its text begins where a record may begin, and its
+    /// end ends a record. The answer has the piece's first fault: Ragged, NotUtf8, TooManyRows, MissingRowId, BadRowId or one of a cell; or
+    /// Memory where memory is short.
     pub fn decode(&mut self, piece: Vec<u8>, first: u32) -> PieceAnswer
         requires { first ≤ self.old.reading.limit + 1 }
         ensures answer { IsDecoded self.old.reading first (records_left state.StartRecord piece.items) result }

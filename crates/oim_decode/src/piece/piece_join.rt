@@ -102,7 +102,8 @@ impl PieceJoin {
 
     /// Joins the answer for the next piece of the table of this form, whose first row has this number: its rows up to the first whose identifier came
     /// before, which is RepeatedRowId there, or all of them and the piece's own fault. With Memory, and no row, where memory is short. The
-    /// identifiers of its first rows join those of the rows before, those of all its rows where there is no fault.
+    /// identifiers of its first rows join those of the rows before, those of all its rows where there is no fault. The rows of the
+    /// answer's identifiers have numbers up to 4,294,967,295, as those of `decode` do.
     pub fn join(&mut self, form: &RowForm<'_>, first: u32, answer: PieceAnswer) -> JoinedPiece
         requires { first + length answer.ids ≤ 4294967296 }
         ensures stream { IsJoined form.now first self.old answer result }
@@ -133,7 +134,7 @@ impl PieceJoin {
 }
 
 impl JoinedPiece {
-    /// The fault behind the piece's rows.
+    /// The fault behind the piece's rows, if there is one.
     pub fn fault(&self) -> Option<TableFault>
         ensures { result ≡ self.now.fault }
     {

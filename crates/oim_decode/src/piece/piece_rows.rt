@@ -36,7 +36,7 @@ impl Model for PieceRows {
     ghost view = { λ a. stretches a.full.items ++ a.last };
 }
 
-/// The stretch in which a number of rows ends, and how many of them are in it. It is the one behind these where they have not more rows.
+/// The stretch in which a number of rows ends, and how many of them are in it. It is the one behind these where they have fewer.
 #[tactic(auto, using(crate::proofs::RowCuts::stretch_found, crate::proofs::RowCuts::stretch_passed, crate::proofs::RowCuts::none_found))]
 fn end_of(full: &[WrittenRows], count: usize) -> (usize, usize)
     ensures { (last : List (List FactValue)) → take count (stretches full.now ++ last) ≡ stretches (take result.0 full.now) ++ take result.1 (get_or full.now result.0 last) }

@@ -62,7 +62,7 @@ fn first_piece<R: Read + Drop>(pieces: &mut PieceReader<R>) -> Result<Option<Fil
 }
 
 /// Reads the beginning of a table's file, past one byte-order mark, or gives `None` where the file has no record. What is left of the file is
-/// in the pieces behind the head.
+/// in the pieces behind the head. When it fails, no clause says:
 ///
 /// - `Read`: the reader failed before the header's end;
 /// - `Memory`: memory ran out.
@@ -126,7 +126,7 @@ impl TableHead {
     /// What the rows of the table at this place of a report are told by. They are at most `limit`.
     ///
     /// Fails with the header's first fault, in this order: NoHeader, UnknownHeader, RepeatedHeader, NoRowIdColumn; and with
-    /// Memory where memory is short.
+    /// Memory where memory is short; its clause allows Read as well.
     pub fn form<'a>(
         &self,
         alloc: Global,

@@ -47,7 +47,7 @@ impl<T> Tells<Items<T>> for Front<'_, T> {
     ghost told = { λ t. take t.count t.all.now.value };
 }
 
-/// The first items.
+/// The first `count` items.
 #[inline(always)]
 pub(crate) fn first<T>(all: &Told<Items<T>>, count: usize) -> Told<Items<T>>
     ensures { result.value ≡ take count all.now.value }
@@ -65,7 +65,7 @@ impl<T> Tells<Items<T>> for Back<'_, T> {
     ghost told = { λ t. drop t.count t.all.now.value };
 }
 
-/// The items but for the first.
+/// The items behind the first `count`.
 #[inline(always)]
 pub(crate) fn rest<T>(all: &Told<Items<T>>, count: usize) -> Told<Items<T>>
     ensures { result.value ≡ drop count all.now.value }

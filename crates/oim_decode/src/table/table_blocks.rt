@@ -90,8 +90,8 @@ ghost use Rattle.oim_decode.specs.Blocks.{ReadsRows};
 
 impl<R: Read + Drop> TableBlocks<'_, R> {
     /// The next facts in header order and row by row, 1 to 256 of them, or None at the end. A block
-    /// has whole rows where they fit. `room` is where further texts are put, and may be that of an
-    /// earlier block. After the end or a fault it answers the same again and reads nothing.
+    /// has whole rows where they fit, which no clause says. `room` is where further texts are put, and may be
+    /// that of an earlier block. After the end or a fault it answers the same again and takes no record.
     ///
     /// Fails, where the facts of all rows before were given, with the first fault of the first bad
     /// row, in this order: Ragged, NotUtf8, TooManyRows, MissingRowId, BadRowId, RepeatedRowId, then
