@@ -1,7 +1,5 @@
 -- What there is to say of a fault to a person: its place, and what stands there.
-use Rattle.std.specs.Prelude.{◌≡◌, ◌⊎◌, ℕ, List, [], ◌∷◌, ◌++◌, nat_eq, nat_lt, if◌then◌else◌, Ok, chars, codes, flat_map, length, take}
-use Rattle.oim_files.specs.Folders.{Files, IsFolderOf}
-use Rattle.oim_files.specs.Steps.{report_at}
+use Rattle.std.specs.Prelude.{◌≡◌, ◌⊎◌, ℕ, List, [], ◌∷◌, ◌++◌, codes}
 use Rattle.oim_meta.specs.Paths.{Path}
 use Rattle.oim_meta.specs.Findings.{finding}
 use Rattle.oim_meta.specs.Reading.{IsUrlFault, SaysReport}
@@ -13,29 +11,11 @@ use Rattle.oim_report.specs.Parameters.{ParametersValue}
 use Rattle.oim_report.specs.ReportValue.{ReportValue}
 use Rattle.oim_report.specs.Types.{TypesValue}
 use Rattle.oim_report.specs.declared.limits.Limits.{Limits}
-use Rattle.oim_explain.specs.Shown.{shown, shown_char}
+use Rattle.oim_places.specs.Pointers.{pointer_of}
+use Rattle.oim_places.specs.Shown.{shown}
 use Rattle.oim_explain.specs.declared.explanation.Explanation.{Explanation}
 
 -- ---- texts
-
--- how many characters of a text are shown
-abbrev pub most_characters : ℕ
-most_characters = 80
-
--- the beginning of a text without control characters; two points stand for the rest
-abbrev pub excerpt_of : List ℕ → List ℕ
-excerpt_of text =
-    if nat_lt most_characters (length (chars text)) then flat_map shown_char (take most_characters (chars text)) ++ codes ".." else shown text
-
--- RFC 6901: ~ is ~0 and / is ~1 in a key of a JSON pointer; a control character is shown by its code, so that a pointer is one line
-abbrev pub pointer_char : ℕ → List ℕ
-pointer_char c = if nat_eq c 126 then codes "~0" else if nat_eq c 47 then codes "~1" else shown_char c
-
-abbrev pub pointer_key : List ℕ → List ℕ
-pointer_key key = codes "/" ++ flat_map pointer_char (chars key)
-
-abbrev pub pointer_of : Path → List ℕ
-pointer_of keys = flat_map pointer_key keys
 
 -- the lines of the places elsewhere that a fault comes from
 abbrev pub sources_of : List (List ℕ) → List ℕ
@@ -48,12 +28,6 @@ place_lines e = codes "    " ++ (e.place ++ (10 ∷ codes "    " ++ (e.found ++ 
 
 abbrev pub explanation_of : Explanation → List ℕ
 explanation_of e = place_lines e ++ sources_of e.sources
-
--- ---- the report that is read again
-
--- the report that the files give whose metadata and types table are at these paths
-abbrev pub IsReportOf : Files → (meta types : List ℕ) → ReportValue → Type 0
-IsReportOf files meta types r = (base : List ℕ) × IsFolderOf base meta × (report_at files base meta types ≡ Ok r)
 
 -- ---- the metadata
 

@@ -6,13 +6,14 @@ ghost use Rattle.oim_files.specs.Metadata.{profile};
 
 use crate::entries::{BadRecord, bad_parameter, bad_type};
 use crate::explanation::{Explanation, explanation_text};
-use crate::files::{changed, line_again, of_file, place_in_file, unread};
+use crate::files::{changed, of_file, unread};
 use crate::metadata::{explain_value, of_unread, read_again};
 use oim_files::{
     EarlyFault, Folder, Source, folder_of, metadata_at, parameters_in, path_in, types_in, url_in,
 };
 use oim_meta::{MetaFault, Metadata, Parameters, Types};
 use oim_names::{Items, Text};
+use oim_places::{line_again, place_in_file};
 use std::alloc::{AllocError, Global};
 use std::io::Read;
 
@@ -127,30 +128,28 @@ fn of_record<R: Read + Drop, F: Folder<R>>(
     })
 }
 
-/// The explanation of a fault of the types table at this path.
-fn of_types<R: Read + Drop, F: Folder<R>>(
+/// The earliest bad record of a types table, or of a parameters file.
+fn bad_record<R: Read + Drop>(
     alloc: Global,
-    folder: &mut F,
-    path: &str,
-) -> Result<Explanation, AllocError> {
-    match folder.open(path) {
-        Some(reader) => {
-            let bad = bad_type(alloc, reader)?;
-            of_record(alloc, folder, path, bad)
-        }
-        None => of_file(alloc, path, "the file cannot be opened again"),
+    reader: R,
+    source: Source,
+) -> Result<Option<BadRecord>, AllocError> {
+    match source {
+        Source::Types => bad_type(alloc, reader),
+        Source::Parameters | Source::Report => bad_parameter(alloc, reader),
     }
 }
 
-/// The explanation of a fault of the parameters file at this path.
-fn of_parameters<R: Read + Drop, F: Folder<R>>(
+/// The explanation of a fault of the types table or the parameters file at this path.
+fn of_entries<R: Read + Drop, F: Folder<R>>(
     alloc: Global,
     folder: &mut F,
     path: &str,
+    source: Source,
 ) -> Result<Explanation, AllocError> {
     match folder.open(path) {
         Some(reader) => {
-            let bad = bad_parameter(alloc, reader)?;
+            let bad = bad_record(alloc, reader, source)?;
             of_record(alloc, folder, path, bad)
         }
         None => of_file(alloc, path, "the file cannot be opened again"),
@@ -179,7 +178,7 @@ fn of_parameters_of<R: Read + Drop, F: Folder<R>>(
     meta: &str,
 ) -> Result<Explanation, AllocError> {
     match parameters_path(alloc, folder, meta)? {
-        Some(path) => of_parameters(alloc, folder, path.as_str()),
+        Some(path) => of_entries(alloc, folder, path.as_str(), Source::Parameters),
         None => changed(alloc, meta),
     }
 }
@@ -207,7 +206,7 @@ fn explained<R: Read + Drop, F: Folder<R>>(
     }
     match source {
         Source::Report => of_metadata(alloc, meta, types, folder, fault),
-        Source::Types => of_types(alloc, folder, types),
+        Source::Types => of_entries(alloc, folder, types, source),
         Source::Parameters => of_parameters_of(alloc, folder, meta),
     }
 }

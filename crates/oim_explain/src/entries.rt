@@ -1,14 +1,9 @@
 //! The earliest bad record of a types table or of a parameters file.
 
-ghost use Rattle.std.specs.Prelude.{◌≡◌, IfOk, true};
-ghost use Rattle.csv.specs.Records.{fields_of};
-ghost use Rattle.oim_records.specs.Reads.{TakesRecord};
-
-use crate::cells::{cell, cells, first_bytes, text_at};
-use crate::excerpts::excerpt;
 use csv::ByteRecord;
-use oim_meta::{Kind, MetaFault, Parameters, ReadFault, Records, Types, read_types};
+use oim_meta::{Kind, MetaFault, Parameters, Records, Types, read_types};
 use oim_names::{Text, is_identifier, is_ncname};
+use oim_places::{cell_shown, excerpt, next_record, record_shown, text_at};
 use std::alloc::{AllocError, Global};
 use std::io::Read;
 
@@ -46,8 +41,8 @@ impl BadRecord {
         wrong: Wrong,
     ) -> Result<BadRecord, AllocError> {
         let found = match wrong.place {
-            Some(place) => cell(alloc, row, place)?,
-            None => cells(alloc, row)?,
+            Some(place) => cell_shown(alloc, row, place)?,
+            None => record_shown(alloc, row)?,
         };
         Ok(BadRecord {
             number,
@@ -90,20 +85,6 @@ fn at(place: usize, cause: &'static str) -> Option<Wrong> {
     })
 }
 
-/// Reads the next record, and says whether there is one. A reader that fails has none.
-pub(crate) fn next<R: Read>(
-    records: &mut Records<R>,
-    row: &mut ByteRecord,
-) -> Result<bool, AllocError>
-    ensures { IfOk result (λ found. found ≡ true → TakesRecord records.old true (fields_of row.new) records.new) }
-{
-    match records.read(row) {
-        Ok(found) => Ok(found),
-        Err(ReadFault::Read) => Ok(false),
-        Err(ReadFault::Memory) => Err(AllocError),
-    }
-}
-
 /// The cells of a record with commas between them, in one line.
 fn joined(alloc: Global, row: &ByteRecord) -> Result<String, AllocError> {
     let mut out = String::new(alloc);
@@ -114,6 +95,16 @@ fn joined(alloc: Global, row: &ByteRecord) -> Result<String, AllocError> {
         out.push_str(text_at(row, place).unwrap_or("?"))?;
     }
     Ok(out)
+}
+
+/// The place of the first cell of a record that is not text, if there is one.
+fn first_bytes(row: &ByteRecord) -> Option<usize> {
+    for place in 0..row.len() {
+        if text_at(row, place).is_none() {
+            return Some(place);
+        }
+    }
+    None
 }
 
 /// What is wrong with the length of a record or with its bytes.
@@ -224,7 +215,7 @@ fn bad_entry_of_types<R: Read>(
         words: Vec::new(alloc),
     };
     for number in 1..MOST_TYPES + 2 {
-        if !next(records, row)? {
+        if !next_record(records, row)? {
             return Ok(None);
         }
         let wrong = if number > MOST_TYPES {
@@ -247,7 +238,7 @@ pub(crate) fn bad_type<R: Read + Drop>(
 ) -> Result<Option<BadRecord>, AllocError> {
     let mut records = Records::new(alloc, reader);
     let mut row = ByteRecord::new(alloc);
-    if !next(&mut records, &mut row)? {
+    if !next_record(&mut records, &mut row)? {
         return Ok(Some(BadRecord::none(alloc)?));
     }
     let header = joined(alloc, &row)?;
@@ -297,7 +288,7 @@ fn bad_entry_of_parameters<R: Read>(
 ) -> Result<Option<BadRecord>, AllocError> {
     let mut parameters = Parameters::none(alloc);
     for number in 1..MOST_PARAMETERS + 2 {
-        if !next(records, row)? {
+        if !next_record(records, row)? {
             return Ok(None);
         }
         let wrong = if number > MOST_PARAMETERS {
@@ -320,7 +311,7 @@ pub(crate) fn bad_parameter<R: Read + Drop>(
 ) -> Result<Option<BadRecord>, AllocError> {
     let mut records = Records::new(alloc, reader);
     let mut row = ByteRecord::new(alloc);
-    if !next(&mut records, &mut row)? {
+    if !next_record(&mut records, &mut row)? {
         return Ok(Some(BadRecord::none(alloc)?));
     }
     let header = joined(alloc, &row)?;

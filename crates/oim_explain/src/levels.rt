@@ -1,12 +1,10 @@
 //! The row of a fault, and what the levels of its report write for the fact of one of its cells: the column, the property groups
 //! that the row names, the template and the report. The more specific overrides the more general.
 
-use crate::cells::text_at;
-use crate::reread::ReportAgain;
-use crate::rows::RowAgain;
 use oim_cells::{CellMeaning, meaning};
 use oim_meta::{Column, Level, Written, WrittenDecimals};
 use oim_names::find;
+use oim_places::{ReportAgain, RowAgain, text_at};
 use oim_resolve::{CellFault, levels};
 use std::alloc::{AllocError, Global};
 
@@ -30,7 +28,13 @@ pub(crate) struct RowOfFault<'r> {
     pub(crate) again: &'r ReportAgain,
     /// The place of the row's table in the report.
     pub(crate) table: usize,
-    /// The place of the fact's column in the template.
+    /// The identifier of the table.
+    pub(crate) table_id: &'r str,
+    /// What the template writes.
+    pub(crate) template: &'r Level,
+    /// The columns of the template.
+    pub(crate) columns: &'r [Column],
+    /// The place of the fact's column among them.
     pub(crate) column: usize,
     /// The row and its header.
     pub(crate) cells: &'r RowAgain,
@@ -55,29 +59,9 @@ pub(crate) fn place_of_text(again: &RowAgain, text: &str) -> Option<usize> {
 }
 
 impl<'r> RowOfFault<'r> {
-    /// The columns of the template.
-    fn columns(&self) -> &'r [Column] {
-        let report = &self.again.report;
-        if self.table < report.tables() {
-            report.template_columns(self.table)
-        } else {
-            &[]
-        }
-    }
-
-    /// The identifier of the table.
-    pub(crate) fn table_id(&self) -> &'r str {
-        let report = &self.again.report;
-        if self.table < report.tables() {
-            report.table_id(self.table)
-        } else {
-            ""
-        }
-    }
-
     /// The identifier of the template.
     fn template_id(&self) -> &'r str {
-        let table = self.table_id();
+        let table = self.table_id;
         match self.again.written_at(&["tables", table, "template"]) {
             Some(template) => template.as_str().unwrap_or(table),
             None => table,
@@ -96,7 +80,7 @@ impl<'r> RowOfFault<'r> {
 
     /// The identifier of the column at a place of the template.
     pub(crate) fn column_id(&self, place: usize) -> &'r str {
-        match self.columns().get(place) {
+        match self.columns.get(place) {
             Some(column) => column.id.as_str(),
             None => "",
         }
@@ -141,7 +125,7 @@ impl<'r> RowOfFault<'r> {
 
     /// The property group that the row names in the column at a place of the template.
     fn group(&self, place: usize) -> Option<&'r Level> {
-        let Some(column) = self.columns().get(place) else {
+        let Some(column) = self.columns.get(place) else {
             return None;
         };
         match meaning(self.cell_of(column.id.as_str())) {
@@ -152,7 +136,7 @@ impl<'r> RowOfFault<'r> {
 
     /// The places of the columns from which the fact's column takes property groups.
     fn from(&self) -> &'r [usize] {
-        match self.columns().get(self.column) {
+        match self.columns.get(self.column) {
             Some(column) => column.from.as_slice(),
             None => &[],
         }
@@ -160,93 +144,70 @@ impl<'r> RowOfFault<'r> {
 
     /// What one of the levels writes.
     fn level(&self, writer: Writer) -> Option<&'r Level> {
-        let report = &self.again.report;
         match writer {
-            Writer::Column => match self.columns().get(self.column) {
+            Writer::Column => match self.columns.get(self.column) {
                 Some(column) => Some(&column.level),
                 None => None,
             },
             Writer::Groups(place) => self.group(place),
-            Writer::Template => {
-                if self.table < report.tables() {
-                    Some(report.template_level(self.table))
-                } else {
-                    None
-                }
-            }
-            Writer::Report => Some(report.report_level()),
+            Writer::Template => Some(self.template),
+            Writer::Report => Some(self.again.report.report_level()),
         }
     }
 
-    /// What the level writes for a dimension.
-    fn written_by(&self, writer: Writer, name: &str) -> Option<(Writer, &'r Written)> {
-        match self.level(writer) {
-            Some(level) => match find(level.dimensions.as_slice(), name) {
-                Some(written) => Some((writer, written)),
-                None => None,
-            },
-            None => None,
+    /// How many levels there may be.
+    fn ranks(&self) -> usize {
+        self.from().len() + 3
+    }
+
+    /// The level of a rank: the more specific a level is, the lower is its rank.
+    fn writer_at(&self, rank: usize) -> Writer {
+        let from = self.from();
+        if rank == 0 {
+            Writer::Column
+        } else if rank <= from.len() {
+            Writer::Groups(from[rank - 1])
+        } else if rank == from.len() + 1 {
+            Writer::Template
+        } else {
+            Writer::Report
         }
     }
 
     /// What is written for a dimension, and by which level: the most specific that writes it.
     pub(crate) fn written(&self, name: &str) -> Option<(Writer, &'r Written)> {
-        if let Some(found) = self.written_by(Writer::Column, name) {
-            return Some(found);
-        }
-        for place in self.from() {
-            if let Some(found) = self.written_by(Writer::Groups(*place), name) {
-                return Some(found);
+        for rank in 0..self.ranks() {
+            let writer = self.writer_at(rank);
+            if let Some(level) = self.level(writer) {
+                if let Some(written) = find(level.dimensions.as_slice(), name) {
+                    return Some((writer, written));
+                }
             }
         }
-        match self.written_by(Writer::Template, name) {
-            Some(found) => Some(found),
-            None => self.written_by(Writer::Report, name),
-        }
-    }
-
-    /// What the level writes for decimals.
-    fn decimals_by(&self, writer: Writer) -> Option<(Writer, &'r WrittenDecimals)> {
-        match self.level(writer) {
-            Some(level) => match level.decimals.as_ref() {
-                Some(written) => Some((writer, written)),
-                None => None,
-            },
-            None => None,
-        }
+        None
     }
 
     /// What is written for decimals, and by which level: the most specific that writes them.
     pub(crate) fn decimals(&self) -> Option<(Writer, &'r WrittenDecimals)> {
-        if let Some(found) = self.decimals_by(Writer::Column) {
-            return Some(found);
-        }
-        for place in self.from() {
-            if let Some(found) = self.decimals_by(Writer::Groups(*place)) {
-                return Some(found);
+        for rank in 0..self.ranks() {
+            let writer = self.writer_at(rank);
+            if let Some(level) = self.level(writer) {
+                if let Some(written) = level.decimals.as_ref() {
+                    return Some((writer, written));
+                }
             }
         }
-        match self.decimals_by(Writer::Template) {
-            Some(found) => Some(found),
-            None => self.decimals_by(Writer::Report),
-        }
+        None
     }
 
     /// The names of the dimensions that the levels write, in byte order.
     pub(crate) fn names(&self, alloc: Global) -> Result<Vec<&'r str>, AllocError> {
         let mut all = Vec::new(alloc);
-        if let Some(level) = self.level(Writer::Column) {
-            all.push(level)?;
-        }
-        for place in self.from() {
-            if let Some(level) = self.group(*place) {
+        for rank in 0..self.ranks() {
+            if let Some(level) = self.level(self.writer_at(rank)) {
                 all.push(level)?;
             }
         }
-        if let Some(level) = self.level(Writer::Template) {
-            all.push(level)?;
-        }
-        all.push(self.again.report.report_level())?;
         levels::names(alloc, all.as_slice())
     }
 

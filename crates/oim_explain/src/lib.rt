@@ -5,16 +5,11 @@
 //!
 //! - `explain_metadata` names a place of the metadata at which the fault stands by the definitions of the walk over
 //!   it, the first one, or says that another fault comes first, or none (`specs/Explanations.antt`);
-//! - `explain_table` and `fault_place` name a place in a table's file only if the file has that fault, its first, by the
-//!   definition of the table's stream: the line of the fault's record, if that is known, and its column
-//!   (`specs/TablePlaces.antt`, `specs/FaultRows.antt`). What `fault_place` says stands there does;
-//! - `report_again` gives the report that the files give;
-//! - the line of a record (`line_of_record`) is that of its first byte (`lines_are_of_records`,
-//!   `specs/LineNumbers.antt`);
-//! - `explanation_text` gives the lines of an explanation, with nothing of it left out;
-//! - `shown` gives a text with an escape for each control character (`specs/Shown.antt`);
-//! - `fault_row` gives the record of a fault in the file of faults, which is read as its eight fields
-//!   whatever comes behind it (`specs/FaultRows.antt`).
+//! - `explain_table` names a place in a table's file only if the file has that fault, its first, by the definition of
+//!   the table's stream: the line of the fault's record, if that is known, and its column (`specs/TablePlaces.antt`);
+//! - `explanation_text` gives the lines of an explanation, with nothing of it left out.
+//!
+//! It passes on what `oim_places` says of the place of a fault and of the file of faults.
 //!
 //! What only tests show: the sentences, what an explanation says stands at a place, the places elsewhere that a fault
 //! comes from, what is said of a types table and a parameters file, and all that `explain_report` says, which has no clause.
@@ -34,31 +29,19 @@
 
 mod again;
 mod causes;
-mod cells;
 mod entries;
-mod excerpts;
 mod explanation;
-mod fault_rows;
 mod files;
 mod levels;
-mod line_number;
 mod metadata;
-mod parts;
-mod places;
-mod pointers;
-mod reread;
-mod rows;
 mod sources;
-mod standing;
 mod tables;
-mod terminal;
 
 pub use again::explain_report;
 pub use explanation::{Explanation, explanation_text};
-pub use fault_rows::{FaultPlace, fault_header, fault_row};
-pub use line_number::lines_are_of_records;
 pub use metadata::explain_metadata;
-pub use places::fault_place;
-pub use reread::{ReportAgain, report_again};
+pub use oim_places::{
+    FaultPlace, ReportAgain, fault_header, fault_place, fault_row, lines_are_of_records,
+    report_again, shown,
+};
 pub use tables::explain_table;
-pub use terminal::shown;

@@ -13,12 +13,9 @@ ghost use Rattle.oim_explain.specs.Explanations.{ExplainsMetadata, HasBadUrl, Ha
 
 use crate::causes::cause;
 use crate::explanation::Explanation;
-use crate::parts::part_at;
-use crate::pointers::pointer;
-use crate::standing::{after_mark, standing};
-use crate::terminal::shown;
 use oim_meta::{Finding, Limits, MetaFault, Metadata, Parameters, Refusal, Types};
 use oim_names::{Items, Text};
+use oim_places::{part_at, pointer, shown, standing};
 use serde_json::Value;
 use std::alloc::{AllocError, Global};
 
@@ -78,7 +75,7 @@ fn told(
         let there = String::from_str(alloc, "(more bytes)")?;
         return Ok((there, cause(finding.fault, &[], None)));
     }
-    match part_at(alloc, after_mark(bytes), keys)? {
+    match part_at(alloc, bytes, keys)? {
         Some(part) => in_part(alloc, part, finding),
         None => in_value(alloc, None, finding),
     }

@@ -1,16 +1,14 @@
 //! The places elsewhere that the fault of a cell comes from: a cell that names a property group, a property of the
 //! metadata, and the cell or the parameter that it refers to.
 
-use crate::cells::cell;
-use crate::files::{line_again, place_in_file};
 use crate::levels::{RowOfFault, Writer};
-use crate::pointers::pointer_to;
-use crate::reread::ReportAgain;
-use crate::rows::first_with;
-use crate::standing::{quoted, standing};
 use oim_files::{Folder, path_in};
 use oim_meta::{Kind, Written, WrittenDecimals};
 use oim_names::{Items, Text};
+use oim_places::{
+    ReportAgain, cell_shown, first_record_with, line_again, place_in_file, pointer_to, quoted,
+    standing,
+};
 use oim_resolve::{CellFault, Role, read_concept, read_value, side_of};
 use std::alloc::{AllocError, Global};
 use std::io::Read;
@@ -114,7 +112,7 @@ impl<'r, 's> Lines<'r, 's> {
         let Some(place) = self.row.place_in_file(column) else {
             return Ok(());
         };
-        let found = cell(self.alloc, &self.row.cells.row, place)?;
+        let found = cell_shown(self.alloc, &self.row.cells.row, place)?;
         let place = place_in_file(self.alloc, self.row.path, self.row.line, Some(place))?;
         self.put(place, found)
     }
@@ -158,7 +156,7 @@ fn record_of<R: Read + Drop, F: Folder<R>>(
     name: &str,
 ) -> Result<Option<usize>, AllocError> {
     match folder.open(path) {
-        Some(reader) => first_with(alloc, reader, 0, name.as_bytes()),
+        Some(reader) => first_record_with(alloc, reader, 0, name.as_bytes()),
         None => Ok(None),
     }
 }
@@ -190,7 +188,7 @@ fn put_parameter<R: Read + Drop, F: Folder<R>>(
     name: &str,
     text: &str,
 ) -> Result<(), AllocError> {
-    let of_table = ["tables", lines.row.table_id(), "parameters", name];
+    let of_table = ["tables", lines.row.table_id, "parameters", name];
     if lines.row.again.written_at(&of_table).is_some() {
         return lines.put_written(&of_table);
     }

@@ -5,19 +5,18 @@ ghost use Rattle.oim_explain.specs.Explanations.{explanation_of};
 ghost use Rattle.oim_explain.specs.declared.explanation.Explanation.{Explanation as Said};
 ghost use Rattle.oim_explain.specs.TablePlaces.{ExplainsAt, ExplainsTable, NamesPlace};
 
-use crate::cells::{cell, cells, text_at};
-use crate::excerpts::excerpt;
 use crate::explanation::{Explanation, explanation_text};
-use crate::files::{changed, line_again, of_file, place_in_file};
+use crate::files::{changed, of_file};
 use crate::levels::{RowOfFault, place_of_text};
-use crate::places::{is_of_file, path_of, place_of, record_again};
-use crate::reread::ReportAgain;
-use crate::rows::{RowAgain, first_with};
 use crate::sources::sources;
 use csv::ByteRecord;
 use oim_files::{Folder, folder_of};
 use oim_meta::{Level, Report, Written};
-use oim_names::{Items, Text};
+use oim_names::{Items, Text, find};
+use oim_places::{
+    ReportAgain, RowAgain, cell_shown, excerpt, first_record_with, is_of_file, line_again,
+    place_in_file, place_in_record, record_again, record_shown, table_path, text_at,
+};
 use oim_rows::{TableFault, TableKind};
 use std::alloc::{AllocError, Global};
 use std::io::Read;
@@ -55,15 +54,10 @@ fn row_id(
 
 /// The concept that a level writes as a literal.
 fn concept_in(level: &Level) -> Option<&str> {
-    for (name, written) in level.dimensions.as_slice() {
-        if name.as_str() == "concept" {
-            return match written {
-                Written::Text(text) => Some(text.as_str()),
-                _ => None,
-            };
-        }
+    match find(level.dimensions.as_slice(), "concept") {
+        Some(Written::Text(text)) => Some(text.as_str()),
+        _ => None,
     }
-    None
 }
 
 /// The concept that a column itself writes as a literal, unless a property group may write another.
@@ -113,7 +107,7 @@ fn cell_of_row(
 ) -> Result<String, AllocError>
     requires { (fault.now).table < length report.now.tables }
 {
-    let cell = cell(alloc, &again.row, place)?;
+    let cell = cell_shown(alloc, &again.row, place)?;
     let name = text_at(&again.header, place).unwrap_or("?");
     let column = column_named(alloc, report, fault.table, name)?;
     let id = row_id(alloc, report, fault.table, again, fault.row)?;
@@ -130,10 +124,10 @@ fn found_in(
 ) -> Result<String, AllocError>
     requires { (fault.now).table < length report.now.tables }
 {
-    match place_of(fault) {
+    match place_in_record(fault) {
         Some(place) if fault.row > 0 => cell_of_row(alloc, report, fault, again, place),
-        Some(place) => cell(alloc, &again.header, place),
-        None if fault.row > 0 => cells(alloc, &again.row),
+        Some(place) => cell_shown(alloc, &again.header, place),
+        None if fault.row > 0 => record_shown(alloc, &again.row),
         None => excerpt(alloc, id_column(report, fault.table).unwrap_or("?")),
     }
 }
@@ -152,7 +146,7 @@ fn first_line<R: Read + Drop, F: Folder<R>>(
     let Some(text) = row.get(place) else {
         return Ok(0);
     };
-    match first_with(alloc, reader, place, text)? {
+    match first_record_with(alloc, reader, place, text)? {
         Some(number) => Ok(line_again(alloc, folder, path, number).unwrap_or(0)),
         None => Ok(0),
     }
@@ -167,7 +161,7 @@ fn with_first_line<R: Read + Drop, F: Folder<R>>(
     again: &RowAgain,
     found: String,
 ) -> Result<String, AllocError> {
-    match place_of(fault) {
+    match place_in_record(fault) {
         Some(place) if fault.kind == TableKind::RepeatedRowId => {
             let line = first_line(alloc, folder, path, &again.row, place)?;
             let found = found.as_str();
@@ -196,7 +190,7 @@ fn elsewhere<R: Read + Drop, F: Folder<R>>(
 ) -> Result<Items<Text>, AllocError>
     requires { (fault.now).table < length table.again.now.report.tables }
 {
-    let (TableKind::Cell(kind), Some(place)) = (fault.kind, place_of(fault)) else {
+    let (TableKind::Cell(kind), Some(place)) = (fault.kind, place_in_record(fault)) else {
         return Ok(Items::new(alloc));
     };
     let name = text_at(&cells.header, place).unwrap_or("");
@@ -209,6 +203,9 @@ fn elsewhere<R: Read + Drop, F: Folder<R>>(
     let row = RowOfFault {
         again: table.again,
         table: fault.table,
+        table_id: report.table_id(fault.table),
+        template: report.template_level(fault.table),
+        columns: report.template_columns(fault.table),
         column,
         cells,
         number: number.as_str(),
@@ -235,7 +232,7 @@ fn at_record<R: Read + Drop, F: Folder<R>>(
     let found = with_first_line(alloc, folder, table.path, fault, cells, found)?;
     let sources = elsewhere(alloc, folder, table, fault, cells, line)?;
     Ok(Explanation {
-        place: Text::new(place_in_file(alloc, table.path, line, place_of(fault))?),
+        place: Text::new(place_in_file(alloc, table.path, line, place_in_record(fault))?),
         found: Text::new(found),
         cause: fault.kind.explanation(),
         sources,
@@ -274,7 +271,7 @@ fn of_table<R: Read + Drop, F: Folder<R>>(
     if fault.table >= again.report.tables() {
         return changed(alloc, meta);
     }
-    let path = path_of(alloc, meta, &again.report, fault.table)?;
+    let path = table_path(alloc, meta, &again.report, fault.table)?;
     let table = TableAgain {
         again,
         base: folder_of(meta),

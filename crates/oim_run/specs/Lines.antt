@@ -6,7 +6,7 @@ use Rattle.clap.specs.declared.error.kind.ErrorKind.TheVariants as kind
 use Rattle.oim_entries.specs.FaultNames.{fault_name, fault_number}
 use Rattle.oim_rows.specs.FaultNames as table_fault
 use Rattle.oim_convert.specs.FaultNames as convert_fault
-use Rattle.oim_explain.specs.Shown.{shown}
+use Rattle.oim_places.specs.Shown.{shown}
 use Rattle.oim_rows.specs.declared.fault.TableFault.{TableFault}
 use Rattle.oim_run.specs.declared.outcome.Outcome.{Outcome}
 use Rattle.oim_run.specs.declared.outcome.Outcome.TheVariants as outcome

@@ -1,6 +1,0 @@
-use Rattle.std.proofs.Common.{◌≡◌, ◌++◌, drop, string_bytes}
-use Rattle.oim_explain.specs.Explanations.{pointer_of}
-use Rattle.oim_explain.proofs.pointers.pointer.Given as goal
-
-abbrev pub invariant-loop-key : goal.invariant-loop-key
-invariant-loop-key l = string_bytes l.out ++ pointer_of (drop l.key-index l.keys) ≡ pointer_of l.keys

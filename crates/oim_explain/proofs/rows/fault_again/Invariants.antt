@@ -1,6 +1,0 @@
-use Rattle.std.proofs.Common.{◌≡◌}
-use Rattle.oim_explain.proofs.FaultPlaces.{KeepsFault}
-use Rattle.oim_explain.proofs.rows.fault_again.Given as goal
-
-abbrev pub invariant-loop : goal.invariant-loop
-invariant-loop g l = (l.rows.table ≡ l.fn.table) × KeepsFault l.report l.fn.table (g.R.Read.remaining l.fn.reader) l.rows.left

@@ -1,0 +1,121 @@
+-- Worked cases of places: texts that are cut, JSON pointers, the lines of records.
+use Rattle.std.proofs.Common.{◌≡◌, List, ℕ, [], ◌∷◌, ◌++◌, Some, None, refl, replicate}
+use Rattle.std.specs.Prelude.{codes}
+use Rattle.std.specs.Str.{chars}
+use Rattle.csv.specs.Reading.{strip_bom}
+use lib.Utf8.{encode}
+use Rattle.oim_places.specs.LineNumbers.{line_of_record}
+use Rattle.oim_places.specs.Pointers.{pointer_of}
+use Rattle.oim_places.specs.Shown.{excerpt_of, shown}
+
+-- 80 characters are shown whole, of 81 two points stand for the last
+eighty : excerpt_of (replicate 80 97) ≡ replicate 80 97
+unfolding chars encode
+eighty = refl
+
+eighty_one : excerpt_of (replicate 81 97) ≡ replicate 80 97 ++ codes ".."
+unfolding chars encode
+eighty_one = refl
+
+-- 81 letters of two bytes each are cut between letters
+letters_of_two_bytes : excerpt_of (195 ∷ 169 ∷ codes "" ++ replicate 79 97) ≡ 195 ∷ 169 ∷ replicate 79 97
+unfolding chars encode
+letters_of_two_bytes = refl
+
+-- a line feed and the order to clear a terminal
+control_characters : excerpt_of (codes "a" ++ 10 ∷ 27 ∷ codes "[2J") ≡ codes "a\\x0a\\x1b[2J"
+unfolding chars encode
+control_characters = refl
+
+-- RFC 6901, section 5: the keys a/b, m~n, the empty key
+slash : pointer_of (codes "a/b" ∷ []) ≡ codes "/a~1b"
+unfolding chars encode
+slash = refl
+
+tilde : pointer_of (codes "m~n" ∷ codes "x" ∷ []) ≡ codes "/m~0n/x"
+unfolding chars encode
+tilde = refl
+
+empty_key : pointer_of ([] ∷ []) ≡ codes "/"
+unfolding chars encode
+empty_key = refl
+
+dimension : pointer_of (codes "dimensions" ∷ codes "eg:Regoin" ∷ []) ≡ codes "/dimensions/eg:Regoin"
+unfolding chars encode
+dimension = refl
+
+key_of_two_lines : pointer_of ((codes "a" ++ 10 ∷ codes "b") ∷ []) ≡ codes "/a\\x0ab"
+unfolding chars encode
+key_of_two_lines = refl
+
+-- ---- the lines of records: LF is 10, CR 13, the quote 34
+
+abbrev lf : List ℕ
+lf = 10 ∷ []
+
+abbrev cr : List ℕ
+cr = 13 ∷ []
+
+abbrev quote : List ℕ
+quote = 34 ∷ []
+
+header : line_of_record 0 (codes "a,b" ++ lf ++ codes "1,2") ≡ Some 1
+unfolding strip_bom
+header = refl
+
+first_row : line_of_record 1 (codes "a,b" ++ lf ++ codes "1,2") ≡ Some 2
+unfolding strip_bom
+first_row = refl
+
+behind_cr_lf : line_of_record 1 (codes "a" ++ cr ++ lf ++ codes "1") ≡ Some 2
+unfolding strip_bom
+behind_cr_lf = refl
+
+behind_a_lone_cr : line_of_record 1 (codes "a" ++ cr ++ codes "1") ≡ Some 2
+unfolding strip_bom
+behind_a_lone_cr = refl
+
+behind_lf_and_cr : line_of_record 1 (codes "a" ++ lf ++ cr ++ codes "1") ≡ Some 3
+unfolding strip_bom
+behind_lf_and_cr = refl
+
+-- empty lines are no records, and are counted
+behind_empty_lines : line_of_record 1 (lf ++ codes "a" ++ cr ++ lf ++ cr ++ lf ++ lf ++ codes "1") ≡ Some 5
+unfolding strip_bom
+behind_empty_lines = refl
+
+-- a line feed inside quotes ends a line and no record
+quoted_line_feed : line_of_record 1 (quote ++ codes "a" ++ lf ++ codes "b" ++ quote ++ lf ++ codes "1") ≡ Some 3
+unfolding strip_bom
+quoted_line_feed = refl
+
+doubled_quote : line_of_record 1 (quote ++ codes "a" ++ quote ++ quote ++ lf ++ codes "b" ++ quote ++ codes ",c" ++ lf ++ codes "1") ≡ Some 3
+unfolding strip_bom
+doubled_quote = refl
+
+-- a quote inside a field is a character, also behind the quotes of one
+quote_in_a_field : line_of_record 1 (codes "a" ++ quote ++ lf ++ codes "1") ≡ Some 2
+unfolding strip_bom
+quote_in_a_field = refl
+
+text_behind_quotes : line_of_record 1 (quote ++ codes "a" ++ quote ++ codes "b" ++ quote ++ lf ++ codes "1") ≡ Some 2
+unfolding strip_bom
+text_behind_quotes = refl
+
+quote_behind_a_comma : line_of_record 1 (codes "a," ++ quote ++ lf ++ quote ++ lf ++ codes "1") ≡ Some 3
+unfolding strip_bom
+quote_behind_a_comma = refl
+
+-- a byte-order mark is passed over, so that the quote behind it begins a quoted field
+behind_a_mark : line_of_record 1 (239 ∷ 187 ∷ 191 ∷ quote ++ lf ++ quote ++ lf ++ codes "1") ≡ Some 3
+unfolding strip_bom
+behind_a_mark = refl
+
+no_such_record : line_of_record 2 (codes "a" ++ lf ++ codes "1" ++ lf) ≡ None
+unfolding strip_bom
+no_such_record = refl
+
+-- a letter of two bytes, and U+00A0, which comes behind the last control character
+shown_letters : shown (codes "a \\ z" ++ 195 ∷ 169 ∷ 194 ∷ 160 ∷ []) ≡ codes "a \\ z" ++ 195 ∷ 169 ∷ 194 ∷ 160 ∷ []
+unfolding chars encode
+shown_letters = refl

@@ -1,0 +1,144 @@
+-- The fault of a table whose file is read again, and what stands at its place.
+use Rattle.std.proofs.Common.{◌≡◌, ◌∙◌, ◌⊎◌, ℕ, zero, suc, List, [], ◌∷◌, Option, Some, None, Result, Ok, Err, IfOk, IfSome, true, false, ap, inl, inr, refl, subst, sym, unwrap_or}
+use Rattle.std.specs.Prelude.{⊤}
+use Rattle.csv.specs.Records.{fields_of}
+use Rattle.oim_files.specs.Folders.{Files, IsFileOf, IsFolderOf}
+use Rattle.oim_files.specs.Metadata.{profile}
+use Rattle.oim_files.specs.Steps.{IsReport}
+use Rattle.oim_records.specs.Grids.{Record, grid}
+use Rattle.oim_report.specs.ReportValue.{ReportValue}
+use Rattle.oim_resolve.specs.FactParts.{FactParts as Fact}
+use Rattle.oim_rows.specs.Header.{file_header_fault}
+use Rattle.oim_rows.specs.Streams.{GivesNext, IsOutside, Stream, ending, stream_of}
+use Rattle.oim_rows.specs.declared.fault.TableFault.{TableFault}
+use Rattle.oim_places.specs.Reports.{IsReportOf}
+use Rattle.oim_places.specs.FaultPlaces.{FoundIn, HasRecordOf, HasRow, IsFaultOf, IsPlaceAt, IsRowAt, fault_in, field_in, is_of_file, row_at, unknown_place}
+use Rattle.oim_places.specs.LineNumbers.{line_of_record}
+use Rattle.oim_places.specs.declared.fault_places.FaultPlace.{FaultPlace}
+use Rattle.oim_places.specs.declared.records.RowAgain.{RowAgain}
+
+-- ---- the fault
+
+-- the stream that is left has the fault of the file
+abbrev pub KeepsFault : ReportValue → ℕ → Option (List ℕ) → Option Stream → Type 0
+KeepsFault report table None left = ⊤
+KeepsFault report table (Some bytes) None = ⊥
+KeepsFault report table (Some bytes) (Some s) = s.fault ≡ fault_in report table bytes
+
+pub keeps_start : (report : ReportValue) (table limit : ℕ) (known : Option (List ℕ)) (left : Option Stream) → limit ≡ profile.rows
+    → IfSome known (λ bytes. left ≡ Some (stream_of report table limit (grid bytes))) → KeepsFault report table known left
+keeps_start report table limit None left same is = tt
+keeps_start report table limit (Some bytes) left same is =
+    subst (KeepsFault report table (Some bytes)) (sym is) (ap (λ l. (stream_of report table l (grid bytes)).fault) same)
+
+pub keeps_next : (report : ReportValue) (table at : ℕ) (known : Option (List ℕ)) (left after : Option Stream) (facts : List Fact) → KeepsFault report table known left
+    → IfSome left (λ s. GivesNext at s (Ok (Some facts)) after) → KeepsFault report table known after
+keeps_next report table at None left after facts keeps gives = tt
+keeps_next report table at (Some bytes) None after facts keeps gives = absurd keeps
+keeps_next report table at (Some bytes) (Some s) None facts keeps gives = absurd gives
+keeps_next report table at (Some bytes) (Some s) (Some rest) facts keeps gives = sym (ap (λ (x : Stream). x.fault) gives) ∙ keeps
+
+pub keeps_found : (report : ReportValue) (table at : ℕ) (known : Option (List ℕ)) (left after : Option Stream) (e : TableFault) → at ≡ table → KeepsFault report table known left
+    → IfSome left (λ s. GivesNext at s (Err e) after) → IfSome known (λ bytes. IsFaultOf report table bytes e)
+keeps_found report table at None left after e same keeps gives = tt
+keeps_found report table at (Some bytes) None after e same keeps gives = absurd keeps
+keeps_found report table at (Some bytes) (Some s) after e same keeps (inl outside) = inl (subst (λ t. IsOutside t e) same outside)
+keeps_found report table at (Some bytes) (Some s) after e same keeps (inr is) = inr (sym keeps ∙ ap (λ (x : Stream). x.fault) is)
+
+refused : (report : ReportValue) (table limit : ℕ) (records : List Record) (e : TableFault) → file_header_fault report table records ≡ Some e
+    → stream_of report table limit records ≡ ending (Some e)
+refused report table limit [] e is = ap ending is
+refused report table limit (r ∷ records) e is = rw is refl
+
+pub header_found : (report : ReportValue) (table : ℕ) (known : Option (List ℕ)) (e : TableFault)
+    → IfSome known (λ bytes. IsOutside table e ⊎ (file_header_fault report table (grid bytes) ≡ Some e)) → IfSome known (λ bytes. IsFaultOf report table bytes e)
+header_found report table None e is = tt
+header_found report table (Some bytes) e (inl outside) = inl outside
+header_found report table (Some bytes) e (inr is) = inr (ap (λ (x : Stream). x.fault) (refused report table profile.rows (grid bytes) e is))
+
+-- ---- the file
+
+-- a reader of a folder's file tells its bytes
+opened : {R : Type 0} (told : R → Option (List ℕ)) (reader : R) (file : Option (List ℕ)) → IsFileOf told (Some reader) file → (bytes : List ℕ) × (file ≡ Some bytes) × (told reader ≡ Some bytes)
+opened told reader None is = absurd is
+opened told reader (Some bytes) is = (bytes, refl, is)
+
+-- the file is opened once more, after its fault was found
+pub opened_again : {R : Type 0} (told : R → Option (List ℕ)) (one : R) (two : Option R) (known : Option Files) (path : List ℕ) (report : ReportValue) (table : ℕ) (f : TableFault)
+    → IfSome known (λ at. IsFileOf told (Some one) (at path)) → IfSome (told one) (λ bytes. IsFaultOf report table bytes f) → IfSome known (λ at. IsFileOf told two (at path))
+    → IfSome two (λ reader. IfSome known (λ files. FoundIn files path (λ bytes. (told reader ≡ Some bytes) × IsFaultOf report table bytes f)))
+opened_again told one None known path report table f first found second = tt
+opened_again told one (Some reader) None path report table f first found second = tt
+opened_again told one (Some reader) (Some files) path report table f first found second =
+    let before = opened told one (files path) first in
+    let after = opened told reader (files path) second in
+    let same : Some after.0 ≡ Some before.0 = sym after.1 ∙ before.1 in
+    (after.0, after.1, (after.2, subst (λ o. IfSome o (λ bytes. IsFaultOf report table bytes f)) (before.2 ∙ sym same) found))
+
+pub with_record : {R E : Type 0} (told : R → Option (List ℕ)) (reader : R) (known : Option Files) (path : List ℕ) (report : ReportValue) (f : TableFault) (r : Result (Option RowAgain) E)
+    → IfOk r (λ o. IfSome o (λ a. IfSome (told reader) (λ bytes. HasRow (grid bytes) f.row (fields_of a.header) (fields_of a.row))))
+    → IfSome known (λ files. FoundIn files path (λ bytes. (told reader ≡ Some bytes) × IsFaultOf report f.table bytes f))
+    → IfOk r (λ o. IfSome o (λ a. IfSome known (λ files. FoundIn files path (HasRecordOf report f (fields_of a.header) (fields_of a.row)))))
+with_record told reader known path report f (Err e) row found = tt
+with_record told reader known path report f (Ok None) row found = tt
+with_record told reader None path report f (Ok (Some a)) row found = tt
+with_record told reader (Some files) path report f (Ok (Some a)) row found = (
+  found.0,
+  found.1,
+  (subst (λ o. IfSome o (λ bytes. HasRow (grid bytes) f.row (fields_of a.header) (fields_of a.row))) found.2.0 row, found.2.1),
+)
+
+-- ---- what stands there
+
+row_is : (records : List Record) (number : ℕ) (row : Record) → IsRowAt records number row → row_at records number ≡ row
+row_is records zero row is = sym is
+row_is records (suc number) row is = ap (λ o. unwrap_or o []) is
+
+inside : (report : ReportValue) (f : TableFault) (bytes : List ℕ) → is_of_file f.kind ≡ false → IsFaultOf report f.table bytes f → fault_in report f.table bytes ≡ Some f
+inside report f bytes is (inr found) = found
+inside report f bytes is (inl (inl e)) = absurd (let whole : is_of_file f.kind ≡ true = ap (λ (x : TableFault). is_of_file x.kind) e in cc)
+inside report f bytes is (inl (inr e)) = absurd (let whole : is_of_file f.kind ≡ true = ap (λ (x : TableFault). is_of_file x.kind) e in cc)
+
+pub place_found : (known : Option Files) (path : List ℕ) (report : ReportValue) (f : TableFault) (header row : Record) (p : FaultPlace) → is_of_file f.kind ≡ false
+    → IfSome known (λ files. FoundIn files path (HasRecordOf report f header row)) → p.header ≡ field_in header f.column → p.cell ≡ field_in row f.column
+    → IfSome known (λ files. IfSome (files path) (λ bytes. IfSome p.line (λ line. line_of_record f.row bytes ≡ Some line)))
+    → IfSome known (λ files. (p ≡ unknown_place) ⊎ IsPlaceAt files path report f p)
+place_found None path report f header row p is found h c l = tt
+place_found (Some files) path report f header row p is found h c l =
+    let bytes = found.0 in
+    let has = found.2 in
+    inr (
+      is,
+      (
+        bytes,
+        found.1,
+        (
+          inside report f bytes is has.1,
+          (
+            h ∙ ap (λ o. field_in (unwrap_or o []) f.column) (sym has.0.0),
+            c ∙ ap (λ r. field_in r f.column) (sym (row_is (grid bytes) f.row row has.0.1)),
+            subst (λ o. IfSome o (λ bytes. IfSome p.line (λ line. line_of_record f.row bytes ≡ Some line))) found.1 l,
+          ),
+        ),
+      ),
+    )
+
+-- the same of an answer, where the folder's files are those before the record was read
+pub places_found : {E : Type 0} (known before : Option Files) (path : List ℕ) (report : ReportValue) (f : TableFault) (found : Option RowAgain) (a : RowAgain) (r : Result FaultPlace E)
+    → found ≡ Some a → is_of_file f.kind ≡ false → before ≡ known
+    → IfSome found (λ a. IfSome known (λ files. FoundIn files path (HasRecordOf report f (fields_of a.header) (fields_of a.row))))
+    → IfOk r (λ p. p.header ≡ field_in (fields_of a.header) f.column) → IfOk r (λ p. p.cell ≡ field_in (fields_of a.row) f.column)
+    → IfOk r (λ p. IfSome before (λ files. IfSome (files path) (λ bytes. IfSome p.line (λ line. line_of_record f.row bytes ≡ Some line))))
+    → IfOk r (λ p. IfSome known (λ files. (p ≡ unknown_place) ⊎ IsPlaceAt files path report f p))
+places_found known before path report f found a (Err e) some is same has h c l = tt
+places_found known before path report f found a (Ok p) some is same has h c l =
+    place_found known path report f (fields_of a.header) (fields_of a.row) p is
+    (subst (λ o. IfSome o (λ a. IfSome known (λ files. FoundIn files path (HasRecordOf report f (fields_of a.header) (fields_of a.row))))) some has) h c
+    (subst (λ k. IfSome k (λ files. IfSome (files path) (λ bytes. IfSome p.line (λ line. line_of_record f.row bytes ≡ Some line)))) same l)
+
+-- ---- the report
+
+pub report_is : (known : Option Files) (base meta types : List ℕ) (r : ReportValue) → IsFolderOf base meta → IfSome known (λ files. IsReport files base meta types (Ok r))
+    → IfSome known (λ files. IsReportOf files meta types r)
+report_is None base meta types r folder is = tt
+report_is (Some files) base meta types r folder is = (base, folder, is.1)

@@ -1,0 +1,87 @@
+-- The records of a file that is read again, and the records of the file of faults.
+use Rattle.std.proofs.Common.{◌≡◌, ◌∙◌, ◌+◌, ℕ, zero, suc, List, [], ◌∷◌, Option, Some, None, Result, Ok, Err, IfOk, IfSome, Bool, true, option_map, ◌≤◌, ◌-◌, ap, arith, refl, drop, sym, subst, slice_get}
+use Rattle.std.proofs.lemmas.Option.{IfSome_then, slice_get_past}
+use Rattle.csv.proofs.RoundTrip.{read-write-many}
+use Rattle.csv.specs.Writing.{default_writer, row_text}
+use Rattle.oim_records.specs.Grids.{Field, Record, grid}
+use Rattle.oim_records.specs.Reads.{TakesRecord}
+use Rattle.oim_files.specs.Folders.{IsFileOf}
+use Rattle.oim_places.specs.FaultPlaces.{FoundIn, HasRow, TakesNth}
+use Rattle.oim_places.specs.FaultRows.{IsTextOf}
+use Rattle.oim_files.specs.Folders.{Files}
+
+-- a record of at least two fields, as it is written
+pub text_of_record : (x y : Field) (more : Record) (text : List ℕ) → text ≡ row_text default_writer (x ∷ y ∷ more) → IsTextOf (x ∷ y ∷ more) text
+text_of_record x y more text is = record { written = is; reads = λ later. rw is (read-write-many x y more later) }
+
+-- these are left behind n records
+abbrev pub Behind : Option (List Record) → ℕ → Option (List Record) → Type 0
+Behind all n left = IfSome all (λ records. left ≡ Some (drop n records))
+
+Taken : List Record → ℕ → Record → Option (List Record) → Type 0
+Taken records n r after = (slice_get records n ≡ Some r) × (after ≡ Some (drop (suc n) records))
+
+takes : (records : List Record) (n : ℕ) (r : Record) (after : Option (List Record)) → TakesRecord (Some (drop n records)) true r after → Taken records n r after
+unfolding Taken
+takes [] zero r after given = cc given.0
+takes [] (suc n) r after given = cc given.0
+takes (x ∷ rest) zero r after given = (ap Some (sym given.1), given.2)
+takes (x ∷ rest) (suc n) r after given = takes rest n r after given
+
+pub takes_nth : (records : List Record) (n : ℕ) (r : Record) (left after : Option (List Record)) → left ≡ Some (drop n records) → TakesRecord left true r after
+    → TakesNth records n r after
+unfolding Taken
+takes_nth records n r left after is given =
+    let one : suc n ≡ n + 1 = omega arith in
+    let taken = takes records n r after (subst (λ l. TakesRecord l true r after) is given) in
+    (taken.0, taken.1 ∙ ap (λ k. Some (drop k records)) one)
+
+pub behind_more : (all left after : Option (List Record)) (n : ℕ) (r : Record) → Behind all n left → TakesRecord left true r after → Behind all (n + 1) after
+behind_more all left after n r behind given = IfSome_then all behind (λ records is. (takes_nth records n r left after is given).1)
+
+pub behind_takes : (all left after : Option (List Record)) (n : ℕ) (r : Record) → Behind all n left → TakesRecord left true r after
+    → IfSome all (λ records. TakesNth records n r after)
+behind_takes all left after n r behind given = IfSome_then all behind (λ records is. takes_nth records n r left after is given)
+
+-- the read behind n others says whether there is a record
+pub behind_answers : {E : Type 0} (all left after : Option (List Record)) (n : ℕ) (r : Record) (o : Result Bool E) → Behind all n left
+    → IfOk o (λ found. found ≡ true → TakesRecord left true r after) → IfOk o (λ found. found ≡ true → IfSome all (λ records. TakesNth records n r after))
+behind_answers all left after n r (Ok found) behind given = λ yes. behind_takes all left after n r behind (given yes)
+behind_answers all left after n r (Err e) behind given = tt
+
+-- the header alone
+pub has_header : (told : Option (List ℕ)) (records after : Option (List Record)) (h : Record) (number : ℕ) → records ≡ option_map grid told → number ≡ 0
+    → IfSome records (λ left. TakesNth left 0 h after) → IfSome told (λ bytes. HasRow (grid bytes) number h [])
+has_header None records after h number is none first = tt
+has_header (Some bytes) records after h number is none first =
+    let taken : TakesNth (grid bytes) 0 h after = subst (λ o. IfSome o (λ left. TakesNth left 0 h after)) is first in
+    rw none (taken.0, refl)
+
+abbrev no_records : List Record
+no_records = []
+
+further : (records : List Record) (m : ℕ) (r : Record) → slice_get (drop 1 records) m ≡ Some r → slice_get records (suc m) ≡ Some r
+further [] m r e = cc (sym (slice_get_past no_records m (omega arith)) ∙ e)
+further (x ∷ records) m r e = e
+
+-- the header and a row behind it
+pub has_row : (told : Option (List ℕ)) (records after last : Option (List Record)) (h r : Record) (number : ℕ) → records ≡ option_map grid told → 1 ≤ number
+    → IfSome records (λ left. TakesNth left 0 h after) → IfSome after (λ left. TakesNth left (number - 1) r last) → IfSome told (λ bytes. HasRow (grid bytes) number h r)
+has_row None records after last h r number is some first second = tt
+has_row (Some bytes) records after last h r zero is some first second = absurd (omega arith)
+has_row (Some bytes) records after last h r (suc m) is some first second =
+    let taken : TakesNth (grid bytes) 0 h after = subst (λ o. IfSome o (λ left. TakesNth left 0 h after)) is first in
+    let one : suc m - 1 ≡ m = omega arith in
+    let row : TakesNth (drop 1 (grid bytes)) (suc m - 1) r last = subst (λ o. IfSome o (λ left. TakesNth left (suc m - 1) r last)) taken.1 second in
+    (taken.0, further (grid bytes) m r (ap (λ k. slice_get (drop 1 (grid bytes)) k) (sym one) ∙ row.0))
+
+-- the header and a row of the file that a reader was opened for
+pub has_row_in : {R : Type 0} (told : R → Option (List ℕ)) (reader : R) (known : Option Files) (path : List ℕ) (number : ℕ) (h r : Record)
+    → IfSome known (λ at. IsFileOf told (Some reader) (at path)) → IfSome (told reader) (λ bytes. HasRow (grid bytes) number h r)
+    → IfSome known (λ files. FoundIn files path (λ bytes. HasRow (grid bytes) number h r))
+has_row_in told reader None path number h r opens row = tt
+has_row_in told reader (Some files) path number h r opens row = by (files path) refl opens
+  where
+    by : (o : Option (List ℕ)) → files path ≡ o → IsFileOf told (Some reader) o → FoundIn files path (λ bytes. HasRow (grid bytes) number h r)
+    by None e is = absurd is
+    by (Some bytes) e is = (bytes, e, subst (λ k. IfSome k (λ bytes. HasRow (grid bytes) number h r)) is row)

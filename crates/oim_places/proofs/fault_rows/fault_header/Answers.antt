@@ -1,0 +1,11 @@
+use Rattle.std.proofs.Common.{[], ◌∷◌, refl}
+use Rattle.std.specs.Prelude.{codes}
+use Rattle.csv.specs.Writing.{escaped, fields_text, is_blank}
+use Rattle.oim_places.proofs.Rereads.{text_of_record}
+use Rattle.oim_places.proofs.fault_rows.fault_header.Goals as goal
+
+pub returns : goal.returns
+unfolding is_blank fields_text escaped
+returns c =
+    text_of_record (codes "table") (codes "row")
+    (codes "column" ∷ codes "number" ∷ codes "name" ∷ codes "line" ∷ codes "header" ∷ codes "cell" ∷ []) _ refl

@@ -1,0 +1,115 @@
+-- What stands in the files of a report at the place of a table's fault: the line of its record, and the cells of the header and of the row.
+use Rattle.std.specs.Prelude.{◌≡◌, ◌⊎◌, ◌+◌, ℕ, zero, suc, Bool, true, false, List, [], ◌++◌, Option, Some, None, IfSome, drop, slice_get, unwrap_or}
+use Rattle.csv.specs.Records.{field_at}
+use Rattle.oim_records.specs.Grids.{Field, Record, grid}
+use Rattle.oim_files.specs.Metadata.{profile}
+use Rattle.oim_rows.specs.Streams.{IsOutside, table_stream}
+use Rattle.oim_rows.specs.declared.fault.TableFault.{TableFault}
+use Rattle.oim_rows.specs.declared.fault.TableKind.{TableKind}
+use Rattle.oim_rows.specs.declared.fault.TableKind.TheVariants as kind
+use Rattle.oim_report.specs.Readers.{table_of}
+use Rattle.oim_report.specs.ReportValue.{ReportValue}
+use Rattle.oim_files.specs.Folders.{Files, IsFolderOf}
+use Rattle.oim_places.specs.Cells.{as_text}
+use Rattle.oim_places.specs.LineNumbers.{line_of_record}
+use Rattle.oim_places.specs.declared.fault_places.FaultPlace.{FaultPlace}
+
+-- the record at a place, and the field in a column, which is counted from 1; nothing where there is none
+abbrev pub record_at : List Record → ℕ → Record
+record_at records number = unwrap_or (slice_get records number) []
+
+abbrev pub column_place : ℕ → Option ℕ
+column_place zero = None
+column_place (suc place) = Some place
+
+abbrev pub field_of : Record → Option ℕ → Field
+field_of fields None = []
+field_of fields (Some place) = unwrap_or (field_at fields place) []
+
+abbrev pub field_in : Record → ℕ → List ℕ
+field_in fields column = as_text (field_of fields (column_place column))
+
+-- a record of these, by its number; the header, which has the number 0, is no row
+abbrev pub IsRowAt : List Record → ℕ → Record → Type 0
+IsRowAt records zero row = row ≡ []
+IsRowAt records (suc number) row = slice_get records (suc number) ≡ Some row
+
+-- the header of these records, and one of their rows
+abbrev pub HasRow : List Record → ℕ → Record → Record → Type 0
+HasRow records number header row = (slice_get records 0 ≡ Some header) × IsRowAt records number row
+
+-- the record so many places behind the next one, and those that are left behind it
+abbrev pub TakesNth : List Record → ℕ → Record → Option (List Record) → Type 0
+TakesNth left before row after = (slice_get left before ≡ Some row) × (after ≡ Some (drop (before + 1) left))
+
+-- what is found in the file at a path of a folder, which is there
+abbrev pub FoundIn : Files → List ℕ → (List ℕ → Type 0) → Type 0
+FoundIn files path holds = (bytes : List ℕ) × (files path ≡ Some bytes) × holds bytes
+
+-- the header is no row
+abbrev pub row_at : List Record → ℕ → Record
+row_at records zero = []
+row_at records (suc number) = record_at records (suc number)
+
+-- what a table's file has at a row and a column
+abbrev pub stands_at : List ℕ → (row column : ℕ) → FaultPlace
+stands_at bytes row column = record {
+  line = line_of_record row bytes;
+  header = field_in (record_at (grid bytes) 0) column;
+  cell = field_in (row_at (grid bytes) row) column;
+}
+
+-- the fault is of a file as a whole, and has no place in it
+abbrev pub is_of_file : TableKind → Bool
+is_of_file kind.NoFile = true
+is_of_file kind.Read = true
+is_of_file kind.NoHeader = true
+is_of_file kind.UnknownHeader = false
+is_of_file kind.RepeatedHeader = false
+is_of_file kind.NoRowIdColumn = false
+is_of_file kind.Ragged = false
+is_of_file kind.NotUtf8 = false
+is_of_file kind.TooManyRows = false
+is_of_file kind.MissingRowId = false
+is_of_file kind.BadRowId = false
+is_of_file kind.RepeatedRowId = false
+is_of_file (kind.Cell f) = false
+is_of_file kind.Memory = true
+is_of_file kind.NoThread = true
+
+-- nothing is known of the place
+abbrev pub unknown_place : FaultPlace
+unknown_place = record { line = None; header = []; cell = [] }
+
+-- the first fault of the table whose file has these bytes
+abbrev pub fault_in : ReportValue → (table : ℕ) → List ℕ → Option TableFault
+fault_in report table bytes = (table_stream report table profile.rows (Some bytes)).fault
+
+-- the same as it is found by reading: a reader may fail and memory may run out
+abbrev pub IsFaultOf : ReportValue → (table : ℕ) → List ℕ → TableFault → Type 0
+IsFaultOf report table bytes f = IsOutside table f ⊎ (fault_in report table bytes ≡ Some f)
+
+-- the table's file has these bytes and the fault, and these are its header and the fault's record
+abbrev pub HasRecordOf : ReportValue → TableFault → (header row : Record) → List ℕ → Type 0
+HasRecordOf report f header row bytes = HasRow (grid bytes) f.row header row × IsFaultOf report f.table bytes f
+
+-- what stands in the file at a row and a column, apart from the line if that is not known: a read for it may fail
+abbrev pub IsPlaceIn : (row column : ℕ) → FaultPlace → List ℕ → Type 0
+IsPlaceIn row column p bytes = (p.header ≡ (stands_at bytes row column).header) × (p.cell ≡ (stands_at bytes row column).cell)
+    × IfSome p.line (λ line. (stands_at bytes row column).line ≡ Some line)
+
+-- the file has the fault, and what stands there is that of its place
+abbrev pub HasPlaceIn : ReportValue → TableFault → FaultPlace → List ℕ → Type 0
+HasPlaceIn report f p bytes = (fault_in report f.table bytes ≡ Some f) × IsPlaceIn f.row f.column p bytes
+
+-- the place is that of the fault in the file at this path, which has it there
+abbrev pub IsPlaceAt : Files → List ℕ → ReportValue → TableFault → FaultPlace → Type 0
+IsPlaceAt files path report f p = (is_of_file f.kind ≡ false) × FoundIn files path (HasPlaceIn report f p)
+
+-- the path of a table's file, in the folder of the metadata's path
+abbrev pub IsTablePath : List ℕ → ReportValue → ℕ → List ℕ → Type 0
+IsTablePath meta report table path = (base : List ℕ) × IsFolderOf base meta × (path ≡ base ++ (table_of report table).url)
+
+-- nothing is known of the place, or it is that of the fault in the table's file, where the report's metadata is at this path
+abbrev pub IsPlaceOf : Files → List ℕ → ReportValue → TableFault → FaultPlace → Type 0
+IsPlaceOf files meta report f p = (p ≡ unknown_place) ⊎ ((path : List ℕ) × IsTablePath meta report f.table path × IsPlaceAt files path report f p)

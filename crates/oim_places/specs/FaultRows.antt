@@ -1,0 +1,35 @@
+-- The file of the faults of refused tables: a header, and a record of eight fields for each fault. A field stands in quotes where it needs them (RFC 4180,
+-- section 2), and LF ends each record.
+use Rattle.std.specs.Prelude.{◌≡◌, ℕ, List, [], ◌∷◌, ◌++◌, Option, Some, None, codes}
+use Rattle.std.specs.Fmt.{decimal}
+use Rattle.csv.specs.Machine.{next_record}
+use Rattle.csv.specs.Reading.{default_config}
+use Rattle.csv.specs.Writing.{default_writer, row_text}
+use Rattle.csv.specs.declared.parser.State.TheVariants as state
+use Rattle.oim_records.specs.Grids.{Field, Record}
+use Rattle.oim_rows.specs.FaultNames.{name_of, number_of}
+use Rattle.oim_rows.specs.declared.fault.TableFault.{TableFault}
+use Rattle.oim_places.specs.declared.fault_places.FaultPlace.{FaultPlace}
+
+-- what the fields are
+abbrev pub fault_names : Record
+fault_names = codes "table" ∷ codes "row" ∷ codes "column" ∷ codes "number" ∷ codes "name" ∷ codes "line" ∷ codes "header" ∷ codes "cell" ∷ []
+
+-- a line's number, and nothing where it is not known
+abbrev pub line_field : Option ℕ → Field
+line_field None = []
+line_field (Some line) = decimal line
+
+-- the fields of a fault of the table with this identifier, at whose place this stands
+abbrev pub fault_fields : List ℕ → TableFault → FaultPlace → Record
+fault_fields id f p =
+    id ∷ decimal f.row ∷ decimal f.column ∷ decimal (number_of f.kind) ∷ name_of f.kind ∷ line_field p.line ∷ p.header ∷ p.cell ∷ []
+
+-- the text is read as a record of these fields, whatever comes behind it
+abbrev pub ReadsAs : List ℕ → Record → Type 0
+ReadsAs text fields = (later : List ℕ) → next_record default_config state.StartRecord [] [] (text ++ later) ≡ Some (fields, state.StartRecord, later)
+
+-- the text that is written for a record, and that is read as it
+pub record IsTextOf (fields : Record) (text : List ℕ) : Type 0 where
+  pub written : text ≡ row_text default_writer fields
+  pub reads : ReadsAs text fields

@@ -1,0 +1,100 @@
+-- The line of a file at which a record begins. Records are those of `grid`: commas separate fields, inside quotes a quote is doubled, LF, CR or CRLF
+-- ends a record, and an empty line is none. A line ends with LF, CR or CRLF, also inside quotes.
+use Rattle.std.specs.Prelude.{◌≡◌, ◌≤◌, ◌++◌, drop, length, ℕ, ◌+◌, ◌-◌, ◌^◌, min, Bool, false, not, ◌&&◌, ◌||◌, nat_eq, List, ◌∷◌, Option, Some, None, fold, if◌then◌else◌}
+use Rattle.csv.specs.Reading.{strip_bom}
+use Rattle.csv.specs.declared.parser.State.TheVariants as state
+use Rattle.oim_records.specs.Grids.{grid, records_left}
+use Rattle.oim_places.specs.declared.line_number.LineCounter.{LineCounter}
+use Rattle.oim_places.specs.declared.line_number.Spot.{Spot}
+use Rattle.oim_places.specs.declared.line_number.Spot.TheVariants.{Between, Start, Field, Quoted, Quote}
+
+abbrev pub ends_line : ℕ → Bool
+ends_line b = nat_eq b 10 || nat_eq b 13
+
+-- where the byte behind one stands that is no quote and outside of quotes
+abbrev pub after_plain : ℕ → Spot
+after_plain b = if ends_line b then Between else if nat_eq b 44 then Start else Field
+
+-- where the byte behind a quote stands
+abbrev pub after_quote : Spot → Spot
+after_quote Between = Quoted
+after_quote Start = Quoted
+after_quote Field = Field
+after_quote Quoted = Quote
+after_quote Quote = Quoted
+
+-- where the byte behind any other stands
+abbrev pub after_other : Spot → ℕ → Spot
+after_other Between b = after_plain b
+after_other Start b = after_plain b
+after_other Field b = after_plain b
+after_other Quoted b = Quoted
+after_other Quote b = after_plain b
+
+abbrev pub after_spot : Spot → ℕ → Spot
+after_spot s b = if nat_eq b 34 then after_quote s else after_other s b
+
+-- a record begins with this byte
+abbrev pub begins : Spot → ℕ → Bool
+begins Between b = not (ends_line b)
+begins Start b = false
+begins Field b = false
+begins Quoted b = false
+begins Quote b = false
+
+-- the line of the byte behind this one; the number is one of 64 bits
+abbrev pub line_after : LineCounter → ℕ → ℕ
+line_after c b = if ends_line b && not (c.after_cr && nat_eq b 10) then min (c.line + 1) (2 ^ 64 - 1) else c.line
+
+-- before the record begins
+abbrev pub moved : LineCounter → ℕ → LineCounter
+moved c b = record {
+  spot = after_spot c.spot b;
+  after_cr = nat_eq b 13;
+  line = line_after c b;
+  before = if begins c.spot b then c.before - 1 else c.before;
+  has_begun = nat_eq c.before 0 && begins c.spot b;
+}
+
+-- once it has begun nothing changes
+abbrev pub after_byte : LineCounter → ℕ → LineCounter
+after_byte c b = if c.has_begun then c else moved c b
+
+abbrev pub start_of : ℕ → LineCounter
+start_of number = record { spot = Between; after_cr = false; line = 1; before = number; has_begun = false }
+
+abbrev pub line_in : LineCounter → Option ℕ
+line_in c = if c.has_begun then Some c.line else None
+
+-- the line at which the record with this number begins, the header being 0
+abbrev pub line_of_record : ℕ → List ℕ → Option ℕ
+line_of_record number bytes = line_in (fold after_byte (start_of number) (strip_bom bytes))
+
+-- ---- what a line is
+
+-- the line of the byte behind one more, and whether a CR stands before it
+abbrev pub next_line : ℕ × Bool → ℕ → ℕ × Bool
+next_line at b = (if ends_line b && not (at.1 && nat_eq b 10) then min (at.0 + 1) (2 ^ 64 - 1) else at.0, nat_eq b 13)
+
+-- the line at which a text begins that stands behind these bytes
+abbrev pub line_behind : List ℕ → ℕ
+line_behind front = (fold next_line (1, false) front).0
+
+-- The record of a number begins at a line. Behind some bytes, which end the lines before it, stands a text that begins with no line's end and whose records
+-- are the file's from this one on.
+pub record BeginsAt (bytes : List ℕ) (number line : ℕ) : Type 0 where
+  pub front : List ℕ
+  pub first : ℕ
+  pub rest : List ℕ
+  pub split : strip_bom bytes ≡ front ++ first ∷ rest
+  pub text : ends_line first ≡ false
+  pub records : records_left state.StartRecord (first ∷ rest) ≡ drop number (grid bytes)
+  pub counted : line ≡ line_behind front
+
+-- each record begins at its line, and a number that has no line is that of no record
+abbrev pub HasLine : List ℕ → ℕ → Option ℕ → Type 0
+HasLine bytes number None = length (grid bytes) ≤ number
+HasLine bytes number (Some line) = BeginsAt bytes number line
+
+abbrev pub LineLaw : Type 0
+LineLaw = (number : ℕ) (bytes : List ℕ) → HasLine bytes number (line_of_record number bytes)

@@ -1,0 +1,196 @@
+//! What stands at the place of a fault of a table, whose file is read again.
+
+ghost use Rattle.std.specs.Prelude.{◌≡◌, ◌⊎◌, ◌<◌, IfOk, IfSome, Some, false, length, string_bytes, true};
+ghost use Rattle.csv.specs.Records.{fields_of};
+ghost use Rattle.oim_places.specs.FaultPlaces as spec;
+ghost use Rattle.oim_places.specs.FaultPlaces.{FoundIn, HasRecordOf, IsFaultOf, IsPlaceAt, IsPlaceOf, IsTablePath, column_place, field_in, unknown_place};
+ghost use Rattle.oim_places.specs.LineNumbers.{line_of_record};
+
+use crate::cells::field_as_text;
+use crate::file_places::line_again;
+use crate::records::{RowAgain, fault_again, row_again};
+use crate::reread::ReportAgain;
+use oim_files::{Folder, folder_of, path_in};
+use oim_meta::Report;
+use oim_names::Text;
+use oim_rows::{TableFault, TableKind};
+use std::alloc::{AllocError, Global};
+use std::io::Read;
+
+/// What stands at the place of a fault of a table.
+#[derive(Drop)]
+pub struct FaultPlace {
+    /// The line of the table's file at which the fault's record begins, if it is known.
+    pub line: Option<u64>,
+    /// The header's cell of the fault's column, empty if there is none.
+    pub header: Text,
+    /// The row's cell in the fault's column, empty if there is none.
+    pub cell: Text,
+}
+
+impl FaultPlace {
+    /// A place of which nothing is known. Fails if memory runs out.
+    pub fn unknown(alloc: Global) -> Result<FaultPlace, AllocError>
+        ensures { IfOk result (λ p. p ≡ unknown_place) }
+    {
+        Ok(FaultPlace {
+            line: None,
+            header: Text::from_str(alloc, "")?,
+            cell: Text::from_str(alloc, "")?,
+        })
+    }
+}
+
+/// The place in a record that a fault names, if it names one.
+pub fn place_in_record(fault: &TableFault) -> Option<usize>
+    ensures { result ≡ column_place (fault.now).column }
+{
+    match fault.column {
+        0 => None,
+        column => Some(column as usize - 1),
+    }
+}
+
+/// Whether a table, whose file is read again, has this fault first.
+fn has_fault<R: Read + Drop>(alloc: Global, report: &Report, fault: &TableFault, reader: R) -> bool
+    requires { (fault.now).table < length report.now.tables }
+    ensures { result ≡ true → IfSome (R.remaining reader) (λ bytes. IsFaultOf report.now (fault.now).table bytes fault.now) }
+{
+    match fault_again(alloc, report, fault.table, reader) {
+        Some(found) => found == *fault,
+        None => false,
+    }
+}
+
+/// A reader of the file at a path, if its table still has the fault.
+fn with_fault<R: Read + Drop, F: Folder<R>>(
+    alloc: Global,
+    folder: &mut F,
+    path: &str,
+    report: &Report,
+    fault: &TableFault,
+) -> Option<R>
+    requires { (fault.now).table < length report.now.tables }
+    ensures same { F.files folder.new ≡ F.files folder.old }
+    ensures fault { IfSome result (λ reader. IfSome (F.files folder.old) (λ files.
+        FoundIn files path.now (λ bytes. (R.remaining reader ≡ Some bytes) × IsFaultOf report.now (fault.now).table bytes fault.now))) }
+{
+    let Some(reader) = folder.open(path) else {
+        return None;
+    };
+    if has_fault(alloc, report, fault, reader) {
+        folder.open(path)
+    } else {
+        None
+    }
+}
+
+/// The record of a fault, if the file still has the fault.
+pub fn record_again<R: Read + Drop, F: Folder<R>>(
+    alloc: Global,
+    folder: &mut F,
+    path: &str,
+    report: &Report,
+    fault: &TableFault,
+) -> Result<Option<RowAgain>, AllocError>
+    requires { (fault.now).table < length report.now.tables }
+    ensures same { F.files folder.new ≡ F.files folder.old }
+    ensures row { IfOk result (λ o. IfSome o (λ a. IfSome (F.files folder.old) (λ files.
+        FoundIn files path.now (HasRecordOf report.now fault.now (fields_of a.header) (fields_of a.row))))) }
+{
+    match with_fault(alloc, folder, path, report, fault) {
+        Some(reader) => row_again(alloc, reader, fault.row as usize),
+        None => Ok(None),
+    }
+}
+
+/// Whether a fault is of a file as a whole, of which nothing more can be said.
+pub fn is_of_file(kind: TableKind) -> bool
+    ensures { result ≡ spec.is_of_file kind }
+{
+    matches!(
+        kind,
+        TableKind::NoFile
+            | TableKind::Read
+            | TableKind::NoHeader
+            | TableKind::Memory
+            | TableKind::NoThread
+    )
+}
+
+/// The path of the file of a table of the report whose metadata is at this path.
+pub fn table_path(
+    alloc: Global,
+    meta: &str,
+    report: &Report,
+    table: usize,
+) -> Result<String, AllocError>
+    requires { table < length report.now.tables }
+    ensures { IfOk result (λ s. IsTablePath meta.now report.now table (string_bytes s)) }
+{
+    path_in(alloc, folder_of(meta), report.table_url(table))
+}
+
+/// What stands in a record at the place of a fault, which is read again.
+fn place_again<R: Read + Drop, F: Folder<R>>(
+    alloc: Global,
+    folder: &mut F,
+    path: &str,
+    fault: &TableFault,
+    cells: &RowAgain,
+) -> Result<FaultPlace, AllocError>
+    ensures same { F.files folder.new ≡ F.files folder.old }
+    ensures header { IfOk result (λ p. p.header ≡ field_in (fields_of cells.now.header) (fault.now).column) }
+    ensures cell { IfOk result (λ p. p.cell ≡ field_in (fields_of cells.now.row) (fault.now).column) }
+    ensures line { IfOk result (λ p. IfSome (F.files folder.old) (λ files. IfSome (files path.now) (λ bytes.
+        IfSome p.line (λ line. line_of_record (fault.now).row bytes ≡ Some line)))) }
+{
+    let line = line_again(alloc, folder, path, fault.row as usize);
+    let column = place_in_record(fault);
+    Ok(FaultPlace {
+        line,
+        header: field_as_text(alloc, &cells.header, column)?,
+        cell: field_as_text(alloc, &cells.row, column)?,
+    })
+}
+
+/// What stands at the place of a fault in the table's file at this path, if it still has the fault.
+fn place_at<R: Read + Drop, F: Folder<R>>(
+    alloc: Global,
+    folder: &mut F,
+    path: &str,
+    report: &Report,
+    fault: &TableFault,
+) -> Result<FaultPlace, AllocError>
+    requires table { (fault.now).table < length report.now.tables }
+    requires place { spec.is_of_file (fault.now).kind ≡ false }
+    ensures same { F.files folder.new ≡ F.files folder.old }
+    ensures place { IfOk result (λ p. IfSome (F.files folder.old) (λ files. (p ≡ unknown_place) ⊎ IsPlaceAt files path.now report.now fault.now p)) }
+{
+    match record_again(alloc, folder, path, report, fault)? {
+        Some(cells) => place_again(alloc, folder, path, fault, &cells),
+        None => FaultPlace::unknown(alloc),
+    }
+}
+
+/// What stands at the place of a fault of a table of this report, whose metadata is at this path and whose file is read
+/// again. Nothing is known of it where the fault is of the whole file, the file does not have the fault any more, or
+/// cannot be read again; where a place is known, the file has the fault there. The line alone may not be known
+/// either. Fails if memory runs out.
+pub fn fault_place<R: Read + Drop, F: Folder<R>>(
+    alloc: Global,
+    meta: &str,
+    folder: &mut F,
+    again: &ReportAgain,
+    fault: &TableFault,
+) -> Result<FaultPlace, AllocError>
+    ensures same { F.files folder.new ≡ F.files folder.old }
+    ensures place { IfOk result (λ p. IfSome (F.files folder.old) (λ files. IsPlaceOf files meta.now again.now.report fault.now p)) }
+{
+    if fault.table < again.report.tables() && !is_of_file(fault.kind) {
+        let path = table_path(alloc, meta, &again.report, fault.table)?;
+        place_at(alloc, folder, path.as_str(), &again.report, fault)
+    } else {
+        FaultPlace::unknown(alloc)
+    }
+}

@@ -1,0 +1,68 @@
+//! A place in a file, and its line, for which the file is read again.
+
+ghost use Rattle.std.specs.Prelude.{◌≡◌, IfOk, IfSome, Some, string_bytes};
+ghost use Rattle.oim_places.specs.FilePlaces as spec;
+ghost use Rattle.oim_places.specs.FilePlaces.{place_text};
+ghost use Rattle.oim_places.specs.LineNumbers.{line_of_record};
+
+use crate::line_number::line_of;
+use crate::terminal::shown;
+use oim_files::Folder;
+use std::alloc::{AllocError, Global};
+use std::io::Read;
+
+/// What a place says of its line.
+fn line_part(alloc: Global, line: Option<u64>) -> Result<String, AllocError>
+    ensures { IfOk result (λ s. string_bytes s ≡ spec.line_part line) }
+{
+    match line {
+        Some(line) => format!(in alloc; ", line {line}"),
+        None => Ok(String::new(alloc)),
+    }
+}
+
+/// What a place says of its cell, which is counted from 1.
+fn cell_part(alloc: Global, place: Option<usize>) -> Result<String, AllocError>
+    ensures { IfOk result (λ s. string_bytes s ≡ spec.cell_part place) }
+{
+    match place {
+        Some(place) => {
+            let cell = place.saturating_add(1);
+            format!(in alloc; ", cell {cell}")
+        }
+        None => Ok(String::new(alloc)),
+    }
+}
+
+/// The place of a cell or a record in a file, at this line if it is known.
+pub fn place_in_file(
+    alloc: Global,
+    path: &str,
+    line: Option<u64>,
+    place: Option<usize>,
+) -> Result<String, AllocError>
+    ensures { IfOk result (λ s. string_bytes s ≡ place_text path.now line place) }
+{
+    let path = shown(alloc, path)?;
+    let mut out = String::from_str(alloc, path.as_str())?;
+    out.push_str(line_part(alloc, line)?.as_str())?;
+    out.push_str(cell_part(alloc, place)?.as_str())?;
+    Ok(out)
+}
+
+/// The line of a file at which a record begins. `None` if there is no such record, the file cannot be read
+/// again, or memory runs out.
+pub fn line_again<R: Read + Drop, F: Folder<R>>(
+    alloc: Global,
+    folder: &mut F,
+    path: &str,
+    number: usize,
+) -> Option<u64>
+    ensures same { F.files folder.new ≡ F.files folder.old }
+    ensures line { IfSome (F.files folder.old) (λ files. IfSome (files path.now) (λ bytes. IfSome result (λ line. line_of_record number bytes ≡ Some line))) }
+{
+    match folder.open(path) {
+        Some(reader) => line_of(alloc, reader, number),
+        None => None,
+    }
+}

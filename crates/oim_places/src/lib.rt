@@ -1,0 +1,65 @@
+//! Places in the files of a report, which are read again: where the fault of a table is, what stands there, and the record of it
+//! in the file of faults. Places and what stands at them are texts that a terminal can be shown.
+//!
+//! What is proved:
+//!
+//! - `fault_place` names a place in a table's file only if the file has that fault, its first, by the definition of the
+//!   table's stream: the line of the fault's record, if that is known, and the cells of the header and of the row in its
+//!   column (`specs/FaultPlaces.antt`). So does `record_again`, which gives that record and the header;
+//! - `report_again` gives the report that the files give (`specs/Reports.antt`);
+//! - the line of a record (`line_of_record`), which `line_again` gives, is that of its first byte (`lines_are_of_records`,
+//!   `specs/LineNumbers.antt`);
+//! - `fault_row` gives the record of a fault in the file of faults, which is read as its eight fields
+//!   whatever comes behind it (`specs/FaultRows.antt`);
+//! - `shown` gives a text with an escape for each control character, and `excerpt` its first 80 characters
+//!   (`specs/Shown.antt`); `pointer` gives the JSON pointer of keys (`specs/Pointers.antt`), `place_in_file` the text of a
+//!   line and a cell (`specs/FilePlaces.antt`), `cell_shown` and `record_shown` what stands in a cell and in a whole
+//!   record (`specs/Cells.antt`).
+//!
+//! What only tests show: what `standing` says of a JSON value, the part of a JSON text that `part_at` finds, and that
+//! `first_record_with` finds the first record.
+//!
+//! A call:
+//!
+//! ```
+//! /// Whether the fault of a table's first row is in the second line of its file, which has `x` under `cash` there.
+//! fn finds_the_cell(
+//!     alloc: Global,
+//!     folder: &mut Texts<'_>,
+//!     again: &ReportAgain,
+//!     fault: &TableFault,
+//! ) -> Result<bool, AllocError> {
+//!     let place: FaultPlace = fault_place(alloc, "f/m.json", folder, again, fault)?;
+//!     let is_there = place.header.as_str() == "cash" && place.cell.as_str() == "x";
+//!     Ok(is_there && place.line == Some(2))
+//! }
+//! ```
+#![tactic(auto)]
+
+mod cells;
+mod excerpts;
+mod fault_places;
+mod fault_rows;
+mod file_places;
+mod json_values;
+mod line_number;
+mod parts;
+mod pointers;
+mod records;
+mod reread;
+mod terminal;
+
+pub use cells::{cell_shown, record_shown, text_at};
+pub use excerpts::excerpt;
+pub use fault_places::{
+    FaultPlace, fault_place, is_of_file, place_in_record, record_again, table_path,
+};
+pub use fault_rows::{fault_header, fault_row};
+pub use file_places::{line_again, place_in_file};
+pub use json_values::{quoted, standing};
+pub use line_number::lines_are_of_records;
+pub use parts::part_at;
+pub use pointers::{pointer, pointer_to};
+pub use records::{RowAgain, first_record_with, next_record};
+pub use reread::{ReportAgain, report_again};
+pub use terminal::shown;

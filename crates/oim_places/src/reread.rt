@@ -1,0 +1,80 @@
+//! The report of a run, read again.
+
+ghost use Rattle.std.specs.Prelude.{◌≡◌, IfOk, IfSome};
+ghost use Rattle.oim_places.specs.Reports.{IsReportOf};
+
+use crate::parts::after_mark;
+use oim_files::{EarlyFault, Folder, Source, folder_of, metadata_at, report_of};
+use oim_meta::{MetaFault, Report};
+use serde_json::Value;
+use serde_json::error::Category;
+use std::alloc::Global;
+use std::io::Read;
+
+/// The value to which keys lead, if there is one.
+fn value_under<'v>(value: &'v Value, keys: &[&str]) -> Option<&'v Value> {
+    let mut here = value;
+    for key in keys {
+        here = match here.get(*key) {
+            Some(next) => next,
+            None => return None,
+        };
+    }
+    Some(here)
+}
+
+/// A report, and its metadata as it is written.
+#[derive(Drop)]
+pub struct ReportAgain {
+    /// The report.
+    pub report: Report,
+    /// What its metadata file has.
+    pub metadata: Value,
+}
+
+impl ReportAgain {
+    /// What stands at a place of the metadata to which these keys lead.
+    pub fn written_at(&self, keys: &[&str]) -> Option<&Value> {
+        value_under(&self.metadata, keys)
+    }
+}
+
+/// The metadata of a run as it is written.
+fn metadata_again<R: Read + Drop, F: Folder<R>>(
+    alloc: Global,
+    path: &str,
+    folder: &mut F,
+) -> Result<Value, EarlyFault>
+    ensures { F.files folder.new ≡ F.files folder.old }
+{
+    let bytes = match metadata_at(alloc, folder, path) {
+        Ok(bytes) => bytes,
+        Err(early) => return Err(early),
+    };
+    match Value::from_slice(alloc, after_mark(bytes.as_slice())) {
+        Ok(value) => Ok(value),
+        Err(error) if matches!(error.classify(), Category::Memory) => Err(EarlyFault::Memory),
+        Err(_) => Err(EarlyFault::Report(Source::Report, MetaFault::Syntax)),
+    }
+}
+
+/// The report whose metadata and types table are at these paths, read again. Fails with the early
+/// fault, which names the file.
+pub fn report_again<R: Read + Drop, F: Folder<R>>(
+    alloc: Global,
+    meta: &str,
+    types: &str,
+    folder: &mut F,
+) -> Result<ReportAgain, EarlyFault>
+    ensures same { F.files folder.new ≡ F.files folder.old }
+    ensures report { IfOk result (λ a. IfSome (F.files folder.old) (λ files. IsReportOf files meta.now types.now a.report)) }
+{
+    let report = match report_of(alloc, folder, folder_of(meta), meta, types) {
+        Ok(report) => report,
+        Err(early) => return Err(early),
+    };
+    match metadata_again(alloc, meta, folder) {
+        Ok(metadata) => Ok(ReportAgain { report, metadata }),
+        Err(early) => Err(early),
+    }
+}

@@ -1,0 +1,52 @@
+//! Texts of files and words as a terminal is shown them, with no control character.
+
+ghost use Rattle.std.specs.Prelude.{◌≡◌, ◌<◌, ◌++◌, IfOk, string_bytes};
+ghost use Rattle.oim_places.specs.Shown.{escape_of, hex_digit, shown, shown_char};
+
+use oim_names::Text;
+use std::alloc::{AllocError, Global};
+
+/// The hexadecimal digit of a number.
+fn digit(n: u32) -> char
+    requires { n < 16 }
+    ensures { result ≡ hex_digit n }
+{
+    match char::from_digit(n, 16) {
+        Some(digit) => digit,
+        None => '0',
+    }
+}
+
+/// Puts a control character behind a text, as `\x` and two hexadecimal digits.
+pub(crate) fn put_control(out: &mut String, c: char) -> Result<(), AllocError>
+    requires { c < 256 }
+    ensures { IfOk result (λ u. string_bytes out.new ≡ string_bytes out.old ++ escape_of c) }
+{
+    let code = u32::from(c);
+    out.push_str("\\x")?;
+    out.push(digit(code / 16))?;
+    out.push(digit(code % 16))
+}
+
+/// Puts a character behind a text, as a terminal is shown it.
+pub(crate) fn put_shown(out: &mut String, c: char) -> Result<(), AllocError>
+    ensures { IfOk result (λ u. string_bytes out.new ≡ string_bytes out.old ++ shown_char c) }
+{
+    if c.is_control() {
+        put_control(out, c)
+    } else {
+        out.push(c)
+    }
+}
+
+/// A text with each control character as `\x` and its two hexadecimal digits, so that a terminal takes
+/// nothing of it for an order, and no line ends in it. Fails if memory runs out.
+pub fn shown(alloc: Global, text: &str) -> Result<Text, AllocError>
+    ensures { IfOk result (λ t. t ≡ shown text.now) }
+{
+    let mut out = String::new(alloc);
+    for c in text.chars() {
+        put_shown(&mut out, c)?;
+    }
+    Ok(Text::new(out))
+}
