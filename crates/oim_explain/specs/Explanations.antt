@@ -44,13 +44,13 @@ url_place = codes "parameterURL" ∷ []
 abbrev pub HasBadUrl : Limits → List ℕ → MetaFault → Path → Type 0
 HasBadUrl limits bytes f place = (f ≡ refused.BadParameter) × IsUrlFault limits bytes refused.BadParameter × (place ≡ url_place)
 
--- the explanation's place is that of this fault: the first finding of the metadata is this fault at this place
+-- the explanation's place is that of this fault: the first finding of the metadata is this fault at this place, or the name of the parameters file is wrong
 pub record ExplainsMetadata (limits : Limits) (given : ParametersValue) (types : TypesValue) (path bytes : List ℕ) (f : MetaFault) (e : Explanation) : Type 0 where
   pub place : Path
   pub found : IsFinding limits given types bytes (finding f place) ⊎ HasBadUrl limits bytes f place
   pub named : e.place ≡ place_of path place
 
--- another fault comes first, or none
+-- another fault comes first
 pub record Other (limits : Limits) (given : ParametersValue) (types : TypesValue) (bytes : List ℕ) (f : MetaFault) : Type 0 where
   pub finding : Finding
   pub found : IsFinding limits given types bytes finding

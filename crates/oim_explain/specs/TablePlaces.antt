@@ -1,5 +1,5 @@
 -- Where an explanation says that the fault of a table is: at its file as a whole, or at a line and a cell of it.
-use Rattle.std.specs.Prelude.{◌≡◌, ◌⊎◌, ℕ, false, List, Option, Some, IfSome}
+use Rattle.std.specs.Prelude.{◌≡◌, ◌⊎◌, ◌≤◌, ℕ, false, List, Option, Some, IfSome, length}
 use Rattle.oim_files.specs.Folders.{Files}
 use Rattle.oim_report.specs.ReportValue.{ReportValue}
 use Rattle.oim_rows.specs.declared.fault.TableFault.{TableFault}
@@ -19,4 +19,4 @@ ExplainsAt files path report f e = (e.place ≡ shown path) ⊎ ((is_of_file f.k
 
 -- the same for a table of a report whose metadata is at this path; a table that is not there is explained at the metadata
 abbrev pub ExplainsTable : Files → List ℕ → ReportValue → TableFault → Explanation → Type 0
-ExplainsTable files meta report f e = (e.place ≡ shown meta) ⊎ ((path : List ℕ) × IsTablePath meta report f.table path × ExplainsAt files path report f e)
+ExplainsTable files meta report f e = ((length report.tables ≤ f.table) × (e.place ≡ shown meta)) ⊎ ((path : List ℕ) × IsTablePath meta report f.table path × ExplainsAt files path report f e)

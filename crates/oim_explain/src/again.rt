@@ -65,8 +65,7 @@ fn with_parameters<R: Read + Drop, F: Folder<R>>(
     }
 }
 
-/// The explanation of a fault of the metadata at this path, which has these bytes, with its types. Its JSON is read
-/// once.
+/// The explanation of a fault of the metadata at this path, which has these bytes, with its types.
 fn of_bytes<R: Read + Drop, F: Folder<R>>(
     alloc: Global,
     folder: &mut F,

@@ -98,7 +98,7 @@ fn of_column(keys: &[Text]) -> &'static str {
     }
 }
 
-/// Of a dimension that no explicit or typed dimension of the types table is.
+/// Of a key that is neither core nor an explicit or typed dimension of the types table.
 const UNKNOWN_DIMENSION: &str = "no explicit or typed dimension of this name is in the types table";
 
 /// Of a dimension whose value is no reference.
@@ -163,7 +163,9 @@ fn of_size(keys: &[Text]) -> &'static str {
 /// What is wrong at the place of a fault, where this value stands.
 pub(crate) fn cause(fault: MetaFault, keys: &[Text], value: Option<&Value>) -> &'static str {
     match fault {
-        MetaFault::Syntax => "this is not JSON in UTF-8, or is nested more than 127 levels deep",
+        MetaFault::Syntax => {
+            "this is not JSON in UTF-8, is nested more than 127 levels deep, or has a number past a double or half of a surrogate pair"
+        }
         MetaFault::NotReport => of_document(value),
         MetaFault::BadNamespaces => of_namespaces(keys, value),
         MetaFault::BadTaxonomy => of_taxonomy(keys, value),

@@ -48,7 +48,7 @@ pub(crate) struct RowOfFault<'r> {
     pub(crate) base: &'r str,
 }
 
-/// The place of the first cell that is this text.
+/// The place of the header's first cell that is this text.
 pub(crate) fn place_of_text(again: &RowAgain, text: &str) -> Option<usize> {
     for place in 0..again.header.len() {
         if text_at(&again.header, place) == Some(text) {

@@ -1,12 +1,12 @@
 //! What there is to say of a fault to a person: where it is, what stands there, and what is wrong with it. The
-//! files of a run that ended with a fault are read again for it, so a good run costs nothing.
+//! files of a run that ended with a fault are read again for it.
 //!
 //! What is proved:
 //!
-//! - `explain_metadata` names a place of the metadata at which the fault stands by the definitions of the walk over
-//!   it, the first one, or says that another fault comes first, or none (`specs/Explanations.antt`);
-//! - `explain_table` names a place in a table's file only if the file has that fault, its first, by the definition of
-//!   the table's stream: the line of the fault's record, if that is known, and its column (`specs/TablePlaces.antt`);
+//! - `explain_metadata` names the first place at which the fault stands by the definitions of the walk over the metadata, or
+//!   the name of the parameters file if that is wrong, or says that another fault comes first, or none (`specs/Explanations.antt`);
+//! - over a folder that tells its files, `explain_table` names a place in a table's file only if the file has that fault, its
+//!   first, by the definition of the table's stream: the line of the fault's record, if that is known, and its column (`specs/TablePlaces.antt`);
 //! - `explanation_text` gives the lines of an explanation, with nothing of it left out.
 //!
 //! It passes on what `oim_places` says of the place of a fault and of the file of faults.

@@ -64,7 +64,7 @@ fn in_part(
     }
 }
 
-/// What stands at the place of a finding, and what is wrong with it. Only that part is read as JSON.
+/// What stands at the place of a finding, and what is wrong with it. Of the JSON that part is read again, and the names on the way.
 fn told(
     alloc: Global,
     bytes: &[u8],
@@ -243,7 +243,7 @@ pub(crate) fn explain_value(
 
 /// The explanation of a fault of the metadata that has these bytes and stands at this path, with the
 /// parameters of its parameters file and its types. Its place is the first at which a walk over the metadata
-/// finds the fault, or the name of the parameters file if that is wrong, which is looked at before all else.
+/// finds the fault, or the name of the parameters file if that is wrong.
 /// `None` if the metadata has no fault, or another comes first. Fails if memory runs out.
 pub fn explain_metadata(
     alloc: Global,

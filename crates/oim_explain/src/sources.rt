@@ -24,7 +24,7 @@ enum Origin<'r> {
     Decimals,
 }
 
-/// The dimension, but for the concept, whose value has this fault, in a fact whose concept is of this kind.
+/// The first dimension in byte order of name whose value has this fault, in a fact whose concept is of this kind.
 fn bad_dimension<'r>(
     alloc: Global,
     row: &RowOfFault<'r>,
@@ -71,7 +71,7 @@ fn bad_property<'r>(
     Ok(None)
 }
 
-/// What a fault of a cell comes from, in the order of the standard's steps. `None` if it is of the cell itself.
+/// What a fault of a cell comes from, in the order of the three steps of a cell. `None` if it is of the cell itself, or not found.
 fn origin_of<'r>(
     alloc: Global,
     row: &RowOfFault<'r>,

@@ -132,7 +132,7 @@ fn found_in(
     }
 }
 
-/// The line of the first row that has the text of a cell at its place.
+/// The line of the first row that has the text of a cell at its place; 0 if it is not known.
 fn first_line<R: Read + Drop, F: Folder<R>>(
     alloc: Global,
     folder: &mut F,

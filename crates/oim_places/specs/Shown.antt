@@ -14,7 +14,7 @@ escape_of c = 92 ∷ 120 ∷ hex_digit (c / 16) ∷ hex_digit (c % 16) ∷ []
 abbrev pub shown_char : ℕ → List ℕ
 shown_char c = if is_control c then escape_of c else encode_utf8 c
 
--- a text as a terminal is shown it: it gives no order, and no line ends in it
+-- a text as a terminal is shown it: without control characters
 abbrev pub shown : List ℕ → List ℕ
 shown text = flat_map shown_char (chars text)
 

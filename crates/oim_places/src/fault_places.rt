@@ -174,9 +174,9 @@ fn place_at<R: Read + Drop, F: Folder<R>>(
 }
 
 /// What stands at the place of a fault of a table of this report, whose metadata is at this path and whose file is read
-/// again. Nothing is known of it where the fault is of the whole file, the file does not have the fault any more, or
-/// cannot be read again; where a place is known, the file has the fault there. The line alone may not be known
-/// either. Fails if memory runs out.
+/// again. Nothing is known of it where the report has no such table, the fault is of the whole file, or the file does not have
+/// it any more or cannot be read again. Where a place is known, over a folder that tells its files, the file has the fault
+/// there. The line alone may not be known either. Fails if memory runs out.
 pub fn fault_place<R: Read + Drop, F: Folder<R>>(
     alloc: Global,
     meta: &str,

@@ -3,8 +3,8 @@
 //!
 //! What is proved:
 //!
-//! - `fault_place` names a place in a table's file only if the file has that fault, its first, by the definition of the
-//!   table's stream: the line of the fault's record, if that is known, and the cells of the header and of the row in its
+//! - over a folder that tells its files, `fault_place` names a place in a table's file only if the file has that fault, its
+//!   first, by the definition of the table's stream: the line of the fault's record, if that is known, and the cells of the header and of the row in its
 //!   column (`specs/FaultPlaces.antt`). So does `record_again`, which gives that record and the header;
 //! - `report_again` gives the report that the files give (`specs/Reports.antt`);
 //! - the line of a record (`line_of_record`), which `line_again` gives, is that of its first byte (`lines_are_of_records`,

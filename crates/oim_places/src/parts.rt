@@ -1,4 +1,4 @@
-//! The text of a part of a JSON text, which is found without making values of the rest.
+//! The text of a part of a JSON text, which is found without making values of the members beside it.
 
 use oim_names::Text;
 use serde_json::Value;

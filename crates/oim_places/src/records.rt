@@ -98,7 +98,7 @@ pub fn first_record_with<R: Read + Drop>(
     Ok(None)
 }
 
-/// The first fault of a table, whose file is read again. `None` if it has none.
+/// The first fault of a table, whose file is read again. `None` if none is found; the clause speaks of a fault alone.
 pub(crate) fn fault_again<R: Read + Drop>(
     alloc: Global,
     report: &Report,

@@ -28,7 +28,7 @@ fn value_under<'v>(value: &'v Value, keys: &[&str]) -> Option<&'v Value> {
 pub struct ReportAgain {
     /// The report.
     pub report: Report,
-    /// What its metadata file has.
+    /// What its metadata file has; no clause says so.
     pub metadata: Value,
 }
 
@@ -58,8 +58,8 @@ fn metadata_again<R: Read + Drop, F: Folder<R>>(
     }
 }
 
-/// The report whose metadata and types table are at these paths, read again. Fails with the early
-/// fault, which names the file.
+/// The report whose metadata and types table are at these paths, read again. May fail with an early
+/// fault, which names the file: no clause says with which.
 pub fn report_again<R: Read + Drop, F: Folder<R>>(
     alloc: Global,
     meta: &str,

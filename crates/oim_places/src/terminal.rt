@@ -39,8 +39,8 @@ pub(crate) fn put_shown(out: &mut String, c: char) -> Result<(), AllocError>
     }
 }
 
-/// A text with each control character as `\x` and its two hexadecimal digits, so that a terminal takes
-/// nothing of it for an order, and no line ends in it. Fails if memory runs out.
+/// A text with each control character (U+0000 to U+001F, U+007F to U+009F) as `\x` and its two hexadecimal digits. Fails if
+/// memory runs out.
 pub fn shown(alloc: Global, text: &str) -> Result<Text, AllocError>
     ensures { IfOk result (λ t. t ≡ shown text.now) }
 {
