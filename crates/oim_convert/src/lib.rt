@@ -37,7 +37,8 @@
 //! write, also where tables were cut short or none was served (`specs/Identifiers.antt`).
 //!
 //! What only tests show: that workers are started at all and run side by side, that each worker that
-//! started is joined, and that memory, threads and tokens are given.
+//! started is joined, and that memory, threads and tokens are given. That threads decode pieces of a table in the
+//! places of workers that rest shows in the time that a run takes alone, and in no clause or test.
 //!
 //! A call:
 //!
