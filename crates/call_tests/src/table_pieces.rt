@@ -51,7 +51,7 @@ fn keeps_rooms(alloc: Global, report: &Report, file: &[u8]) -> bool {
     let needs_none = table.wanted_rooms() == 0;
     table.want(true);
     table.keep_room(Vec::new(alloc));
-    needs_none && table.free_room().is_some() && table.free_room().is_none()
+    needs_none && table.free_rooms().len() == 1 && table.free_rooms().is_empty()
 }
 
 /// Whether the first piece of a table has this many blocks.

@@ -37,7 +37,8 @@
 //! write, also where tables were cut short or none was served (`specs/Identifiers.antt`).
 //!
 //! What only tests show: that workers are started at all and run side by side, that each worker that
-//! started is joined, and that memory, threads and tokens are given.
+//! started is joined, and that memory, threads and tokens are given. That threads decode pieces of a table, a test of
+//! the program shows (`tests/refused.py`), which counts them; that they do so in the places of workers that rest, none.
 //!
 //! A call:
 //!

@@ -141,11 +141,8 @@ fn make_ready<R: Read + Drop, T: Wait>(rt: &T, pieces: &mut TablePieces<'_, R>, 
 
 /// Gives back the memory that a table kept for texts, as far as the rings keep it for others.
 fn give_back_rooms<R: Read + Drop, T: Wait>(rt: &T, pieces: &mut TablePieces<'_, R>, feed: &Feed) {
-    for _ in 0..usize::MAX {
-        match pieces.free_room() {
-            Some(room) => feed.give_back(rt, room),
-            None => return,
-        }
+    for room in pieces.free_rooms() {
+        feed.give_back(rt, room);
     }
 }
 

@@ -9,7 +9,8 @@ use oim_pieces::Helpers;
 use oim_ring::{CloseFault, Closed, Ending, Feed};
 use std::sync::Wait;
 
-/// Sends a block once it is the feed's turn, trying again while the ring is full. While it waits, its worker rests.
+/// Sends a block once it is the feed's turn, trying again while the ring is full. During each call that may wait its worker counts as
+/// resting, also where that call returns at once. No clause says so.
 pub(crate) fn put_waiting<T: Wait>(rt: &T, helpers: &Helpers, feed: &mut Feed, block: Block)
     ensures ring { feed.new.ring ≡ feed.old.ring }
     ensures sent { feed.new.sent ≡ feed.old.sent ++ items.Block block ∷ [] }

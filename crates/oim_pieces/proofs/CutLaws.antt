@@ -17,6 +17,14 @@ pub cut_ended : (bytes : Option (List ℕ)) → IsAtEnd bytes → KeepsLeft (lef
 cut_ended None end = tt
 cut_ended (Some xs) end = sym (ap (records_left state.StartRecord) end ∙ no-record)
 
+pub bytes_ended : (bytes : Option (List ℕ)) → IsAtEnd bytes → Keeps bytes (Some [])
+bytes_ended None end = tt
+bytes_ended (Some xs) end = sym end
+
+pub bytes_kept : (bytes : Option (List ℕ)) → Keeps bytes bytes
+bytes_kept None = tt
+bytes_kept (Some xs) = refl
+
 pub cut_failed : (bytes after : Option (List ℕ)) → Keeps bytes after → KeepsLeft (left_known [] bytes) (left_known [] after)
 cut_failed None after kept = tt
 cut_failed (Some xs) None kept = absurd kept

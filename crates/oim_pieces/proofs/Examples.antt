@@ -1,5 +1,5 @@
 -- Pieces of a table that are under way, on worked cases.
-use Rattle.std.proofs.Common.{◌≡◌, ◌∷◌, ◌+◌, ◌≤◌, [], ℕ, List, Some, None, ap, arith, codes, length, refl, true, inl, inr}
+use Rattle.std.proofs.Common.{◌≡◌, ◌∷◌, ◌+◌, ◌≤◌, [], ℕ, List, Option, Some, None, Result, Ok, Err, ap, arith, codes, length, refl, true, inl, inr}
 use Rattle.std.specs.Str.{chars, is_utf8}
 use Rattle.csv.specs.Records.{field_at}
 use Rattle.oim_names.specs.Names.{is_ncname, is_name_char, is_name_start, is_plain_char, is_row_identifier}
@@ -16,7 +16,7 @@ use Rattle.oim_decode.specs.Apart.{Apart, apart_from}
 use Rattle.oim_decode.specs.PieceAnswers.{PieceLeft}
 use Rattle.oim_pieces.specs.Comings.{Comes}
 use Rattle.oim_pieces.specs.Cutting.{IsOver, TakesRows, left_over}
-use Rattle.oim_pieces.specs.Flights.{AllRead, AreChained, EndsWith, FlyingPiece, IsAnswer, IsFront, KeepsStream, behind, first_of, left_of, rows_in, rows_left, stream_in}
+use Rattle.oim_pieces.specs.Flights.{AllRead, AreChained, EndsWith, FewerSteps, FlyingPiece, IsAnswer, IsEnd, IsFront, KeepsEnd, KeepsStream, NoMoreSteps, behind, first_of, left_of, rows_in, rows_left, steps_for, steps_in, stream_in}
 use Rattle.std.specs.declared.thread.PromisedHandle.{PromisedHandle}
 use Rattle.oim_pieces.specs.declared.decoded.Asked.{Asked}
 use Rattle.oim_pieces.specs.declared.decoded.Decoded.{Decoded}
@@ -53,7 +53,7 @@ abbrev read : TableFault
 read = file_fault 0 kind.Read
 
 -- CUTTING. The end leaves no record; a failure, or no end yet, leaves what there is
-records_left_over : (left_over None (Some (a ∷ [])) ≡ Some (a ∷ [])) × (left_over (Some None) (Some (a ∷ [])) ≡ Some []) × (left_over (Some None) None ≡ Some [])
+records_left_over : (left_over None (Some (a ∷ [])) ≡ Some (a ∷ [])) × (left_over (Some None) (Some (a ∷ [])) ≡ Some []) × (left_over {A = Record} (Some None) None ≡ Some [])
     × (left_over (Some (Some read)) (Some (a ∷ [])) ≡ Some (a ∷ []))
 records_left_over = (refl, refl, refl, refl)
 
@@ -107,7 +107,7 @@ whole_stream : (rows_left reading [] (front ∷ second ∷ []) 7 (Some (a ∷ []
 unfolding stream_from chars is_row_identifier is_plain_char is_ncname is_name_char is_name_start field_at is_utf8 lib.Utf8.encode
 whole_stream = (refl, refl, refl)
 
-stream_of_the_cutter : stream_in (record { reading = limited 6; ids = []; pieces = []; cutter = record { table = 0; limit = 6; next = 6; left = Some (a ∷ b ∷ []); over = None } })
+stream_of_the_cutter : stream_in (record { reading = limited 6; ids = []; pieces = []; cutter = record { table = 0; limit = 6; next = 6; left = Some (a ∷ b ∷ []); over = None; unread = None } })
     ≡ Some (record { rows = [] ∷ []; fault = Some (fault_at 0 7 0 kind.TooManyRows) })
 unfolding stream_from chars is_row_identifier is_plain_char is_ncname is_name_char is_name_start field_at is_utf8 lib.Utf8.encode
 stream_of_the_cutter = refl
@@ -127,6 +127,33 @@ behind_a_piece = (refl, refl, refl)
 
 ends : EndsWith 0 (Some (ending None)) None × EndsWith 0 (Some one) (Some read) × (EndsWith 0 (Some one) None → ⊥)
 ends = (refl, inl refl, λ h. let counts : 1 ≡ 0 = ap (λ (s : Stream). length s.rows) h in absurd (omega (arith, counts)))
+
+-- AFTER THE END: the same again
+abbrev no_blocks : Result (Option ℕ) TableFault
+no_blocks = Ok None
+
+abbrev some_blocks : Result (Option ℕ) TableFault
+some_blocks = Ok (Some 7)
+
+abbrev failed : Result (Option ℕ) TableFault
+failed = Err read
+
+ended_again : IsEnd None no_blocks × IsEnd (Some read) failed × (IsEnd (Some read) no_blocks → ⊥) × (IsEnd None failed → ⊥) × (IsEnd None some_blocks → ⊥)
+ended_again = (refl, refl, λ h. absurd (cc h), λ h. absurd (cc h), λ h. h)
+
+end_kept : KeepsEnd no_blocks (Some None) × KeepsEnd failed (Some (Some read)) × KeepsEnd some_blocks None × (KeepsEnd no_blocks None → ⊥) × (KeepsEnd failed (Some None) → ⊥)
+end_kept = (refl, refl, tt, λ h. absurd (cc h), λ h. absurd (cc h))
+
+-- STEPS: three bytes that are not cut, and pieces under way
+three_and_two : (steps_for 2 (Some (codes "kkk")) ≡ Some 5) × (steps_for 2 None ≡ None)
+    × (steps_in (record { reading = reading; ids = []; pieces = front ∷ []; cutter = record { table = 0; limit = 6; next = 6; left = None; over = None; unread = Some (codes "kkk") } }) ≡ Some 4)
+three_and_two = (refl, refl, refl)
+
+no_more : NoMoreSteps (Some 3) (Some 3) × NoMoreSteps None (Some 3) × (NoMoreSteps (Some 3) (Some 4) → ⊥) × (NoMoreSteps (Some 3) None → ⊥)
+no_more = (omega arith, tt, λ h. absurd (omega (arith, h)), λ h. h)
+
+fewer : FewerSteps (Some 3) (Some 2) × FewerSteps None (Some 3) × (FewerSteps (Some 3) (Some 3) → ⊥) × (FewerSteps (Some 3) None → ⊥)
+fewer = (omega arith, tt, λ h. absurd (omega (arith, h)), λ h. h)
 
 -- JOINED: b came before, and ends the piece at its row
 front_joined : IsFront front (codes "kk" ∷ []) (record { rows = [] ∷ []; fault = Some (fault_at 0 5 1 kind.RepeatedRowId) }) []

@@ -1,5 +1,5 @@
 -- What a call gives of the stream that is left.
-use Rattle.std.proofs.Common.{◌≡◌, ◌⊎◌, ◌++◌, ℕ, List, [], Option, Some, None, IfSome, IfNone, IfOk, IfErr, Result, Ok, Err, refl, sym, ap, subst, ◌∙◌, append-nil, inl, inr}
+use Rattle.std.proofs.Common.{◌≡◌, ◌⊎◌, ◌++◌, ℕ, List, [], Option, Some, None, IfSome, IfNone, IfOk, IfErr, IsSome, Result, Ok, Err, refl, sym, ap, subst, ◌∙◌, append-nil, inl, inr}
 use Rattle.oim_resolve.specs.FactParts.{FactParts as Fact}
 use Rattle.oim_rows.specs.Header.{file_fault}
 use Rattle.oim_rows.specs.Streams.{IsOutside, Stream, ending, facts_of_rows}
@@ -7,7 +7,41 @@ use Rattle.oim_rows.specs.declared.fault.TableFault.{TableFault}
 use Rattle.oim_rows.specs.declared.fault.TableKind.TheVariants as kind
 use Rattle.oim_decode.specs.Blocks.{GivesBlock, ReadsRows}
 use Rattle.oim_decode.proofs.Advances.{broken_off}
-use Rattle.oim_pieces.specs.Flights.{EndsWith, KeepsStream, behind, left_of}
+use Rattle.oim_pieces.specs.Flights.{EndsWith, FewerSteps, IsEnd, KeepsEnd, KeepsStream, behind, left_of, steps_for}
+
+-- the end, or a fault, is kept
+pub end_kept : {A : Type 0} (r : Result (Option A) TableFault) (o : Option TableFault) → IsEnd o r → KeepsEnd r (Some o)
+end_kept (Ok (Some v)) o is = absurd is
+end_kept (Ok None) o is = ap (λ p. one p) is
+  where
+    one : Option TableFault → Option (Option TableFault)
+    one p = Some p
+end_kept (Err e) o is = ap (λ p. one p) is
+  where
+    one : Option TableFault → Option (Option TableFault)
+    one p = Some p
+
+pub given_kept : {A : Type 0} (r : Result (Option A) TableFault) (answered : Option (Option TableFault)) → IfOk r (λ o. IsSome o) → IfErr r (λ e. answered ≡ Some (Some e))
+    → KeepsEnd r answered
+given_kept (Ok (Some v)) answered some fault = tt
+given_kept (Ok None) answered some fault = absurd (cc some)
+given_kept (Err e) answered some fault = fault
+
+-- no blocks are given
+pub none_given : {A : Type 0} (r : Result (Option A) TableFault) (o : Option TableFault) (P : Type 0) → IsEnd o r → IfOk r (λ p. IfSome p (λ _. P))
+none_given (Ok (Some v)) o P is = absurd is
+none_given (Ok None) o P is = tt
+none_given (Err e) o P is = tt
+
+-- a piece was joined, and its blocks were given
+pub moved : {A : Type 0} (r : Result (Option A) TableFault) (answered : Option (Option TableFault)) (before : Option ℕ) (under now : ℕ) (unread left : Option (List ℕ))
+    → FewerSteps before (steps_for under unread) → IsSome answered ⊎ ((now ≡ under) × (left ≡ unread))
+    → IfOk r (λ o. IfSome o (λ _. IsSome answered ⊎ FewerSteps before (steps_for now left)))
+moved (Ok (Some v)) answered before under now unread left fewer (inl settled) = inl settled
+moved (Ok (Some v)) answered before under now unread left fewer (inr same) =
+    inr (subst (λ n. FewerSteps before (steps_for n left)) (sym same.0) (subst (λ l. FewerSteps before (steps_for under l)) (sym same.1) fewer))
+moved (Ok None) answered before under now unread left fewer so = tt
+moved (Err e) answered before under now unread left fewer so = tt
 
 module _ (table : ℕ) where
   -- the same end or fault again

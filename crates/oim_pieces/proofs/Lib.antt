@@ -3,5 +3,6 @@ pub mod FlightLaws
 pub mod Openings
 pub mod Gives
 pub mod CutLaws
+pub mod StepLaws
 pub mod SpareLaws
 pub mod Examples

@@ -1,5 +1,5 @@
 -- The stream of a table whose head was read.
-use Rattle.std.proofs.Common.{◌≡◌, ◌⊎◌, ◌++◌, ◌+◌, ◌-◌, ◌≤◌, ℕ, List, [], ◌∷◌, length, drop, Option, Some, None, IfSome, refl, sym, ap, subst, ◌∙◌, append-nil, append_assoc, arith, inl, inr}
+use Rattle.std.proofs.Common.{◌≡◌, ◌⊎◌, ◌++◌, ◌+◌, ◌-◌, ◌≤◌, ℕ, List, [], ◌∷◌, length, drop, Option, Some, None, IfSome, IsSome, OnSome, refl, sym, ap, subst, ◌∙◌, append-nil, append_assoc, arith, inl, inr}
 use Rattle.oim_records.specs.Grids.{Record, grid, records_left}
 use Rattle.csv.specs.declared.parser.State.TheVariants as state
 use Rattle.oim_records.specs.Reads.{StartsFile, left_known}
@@ -73,6 +73,12 @@ module _ (report : ReportValue) (table limit : ℕ) where
   file_fault head (Some ys) (Some xs) e some starts (inr bad) =
       let same : head ++ records_left state.StartRecord ys ≡ grid xs = cc starts in
       inr (ap (file_header_fault report table) (sym same) ∙ fault-before head (records_left state.StartRecord ys) e some bad)
+
+-- the bytes behind the head of a known file are known
+pub file_unread : (head : List Record) (bytes file : Option (List ℕ)) → StartsFile file (left_known head bytes) → OnSome file (IsSome bytes)
+file_unread head bytes None starts = tt
+file_unread head None (Some xs) starts = absurd (cc starts)
+file_unread head (Some ys) (Some xs) starts = refl
 
 -- what is said of the records that are left is said of a file's
 pub file_stream : (file : Option (List ℕ)) (left : Option (List Record)) (P : List Record → Type 0) → StartsFile file left → IfSome left P → IfSome file (λ xs. P (grid xs))

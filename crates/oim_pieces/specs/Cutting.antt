@@ -5,17 +5,18 @@ use Rattle.oim_records.specs.Reads.{KeepsLeft}
 use Rattle.oim_rows.specs.Streams.{IsOutside}
 use Rattle.oim_rows.specs.declared.fault.TableFault.{TableFault}
 
--- the place of a table and its limit of rows, the number of the next row, the records that are left, if they are known, and, once no more is cut, the
--- fault behind them, if there is one
+-- the place of a table and its limit of rows, the number of the next row, the records that are left, if they are known, once no more is cut, the
+-- fault behind them, if there is one, and the bytes that are not cut yet, if they are known
 pub record CutterLeft : Type 0 where
   pub table : ℕ
   pub limit : ℕ
   pub next : ℕ
   pub left : Option (List Record)
   pub over : Option (Option TableFault)
+  pub unread : Option (List ℕ)
 
--- the records that are left in a reader, of which there are none once it has ended
-abbrev pub left_over : Option (Option TableFault) → Option (List Record) → Option (List Record)
+-- the records, or the bytes, that are left in a reader, of which there are none once it has ended
+abbrev pub left_over : {A : Type 0} → Option (Option TableFault) → Option (List A) → Option (List A)
 left_over None left = left
 left_over (Some None) left = Some []
 left_over (Some (Some e)) left = left

@@ -1,5 +1,5 @@
 -- The pieces of a table that are under way, and the stream that is left with them.
-use Rattle.std.specs.Prelude.{◌≡◌, ◌++◌, ◌+◌, ◌≤◌, ⊤, ℕ, List, [], ◌∷◌, length, Option, Some, None, IfSome, option_map}
+use Rattle.std.specs.Prelude.{◌≡◌, ◌++◌, ◌+◌, ◌≤◌, ◌<◌, ⊤, ℕ, List, [], ◌∷◌, length, Option, Some, None, IfSome, option_map, Result, Ok, Err}
 use Rattle.std.specs.List.{flat_map}
 use Rattle.oim_records.specs.Grids.{Field, Record}
 use Rattle.oim_rows.specs.RowFacts.{Reading}
@@ -72,10 +72,45 @@ abbrev pub EndsWith : ℕ → Option Stream → Option TableFault → Type 0
 EndsWith table left None = IfSome left (λ s. s ≡ ending None)
 EndsWith table left (Some e) = IsOutside table e
 
--- the place of a table, and the stream that is left of it, if it is known
+-- the place of a table, the stream that is left of it, if it is known, the end or the fault that is answered again, once it was found, how many pieces
+-- are under way, and the bytes behind them, if they are known
 pub record PiecesLeft : Type 0 where
   pub table : ℕ
   pub left : Option Stream
+  pub answered : Option (Option TableFault)
+  pub under_way : ℕ
+  pub unread : Option (List ℕ)
+
+-- an answer is this end, or this fault
+abbrev pub IsEnd : {A : Type 0} → Option TableFault → Result (Option A) TableFault → Type 0
+IsEnd end (Ok (Some blocks)) = ⊥
+IsEnd end (Ok None) = end ≡ None
+IsEnd end (Err e) = end ≡ Some e
+
+-- an end or a fault that was answered is kept
+abbrev pub KeepsEnd : {A : Type 0} → Result (Option A) TableFault → Option (Option TableFault) → Type 0
+KeepsEnd (Ok (Some blocks)) answered = ⊤
+KeepsEnd (Ok None) answered = answered ≡ Some None
+KeepsEnd (Err e) answered = answered ≡ Some (Some e)
+
+-- how much there is yet to do: a step for each byte that is not cut, and one for each piece under way
+abbrev pub steps_for : ℕ → Option (List ℕ) → Option ℕ
+steps_for pieces unread = option_map (λ xs. length xs + pieces) unread
+
+abbrev pub steps_in : FlightLeft → Option ℕ
+steps_in f = steps_for (length f.pieces) f.cutter.unread
+
+-- steps do not grow, if they were known
+abbrev pub NoMoreSteps : Option ℕ → Option ℕ → Type 0
+NoMoreSteps None new = ⊤
+NoMoreSteps (Some n) None = ⊥
+NoMoreSteps (Some n) (Some m) = m ≤ n
+
+-- steps are fewer, if they were known
+abbrev pub FewerSteps : Option ℕ → Option ℕ → Type 0
+FewerSteps None new = ⊤
+FewerSteps (Some n) None = ⊥
+FewerSteps (Some n) (Some m) = m < n
 
 -- the first of pieces under way was joined to rows with these identifiers
 pub record IsFront (piece : FlyingPiece) (ids : List Field) (s : Stream) (ids' : List Field) : Type 0 where

@@ -1,8 +1,10 @@
 //! Cutting a table's file into pieces.
 
-ghost use Rattle.std.specs.Prelude.{◌≡◌, ◌≤◌, ◌+◌, [], IfNone, IfSome, length};
+ghost use Rattle.std.specs.Prelude.{◌≡◌, ◌≤◌, ◌+◌, [], IfNone, IfSome, IsSome, None, OnSome, length};
+ghost use Rattle.std.specs.Io.KnownBytes.{Keeps};
 ghost use Rattle.csv.specs.declared.parser.State.TheVariants as state;
 ghost use Rattle.oim_records.specs.Grids.{records_left};
+ghost use Rattle.oim_records.specs.PieceTaking.{TakesBytes, bytes_left};
 ghost use Rattle.oim_records.specs.Reads.{KeepsLeft, left_behind};
 ghost use Rattle.oim_pieces.specs.Cutting.{IsOver, TakesRows};
 
@@ -20,7 +22,7 @@ pub(crate) struct CutPiece {
 }
 
 /// What cuts the file of a table. A contract sees the place of the table, its limit of rows, the number of the next row, the records that are left
-/// where the reader tells its bytes, and, once no more is cut, the fault behind them, if there is one.
+/// and the bytes that are not cut yet, where the reader tells its bytes, and, once no more is cut, the fault behind them, if there is one.
 #[derive(Drop)]
 pub(crate) struct Cutter<R: Read + Drop> {
     pieces: PieceReader<R>,
@@ -36,12 +38,20 @@ pub(crate) struct Cutter<R: Read + Drop> {
 
 impl<R: Read + Drop> Model for Cutter<R> {
     ghost use Rattle.std.specs.Prelude.{◌≡◌, ◌≤◌, [], IfSome};
+    ghost use Rattle.oim_records.specs.PieceTaking.{bytes_left};
     ghost use Rattle.oim_records.specs.Reads.{left_behind};
     ghost use Rattle.oim_pieces.specs.Cutting.{CutterLeft, IsOver, left_over};
 
     ghost Value = { CutterLeft };
 
-    ghost view = { λ a. record { table = a.table; limit = a.limit; next = a.next; left = left_over a.over (left_behind [] a.pieces); over = a.over } };
+    ghost view = { λ a. record {
+      table = a.table;
+      limit = a.limit;
+      next = a.next;
+      left = left_over a.over (left_behind [] a.pieces);
+      over = a.over;
+      unread = left_over a.over (bytes_left a.pieces);
+    } };
 
     ghost invariant = { λ a. (a.limit ≤ 4294967294) × IfSome a.over (IsOver a.table (left_over a.over (left_behind [] a.pieces))) };
 }
@@ -56,7 +66,7 @@ impl<R: Read + Drop> Cutter<R> {
         size: usize,
     ) -> Cutter<R>
         requires { limit ≤ 4294967294 }
-        ensures { result ≡ record { table = table; limit = limit; next = next; left = left_behind [] pieces; over = None } }
+        ensures { result ≡ record { table = table; limit = limit; next = next; left = left_behind [] pieces; over = None; unread = bytes_left pieces } }
     {
         Cutter {
             pieces,
@@ -97,12 +107,18 @@ impl<R: Read + Drop> Cutter<R> {
     }
 
     /// The next piece, or `None` where no more is cut: at the end of the file, where the reader failed, or where memory is short.
-    #[tactic(auto, using(crate::proofs::FlightLaws::rows_few, crate::proofs::CutLaws::cut_taken, crate::proofs::CutLaws::cut_ended, crate::proofs::CutLaws::cut_failed))]
+    /// Once no more is cut, a call changes nothing.
+    #[tactic(auto, using(crate::proofs::FlightLaws::rows_few, crate::proofs::CutLaws::cut_taken, crate::proofs::CutLaws::cut_ended, crate::proofs::CutLaws::cut_failed, crate::proofs::CutLaws::bytes_ended, crate::proofs::CutLaws::bytes_kept))]
     pub(crate) fn cut(&mut self) -> Option<CutPiece>
         ensures some { IfSome result (λ piece. TakesRows self.old.left (records_left state.StartRecord piece.bytes.items) self.new.left) }
         ensures first { IfSome result (λ piece. (piece.first ≡ self.old.next) × (piece.first ≤ self.old.limit + 1)) }
         ensures next { IfSome result (λ piece. self.new.next ≡ self.old.next + length (records_left state.StartRecord piece.bytes.items)) }
+        ensures bytes { IfSome result (λ piece. (1 ≤ length piece.bytes.items) × TakesBytes self.old.unread piece.bytes.items self.new.unread) }
         ensures none { IfNone result (KeepsLeft self.old.left self.new.left × (self.new.next ≡ self.old.next)) }
+        ensures kept { IfNone result (Keeps self.old.unread self.new.unread) }
+        ensures over { IfNone result (IsSome self.new.over) }
+        ensures going { IfSome result (λ _. self.old.over ≡ None) }
+        ensures settled { OnSome self.old.over (self.new ≡ self.old) }
         ensures same { (self.new.table ≡ self.old.table) × (self.new.limit ≡ self.old.limit) }
     {
         match self.over {

@@ -7,6 +7,7 @@ use oim_decode::{PieceDecoder, TableHead};
 use oim_report::Report;
 use std::alloc::Global;
 use std::marker::Model;
+use std::mem;
 
 /// A piece whose texts take fewer vectors than this needs none that others gave back.
 const FEW: usize = 4;
@@ -146,10 +147,17 @@ impl<'a> Decoders<'a> {
     }
 
     /// Gives back a vector whose memory was kept for texts, if there is one.
-    pub(crate) fn free_room(&mut self) -> Option<Vec<u8>>
+    fn free_room(&mut self) -> Option<Vec<u8>>
         ensures { self.new ≡ self.old }
     {
         self.rooms.pop()
+    }
+
+    /// Gives back the vectors whose memory was kept for texts.
+    pub(crate) fn free_rooms(&mut self) -> Vec<Vec<u8>>
+        ensures { self.new ≡ self.old }
+    {
+        mem::replace(&mut self.rooms, Vec::new(self.alloc))
     }
 
     /// The memory of a piece that was decoded, if some is kept.

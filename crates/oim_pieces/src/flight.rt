@@ -1,12 +1,13 @@
 //! The pieces of a table that are under way.
 
-ghost use Rattle.std.specs.Prelude.{◌≡◌, ◌⊎◌, ◌<◌, ◌≤◌, [], All, IfNone, IfOk, IfErr, IfSome, None, Some, length};
+ghost use Rattle.std.specs.Prelude.{◌≡◌, ◌⊎◌, ◌<◌, ◌≤◌, [], All, IfNone, IfOk, IfErr, IfSome, None, OnSome, Some, length, true};
 ghost use Rattle.oim_decode.specs.Blocks.{ReadsRows};
 ghost use Rattle.oim_decode.specs.Heads.{reading_in};
+ghost use Rattle.oim_records.specs.PieceTaking.{bytes_left};
 ghost use Rattle.oim_records.specs.Reads.{left_behind};
 ghost use Rattle.oim_rows.specs.Header.{file_header_fault};
 ghost use Rattle.oim_rows.specs.Streams.{IsOutside, ending, stream_of};
-ghost use Rattle.oim_pieces.specs.Flights.{EndsWith, IsFront, KeepsStream, behind, stream_in};
+ghost use Rattle.oim_pieces.specs.Flights.{EndsWith, FewerSteps, IsFront, KeepsStream, NoMoreSteps, behind, steps_in, stream_in};
 
 use crate::cutter::Cutter;
 use crate::decoded::Asked;
@@ -112,6 +113,7 @@ impl<'a, R: Read + Drop> Flight<'a, R> {
         requires rows { limit ≤ 4294967294 }
         requires header { 1 ≤ length head }
         ensures table { IfOk result (λ t. t.cutter.table ≡ table) }
+        ensures unread { IfOk result (λ t. t.cutter.unread ≡ bytes_left pieces) }
         ensures stream { IfSome (left_behind head pieces) (λ records. IfOk result (λ t. stream_in t ≡ Some (stream_of report.now table limit records))) }
         ensures fault { IfErr result (λ e. IsOutside table e ⊎ (file_header_fault report.now table head ≡ Some e)) }
     {
@@ -160,17 +162,18 @@ impl<'a, R: Read + Drop> Flight<'a, R> {
         self.decoders.wanted()
     }
 
-    /// Gives back a vector whose memory was kept for texts, if there is one.
-    pub(crate) fn free_room(&mut self) -> Option<Vec<u8>>
+    /// Gives back the vectors whose memory was kept for texts.
+    pub(crate) fn free_rooms(&mut self) -> Vec<Vec<u8>>
         ensures { self.new ≡ self.old }
     {
-        self.decoders.free_room()
+        self.decoders.free_rooms()
     }
 
     /// Has the next pieces decoded, while there are places for threads, and the next one where no piece is under way.
-    #[tactic(auto, using(crate::proofs::FlightLaws::stream_then, crate::proofs::FlightLaws::stream_same))]
+    #[tactic(auto, using(crate::proofs::FlightLaws::stream_then, crate::proofs::FlightLaws::stream_same, crate::proofs::StepLaws::steps_then, crate::proofs::StepLaws::steps_same))]
     pub(crate) fn go_ahead<E>(&mut self, scope: &Scope<'a, E>)
         ensures stream { KeepsStream (stream_in self.old) (stream_in self.new) }
+        ensures steps { NoMoreSteps (steps_in self.old) (steps_in self.new) }
         ensures table { self.new.cutter.table ≡ self.old.cutter.table }
     {
         for _ in 0..self.window() {
@@ -211,9 +214,10 @@ impl<'a, R: Read + Drop> Flight<'a, R> {
     }
 
     /// Cuts the next piece and has it decoded. False where no piece is left or memory is short.
-    #[tactic(auto, using(crate::proofs::FlightLaws::chained_more, crate::proofs::FlightLaws::stream_more, crate::proofs::FlightLaws::stream_kept, crate::proofs::FlightLaws::stream_same))]
+    #[tactic(auto, using(crate::proofs::FlightLaws::chained_more, crate::proofs::FlightLaws::stream_more, crate::proofs::FlightLaws::stream_kept, crate::proofs::FlightLaws::stream_same, crate::proofs::StepLaws::steps_cut, crate::proofs::StepLaws::steps_kept, crate::proofs::StepLaws::steps_same))]
     fn cut_next<E>(&mut self, scope: &Scope<'a, E>) -> bool
         ensures stream { KeepsStream (stream_in self.old) (stream_in self.new) }
+        ensures steps { NoMoreSteps (steps_in self.old) (steps_in self.new) }
         ensures table { self.new.cutter.table ≡ self.old.cutter.table }
     {
         if self.flying.reserve(1).is_err() {
@@ -237,10 +241,12 @@ impl<'a, R: Read + Drop> Flight<'a, R> {
     }
 
     /// Joins the piece at the front, waiting for its answer. `None` where no piece is under way.
+    #[tactic(auto, using(crate::proofs::StepLaws::steps_joined))]
     pub(crate) fn join_front<T: Threads>(&mut self, rt: &T) -> Option<JoinedPiece>
         ensures some { IfSome (stream_in self.old) (λ whole. IfSome result (λ s.
             ReadsRows self.old.cutter.table whole s.rows (behind s.fault (stream_in self.new)))) }
         ensures none { IfNone result ((self.old.pieces ≡ []) × (self.new ≡ self.old)) }
+        ensures steps { OnSome result (FewerSteps (steps_in self.old) (steps_in self.new)) }
         ensures table { self.new.cutter.table ≡ self.old.cutter.table }
     {
         let piece = self.flying.pop_front()?;
@@ -259,16 +265,13 @@ impl<'a, R: Read + Drop> Flight<'a, R> {
     pub(crate) fn drain<T: Threads>(&mut self, rt: &T)
         ensures { self.new.cutter.table ≡ self.old.cutter.table }
     {
-        for _ in 0..usize::MAX {
-            if !self.drop_front(rt) {
-                return;
-            }
-        }
+        while self.drop_front(rt) {}
     }
 
     /// Waits for the piece at the front. False where no piece is under way.
     fn drop_front<T: Threads>(&mut self, rt: &T) -> bool
-        ensures { self.new.cutter.table ≡ self.old.cutter.table }
+        ensures fewer { result ≡ true → length self.new.pieces < length self.old.pieces }
+        ensures table { self.new.cutter.table ≡ self.old.cutter.table }
     {
         match self.flying.pop_front() {
             Some(piece) => {

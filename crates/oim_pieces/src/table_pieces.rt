@@ -1,12 +1,12 @@
 //! The facts of a table, piece by piece.
 
-ghost use Rattle.std.specs.Prelude.{◌≡◌, ◌⊎◌, ◌≤◌, ◌<◌, [], IfErr, IfNone, IfOk, IfSome, IsSome, None, Ok, Err, Some, length};
+ghost use Rattle.std.specs.Prelude.{◌≡◌, ◌⊎◌, ◌≤◌, ◌<◌, [], IfErr, IfNone, IfOk, IfSome, IsSome, None, OnSome, Ok, Err, Some, length};
 ghost use Rattle.oim_decode.specs.Blocks.{GivesBlock};
 ghost use Rattle.oim_records.specs.Grids.{grid};
 ghost use Rattle.oim_rows.specs.Header.{file_fault, file_header_fault};
 ghost use Rattle.oim_rows.specs.Streams.{IsOutside, ending, facts_of_rows, stream_of};
 ghost use Rattle.oim_rows.specs.declared.fault.TableKind.TheVariants as kind;
-ghost use Rattle.oim_pieces.specs.Flights.{behind};
+ghost use Rattle.oim_pieces.specs.Flights.{FewerSteps, IsEnd, KeepsEnd, behind, steps_for};
 
 use crate::flight::Flight;
 use crate::helpers::Helpers;
@@ -23,7 +23,8 @@ use std::thread::{Scope, Threads};
 pub const PIECE_SIZE: usize = 131_072;
 
 /// The facts of one table that are left, piece by piece, as blocks of text. It borrows the table's report. A contract sees the table's
-/// place, and the stream that is left, where the reader tells its bytes.
+/// place, what is answered again once the table is settled, how many pieces are under way, and, where the reader tells its bytes, the stream
+/// that is left and the bytes that are not cut yet.
 #[derive(Drop)]
 pub struct TablePieces<'a, R: Read + Drop> {
     alloc: Global,
@@ -33,11 +34,18 @@ pub struct TablePieces<'a, R: Read + Drop> {
 }
 
 impl<'a, R: Read + Drop> Model for TablePieces<'a, R> {
+    ghost use Rattle.std.specs.Prelude.{length};
     ghost use Rattle.oim_pieces.specs.Flights.{PiecesLeft, left_of, stream_in};
 
     ghost Value = { PiecesLeft };
 
-    ghost view = { λ a. record { table = a.flight.cutter.table; left = left_of a.settled (stream_in a.flight) } };
+    ghost view = { λ a. record {
+      table = a.flight.cutter.table;
+      left = left_of a.settled (stream_in a.flight);
+      answered = a.settled;
+      under_way = length a.flight.pieces;
+      unread = a.flight.cutter.unread;
+    } };
 }
 
 impl<'a, R: Read + Drop> TablePieces<'a, R> {
@@ -48,7 +56,7 @@ impl<'a, R: Read + Drop> TablePieces<'a, R> {
     /// Fails with the header's first fault, in this order: NoHeader, UnknownHeader, RepeatedHeader,
     /// NoRowIdColumn. Fails with Read where the reader failed, and with Memory where memory is
     /// short.
-    #[tactic(auto, using(crate::proofs::Openings::file_fault, crate::proofs::Openings::file_stream))]
+    #[tactic(auto, using(crate::proofs::Openings::file_fault, crate::proofs::Openings::file_stream, crate::proofs::Openings::file_unread))]
     pub fn open(
         alloc: Global,
         helpers: &'a Helpers,
@@ -61,7 +69,8 @@ impl<'a, R: Read + Drop> TablePieces<'a, R> {
         requires rows { limits.rows ≤ 4294967294 }
 
         // The facts of the table, where its header has no fault.
-        ensures start { IfOk result (λ pieces. pieces.table ≡ table) }
+        ensures start { IfOk result (λ pieces. (pieces.table ≡ table) × (pieces.answered ≡ None)) }
+        ensures unread { OnSome (R.remaining reader) (IfOk result (λ pieces. IsSome pieces.unread)) }
         ensures stream { IfSome (R.remaining reader) (λ bytes.
             IfOk result (λ pieces. pieces.left ≡ Some (stream_of report.now table limits.rows (grid bytes)))) }
 
@@ -85,13 +94,14 @@ impl<'a, R: Read + Drop> TablePieces<'a, R> {
     }
 
     /// The facts of the next piece in blocks of 1 to 256, in header order and row by row, or None at the end. Where there are
-    /// places for them, threads of the scope decode pieces that come later. After the end or a fault it answers the same again, which no clause says.
+    /// places for them, threads of the scope decode pieces that come later. After the end or a fault it answers the same again, and cuts
+    /// nothing. Where the reader tells its bytes, blocks come at most once for each piece under way and each byte behind them, and once more.
     ///
     /// Fails, where the facts of all rows before were given, with the first fault of the first bad
     /// row, in this order: Ragged, NotUtf8, TooManyRows, MissingRowId, BadRowId, RepeatedRowId, then
     /// the faults of its cells from left to right. Fails with Read where the reader failed, and with
     /// Memory where memory is short.
-    #[tactic(auto, using(crate::proofs::Gives::piece_given, crate::proofs::Gives::short_given, crate::proofs::Gives::end_given, crate::proofs::Gives::fault_given, crate::proofs::Gives::again_ended, crate::proofs::Gives::again_failed))]
+    #[tactic(auto, using(crate::proofs::Gives::piece_given, crate::proofs::Gives::short_given, crate::proofs::Gives::end_given, crate::proofs::Gives::fault_given, crate::proofs::Gives::again_ended, crate::proofs::Gives::again_failed, crate::proofs::Gives::end_kept, crate::proofs::Gives::given_kept, crate::proofs::Gives::none_given, crate::proofs::Gives::moved, crate::proofs::StepLaws::steps_fewer))]
     pub fn next_blocks<E, T: Threads>(
         &mut self,
         scope: &Scope<'a, E>,
@@ -101,6 +111,15 @@ impl<'a, R: Read + Drop> TablePieces<'a, R> {
             GivesBlock self.old.table [] s (Ok (Some (facts_of_rows blocks.items))) [] self.new.left))) }
         ensures end { IfSome self.old.left (λ s. IfOk result (λ o. IfNone o (GivesBlock self.old.table [] s (Ok None) [] self.new.left))) }
         ensures fault { IfSome self.old.left (λ s. IfErr result (λ e. GivesBlock self.old.table [] s (Err e) [] self.new.left)) }
+
+        // What holds of any reader.
+        ensures kept { KeepsEnd result self.new.answered }
+        ensures again { IfSome self.old.answered (λ end. IsEnd end result × (self.new ≡ self.old)) }
+
+        // The blocks are those of a piece, of which there is none without a byte, or the last.
+        ensures moves { IfOk result (λ o. OnSome o (IsSome self.new.answered
+            ⊎ FewerSteps (steps_for self.old.under_way self.old.unread) (steps_for self.new.under_way self.new.unread))) }
+
         ensures same { self.new.table ≡ self.old.table }
     {
         match self.settled {
@@ -137,11 +156,11 @@ impl<'a, R: Read + Drop> TablePieces<'a, R> {
         self.flight.wanted_rooms()
     }
 
-    /// Gives back a vector whose memory was kept for texts, if there is one.
-    pub fn free_room(&mut self) -> Option<Vec<u8>>
+    /// Gives back the vectors whose memory was kept for texts.
+    pub fn free_rooms(&mut self) -> Vec<Vec<u8>>
         ensures { self.new ≡ self.old }
     {
-        self.flight.free_room()
+        self.flight.free_rooms()
     }
 
     /// The facts of a piece that was joined. Where it has a fault, the table is settled.
@@ -154,6 +173,8 @@ impl<'a, R: Read + Drop> TablePieces<'a, R> {
             (facts_of_rows blocks.items ≡ facts_of_rows joined.rows) × (self.new.left ≡ behind joined.fault self.old.left))) }
         ensures some { IfOk result (λ o. IsSome o) }
         ensures fault { IfErr result (λ e. (e ≡ file_fault self.old.table kind.Memory) × (self.new.left ≡ Some (ending (Some e)))) }
+        ensures kept { IfErr result (λ e. self.new.answered ≡ Some (Some e)) }
+        ensures going { IsSome self.new.answered ⊎ ((self.new.under_way ≡ self.old.under_way) × (self.new.unread ≡ self.old.unread)) }
         ensures same { self.new.table ≡ self.old.table }
     {
         if let Some(fault) = joined.fault() {
@@ -174,7 +195,7 @@ impl<'a, R: Read + Drop> TablePieces<'a, R> {
 
     /// Settles the table with this fault. Nobody needs the pieces that are under way.
     fn settle<T: Threads>(&mut self, rt: &T, fault: TableFault)
-        ensures { (self.new.table ≡ self.old.table) × (self.new.left ≡ Some (ending (Some fault))) }
+        ensures { (self.new.table ≡ self.old.table) × (self.new.left ≡ Some (ending (Some fault))) × (self.new.answered ≡ Some (Some fault)) }
     {
         self.flight.drain(rt);
         self.settled = Some(Some(fault));
@@ -185,6 +206,7 @@ impl<'a, R: Read + Drop> TablePieces<'a, R> {
 fn answer_of(end: Option<TableFault>) -> Result<Option<Vec<Block>>, TableFault>
     ensures ok { IfOk result (λ o. IfNone o (end ≡ None) × IfSome o (λ _. ⊥)) }
     ensures err { IfErr result (λ e. end ≡ Some e) }
+    ensures end { IsEnd end result }
 {
     match end {
         None => Ok(None),

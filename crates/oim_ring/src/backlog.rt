@@ -59,7 +59,7 @@ pub(crate) struct Backlog {
     /// How many feeds are held back at all places.
     held: AtomicUsize,
     places: Vec<Place>,
-    /// Vectors of blocks that were written.
+    /// Vectors that were given back, whose memory serves for new blocks.
     rooms: ArrayQueue<Vec<u8>>,
 }
 
@@ -196,7 +196,7 @@ impl BacklogHandle {
         }
     }
 
-    /// Keeps a vector for the texts of another block. Drops it if enough are kept or if it is large.
+    /// Keeps a vector, whatever it was used for, for the texts of another block. Drops it if enough are kept or if it is large.
     pub(crate) fn keep_room<R: Wait>(&self, rt: &R, room: Vec<u8>) {
         if room.capacity() <= LARGEST_ROOM {
             let _ = self.backlog.rooms.push(rt, room);

@@ -189,18 +189,19 @@ impl Feed {
         self.backlog.is_reached()
     }
 
-    /// Keeps the memory of a vector that was got by `room` and is not needed, for blocks of any table of the report.
+    /// Gives a vector back, whose memory then may serve for blocks of any table of the report. It is dropped where enough are kept
+    /// or it is large. No clause says so.
     pub fn give_back<R: Wait>(&self, rt: &R, room: Vec<u8>) {
         self.backlog.keep_room(rt, room);
     }
 
-    /// A vector that has memory, of a block that any of the report's drains gave back, with what it held, if there is one.
+    /// A vector that a feed or a drain of the report gave back, with what it held, if one is kept. No clause says which.
     pub fn kept_room<R: Wait>(&self, rt: &R) -> Option<Vec<u8>> {
         self.backlog.kept_room(rt)
     }
 
-    /// A vector for the texts of a block: that of a block that any of the report's drains gave back, with
-    /// what it held, or an empty one. No clause says what it holds. It allocates no memory.
+    /// A vector for the texts of a block: one that `kept_room` gives, or else an empty one. No clause says what it holds. It
+    /// allocates no memory.
     pub fn room<R: Wait>(&self, rt: &R, alloc: Global) -> Vec<u8> {
         match self.backlog.kept_room(rt) {
             Some(room) => room,

@@ -1,7 +1,9 @@
 //! How the two ends of a ring wait for each other, and why each wait ends.
 //!
 //! A worker waits in two places, for room in its ring and for its turn (`backlog`). The writer waits
-//! for an item. That these waits end is not proved. It rests on the following.
+//! for an item. That these waits end is not proved. It rests on the following, and on this of the code around: a worker waits
+//! elsewhere only for threads that it started itself, to decode a part of its table, and these wait for nothing. Whoever hands on a
+//! vector that was given back waits only for a call of that kind that is under way.
 //!
 //! - The writer sleeps for some milliseconds at most and then looks again. So it needs no wake; one
 //!   only comes earlier.

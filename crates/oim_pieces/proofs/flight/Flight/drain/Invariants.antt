@@ -1,7 +1,10 @@
-use Rattle.std.proofs.Common.{◌≡◌}
+use Rattle.std.proofs.Common.{◌≡◌, length}
 use Rattle.oim_pieces.proofs.flight.Flight.drain.Given as goal
 
 abbrev pub invariant-loop : goal.invariant-loop
 invariant-loop g l = record {
   table : l.self.cutter.table ≡ l.fn.self.cutter.table;
 }
+
+abbrev pub decreases-loop : goal.decreases-loop
+decreases-loop g l = length l.self.pieces

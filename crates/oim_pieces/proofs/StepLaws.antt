@@ -1,0 +1,47 @@
+-- How much of a table is left to do.
+use Rattle.std.proofs.Common.{◌≡◌, ◌++◌, ◌+◌, ◌≤◌, ◌<◌, ℕ, suc, List, [], ◌∷◌, length, Option, Some, None, ap, sym, subst, ◌∙◌, arith, length-append}
+use Rattle.std.specs.Io.KnownBytes.{Keeps}
+use Rattle.oim_records.specs.PieceTaking.{TakesBytes}
+use Rattle.oim_pieces.specs.Flights.{FewerSteps, FlyingPiece, NoMoreSteps, steps_for}
+
+pub steps_same : (o : Option ℕ) → NoMoreSteps o o
+steps_same None = tt
+steps_same (Some n) = omega arith
+
+pub steps_then : (a b c : Option ℕ) → NoMoreSteps a b → NoMoreSteps b c → NoMoreSteps a c
+steps_then None b c ab bc = tt
+steps_then (Some n) None c ab bc = absurd ab
+steps_then (Some n) (Some m) None ab bc = absurd bc
+steps_then (Some n) (Some m) (Some k) ab bc = omega (arith, ab, bc)
+
+-- one more piece, of one byte or more, is cut and under way
+pub steps_cut : (fs : List FlyingPiece) (f : FlyingPiece) (old new : Option (List ℕ)) (piece : List ℕ) → 1 ≤ length piece → TakesBytes old piece new
+    → NoMoreSteps (steps_for (length fs) old) (steps_for (length (fs ++ f ∷ [])) new)
+steps_cut fs f None new piece some takes = tt
+steps_cut fs f (Some xs) None piece some takes = absurd takes
+steps_cut fs f (Some xs) (Some ys) piece some takes =
+    let bytes : length xs ≡ length piece + length ys = ap (λ (l : List ℕ). length l) takes.0 ∙ length-append piece ys in
+    let pieces : length (fs ++ f ∷ []) ≡ length fs + 1 = length-append fs (f ∷ []) in
+    omega (arith, some, bytes, pieces)
+
+-- no piece is cut
+pub steps_kept : (pieces : ℕ) (old new : Option (List ℕ)) → Keeps old new → NoMoreSteps (steps_for pieces old) (steps_for pieces new)
+steps_kept pieces None new kept = tt
+steps_kept pieces (Some xs) None kept = absurd kept
+steps_kept pieces (Some xs) (Some ys) kept = let same : length ys ≡ length xs = ap (λ (l : List ℕ). length l) kept in omega (arith, same)
+
+-- the first piece was joined
+pub steps_front : (f : FlyingPiece) (fs : List FlyingPiece) (unread : Option (List ℕ)) → FewerSteps (steps_for (length (f ∷ fs)) unread) (steps_for (length fs) unread)
+steps_front f fs None = tt
+steps_front f fs (Some xs) = omega arith
+
+pub steps_joined : (all fs : List FlyingPiece) (f : FlyingPiece) (unread : Option (List ℕ)) → all ≡ f ∷ fs
+    → FewerSteps (steps_for (length all) unread) (steps_for (length fs) unread)
+steps_joined all fs f unread is = subst (λ (l : List FlyingPiece). FewerSteps (steps_for (length l) unread) (steps_for (length fs) unread)) (sym is) (steps_front f fs unread)
+
+-- a call goes ahead, and joins the first piece
+pub steps_fewer : (a b c : Option ℕ) → NoMoreSteps a b → FewerSteps b c → FewerSteps a c
+steps_fewer None b c ab bc = tt
+steps_fewer (Some n) None c ab bc = absurd ab
+steps_fewer (Some n) (Some m) None ab bc = absurd bc
+steps_fewer (Some n) (Some m) (Some k) ab bc = omega (arith, ab, bc)
