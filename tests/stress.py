@@ -25,7 +25,7 @@ from typing import Dict, List, NamedTuple, Optional, Tuple
 NAMESPACES = {"eg": "http://example.com/eg"}
 TAXONOMY = ["http://example.com/eg.xsd"]
 COMMON = {"entity": "eg:A1", "period": "2021-12-31T00:00:00"}
-PIECE = 131_072
+PIECE = 65_536
 SECONDS = 100
 Row = Tuple[str, str, str]
 
@@ -57,7 +57,7 @@ def table(numbers: random.Random, name: str, size: int, has_fault: bool) -> Tabl
         note = numbers.choice(["", "plain", 'a "quoted" word', "two\nlines", "\r\n", "größer, höher", "x" * numbers.randrange(60)])
         rows.append((f"i{at}", str(numbers.randrange(10**6)), note))
         length += 14 + len(note.encode())
-        if PIECE - 2000 < length % (PIECE + 32_768) < PIECE + 34_000:
+        if not 2000 < length % PIECE < PIECE - 2000:
             near.append(at)
     bad = numbers.choice(near or range(size)) if has_fault and size else None
     return Table(name, rows, bad)

@@ -14,7 +14,7 @@ use std::sync::Arc;
 const FULL_RINGS: usize = 4;
 
 /// Once so many facts wait in all rings together, tables before their turn wait.
-const MOST_AHEAD: usize = 16_384;
+const MOST_AHEAD: usize = 4_096;
 
 /// How many facts a full block has.
 const FULL_BLOCK: usize = 256;

@@ -24,7 +24,7 @@ use std::io::Read;
 use std::marker::Model;
 use std::thread::{Scope, Threads};
 
-/// How many pieces of a table are under way at once where nobody waits for them yet.
+/// How many pieces of a table are under way at once where nobody waits for them yet. It is decoded here.
 const FEW_UNDER_WAY: usize = 1;
 
 /// The pieces of a table that are under way, in their order, and what cuts, decodes and joins them. A contract sees how the rows are read,
@@ -80,9 +80,10 @@ fn first_decoder<'a>(
     }
 }
 
-/// Joins a piece, waiting for its answer.
+/// Joins a piece, waiting for its answer. While it waits, its worker rests.
 fn join_piece<'a, T: Threads>(
     rt: &T,
+    helpers: &Helpers,
     decoders: &mut Decoders<'a>,
     form: &RowForm<'a>,
     join: &mut PieceJoin,
@@ -94,7 +95,9 @@ fn join_piece<'a, T: Threads>(
     ensures same { decoders.new ≡ decoders.old }
 {
     let first = piece.first();
+    helpers.rest();
     let answer = piece.settle(rt, decoders);
+    helpers.start();
     join.join(form, first, answer)
 }
 
@@ -232,6 +235,7 @@ impl<'a, R: Read + Drop> Flight<'a, R> {
         let flying = launch(
             scope,
             self.helpers,
+            self.is_wanted,
             &mut self.decoders,
             &mut self.mine,
             piece,
@@ -253,6 +257,7 @@ impl<'a, R: Read + Drop> Flight<'a, R> {
         self.has_given = true;
         let joined = join_piece(
             rt,
+            self.helpers,
             &mut self.decoders,
             self.mine.form(),
             &mut self.join,

@@ -134,10 +134,11 @@ fn start<'s, E>(
     }
 }
 
-/// Has a piece decoded: by a thread, where there is a place for one and the piece is not short, or else here.
+/// Has a piece decoded: by a thread, where it is wanted at once, there is a place for one and the piece is not short, or else here.
 pub(crate) fn launch<'s, E>(
     scope: &Scope<'s, E>,
     helpers: &'s Helpers,
+    is_wanted: bool,
     decoders: &mut Decoders<'s>,
     mine: &mut PieceDecoder<'s>,
     piece: CutPiece,
@@ -148,7 +149,7 @@ pub(crate) fn launch<'s, E>(
     ensures decoders { decoders.new ≡ decoders.old }
     ensures mine { mine.new.reading ≡ mine.old.reading }
 {
-    if piece.is_short || !helpers.take() {
+    if !is_wanted || piece.is_short || !helpers.take() {
         return decode_here(decoders, mine, piece);
     }
     match decoders.take() {

@@ -2,11 +2,12 @@
 
 use std::sync::atomic::{AtomicUsize, Ordering};
 
-/// The most pieces of a table that are under way at once, whatever the number of workers, so that they take little memory.
-const MOST_UNDER_WAY: usize = 16;
+/// The most pieces of a table that are under way at once, whatever the number of workers. Cutting them takes about an eighth of the time that
+/// decoding takes, so more would wait, and only take memory.
+const MOST_UNDER_WAY: usize = 8;
 
 /// How the pieces of a report's tables are shared out: about how many bytes a piece has, and how many threads are at work, which are
-/// workers that do not wait for their ring and threads that decode pieces. No contract says anything about it.
+/// workers that do not wait for their ring or an answer, and threads that decode pieces. No contract says anything about it.
 #[derive(Drop)]
 pub struct Helpers {
     busy: AtomicUsize,
@@ -49,7 +50,7 @@ impl Helpers {
         self.busy.load(Ordering::SeqCst) < self.places()
     }
 
-    /// A thread is started only where fewer are at work: as many as workers, and one more for the worker that waits for an answer.
+    /// A thread is started only where fewer are at work: as many as workers, and one more for the worker that starts it, which then waits for an answer.
     fn places(&self) -> usize {
         self.workers.saturating_add(1)
     }

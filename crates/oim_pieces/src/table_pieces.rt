@@ -20,7 +20,7 @@ use std::marker::Model;
 use std::thread::{Scope, Threads};
 
 /// About how many bytes a piece of a table has in a conversion: so many that decoding them takes far longer than starting a thread.
-pub const PIECE_SIZE: usize = 131_072;
+pub const PIECE_SIZE: usize = 65_536;
 
 /// The facts of one table that are left, piece by piece, as blocks of text. It borrows the table's report. A contract sees the table's
 /// place, what is answered again once the table is settled, how many pieces are under way, and, where the reader tells its bytes, the stream
@@ -137,7 +137,8 @@ impl<'a, R: Read + Drop> TablePieces<'a, R> {
         }
     }
 
-    /// Notes whether what is given is wanted at once. Until it is, few pieces are under way, so that they take little memory.
+    /// Notes whether what is given is wanted at once. Until it is, no thread decodes a piece, and each is decoded when it is asked for, so that
+    /// they take little memory.
     pub fn want(&mut self, is_wanted: bool)
         ensures { self.new ≡ self.old }
     {
