@@ -3,7 +3,7 @@ use Rattle.std.proofs.Common.{◌≡◌, ℕ, zero, suc, ◌+◌, ◌-◌, ◌<�
 use Rattle.std.proofs.Common.{length, take, drop, get_or, inl, inr, Option, Some, None, IfSome, refl, sym, subst, ap, ◌∙◌, arith, codes, append_assoc, length-append}
 use Rattle.std.specs.Str.Parse.{AllDigits, without_leading_sign}
 use Rattle.std.proofs.Math.Seq.{take-add}
-use Rattle.std.proofs.lemmas.Bool.{eqb-true}
+use Rattle.std.proofs.lemmas.Bool.{eqb-true, ne_eqb}
 use Rattle.std.specs.Char.{digit_value}
 use Rattle.std.proofs.lemmas.List.{length-drop, length-take-le, take-append-drop, take-take, take_all, take_more}
 use Rattle.oim_cells.specs.declared.cells.Accuracy.{Accuracy}
@@ -69,6 +69,18 @@ unsigned xs k h = let same : 0 + k ≡ k = omega arith in rw same (unsigned_at x
     unsigned_at [] (suc k) h = refl
     unsigned_at (c ∷ cs) (suc k) h = unsigned_by (c == 45) (c == 43) (c ∷ take k cs) h
 
+-- digits at the front are no sign
+digits_begin : (xs : List ℕ) (n : ℕ) → 0 < n → AllDigits 10 (take n xs) → begins_with_sign xs ≡ false
+digits_begin xs zero some h = absurd (omega arith)
+digits_begin [] (suc n) some h = refl
+digits_begin (c ∷ cs) (suc n) some h = rw (ne_eqb c 45 (no_digit 45 (omega arith)), ne_eqb c 43 (no_digit 43 (omega arith))) refl
+  where
+    no_digit : (d : ℕ) → 10 ≤ digit_value d → c ≡ d → ⊥
+    no_digit d high e = let bad : digit_value d < 10 = subst (λ k. digit_value k < 10) e h.0 in absurd (omega arith)
+
+pub digits_unsigned : (xs : List ℕ) (n : ℕ) → 0 < n → AllDigits 10 (take n xs) → (k : ℕ) → without_leading_sign (take (0 + k) xs) ≡ take k (drop 0 xs)
+digits_unsigned xs n some h k = unsigned xs k (digits_begin xs n some h)
+
 abbrev IsSign : List ℕ → ℕ → Type 0
 IsSign xs n = (k : ℕ) → without_leading_sign (take (n + k) xs) ≡ take k (drop n xs)
 
@@ -81,6 +93,12 @@ digits_there kind xs n m sign le some h =
     let is = long_enough xs n m le in
     let there : 0 < length (take m (drop n xs)) = omega (arith, is) in
     is_front kind (take (n + m) xs) (take m (drop n xs)) (sign m) there h
+
+-- digits alone
+pub digits_front : (kind : NumberKind) (xs : List ℕ) (n : ℕ) → n ≤ length xs → 0 < n → AllDigits 10 (take n xs) → IsFrontOf kind (take n xs)
+digits_front kind xs n le some h =
+    let same : 0 + n ≡ n = omega arith in
+    subst (λ k. IsFrontOf kind (take k xs)) same (digits_there kind xs 0 n (digits_unsigned xs n some h) (omega arith) some h)
 
 pub pointed_digits_there : (kind : NumberKind) (xs : List ℕ) (n m : ℕ) → IsSign xs n → n + m ≤ length xs → 1 < m → takes_point kind ≡ true → IsPointed (take m (drop n xs))
     → IsFrontOf kind (take (n + m) xs)

@@ -10,6 +10,7 @@ use Rattle.oim_cells.specs.Numeral.{IsDecimal, IsDouble, IsNumeralOf, IsPointed,
 use Rattle.oim_cells.specs.declared.cells.Accuracy.{Accuracy}
 use Rattle.oim_cells.specs.declared.cells.NumberKind.{NumberKind}
 use Rattle.oim_cells.specs.declared.cells.NumberKind.TheVariants.{Integer, Decimal, Double}
+use Rattle.oim_cells.proofs.Meanings.{meaning_law}
 use Rattle.oim_cells.proofs.Values.{numeral_law}
 use Rattle.oim_report.specs.ReportValue.{ReportValue}
 use Rattle.oim_report.specs.declared.kind.Kind.{Kind}
@@ -176,3 +177,16 @@ number_found r n cell bytes len x same within is some few split =
     let long : length cell ≡ len = ap length (sym same) ∙ length-take-le len bytes within in
     let whole : take (length cell) bytes ≡ cell = ap (λ k. take k bytes) long ∙ same in
     number_value r n cell x (ap (take (length cell)) is ∙ whole) (omega (arith, long, within, ap length is)) some (omega (arith, long, few)) (split whole long)
+
+-- the cell `#nil`
+pub nil_value : (r : ReportValue) (k : Kind) (x : Value) → x.is_nil ≡ true → x.accuracy ≡ None → x.len ≡ 0 → IsValue r k (meaning_of (codes "#nil")) x
+nil_value r k x some exact none =
+    let is : m.Nil ≡ meaning_of (codes "#nil") = meaning_law m.nil in
+    subst (λ v. IsValue r k v x) is (record {
+      within = omega arith;
+      said = refl;
+      known = refl;
+      given = ap (λ b. Ok (record { text = if b then None else Some (take x.len x.bytes.now); accuracy = None })) (sym some)
+          ∙ ap (λ a. Ok (record { text = if x.is_nil then None else Some (take x.len x.bytes.now); accuracy = a })) (sym exact);
+      nil = some;
+    })

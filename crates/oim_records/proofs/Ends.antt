@@ -13,8 +13,8 @@ use Rattle.oim_records.proofs.RecordReads.{comma-reads, field-pushed}
 
 -- bit k marks the byte k places on from a place; of the bytes from another place on each that ends a field is marked, and no other before it
 pub record AreEnds (xs : List ℕ) (at done m : ℕ) : Type 0 where
-  pub set : (k : ℕ) → k < 32 → done ≤ at + k → ends_field (get_or xs (at + k) 0) ≡ true → bit_at m k ≡ 1
-  pub within : (k : ℕ) → bit_at m k ≡ 1 → (k < 32) × (done ≤ at + k)
+  pub set : (k : ℕ) → k < 64 → done ≤ at + k → ends_field (get_or xs (at + k) 0) ≡ true → bit_at m k ≡ 1
+  pub within : (k : ℕ) → bit_at m k ≡ 1 → (k < 64) × (done ≤ at + k)
 
 pub ends-next : (xs : List ℕ) (at behind m n mark : ℕ) → AreEnds xs at behind m → bit_at m mark ≡ 1 → bit_at n mark ≡ 0
     → ((k : ℕ) → k < mark → bit_at m k ≡ 0) → ((k : ℕ) → k < 64 → k ≢ mark → bit_at n k ≡ bit_at m k) → ((k : ℕ) → bit_at n k ≡ 1 → bit_at m k ≡ 1)
@@ -46,7 +46,7 @@ ends-next xs at behind m n mark marks one cleared below kept more =
 
 -- the field that ends at the first mark
 pub ends-first : (xs : List ℕ) (at start m mark : ℕ) → AreEnds xs at start m → at ≤ start → bit_at m mark ≡ 1 → ((k : ℕ) → k < mark → bit_at m k ≡ 0)
-    → at + 32 ≤ length xs → ends_field (get_or xs (at + mark) 0) ≡ true → at + mark ≡ start + prefix_len joins_field (drop start xs)
+    → at + 64 ≤ length xs → ends_field (get_or xs (at + mark) 0) ≡ true → at + mark ≡ start + prefix_len joins_field (drop start xs)
 ends-first xs at start m mark marks low one below room end =
     let here = marks.within mark one in
     let above : start ≤ at + mark = here.1 in

@@ -1,6 +1,6 @@
 //! Writing a fact.
 
-ghost use Rattle.std.specs.Prelude.{◌≡◌, ◌+◌, ◌-◌, ◌*◌, ◌<◌, ◌≤◌, ◌++◌, IfSome, MatchOption, OnOk, Some, codes, flat_map, length, take, true};
+ghost use Rattle.std.specs.Prelude.{◌≡◌, ◌+◌, ◌-◌, ◌*◌, ◌<◌, ◌≤◌, ◌++◌, ◌∷◌, [], IfSome, MatchOption, OnOk, Some, codes, flat_map, length, take, true};
 ghost use Rattle.std.specs.List.{list_all};
 ghost use mathlib.Core.List.{IsPrefix};
 ghost use Rattle.oim_json.specs.JsonText.{decimals_text, escaped_byte, is_unescaped, value_text};
@@ -143,6 +143,16 @@ fn write_text(kind: Kind, value: &Value<'_>, room: &mut [u8], from: usize) -> us
     }
 }
 
+/// Writes a byte. Answers where it ends.
+#[inline(always)]
+fn write_byte(room: &mut [u8], at: usize, byte: u8) -> usize
+    requires { at < length room.old }
+    ensures { Placed room.old room.new at (byte ∷ []) result }
+{
+    room[at] = byte;
+    at + 1
+}
+
 /// Writes the value and the end of the fact.
 #[inline(always)]
 fn write_value(kind: Kind, value: &Value<'_>, room: &mut [u8], from: usize) -> usize
@@ -157,7 +167,8 @@ fn write_value(kind: Kind, value: &Value<'_>, room: &mut [u8], from: usize) -> u
     }
     let at = copy_short(room, from, b"\"");
     let at = write_text(kind, value, room, at);
-    copy_short(room, at, b"\"}")
+    let at = write_byte(room, at, b'"');
+    write_byte(room, at, b'}')
 }
 
 /// How many bytes a value has at most that is written with one test of the room.
@@ -328,10 +339,9 @@ fn put_long(
     }
 }
 
-/// Appends a fact whose text begins with `start`. False where it is not by the fast way. Fails where memory is short. Then nothing
-/// is appended.
+/// Appends a fact of any length. False where it is not by the fast way. Fails where memory is short. Then nothing is appended.
 #[inline(always)]
-pub(crate) fn put_fact(
+fn put_any(
     frame: &FrameText,
     references: &References<'_>,
     start: &TextBuffer,
@@ -348,4 +358,42 @@ pub(crate) fn put_fact(
     } else {
         put_short(frame, references, start, value, out)
     }
+}
+
+/// The same of a value that is nil or states its accuracy. They are written apart from the others, which are more.
+#[inline(never)]
+fn put_unsettled(
+    frame: &FrameText,
+    references: &References<'_>,
+    start: &TextBuffer,
+    value: Value<'_>,
+    out: &mut TextBuffer,
+) -> Result<bool, AllocError>
+    requires value { value.len ≤ length value.bytes.now }
+    requires plain { is_numeric frame.now.kind ≡ true → IfSome (value_of value) (λ t. list_all is_unescaped t ≡ true) }
+    requires references { IsOfReferences (length references.now) frame.now }
+    ensures { PutsFact references.now frame.now value.entry start.now.items out.old.items out.new.items result }
+{
+    put_any(frame, references, start, &value, out)
+}
+
+/// Appends a fact whose text begins with `start`. False where it is not by the fast way. Fails where memory is short. Then nothing
+/// is appended.
+#[inline(always)]
+pub(crate) fn put_fact(
+    frame: &FrameText,
+    references: &References<'_>,
+    start: &TextBuffer,
+    value: &Value<'_>,
+    out: &mut TextBuffer,
+) -> Result<bool, AllocError>
+    requires value { value.now.len ≤ length value.now.bytes.now }
+    requires plain { is_numeric frame.now.kind ≡ true → IfSome (value_of value.now) (λ t. list_all is_unescaped t ≡ true) }
+    requires references { IsOfReferences (length references.now) frame.now }
+    ensures { PutsFact references.now frame.now value.now start.now.items out.old.items out.new.items result }
+{
+    if value.is_nil || value.accuracy.is_some() {
+        return put_unsettled(frame, references, start, *value, out);
+    }
+    put_any(frame, references, start, value, out)
 }

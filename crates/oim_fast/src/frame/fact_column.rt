@@ -162,6 +162,8 @@ pub(crate) fn kind_number(kind: Option<Kind>) -> u64
 
 impl FactColumn<'_> {
     /// Whether nothing is known of a cell of groups that it takes from, in the row at hand.
+    #[cold]
+    #[inline(never)]
     pub(crate) fn has_unknown(&self, cells: &GroupCells<'_>) -> bool
         requires { All (λ p. p < length cells.now.list.items) self.now.groups.items }
         ensures { result ≡ false → All (λ o. is_known_choice o ≡ true) (choices_in cells.now.list.items self.now.groups.items) }

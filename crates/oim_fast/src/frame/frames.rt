@@ -223,6 +223,7 @@ impl Frames {
 
     /// The place of the frame of a column in the row at hand, whose concept the reference at a place names. None where its kind is
     /// not known. Fails where memory is short.
+    #[inline(never)]
     fn by_concept<'a>(
         &mut self,
         alloc: Global,

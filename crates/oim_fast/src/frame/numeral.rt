@@ -63,14 +63,15 @@ fn digits_len(text: &[u8], len: usize) -> usize
 }
 
 /// How long the digits are with at most one point that the first `len` bytes of a text begin with, and whether they have a
-/// point.
+/// point. The first `before` bytes are digits.
 #[inline(always)]
-fn unsigned_len(text: &[u8], len: usize) -> (usize, bool)
-    requires { len ≤ length text.now }
+fn unsigned_len(text: &[u8], len: usize, before: usize) -> (usize, bool)
+    requires there { len ≤ length text.now }
+    requires within { before ≤ len }
+    requires digits { AllDigits 10 (take before text.now) }
     ensures within { result.0 ≤ len }
     ensures shape { IsUnsigned result.1 (take result.0 text.now) }
 {
-    let before = digits_len(text, len);
     if before < len && text[before] == b'.' {
         let after = digits_len(&text[before + 1..], len - before - 1);
         (before + 1 + after, true)
@@ -110,17 +111,19 @@ fn takes_point(kind: NumberKind) -> bool
     }
 }
 
-/// How long a numeral of the kind without a power of ten is that the first `len` bytes of a text begin with: an optional sign, and
-/// digits with at most one point, none in an integer. 0 where there is none.
+/// How long a numeral of the kind without a power of ten is that the first `len` bytes of a text begin with: a sign of length
+/// `start`, and digits with at most one point, none in an integer. The first `before` bytes behind the sign are digits. 0 where there
+/// is none.
 #[inline(always)]
-fn front_len(kind: NumberKind, text: &[u8], len: usize) -> usize
-    requires some { 0 < len }
+fn front_behind(kind: NumberKind, text: &[u8], len: usize, start: usize, before: usize) -> usize
     requires there { len ≤ length text.now }
+    requires within { start + before ≤ len }
+    requires sign { (k : ℕ) → without_leading_sign (take (start + k) text.now) ≡ take k (drop start text.now) }
+    requires digits { AllDigits 10 (take before (drop start text.now)) }
     ensures within { result ≤ len }
     ensures numeral { 0 < result → IsFrontOf kind (take result text.now) }
 {
-    let start = sign_len(text);
-    let (digits, has_point) = unsigned_len(&text[start..], len - start);
+    let (digits, has_point) = unsigned_len(&text[start..], len - start, before);
     if has_point {
         if digits <= 1 {
             return 0;
@@ -131,6 +134,25 @@ fn front_len(kind: NumberKind, text: &[u8], len: usize) -> usize
         return 0;
     }
     if digits == 0 { 0 } else { start + digits }
+}
+
+/// How long a numeral of the kind without a power of ten is that the first `len` bytes of a text begin with: an optional sign, and
+/// digits with at most one point, none in an integer. The text begins with `digits` digits. 0 where there is none.
+#[inline(always)]
+fn front_len(kind: NumberKind, text: &[u8], len: usize, digits: usize) -> usize
+    requires some { 0 < len }
+    requires there { len ≤ length text.now }
+    requires within { digits ≤ len }
+    requires digits { AllDigits 10 (take digits text.now) }
+    ensures within { result ≤ len }
+    ensures numeral { 0 < result → IsFrontOf kind (take result text.now) }
+{
+    if digits > 0 {
+        return front_behind(kind, text, len, 0, digits);
+    }
+    let start = sign_len(text);
+    let before = digits_len(&text[start..], len - start);
+    front_behind(kind, text, len, start, before)
 }
 
 /// How long an integer is that the first `len` bytes of a text begin with: 0 where there is none.
@@ -159,7 +181,8 @@ fn is_power_mark(kind: NumberKind, byte: u8) -> bool
     }
 }
 
-/// How long a numeral of the kind is that the first `len` bytes of a text begin with. 0 where there is none.
+/// How long a numeral of the kind is that the first `len` bytes of a text begin with. 0 where there is none. Mostly all of them are
+/// digits.
 #[inline(always)]
 pub(crate) fn numeral_len(kind: NumberKind, text: &[u8], len: usize) -> usize
     requires { len ≤ length text.now }
@@ -169,7 +192,11 @@ pub(crate) fn numeral_len(kind: NumberKind, text: &[u8], len: usize) -> usize
     if len == 0 {
         return 0;
     }
-    let front = front_len(kind, text, len);
+    let digits = digits_len(text, len);
+    if digits == len {
+        return len;
+    }
+    let front = front_len(kind, text, len, digits);
     if front == 0 || front == len || !is_power_mark(kind, text[front]) {
         return front;
     }

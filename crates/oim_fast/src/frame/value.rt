@@ -1,9 +1,10 @@
 //! What the cell of a fact says.
 
-ghost use Rattle.std.specs.Prelude.{◌≡◌, ◌≤◌, ℕ, List, Ok, Some, IfOk, IfSome, false, length, take, true};
+ghost use Rattle.std.specs.Prelude.{◌≡◌, ◌≤◌, ℕ, List, Ok, Some, IfOk, IfSome, codes, false, length, take, true};
 ghost use Rattle.oim_cells.specs.Cells.{meaning_of};
 ghost use Rattle.oim_rows.specs.RowFacts.{field_or_empty};
 ghost use Rattle.oim_report.specs.ReportValue.{ReportValue};
+ghost use Rattle.oim_report.specs.declared.kind.Kind.{Kind as KindValue};
 ghost use Rattle.oim_report.specs.declared.kind.Kind.TheVariants.{Number as number_kind};
 ghost use Rattle.oim_resolve.specs.FactValues.{plain as plain_text, text_given};
 ghost use Rattle.oim_fast.specs.CellValues.{IsCellValue, IsValue};
@@ -62,6 +63,19 @@ fn plain<'r>(bytes: &'r [u8], len: usize, accuracy: Option<Accuracy>) -> Value<'
     }
 }
 
+/// The value of the cell `#nil`.
+#[inline(always)]
+fn nil_value<'r>() -> Value<'r>
+    ensures { (report : ReportValue) (kind : KindValue) → IsValue report kind (meaning_of (codes "#nil")) result }
+{
+    Value {
+        bytes: b"",
+        len: 0,
+        accuracy: None,
+        is_nil: true,
+    }
+}
+
 /// Whether each text is a value of a kind as it stands.
 #[inline(always)]
 fn stands_for_itself(kind: Kind) -> bool
@@ -105,6 +119,9 @@ pub(crate) fn rare_value<'r>(
 ) -> Result<CellValue<'r>, AllocError>
     ensures { IfOk result (λ v. IsCellValue row.now.form.report kind (meaning_of cell.now) v) }
 {
+    if cell == "#nil" {
+        return Ok(CellValue::Value(nil_value()));
+    }
     let said = meaning(cell);
     if matches!(&said, CellMeaning::Absent) {
         return Ok(CellValue::NoFact);

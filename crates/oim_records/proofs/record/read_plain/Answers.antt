@@ -1,4 +1,5 @@
 use Rattle.std.proofs.Common.{◌+◌, ap, arith}
+use Rattle.oim_records.specs.Bits.{IsLowest}
 use Rattle.oim_records.specs.Bytes.{ends_field}
 use Rattle.oim_records.proofs.Ends.{ends-first, ends-next, plain-read}
 use Rattle.oim_records.proofs.record.read_plain.Goals as goal
@@ -10,6 +11,7 @@ loop-left-preserved c =
     let from = c.args.from in
     let start = c.loop-left.start in
     let mark = c.lowest-mark.result in
+    let lowest : IsLowest c.loop-left.left mark = (c.lowest-mark.ensures.set, c.lowest-mark.ensures.below) in
     let here = i.marks.within mark c.lowest-mark.ensures.set in
     let comma = c.if-text-stop-ne44.false in
     let end = ends-first xs from start c.loop-left.left mark i.marks i.low c.lowest-mark.ensures.set c.lowest-mark.ensures.below (omega arith) (ap ends_field comma) in
@@ -17,5 +19,5 @@ loop-left-preserved c =
       fields = λ old first h. plain-read old xs c.loop-left.ranges.items c.push.new.self.items first start (from + mark) c.if-text-start-eq34.false end (omega arith) comma c.in_ok-push.ensures.items (i.fields old first h);
       low = omega arith;
       high = omega arith;
-      marks = ends-next xs from start c.loop-left.left c.without-left.result mark i.marks c.lowest-mark.ensures.set c.without-left.ensures.cleared c.lowest-mark.ensures.below c.without-left.ensures.kept c.without-left.ensures.no_more;
+      marks = ends-next xs from start c.loop-left.left c.without_lowest-left.result mark i.marks c.lowest-mark.ensures.set (c.without_lowest-left.ensures.cleared mark lowest) c.lowest-mark.ensures.below (λ k small. c.without_lowest-left.ensures.kept mark lowest k) c.without_lowest-left.ensures.no_more;
     }

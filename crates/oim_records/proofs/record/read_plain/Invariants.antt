@@ -7,7 +7,7 @@ abbrev pub invariant-loop-left : goal.invariant-loop-left
 invariant-loop-left l = record {
   fields : (old : List ℕ) (first : ℕ) → IsReadTo old l.text l.fn.ranges.items first l.fn.from → IsReadTo old l.text l.ranges.items first l.start;
   low : l.fn.from ≤ l.start;
-  high : l.start ≤ l.fn.from + 32;
+  high : l.start ≤ l.fn.from + 64;
   marks : AreEnds l.text l.fn.from l.start l.left;
 }
 

@@ -1,24 +1,14 @@
-use Rattle.std.proofs.Common.{Bool, List, ℕ, sym, subst, ◌∙◌, arith, take, drop}
+use Rattle.std.proofs.Common.{List, ℕ, subst, arith, take}
 use Rattle.std.specs.Str.Parse.{AllDigits}
 use Rattle.std.proofs.lemmas.List.{take_rest}
-use Rattle.oim_fast.specs.Digits.{IsUnsigned}
-use Rattle.oim_fast.proofs.Numerals.{digits_there, pointed_digits_there}
+use Rattle.oim_fast.proofs.Numerals.{digits_unsigned}
 use Rattle.oim_fast.proofs.frame.numeral.front_len.Goals as goal
 
-pub returns-then-takes_point-clause-numeral : goal.returns-then-takes_point-clause-numeral
-returns-then-takes_point-clause-numeral c =
-    let start = c.sign_len-start.result in
-    let digits = c.unsigned_len-digits.result.0 in
-    let text = c.args.text.now in
-    let front = subst (λ (l : List ℕ). IsUnsigned c.unsigned_len-digits.result.1 (take digits l)) (take_rest text start) c.unsigned_len-digits.ensures.shape in
-    let shape = subst (λ (b : Bool). IsUnsigned b (take digits (drop start text))) c.if-has_point.true front in
-    λ _. pointed_digits_there c.args.kind text start digits c.sign_len-start.ensures.sign (omega arith) (omega arith) (sym c.takes_point.ensures ∙ c.if-takes_point.true) shape
+pub front_behind-requires-clause-sign : goal.front_behind-requires-clause-sign
+front_behind-requires-clause-sign c = digits_unsigned c.args.text.now c.args.digits (omega arith) c.requires.digits
 
-pub returns-else-digits-eq0-clause-numeral : goal.returns-else-digits-eq0-clause-numeral
-returns-else-digits-eq0-clause-numeral c =
+pub front_behind-requires-2-clause-digits : goal.front_behind-requires-2-clause-digits
+front_behind-requires-2-clause-digits c =
     let start = c.sign_len-start.result in
-    let digits = c.unsigned_len-digits.result.0 in
-    let text = c.args.text.now in
-    let front = subst (λ (l : List ℕ). IsUnsigned c.unsigned_len-digits.result.1 (take digits l)) (take_rest text start) c.unsigned_len-digits.ensures.shape in
-    let shape = subst (λ (b : Bool). IsUnsigned b (take digits (drop start text))) c.if-has_point.false front in
-    λ _. digits_there c.args.kind text start digits c.sign_len-start.ensures.sign (omega arith) (omega arith) shape
+    let before = c.digits_len-before.result in
+    subst (λ (l : List ℕ). AllDigits 10 (take before l)) (take_rest c.args.text.now start) c.digits_len-before.ensures.digits

@@ -1,8 +1,15 @@
 use Rattle.std.proofs.Common.{List, ℕ, ◌+◌, ◌∙◌, arith, subst, sym, take}
 use Rattle.std.proofs.lemmas.List.{take_rest}
+use Rattle.std.specs.Str.Parse.{AllDigits}
 use Rattle.oim_cells.specs.Numeral.{IsInteger}
-use Rattle.oim_fast.proofs.Numerals.{front_is_numeral, with_power}
+use Rattle.oim_fast.proofs.Numerals.{digits_front, front_is_numeral, with_power}
 use Rattle.oim_fast.proofs.frame.numeral.numeral_len.Goals as goal
+
+pub returns-then-digits-len-clause-numeral : goal.returns-then-digits-len-clause-numeral
+returns-then-digits-len-clause-numeral c =
+    let text = c.args.text.now in
+    let there : AllDigits 10 (take c.args.len text) = subst (λ (n : ℕ). AllDigits 10 (take n text)) c.if-digits-len.true c.digits_len-digits.ensures.digits in
+    λ some. front_is_numeral c.args.kind (take c.args.len text) (digits_front c.args.kind text c.args.len (omega arith) some there)
 
 pub returns-then-front-eq0-clause-numeral : goal.returns-then-front-eq0-clause-numeral
 returns-then-front-eq0-clause-numeral c = λ some. front_is_numeral c.args.kind _ (c.front_len-front.ensures.numeral some)

@@ -6,5 +6,5 @@ use Rattle.oim_fast.proofs.frame.numeral.unsigned_len.Goals as goal
 
 pub returns-then-text-before-eq46-clause-shape : goal.returns-then-text-before-eq46-clause-shape
 returns-then-text-before-eq46-clause-shape c =
-    let after = subst (λ (l : List ℕ). AllDigits 10 (take c.digits_len-after.result l)) (take_rest c.args.text.now (c.digits_len-before.result + 1)) c.digits_len-after.ensures.digits in
-    pointed_there c.args.text.now c.digits_len-before.result c.digits_len-after.result (omega arith) c.if-text-before-eq46.true c.digits_len-before.ensures.digits after
+    let after = subst (λ (l : List ℕ). AllDigits 10 (take c.digits_len-after.result l)) (take_rest c.args.text.now (c.args.before + 1)) c.digits_len-after.ensures.digits in
+    pointed_there c.args.text.now c.args.before c.digits_len-after.result (omega arith) c.if-text-before-eq46.true c.requires.digits after
