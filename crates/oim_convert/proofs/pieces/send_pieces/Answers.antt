@@ -14,9 +14,9 @@ pub returns-in-Ok-clause-given : goal.returns-in-Ok-clause-given
 returns-in-Ok-clause-given g c =
     elim c.match-pieces.branch [
       | in-Some-1 w ↦ opened_given c.args.file.report.now c.args.file.table c.in-Ok.pieces.table c.args.file.limits.rows (g.R.Read.remaining c.args.file.reader)
-          c.in-Ok.pieces.left (facts_in c.send_opened.new.feed.sent) c.send_opened.result c.in-Ok.ensures.start c.in-Ok.ensures.stream
+          c.in-Ok.pieces.left (facts_in c.send_opened.new.feed.sent) c.send_opened.result c.in-Ok.ensures.start.0 c.in-Ok.ensures.stream
           c.send_opened.ensures.given
       | in-None-1 w ↦ opened_given c.args.file.report.now c.args.file.table c.in-Ok.pieces.table c.args.file.limits.rows (g.R.Read.remaining c.args.file.reader)
-          c.in-Ok.pieces.left (facts_in c.send_opened.new.feed.sent) c.send_opened.result c.in-Ok.ensures.start c.in-Ok.ensures.stream
+          c.in-Ok.pieces.left (facts_in c.send_opened.new.feed.sent) c.send_opened.result c.in-Ok.ensures.start.0 c.in-Ok.ensures.stream
           c.send_opened.ensures.given
     ]
