@@ -214,7 +214,7 @@ def metadata(folder: Path) -> None:
 
 def text(folder: Path) -> None:
     """A metadata that is no JSON, or too large."""
-    no_json = "this is not JSON in UTF-8, is nested more than 127 levels deep, or has a number past a double or half of a surrogate pair"
+    no_json = "this is not JSON in UTF-8, is over 127 levels deep, or a number passes a double"
     says(folder, "no JSON", {"r/m.json": '{"a":1,\n "b" 2}'}, "report: Syntax (1)", "r/m.json", "line 2, column 6", no_json)
     says(folder, "an empty file", {"r/m.json": ""}, "report: Syntax (1)", "r/m.json", "line 1, column 0", no_json)
     many = " " * (64 * 1024 * 1024) + json.dumps(REPORT)

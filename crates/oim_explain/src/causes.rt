@@ -163,9 +163,8 @@ fn of_size(keys: &[Text]) -> &'static str {
 /// What is wrong at the place of a fault, where this value stands.
 pub(crate) fn cause(fault: MetaFault, keys: &[Text], value: Option<&Value>) -> &'static str {
     match fault {
-        MetaFault::Syntax => {
-            "this is not JSON in UTF-8, is nested more than 127 levels deep, or has a number past a double or half of a surrogate pair"
-        }
+        MetaFault::Syntax =>
+            "this is not JSON in UTF-8, is over 127 levels deep, or a number passes a double",
         MetaFault::NotReport => of_document(value),
         MetaFault::BadNamespaces => of_namespaces(keys, value),
         MetaFault::BadTaxonomy => of_taxonomy(keys, value),
