@@ -1,7 +1,7 @@
 #!/usr/bin/env python3
 """Measures how the converter's time grows with a report, in one direction after another, beside plain Rust.
 
-    growth.py PROGRAM [PLAIN] [KIND..] [--runs 3] [--limit 60]
+    growth.py PROGRAM [PLAIN] [KIND..] [--fault table|metadata] [--runs 3] [--limit 60]
 
 PROGRAM is the built program's file, PLAIN that of plain Rust (`plain`, here), which is left out where there is none. Each
 kind of report is made twice, of the size n and of four times that, and grows in one direction only; without a KIND all are
@@ -14,6 +14,9 @@ Rust's. What grows with the size has a multiple of about 4, what grows with its 
 than the limit (in seconds of processor) is stopped, and one that takes more than a tenth of it is made once. The last column names the goals that are
 missed: `growth`, where 4 n takes more than 0.1 s and more than 5 times the time of n, and `plain`, where it takes more than
 0.9 of plain Rust's. Needs Linux.
+
+With --fault each report has one more thing, at its end: its last table a row of one cell too many, or its metadata a dimension that no
+taxonomy has. Then the run ends with that fault and explains it (`--explain`, `--faults`), and plain Rust has no part in it.
 """
 from __future__ import annotations
 
@@ -326,6 +329,16 @@ def rows(n: int) -> Report:
     return Report(made, [record.split(",", 1)[1] for record in generate.TYPES.split("\n")[1:-1]], {"t.csv": header + "".join(lines)})
 
 
+def spoilt(made: Report, place: str) -> Report:
+    """The report with a fault at its end, in its last table or in its metadata."""
+    if place == "metadata":
+        level = {**made.metadata.get("dimensions", {}), "b:nowhere": "x"}
+        return made._replace(metadata={**made.metadata, "dimensions": level})
+    name = max(made.files)
+    cells = made.files[name].split("\n", 1)[0].count(",") + 2
+    return made._replace(files={**made.files, name: made.files[name] + ",".join(["1"] * cells) + "\n"})
+
+
 def write(made: Report, folder: Path) -> list[str]:
     """Writes a report into a folder, and answers the words that convert it."""
     folder.mkdir()
@@ -339,13 +352,14 @@ def write(made: Report, folder: Path) -> list[str]:
 
 def run(command: list[str], limit: int) -> Optional[float]:
     """The seconds of processor of one run, or None where it took more than the limit and the system stopped it."""
-    process = subprocess.Popen(command, stdin=subprocess.DEVNULL, stdout=subprocess.DEVNULL)
+    wanted = 1 if "--explain" in command else 0
+    process = subprocess.Popen(command, stdin=subprocess.DEVNULL, stdout=subprocess.DEVNULL, stderr=subprocess.DEVNULL if wanted else None)
     resource.prlimit(process.pid, resource.RLIMIT_CPU, (limit, limit + 1))
     _, status, usage = os.wait4(process.pid, 0)
     process.returncode = os.waitstatus_to_exitcode(status)
     if process.returncode in (-signal.SIGXCPU, -signal.SIGKILL):
         return None
-    if process.returncode != 0:
+    if process.returncode != wanted:
         sys.exit(f"{' '.join(command)}: status {process.returncode}")
     return usage.ru_utime + usage.ru_stime
 
@@ -388,10 +402,15 @@ def missed(mine: list[Optional[float]], plain: list[Optional[float]]) -> str:
 def measured(name: str, programs: list[str], folder: Path, options: argparse.Namespace) -> str:
     """A kind's line."""
     make, n = KINDS[name]
-    sizes = [write(make(size), folder / str(size)) for size in (n, TIMES * n)]
+    reports = [make(size) for size in (n, TIMES * n)]
+    if options.fault:
+        reports = [spoilt(it, options.fault) for it in reports]
+    sizes = [write(it, folder / str(i)) for i, it in enumerate(reports)]
+    if options.fault:
+        sizes = [[*it, "--explain", "--faults", str(folder / "faults")] for it in sizes]
     taken = least([[program, *words] for program in programs for words in sizes], options.runs, options.limit)
     mine, plain = taken[:2], taken[2:]
-    if mine[0] is not None and not same(programs, sizes[0]):
+    if mine[0] is not None and not options.fault and not same(programs, sizes[0]):
         sys.exit(f"{name}: the documents differ")
     cells = [name, f"{n:,}"]
     for figures in (mine, plain):
@@ -404,6 +423,7 @@ def words() -> argparse.Namespace:
     parser = argparse.ArgumentParser(description=__doc__, formatter_class=argparse.RawDescriptionHelpFormatter)
     parser.add_argument("program", nargs="?")
     parser.add_argument("others", nargs="*", metavar="[PLAIN] [KIND..]")
+    parser.add_argument("--fault", choices=("table", "metadata"))
     parser.add_argument("--runs", type=int, default=3)
     parser.add_argument("--limit", type=int, default=60)
     parser.add_argument("--list", action="store_true", help="only names the kinds")
@@ -423,6 +443,8 @@ def main() -> None:
     unknown = [name for name in chosen if name not in KINDS]
     if unknown:
         sys.exit(f"no such kind: {', '.join(unknown)}")
+    if options.fault and plain:
+        sys.exit("plain Rust explains no faults")
     programs = [os.path.abspath(program) for program in [options.program, *plain]]
     columns = ["Kind", "n", "s", f"at {TIMES} n", "times"] + (["plain Rust s", f"at {TIMES} n", "times", "of plain Rust"] if plain else [])
     print("| " + " | ".join([*columns, "missed"]) + " |\n" + "|---" * (len(columns) + 1) + "|")
