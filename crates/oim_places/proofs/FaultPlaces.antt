@@ -1,6 +1,6 @@
 -- The fault of a table whose file is read again, and what stands at its place.
 use Rattle.std.proofs.Common.{◌≡◌, ◌∙◌, ◌⊎◌, ℕ, zero, suc, List, [], ◌∷◌, Option, Some, None, Result, Ok, Err, IfOk, IfSome, true, false, ap, inl, inr, refl, subst, sym, unwrap_or}
-use Rattle.std.specs.Prelude.{⊤}
+use Rattle.std.specs.Prelude.{⊤, ⊥}
 use Rattle.csv.specs.Records.{fields_of}
 use Rattle.oim_files.specs.Folders.{Files, IsFileOf, IsFolderOf}
 use Rattle.oim_files.specs.Metadata.{profile}
@@ -9,7 +9,8 @@ use Rattle.oim_records.specs.Grids.{Record, grid}
 use Rattle.oim_report.specs.ReportValue.{ReportValue}
 use Rattle.oim_resolve.specs.FactParts.{FactParts as Fact}
 use Rattle.oim_rows.specs.Header.{file_header_fault}
-use Rattle.oim_rows.specs.Streams.{GivesNext, IsOutside, Stream, ending, stream_of}
+use Rattle.oim_decode.specs.Blocks.{GivesBlock, ReadsRows}
+use Rattle.oim_rows.specs.Streams.{IsOutside, Stream, ending, stream_of}
 use Rattle.oim_rows.specs.declared.fault.TableFault.{TableFault}
 use Rattle.oim_places.specs.Reports.{IsReportOf}
 use Rattle.oim_places.specs.FaultPlaces.{FoundIn, HasRecordOf, HasRow, IsFaultOf, IsPlaceAt, IsRowAt, fault_in, field_in, is_of_file, row_at, unknown_place}
@@ -19,31 +20,48 @@ use Rattle.oim_places.specs.declared.records.RowAgain.{RowAgain}
 
 -- ---- the fault
 
--- the stream that is left has the fault of the file
+-- the stream that is left has the fault of the file, or one from outside the table
+abbrev pub IsFaultKept : ReportValue → ℕ → List ℕ → Option TableFault → Type 0
+IsFaultKept report table bytes fault = (fault ≡ fault_in report table bytes) ⊎ ((e : TableFault) × IsOutside table e × (fault ≡ Some e))
+
 abbrev pub KeepsFault : ReportValue → ℕ → Option (List ℕ) → Option Stream → Type 0
 KeepsFault report table None left = ⊤
 KeepsFault report table (Some bytes) None = ⊥
-KeepsFault report table (Some bytes) (Some s) = s.fault ≡ fault_in report table bytes
+KeepsFault report table (Some bytes) (Some s) = IsFaultKept report table bytes s.fault
 
 pub keeps_start : (report : ReportValue) (table limit : ℕ) (known : Option (List ℕ)) (left : Option Stream) → limit ≡ profile.rows
     → IfSome known (λ bytes. left ≡ Some (stream_of report table limit (grid bytes))) → KeepsFault report table known left
 keeps_start report table limit None left same is = tt
 keeps_start report table limit (Some bytes) left same is =
-    subst (KeepsFault report table (Some bytes)) (sym is) (ap (λ l. (stream_of report table l (grid bytes)).fault) same)
+    subst (KeepsFault report table (Some bytes)) (sym is) (inl (ap (λ l. (stream_of report table l (grid bytes)).fault) same))
 
-pub keeps_next : (report : ReportValue) (table at : ℕ) (known : Option (List ℕ)) (left after : Option Stream) (facts : List Fact) → KeepsFault report table known left
-    → IfSome left (λ s. GivesNext at s (Ok (Some facts)) after) → KeepsFault report table known after
-keeps_next report table at None left after facts keeps gives = tt
-keeps_next report table at (Some bytes) None after facts keeps gives = absurd keeps
-keeps_next report table at (Some bytes) (Some s) None facts keeps gives = absurd gives
-keeps_next report table at (Some bytes) (Some s) (Some rest) facts keeps gives = sym (ap (λ (x : Stream). x.fault) gives) ∙ keeps
+keeps_reads : (report : ReportValue) (table at : ℕ) (bytes : List ℕ) (s : Stream) (rows : List (List Fact)) (after : Option Stream) → at ≡ table
+    → IsFaultKept report table bytes s.fault → ReadsRows at s rows after → KeepsFault report table (Some bytes) after
+keeps_reads report table at bytes s rows None same kept reads = absurd reads
+keeps_reads report table at bytes s rows (Some rest) same kept (inl is) = subst (IsFaultKept report table bytes) is.1 kept
+keeps_reads report table at bytes s rows (Some rest) same kept (inr is) =
+    inr (is.1, subst (λ t. IsOutside t is.1) same is.2.0, ap (λ (x : Stream). x.fault) is.2.1)
 
-pub keeps_found : (report : ReportValue) (table at : ℕ) (known : Option (List ℕ)) (left after : Option Stream) (e : TableFault) → at ≡ table → KeepsFault report table known left
-    → IfSome left (λ s. GivesNext at s (Err e) after) → IfSome known (λ bytes. IsFaultOf report table bytes e)
-keeps_found report table at None left after e same keeps gives = tt
-keeps_found report table at (Some bytes) None after e same keeps gives = absurd keeps
-keeps_found report table at (Some bytes) (Some s) after e same keeps (inl outside) = inl (subst (λ t. IsOutside t e) same outside)
-keeps_found report table at (Some bytes) (Some s) after e same keeps (inr is) = inr (sym keeps ∙ ap (λ (x : Stream). x.fault) is)
+pub keeps_next : (report : ReportValue) (table at : ℕ) (known : Option (List ℕ)) (left after : Option Stream) (before pending : List Fact) (answer : Result (Option (List Fact)) TableFault)
+    → at ≡ table → KeepsFault report table known left → IfSome left (λ s. GivesBlock at before s answer pending after) → KeepsFault report table known after
+keeps_next report table at None left after before pending answer same keeps gives = tt
+keeps_next report table at (Some bytes) None after before pending answer same keeps gives = absurd keeps
+keeps_next report table at (Some bytes) (Some s) after before pending answer same keeps gives = keeps_reads report table at bytes s gives.rows after same keeps gives.reads
+
+found_kept : (report : ReportValue) (table : ℕ) (bytes : List ℕ) (e : TableFault) → IsFaultKept report table bytes (Some e) → IsFaultOf report table bytes e
+found_kept report table bytes e (inl is) = inr (sym is)
+found_kept report table bytes e (inr is) = inl (subst (IsOutside table) (let one : is.0 ≡ e = cc in one) is.1)
+
+found_after : (report : ReportValue) (table : ℕ) (bytes : List ℕ) (after : Option Stream) (e : TableFault) → after ≡ Some (ending (Some e))
+    → KeepsFault report table (Some bytes) after → IsFaultOf report table bytes e
+found_after report table bytes after e is keeps = found_kept report table bytes e (subst (KeepsFault report table (Some bytes)) is keeps)
+
+pub keeps_found : (report : ReportValue) (table at : ℕ) (known : Option (List ℕ)) (left after : Option Stream) (before pending : List Fact) (e : TableFault) → at ≡ table
+    → KeepsFault report table known left → IfSome left (λ s. GivesBlock at before s (Err e) pending after) → IfSome known (λ bytes. IsFaultOf report table bytes e)
+keeps_found report table at None left after before pending e same keeps gives = tt
+keeps_found report table at (Some bytes) None after before pending e same keeps gives = absurd keeps
+keeps_found report table at (Some bytes) (Some s) after before pending e same keeps gives =
+    found_after report table bytes after e gives.answers.1.0 (keeps_reads report table at bytes s gives.rows after same keeps gives.reads)
 
 refused : (report : ReportValue) (table limit : ℕ) (records : List Record) (e : TableFault) → file_header_fault report table records ≡ Some e
     → stream_of report table limit records ≡ ending (Some e)

@@ -7,8 +7,9 @@ ghost use Rattle.oim_records.specs.Reads.{TakesRecord};
 ghost use Rattle.oim_places.specs.FaultPlaces.{HasRow, IsFaultOf, TakesNth};
 
 use csv::ByteRecord;
+use oim_decode::TableBlocks;
 use oim_meta::{Limits, ReadFault, Records, Report};
-use oim_rows::{Rows, TableFault};
+use oim_rows::TableFault;
 use std::alloc::{AllocError, Global};
 use std::io::Read;
 
@@ -109,13 +110,15 @@ pub(crate) fn fault_again<R: Read + Drop>(
     ensures { IfSome (R.remaining reader) (λ bytes. IfSome result (IsFaultOf report.now table bytes)) }
 {
     let limits = Limits::profile();
-    let mut rows = match Rows::open(alloc, report, table, reader, limits) {
-        Ok(rows) => rows,
+    let mut blocks = match TableBlocks::open(alloc, report, table, reader, limits) {
+        Ok(blocks) => blocks,
         Err(fault) => return Some(fault),
     };
-    for _ in 0..u32::MAX {
-        match rows.next() {
-            Ok(Some(_)) => {}
+    let mut room = Vec::new(alloc);
+    // The bound is never reached: a table has fewer blocks.
+    for _ in 0..u64::MAX {
+        match blocks.next_block(room) {
+            Ok(Some(block)) => room = block.into_room(),
             Ok(None) => return None,
             Err(fault) => return Some(fault),
         }
