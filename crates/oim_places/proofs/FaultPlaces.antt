@@ -1,6 +1,6 @@
 -- The fault of a table whose file is read again, and what stands at its place.
 use Rattle.std.proofs.Common.{◌≡◌, ◌∙◌, ◌⊎◌, ℕ, zero, suc, List, [], ◌∷◌, Option, Some, None, Result, Ok, Err, IfOk, IfSome, true, false, ap, inl, inr, refl, subst, sym, unwrap_or}
-use Rattle.std.specs.Prelude.{⊤, ⊥}
+use Rattle.std.specs.Prelude.{⊤}
 use Rattle.csv.specs.Records.{fields_of}
 use Rattle.oim_files.specs.Folders.{Files, IsFileOf, IsFolderOf}
 use Rattle.oim_files.specs.Metadata.{profile}
@@ -40,7 +40,7 @@ keeps_reads : (report : ReportValue) (table at : ℕ) (bytes : List ℕ) (s : St
 keeps_reads report table at bytes s rows None same kept reads = absurd reads
 keeps_reads report table at bytes s rows (Some rest) same kept (inl is) = subst (IsFaultKept report table bytes) is.1 kept
 keeps_reads report table at bytes s rows (Some rest) same kept (inr is) =
-    inr (is.1, subst (λ t. IsOutside t is.1) same is.2.0, ap (λ (x : Stream). x.fault) is.2.1)
+    inr (is.1, subst (λ t. IsOutside t is.1) same is.2, ap (λ (x : Stream). x.fault) is.3)
 
 pub keeps_next : (report : ReportValue) (table at : ℕ) (known : Option (List ℕ)) (left after : Option Stream) (before pending : List Fact) (answer : Result (Option (List Fact)) TableFault)
     → at ≡ table → KeepsFault report table known left → IfSome left (λ s. GivesBlock at before s answer pending after) → KeepsFault report table known after
@@ -61,7 +61,7 @@ pub keeps_found : (report : ReportValue) (table at : ℕ) (known : Option (List 
 keeps_found report table at None left after before pending e same keeps gives = tt
 keeps_found report table at (Some bytes) None after before pending e same keeps gives = absurd keeps
 keeps_found report table at (Some bytes) (Some s) after before pending e same keeps gives =
-    found_after report table bytes after e gives.answers.1.0 (keeps_reads report table at bytes s gives.rows after same keeps gives.reads)
+    found_after report table bytes after e gives.answers.1 (keeps_reads report table at bytes s gives.rows after same keeps gives.reads)
 
 refused : (report : ReportValue) (table limit : ℕ) (records : List Record) (e : TableFault) → file_header_fault report table records ≡ Some e
     → stream_of report table limit records ≡ ending (Some e)
