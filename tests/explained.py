@@ -189,7 +189,7 @@ def says(folder: Path, name: str, files: Dict[str, Any], line: str, *places: str
     wanted = f"xbrl-json: {line}\n" + "".join(f"    {it}\n" for it in places)
     case(f"{name}: the line as ever", plain == (1, f"xbrl-json: {line}\n"), plain)
     case(name, explained == (1, wanted), explained[1], "wanted", wanted)
-    case(f"{name}: the sentence is no longer than 80", len(explained[1].split("\n")[3]) <= 80, explained[1])
+    case(f"{name}: the sentence is no longer than 80", len(explained[1].split("\n")[3].strip()) <= 80, explained[1])
 
 
 def edited(keys: Place, value: Any, report: Dict[str, Any] = REPORT) -> Dict[str, Any]:
