@@ -5,6 +5,17 @@ ghost use Rattle.std.specs.List.{list_all, prefix_len};
 ghost use Rattle.oim_names.specs.Names.{is_name_start as name_start, is_name_char as name_char, is_plain_char as plain_char, is_ncname as ncname};
 ghost use Rattle.oim_names.specs.Names.{is_identifier as identifier, is_row_identifier as row_identifier};
 
+// Each ASCII character that may stand in a name stands at its own place, and a comma at every other place.
+static NAME_BYTES: [u8; 256] = *b"\
+    ,,,,,,,,,,,,,,,,,,,,,,,,,,,,,,,,\
+    ,,,,,,,,,,,,,-.,0123456789,,,,,,\
+    ,ABCDEFGHIJKLMNOPQRSTUVWXYZ,,,,_\
+    ,abcdefghijklmnopqrstuvwxyz,,,,,\
+    ,,,,,,,,,,,,,,,,,,,,,,,,,,,,,,,,\
+    ,,,,,,,,,,,,,,,,,,,,,,,,,,,,,,,,\
+    ,,,,,,,,,,,,,,,,,,,,,,,,,,,,,,,,\
+    ,,,,,,,,,,,,,,,,,,,,,,,,,,,,,,,,";
+
 /// Whether a character may begin a name.
 #[tactic(auto, unfolding(crate::specs::Names::is_name_start))]
 #[inline(always)]
@@ -49,21 +60,20 @@ fn is_ascii_name_start(byte: u8) -> bool
 }
 
 /// Whether a byte is an ASCII character that may stand in a name.
-#[tactic(auto, unfolding(crate::specs::Names::is_name_start, crate::specs::Names::is_name_char))]
 #[inline(always)]
 fn is_ascii_name_char(byte: u8) -> bool
     ensures { result ≡ (nat_lt byte 128 && name_char byte) }
 {
-    matches!(byte, b'A'..=b'Z' | b'_' | b'a'..=b'z' | b'-' | b'.' | b'0'..=b'9')
+    NAME_BYTES[byte as usize] != b','
 }
 
 /// Whether a byte is an ASCII character that may stand in an identifier.
-#[tactic(auto, unfolding(crate::specs::Names::is_name_start, crate::specs::Names::is_name_char, crate::specs::Names::is_plain_char))]
+#[tactic(auto, unfolding(crate::specs::Names::is_plain_char))]
 #[inline(always)]
 fn is_ascii_plain_char(byte: u8) -> bool
     ensures { result ≡ (nat_lt byte 128 && plain_char byte) }
 {
-    matches!(byte, b'0'..=b'9') || matches!(byte, b'A'..=b'Z' | b'_' | b'a'..=b'z' | b'-')
+    is_ascii_name_char(byte) && byte != b'.'
 }
 
 /// Whether all bytes are ASCII characters that may stand in a name.
