@@ -1,5 +1,5 @@
 -- What is answered of a table in which an end or a fault was found, and what is left to read of it.
-use Rattle.std.proofs.Common.{◌≡◌, ◌⊎◌, ◌<◌, ◌≤◌, ◌-◌, ℕ, List, [], length, Option, Some, None, Ok, Err, IfSome, IsSome, refl, ap, subst, sym, ◌∙◌, inl, inr}
+use Rattle.std.proofs.Common.{◌≡◌, ◌⊎◌, ◌<◌, ◌≤◌, ◌-◌, ℕ, arith, drop, List, [], length, Option, Some, None, Ok, Err, IfSome, IsSome, refl, ap, subst, sym, ◌∙◌, inl, inr, length-drop}
 use Rattle.std.specs.Option.{is_some}
 use Rattle.oim_resolve.specs.FactParts.{FactParts as Fact}
 use Rattle.oim_rows.specs.Header.{file_fault}
@@ -71,7 +71,8 @@ module _ (old filled new : BlocksLeft) (again : IsSome old.answered → filled �
       (subst (λ (n : ℕ). IfSome old.unread (λ rs. IsBehind old.table rs (n - old.given) (Some (Some f)) filled.unread)) (sym given)
       (behind_short old.table (filled.given - old.given) old.unread filled.answered filled.unread f short so)))
 
--- a block has facts that waited, or rows were read
-pub moved : (before given : ℕ) (old filled : List Fact) → (before < given) ⊎ (filled ≡ old) → 1 ≤ length filled → (before < given) ⊎ (1 ≤ length old)
-moved before given old filled (inl more) some = inl more
-moved before given old filled (inr same) some = inr (subst (λ (fs : List Fact). 1 ≤ length fs) same some)
+-- a block takes facts from those that waited, so that fewer wait, or rows were read
+pub moved : (before given count : ℕ) (old filled new : List Fact) → (before < given) ⊎ (filled ≡ old) → 1 ≤ count → count ≤ length filled → new ≡ drop count filled
+    → (before < given) ⊎ (length new < length old)
+moved before given count old filled new (inl more) some there left = inl more
+moved before given count old filled new (inr same) some there left = inr (omega (arith, some, there, ap length left, length-drop count filled, ap length same))

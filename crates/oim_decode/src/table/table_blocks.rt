@@ -91,7 +91,8 @@ ghost use Rattle.oim_decode.specs.Blocks.{ReadsRows};
 impl<R: Read + Drop> TableBlocks<'_, R> {
     /// The next facts in header order and row by row, 1 to 256 of them, or None at the end. A block
     /// has whole rows where they fit, which no clause says. `room` is where further texts are put, and may be
-    /// that of an earlier block. After the end or a fault it answers the same again and takes no record.
+    /// that of an earlier block. With each block rows were read, at most as many as the limit, or fewer facts wait, so a table
+    /// without end ends too. After the end or a fault it answers the same again and takes no record.
     ///
     /// Fails, where the facts of all rows before were given, with the first fault of the first bad
     /// row, in this order: Ragged, NotUtf8, TooManyRows, MissingRowId, BadRowId, RepeatedRowId, then
@@ -107,7 +108,7 @@ impl<R: Read + Drop> TableBlocks<'_, R> {
         ensures found { KeepsFound self.old result self.new }
         ensures behind { self.old.answered ≡ None → ReadsBehind self.old self.new }
         ensures counts { (self.old.given ≤ self.new.given) × (self.new.given ≤ self.new.limit) }
-        ensures moves { IfOk result (λ o. OnSome o ((self.old.given < self.new.given) ⊎ (1 ≤ length self.old.pending))) }
+        ensures moves { IfOk result (λ o. OnSome o ((self.old.given < self.new.given) ⊎ (length self.new.pending < length self.old.pending))) }
 
         ensures same { (self.new.table ≡ self.old.table) × (self.new.limit ≡ self.old.limit) }
     {

@@ -1,6 +1,6 @@
 //! What the levels of a cell write, its dimensions and its decimals, and the fact that they give.
 
-ghost use Rattle.std.specs.Prelude.{◌≡◌, ◌<◌, ◌⊎◌, [], length, map, IfOk, Ok};
+ghost use Rattle.std.specs.Prelude.{◌≡◌, ◌<◌, ◌⊎◌, [], length, map, IfErr, IfOk, IsOk, Ok};
 ghost use Rattle.std.specs.Option.{option_map};
 ghost use Rattle.oim_cells.specs.Cells.{seen_meaning};
 ghost use Rattle.oim_resolve.specs.Facts.{concept_kind, fact_meaning, fact_of, rest_faults, stated};
@@ -23,6 +23,7 @@ use crate::fact::{CellFault, Fact};
 use crate::least::{both, lesser};
 use crate::plan::{PlannedDimension, decimals_in, put_entries};
 use crate::reading::fact_value;
+use crate::role::Role;
 use oim_names::{Items, Text};
 use oim_report::{Kind, Level, WrittenDecimals};
 use std::alloc::{AllocError, Global};
@@ -115,7 +116,8 @@ impl<'a> CellDimensions<'a> {
         kind: Kind,
         dimension: &PlannedDimension<'a>,
     ) -> Result<Result<Entry, CellFault>, AllocError>
-        ensures { IfOk result (λ r. r ≡ dimension_read (cell_at self.now.place) kind (seen_planned dimension.now)) }
+        ensures read { IfOk result (λ r. r ≡ dimension_read (cell_at self.now.place) kind (seen_planned dimension.now)) }
+        ensures early { IfErr result (λ _. ((dimension.now).role ≡ Role.Language) ⊎ IsOk (dimension_read (cell_at self.now.place) kind (seen_planned dimension.now))) }
     {
         if dimension.role.is_dropped(kind) {
             return Ok(Ok(None));

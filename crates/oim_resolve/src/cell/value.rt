@@ -1,6 +1,6 @@
 //! What the cell of a fact gives it, once it is read.
 
-ghost use Rattle.std.specs.Prelude.{◌≡◌, IfOk};
+ghost use Rattle.std.specs.Prelude.{◌≡◌, IfErr, IfOk, IsOk};
 ghost use Rattle.std.specs.Option.{option_and_then};
 ghost use Rattle.oim_cells.specs.Cells.{seen_meaning};
 ghost use Rattle.oim_resolve.specs.Facts.{decimals_read, places};
@@ -47,7 +47,8 @@ pub(crate) fn text_of(
     alloc: Global,
     reading: Result<FactValue<'_>, CellFault>,
 ) -> Result<Result<Option<Text>, CellFault>, AllocError>
-    ensures { IfOk result (λ r. r ≡ text_read (seen_reading reading.entry)) }
+    ensures text { IfOk result (λ r. r ≡ text_read (seen_reading reading.entry)) }
+    ensures early { IfErr result (λ _. IsOk (seen_reading reading.entry)) }
 {
     match reading {
         Ok(

@@ -1,6 +1,6 @@
 //! The value of one dimension of a fact.
 
-ghost use Rattle.std.specs.Prelude.{◌≡◌, IfOk, Some, Ok, Err, if◌then◌else◌};
+ghost use Rattle.std.specs.Prelude.{◌≡◌, ◌⊎◌, IfErr, IfOk, IsOk, Some, Ok, Err, true, if◌then◌else◌};
 ghost use Rattle.std.specs.Option.{option_map};
 ghost use Rattle.oim_period.specs.Reads.{reading_of};
 ghost use Rattle.oim_cells.specs.Cells.{seen_meaning, Text as a_text};
@@ -35,7 +35,8 @@ fn read_period(
     side: Side,
     text: &str,
 ) -> Result<Result<Entry, CellFault>, AllocError>
-    ensures { IfOk result (λ r. r ≡ value_read report.now role.Period side (a_text text.now)) }
+    ensures value { IfOk result (λ r. r ≡ value_read report.now role.Period side (a_text text.now)) }
+    ensures early { IfErr result (λ _. IsOk (value_read report.now role.Period side (a_text text.now))) }
 {
     let Some(period) = read(text) else {
         return Ok(Err(CellFault::BadPeriod));
@@ -48,7 +49,8 @@ fn read_period(
 
 /// A text as it stands, where it has the form that its dimension asks for.
 fn taken(alloc: Global, has_form: bool, text: &str) -> Result<Result<Entry, CellFault>, AllocError>
-    ensures { IfOk result (λ r. r ≡ if has_form then Ok (Some (Some text.now)) else Err CellFault.BadValue) }
+    ensures value { IfOk result (λ r. r ≡ if has_form then Ok (Some (Some text.now)) else Err CellFault.BadValue) }
+    ensures early { IfErr result (λ _. has_form ≡ true) }
 {
     if has_form {
         Ok(Ok(Some(Some(Text::from_str(alloc, text)?))))
@@ -64,7 +66,8 @@ fn read_text(
     side: Side,
     text: &str,
 ) -> Result<Result<Entry, CellFault>, AllocError>
-    ensures { IfOk result (λ r. r ≡ value_read report.now role side (a_text text.now)) }
+    ensures value { IfOk result (λ r. r ≡ value_read report.now role side (a_text text.now)) }
+    ensures early { IfErr result (λ _. (role ≡ Role.Language) ⊎ IsOk (value_read report.now role side (a_text text.now))) }
 {
     let namespaces = report.namespaces();
     match role {
@@ -86,7 +89,8 @@ fn read_text(
 
 /// What a dimension that is not dropped gives a fact, or the least fault of its value. An absent value and a pure
 /// unit give nothing, a period the written form of its side, a language its text in lower case, and any other its text.
-/// The outer error comes only if memory runs out. (xBRL-CSV 1.0, dimensions; Open Information Model 1.0)
+/// The outer error comes only if memory runs out, and then the value has no fault, unless it is a language.
+/// (xBRL-CSV 1.0, dimensions; Open Information Model 1.0)
 ///
 /// - `UnknownSpecial`: it begins with a single `#` and is not a special value;
 /// - `BadReference`: it is nil or empty, and the dimension is not typed;
@@ -100,7 +104,8 @@ pub fn read_value(
     side: Side,
     value: CellMeaning<'_>,
 ) -> Result<Result<Entry, CellFault>, AllocError>
-    ensures { IfOk result (λ r. r ≡ value_read report.now role side (seen_meaning value.entry)) }
+    ensures value { IfOk result (λ r. r ≡ value_read report.now role side (seen_meaning value.entry)) }
+    ensures early { IfErr result (λ _. (role ≡ Role.Language) ⊎ IsOk (value_read report.now role side (seen_meaning value.entry))) }
 {
     match value {
         CellMeaning::Absent => Ok(Ok(None)),

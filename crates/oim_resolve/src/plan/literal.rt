@@ -1,6 +1,6 @@
 //! A literal, read beforehand.
 
-ghost use Rattle.std.specs.Prelude.{◌≡◌, IfOk};
+ghost use Rattle.std.specs.Prelude.{◌≡◌, IfErr, IfOk, IsOk};
 ghost use Rattle.std.specs.Option.{option_map};
 ghost use Rattle.oim_cells.specs.Cells.{seen_meaning};
 ghost use Rattle.oim_resolve.specs.ProgramPlan.{literal_in, literal_of};
@@ -65,7 +65,8 @@ impl Literal {
 
     /// What it gives a fact, or what is wrong with it.
     pub(crate) fn read(&self) -> Result<Result<Entry, CellFault>, AllocError>
-        ensures { IfOk result (λ r. r ≡ (self.now).value) }
+        ensures value { IfOk result (λ r. r ≡ (self.now).value) }
+        ensures early { IfErr result (λ _. IsOk (self.now).value) }
     {
         match &self.value {
             Ok(entry) => Ok(Ok(entry.clone()?)),

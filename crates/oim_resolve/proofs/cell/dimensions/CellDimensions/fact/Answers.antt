@@ -12,7 +12,7 @@ fact_with-requires c =
     let k = c.args.value.kind in
     let dimensions = c.in_ok-dimensions.ensures ∙ ap (dimensions_of cell k) c.args.self.now.all.entries_are ∙ row_read cell k in
     let together = read_together cell k _ _ c.suffix_of.result _ _ _ _ _ c.both-2.result c.requires.meaning c.fact_value-reading.ensures c.suffix_of.ensures
-    c.stated.ensures dimensions c.decimals-decimals.ensures c.in_ok-text.ensures c.both.ensures c.both-2.ensures in
+    c.stated.ensures dimensions c.decimals-decimals.ensures c.in_ok-text.ensures.text c.both.ensures c.both-2.ensures in
     given_ascends cell k c.in-Ok.given c.both-2.result c.in-Ok.is together
 
 pub returns : goal.returns
@@ -21,7 +21,7 @@ returns c =
     let k = c.args.value.kind in
     let dimensions = c.in_ok-dimensions.ensures ∙ ap (dimensions_of cell k) c.args.self.now.all.entries_are ∙ row_read cell k in
     let together = read_together cell k _ _ c.suffix_of.result _ _ _ _ _ c.both-2.result c.requires.meaning c.fact_value-reading.ensures c.suffix_of.ensures
-    c.stated.ensures dimensions c.decimals-decimals.ensures c.in_ok-text.ensures c.both.ensures c.both-2.ensures in
+    c.stated.ensures dimensions c.decimals-decimals.ensures c.in_ok-text.ensures.text c.both.ensures c.both-2.ensures in
     inr (ap Ok c.fact_with.ensures ∙ fact_whole cell k _ c.in-Ok.given c.both-2.result c.requires.kind c.in_ok-id.ensures c.in-Ok.is together)
 
 pub returns-in-Err : goal.returns-in-Err
@@ -30,5 +30,5 @@ returns-in-Err c =
     let k = c.args.value.kind in
     let dimensions = c.in_ok-dimensions.ensures ∙ ap (dimensions_of cell k) c.args.self.now.all.entries_are ∙ row_read cell k in
     let together = read_together cell k _ _ c.suffix_of.result _ _ _ _ _ c.both-2.result c.requires.meaning c.fact_value-reading.ensures c.suffix_of.ensures
-    c.stated.ensures dimensions c.decimals-decimals.ensures c.in_ok-text.ensures c.both.ensures c.both-2.ensures in
+    c.stated.ensures dimensions c.decimals-decimals.ensures c.in_ok-text.ensures.text c.both.ensures c.both-2.ensures in
     inr (fact_fault cell k c.in-Err.fault c.both-2.result c.in-Err.is together)
