@@ -41,7 +41,7 @@ AT = re.compile(r"(?:note: )?(?:\./)?((?:src|proofs)/\S+?):(\d+):\d+: (.*)")
 NOT_PROVED = r"fn {}::\S+: (not proved|no proof)"
 OF_CRATE = re.compile(r"(?:fn|struct|enum|trait|impl) (\w+)::")
 # A proof file that names what the edit took away: such a refusal says little of the contract.
-LOST = re.compile(r"has no field|is not in scope|has no `|was not admitted")
+LOST = re.compile(r"has no field|is not in scope|has no `|was not admitted|: (?:record|module) `\S+`(?: \(nearest: .*\))?$")
 # What the check says once each function has its line: the search for what might be written into the proof files.
 AFTER = re.compile(r"offer|help: write|`search`|logic=|statements ")
 # The text could not be compiled or read, so no contract was tried.
@@ -219,11 +219,12 @@ def own_line(crate: str, place: Place, said: list[str]) -> str | None:
 
 
 def reason(crate: str, places: set[Place], texts: Texts, said: list[str]) -> str | None:
-    """The first reason that the check gives at these functions, better one that speaks of the contract, or None."""
+    """The first reason that the check gives at these functions, better one that speaks of the contract, or None. A note that stands at a line
+    of a proof file is advice, and says nothing of whether it is a proof."""
     weak = None
     for line in said:
         at = AT.match(line)
-        if not at or not any(is_own(it, texts, at[1], int(at[2])) for it in places):
+        if not at or at[3].startswith("note: ") or not any(is_own(it, texts, at[1], int(at[2])) for it in places):
             continue
         found = f"{at[1]}:{at[2]}: {at[3][:120]}"
         if not (at[1].startswith("proofs/") and LOST.search(at[3])):
