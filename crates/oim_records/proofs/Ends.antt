@@ -6,7 +6,7 @@ use Rattle.std.proofs.lemmas.List.{get_or-drop, length-drop}
 use Rattle.std.proofs.lemmas.List.Sums.{prefix_len_is}
 use native.Mathlib.Decide.{dec_lt}
 use Rattle.oim_records.specs.Bytes.{ends_field, joins_field}
-use Rattle.oim_records.specs.Fields.{IsReadTo}
+use Rattle.oim_records.specs.Fields.{HasField, IsReadTo}
 use Rattle.oim_records.specs.declared.field.FieldRange.{FieldRange}
 use Rattle.oim_records.proofs.FieldReads.{plain-field}
 use Rattle.oim_records.proofs.RecordReads.{comma-reads, field-pushed}
@@ -15,6 +15,7 @@ use Rattle.oim_records.proofs.RecordReads.{comma-reads, field-pushed}
 pub record AreEnds (xs : List ℕ) (at done m : ℕ) : Type 0 where
   pub set : (k : ℕ) → k < 64 → done ≤ at + k → ends_field (get_or xs (at + k) 0) ≡ true → bit_at m k ≡ 1
   pub within : (k : ℕ) → bit_at m k ≡ 1 → (k < 64) × (done ≤ at + k)
+  pub alone : (k : ℕ) → bit_at m k ≡ 1 → ends_field (get_or xs (at + k) 0) ≡ true
 
 pub ends-next : (xs : List ℕ) (at behind m n mark : ℕ) → AreEnds xs at behind m → bit_at m mark ≡ 1 → bit_at n mark ≡ 0
     → ((k : ℕ) → k < mark → bit_at m k ≡ 0) → ((k : ℕ) → k < 64 → k ≢ mark → bit_at n k ≡ bit_at m k) → ((k : ℕ) → bit_at n k ≡ 1 → bit_at m k ≡ 1)
@@ -29,6 +30,7 @@ ends-next xs at behind m n mark marks one cleared below kept more =
           let in_m = more k e in
           let b = (marks.within k in_m).0 in
           (b, above k e in_m);
+      alone = λ k e. marks.alone k (more k e);
     }
   where
     above : (k : ℕ) → bit_at n k ≡ 1 → bit_at m k ≡ 1 → at + mark + 1 ≤ at + k
@@ -71,14 +73,19 @@ ends-first xs at start m mark marks low one below room end =
         let same : start + k ≡ at + (start + k - at) = omega arith in
         ap joins_field (get_or-drop start xs k 0 ∙ ap (λ i. get_or xs i 0) same) ∙ by (start + k - at) (omega arith) (omega arith) (ends_field (get_or xs (at + (start + k - at)) 0)) refl
 
--- one field more that has no quotes and ends with a comma
+-- one field more that has no quotes
+pub plain-ends : (old now : List ℕ) (ranges pushed : List FieldRange) (first start stop : ℕ) → get_or now start 0 ≢ 34 → stop ≡ start + prefix_len joins_field (drop start now)
+    → pushed ≡ ranges ++ (record { start = start; end = stop } ∷ []) → IsReadTo old now ranges first start → HasField old now pushed first stop
+plain-ends old now ranges pushed first start stop other e p h =
+    let low : start ≤ stop = omega arith in
+    let range : FieldRange = record { start = start; end = stop } in
+    field-pushed old now now ranges pushed range first start stop h (plain-field now start stop (λ some. other) e) (low, omega arith) low refl refl p
+
+-- the same, where it ends with a comma
 pub plain-read : (old now : List ℕ) (ranges pushed : List FieldRange) (first start stop : ℕ) → get_or now start 0 ≢ 34 → stop ≡ start + prefix_len joins_field (drop start now) → stop < length now
     → get_or now stop 0 ≡ 44 → pushed ≡ ranges ++ (record { start = start; end = stop } ∷ []) → IsReadTo old now ranges first start → IsReadTo old now pushed first (stop + 1)
 plain-read old now ranges pushed first start stop other e lt comma p h =
-    let low : start ≤ stop = omega arith in
     let a = length-drop start now in
     let b = length-drop start old in
     let c = ap (λ (xs : List ℕ). length xs) h.behind in
-    let range : FieldRange = record { start = start; end = stop } in
-    let f = field-pushed old now now ranges pushed range first start stop h (plain-field now start stop (λ some. other) e) (low, omega arith) low refl refl p in
-    comma-reads old now pushed first stop f (omega arith) comma
+    comma-reads old now pushed first stop (plain-ends old now ranges pushed first start stop other e p h) (omega arith) comma

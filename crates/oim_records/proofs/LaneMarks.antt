@@ -1,5 +1,5 @@
 -- The bits of a mask of 64 bytes.
-use Rattle.std.proofs.Common.{◌≡◌, ℕ, ◌+◌, ◌<◌, Bool, true, false, cond, List, map, take, drop, get_or, ap, subst, ◌∙◌, arith}
+use Rattle.std.proofs.Common.{◌≡◌, ℕ, ◌+◌, ◌<◌, Bool, true, false, cond, List, map, take, drop, get_or, ap, subst, sym, refl, ◌∙◌, arith}
 use Rattle.std.specs.Int.{bit_at}
 use Rattle.std.specs.Simd.Lanes.{mask_l}
 use Rattle.std.proofs.lemmas.List.{get_or-drop, get_or-take, get_or_past, length-take}
@@ -28,3 +28,14 @@ bit-within p none s at m k is one =
           let zero : bit_at m k ≡ 0 = ap (λ n. bit_at n k) is ∙ bit-of p none v k ∙ ap (λ x. cond (p x) 1 0) over ∙ ap (λ b. cond b 1 0) none in
           absurd (omega arith)
     ]
+
+-- a byte whose bit is set passes the test
+pub bit-alone : (p : ℕ → Bool) → p 0 ≡ false → (s : List ℕ) (at m k : ℕ) → m ≡ mask_l (map p (take 64 (drop at s))) → bit_at m k ≡ 1 → p (get_or s (at + k) 0) ≡ true
+bit-alone p none s at m k is one =
+    let v = take 64 (drop at s) in
+    let here : get_or v k 0 ≡ get_or s (at + k) 0 = get_or-take 64 (drop at s) k 0 (bit-within p none s at m k is one) ∙ get_or-drop at s k 0 in
+    passed (p (get_or s (at + k) 0)) (sym (ap (λ n. bit_at n k) is ∙ bit-of p none v k ∙ ap (λ x. cond (p x) 1 0) here) ∙ one)
+  where
+    passed : (b : Bool) → ◌≡◌ {A = ℕ} (cond b 1 0) 1 → b ≡ true
+    passed true e = refl
+    passed false e = absurd (omega (arith, e))

@@ -1,7 +1,6 @@
-use Rattle.std.proofs.Common.{◌+◌, ap, arith}
+use Rattle.std.proofs.Common.{◌+◌, arith}
 use Rattle.oim_records.specs.Bits.{IsLowest}
-use Rattle.oim_records.specs.Bytes.{ends_field}
-use Rattle.oim_records.proofs.Ends.{ends-first, ends-next, plain-read}
+use Rattle.oim_records.proofs.Ends.{ends-first, ends-next, plain-ends, plain-read}
 use Rattle.oim_records.proofs.record.read_plain.Goals as goal
 
 pub loop-left-preserved : goal.loop-left-preserved
@@ -14,10 +13,20 @@ loop-left-preserved c =
     let lowest : IsLowest c.loop-left.left mark = (c.lowest-mark.ensures.set, c.lowest-mark.ensures.below) in
     let here = i.marks.within mark c.lowest-mark.ensures.set in
     let comma = c.if-text-stop-ne44.false in
-    let end = ends-first xs from start c.loop-left.left mark i.marks i.low c.lowest-mark.ensures.set c.lowest-mark.ensures.below (omega arith) (ap ends_field comma) in
+    let end = ends-first xs from start c.loop-left.left mark i.marks i.low c.lowest-mark.ensures.set c.lowest-mark.ensures.below (omega arith) (i.marks.alone mark c.lowest-mark.ensures.set) in
     record {
       fields = λ old first h. plain-read old xs c.loop-left.ranges.items c.push.new.self.items first start (from + mark) c.if-text-start-eq34.false end (omega arith) comma c.in_ok-push.ensures.items (i.fields old first h);
       low = omega arith;
       high = omega arith;
       marks = ends-next xs from start c.loop-left.left c.without_lowest-left.result mark i.marks c.lowest-mark.ensures.set (c.without_lowest-left.ensures.cleared mark lowest) c.lowest-mark.ensures.below (λ k small. c.without_lowest-left.ensures.kept mark lowest k) c.without_lowest-left.ensures.no_more;
     }
+
+pub returns-then-text-stop-ne44-clause-last : goal.returns-then-text-stop-ne44-clause-last
+returns-then-text-stop-ne44-clause-last c =
+    let i = c.loop-left.invariant in
+    let xs = c.args.text.now in
+    let from = c.args.from in
+    let start = c.loop-left.start in
+    let mark = c.lowest-mark.result in
+    let end = ends-first xs from start c.loop-left.left mark i.marks i.low c.lowest-mark.ensures.set c.lowest-mark.ensures.below (omega arith) (i.marks.alone mark c.lowest-mark.ensures.set) in
+    λ _ old first h. plain-ends old xs c.loop-left.ranges.items c.push.new.self.items first start (from + mark) c.if-text-start-eq34.false end c.in_ok-push.ensures.items (i.fields old first h)
