@@ -31,9 +31,13 @@ value_or empty (Err f) = empty
 abbrev pub types_at : Files → List ℕ → Result TypesValue MetaFault
 types_at files types = types_result (grid (bytes_at files types))
 
--- the URL of the parameters file, if the metadata has one
+-- the URL of the parameters file, if a metadata of these bytes has one
+abbrev pub url_of : List ℕ → Result (Option (List ℕ)) MetaFault
+url_of bytes = url_result profile bytes
+
+-- the same of the metadata at a path
 abbrev pub url_at : Files → List ℕ → Result (Option (List ℕ)) MetaFault
-url_at files meta = url_result profile (bytes_at files meta)
+url_at files meta = url_of (bytes_at files meta)
 
 -- the parameters, or none if no file is named
 abbrev pub parameters_at : Files → List ℕ → Option (List ℕ) → Result ParametersValue MetaFault

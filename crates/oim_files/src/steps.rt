@@ -5,8 +5,8 @@ ghost use Rattle.std.specs.Prelude.{◌≡◌, ◌≢◌, ◌⊎◌, ◌+◌, �
 ghost use Rattle.std.specs.IoError.{error_kind};
 ghost use Rattle.serde_json.specs.View.{view};
 ghost use Rattle.oim_meta.specs.Reading.{Reads};
-ghost use Rattle.oim_files.specs.Metadata.{profile, report_in as said_in, url_result};
-ghost use Rattle.oim_files.specs.Steps.{IsAmong, IsReport, Takes, bytes_at, looking, metadata_steps, opening, parameters_at, parameters_steps, types_at, types_steps};
+ghost use Rattle.oim_files.specs.Metadata.{profile, report_in as said_in};
+ghost use Rattle.oim_files.specs.Steps.{IsAmong, IsReport, Takes, bytes_at, looking, metadata_steps, opening, parameters_at, parameters_steps, types_at, types_steps, url_of};
 ghost use Rattle.oim_files.specs.declared.early_fault.EarlyFault.TheVariants as early;
 ghost use Rattle.oim_files.specs.declared.early_fault.Source.TheVariants as source;
 ghost use Rattle.oim_entries.specs.declared.fault.MetaFault.TheVariants as refused;
@@ -170,7 +170,7 @@ fn text_of(string: Option<String>) -> Option<Text>
 
 /// The URL of the parameters file, if the metadata has one.
 pub fn url_in(alloc: Global, metadata: &[u8]) -> Result<Option<Text>, EarlyFault>
-    ensures gives { Takes (looking (url_result profile metadata.now) ∷ []) (λ u. url_result profile metadata.now ≡ Ok u) result }
+    ensures gives { Takes (looking (url_of metadata.now) ∷ []) (λ u. url_of metadata.now ≡ Ok u) result }
 {
     match parameter_url(alloc, metadata, &Limits::profile()) {
         Ok(url) => Ok(text_of(url)),
@@ -180,7 +180,7 @@ pub fn url_in(alloc: Global, metadata: &[u8]) -> Result<Option<Text>, EarlyFault
 
 /// The metadata that has these bytes, and the URL of its parameters file, if it has one. The bytes are let go.
 fn metadata_in(alloc: Global, bytes: Vec<u8>) -> Result<(Metadata, Option<Text>), EarlyFault>
-    ensures gives { Takes (looking (url_result profile bytes.items) ∷ []) (λ m. Reads profile bytes.items (view m.0) × (url_result profile bytes.items ≡ Ok m.1)) result }
+    ensures gives { Takes (looking (url_of bytes.items) ∷ []) (λ m. Reads profile bytes.items (view m.0) × (url_of bytes.items ≡ Ok m.1)) result }
 {
     let metadata = match Metadata::read(alloc, bytes.as_slice(), &Limits::profile()) {
         Ok(metadata) => metadata,

@@ -26,15 +26,15 @@ pub struct Block {
 }
 
 impl Model for Block {
-    ghost use Rattle.std.specs.Prelude.{◌≡◌, ◌≤◌, List, length};
+    ghost use Rattle.std.specs.Prelude.{List};
     ghost use Rattle.oim_resolve.specs.FactParts.{FactParts};
-    ghost use Rattle.oim_json.specs.Blocks.{behind_commas, ends_from};
+    ghost use Rattle.oim_json.specs.Blocks.{IsBlockOf};
 
     ghost Value = { List FactParts };
 
     ghost view = { λ b. b.facts.value };
 
-    ghost invariant = { λ b. (b.bytes.items ≡ behind_commas b.facts.value) × (b.ends.items ≡ ends_from 0 b.facts.value) × (1 ≤ length b.facts.value) × (length b.facts.value ≤ 256) };
+    ghost invariant = { λ b. IsBlockOf b.bytes.items b.ends.items b.facts.value };
 }
 
 /// Tells the facts that it lends.

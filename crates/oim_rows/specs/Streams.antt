@@ -98,6 +98,10 @@ GivesNext table s (Ok (Some facts)) (Some rest) = s ≡ row_in_front (Ok facts) 
 GivesNext table s (Ok None) after = s ≡ ending None
 GivesNext table s (Err e) after = IsOutside table e ⊎ (s ≡ ending (Some e))
 
+-- row n is read: the identifiers before and after it, the records from it on and behind it
+abbrev pub GivesRow : Reading → ℕ → (before after : List Field) → List Record → Result (Option (List Fact)) TableFault → Option (List Record) → Type 0
+GivesRow g n before after rs result left = GivesNext g.table (stream_from g n before rs) result (option_map (stream_from g (n + 1) after) left)
+
 -- what is answered again after an answer
 abbrev pub kept_answer : Result (Option (List Fact)) TableFault → Option (Option TableFault)
 kept_answer (Ok (Some facts)) = None

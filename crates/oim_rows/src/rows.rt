@@ -4,7 +4,7 @@ ghost use Rattle.std.specs.Prelude.{◌≡◌, ◌⊎◌, ◌≤◌, ◌<◌, �
 ghost use Rattle.oim_records.specs.Grids.{grid};
 ghost use Rattle.oim_rows.specs.Header.{file_header_fault};
 ghost use Rattle.oim_rows.specs.RowFacts.{id_place_of, ids_after, row_result};
-ghost use Rattle.oim_rows.specs.Streams.{GivesNext, IsOutside, OrNoMemory, answer_of, early_row_answer, row_answer, kept_answer, stream_from, stream_of};
+ghost use Rattle.oim_rows.specs.Streams.{GivesNext, GivesRow, IsOutside, OrNoMemory, answer_of, early_row_answer, row_answer, kept_answer, stream_from, stream_of};
 ghost use Rattle.oim_rows.specs.WholeTable.{IsTableStream};
 
 use crate::decoder::Decoder;
@@ -97,7 +97,7 @@ fn read_row<R: Read + Drop>(
     ids: &mut RowIds,
     number: u32,
 ) -> Result<Option<RowFacts>, TableFault>
-    ensures next { IfSome records.old.left (λ rs. GivesNext (decoder.now).table (stream_from decoder.now number ids.old rs) result (option_map (stream_from decoder.now (number + 1) ids.new) records.new.left)) }
+    ensures next { IfSome records.old.left (λ rs. GivesRow decoder.now number ids.old ids.new rs result records.new.left) }
     ensures same { OnErr result (ids.new ≡ ids.old) }
     ensures within { IfOk result (λ o. OnSome o (number ≤ (decoder.now).limit)) }
 {
