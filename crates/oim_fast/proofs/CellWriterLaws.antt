@@ -1,5 +1,5 @@
 -- What is ready for the cells of a table's rows, and what is written of a cell.
-use Rattle.std.proofs.Common.{◌≡◌, ◌⊎◌, inl, inr, ◌<◌, ◌^◌, ℕ, zero, suc, Bool, true, false, List, [], ◌∷◌, ◌++◌, length, map, set, get_or, Option, Some, None, IfSome, Result, Ok, Err, codes, refl, sym, ap, subst, ◌∙◌, arith, append-nil, append_assoc}
+use Rattle.std.proofs.Common.{◌≡◌, ◌⊎◌, inl, inr, ◌<◌, ◌^◌, ℕ, suc, Bool, true, false, List, [], ◌∷◌, ◌++◌, length, map, set, get_or, Option, Some, None, IfSome, Result, Ok, Err, sym, ap, subst, ◌∙◌, arith, append-nil, append_assoc}
 use Rattle.std.specs.List.{All, list_all, slice_get}
 use Rattle.std.specs.Prelude.{if◌then◌else◌}
 use Rattle.std.proofs.lemmas.List.{get_or-map, length-map}
@@ -10,7 +10,7 @@ use Rattle.oim_report.specs.ReportValue.{ReportValue}
 use Rattle.oim_report.specs.declared.data.Level.{Level}
 use Rattle.oim_report.specs.declared.data.WrittenDecimals.{WrittenDecimals}
 use Rattle.oim_report.specs.declared.kind.Kind.{Kind}
-use Rattle.oim_resolve.specs.FactValues.{text_in, value_given}
+use Rattle.oim_resolve.specs.FactValues.{text_in}
 use Rattle.oim_resolve.specs.Facts.{cell_result, fact_meaning, fact_of, is_absent, is_dropped, is_numeric}
 use Rattle.oim_resolve.specs.Written.{levels}
 use Rattle.oim_rows.specs.RowFacts.{Reading, field_or_empty}
@@ -28,7 +28,7 @@ use Rattle.oim_fast.specs.Frames.{AreFrameDecimals, IsTextOf, no_dimensions, wit
 use Rattle.oim_fast.specs.KeptFrames.{IsTextFor}
 use Rattle.oim_fast.specs.Parts.{IsPart, IsPartValue}
 use Rattle.oim_fast.specs.References.{IsFresh, Key, ReferenceValue, key_of}
-use Rattle.oim_fast.specs.Rows.{RowValue, cell_in, column_in, columns_in}
+use Rattle.oim_fast.specs.Rows.{RowValue, cell_in, column_in}
 use Rattle.oim_fast.specs.declared.frame.fact_column.FactColumn.{FactColumn}
 use Rattle.oim_fast.specs.declared.frame.frame_decimals.FrameDecimals.{FrameDecimals}
 use Rattle.oim_fast.specs.declared.frame.frame_decimals.FrameDecimals.TheVariants as decimals

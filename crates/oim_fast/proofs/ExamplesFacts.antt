@@ -1,5 +1,5 @@
 -- Worked cases of what is written of one fact.
-use Rattle.std.proofs.Common.{◌≡◌, true, false, List, ℕ, [], ◌++◌, Some, None, codes, refl}
+use Rattle.std.proofs.Common.{◌≡◌, true, false, [], Some, None, codes, refl}
 use Rattle.oim_cells.specs.declared.cells.Accuracy.TheVariants as accuracy
 use Rattle.oim_cells.specs.declared.cells.NumberKind.TheVariants as number
 use Rattle.oim_json.specs.JsonText.{decimals_text, value_text}

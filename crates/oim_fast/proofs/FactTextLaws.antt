@@ -1,5 +1,5 @@
 -- The text of a fact, from what stands in its frame.
-use Rattle.std.proofs.Common.{◌≡◌, ◌<◌, ◌≤◌, ◌+◌, ◌-◌, ◌*◌, ℕ, zero, suc, Bool, true, false, not, nat_lt, ◌==◌, ◌&&◌, ◌||◌, List, [], ◌∷◌, ◌++◌, length, take, drop, map, get_or, Option, Some, None, codes, is_none, refl, sym, ap, subst, ◌∙◌, arith, append_assoc, append-nil, length-append, length-take-le, length-drop, take-add, take-append-drop, drop-drop}
+use Rattle.std.proofs.Common.{◌≡◌, ◌<◌, ◌≤◌, ◌+◌, ◌-◌, ◌*◌, ℕ, zero, suc, Bool, true, false, not, nat_lt, ◌==◌, ◌&&◌, ◌||◌, List, [], ◌∷◌, ◌++◌, length, take, drop, Option, Some, None, codes, is_none, refl, sym, ap, subst, ◌∙◌, arith, append_assoc, length-append, length-take-le, length-drop, take-add, take-append-drop, drop-drop}
 use Rattle.std.specs.Prelude.{ℤ, MatchOption, if◌then◌else◌, slice_range}
 use Rattle.std.specs.Fmt.{signed_decimal}
 use Rattle.std.specs.List.{All, flat_map, sum_by}
@@ -10,7 +10,7 @@ use Rattle.oim_cells.specs.declared.cells.Accuracy.{Accuracy}
 use Rattle.oim_json.specs.JsonText.{decimals_text, escaped_byte, quoted, value_text}
 use Rattle.oim_report.specs.declared.kind.Kind.{Kind}
 use Rattle.oim_resolve.specs.Facts.{is_numeric, places}
-use Rattle.oim_fast.specs.FactTexts.{are_settled, are_sound_decimals, cut, frame_decimals, frame_length, has_decimals, has_settled, opening_decimals, value_of, WritesFactText, WritesObject, WritesOpening}
+use Rattle.oim_fast.specs.FactTexts.{TriesFact, WritesObject, WritesOpening, are_settled, are_sound_decimals, cut, fact_room, frame_decimals, frame_length, has_decimals, has_settled, opening_decimals, value_of}
 use Rattle.oim_fast.specs.FrameTexts.{AreRuns, FrameValue, IsLaidOut, Segment, dimensions_start, frame_dimensions, rest_from, segment_text, segments_from}
 use Rattle.oim_fast.specs.Pieces.{behind}
 use Rattle.oim_fast.specs.Places.{Placed, Stays}
@@ -22,7 +22,7 @@ use Rattle.oim_fast.specs.declared.frame.frame_text.Run.{Run}
 use Rattle.oim_fast.specs.declared.frame.value.Value.{Value}
 use Rattle.oim_fast.proofs.FrameTextLaws.{runs_within, seen}
 use Rattle.oim_fast.proofs.PlacedBytes.{Placed-less, Placed-stays, Placed-then, Stays-then}
-use Rattle.oim_fast.proofs.WriteLaws.{range_split, times_more}
+use Rattle.oim_fast.proofs.WriteLaws.{range_split}
 
 -- DECIMALS
 
@@ -235,8 +235,8 @@ escaped_length (x ∷ xs) = omega (arith, byte_length x, escaped_length xs, leng
 
 -- THE WHOLE OBJECT
 
-module _ {rs : List ReferenceValue} {t : FrameValue} {v : Value} {text : List ℕ} {lead opening body : ℕ} {runs : List Run} {k : Kind} {d : FrameDecimals} {most from at rest : ℕ} {old mid : List ℕ}
-    (h : IsLaidOut text lead opening body runs) (view : seen k d lead opening body text runs ≡ t) (w : WritesOpening rs t v most old mid from at rest) where
+module _ {rs : List ReferenceValue} {t : FrameValue} {v : Value} {text : List ℕ} {lead opening body : ℕ} {runs : List Run} {k : Kind} {d : FrameDecimals} {from at rest : ℕ} {old mid : List ℕ}
+    (h : IsLaidOut text lead opening body runs) (view : seen k d lead opening body text runs ≡ t) (w : WritesOpening rs t v old mid from at rest) where
   rest_le : rest ≤ opening
   rest_le =
       omega (arith, w.within, ap (λ (q : FrameValue). length q.lead) view, ap (λ (q : FrameValue). length q.settled) view, lead_length text lead opening body runs h, settled_length text lead opening body runs h, h.settled)
@@ -247,8 +247,8 @@ module _ {rs : List ReferenceValue} {t : FrameValue} {v : Value} {text : List �
   whole_length : frame_length t ≡ length text
   whole_length = ap frame_length (sym view) ∙ frame_length_is text lead opening body runs h k d
 
-  products : (length t.segments + 1) * most ≡ length runs * most + most
-  products = ap (λ (q : FrameValue). (length q.segments + 1) * most) (sym view) ∙ ap (λ n. (n + 1) * most) (segments_length text body runs) ∙ times_more (length runs) most
+  products : (most : ℕ) → length t.segments * most ≡ length runs * most
+  products most = ap (λ (q : FrameValue). length q.segments * most) (sym view) ∙ ap (λ n. n * most) (segments_length text body runs)
 
   pub runs_there : AreRuns (length text) rest runs
   runs_there = runs_earlier (length text) rest body runs rest_body h.dimensions
@@ -256,10 +256,10 @@ module _ {rs : List ReferenceValue} {t : FrameValue} {v : Value} {text : List �
   pub runs_within_references : (n : ℕ) → All (λ (s : Segment). s.reference < n) t.segments → All (λ (r : Run). r.reference < n) runs
   runs_within_references n all = runs_hold (λ i. i < n) text body runs (subst (λ (q : FrameValue). All (λ (s : Segment). s.reference < n) q.segments) (sym view) all)
 
-  pub runs_fit : (size : ℕ) → from + frame_length t + (length t.segments + 1) * most + size + 128 ≤ length old → at + (length text - rest) + length runs * most + 32 ≤ length mid
-  runs_fit size room = omega (arith, room, w.few, w.bytes.len, whole_length, products, rest_le, h.starts, runs_within (length text) body runs h.dimensions)
+  pub runs_fit : (most size : ℕ) → from + fact_room t most size ≤ length old → at + (length text - rest) + length runs * most + 32 ≤ length mid
+  runs_fit most size room = omega (arith, room, w.few, w.bytes.len, whole_length, products most, rest_le, h.starts, runs_within (length text) body runs h.dimensions)
 
-  module _ {new : List ℕ} {end : ℕ} (r : WritesRuns rs text rest most runs mid new at end) where
+  module _ {new : List ℕ} {end most : ℕ} (r : WritesRuns rs text rest most runs mid new at end) where
     earlier : dimensions_from (given_by rs) text rest runs ≡ slice_range text rest body ++ dimensions_from (given_by rs) text body runs
     earlier = text_earlier (given_by rs) text rest body runs rest_body h.dimensions
 
@@ -272,8 +272,8 @@ module _ {rs : List ReferenceValue} {t : FrameValue} {v : Value} {text : List �
         ap length earlier ∙ length-append (slice_range text rest body) (dimensions_from (given_by rs) text body runs) in
         omega (arith, r.bytes.moved, long, slice_length)
 
-    pub end_fits : (size : ℕ) → from + frame_length t + (length t.segments + 1) * most + size + 128 ≤ length old → end + size + 96 ≤ length new
-    end_fits size room = omega (arith, room, w.few, w.bytes.len, r.few, r.bytes.len, whole_length, products, rest_le, h.starts, runs_within (length text) body runs h.dimensions)
+    pub end_fits : (size : ℕ) → from + fact_room t most size ≤ length old → end + 6 * size + 96 ≤ length new
+    end_fits size room = omega (arith, room, w.few, w.bytes.len, r.few, r.bytes.len, whole_length, products most, rest_le, h.starts, runs_within (length text) body runs h.dimensions)
 
     opened : w.written ++ slice_range text rest body ≡ t.lead ++ opening_decimals rs t v ++ dimensions_start
     opened =
@@ -305,6 +305,6 @@ module _ {rs : List ReferenceValue} {t : FrameValue} {v : Value} {text : List �
 -- THE FACT
 
 pub fact_written : (rs : List ReferenceValue) (t : FrameValue) (v : Value) {old mid : List ℕ} (new : List ℕ) {from at : ℕ} (start : List ℕ) (o : Option ℕ) → from ≤ length old → Placed old mid from start at
-    → MatchOption o (Stays mid new at) (λ end. WritesObject rs t v mid new at end) → MatchOption o (Stays old new from) (λ end. WritesFactText rs t v start old new from end)
+    → MatchOption o (Stays mid new at) (λ end. WritesObject rs t v mid new at end) → TriesFact rs t v start old new from o
 fact_written rs t v new start None within p h = Stays-then (omega (arith, p.moved)) (Placed-stays within p) h
 fact_written rs t v new start (Some end) within p h = record { dimensions = h.dimensions; decimals = h.decimals; bytes = Placed-then p h.bytes }

@@ -1,36 +1,32 @@
 -- The text that was written of a frame is that of the fact of its cell.
-use Rattle.std.proofs.Common.{◌≡◌, ◌<◌, ◌^◌, ℕ, Bool, true, false, not, ◌&&◌, List, [], ◌∷◌, ◌++◌, length, map, Option, Some, None, Result, Ok, codes, is_none, refl, sym, ap, subst, ◌∙◌, append_assoc, append-nil}
+use Rattle.std.proofs.Common.{◌≡◌, ◌<◌, ◌^◌, ℕ, Bool, true, false, not, ◌&&◌, List, [], ◌++◌, map, Option, Some, None, Ok, codes, is_none, refl, sym, ap, subst, ◌∙◌, append_assoc}
 use Rattle.std.specs.List.{All, flat_map}
 use Rattle.std.specs.Option.{option_and_then, option_map_or}
 use Rattle.std.specs.Prelude.{ℤ, if◌then◌else◌}
 use Rattle.std.proofs.lemmas.Grind.{flat_map-append}
-use Rattle.oim_cells.specs.Cells.{Meaning}
 use Rattle.oim_cells.specs.declared.cells.Accuracy.{Accuracy}
 use Rattle.oim_json.specs.JsonText.{decimals_text, dimension_text, escaped_byte, joined, member_text, quoted, value_text}
 use Rattle.oim_report.specs.Readers.{table_of}
 use Rattle.oim_report.specs.declared.kind.Kind.{Kind}
 use Rattle.oim_resolve.specs.Cell.{Cell, column}
-use Rattle.oim_resolve.specs.FactValues.{ValueParts, accuracy_in, faults_in, text_in}
-use Rattle.oim_resolve.specs.Facts.{cell_and_group_faults, cell_result, concept_faults, concept_kind, concept_read, decimals_faults, dimension_entry, dimension_faults, fact_decimals, fact_meaning, fact_of, fact_value, given, is_absent, is_nil, is_numeric}
-use Rattle.oim_resolve.specs.Facts.{is_unknown, looks_at_decimals, named_entry, places, rest_faults, stated, stated_accuracy, stated_faults, text_kind}
+use Rattle.oim_resolve.specs.FactValues.{accuracy_in, faults_in, text_in}
+use Rattle.oim_resolve.specs.Facts.{cell_and_group_faults, cell_result, concept_faults, concept_kind, concept_read, decimals_faults, dimension_entry, dimension_faults, fact_decimals, fact_meaning, fact_of, fact_value, given, is_absent, is_numeric}
+use Rattle.oim_resolve.specs.Facts.{is_unknown, named_entry, places, rest_faults, stated, stated_accuracy, stated_faults}
 use Rattle.oim_resolve.specs.Faults.{least, unless}
-use Rattle.oim_resolve.specs.Values.{Stated}
 use Rattle.oim_resolve.specs.Written.{levels, names, written_decimals}
 use Rattle.oim_resolve.specs.declared.fact.CellFault.{CellFault}
 use Rattle.oim_fast.specs.CellValues.{IsValue}
 use Rattle.oim_fast.specs.FactTexts.{are_sound_decimals, cut, frame_decimals, has_decimals, object_text, opening_decimals, value_of}
 use Rattle.oim_fast.specs.Facts.{column_lead, fact_text, start_text}
 use Rattle.oim_fast.specs.FrameTexts.{FrameValue, Segment, dimensions_start, frame_dimensions}
-use Rattle.oim_fast.specs.Frames.{Chooses, IsTextOf, no_dimensions, with_parts}
+use Rattle.oim_fast.specs.Frames.{IsTextOf, no_dimensions}
 use Rattle.oim_fast.specs.Pieces.{AreSound, written_entries, written_pieces}
 use Rattle.oim_fast.specs.References.{IsFresh, ReferenceValue, given_by, is_sound_by, key_of}
-use Rattle.oim_fast.specs.Rows.{RowValue, cell_in, column_in, columns_in, row_in}
-use Rattle.oim_fast.specs.declared.frame.frame_decimals.FrameDecimals.{FrameDecimals}
+use Rattle.oim_fast.specs.Rows.{RowValue, cell_in, column_in, row_in}
 use Rattle.oim_fast.specs.declared.frame.value.Value.{Value}
-use Rattle.oim_fast.specs.declared.row.group_cells.Choice.{Choice}
 use Rattle.oim_fast.proofs.FrameLaws.{parts_added}
-use Rattle.oim_fast.proofs.MemberLaws.{pieces, pieces_cut, written_pieces_are}
-use Rattle.oim_fast.proofs.SoundLaws.{AreNamed, AreStated, chosen_sound, decimals_sound, parts_sound, sound_faults}
+use Rattle.oim_fast.proofs.MemberLaws.{pieces_cut, written_pieces_are}
+use Rattle.oim_fast.proofs.SoundLaws.{AreNamed, AreStated, decimals_sound, parts_sound, sound_faults}
 
 -- THE RESULT OF A CELL WITHOUT FAULTS
 

@@ -7,7 +7,7 @@ use Rattle.std.proofs.lemmas.List.{get_or-set_same, length-append}
 use Rattle.std.proofs.lemmas.Option.{slice_get-get_or}
 use Rattle.oim_cells.specs.Cells.{meaning_of}
 use Rattle.oim_report.specs.ReportValue.{ReportValue}
-use Rattle.oim_fast.specs.Answers.{IsAnswer, IsCached, is_typed_purpose}
+use Rattle.oim_fast.specs.Answers.{IsAnswer, IsCached}
 use Rattle.oim_fast.specs.References.{AddsPlaces, IsEmptyText, IsKept}
 use Rattle.oim_fast.specs.declared.row.cached_answer.CachedAnswer.{CachedAnswer}
 use Rattle.oim_fast.specs.declared.row.purpose.Purpose.{Purpose}
@@ -38,13 +38,13 @@ module _ (r : ReportValue) (p : Purpose) where
 
   -- an answer that was found
   pub kept_there : (text : List ℕ) (i : ℕ) (xs : List CachedAnswer) (k : CachedAnswer) → i < length xs → All (IsCached r p) xs → k ≡ get_or xs i k
-      → string_bytes k.text ≡ text → is_typed_purpose p ≡ false → IsKept r p text i xs
-  kept_there text i xs k lt all is same untyped =
+      → string_bytes k.text ≡ text → k.is_kept ≡ true → IsKept r p text i xs
+  kept_there text i xs k lt all is same kept =
       let cached : IsCached r p k = subst (IsCached r p) (sym is) (all i k lt) in
       record {
         within = lt;
         cached = all;
-        at_hand = at_place (answers text) xs i k (there xs i k lt is) (subst (λ (t : List ℕ). answers t k) same (cached untyped));
+        at_hand = at_place (answers text) xs i k (there xs i k lt is) (subst (λ (t : List ℕ). answers t k) same (cached kept));
       }
 
   -- places were added
@@ -73,9 +73,5 @@ module _ (r : ReportValue) (p : Purpose) where
       }
 
   -- the answer of a typed dimension, whose text is not kept
-  pub kept_typed : (text : List ℕ) (xs : List CachedAnswer) (k : CachedAnswer) → is_typed_purpose p ≡ true → 0 < length xs → answers text k → IsKept r p text 0 (set xs 0 k)
-  kept_typed text xs k typed some answer = record {
-    within = omega (arith, length-set xs 0 k);
-    cached = λ j d lt untyped. absurd (cc (typed, untyped));
-    at_hand = at_place (answers text) (set xs 0 k) 0 k (set_there xs 0 k some) answer;
-  }
+  pub kept_typed : (text : List ℕ) (xs : List CachedAnswer) (k : CachedAnswer) → k.is_kept ≡ false → 0 < length xs → All (IsCached r p) xs → answers text k → IsKept r p text 0 (set xs 0 k)
+  kept_typed text xs k other some all answer = kept_set text 0 xs k some all (λ kept. absurd (cc (other, kept))) answer

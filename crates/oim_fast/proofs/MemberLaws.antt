@@ -5,13 +5,12 @@ use Rattle.std.specs.Option.{option_map_or}
 use Rattle.std.proofs.lemmas.Grind.{flat_map-append}
 use Rattle.std.proofs.lemmas.List.{take-append-le}
 use Rattle.oim_cells.specs.Cells as m
-use Rattle.oim_json.specs.JsonText.{decimals_text, dimension_text, joined, member_text, quoted, value_text}
+use Rattle.oim_json.specs.JsonText.{dimension_text, joined}
 use Rattle.oim_report.specs.declared.data.Side.TheVariants as side
 use Rattle.oim_report.specs.declared.data.Written.{Written}
 use Rattle.oim_report.specs.declared.kind.Kind.{Kind}
 use Rattle.oim_resolve.specs.Cell.{Cell}
-use Rattle.oim_resolve.specs.Facts.{concept_kind, dimension_entry, entry_given, fact_decimals, fact_of, fact_value, id_of, is_dropped, named_entry, role_of}
-use Rattle.oim_resolve.specs.FactValues.{text_in}
+use Rattle.oim_resolve.specs.Facts.{dimension_entry, entry_given, is_dropped, named_entry, role_of}
 use Rattle.oim_resolve.specs.Values.{side_of, value}
 use Rattle.oim_resolve.specs.Written.{levels, names, written}
 use Rattle.oim_resolve.specs.declared.role.Role.{Role}

@@ -1,5 +1,5 @@
 -- Texts that are split as numerals in one pass.
-use Rattle.std.proofs.Common.{◌≡◌, ℕ, zero, suc, ◌+◌, ◌-◌, ◌<◌, ◌≤◌, Bool, true, false, cond, ◌==◌, ◌||◌, ◌⊎◌, List, [], ◌∷◌, ◌++◌}
+use Rattle.std.proofs.Common.{◌≡◌, ℕ, zero, suc, ◌+◌, ◌<◌, ◌≤◌, Bool, true, false, cond, ◌==◌, ◌||◌, ◌⊎◌, List, [], ◌∷◌, ◌++◌}
 use Rattle.std.proofs.Common.{length, take, drop, get_or, inl, inr, Option, Some, None, IfSome, refl, sym, subst, ap, ◌∙◌, arith, codes, append_assoc, length-append}
 use Rattle.std.specs.Str.Parse.{AllDigits, without_leading_sign}
 use Rattle.std.proofs.Math.Seq.{take-add}

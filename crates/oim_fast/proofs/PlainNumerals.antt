@@ -1,21 +1,19 @@
 -- A numeral needs no escape.
-use Rattle.std.proofs.Common.{◌≡◌, ◌<◌, ◌^◌, ℕ, Bool, true, false, cond, ◌==◌, ◌&&◌, List, [], ◌∷◌, ◌++◌, drop, Option, Some, None, refl, sym, ap, ◌∙◌, inl, inr, arith, codes}
+use Rattle.std.proofs.Common.{◌≡◌, ◌<◌, ◌^◌, ℕ, true, List, [], Option, Some, None, refl, sym, arith}
 use Rattle.std.specs.Option.{IfSome}
 use Rattle.std.specs.Fmt.{decimal}
 use Rattle.std.proofs.lemmas.Fmt.{decimal_is_IsNumeral}
 use Rattle.std.specs.List.{list_all}
 use Rattle.std.specs.Char.{digit_value}
-use Rattle.std.specs.Str.Parse.{AllDigits, without_leading_sign}
+use Rattle.std.specs.Str.Parse.{AllDigits}
 use Rattle.std.proofs.lemmas.Bool.Decides.{nat_tests}
-use Rattle.std.proofs.lemmas.List.Folds.{list_all-append}
 use Rattle.std.proofs.lemmas.Str.Parse.{digit_from_value}
 use Rattle.oim_cells.specs.declared.cells.Accuracy.{Accuracy}
 use Rattle.oim_cells.specs.declared.cells.NumberKind.{NumberKind}
-use Rattle.oim_cells.specs.declared.cells.NumberKind.TheVariants.{Integer, Decimal, Double}
 use Rattle.oim_cells.specs.Blanks.{trimmed}
 use Rattle.oim_cells.specs.Cells.{Meaning, numeral_of}
 use Rattle.oim_cells.specs.Cells as m
-use Rattle.oim_cells.specs.Numeral.{IsDecimal, IsDouble, IsInteger, IsNumeralOf, IsPointed, IsSplit, bare, no_power, pointed, power, suffixed}
+use Rattle.oim_cells.specs.Numeral.{IsNumeralOf, IsSplit, bare, suffixed}
 use Rattle.oim_cells.proofs.Values.{numeral_law}
 use Rattle.oim_json.specs.JsonText.{is_unescaped}
 use Rattle.oim_report.specs.ReportValue.{ReportValue}

@@ -1,5 +1,5 @@
 -- A cell has no fault in its groups, its concept, its dimensions and its decimals where something is known of its frame and no reference of the frame has a fault.
-use Rattle.std.proofs.Common.{◌≡◌, ◌<◌, ◌^◌, ℕ, zero, suc, Bool, true, false, cond, ◌&&◌, ◌||◌, List, [], ◌∷◌, ◌++◌, length, map, Option, Some, None, Result, Ok, Err, codes, is_ok, refl, sym, ap, subst, ◌∙◌, arith}
+use Rattle.std.proofs.Common.{◌≡◌, ◌<◌, ◌^◌, ℕ, zero, suc, Bool, true, false, cond, ◌||◌, List, [], ◌∷◌, ◌++◌, length, map, Option, Some, None, Ok, is_ok, refl, sym, ap, subst, ◌∙◌, arith}
 use Rattle.std.specs.List.{All, flat_map, list_any, slice_get}
 use Rattle.std.specs.Option.{option_and_then, option_map_or}
 use Rattle.std.specs.Prelude.{if◌then◌else◌}
@@ -28,7 +28,7 @@ use Rattle.oim_fast.specs.FrameTexts.{FrameValue, Segment, is_known, is_ready, w
 use Rattle.oim_fast.specs.Frames.{AreFrameDecimals, Chooses, are_ready, entry_of, is_known_choice, with_parts}
 use Rattle.oim_fast.specs.Groups.{Names, Says}
 use Rattle.oim_fast.specs.Parts.{IsPart, IsPartValue}
-use Rattle.oim_fast.specs.Pieces.{AreSound, constant_stated, is_sound_dimension, named, written_entries}
+use Rattle.oim_fast.specs.Pieces.{AreSound, constant_stated, is_sound_dimension, named}
 use Rattle.oim_fast.specs.References.{IsFresh, Key, ReferenceValue, given_by, is_sound_by, key_of, meaning_at_hand}
 use Rattle.oim_fast.specs.Rows.{RowValue, cell_in, column_in, columns_in}
 use Rattle.oim_fast.specs.Sources.{source_text}

@@ -1,7 +1,9 @@
 -- The text of a fact up to the identifier of its row, put together.
-use Rattle.std.proofs.Common.{◌≡◌, ℕ, ◌<◌, ◌^◌, List, ◌++◌, codes, sym, ap, ◌∙◌, append_assoc, true}
+use Rattle.std.proofs.Common.{◌≡◌, ℕ, ◌<◌, ◌^◌, List, ◌++◌, codes, sym, ap, ◌∙◌, append_assoc, length, take}
+use mathlib.Core.List.{IsPrefix}
+use Rattle.std.proofs.Math.Seq.{take-append_seam}
 use Rattle.std.specs.Prelude.{decimal}
-use Rattle.std.specs.List.{flat_map, list_all}
+use Rattle.std.specs.List.{flat_map}
 use Rattle.std.proofs.lemmas.Grind.{flat_map-append}
 use Rattle.oim_json.specs.JsonText.{escaped_byte}
 use Rattle.oim_json.proofs.Quoted.{all_unescaped}
@@ -22,3 +24,9 @@ unfolding escaped_byte
 number_put out n few =
     append_assoc out (codes "r_") (decimal n)
     ∙ ap (λ t. out ++ (codes "r_" ++ t)) (sym (all_unescaped (decimal n) (decimal_is_plain n few)))
+
+-- the front of a text stays where more is put behind it
+pub front_stays : (n : ℕ) (old new front : List ℕ) → take n old ≡ front → n ≡ length front → IsPrefix (take n old) new → take n new ≡ front
+front_stays n old new front is size prefix =
+    let whole : new ≡ front ++ prefix.0 = sym prefix.1 ∙ ap (λ q. q ++ prefix.0) is in
+    ap (take n) whole ∙ ap (λ m. take m (front ++ prefix.0)) size ∙ take-append_seam front prefix.0

@@ -2,7 +2,7 @@
 use Rattle.std.proofs.Common.{◌≡◌, ◌<◌, ◌≤◌, ℕ, zero, suc, Bool, true, false, inl, inr, List, [], ◌∷◌, ◌++◌, length, take, get_or, Option, Some, None, Ok, codes, is_none, refl, sym, ap, subst, ◌∙◌, arith, take-take, length-take-le, length-append}
 use Rattle.std.specs.Prelude.{if◌then◌else◌}
 use Rattle.std.specs.Char.{digit_value}
-use Rattle.std.specs.Str.Parse.{AllDigits, without_leading_sign}
+use Rattle.std.specs.Str.Parse.{without_leading_sign}
 use Rattle.oim_cells.specs.Blanks.{trimmed}
 use Rattle.oim_cells.specs.Cells.{Meaning, meaning_of, numeral_of}
 use Rattle.oim_cells.specs.Cells as m

@@ -38,7 +38,7 @@ pub range_of_front : (room text : List ℕ) (len from to : ℕ) → take len roo
 range_of_front room text len from to is le within =
     ap (λ r. slice_range r from to) (sym (take-append-drop len room) ∙ ap (λ t. t ++ drop len room) is) ∙ range_more text (drop len room) from to le within
 
-pub times_more : (a m : ℕ) → (a + 1) * m ≡ a * m + m
+times_more : (a m : ℕ) → (a + 1) * m ≡ a * m + m
 times_more a m = omega arith
 
 -- one run less is left

@@ -3,8 +3,10 @@ use Rattle.std.specs.Prelude.{◌≡◌, ℕ, Bool, true, false, List, [], ◌++
 use Rattle.std.specs.Option.{option_and_then}
 use Rattle.std.specs.String.{string_bytes}
 use Rattle.oim_cells.specs.Cells.{Meaning, meaning_of}
+use Rattle.oim_cells.specs.Cells as m
 use Rattle.oim_json.specs.JsonText.{decimals_text, value_text}
 use Rattle.oim_report.specs.ReportValue.{ReportValue}
+use Rattle.oim_report.specs.declared.data.Side.{Side}
 use Rattle.oim_resolve.specs.Facts.{concept_read, entry_given, places, stated_accuracy, stated_read, value_read}
 use Rattle.oim_resolve.specs.Values.{Read}
 use Rattle.oim_resolve.specs.declared.role.Role.{Role}
@@ -39,6 +41,14 @@ pub record IsAnswer (r : ReportValue) (p : Purpose) (v : Meaning) (a : Answer) :
   pub json : a.is_sound ≡ true → a.json.items ≡ json_for r p v
   pub concept : IfSome a.kind (λ k. concept_read r v ≡ Ok k)
 
+-- what it says of a text in a typed dimension
+abbrev pub IsTypedAnswer : List ℕ → Answer → Type 0
+IsTypedAnswer text a = (r : ReportValue) (s : Side) → IsAnswer r (Dimension role.Typed s) (m.Text text) a
+
+-- a text was appended where something is so
+abbrev pub AppendsWhere : List ℕ → List ℕ → List ℕ → Bool → Type 0
+AppendsWhere old more new b = b ≡ true → new ≡ old ++ more
+
 -- the answer says nothing
 pub record IsSilent (a : Answer) : Type 0 where
   pub sound : a.is_sound ≡ false
@@ -58,6 +68,6 @@ abbrev pub is_typed_purpose : Purpose → Bool
 is_typed_purpose (Dimension o s) = is_typed_role o
 is_typed_purpose Decimals = false
 
--- a kept answer is that of its text. For a typed dimension no text is kept
+-- an answer is that of the text that is kept with it, where one is
 abbrev pub IsCached : ReportValue → Purpose → CachedAnswer → Type 0
-IsCached r p k = is_typed_purpose p ≡ false → IsAnswer r p (meaning_of (string_bytes k.text)) k.answer
+IsCached r p k = k.is_kept ≡ true → IsAnswer r p (meaning_of (string_bytes k.text)) k.answer

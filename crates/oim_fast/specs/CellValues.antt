@@ -1,5 +1,5 @@
 -- What the cell of a fact says, as it is written. (xBRL-CSV 1.0, special values and the decimals suffix of a numeral)
-use Rattle.std.specs.Prelude.{◌≡◌, ◌≤◌, ⊤, Bool, true, false, Some, None, Ok, length, take, if◌then◌else◌}
+use Rattle.std.specs.Prelude.{◌≡◌, ◌≤◌, ⊤, true, false, Some, None, Ok, length, take, if◌then◌else◌}
 use Rattle.oim_cells.specs.Cells.{Meaning}
 use Rattle.oim_report.specs.ReportValue.{ReportValue}
 use Rattle.oim_report.specs.declared.kind.Kind.{Kind}

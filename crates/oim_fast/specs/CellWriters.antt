@@ -1,5 +1,5 @@
 -- What is ready for the cells of a table's rows.
-use Rattle.std.specs.Prelude.{◌≡◌, ◌⊎◌, ◌<◌, ◌^◌, ℕ, true, Bool, List, [], ◌∷◌, ◌++◌, length, map, slice_index_or, take, Option, Some, None, Result, Ok}
+use Rattle.std.specs.Prelude.{◌≡◌, ◌⊎◌, ◌<◌, ◌^◌, ℕ, true, Bool, List, [], ◌∷◌, ◌++◌, length, map, slice_index_or, take, Option, Result, Ok}
 use Rattle.std.specs.List.{All}
 use Rattle.std.specs.Option.{option_to_list}
 use Rattle.oim_cells.specs.Cells.{meaning_of}
@@ -16,22 +16,28 @@ use Rattle.oim_fast.specs.KeptFrames.{IsFrame}
 use Rattle.oim_fast.specs.Making.{IsMaker, IsReadyMaker}
 use Rattle.oim_fast.specs.References.{ReferenceValue, key_of}
 use Rattle.oim_fast.specs.Rows.{RowValue, cell_in}
+use Rattle.oim_fast.specs.declared.frame.fact_start.FactStart.{FactStart}
 use Rattle.oim_fast.specs.declared.frame.value.Value.{Value}
 use Rattle.oim_fast.specs.declared.table.cell_writer.CellWriter.{CellWriter}
+
+-- a text begins with that of a fact of a form up to the row's identifier
+pub record IsStartOf (f : Reading) (s : FactStart) : Type 0 where
+  pub text : take s.lead s.start.items ≡ lead_text f
+  pub size : s.lead ≡ length (lead_text f)
 
 -- it is ready for the rows of a form
 pub record IsCellWriter (f : Reading) (w : CellWriter) : Type 0 where
   pub columns : AreFactColumns f w.maker.cells.list.items w.columns.items
   pub maker : IsReadyMaker f w.maker
   pub frames : All (IsFrame f (map key_of w.maker.references)) w.frames.list.items
-  pub lead : w.start.lead.items ≡ lead_text f
+  pub lead : IsStartOf f w.start
 
 -- it has gone on to a row
 pub record IsInRow (x : RowValue) (w : CellWriter) : Type 0 where
   pub columns : AreFactColumns x.form w.maker.cells.list.items w.columns.items
   pub maker : IsMaker x w.maker
   pub frames : All (IsFrame x.form (map key_of w.maker.references)) w.frames.list.items
-  pub lead : w.start.lead.items ≡ lead_text x.form
+  pub lead : IsStartOf x.form w.start
   pub start : w.start.start.items ≡ start_text x
   pub number : x.number < 2 ^ 32
 

@@ -4,8 +4,10 @@ use Rattle.std.specs.List.{All, slice_get}
 use Rattle.std.specs.Option.{option_map}
 use Rattle.oim_rows.specs.RowFacts.{Reading, is_fact_column, source_of_column}
 use Rattle.oim_fast.specs.Facts.{column_lead}
+use Rattle.oim_fast.specs.Groups.{choices_in}
 use Rattle.oim_fast.specs.Rows.{column_in, columns_in}
 use Rattle.oim_fast.specs.declared.frame.fact_column.FactColumn.{FactColumn}
+use Rattle.oim_fast.specs.declared.row.group_cells.Choice.{Choice}
 use Rattle.oim_fast.specs.declared.row.group_cells.GroupCell.{GroupCell}
 
 -- what is kept of a column of facts. `place` is that of its cell in the header
@@ -16,6 +18,10 @@ pub record IsFactColumn (f : Reading) (cells : List GroupCell) (c : FactColumn) 
   pub lead : c.lead.items ≡ column_lead f c.column
   pub from : All (λ g. g < length (columns_in f)) (column_in f c.column).from
   pub groups : map (λ p. option_map (λ (g : GroupCell). g.column) (slice_get cells p)) c.groups.items ≡ map Some (column_in f c.column).from
+
+-- what the cells of groups say that a column takes from
+abbrev pub column_choices : List GroupCell → FactColumn → List Choice
+column_choices cells c = choices_in cells c.groups.items
 
 -- the columns of a header that hold facts, in its order
 abbrev pub fact_columns_in : Reading → List (Option ℕ) → List ℕ

@@ -1,13 +1,11 @@
 -- What is written of one fact. (xBRL-JSON 1.0, a fact object)
-use Rattle.std.specs.Prelude.{⊤, ◌≡◌, ◌<◌, ◌≤◌, ◌+◌, ◌-◌, ◌++◌, ℕ, Bool, true, false, ◌&&◌, ◌||◌, not, List, [], Option, Some, None, Result, Ok, codes, drop, is_none, length, take, if◌then◌else◌}
+use Rattle.std.specs.Prelude.{⊤, ◌≡◌, ◌<◌, ◌≤◌, ◌+◌, ◌-◌, ◌*◌, ◌++◌, MatchOption, ℕ, Bool, true, false, ◌&&◌, ◌||◌, not, List, [], Option, Some, None, Result, Ok, codes, drop, is_none, length, take, if◌then◌else◌}
 use Rattle.std.specs.List.{All, flat_map, sum_by}
 use Rattle.std.specs.Option.{option_map_or}
-use Rattle.oim_cells.specs.declared.cells.Accuracy.{Accuracy}
 use Rattle.oim_json.specs.JsonText.{decimals_text, escaped_byte, value_text}
-use Rattle.oim_report.specs.declared.kind.Kind.{Kind}
 use Rattle.oim_resolve.specs.Facts.{is_numeric, places}
 use Rattle.oim_fast.specs.FrameTexts.{FrameValue, Segment, dimensions_start, frame_dimensions}
-use Rattle.oim_fast.specs.Places.{Placed}
+use Rattle.oim_fast.specs.Places.{Placed, Stays}
 use Rattle.oim_fast.specs.References.{ReferenceValue, given_by, is_sound_by}
 use Rattle.oim_fast.specs.declared.frame.frame_decimals.FrameDecimals.{FrameDecimals}
 use Rattle.oim_fast.specs.declared.frame.frame_decimals.FrameDecimals.TheVariants as decimals
@@ -50,6 +48,10 @@ object_text rs t v =
 abbrev pub frame_length : FrameValue → ℕ
 frame_length t = length t.lead + length t.settled + 14 + sum_by (λ (s : Segment). length s.alone + length s.name) t.segments + length t.rest
 
+-- how much room its facts take behind their start, where a reference gives so many bytes at most, and a value has so many
+abbrev pub fact_room : FrameValue → ℕ → ℕ → ℕ
+fact_room t most value = frame_length t + length t.segments * most + 6 * value + 128
+
 -- the decimals of a frame are settled
 abbrev pub are_settled : FrameDecimals → Bool
 are_settled decimals.Settled = true
@@ -73,19 +75,19 @@ pub record IsOfReferences (n : ℕ) (t : FrameValue) : Type 0 where
   pub others : is_numeric t.kind ≡ false → t.settled ≡ []
 
 -- the decimals of a fact were written, a comma behind them
-pub record WritesDecimals (rs : List ReferenceValue) (t : FrameValue) (v : Value) (most : ℕ) (old new : List ℕ) (at end : ℕ) : Type 0 where
+pub record WritesDecimals (rs : List ReferenceValue) (t : FrameValue) (v : Value) (old new : List ℕ) (at end : ℕ) : Type 0 where
   pub decimals : are_sound_decimals rs t v ≡ true
   pub bytes : Placed old new at (opening_decimals rs t v) end
-  pub few : end ≤ at + most + 32
+  pub few : end ≤ at + 32
 
 -- so was the text before the dimensions, where the frame's text comes behind it from a place on
-pub record WritesOpening (rs : List ReferenceValue) (t : FrameValue) (v : Value) (most : ℕ) (old new : List ℕ) (at end from : ℕ) : Type 0 where
+pub record WritesOpening (rs : List ReferenceValue) (t : FrameValue) (v : Value) (old new : List ℕ) (at end from : ℕ) : Type 0 where
   pub decimals : are_sound_decimals rs t v ≡ true
   pub written : List ℕ
   pub bytes : Placed old new at written end
   pub whole : written ++ drop from (t.lead ++ t.settled) ≡ t.lead ++ opening_decimals rs t v
   pub within : from ≤ length t.lead + length t.settled
-  pub few : end ≤ at + from + most + 32
+  pub few : end ≤ at + from + 32
 
 -- a fact was written from the dot behind the row's identifier on
 pub record WritesObject (rs : List ReferenceValue) (t : FrameValue) (v : Value) (old new : List ℕ) (at end : ℕ) : Type 0 where
@@ -98,6 +100,10 @@ pub record WritesFactText (rs : List ReferenceValue) (t : FrameValue) (v : Value
   pub dimensions : All (λ (s : Segment). is_sound_by rs s.reference ≡ true) t.segments
   pub decimals : are_sound_decimals rs t v ≡ true
   pub bytes : Placed old new at (start ++ object_text rs t v) end
+
+-- or it was not, and what stands before it stays
+abbrev pub TriesFact : List ReferenceValue → FrameValue → Value → List ℕ → List ℕ → List ℕ → ℕ → Option ℕ → Type 0
+TriesFact rs t v start old new at end = MatchOption end (Stays old new at) (λ e. WritesFactText rs t v start old new at e)
 
 -- a fact whose text begins so was appended
 pub record AddsFact (rs : List ReferenceValue) (t : FrameValue) (v : Value) (start old new : List ℕ) : Type 0 where

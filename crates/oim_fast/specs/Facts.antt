@@ -1,6 +1,5 @@
 -- What a row gives the text of a block: each of its facts behind a comma. (xBRL-CSV 1.0, from cells to facts; xBRL-JSON 1.0, the facts object)
-use Rattle.std.specs.Prelude.{◌≡◌, ◌<◌, ℕ, List, [], ◌++◌, Option, Some, None, Result, Ok, codes, flat_map, length}
-use Rattle.std.specs.List.{All}
+use Rattle.std.specs.Prelude.{◌≡◌, ℕ, List, [], ◌++◌, Option, Some, None, Result, Ok, codes, flat_map, length}
 use Rattle.oim_json.specs.Blocks.{behind_commas, ends_from}
 use Rattle.oim_json.specs.JsonText.{escaped_byte, member_text}
 use Rattle.oim_report.specs.Readers.{table_of}

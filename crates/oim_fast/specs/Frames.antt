@@ -89,6 +89,10 @@ pub record IsTextOf (f : Reading) (keys : List Key) (ls : List Level) (start : L
   pub lead : t.lead ≡ start
   pub decimals : AreKindDecimals f keys ls t.kind t.settled t.decimals
 
+-- the same where the frame is of this kind
+abbrev pub IsTextOfKind : Reading → List Key → List Level → List ℕ → Kind → FrameValue → Type 0
+IsTextOfKind f keys ls start k t = (t.kind ≡ k) × IsTextOf f keys ls start t
+
 -- the text of a column under these choices
 abbrev pub IsFrameText : Reading → List Key → ℕ → List Choice → FrameValue → Type 0
 IsFrameText f keys c os t = IsTextOf f keys (levels_chosen f c os) (column_lead f c) t

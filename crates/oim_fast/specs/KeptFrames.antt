@@ -1,5 +1,5 @@
 -- The frames of a table that are kept.
-use Rattle.std.specs.Prelude.{⊤, ◌≡◌, ◌⊎◌, ℕ, true, List, Option, Some, None, Ok, codes}
+use Rattle.std.specs.Prelude.{⊤, ◌≡◌, ◌⊎◌, ℕ, true, List, Option, Some, None, Ok, IfSome, IsSomeAnd, codes}
 use Rattle.std.specs.List.{All, slice_get}
 use Rattle.std.specs.Option.{option_and_then}
 use Rattle.oim_cells.specs.declared.cells.NumberKind.TheVariants as number
@@ -7,6 +7,7 @@ use Rattle.oim_report.specs.declared.kind.Kind.{Kind}
 use Rattle.oim_report.specs.declared.kind.Kind.TheVariants as kind
 use Rattle.oim_resolve.specs.Facts.{concept_read, given}
 use Rattle.oim_rows.specs.RowFacts.{Reading}
+use Rattle.oim_fast.specs.Columns.{column_choices}
 use Rattle.oim_fast.specs.FrameTexts.{FrameValue}
 use Rattle.oim_fast.specs.Frames.{Chooses, HasConstantKind, HasReferredKind, IsFrameText, is_known_choice, levels_chosen}
 use Rattle.oim_fast.specs.Groups.{choices_in}
@@ -39,6 +40,10 @@ IsBody f keys c os k (body.Text t) = IsFrameText f keys c os t × ((k ≡ kind_c
 IsBody f keys c os k (body.ByConcept i) = HasReferredKind f keys (levels_chosen f c os) i
 IsBody f keys c os k body.Unknown = ⊤
 
+-- the body of a frame that is made for a column and a kind, or none, under what the row at hand chooses
+abbrev pub IsBodyFor : Reading → List Key → List GroupCell → FactColumn → Option Kind → Body → Type 0
+IsBodyFor f keys cells c k b = IsBody f keys c.column (column_choices cells c) (kind_code k) b
+
 -- what is kept of a frame is right for each row of the table that chooses so
 abbrev pub IsFrame : Reading → List Key → Frame → Type 0
 IsFrame f keys v = IsBody f keys v.column v.choices.items v.kind v.body
@@ -60,6 +65,10 @@ pub record IsOfConcept (x : RowValue) (cells : List GroupCell) (c : FactColumn) 
   pub is : IsFor cells c (Some kind) v
   pub concept : concept_read x.form.report (given (cell_in x c.column) (codes "concept")) ≡ Ok kind
 
+-- the frame at a place is such
+abbrev pub HasFrame : List Frame → (Frame → Type 0) → ℕ → Type 0
+HasFrame frames P place = IsSomeAnd (slice_get frames place) P
+
 -- the text of a frame, where it has one
 abbrev pub text_of : Body → Option FrameValue
 text_of (body.Text t) = Some t
@@ -75,3 +84,7 @@ pub record IsTextFor (x : RowValue) (keys : List Key) (c : ℕ) (t : FrameValue)
   pub chosen : Chooses x (column_in x.form c).from choices
   pub text : IsFrameText x.form keys c choices t
   pub concept : concept_read x.form.report (given (cell_in x c) (codes "concept")) ≡ Ok t.kind
+
+-- so is that of the frame at a place, where it has one
+abbrev pub HasTextFor : RowValue → List Key → ℕ → List Frame → ℕ → Type 0
+HasTextFor x keys c frames place = IfSome (text_in frames place) (IsTextFor x keys c)

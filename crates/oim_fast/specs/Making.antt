@@ -1,9 +1,11 @@
 -- How a frame is made in a row.
-use Rattle.std.specs.Prelude.{⊤, ◌≡◌, ◌⊎◌, ℕ, List, Option, Some, None, map}
+use Rattle.std.specs.Prelude.{⊤, ◌≡◌, ◌⊎◌, ℕ, List, Bool, true, Option, Some, None, map, reverse}
+use Rattle.std.specs.Borrow.{Bor}
 use Rattle.std.specs.List.{All}
 use Rattle.oim_report.specs.declared.data.Level.{Level}
 use Rattle.oim_report.specs.declared.data.Written.{Written}
 use Rattle.oim_report.specs.declared.kind.Kind.{Kind}
+use Rattle.oim_resolve.specs.ProgramCell.{held}
 use Rattle.oim_rows.specs.RowFacts.{Reading}
 use Rattle.oim_fast.specs.FrameTexts.{FrameValue}
 use Rattle.oim_fast.specs.Frames.{AreKindDecimals, HasConstantKind, HasReferredKind, are_ready, entry_of, no_dimensions, with_parts}
@@ -19,6 +21,14 @@ use Rattle.oim_fast.specs.declared.frame.frame_maker.Concept.TheVariants as conc
 use Rattle.oim_fast.specs.declared.frame.frame_maker.FrameMaker.{FrameMaker}
 use Rattle.oim_fast.specs.declared.frame.part.Part.{Part}
 use Rattle.oim_fast.specs.declared.frame.part.PartValue.TheVariants as part
+
+-- levels from the most general to the most specific, which are held the other way round
+abbrev pub from_general : List (Bor Level) → List Level
+from_general ls = reverse (held ls)
+
+-- what the references of a maker are to
+abbrev pub keys_in : FrameMaker → List Key
+keys_in m = map key_of m.references
 
 -- what makes frames is right for each row that is read by a form
 pub record IsReadyMaker (f : Reading) (m : FrameMaker) : Type 0 where
@@ -62,3 +72,7 @@ pub record AddsEntries (f : Reading) (keys : List Key) (es : List (List ℕ × W
   pub are : All (IsPart f keys) parts
   pub ready : are_ready old parts
   pub text : new ≡ with_parts old parts
+
+-- the same where they were added
+abbrev pub AddsWhere : Reading → List Key → List (List ℕ × Written) → FrameValue → FrameValue → Bool → Type 0
+AddsWhere f keys es old new added = added ≡ true → AddsEntries f keys es old new

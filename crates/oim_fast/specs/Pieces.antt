@@ -29,6 +29,10 @@ named n (Some v) = (n, v) ∷ []
 abbrev pub written_entries : List Level → List (List ℕ × Written)
 written_entries ls = flat_map (λ n. named n (written ls n)) (names ls)
 
+-- what they write for one name
+abbrev pub entries_named : List Level → List ℕ → List (List ℕ × Written)
+entries_named ls n = named n (written ls n)
+
 -- a dimension's name and colon
 abbrev pub name_text : List ℕ → List ℕ
 name_text n = quoted n ++ codes ":"

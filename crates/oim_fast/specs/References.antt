@@ -1,14 +1,16 @@
 -- The references of a table, and what they give in a row.
-use Rattle.std.specs.Prelude.{◌≡◌, ◌<◌, ◌++◌, ℕ, Bool, false, List, [], IfSome, length}
-use Rattle.std.specs.Option.{option_map_or}
+use Rattle.std.specs.Prelude.{◌≡◌, ◌<◌, ◌++◌, ℕ, Bool, false, List, [], IfSome, Some, length}
+use Rattle.std.specs.Option.{option_map, option_map_or}
 use Rattle.std.specs.List.{All, slice_get}
 use Rattle.oim_cells.specs.Cells.{Meaning, meaning_of}
 use Rattle.oim_report.specs.ReportValue.{ReportValue}
 use Rattle.oim_fast.specs.Answers.{IsAnswer, IsCached, is_sound_for, json_for}
 use Rattle.oim_fast.specs.Rows.{RowValue}
-use Rattle.oim_fast.specs.Sources.{SourceValue, source_text}
+use Rattle.oim_rows.specs.RowFacts.{Reading}
+use Rattle.oim_fast.specs.Sources.{SourceValue, seen_source, source_text}
 use Rattle.oim_fast.specs.declared.row.cached_answer.CachedAnswer.{CachedAnswer}
 use Rattle.oim_fast.specs.declared.row.purpose.Purpose.{Purpose}
+use Rattle.oim_fast.specs.declared.row.source.Source.{Source}
 
 -- what is referred to, and what for
 pub record Key : Type 0 where
@@ -23,6 +25,14 @@ pub record ReferenceValue : Type 0 where
 
 abbrev pub key_of : ReferenceValue → Key
 key_of r = r.key
+
+-- what a reference is to that is made for this
+abbrev pub key_seen : Purpose → Source → Key
+key_seen p s = record { purpose = p; source = seen_source s }
+
+-- the reference at a place is to this
+abbrev pub HasKey : List ReferenceValue → Key → ℕ → Type 0
+HasKey rs key place = option_map key_of (slice_get rs place) ≡ Some key
 
 abbrev pub meaning_at_hand : ReferenceValue → Meaning
 meaning_at_hand r = meaning_of r.text
@@ -59,6 +69,14 @@ pub record AddsPlaces (old new : List CachedAnswer) : Type 0 where
   pub more : List CachedAnswer
   pub is : new ≡ old ++ more
   pub empty : All IsEmptyText more
+
+-- what holds of each item of a list, in each form and for all keys, holds of each of another
+abbrev pub HoldsStill : {A : Type 0} → (Reading → List Key → A → Type 0) → List A → List A → Type 0
+HoldsStill P old new = (f : Reading) (keys : List Key) → All (P f keys) old → All (P f keys) new
+
+-- the same where it holds of one item more
+abbrev pub HoldsWith : {A : Type 0} → (Reading → List Key → A → Type 0) → List A → A → List A → Type 0
+HoldsWith P old x new = (f : Reading) (keys : List Key) → All (P f keys) old → P f keys x → All (P f keys) new
 
 -- a list with more items behind it
 pub record Grows {A : Type 0} (xs ys : List A) : Type 0 where

@@ -8,3 +8,4 @@ pub(crate) mod reference;
 pub(crate) mod references;
 pub(crate) mod source;
 pub(crate) mod table_row;
+pub(crate) mod text_places;

@@ -5,7 +5,8 @@ ghost use Rattle.std.specs.List.{list_all};
 ghost use mathlib.Core.List.{IsPrefix};
 ghost use Rattle.oim_json.specs.JsonText.{decimals_text, escaped_byte, is_unescaped, value_text};
 ghost use Rattle.oim_resolve.specs.Facts.{is_numeric, places};
-ghost use Rattle.oim_fast.specs.FactTexts.{EndsInstead, IsOfReferences, PutsFact, WritesDecimals, WritesFactText, WritesObject, WritesOpening, frame_length, has_settled, value_of};
+ghost use Rattle.oim_fast.specs.FactTexts.{EndsInstead, IsOfReferences, PutsFact, TriesFact, WritesDecimals, WritesObject, WritesOpening};
+ghost use Rattle.oim_fast.specs.FactTexts.{fact_room, has_settled, value_of};
 ghost use Rattle.oim_fast.specs.Places.{Placed, Stays};
 
 use crate::frame::frame_decimals::FrameDecimals;
@@ -48,21 +49,23 @@ fn write_accuracy(room: &mut [u8], from: usize, accuracy: Accuracy) -> usize
     }
 }
 
+/// How many bytes decimals have at most, with a comma behind them.
+const DECIMALS: usize = 32;
+
 /// Writes the decimals of a number that are not those that stand in its frame, with a comma behind them. Answers where they end.
-/// None where they are not known, or have a fault, or are more than `most` bytes.
+/// None where they are not known, or have a fault.
 #[inline(always)]
 fn write_decimals(
     frame: &FrameText,
     references: &References<'_>,
-    most: usize,
     value: &Value<'_>,
     room: &mut [u8],
     from: usize,
 ) -> Option<usize>
     requires number { is_numeric frame.now.kind ≡ true }
     requires references { IsOfReferences (length references.now) frame.now }
-    requires room { from + most + 32 ≤ length room.old }
-    ensures { MatchOption result (Stays room.old room.new from) (λ end. WritesDecimals references.now frame.now value.now most room.old room.new from end) }
+    requires room { from + 64 ≤ length room.old }
+    ensures { MatchOption result (Stays room.old room.new from) (λ end. WritesDecimals references.now frame.now value.now room.old room.new from end) }
 {
     if value.is_nil {
         return Some(from);
@@ -74,7 +77,7 @@ fn write_decimals(
         return None;
     };
     let answer = references.at(reference);
-    if !answer.is_sound || answer.json.len() > most {
+    if !answer.is_sound || answer.json.len() > DECIMALS {
         return None;
     }
     Some(copy_text(room, from, &answer.json))
@@ -92,25 +95,24 @@ fn has_settled(frame: &FrameText, value: &Value<'_>) -> bool
 }
 
 /// Writes the text up to the dimensions where it is not that of the frame, and answers where it ends and from where on the
-/// frame's text comes behind it. None where the decimals are not known, or have a fault, or are more than `most` bytes.
+/// frame's text comes behind it. None where the decimals are not known, or have a fault.
 #[inline(always)]
 fn write_opening(
     frame: &FrameText,
     references: &References<'_>,
-    most: usize,
     value: &Value<'_>,
     room: &mut [u8],
     from: usize,
 ) -> Option<(usize, usize)>
     requires references { IsOfReferences (length references.now) frame.now }
-    requires room { from + (length frame.now.lead + length frame.now.settled) + most + 64 ≤ length room.old }
-    ensures { MatchOption result (Stays room.old room.new from) (λ o. WritesOpening references.now frame.now value.now most room.old room.new from o.0 o.1) }
+    requires room { from + (length frame.now.lead + length frame.now.settled) + 64 ≤ length room.old }
+    ensures { MatchOption result (Stays room.old room.new from) (λ o. WritesOpening references.now frame.now value.now room.old room.new from o.0 o.1) }
 {
     if has_settled(frame, value) {
         return Some((from, 0));
     }
     let at = copy_range(room, from, &frame.text, 0, frame.lead);
-    let at = write_decimals(frame, references, most, value, room, at)?;
+    let at = write_decimals(frame, references, value, room, at)?;
     Some((at, frame.opening))
 }
 
@@ -184,7 +186,7 @@ const MOST_BYTES: usize = 1 << 40;
 #[inline(always)]
 fn room_for(frame: &FrameText, most: u32, start: usize, value: usize) -> Option<usize>
     requires { value ≤ 1024 }
-    ensures { IfSome result (λ room. start + frame_length frame.now + (length frame.now.segments + 1) * most + 6 * value + 128 ≤ room) }
+    ensures { IfSome result (λ room. start + fact_room frame.now most value ≤ room) }
 {
     let count = frame.runs.len();
     let front = start.checked_add(frame.text.len())?;
@@ -194,7 +196,7 @@ fn room_for(frame: &FrameText, most: u32, start: usize, value: usize) -> Option<
     if front >= MOST_BYTES {
         return None;
     }
-    let references = (count + 1) * (most as usize);
+    let references = count * (most as usize);
     Some(front + references + 6 * value + 128)
 }
 
@@ -212,11 +214,11 @@ fn write_object(
     requires value { value.now.len ≤ length value.now.bytes.now }
     requires plain { is_numeric frame.now.kind ≡ true → IfSome (value_of value.now) (λ t. list_all is_unescaped t ≡ true) }
     requires references { IsOfReferences (length references.now) frame.now }
-    requires room { from + frame_length frame.now + (length frame.now.segments + 1) * most + 6 * value.now.len + 128 ≤ length room.old }
+    requires room { from + fact_room frame.now most value.now.len ≤ length room.old }
     ensures object { MatchOption result (Stays room.old room.new from) (λ end. WritesObject references.now frame.now value.now room.old room.new from end) }
     ensures behind { IfSome result (λ end. end + 32 ≤ length room.new) }
 {
-    let (at, rest) = write_opening(frame, references, most, value, room, from)?;
+    let (at, rest) = write_opening(frame, references, value, room, from)?;
     let body = at + (frame.body - rest);
     let end = write_runs(
         &frame.text,
@@ -245,8 +247,8 @@ fn write_fact(
     requires value { value.now.len ≤ length value.now.bytes.now }
     requires plain { is_numeric frame.now.kind ≡ true → IfSome (value_of value.now) (λ t. list_all is_unescaped t ≡ true) }
     requires references { IsOfReferences (length references.now) frame.now }
-    requires room { from + length start.now.items + frame_length frame.now + (length frame.now.segments + 1) * most + 6 * value.now.len + 128 ≤ length room.old }
-    ensures fact { MatchOption result (Stays room.old room.new from) (λ end. WritesFactText references.now frame.now value.now start.now.items room.old room.new from end) }
+    requires room { from + length start.now.items + fact_room frame.now most value.now.len ≤ length room.old }
+    ensures fact { TriesFact references.now frame.now value.now start.now.items room.old room.new from result }
     ensures behind { IfSome result (λ end. end + 32 ≤ length room.new) }
 {
     let at = copy_text(room, from, start);

@@ -1,17 +1,16 @@
 //! What makes the frames of a table.
 
-ghost use Rattle.std.specs.Prelude.{◌≡◌, ◌<◌, ◌++◌, [], IfOk, IfSome, OnOk, length, map, reverse, true};
+ghost use Rattle.std.specs.Prelude.{◌≡◌, ◌<◌, ◌++◌, [], IfOk, IfSome, OnOk, length, map};
 ghost use Rattle.std.specs.List.{All};
 ghost use Rattle.oim_report.specs.InOrder.{LevelRises};
 ghost use Rattle.oim_resolve.specs.ProgramCell.{held};
 ghost use Rattle.oim_rows.specs.RowFacts.{Reading};
-ghost use Rattle.oim_fast.specs.Columns.{IsFactColumn};
-ghost use Rattle.oim_fast.specs.Frames.{AreKindDecimals, IsTextOf, levels_chosen};
-ghost use Rattle.oim_fast.specs.Groups.{IsGroupCell, choices_in, levels_at};
-ghost use Rattle.oim_fast.specs.KeptFrames.{IsBody, IsFor, IsFrame, kind_code};
-ghost use Rattle.oim_fast.specs.Making.{AddsEntries, IsBodyOf, IsConcept, IsMaker, IsOpening, IsReadyMaker, SaysConcept};
-ghost use Rattle.oim_resolve.specs.Written.{written as written_in};
-ghost use Rattle.oim_fast.specs.Pieces.{named, written_entries};
+ghost use Rattle.oim_fast.specs.Columns.{IsFactColumn, column_choices};
+ghost use Rattle.oim_fast.specs.Frames.{AreKindDecimals, IsTextOfKind, levels_chosen};
+ghost use Rattle.oim_fast.specs.Groups.{IsGroupCell, levels_at};
+ghost use Rattle.oim_fast.specs.KeptFrames.{IsBodyFor, IsFor, IsFrame, kind_code};
+ghost use Rattle.oim_fast.specs.Making.{AddsWhere, IsBodyOf, IsConcept, IsMaker, IsOpening, IsReadyMaker, SaysConcept, from_general, keys_in};
+ghost use Rattle.oim_fast.specs.Pieces.{entries_named, written_entries};
 ghost use Rattle.oim_fast.specs.References.{Grows, IsFresh, key_of};
 
 use crate::frame::fact_column::{FactColumn, kind_number};
@@ -95,7 +94,7 @@ fn levels_of<'a>(
 ) -> Result<Vec<&'a Level>, AllocError>
     requires cells { All (IsGroupCell row.now.form) cells.now.list.items }
     requires column { IsFactColumn row.now.form cells.now.list.items column.now }
-    ensures levels { IfOk result (λ v. reverse (held v.items) ≡ levels_chosen row.now.form column.now.column (choices_in cells.now.list.items column.now.groups.items)) }
+    ensures levels { IfOk result (λ v. from_general v.items ≡ levels_chosen row.now.form column.now.column (column_choices cells.now.list.items column.now)) }
     ensures rise { IfOk result (λ v. All (λ l. LevelRises l.now) v.items) }
 {
     let report = row.report();
@@ -117,7 +116,7 @@ fn choices_of(
     cells: &GroupCells<'_>,
 ) -> Result<Vec<Choice>, AllocError>
     requires { All (λ p. p < length cells.now.list.items) column.now.groups.items }
-    ensures { IfOk result (λ v. v.items ≡ choices_in cells.now.list.items column.now.groups.items) }
+    ensures { IfOk result (λ v. v.items ≡ column_choices cells.now.list.items column.now) }
 {
     let mut choices = Vec::with_capacity(alloc, column.groups.len())?;
     for i in 0..column.groups.len() {
@@ -140,7 +139,7 @@ fn decimals_of<'a>(
 ) -> Result<FrameDecimals, AllocError>
     requires fresh { All (IsFresh row.now) references.old }
     requires empty { settled.old.items ≡ [] }
-    ensures decimals { IfOk result (AreKindDecimals row.now.form (map key_of references.new) (reverse (held levels.now)) kind settled.new.items) }
+    ensures decimals { IfOk result (AreKindDecimals row.now.form (map key_of references.new) (from_general levels.now) kind settled.new.items) }
     ensures fresh { All (IsFresh row.now) references.new }
     ensures grows { Grows references.old references.new }
 {
@@ -177,7 +176,7 @@ impl<'a> FrameMaker<'a> {
         requires { IsReadyMaker row.now.form self.old }
         ensures maker { OnOk result (IsMaker row.now self.new) }
         ensures form { IsReadyMaker row.now.form self.new }
-        ensures keys { map key_of self.new.references ≡ map key_of self.old.references }
+        ensures keys { keys_in self.new ≡ keys_in self.old }
         ensures columns { map (λ g. g.column) self.new.cells.list.items ≡ map (λ g. g.column) self.old.cells.list.items }
     {
         self.cells.refresh(row);
@@ -195,7 +194,7 @@ impl<'a> FrameMaker<'a> {
     ) -> Result<Concept, AllocError>
         requires maker { IsMaker row.now self.old }
         requires rise { All (λ l. LevelRises l.now) levels.now }
-        ensures concept { IfOk result (IsConcept row.now.form (map key_of self.new.references) (reverse (held levels.now)) (kind_code kind)) }
+        ensures concept { IfOk result (IsConcept row.now.form (keys_in self.new) (from_general levels.now) (kind_code kind)) }
         ensures maker { IsMaker row.now self.new }
         ensures grows { Grows self.old.references self.new.references }
         ensures cells { self.new.cells ≡ self.old.cells }
@@ -223,7 +222,7 @@ impl<'a> FrameMaker<'a> {
         kind: Kind,
     ) -> Result<FrameText, AllocError>
         requires { IsMaker row.now self.old }
-        ensures opening { IfOk result (IsOpening row.now.form (map key_of self.new.references) (reverse (held levels.now)) kind lead.now.items) }
+        ensures opening { IfOk result (IsOpening row.now.form (keys_in self.new) (from_general levels.now) kind lead.now.items) }
         ensures maker { IsMaker row.now self.new }
         ensures grows { Grows self.old.references self.new.references }
         ensures cells { self.new.cells ≡ self.old.cells }
@@ -245,7 +244,7 @@ impl<'a> FrameMaker<'a> {
     ) -> Result<bool, AllocError>
         requires maker { IsMaker row.now self.old }
         requires rise { All (λ l. LevelRises l.now) levels.now }
-        ensures added { IfOk result (λ added. added ≡ true → AddsEntries row.now.form (map key_of self.new.references) (named name.now (written_in (reverse (held levels.now)) name.now)) text.old text.new) }
+        ensures added { IfOk result (AddsWhere row.now.form (keys_in self.new) (entries_named (from_general levels.now) name.now) text.old text.new) }
         ensures maker { IsMaker row.now self.new }
         ensures grows { Grows self.old.references self.new.references }
         ensures cells { self.new.cells ≡ self.old.cells }
@@ -272,7 +271,7 @@ impl<'a> FrameMaker<'a> {
     ) -> Result<bool, AllocError>
         requires maker { IsMaker row.now self.old }
         requires rise { All (λ l. LevelRises l.now) levels.now }
-        ensures added { IfOk result (λ added. added ≡ true → AddsEntries row.now.form (map key_of self.new.references) (written_entries (reverse (held levels.now))) text.old text.new) }
+        ensures added { IfOk result (AddsWhere row.now.form (keys_in self.new) (written_entries (from_general levels.now)) text.old text.new) }
         ensures maker { IsMaker row.now self.new }
         ensures grows { Grows self.old.references self.new.references }
         ensures cells { self.new.cells ≡ self.old.cells }
@@ -300,7 +299,7 @@ impl<'a> FrameMaker<'a> {
     ) -> Result<Option<FrameText>, AllocError>
         requires maker { IsMaker row.now self.old }
         requires rise { All (λ l. LevelRises l.now) levels.now }
-        ensures text { IfOk result (λ o. IfSome o (λ t. (t.kind ≡ kind) × IsTextOf row.now.form (map key_of self.new.references) (reverse (held levels.now)) lead.now.items t)) }
+        ensures text { IfOk result (λ o. IfSome o (IsTextOfKind row.now.form (keys_in self.new) (from_general levels.now) lead.now.items kind)) }
         ensures maker { IsMaker row.now self.new }
         ensures grows { Grows self.old.references self.new.references }
         ensures cells { self.new.cells ≡ self.old.cells }
@@ -324,7 +323,7 @@ impl<'a> FrameMaker<'a> {
     ) -> Result<Body, AllocError>
         requires maker { IsMaker row.now self.old }
         requires column { IsFactColumn row.now.form self.old.cells.list.items column.now }
-        ensures body { IfOk result (IsBody row.now.form (map key_of self.new.references) column.now.column (choices_in self.old.cells.list.items column.now.groups.items) (kind_code kind)) }
+        ensures body { IfOk result (IsBodyFor row.now.form (keys_in self.new) self.old.cells.list.items column.now kind) }
         ensures maker { IsMaker row.now self.new }
         ensures grows { Grows self.old.references self.new.references }
         ensures cells { self.new.cells ≡ self.old.cells }
@@ -352,7 +351,7 @@ impl<'a> FrameMaker<'a> {
     ) -> Result<Frame, AllocError>
         requires maker { IsMaker row.now self.old }
         requires column { IsFactColumn row.now.form self.old.cells.list.items column.now }
-        ensures frame { IfOk result (IsFrame row.now.form (map key_of self.new.references)) }
+        ensures frame { IfOk result (IsFrame row.now.form (keys_in self.new)) }
         ensures serves { IfOk result (IsFor self.old.cells.list.items column.now kind) }
         ensures maker { IsMaker row.now self.new }
         ensures grows { Grows self.old.references self.new.references }

@@ -1,15 +1,14 @@
 //! The frames of a table that are kept.
 
-ghost use Rattle.std.specs.Prelude.{◌≡◌, ◌<◌, [], List, Some, None, IfOk, IfSome, IsSomeAnd, length, map, true};
+ghost use Rattle.std.specs.Prelude.{◌≡◌, ◌<◌, [], Some, None, IfOk, IfSome, length, true};
 ghost use Rattle.std.specs.List.{All, slice_get};
 ghost use Rattle.oim_resolve.specs.Written.{levels};
-ghost use Rattle.oim_rows.specs.RowFacts.{Reading};
 ghost use Rattle.oim_fast.specs.Columns.{IsFactColumn};
 ghost use Rattle.oim_fast.specs.Frames.{HasReferredKind, is_known_choice};
 ghost use Rattle.oim_fast.specs.Groups.{choices_in};
-ghost use Rattle.oim_fast.specs.KeptFrames.{IsFor, IsFrame, IsKnownFor, IsOfConcept, IsTextFor, text_in};
-ghost use Rattle.oim_fast.specs.Making.{IsMaker};
-ghost use Rattle.oim_fast.specs.References.{Grows, Key, key_of};
+ghost use Rattle.oim_fast.specs.KeptFrames.{HasFrame, HasTextFor, IsFor, IsFrame, IsKnownFor, IsOfConcept, text_in};
+ghost use Rattle.oim_fast.specs.Making.{IsMaker, keys_in};
+ghost use Rattle.oim_fast.specs.References.{Grows, HoldsStill, HoldsWith};
 ghost use Rattle.oim_fast.specs.Rows.{cell_in};
 
 use crate::frame::fact_column::{FactColumn, kind_number};
@@ -105,7 +104,7 @@ impl Frames {
         kind: Option<Kind>,
     ) -> bool
         requires { All (λ p. p < length cells.now.list.items) column.now.groups.items }
-        ensures { result ≡ true → IsSomeAnd (slice_get self.now.list.items place) (IsKnownFor cells.now.list.items column.now kind) }
+        ensures { result ≡ true → HasFrame self.now.list.items (IsKnownFor cells.now.list.items column.now kind) place }
     {
         if place >= self.list.len() {
             return false;
@@ -124,7 +123,7 @@ impl Frames {
         kind: Option<Kind>,
     ) -> Option<usize>
         requires { All (λ p. p < length cells.now.list.items) column.now.groups.items }
-        ensures { IfSome result (λ place. IsSomeAnd (slice_get self.now.list.items place) (IsKnownFor cells.now.list.items column.now kind)) }
+        ensures { IfSome result (HasFrame self.now.list.items (IsKnownFor cells.now.list.items column.now kind)) }
     {
         for step in 0..STEPS {
             let place = self.by_hash.place_at(hash, step)?;
@@ -137,7 +136,7 @@ impl Frames {
 
     /// Forgets all frames where another one of a size would take too much memory. Counts that one.
     fn make_room(&mut self, size: usize)
-        ensures { (f : Reading) (keys : List Key) → All (IsFrame f keys) self.old.list.items → All (IsFrame f keys) self.new.list.items }
+        ensures { HoldsStill IsFrame self.old.list.items self.new.list.items }
     {
         let together = self.size.saturating_add(size);
         if together <= MOST {
@@ -152,7 +151,7 @@ impl Frames {
     /// Keeps a frame, and answers its place. Fails where memory is short.
     fn keep(&mut self, alloc: Global, hash: u64, frame: Frame) -> Result<usize, AllocError>
         ensures place { IfOk result (λ place. slice_get self.new.list.items place ≡ Some frame) }
-        ensures frames { (f : Reading) (keys : List Key) → All (IsFrame f keys) self.old.list.items → IsFrame f keys frame → All (IsFrame f keys) self.new.list.items }
+        ensures frames { HoldsWith IsFrame self.old.list.items frame self.new.list.items }
     {
         self.make_room(frame.size());
         let place = self.list.len();
@@ -174,12 +173,12 @@ impl Frames {
     ) -> Result<usize, AllocError>
         requires maker { IsMaker row.now maker.old }
         requires column { IsFactColumn row.now.form maker.old.cells.list.items column.now }
-        requires frames { All (IsFrame row.now.form (map key_of maker.old.references)) self.old.list.items }
-        ensures place { IfOk result (λ place. IsSomeAnd (slice_get self.new.list.items place) (IsFor maker.old.cells.list.items column.now kind)) }
+        requires frames { All (IsFrame row.now.form (keys_in maker.old)) self.old.list.items }
+        ensures place { IfOk result (HasFrame self.new.list.items (IsFor maker.old.cells.list.items column.now kind)) }
         ensures maker { IsMaker row.now maker.new }
         ensures grows { Grows maker.old.references maker.new.references }
         ensures cells { maker.new.cells ≡ maker.old.cells }
-        ensures frames { All (IsFrame row.now.form (map key_of maker.new.references)) self.new.list.items }
+        ensures frames { All (IsFrame row.now.form (keys_in maker.new)) self.new.list.items }
     {
         let hash = column.hash(&maker.cells, kind);
         if let Some(place) = self.find(hash, column, &maker.cells, kind) {
@@ -202,12 +201,12 @@ impl Frames {
     ) -> Result<Option<usize>, AllocError>
         requires maker { IsMaker row.now maker.old }
         requires column { IsFactColumn row.now.form maker.old.cells.list.items column.old }
-        requires frames { All (IsFrame row.now.form (map key_of maker.old.references)) self.old.list.items }
-        ensures place { IfOk result (λ o. IfSome o (λ place. IsSomeAnd (slice_get self.new.list.items place) (IsKnownFor maker.old.cells.list.items column.old None))) }
+        requires frames { All (IsFrame row.now.form (keys_in maker.old)) self.old.list.items }
+        ensures place { IfOk result (λ o. IfSome o (HasFrame self.new.list.items (IsKnownFor maker.old.cells.list.items column.old None))) }
         ensures maker { IsMaker row.now maker.new }
         ensures grows { Grows maker.old.references maker.new.references }
         ensures cells { maker.new.cells ≡ maker.old.cells }
-        ensures frames { All (IsFrame row.now.form (map key_of maker.new.references)) self.new.list.items }
+        ensures frames { All (IsFrame row.now.form (keys_in maker.new)) self.new.list.items }
         ensures column { column.new ≡ record column.old { last = column.new.last } }
     {
         if self.is_at(column.last, column, &maker.cells, None) {
@@ -234,13 +233,13 @@ impl Frames {
     ) -> Result<Option<usize>, AllocError>
         requires maker { IsMaker row.now maker.old }
         requires column { IsFactColumn row.now.form maker.old.cells.list.items column.old }
-        requires frames { All (IsFrame row.now.form (map key_of maker.old.references)) self.old.list.items }
-        requires reference { HasReferredKind row.now.form (map key_of maker.old.references) (levels (cell_in row.now column.old.column)) reference }
-        ensures place { IfOk result (λ o. IfSome o (λ place. IsSomeAnd (slice_get self.new.list.items place) (IsOfConcept row.now maker.old.cells.list.items column.old))) }
+        requires frames { All (IsFrame row.now.form (keys_in maker.old)) self.old.list.items }
+        requires reference { HasReferredKind row.now.form (keys_in maker.old) (levels (cell_in row.now column.old.column)) reference }
+        ensures place { IfOk result (λ o. IfSome o (HasFrame self.new.list.items (IsOfConcept row.now maker.old.cells.list.items column.old))) }
         ensures maker { IsMaker row.now maker.new }
         ensures grows { Grows maker.old.references maker.new.references }
         ensures cells { maker.new.cells ≡ maker.old.cells }
-        ensures frames { All (IsFrame row.now.form (map key_of maker.new.references)) self.new.list.items }
+        ensures frames { All (IsFrame row.now.form (keys_in maker.new)) self.new.list.items }
         ensures column { column.new ≡ record column.old { last_of_kind = column.new.last_of_kind } }
     {
         let _digits = row.digits();
@@ -267,12 +266,12 @@ impl Frames {
     ) -> Result<Option<usize>, AllocError>
         requires maker { IsMaker row.now maker.old }
         requires column { IsFactColumn row.now.form maker.old.cells.list.items column.old }
-        requires frames { All (IsFrame row.now.form (map key_of maker.old.references)) self.old.list.items }
-        ensures text { IfOk result (λ o. IfSome o (λ place. IfSome (text_in self.new.list.items place) (IsTextFor row.now (map key_of maker.new.references) column.old.column))) }
+        requires frames { All (IsFrame row.now.form (keys_in maker.old)) self.old.list.items }
+        ensures text { IfOk result (λ o. IfSome o (HasTextFor row.now (keys_in maker.new) column.old.column self.new.list.items)) }
         ensures maker { IsMaker row.now maker.new }
         ensures grows { Grows maker.old.references maker.new.references }
         ensures cells { maker.new.cells ≡ maker.old.cells }
-        ensures frames { All (IsFrame row.now.form (map key_of maker.new.references)) self.new.list.items }
+        ensures frames { All (IsFrame row.now.form (keys_in maker.new)) self.new.list.items }
         ensures column { IsFactColumn row.now.form maker.new.cells.list.items column.new }
         ensures same { column.new ≡ record column.old { last = column.new.last; last_of_kind = column.new.last_of_kind } }
     {

@@ -1,12 +1,11 @@
 //! The dimensions that the levels of a table write, made ready, each once.
 
-ghost use Rattle.std.specs.Prelude.{◌≡◌, [], List, Some, IfOk, IfSome, map, true};
+ghost use Rattle.std.specs.Prelude.{◌≡◌, [], Some, IfOk, IfSome, map, true};
 ghost use Rattle.std.specs.List.{All, slice_get};
 ghost use Rattle.std.specs.Option.{option_map};
-ghost use Rattle.oim_rows.specs.RowFacts.{Reading};
 ghost use Rattle.oim_fast.specs.Frames.{entry_of};
 ghost use Rattle.oim_fast.specs.Parts.{IsPart};
-ghost use Rattle.oim_fast.specs.References.{Grows, IsFresh, Key, key_of};
+ghost use Rattle.oim_fast.specs.References.{Grows, HoldsStill, HoldsWith, IsFresh, key_of};
 
 use crate::frame::part::Part;
 use crate::row::purpose::is_same_side;
@@ -91,7 +90,7 @@ impl<'a> Parts<'a> {
 
     /// Forgets all parts where there are as many as may be kept.
     fn make_room(&mut self)
-        ensures { (f : Reading) (keys : List Key) → All (IsPart f keys) self.old.list.items → All (IsPart f keys) self.new.list.items }
+        ensures { HoldsStill IsPart self.old.list.items self.new.list.items }
     {
         if self.list.len() < MOST {
             return;
@@ -103,7 +102,7 @@ impl<'a> Parts<'a> {
     /// Keeps a part, and answers its place. Fails where memory is short.
     fn keep(&mut self, alloc: Global, hash: u64, part: Part<'a>) -> Result<usize, AllocError>
         ensures place { IfOk result (λ place. slice_get self.new.list.items place ≡ Some part.entry) }
-        ensures parts { (f : Reading) (keys : List Key) → All (IsPart f keys) self.old.list.items → IsPart f keys part.entry → All (IsPart f keys) self.new.list.items }
+        ensures parts { HoldsWith IsPart self.old.list.items part.entry self.new.list.items }
     {
         self.make_room();
         let place = self.list.len();

@@ -1,14 +1,12 @@
 //! What a value gives the facts of a row, as JSON.
 
 ghost use Rattle.std.specs.Prelude.{◌≡◌, ◌++◌, ◌≤◌, IfOk, IfSome, Ok, OnOk, Some, [], is_ok, length, true, take};
-ghost use Rattle.oim_cells.specs.Cells.{Absent as nothing_said, Text as a_text, seen_meaning};
+ghost use Rattle.oim_cells.specs.Cells.{Absent as nothing_said, seen_meaning};
 ghost use Rattle.oim_json.specs.JsonText.{decimals_text};
 ghost use Rattle.oim_report.specs.ReportValue.{ReportValue};
-ghost use Rattle.oim_report.specs.declared.data.Side.{Side as SideValue};
-ghost use Rattle.oim_resolve.specs.Facts.{concept_read, entry_given, places, stated_read, value_read};
+ghost use Rattle.oim_resolve.specs.Facts.{concept_read, places, stated_read, value_read};
 ghost use Rattle.oim_resolve.specs.Values.{Read};
-ghost use Rattle.oim_resolve.specs.declared.role.Role.TheVariants as role;
-ghost use Rattle.oim_fast.specs.Answers.{IsAnswer, IsSilent, decimals_json, dimension_json, is_sound_for, json_for};
+ghost use Rattle.oim_fast.specs.Answers.{AppendsWhere, IsAnswer, IsSilent, IsTypedAnswer, decimals_json, dimension_json, is_sound_for, json_for};
 ghost use Rattle.oim_fast.specs.declared.row.purpose.Purpose.{Purpose as PurposeValue};
 ghost use Rattle.oim_fast.specs.declared.row.purpose.Purpose.TheVariants.{Dimension as for_dimension};
 
@@ -99,7 +97,7 @@ fn put_dimension(
     value: CellMeaning<'_>,
 ) -> Result<bool, AllocError>
     ensures sound { IfOk result (λ sound. sound ≡ is_ok (value_read report.now role side (seen_meaning value.entry))) }
-    ensures text { IfOk result (λ sound. sound ≡ true → out.new.items ≡ out.old.items ++ dimension_json (entry_given report.now role side (seen_meaning value.entry))) }
+    ensures text { IfOk result (AppendsWhere out.old.items (json_for report.now (for_dimension role side) (seen_meaning value.entry)) out.new.items) }
 {
     let read = read_value(alloc, report, role, side, value)?;
     let Ok(entry) = read else {
@@ -119,7 +117,7 @@ fn put_for(
     value: CellMeaning<'_>,
 ) -> Result<bool, AllocError>
     ensures sound { IfOk result (λ sound. sound ≡ is_sound_for report.now purpose (seen_meaning value.entry)) }
-    ensures text { IfOk result (λ sound. sound ≡ true → out.new.items ≡ out.old.items ++ json_for report.now purpose (seen_meaning value.entry)) }
+    ensures text { IfOk result (AppendsWhere out.old.items (json_for report.now purpose (seen_meaning value.entry)) out.new.items) }
 {
     match purpose {
         Purpose::Decimals => put_stated(out, value),
@@ -186,7 +184,7 @@ impl Answer {
     #[inline(always)]
     pub(crate) fn read_typed(&mut self, text: &[u8], len: usize) -> Result<(), AllocError>
         requires { len ≤ length text.now }
-        ensures { (report : ReportValue) (side : SideValue) → IsAnswer report (for_dimension role.Typed side) (a_text (take len text.now)) self.new }
+        ensures { IsTypedAnswer (take len text.now) self.new }
     {
         self.forget();
         put_quoted_front(&mut self.json, text, len)?;

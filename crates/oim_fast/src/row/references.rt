@@ -1,11 +1,9 @@
 //! The references of a table.
 
-ghost use Rattle.std.specs.Prelude.{◌≡◌, ◌<◌, [], Some, IfOk, IfSome, OnOk, length, map};
+ghost use Rattle.std.specs.Prelude.{◌≡◌, ◌<◌, [], IfOk, IfSome, OnOk, length, map};
 ghost use Rattle.std.specs.List.{All, slice_get};
-ghost use Rattle.std.specs.Option.{option_map};
 ghost use Rattle.oim_fast.specs.Answers.{IsAnswer};
-ghost use Rattle.oim_fast.specs.References.{Grows, IsFresh, IsOfReport, key_of, meaning_at_hand};
-ghost use Rattle.oim_fast.specs.Sources.{seen_source};
+ghost use Rattle.oim_fast.specs.References.{Grows, HasKey, IsFresh, IsOfReport, key_of, key_seen, meaning_at_hand};
 
 use crate::row::answer::Answer;
 use crate::row::purpose::Purpose;
@@ -95,7 +93,7 @@ impl<'a> References<'a> {
 
     /// The place of a reference that is there already.
     fn find(&self, purpose: Purpose, source: Source<'_>) -> Option<usize>
-        ensures { IfSome result (λ place. option_map key_of (slice_get self.now place) ≡ Some (record { purpose = purpose; source = seen_source source.entry })) }
+        ensures { IfSome result (HasKey self.now (key_seen purpose source.entry)) }
     {
         for i in 0..self.list.len() {
             if self.list[i].is_for(purpose, source) {
@@ -115,7 +113,7 @@ impl<'a> References<'a> {
         source: Source<'a>,
     ) -> Result<usize, AllocError>
         requires { All (IsFresh row.now) self.old }
-        ensures place { IfOk result (λ place. option_map key_of (slice_get self.new place) ≡ Some (record { purpose = purpose; source = seen_source source.entry })) }
+        ensures place { IfOk result (HasKey self.new (key_seen purpose source.entry)) }
         ensures fresh { All (IsFresh row.now) self.new }
         ensures grows { Grows self.old self.new }
     {

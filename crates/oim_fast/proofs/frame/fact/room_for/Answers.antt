@@ -1,4 +1,4 @@
-use Rattle.std.proofs.Common.{◌≡◌, ◌+◌, ◌*◌, length, sym, ap, ◌∙◌, arith}
+use Rattle.std.proofs.Common.{◌≡◌, ◌*◌, length, sym, ap, ◌∙◌, arith}
 use Rattle.oim_fast.specs.FactTexts.{frame_length}
 use Rattle.oim_fast.specs.FrameTexts.{FrameValue}
 use Rattle.oim_fast.proofs.FactTextLaws.{frame_length_is, segments_length}
@@ -11,5 +11,5 @@ returns c =
     let all : frame_length t ≡ length a.text.items = ap frame_length (sym c.frame.view_is) ∙ frame_length_is a.text.items a.lead a.opening a.body a.runs.items c.frame.invariant a.kind a.decimals in
     let segments : length t.segments ≡ length a.runs.items = ap (λ (q : FrameValue). length q.segments) (sym c.frame.view_is) ∙ segments_length a.text.items a.body a.runs.items in
     let count : c.len-count.result ≡ length t.segments = omega (arith, segments, c.len-count.ensures) in
-    let products : (c.len-count.result + 1) * c.args.most ≡ (length t.segments + 1) * c.args.most = ap (λ n. (n + 1) * c.args.most) count in
+    let products : c.len-count.result * c.args.most ≡ length t.segments * c.args.most = ap (λ n. n * c.args.most) count in
     omega (arith, all, products, c.in_ok-front.ensures, c.len.ensures)

@@ -1,4 +1,4 @@
-use Rattle.std.proofs.Common.{◌*◌, arith}
+use Rattle.std.proofs.Common.{arith}
 use Rattle.oim_fast.proofs.FactTextLaws.{body_before, end_fits, object_written, runs_fit, runs_there, runs_within_references}
 use Rattle.oim_fast.proofs.PlacedBytes.{Placed-stays, Stays-then}
 use Rattle.oim_fast.proofs.frame.fact.write_object.Goals as goal
@@ -10,7 +10,7 @@ pub write_runs-requires-clause-references : goal.write_runs-requires-clause-refe
 write_runs-requires-clause-references c = rw c.as_slice.ensures.value (runs_within_references c.frame.invariant c.frame.view_is c.in_ok-at.ensures _ c.requires.references.dimensions)
 
 pub write_runs-requires-clause-room : goal.write_runs-requires-clause-room
-write_runs-requires-clause-room c = rw c.as_slice.ensures.value (runs_fit c.frame.invariant c.frame.view_is c.in_ok-at.ensures (6 * c.args.value.now.len) c.requires.room)
+write_runs-requires-clause-room c = rw c.as_slice.ensures.value (runs_fit c.frame.invariant c.frame.view_is c.in_ok-at.ensures c.args.most c.args.value.now.len c.requires.room)
 
 pub returns-in_err-end-clause-object : goal.returns-in_err-end-clause-object
 returns-in_err-end-clause-object c =
@@ -25,13 +25,13 @@ close_dimensions-at-requires-clause-order c =
 pub close_dimensions-at-requires-clause-room : goal.close_dimensions-at-requires-clause-room
 close_dimensions-at-requires-clause-room c =
     let runs = rw c.as_slice.ensures.value at c.in_ok-end.ensures in
-    let fits = end_fits c.frame.invariant c.frame.view_is c.in_ok-at.ensures runs (6 * c.args.value.now.len) c.requires.room in
+    let fits = end_fits c.frame.invariant c.frame.view_is c.in_ok-at.ensures runs c.args.value.now.len c.requires.room in
     omega (arith, fits)
 
 pub write_value-requires-clause-room : goal.write_value-requires-clause-room
 write_value-requires-clause-room c =
     let runs = rw c.as_slice.ensures.value at c.in_ok-end.ensures in
-    let fits = end_fits c.frame.invariant c.frame.view_is c.in_ok-at.ensures runs (6 * c.args.value.now.len) c.requires.room in
+    let fits = end_fits c.frame.invariant c.frame.view_is c.in_ok-at.ensures runs c.args.value.now.len c.requires.room in
     let before = body_before c.frame.invariant c.frame.view_is c.in_ok-at.ensures runs in
     omega (arith, fits, before, c.close_dimensions-at.ensures.moved, c.close_dimensions-at.ensures.len)
 

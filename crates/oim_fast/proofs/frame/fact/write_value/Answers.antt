@@ -1,4 +1,4 @@
-use Rattle.std.proofs.Common.{◌+◌, ◌*◌, length, take, arith, length-take-le}
+use Rattle.std.proofs.Common.{take, arith, length-take-le}
 use Rattle.oim_fast.proofs.FactTextLaws.{escaped_length, value_none, value_some}
 use Rattle.oim_fast.proofs.PlacedBytes.{Placed-then}
 use Rattle.oim_fast.proofs.frame.fact.write_value.Goals as goal

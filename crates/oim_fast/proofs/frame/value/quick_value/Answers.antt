@@ -1,4 +1,4 @@
-use Rattle.std.proofs.Common.{List, ℕ, None, Some, IfSome, false, refl, sym, subst}
+use Rattle.std.proofs.Common.{None, Some, IfSome, false, refl, sym, subst}
 use Rattle.oim_cells.specs.Cells.{meaning_of}
 use Rattle.oim_rows.specs.RowFacts.{field_or_empty}
 use Rattle.oim_report.specs.declared.kind.Kind.{Kind}

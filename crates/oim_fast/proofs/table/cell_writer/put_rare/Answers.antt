@@ -3,7 +3,6 @@ use Rattle.oim_cells.specs.Cells.{meaning_of}
 use Rattle.oim_report.specs.declared.kind.Kind.{Kind}
 use Rattle.oim_fast.specs.CellValues.{IsCellValue, IsValue}
 use Rattle.oim_fast.specs.FrameTexts.{FrameValue}
-use Rattle.oim_fast.specs.declared.frame.value.CellValue.{CellValue}
 use Rattle.oim_fast.proofs.CellWriterLaws.{value_is_plain, value_said}
 use Rattle.oim_fast.proofs.table.cell_writer.put_rare.Goals as goal
 

@@ -6,6 +6,6 @@ use Rattle.oim_fast.proofs.row.cached_answer.CachedAnswer.new.Goals as goal
 
 pub returns : goal.returns
 returns c = record {
-  cached = λ r p untyped. subst (λ (v : Meaning). IsAnswer r p v c.new-2.result) (sym (ap meaning_of c.new.ensures.bytes ∙ empty_meaning)) (c.new-2.ensures r p);
+  cached = λ r p kept. subst (λ (v : Meaning). IsAnswer r p v c.new-2.result) (sym (ap meaning_of c.new.ensures.bytes ∙ empty_meaning)) (c.new-2.ensures r p);
   answer = λ r p. subst (λ (v : Meaning). IsAnswer r p v c.new-2.result) (sym empty_meaning) (c.new-2.ensures r p);
 }

@@ -21,7 +21,7 @@ invariant_of-self c =
     let some : 0 < length text = omega (arith, length-take-le len bytes c.bytes_at-len.ensures.within) in
     let means : meaning_of text ≡ Text text = plain_meaning text 0 some (λ e. c.if-bytes-ne35.true (sym (get_or-take len bytes 0 0 (omega arith)) ∙ e)) in
     let told : Text text ≡ meaning_of c.of.result.value = sym means ∙ ap meaning_of (sym c.of.ensures) in
-    let answer : IsAnswer r p (meaning_of c.of.result.value) c.read_typed.new.self =
-    for_typed (λ (q : Purpose). IsAnswer r q (meaning_of c.of.result.value) c.read_typed.new.self) p typed
-    (λ side. subst (λ (v : Meaning). IsAnswer r (Dimension Typed side) v c.read_typed.new.self) told (c.read_typed.ensures r side)) in
-    kept_typed r p c.of.result.value c.self.inside.answers.items _ typed (omega (arith, c.self.invariant.within)) answer
+    let answer : IsAnswer r p (meaning_of c.of.result.value) c.read_typed.new.self.answer =
+    for_typed (λ (q : Purpose). IsAnswer r q (meaning_of c.of.result.value) c.read_typed.new.self.answer) p typed
+    (λ side. subst (λ (v : Meaning). IsAnswer r (Dimension Typed side) v c.read_typed.new.self.answer) told (c.read_typed.ensures.answer r side)) in
+    kept_typed r p c.of.result.value c.self.inside.answers.items c.read_typed.new.self c.read_typed.ensures.kept (omega (arith, c.self.invariant.within)) c.self.invariant.cached answer

@@ -1,4 +1,4 @@
-use Rattle.std.proofs.Common.{◌≡◌, ◌++◌, ◌∷◌, [], List, Some, ap, sym, subst, ◌∙◌, arith, length}
+use Rattle.std.proofs.Common.{◌≡◌, ◌++◌, ◌∷◌, [], List, Some, ap, sym, subst, ◌∙◌, append-nil, arith, length}
 use Rattle.std.specs.List.{All, slice_get}
 use Rattle.std.specs.Option.{option_map}
 use Rattle.oim_fast.specs.References.{IsFresh, ReferenceValue, key_of}
@@ -16,6 +16,17 @@ returns-then-self-size-clause-fresh c =
     } in
     subst (λ (rs : List ReferenceValue). All (IsFresh x) rs) (sym c.in_ok-push.ensures.items)
     (all_push (IsFresh x) c.self.inside.list.items c.refresh.new.self (subst (λ (rs : List ReferenceValue). All (IsFresh x) rs) (sym c.self.view_is) c.requires) fresh)
+
+pub returns-then-self-size-clause-place : goal.returns-then-self-size-clause-place
+returns-then-self-size-clause-place c =
+    let rs = c.self.inside.list.items in
+    let r = c.refresh.new.self in
+    let last : c.len-place.result ≡ length rs = omega (arith, c.len-place.ensures) in
+    ap (λ ys. option_map key_of (slice_get ys c.len-place.result)) c.in_ok-push.ensures.items
+    ∙ ap (λ n. option_map key_of (slice_get (rs ++ r ∷ []) n)) last
+    ∙ ap (option_map key_of) (slice_get-last rs r)
+    ∙ ap (λ (s : ReferenceValue). Some (key_of s)) c.refresh.ensures
+    ∙ ap (λ (s : ReferenceValue). Some (key_of s)) c.in_ok-reference.ensures
 
 pub returns-else-self-size-clause-place : goal.returns-else-self-size-clause-place
 returns-else-self-size-clause-place c =
@@ -38,3 +49,6 @@ returns-else-self-size-clause-fresh c =
     } in
     subst (λ (rs : List ReferenceValue). All (IsFresh x) rs) (sym c.in_ok-push.ensures.items)
     (all_push (IsFresh x) c.self.inside.list.items c.refresh.new.self (subst (λ (rs : List ReferenceValue). All (IsFresh x) rs) (sym c.self.view_is) c.requires) fresh)
+
+pub returns-in_err-push-clause-grows : goal.returns-in_err-push-clause-grows
+returns-in_err-push-clause-grows c = record { more = []; is = c.in_err-push.ensures.items ∙ c.self.view_is ∙ sym (append-nil c.args.self.now) }

@@ -4,8 +4,6 @@ use Rattle.oim_fast.specs.KeptFrames.{IsFrame}
 use Rattle.oim_fast.specs.References.{key_of}
 use Rattle.oim_fast.specs.declared.row.group_cells.GroupCells.{GroupCells}
 use Rattle.oim_fast.proofs.MakerLaws.{all_of_none}
-use Rattle.oim_fast.proofs.LoopLaws.{one_more}
-use Rattle.oim_fast.proofs.CellWriterLaws.{column_set}
 use Rattle.oim_fast.proofs.table.cell_writer.CellWriter.new.Goals as goal
 
 pub returns : goal.returns

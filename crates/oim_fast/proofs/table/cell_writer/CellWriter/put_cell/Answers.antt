@@ -1,4 +1,4 @@
-use Rattle.std.proofs.Common.{◌≡◌, ◌<◌, ◌∙◌, ℕ, List, Option, Some, None, IfSome, [], true, length, map, take, get_or, refl, sym, ap, subst, arith}
+use Rattle.std.proofs.Common.{◌≡◌, ◌∙◌, ℕ, Option, Some, IfSome, [], true, map, take, get_or, sym, ap, subst, arith}
 use Rattle.oim_cells.specs.Cells.{Meaning, meaning_of}
 use Rattle.oim_report.specs.declared.kind.Kind.{Kind}
 use Rattle.oim_resolve.specs.Facts.{cell_result, fact_meaning, is_absent}
@@ -15,7 +15,6 @@ use Rattle.oim_fast.specs.declared.frame.fact_column.FactColumn.{FactColumn}
 use Rattle.oim_fast.specs.declared.row.group_cells.GroupCells.{GroupCells}
 use Rattle.oim_fast.proofs.CellWriterLaws.{cell_meaning, column_set, column_there, nothing_written, of_references, puts_fact, puts_said, value_is_plain}
 use Rattle.oim_fast.proofs.Texts.{empty_meaning}
-use Rattle.oim_fast.proofs.WriteLaws.{none_given}
 use Rattle.oim_fast.proofs.table.cell_writer.CellWriter.put_cell.Goals as goal
 
 pub returns-then-size-eq0-clause-cell : goal.returns-then-size-eq0-clause-cell

@@ -1,4 +1,4 @@
-use Rattle.std.proofs.Common.{◌≡◌, ◌<◌, ◌∙◌, ◌++◌, ◌∷◌, [], ℕ, List, length, sym, ap, subst, arith}
+use Rattle.std.proofs.Common.{◌<◌, ◌∙◌, ◌++◌, ◌∷◌, [], ℕ, List, length, sym, ap, subst, arith}
 use mathlib.Core.List.{IsPrefix}
 use Rattle.oim_fast.specs.CellWriters.{HasFacts, column_at}
 use Rattle.oim_fast.specs.Columns.{fact_columns_in}

@@ -1,4 +1,4 @@
-use Rattle.std.proofs.Common.{◌∙◌, List, map, sym, subst, arith}
+use Rattle.std.proofs.Common.{List, map, sym, subst, arith}
 use Rattle.std.specs.List.{All}
 use Rattle.oim_fast.specs.KeptFrames.{IsFrame}
 use Rattle.oim_fast.specs.References.{Key, key_of}
@@ -21,7 +21,7 @@ returns-in_err-read-clause-form c =
     let later = c.refresh.new.self in
     let columns = all_columns_kept f old.maker.cells.list.items later.cells.list.items old.columns.items c.refresh.ensures.columns c.requires.columns in
     let frames : All (IsFrame f (map key_of later.references)) old.frames.list.items = subst (λ (keys : List Key). All (IsFrame f keys) old.frames.list.items) (sym c.refresh.ensures.keys) c.requires.frames in
-    record { columns = columns; maker = c.refresh.ensures.form; frames = frames; lead = c.read.ensures.lead ∙ c.requires.lead }
+    record { columns = columns; maker = c.refresh.ensures.form; frames = frames; lead = c.read.ensures.lead }
 
 pub returns-clause-form : goal.returns-clause-form
 returns-clause-form c =
@@ -30,7 +30,7 @@ returns-clause-form c =
     let later = c.refresh.new.self in
     let columns = all_columns_kept f old.maker.cells.list.items later.cells.list.items old.columns.items c.refresh.ensures.columns c.requires.columns in
     let frames : All (IsFrame f (map key_of later.references)) old.frames.list.items = subst (λ (keys : List Key). All (IsFrame f keys) old.frames.list.items) (sym c.refresh.ensures.keys) c.requires.frames in
-    record { columns = columns; maker = c.refresh.ensures.form; frames = frames; lead = c.read.ensures.lead ∙ c.requires.lead }
+    record { columns = columns; maker = c.refresh.ensures.form; frames = frames; lead = c.read.ensures.lead }
 
 pub returns-clause-row : goal.returns-clause-row
 returns-clause-row c =
@@ -39,4 +39,4 @@ returns-clause-row c =
     let later = c.refresh.new.self in
     let columns = all_columns_kept f old.maker.cells.list.items later.cells.list.items old.columns.items c.refresh.ensures.columns c.requires.columns in
     let frames : All (IsFrame f (map key_of later.references)) old.frames.list.items = subst (λ (keys : List Key). All (IsFrame f keys) old.frames.list.items) (sym c.refresh.ensures.keys) c.requires.frames in
-    record { columns = columns; maker = c.in_ok-refresh.ensures.maker; frames = frames; lead = c.read.ensures.lead ∙ c.requires.lead; start = c.in_ok-read.ensures.start; number = omega arith }
+    record { columns = columns; maker = c.in_ok-refresh.ensures.maker; frames = frames; lead = c.read.ensures.lead; start = c.in_ok-read.ensures.start; number = omega arith }
