@@ -8,11 +8,7 @@ use Rattle.oim_rows.specs.Header.{file_fault}
 use Rattle.oim_rows.specs.Streams.{GivesNext, IsOutside, Stream, ending, facts_of_rows}
 use Rattle.oim_rows.specs.declared.fault.TableFault.{TableFault}
 use Rattle.oim_rows.specs.declared.fault.TableKind.TheVariants as kind
-use Rattle.oim_decode.specs.Blocks.{AddsRow, GivesBlock, IsBehind, ReadsRows, TakesOne}
-
--- these rows were read, and with their facts these are pending
-abbrev pub HasRead : ℕ → Stream → List Fact → List Fact → Option Stream → Type 0
-HasRead table s before pending left = (rows : List (List Fact)) × ReadsRows table s rows left × (pending ≡ before ++ facts_of_rows rows)
+use Rattle.oim_decode.specs.Blocks.{AddsRow, GivesBlock, HasRead, IsBehind, ReadsRows, TakesOne}
 
 pub none_read : (table : ℕ) (left : Option Stream) (before : List Fact) → IfSome left (λ s. HasRead table s before before left)
 none_read table None before = tt

@@ -91,6 +91,10 @@ ReadsRows table s rows None = ⊥
 ReadsRows table s rows (Some rest) =
     ((s.rows ≡ rows ++ rest.rows) × (s.fault ≡ rest.fault)) ⊎ (IsPrefix rows s.rows × (e : TableFault) × IsOutside table e × (rest ≡ ending (Some e)))
 
+-- rows of a stream were read, and their facts wait behind those that waited before
+abbrev pub HasRead : ℕ → Stream → List Fact → List Fact → Option Stream → Type 0
+HasRead table s before pending left = (rows : List (List Fact)) × ReadsRows table s rows left × (pending ≡ before ++ facts_of_rows rows)
+
 -- an answer over the facts that were pending or read: the first of them in a block; or the end, or a fault, where there is none.
 -- Facts are lost only where memory was refused for their block
 abbrev pub AnswersFacts : ℕ → List Fact → Result (Option (List Fact)) TableFault → List Fact → Option Stream → Type 0

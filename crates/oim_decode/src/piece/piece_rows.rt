@@ -1,11 +1,10 @@
 //! The rows of a piece that gave their facts.
 
-ghost use Rattle.std.specs.Prelude.{◌≡◌, ◌++◌, [], List, get_or, take};
-ghost use Rattle.oim_resolve.specs.FactParts.{FactParts as FactValue};
+ghost use Rattle.std.specs.Prelude.{◌≡◌, ◌++◌, [], take};
 ghost use Rattle.oim_fast.specs.Facts.{facts_of_row};
 ghost use Rattle.oim_rows.specs.RowFacts.{IsTextRecord};
 ghost use Rattle.oim_decode.specs.PieceAnswers.{AddsRowFacts};
-ghost use Rattle.oim_decode.specs.RowEnds.{stretches};
+ghost use Rattle.oim_decode.specs.RowEnds.{IsEndIn, stretches};
 
 use crate::piece::rooms::Rooms;
 use crate::piece::written_rows::WrittenRows;
@@ -39,7 +38,7 @@ impl Model for PieceRows {
 /// The stretch in which a number of rows ends, and how many of them are in it. It is the one behind these where they have fewer.
 #[tactic(auto, using(crate::proofs::RowCuts::stretch_found, crate::proofs::RowCuts::stretch_passed, crate::proofs::RowCuts::none_found))]
 fn end_of(full: &[WrittenRows], count: usize) -> (usize, usize)
-    ensures { (last : List (List FactValue)) → take count (stretches full.now ++ last) ≡ stretches (take result.0 full.now) ++ take result.1 (get_or full.now result.0 last) }
+    ensures { IsEndIn full.now count result }
 {
     let mut left = count;
     for i in 0..full.len() {

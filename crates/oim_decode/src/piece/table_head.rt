@@ -1,12 +1,11 @@
 //! The beginning of a table's file, with its header.
 
 ghost use Rattle.std.specs.Prelude.{◌≡◌, ◌⊎◌, ◌-◌, ◌<◌, ◌≤◌, [], IfErr, IfNone, IfOk, IfSome, None, Some, length};
-ghost use Rattle.csv.specs.declared.parser.State.TheVariants as state;
-ghost use Rattle.oim_records.specs.Grids.{grid, records_left};
+ghost use Rattle.oim_records.specs.Grids.{grid};
 ghost use Rattle.oim_records.specs.Reads.{KeepsLeft, StartsFile, left_behind};
 ghost use Rattle.oim_rows.specs.Header.{file_header_fault};
 ghost use Rattle.oim_rows.specs.Streams.{IsOutside};
-ghost use Rattle.oim_decode.specs.Heads.{reading_in};
+ghost use Rattle.oim_decode.specs.Heads.{reading_in, records_in};
 
 use crate::piece::piece_decoder::PieceDecoder;
 use oim_records::{FilePiece, PieceReader, ReadFault, RecordReader};
@@ -43,9 +42,9 @@ impl Model for TableHead {
 
 /// The first piece that has a record, or `None` where no record is left. Pieces without a record are passed over.
 fn first_piece<R: Read + Drop>(pieces: &mut PieceReader<R>) -> Result<Option<FilePiece>, ReadFault>
-    ensures piece { IfOk result (λ o. IfSome o (λ piece. KeepsLeft (left_behind [] pieces.old) (left_behind (records_left state.StartRecord piece.bytes.items) pieces.new))) }
-    ensures records { IfOk result (λ o. IfSome o (λ piece. piece.records ≡ length (records_left state.StartRecord piece.bytes.items))) }
-    ensures some { IfOk result (λ o. IfSome o (λ piece. 1 ≤ length (records_left state.StartRecord piece.bytes.items))) }
+    ensures piece { IfOk result (λ o. IfSome o (λ piece. KeepsLeft (left_behind [] pieces.old) (left_behind (records_in piece.bytes.items) pieces.new))) }
+    ensures records { IfOk result (λ o. IfSome o (λ piece. piece.records ≡ length (records_in piece.bytes.items))) }
+    ensures some { IfOk result (λ o. IfSome o (λ piece. 1 ≤ length (records_in piece.bytes.items))) }
     ensures none { IfOk result (λ o. IfNone o (IfSome (left_behind [] pieces.old) (λ records. records ≡ []))) }
 {
     for _ in 0..u64::MAX {
@@ -88,8 +87,8 @@ pub fn open_pieces<R: Read + Drop>(
 impl TableHead {
     /// The head with the bytes of a piece. Fails where memory is short.
     fn of(alloc: Global, piece: &FilePiece) -> Result<TableHead, AllocError>
-        requires { piece.now.records ≡ length (records_left state.StartRecord piece.now.bytes.items) }
-        ensures { IfOk result (λ head. head ≡ records_left state.StartRecord piece.now.bytes.items) }
+        requires { piece.now.records ≡ length (records_in piece.now.bytes.items) }
+        ensures { IfOk result (λ head. head ≡ records_in piece.now.bytes.items) }
     {
         let mut marked = Vec::new(alloc);
         marked.extend_from_slice(&MARK)?;
@@ -102,7 +101,7 @@ impl TableHead {
 
     /// The bytes of the piece.
     fn bytes(&self) -> &[u8]
-        ensures { records_left state.StartRecord result.now ≡ self.now }
+        ensures { records_in result.now ≡ self.now }
     {
         &self.marked[3..]
     }
@@ -116,7 +115,7 @@ impl TableHead {
 
     /// The piece itself. Fails where memory is short.
     pub(crate) fn piece(&self, alloc: Global) -> Result<Vec<u8>, AllocError>
-        ensures { IfOk result (λ piece. records_left state.StartRecord piece.items ≡ self.now) }
+        ensures { IfOk result (λ piece. records_in piece.items ≡ self.now) }
     {
         let mut piece = Vec::new(alloc);
         piece.extend_from_slice(self.bytes())?;

@@ -3,7 +3,7 @@
 ghost use Rattle.std.specs.Prelude.{◌≡◌, ◌⊎◌, ◌≤◌, ◌<◌, ◌+◌, [], IfErr, IfOk, IfSome, None, Some, false, length, true};
 ghost use Rattle.oim_records.specs.Grids.{grid};
 ghost use Rattle.oim_rows.specs.Header.{file_header_fault};
-ghost use Rattle.oim_rows.specs.Streams.{IsOutside, answer_of, facts_of_rows, stream_of};
+ghost use Rattle.oim_rows.specs.Streams.{IsOutside, answer_of, stream_of};
 ghost use Rattle.oim_decode.specs.Blocks.{GivesBlock, KeepsAnswer, KeepsFound, LeavesNone, ReadsBehind};
 
 use crate::table::pending_facts::PendingFacts;
@@ -84,9 +84,8 @@ impl<'a, R: Read + Drop> TableBlocks<'a, R> {
     }
 }
 
-ghost use Rattle.std.specs.Prelude.{◌++◌, IsSome, List, OnSome};
-ghost use Rattle.oim_resolve.specs.FactParts.{FactParts as FactValue};
-ghost use Rattle.oim_decode.specs.Blocks.{ReadsRows};
+ghost use Rattle.std.specs.Prelude.{IsSome, OnSome};
+ghost use Rattle.oim_decode.specs.Blocks.{HasRead};
 
 impl<R: Read + Drop> TableBlocks<'_, R> {
     /// The next facts in header order and row by row, 1 to 256 of them, or None at the end. A block
@@ -134,7 +133,7 @@ impl<R: Read + Drop> TableBlocks<'_, R> {
     // Reads rows until one more might have more facts than a block has room for, and says how many
     // facts were there before the last row.
     fn fill(&mut self) -> usize
-        ensures reads { IfSome self.old.left (λ s. (rows : List (List FactValue)) × ReadsRows self.old.table s rows self.new.left × (self.new.pending ≡ self.old.pending ++ facts_of_rows rows)) }
+        ensures reads { IfSome self.old.left (λ s. HasRead self.old.table s self.old.pending self.new.pending self.new.left) }
         ensures settled { self.new.answered ≡ None → 1 ≤ length self.new.pending }
         ensures behind { self.old.answered ≡ None → ReadsBehind self.old self.new }
         ensures counts { (self.old.given ≤ self.new.given) × (self.new.given ≤ self.new.limit) }

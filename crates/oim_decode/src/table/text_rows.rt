@@ -4,8 +4,9 @@ ghost use Rattle.std.specs.Prelude.{◌≡◌, ◌⊎◌, ◌≤◌, ◌<◌, �
 ghost use Rattle.oim_records.specs.Grids.{grid};
 ghost use Rattle.oim_rows.specs.Header.{file_header_fault};
 ghost use Rattle.oim_rows.specs.RowFacts.{IsNewId, id_place_of, ids_after, row_fault, row_result};
-ghost use Rattle.oim_rows.specs.Streams.{IsOutside, early_row_answer, stream_of};
+ghost use Rattle.oim_rows.specs.Streams.{early_row_answer, stream_of};
 ghost use Rattle.oim_decode.specs.Blocks.{AddsNone, AddsRow, CountsRow, TakesOne, has_row};
+ghost use Rattle.oim_decode.specs.Heads.{IsHeaderFault};
 ghost use Rattle.oim_decode.specs.RowTexts.{AddsFacts};
 
 use crate::table::pending_facts::PendingFacts;
@@ -65,7 +66,7 @@ impl<'a, R: Read + Drop> TextRows<'a, R> {
         ensures start { IfOk result (λ rows. (rows.reading.table ≡ table) × (rows.reading.limit ≡ limit) × (rows.given ≡ 0)) }
         ensures stream { IfSome (R.remaining reader) (λ bytes. IfOk result (λ rows. rows.left ≡ Some (stream_of report.now table limit (grid bytes)))) }
         ensures header { IfSome (R.remaining reader) (λ bytes. IfOk result (λ _. file_header_fault report.now table (grid bytes) ≡ None)) }
-        ensures fault { IfSome (R.remaining reader) (λ bytes. IfErr result (λ e. IsOutside table e ⊎ (file_header_fault report.now table (grid bytes) ≡ Some e))) }
+        ensures fault { IfSome (R.remaining reader) (λ bytes. IfErr result (IsHeaderFault report.now table bytes)) }
     {
         let mut records = match RecordReader::open(alloc, reader) {
             Ok(records) => records,

@@ -1,6 +1,5 @@
 use Rattle.std.proofs.Common.{◌≡◌, ◌⊎◌, ◌<◌, ◌≤◌, ◌-◌, IfSome, IsSome, None}
-use Rattle.oim_decode.specs.Blocks.{IsBehind, answered_of, blocks_left, left_of, turns_left}
-use Rattle.oim_decode.proofs.Advances.{HasRead}
+use Rattle.oim_decode.specs.Blocks.{HasRead, IsBehind, answered_of, blocks_left, left_of, turns_left}
 use Rattle.oim_decode.proofs.table.table_blocks.TableBlocks.fill.Given as goal
 
 abbrev pub invariant-loop-self : goal.invariant-loop-self
