@@ -197,7 +197,7 @@ impl<'a> Reference<'a> {
     }
 
     /// Goes on to a row. Fails where memory is short, and then its answer says nothing.
-    #[inline]
+    #[inline(always)]
     pub(crate) fn refresh(
         &mut self,
         alloc: Global,
@@ -223,7 +223,7 @@ impl<'a> Reference<'a> {
     }
 
     /// The same of a typed dimension: its text is read at once, and not compared with the last one.
-    #[inline]
+    #[inline(always)]
     fn refresh_typed(&mut self, alloc: Global, row: &TableRow<'a, '_>) -> Result<(), AllocError>
         requires { is_typed_purpose self.old.key.purpose ≡ true }
         ensures { self.new ≡ record self.old { text = source_text row.now self.old.key.source } }
