@@ -160,6 +160,20 @@ def each_call_refused(folder, document, pool):
         case(f"{refuse}, {words}", fault_of(seen, document, kind))
 
 
+def wrong_words_without_memory(folder, document, pool):
+    """Words that are refused are so, or memory ran out before that could be said."""
+    path, words = str(folder / "counts"), ["--workers", "65"]
+    wrong = run(folder, "", words, path)
+    calls = int(re.search(r"memory (\d+)", Path(path).read_text())[1])
+    case("wrong words", None if wrong[:2] == (2, b"") and wrong[2].startswith("error: invalid value '65'") and calls > 20 else (wrong, calls))
+    short = [(3, b"", it) for it in ("error: out of memory\n", "xbrl-json: run: Memory (53)\n", "")]
+    todo = [f"memory:{n}{more}" for n in range(1, calls + 1) for more in ("", "+")]
+    for refuse, seen in zip(todo, pool.map(lambda it: run(folder, it, words), todo)):
+        case(f"{refuse}, wrong words", None if seen == wrong or seen in short else seen)
+    seen = run(folder, "memory:1+", words)
+    case("wrong words without any memory", None if seen in short else seen)
+
+
 def some_threads_refused(folder, document, pool):
     """Every choice of four workers whose threads are refused, over tables of more blocks than their rings take: the whole document, unless none could be started."""
     rows = 1300  # two facts each, and a block has at most 256
@@ -331,7 +345,7 @@ def main():
         status, whole, err = run(folder)
         case("nothing refused", None if (status, err) == (0, "") and len(json.loads(whole)["facts"]) == 18 else (status, err))
         document = Document(whole)
-        for part in (each_call_refused, some_threads_refused, pieces_without_threads, one_worker_without_threads, cut_short, each_open_refused_beside_an_output, an_output_that_cannot_be_emptied, a_whole_output_or_none, a_file_of_faults_or_none, a_first_write_that_fails):
+        for part in (each_call_refused, wrong_words_without_memory, some_threads_refused, pieces_without_threads, one_worker_without_threads, cut_short, each_open_refused_beside_an_output, an_output_that_cannot_be_emptied, a_whole_output_or_none, a_file_of_faults_or_none, a_first_write_that_fails):
             part(folder, document, pool)
     print(f"on a system that refuses: {count - len(failed)} as they must be, {len(failed)} not")
     sys.exit(1 if failed else 0)

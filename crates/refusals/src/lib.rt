@@ -1,38 +1,25 @@
 //! Tests of calls that run out of memory.
 //!
 //! Each call is made without any memory left, then with a little more, and so on until it has enough. So its first
-//! allocation is refused, then its second, and so on. The crate has these tests and what they need.
+//! allocation is refused, then its second, and so on. That the built program, with its threads and the words of its
+//! command line, stands this as well is shown by `tests/refused.py`.
 #![tactic(auto)]
 
-mod scarcity;
-
-pub use scarcity::{Answer, Call, Hoard, ROOM, Room, is_refused, refusals};
-
 #[cfg(test)]
-mod compared;
+mod calls;
+#[cfg(test)]
+mod cells;
+#[cfg(test)]
+mod conversions;
+#[cfg(test)]
+mod metadata;
+#[cfg(test)]
+mod names;
 #[cfg(test)]
 mod report;
 #[cfg(test)]
-mod stacks;
+mod rings;
 #[cfg(test)]
-mod tests_blocks;
+mod rows;
 #[cfg(test)]
-mod tests_cells;
-#[cfg(test)]
-mod tests_claims;
-#[cfg(test)]
-mod tests_conversions;
-#[cfg(test)]
-mod tests_metadata;
-#[cfg(test)]
-mod tests_names;
-#[cfg(test)]
-mod tests_periods;
-#[cfg(test)]
-mod tests_rings;
-#[cfg(test)]
-mod tests_rows;
-#[cfg(test)]
-mod tests_runs;
-#[cfg(test)]
-mod tests_threads;
+mod scarcity;

@@ -1,9 +1,7 @@
 //! How a test takes all memory, and gives it back a little at a time.
 
+use crate::calls::{Call, Over, made};
 use std::alloc::Global;
-
-/// As many bytes as most calls need.
-pub const ROOM: usize = 65_536;
 
 /// The largest number of bytes that a call may be given.
 const MOST: usize = 1 << 20;
@@ -12,8 +10,8 @@ const MOST: usize = 1 << 20;
 const STEP: usize = 16;
 
 /// What a call did with the memory that it had.
-#[derive(Clone, Copy, PartialEq, Eq, Debug)]
-pub enum Answer {
+#[derive(Clone, Copy)]
+pub(crate) enum Answer {
     /// It was refused memory, and nothing changed.
     Refused,
     /// It had enough memory, and answered as with ample memory.
@@ -24,36 +22,39 @@ pub enum Answer {
 
 impl Answer {
     /// What a call did that was not refused memory, if this tells whether it answered as with ample memory.
-    pub fn same(is_same: bool) -> Answer {
+    pub(crate) fn same(is_same: bool) -> Answer {
         if is_same {
             Answer::Enough
         } else {
             Answer::Wrong
         }
     }
-}
 
-/// A call that can be made again after it was refused memory.
-pub trait Call {
-    /// Makes the call. Nothing else in it allocates memory.
-    fn make(&mut self, alloc: Global) -> Answer;
+    /// What a call did that was refused memory, if this tells whether it answered so.
+    pub(crate) fn refused(is_refused: bool) -> Answer {
+        if is_refused {
+            Answer::Refused
+        } else {
+            Answer::Wrong
+        }
+    }
 }
 
 /// Memory that is taken so that no one else has it.
 #[derive(Drop)]
-pub struct Hoard {
+struct Hoard {
     blocks: Vec<Vec<u8>>,
 }
 
 impl Hoard {
     /// Room for a hoard, which has nothing yet. `None` where there is no memory for it.
-    pub fn new(alloc: Global) -> Option<Hoard> {
+    fn new(alloc: Global) -> Option<Hoard> {
         let blocks = Vec::with_capacity(alloc, 1 << 20).ok()?;
         Some(Hoard { blocks })
     }
 
     /// Takes all that this thread can allocate, in ever smaller blocks. `None` where these are too many.
-    pub fn take_all(&mut self, alloc: Global) -> Option<()> {
+    fn take_all(&mut self, alloc: Global) -> Option<()> {
         for shift in (4..47usize).rev() {
             for _ in 0..1u32 << 18 {
                 let Ok(block) = Vec::<u8>::with_capacity(alloc, 1 << shift) else {
@@ -82,7 +83,7 @@ fn reach_down(place: usize) -> u8 {
 
 /// A piece of memory, of which a call has a little and then ever more. It is kept apart, so that all else can be taken.
 #[derive(Drop)]
-pub struct Room {
+struct Room {
     left: usize,
     _filler: Vec<u8>,
 }
@@ -90,7 +91,7 @@ pub struct Room {
 impl Room {
     /// A room of `room` bytes, of which at most 1,048,576 count, and of which a call has none yet. `None` where there is no
     /// memory for it.
-    pub fn new(alloc: Global, room: usize) -> Option<Room> {
+    fn new(alloc: Global, room: usize) -> Option<Room> {
         let left = room.min(MOST);
         // The system's first large block is outside its heap, and a second one inside.
         drop(Vec::<u8>::with_capacity(alloc, left).ok()?);
@@ -105,7 +106,7 @@ impl Room {
     }
 
     /// The same room with 16 bytes more for the call. `None` where all of it is the call's.
-    pub fn eased(self, alloc: Global) -> Option<Room> {
+    fn eased(self, alloc: Global) -> Option<Room> {
         let left = self.left.checked_sub(STEP)?;
         drop(self);
         let filler = Vec::with_capacity(alloc, left).ok()?;
@@ -116,31 +117,47 @@ impl Room {
     }
 }
 
-/// Whether a call is refused memory at least this often before it has enough.
-pub fn is_refused<C: Call>(alloc: Global, room: usize, least: u32, call: &mut C) -> bool {
-    match refusals(alloc, room, call) {
-        Some(count) => count >= least,
+/// How often a call is refused memory while it has none, then 16 bytes, and so on, until it has enough. `None` where it never has, or
+/// answers something else before.
+fn refusals_in(alloc: Global, room: Room, call: Call, over: Over<'_>) -> Option<u32> {
+    let mut room = room;
+    for refused in 0..=(MOST / STEP) as u32 {
+        match made(alloc, call, over) {
+            Answer::Refused => room = room.eased(alloc)?,
+            Answer::Enough => return Some(refused),
+            Answer::Wrong => return None,
+        }
+    }
+    None
+}
+
+/// The same while all other memory of the process is taken, so the process must do nothing else.
+fn refusals_of(alloc: Global, room: Room, call: Call, over: Over<'_>) -> Option<u32> {
+    let mut hoard = Hoard::new(alloc)?;
+    hoard.take_all(alloc)?;
+    refusals_in(alloc, room, call, over)
+}
+
+/// A call, the memory that it may need, and how often it is refused some before it has enough, at least.
+pub(crate) type Trial = (Call, usize, u32);
+
+/// Whether a call is refused memory at least so often before it has enough.
+fn is_refused(alloc: Global, trial: &Trial, over: Over<'_>) -> bool {
+    match Room::new(alloc, trial.1) {
+        Some(room) => {
+            let count = refusals_of(alloc, room, trial.0, over);
+            matches!(count, Some(count) if count >= trial.2)
+        }
         None => false,
     }
 }
 
-/// How often a call is refused memory before it has enough.
-///
-/// It has 16 more bytes each time, up to `room` bytes, of which at most 1,048,576 count. `None` where it never has
-/// enough, or answers something else before. Meanwhile all memory of the process is taken, so the process must do
-/// nothing else.
-pub fn refusals<C: Call>(alloc: Global, room: usize, call: &mut C) -> Option<u32> {
-    let mut room = Room::new(alloc, room)?;
-    let mut hoard = Hoard::new(alloc)?;
-    hoard.take_all(alloc)?;
-    let mut refused = 0u32;
-    for _ in 0..=MOST / STEP {
-        match call.make(alloc) {
-            Answer::Refused => refused = refused.saturating_add(1),
-            Answer::Enough => return Some(refused),
-            Answer::Wrong => return None,
+/// Whether each of these calls is.
+pub(crate) fn are_refused(alloc: Global, trials: &[Trial], over: Over<'_>) -> bool {
+    for trial in trials {
+        if !is_refused(alloc, trial, over) {
+            return false;
         }
-        room = room.eased(alloc)?;
     }
-    None
+    true
 }

@@ -1,22 +1,25 @@
-//! A writer that takes no memory, and compares what it takes with a document.
+//! Conversions while memory runs out, and a writer that takes no memory.
 
-use crate::Answer;
-use crate::report::{HEAD, TAIL};
-use oim_names::Text;
+use crate::report::{DOCUMENT, FIRST, HEAD, SECOND, TAIL};
+use crate::scarcity::Answer;
+use oim_convert::{ConvertFault, Layout, convert_serial};
+use oim_json::Marked;
+use oim_meta::{Limits, Report};
 use oim_rows::{TableFault, TableKind};
+use std::alloc::Global;
 use std::io;
 use std::io::Write;
 
 /// A writer that compares what it takes with a document.
-#[derive(Drop)]
-pub(crate) struct Compared<'a> {
+#[derive(Clone, Copy)]
+struct Compared<'a> {
     document: &'a [u8],
     left: &'a [u8],
     is_same: bool,
 }
 
 /// A writer for a document that took nothing yet.
-pub(crate) fn comparing(document: &[u8]) -> Compared<'_> {
+fn comparing(document: &[u8]) -> Compared<'_> {
     Compared {
         document,
         left: document,
@@ -40,17 +43,17 @@ impl Write for Compared<'_> {
 
 impl Compared<'_> {
     /// Whether it took nothing.
-    pub(crate) fn is_untouched(&self) -> bool {
+    fn is_untouched(&self) -> bool {
         self.is_same && self.left.len() == self.document.len()
     }
 
     /// Whether it took the whole document.
-    pub(crate) fn is_whole(&self) -> bool {
+    fn is_whole(&self) -> bool {
         self.is_same && self.left.is_empty()
     }
 
     /// Whether it took the head alone.
-    pub(crate) fn is_head(&self) -> bool {
+    fn is_head(&self) -> bool {
         self.is_same && self.left.len().saturating_add(HEAD.len()) == self.document.len()
     }
 
@@ -60,7 +63,7 @@ impl Compared<'_> {
         let is_before_second = left.starts_with(b",\"t2.");
         let is_place = match table {
             0 => self.is_head() || left.starts_with(b",\"t1.") || is_before_second,
-            1 => is_before_second || left == TAIL.as_bytes(),
+            1 => is_before_second || left == TAIL,
             _ => false,
         };
         self.is_same && is_place
@@ -78,7 +81,7 @@ fn after(fault: &TableFault, least: usize) -> Option<usize> {
 }
 
 /// The first of these tables, if they are refused for want of memory alone, in table order.
-pub(crate) fn first_of(faults: &[TableFault]) -> Option<usize> {
+fn first_of(faults: &[TableFault]) -> Option<usize> {
     let mut least = 0usize;
     for fault in faults {
         least = after(fault, least)?;
@@ -86,20 +89,8 @@ pub(crate) fn first_of(faults: &[TableFault]) -> Option<usize> {
     Some(faults.first()?.table)
 }
 
-/// The same where the tables stand with their identifiers.
-pub(crate) fn first_named(tables: &[(Text, TableFault)]) -> Option<usize> {
-    let mut least = 0usize;
-    for (id, fault) in tables {
-        least = after(fault, least)?;
-        if id.as_str() != if fault.table == 0 { "t1" } else { "t2" } {
-            return None;
-        }
-    }
-    Some(tables.first()?.1.table)
-}
-
 /// What a conversion did whose refused tables are refused for want of memory alone, of which this is the first.
-pub(crate) fn of_first(table: Option<usize>, writer: &Compared<'_>) -> Answer {
+fn of_first(table: Option<usize>, writer: &Compared<'_>) -> Answer {
     match table {
         Some(table) if writer.is_cut_at(table) => Answer::Refused,
         _ => Answer::Wrong,
@@ -107,10 +98,28 @@ pub(crate) fn of_first(table: Option<usize>, writer: &Compared<'_>) -> Answer {
 }
 
 /// What a conversion did that was refused memory before it began.
-pub(crate) fn of_nothing(writer: &Compared<'_>) -> Answer {
-    if writer.is_untouched() {
-        Answer::Refused
-    } else {
-        Answer::Wrong
+fn of_nothing(writer: &Compared<'_>) -> Answer {
+    Answer::refused(writer.is_untouched())
+}
+
+/// What a conversion on one thread did.
+fn of_serial(answer: &Result<(), ConvertFault>, writer: &Compared<'_>) -> Answer {
+    match answer {
+        Ok(()) => Answer::same(writer.is_whole()),
+        Err(ConvertFault::Memory) => of_nothing(writer),
+        Err(ConvertFault::Tables(faults)) => of_first(first_of(faults.as_slice()), writer),
+        Err(_) => Answer::Wrong,
     }
+}
+
+/// Converts a report on one thread.
+pub(crate) fn converts(alloc: Global, report: &Report) -> Answer {
+    let Ok(readers) = vec![in alloc; Some(FIRST), Some(SECOND)] else {
+        return Answer::Refused;
+    };
+    let mut writer = comparing(DOCUMENT);
+    let limits = Limits::profile();
+    let sink = &mut Marked::new(&mut writer);
+    let answer = convert_serial(alloc, report, readers, limits, Layout::Compact, sink);
+    of_serial(&answer, &writer)
 }

@@ -1,0 +1,57 @@
+//! A table's plan and the fact of a cell while memory runs out.
+
+use crate::scarcity::Answer;
+use oim_meta::{ColumnKind, Report};
+use oim_names::{Items, Text};
+use oim_resolve::{CellFault, Fact, Row, compile, resolve};
+use std::alloc::{AllocError, Global};
+
+/// Adds a cell.
+fn push_cell(alloc: Global, cells: &mut Items<Text>, text: &str) -> Result<(), AllocError> {
+    cells.push(Text::from_str(alloc, text)?)?;
+    Ok(())
+}
+
+/// The cells of the first row of the first table, in the order of the template's columns.
+fn first_cells(alloc: Global) -> Result<Items<Text>, AllocError> {
+    let mut cells = Items::new(alloc);
+    for cell in ["100", "x", "first"] {
+        push_cell(alloc, &mut cells, cell)?;
+    }
+    Ok(cells)
+}
+
+/// That row.
+pub(crate) fn first_row(alloc: Global) -> Result<Row, AllocError> {
+    let cells = first_cells(alloc)?;
+    match Text::from_str(alloc, "r_1") {
+        Ok(id) => Ok(Row::new(1, id, cells)),
+        Err(fault) => Err(fault),
+    }
+}
+
+/// What a call did that gives the fact of that row's first cell.
+fn of_fact(answer: Result<Option<Fact>, CellFault>) -> Answer {
+    match answer {
+        Ok(Some(fact)) => Answer::same(fact.id() == "t1.r_1.cash"),
+        Err(CellFault::Memory) => Answer::Refused,
+        _ => Answer::Wrong,
+    }
+}
+
+/// Resolves the first cell of a row of the first table, or makes the table's plan and asks that.
+pub(crate) fn resolves(alloc: Global, report: &Report, row: &Row, is_planned: bool) -> Answer {
+    if report.tables() == 0 || report.columns(0) == 0 || row.cells.len() != report.columns(0) {
+        return Answer::Wrong;
+    }
+    if report.column(0, 0).kind != ColumnKind::Fact {
+        return Answer::Wrong;
+    }
+    if !is_planned {
+        return of_fact(resolve(alloc, report, 0, row, 0));
+    }
+    match compile(alloc, report, 0) {
+        Ok(plan) => of_fact(plan.resolve(alloc, row, 0)),
+        Err(_) => Answer::Refused,
+    }
+}

@@ -1,0 +1,54 @@
+//! Namespaces, languages, texts and periods while memory runs out.
+
+use crate::scarcity::Answer;
+use oim_names::{NameFault, Namespaces, Text, language};
+use oim_period::read;
+use std::alloc::Global;
+
+/// Prefixes and their names, out of order.
+const BOUND: &[(&str, &str)] = &[
+    ("xbrli", "http://www.xbrl.org/2003/instance"),
+    ("eg", "http://example.com/eg"),
+    ("iso4217", "http://www.xbrl.org/2003/iso4217"),
+];
+
+/// Binds them.
+pub(crate) fn binds(alloc: Global) -> Answer {
+    let mut names = Namespaces::new(alloc);
+    for (prefix, name) in BOUND {
+        match names.add(prefix, name) {
+            Ok(()) => {}
+            Err(NameFault::Memory) => return Answer::Refused,
+            Err(_) => return Answer::Wrong,
+        }
+    }
+    Answer::same(names.len() == 3 && names.uri("eg").is_some())
+}
+
+/// Writes a language in lower case.
+pub(crate) fn lowers(alloc: Global) -> Answer {
+    match language(alloc, "en-GB") {
+        Ok(Some(text)) => Answer::same(text.as_str() == "en-gb"),
+        Ok(None) => Answer::Wrong,
+        Err(_) => Answer::Refused,
+    }
+}
+
+/// Copies a text.
+pub(crate) fn copies(text: &Text) -> Answer {
+    match text.clone() {
+        Ok(copy) => Answer::same(copy.as_str() == text.as_str()),
+        Err(_) => Answer::Refused,
+    }
+}
+
+/// Writes the last quarter of a year.
+pub(crate) fn writes_a_quarter(alloc: Global) -> Answer {
+    let Some(quarter) = read("2021Q4") else {
+        return Answer::Wrong;
+    };
+    match quarter.text(alloc) {
+        Ok(text) => Answer::same(text.as_str() == "2021-10-01T00:00:00/2022-01-01T00:00:00"),
+        Err(_) => Answer::Refused,
+    }
+}

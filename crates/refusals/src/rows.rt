@@ -1,0 +1,125 @@
+//! The rows of a table, its blocks and its texts while memory runs out.
+
+use crate::report::{DOCUMENT, FIRST, HEAD};
+use crate::scarcity::Answer;
+use oim_decode::TableBlocks;
+use oim_json::{Block, block_of, head, member_of};
+use oim_meta::{Limits, Report};
+use oim_resolve::Fact;
+use oim_rows::{Rows, TableFault, TableKind};
+use std::alloc::Global;
+
+/// What a call did that gave this fault of the first table.
+fn of_fault(fault: TableFault) -> Answer {
+    let is_whole = fault.table == 0 && fault.row == 0 && fault.column == 0;
+    Answer::refused(is_whole && fault.kind == TableKind::Memory)
+}
+
+/// What a reader of rows did that gave this fault, if it gives the same again.
+fn of_settled(rows: &mut Rows<'_, &[u8]>, fault: TableFault) -> Answer {
+    match rows.next() {
+        Err(again) if again == fault => of_fault(fault),
+        _ => Answer::Wrong,
+    }
+}
+
+/// What reading two rows of two facts did.
+fn read_rows(rows: &mut Rows<'_, &[u8]>) -> Answer {
+    for place in 0..3usize {
+        match rows.next() {
+            Ok(Some(facts)) => {
+                if facts.len() != 2 || place == 2 {
+                    return Answer::Wrong;
+                }
+            }
+            Ok(None) => return Answer::same(place == 2),
+            Err(fault) => return of_settled(rows, fault),
+        }
+    }
+    Answer::Wrong
+}
+
+/// What is left of the facts of a document's first table, and whether a block's text begins what is left, behind a comma if it is not
+/// the first.
+fn without<'a>(left: &'a [u8], whole: &[u8], block: &Block) -> Option<&'a [u8]> {
+    let left = if left.len() == whole.len() {
+        left
+    } else {
+        left.strip_prefix(b",".as_slice())?
+    };
+    left.strip_prefix(block.bytes())
+}
+
+/// What reading all blocks did, if the document's facts are theirs up to the second table. Facts that were read before memory was refused
+/// may come first.
+fn read_blocks(alloc: Global, blocks: &mut TableBlocks<'_, &[u8]>, whole: &[u8]) -> Answer {
+    let mut left = whole;
+    for _ in 0..5u32 {
+        match blocks.next_block(Vec::new(alloc)) {
+            Ok(Some(block)) => match without(left, whole, &block) {
+                Some(rest) => left = rest,
+                None => return Answer::Wrong,
+            },
+            Ok(None) => return Answer::same(left.starts_with(b",\"t2.")),
+            Err(fault) => return of_fault(fault),
+        }
+    }
+    Answer::Wrong
+}
+
+/// The document behind its head.
+fn facts_and_tail() -> &'static [u8] {
+    DOCUMENT.strip_prefix(HEAD).unwrap_or(b"")
+}
+
+/// Reads the first table of a report, row by row or in blocks.
+pub(crate) fn reads(alloc: Global, report: &Report, in_blocks: bool) -> Answer {
+    if report.tables() == 0 {
+        return Answer::Wrong;
+    }
+    if in_blocks {
+        return match TableBlocks::open(alloc, report, 0, FIRST, Limits::profile()) {
+            Ok(mut blocks) => read_blocks(alloc, &mut blocks, facts_and_tail()),
+            Err(fault) => of_fault(fault),
+        };
+    }
+    match Rows::open(alloc, report, 0, FIRST, Limits::profile()) {
+        Ok(mut rows) => read_rows(&mut rows),
+        Err(fault) => of_fault(fault),
+    }
+}
+
+/// Writes the head of a report's document.
+pub(crate) fn writes_the_head(alloc: Global, report: &Report) -> Answer {
+    match head(alloc, report) {
+        Ok(head) => Answer::same(head.as_slice() == HEAD),
+        Err(_) => Answer::Refused,
+    }
+}
+
+/// Writes the text of the first of these facts.
+fn writes_one(alloc: Global, facts: &[Fact]) -> Answer {
+    let Some(fact) = facts.first() else {
+        return Answer::Wrong;
+    };
+    match member_of(alloc, fact) {
+        Ok(member) => Answer::same(facts_and_tail().starts_with(member.bytes())),
+        Err(_) => Answer::Refused,
+    }
+}
+
+/// Writes the text of the first row's facts, or of the first of them.
+pub(crate) fn writes(alloc: Global, facts: &[Fact], are_two: bool) -> Answer {
+    if !are_two {
+        return writes_one(alloc, facts);
+    }
+    if facts.len() != 2 {
+        return Answer::Wrong;
+    }
+    match block_of(alloc, facts) {
+        Ok(block) => {
+            Answer::same(block.count() == 2 && facts_and_tail().starts_with(block.bytes()))
+        }
+        Err(_) => Answer::Refused,
+    }
+}
