@@ -1,6 +1,8 @@
 //! Tests of the backlog of a report's rings: which feeds it holds back, that each is let go again, and
 //! that the feed of the table that the writer takes is never held back.
 
+ghost use Rattle.oim_ring.specs.Limits.{IsRingSize};
+
 use crate::{CloseFault, Drain, Ending, Feed, Item, Lanes};
 use oim_json::{Block, block_of};
 use oim_names::{Items, Text};
@@ -8,7 +10,6 @@ use oim_resolve::Fact;
 use std::alloc::{AllocError, Global};
 use std::sync::Wait;
 use std::sync::atomic::{AtomicUsize, Ordering};
-use std::test::Fail;
 use std::thread;
 use std::thread::Threads;
 
@@ -26,9 +27,11 @@ fn block(alloc: Global) -> Result<Block, AllocError> {
 }
 
 /// Whether the feed takes a block.
-fn puts(alloc: Global, feed: &mut Feed) -> Result<bool, AllocError> {
-    let block = block(alloc)?;
-    Ok(feed.put(block).is_ok())
+fn puts(alloc: Global, feed: &mut Feed) -> bool {
+    match block(alloc) {
+        Ok(block) => feed.put(block).is_ok(),
+        Err(_) => false,
+    }
 }
 
 /// Whether the drain gives a block.
@@ -36,32 +39,53 @@ fn gives(drain: &mut Drain) -> bool {
     matches!(drain.take(), Some(Item::Block(_)))
 }
 
+/// The rings of tables 0 to 2.
+#[derive(Drop)]
+struct Rings {
+    own: (Feed, Drain),
+    next: (Feed, Drain),
+    last: (Feed, Drain),
+}
+
+/// The rings of the next three tables, of this size.
+fn open_next(alloc: Global, lanes: &mut Lanes, size: usize) -> Result<Rings, AllocError>
+    requires { IsRingSize size }
+{
+    let own = lanes.open(alloc, size)?;
+    let next = lanes.open(alloc, size)?;
+    let last = lanes.open(alloc, size)?;
+    Ok(Rings { own, next, last })
+}
+
+/// Three rings of this size, in which so many facts may wait together.
+fn open_three(alloc: Global, most: usize, size: usize) -> Result<Rings, AllocError>
+    requires { IsRingSize size }
+{
+    let mut lanes = Lanes::new(alloc, most)?;
+    open_next(alloc, &mut lanes, size)
+}
+
+/// Whether tables 1 and 2 are held back, or not.
+fn are_held(rings: &Rings, next: bool, last: bool) -> bool {
+    rings.next.0.is_held() == next && rings.last.0.is_held() == last
+}
+
 /// Whether the second of two blocks of table 1 holds back that table and table 2, but not table 0, whose
 /// block passes meanwhile.
-fn are_held(
-    alloc: Global,
-    own: &mut Feed,
-    own_drain: &mut Drain,
-    next: &mut Feed,
-    last: &Feed,
-) -> Result<bool, AllocError> {
-    let is_one = puts(alloc, next)? && !next.is_held() && !last.is_held();
-    let are_two = puts(alloc, next)? && next.is_held() && last.is_held();
-    let is_full = !puts(alloc, next)? && !own.is_held();
-    let passes = puts(alloc, own)? && gives(own_drain) && !gives(own_drain);
-    Ok(is_one && are_two && is_full && passes && next.is_held() && last.is_held())
+fn hold_back(alloc: Global, rings: &mut Rings) -> bool {
+    let is_one = puts(alloc, &mut rings.next.0) && are_held(rings, false, false);
+    let are_two = puts(alloc, &mut rings.next.0) && are_held(rings, true, true);
+    let is_full = !puts(alloc, &mut rings.next.0) && !rings.own.0.is_held();
+    let passes = puts(alloc, &mut rings.own.0)
+        && gives(&mut rings.own.1)
+        && !gives(&mut rings.own.1);
+    is_one && are_two && is_full && passes && are_held(rings, true, true)
 }
 
 /// Whether table 1 goes on once the writer has reached its ring, and then holds back only table 2.
-fn is_let_go(
-    alloc: Global,
-    next: &mut Feed,
-    drain: &mut Drain,
-    last: &Feed,
-) -> Result<bool, AllocError> {
-    let is_let_go = gives(drain) && !next.is_held() && !last.is_held();
-    let is_full = puts(alloc, next)?;
-    Ok(is_let_go && is_full && !next.is_held() && last.is_held())
+fn let_go(alloc: Global, rings: &mut Rings) -> bool {
+    let is_let_go = gives(&mut rings.next.1) && are_held(rings, false, false);
+    is_let_go && puts(alloc, &mut rings.next.0) && are_held(rings, false, true)
 }
 
 /// Whether an ending does not count as a block: one block waits in the ring, and then none.
@@ -73,21 +97,22 @@ fn is_no_block(feed: Feed, drain: &mut Drain, last: &Feed) -> bool {
 }
 
 /// Whether the feeds of three rings, in which two blocks may wait, are held back as above.
-fn hold_back(alloc: Global) -> Result<bool, AllocError> {
-    let mut lanes = Lanes::new(alloc, 2)?;
-    let (mut own, mut own_drain) = lanes.open(alloc, 2)?;
-    let (mut next, mut drain) = lanes.open(alloc, 2)?;
-    let (last, _last_drain) = lanes.open(alloc, 2)?;
-    let are_held = are_held(alloc, &mut own, &mut own_drain, &mut next, &last)?;
-    let is_let_go = is_let_go(alloc, &mut next, &mut drain, &last)?;
-    Ok(are_held && is_let_go && is_no_block(next, &mut drain, &last))
+fn are_held_back(alloc: Global, rings: Rings) -> bool {
+    let mut rings = rings;
+    let is_so = hold_back(alloc, &mut rings) && let_go(alloc, &mut rings);
+    let Rings { own: _, next, last } = rings;
+    let (feed, mut drain) = next;
+    let (last, _drain) = last;
+    is_so && is_no_block(feed, &mut drain, &last)
 }
 
 #[test]
-fn later_tables_are_held_back(rt: HostRuntime) -> Result<(), Fail> {
-    let are_held = hold_back(rt.alloc())?;
+fn later_tables_are_held_back(rt: HostRuntime) {
+    let are_held = match open_three(rt.alloc(), 2, 2) {
+        Ok(rings) => are_held_back(rt.alloc(), rings),
+        Err(_) => false,
+    };
     assert!(rt; are_held);
-    Ok(())
 }
 
 /// Whether a count reaches this value in time.
@@ -108,50 +133,56 @@ fn wait_counted<T: Wait>(rt: &T, feed: &Feed, count: &AtomicUsize) {
     count.fetch_add(1, Ordering::SeqCst);
 }
 
+/// Whether many blocks pass through a ring, each at its turn.
+fn pass<T: Wait>(rt: &T, alloc: Global, ring: &mut (Feed, Drain)) -> bool {
+    for _ in 0..BLOCKS {
+        ring.0.wait_for_turn(rt);
+        if !puts(alloc, &mut ring.0) || !gives(&mut ring.1) {
+            return false;
+        }
+    }
+    true
+}
+
 /// Whether the table that the writer takes passes blocks while the next one waits, and the next one goes
 /// on once the writer looks at its ring, even though that is empty.
 fn passes_before<T: Wait>(
     rt: &T,
     alloc: Global,
-    own: (Feed, Drain),
+    own: &mut (Feed, Drain),
     next: &mut Drain,
     count: &AtomicUsize,
-) -> Result<bool, AllocError> {
-    let (mut feed, mut drain) = own;
-    let mut passes = comes_to(count, 1);
-    for _ in 0..BLOCKS {
-        feed.wait_for_turn(rt);
-        passes = passes && puts(alloc, &mut feed)? && gives(&mut drain);
-    }
+) -> bool {
+    let passes = comes_to(count, 1) && pass(rt, alloc, own);
     let was_held = count.load(Ordering::SeqCst) == 1;
-    Ok(passes && was_held && next.take().is_none() && comes_to(count, 2))
+    passes && was_held && next.take().is_none() && comes_to(count, 2)
 }
 
 /// Whether the feed of table 1, held back by two blocks of table 2, goes on only once the writer reaches it.
 fn waits_for_the_writer<T: Threads + Wait + Sync>(
     rt: &T,
     alloc: Global,
-) -> Result<bool, AllocError> {
-    let mut lanes = Lanes::new(alloc, 2)?;
-    let own = lanes.open(alloc, 1)?;
-    let (next, mut next_drain) = lanes.open(alloc, 2)?;
-    let (mut last, _last_drain) = lanes.open(alloc, 2)?;
-    let is_full = puts(alloc, &mut last)? && puts(alloc, &mut last)?;
+    rings: &mut Rings,
+) -> bool {
+    let is_full = puts(alloc, &mut rings.last.0) && puts(alloc, &mut rings.last.0);
     let count = &AtomicUsize::new(0);
-    let drain = &mut next_drain;
+    let own = &mut rings.own;
+    let (next, drain) = (&mut rings.next.0, &mut rings.next.1);
     let (passed, ()) = thread::join(
         rt,
         move || passes_before(rt, alloc, own, drain, count),
-        move || wait_counted(rt, &next, count),
+        move || wait_counted(rt, next, count),
     );
-    Ok(is_full && passed?)
+    is_full && passed
 }
 
 #[test]
-fn a_later_table_waits_for_the_writer(rt: HostRuntime) -> Result<(), Fail> {
-    let waits = waits_for_the_writer(&rt, rt.alloc())?;
+fn a_later_table_waits_for_the_writer(rt: HostRuntime) {
+    let waits = match &mut open_three(rt.alloc(), 2, 2) {
+        Ok(rings) => waits_for_the_writer(&rt, rt.alloc(), rings),
+        Err(_) => false,
+    };
     assert!(rt; waits);
-    Ok(())
 }
 
 /// Whether the other thread waits until a block is taken from the drain, and then goes on.
@@ -161,11 +192,11 @@ fn lets_go(drain: &mut Drain, count: &AtomicUsize) -> bool {
 }
 
 /// Whether the feed of table 1 goes on once a block of table 0 is taken.
-fn waits_for_room<T: Threads + Wait + Sync>(rt: &T, alloc: Global) -> Result<bool, AllocError> {
-    let mut lanes = Lanes::new(alloc, 2)?;
-    let (mut own, mut own_drain) = lanes.open(alloc, 1)?;
-    let (mut next, _next_drain) = lanes.open(alloc, 2)?;
-    let is_full = puts(alloc, &mut own)? && puts(alloc, &mut next)?;
+fn waits_for_room<T: Threads + Wait + Sync>(rt: &T, alloc: Global, rings: Rings) -> bool {
+    let Rings { own, next, last: _ } = rings;
+    let (mut own, mut own_drain) = own;
+    let (mut next, _next_drain) = next;
+    let is_full = puts(alloc, &mut own) && puts(alloc, &mut next);
     let count = &AtomicUsize::new(0);
     let drain = &mut own_drain;
     let (is_let_go, ()) = thread::join(
@@ -173,14 +204,16 @@ fn waits_for_room<T: Threads + Wait + Sync>(rt: &T, alloc: Global) -> Result<boo
         move || lets_go(drain, count),
         move || wait_counted(rt, &next, count),
     );
-    Ok(is_full && is_let_go)
+    is_full && is_let_go
 }
 
 #[test]
-fn a_later_table_waits_for_room(rt: HostRuntime) -> Result<(), Fail> {
-    let waits = waits_for_room(&rt, rt.alloc())?;
+fn a_later_table_waits_for_room(rt: HostRuntime) {
+    let waits = match open_three(rt.alloc(), 2, 2) {
+        Ok(rings) => waits_for_room(&rt, rt.alloc(), rings),
+        Err(_) => false,
+    };
     assert!(rt; waits);
-    Ok(())
 }
 
 /// Puts a block once it is the feed's turn, and tries again while the ring is full.
@@ -238,48 +271,60 @@ fn blocks_of<T: Wait>(rt: &T, drain: &mut Drain) -> u32 {
     0
 }
 
+/// Whether a feed finds no vector that is kept, so that its room is an empty one.
+fn finds_none<T: Wait>(rt: &T, alloc: Global, feed: &Feed) -> bool {
+    feed.room(rt, alloc).is_empty()
+}
+
+/// Whether a vector is kept, which the feed then has.
+fn keeps_one<T: Wait>(rt: &T, feed: &Feed) -> bool {
+    feed.kept_room(rt).is_some()
+}
+
+/// Whether the vector that a block gave back reaches this feed and then not the other, and goes back.
+fn is_handed_on<T: Wait>(rt: &T, alloc: Global, next: &Feed, feed: &Feed) -> bool {
+    let room = next.room(rt, alloc);
+    let is_kept = !room.is_empty() && finds_none(rt, alloc, feed);
+    next.give_back(rt, room);
+    is_kept
+}
+
 /// Whether the vector of a block that was given back reaches the feed of any table, and only once, and one that a feed gives back reaches
 /// another feed.
-fn comes_back<T: Wait>(rt: &T, alloc: Global) -> Result<bool, AllocError> {
-    let mut lanes = Lanes::new(alloc, 2)?;
-    let (feed, drain) = lanes.open(alloc, 1)?;
-    let (next, _next_drain) = lanes.open(alloc, 1)?;
-    let was_empty = feed.room(rt, alloc).is_empty();
-    drain.give_back(rt, block(alloc)?);
-    let room = next.room(rt, alloc);
-    let is_kept = !room.is_empty() && feed.room(rt, alloc).is_empty();
-    next.give_back(rt, room);
+fn comes_back<T: Wait>(rt: &T, alloc: Global, block: Block, rings: &Rings) -> bool {
+    let (feed, next) = (&rings.own.0, &rings.next.0);
+    let was_empty = finds_none(rt, alloc, feed);
+    rings.own.1.give_back(rt, block);
+    let is_handed_on = is_handed_on(rt, alloc, next, feed);
     let is_first = feed.is_reached() && !next.is_reached();
-    Ok(
-        is_first
-            && was_empty
-            && is_kept
-            && feed.kept_room(rt).is_some()
-            && feed.kept_room(rt).is_none(),
-    )
+    is_first && was_empty && is_handed_on && keeps_one(rt, feed) && !keeps_one(rt, feed)
 }
 
 #[test]
-fn a_room_comes_back(rt: HostRuntime) -> Result<(), Fail> {
-    let comes = comes_back(&rt, rt.alloc())?;
+fn a_room_comes_back(rt: HostRuntime) {
+    let alloc = rt.alloc();
+    let comes = match (&open_three(alloc, 2, 1), block(alloc)) {
+        (Ok(rings), Ok(block)) => comes_back(&rt, alloc, block, rings),
+        _ => false,
+    };
     assert!(rt; comes);
-    Ok(())
 }
 
-/// Whether two workers send three tables through rings of one block, where only one block may wait in all.
-fn sends_three<T: Threads + Wait + Sync>(rt: &T, alloc: Global) -> Result<bool, AllocError> {
-    let mut lanes = Lanes::new(alloc, 1)?;
-    let (first, mut first_drain) = lanes.open(alloc, 1)?;
-    let (second, mut second_drain) = lanes.open(alloc, 1)?;
-    let (third, mut third_drain) = lanes.open(alloc, 1)?;
+/// Whether two workers send three tables through these rings, which are of one block.
+fn send_three<T: Threads + Wait + Sync>(rt: &T, alloc: Global, rings: Rings) -> bool {
+    let Rings {
+        own: (first, mut first_drain),
+        next: (second, mut second_drain),
+        last: (third, mut third_drain),
+    } = rings;
     let drains = (&mut first_drain, &mut second_drain, &mut third_drain);
-    let (counts, are_sent) = thread::join(
+    let (are_taken, are_sent) = thread::join(
         rt,
-        move || (
-            blocks_of(rt, drains.0),
-            blocks_of(rt, drains.1),
-            blocks_of(rt, drains.2),
-        ),
+        move || {
+            blocks_of(rt, drains.0) == BLOCKS
+                && blocks_of(rt, drains.1) == BLOCKS
+                && blocks_of(rt, drains.2) == BLOCKS
+        },
         move || {
             thread::join(
                 rt,
@@ -288,12 +333,14 @@ fn sends_three<T: Threads + Wait + Sync>(rt: &T, alloc: Global) -> Result<bool, 
             )
         },
     );
-    Ok(counts == (BLOCKS, BLOCKS, BLOCKS) && are_sent == (true, true))
+    are_taken && are_sent == (true, true)
 }
 
 #[test]
-fn three_tables_by_two_workers(rt: HostRuntime) -> Result<(), Fail> {
-    let are_sent = sends_three(&rt, rt.alloc())?;
+fn three_tables_by_two_workers(rt: HostRuntime) {
+    let are_sent = match open_three(rt.alloc(), 1, 1) {
+        Ok(rings) => send_three(&rt, rt.alloc(), rings),
+        Err(_) => false,
+    };
     assert!(rt; are_sent);
-    Ok(())
 }
