@@ -50,12 +50,10 @@ behind_answers all left after n r (Ok found) behind given = λ yes. behind_takes
 behind_answers all left after n r (Err e) behind given = tt
 
 -- the header alone
-pub has_header : (told : Option (List ℕ)) (records after : Option (List Record)) (h : Record) (number : ℕ) → records ≡ option_map grid told → number ≡ 0
-    → IfSome records (λ left. TakesNth left 0 h after) → IfSome told (λ bytes. HasRow (grid bytes) number h [])
-has_header None records after h number is none first = tt
-has_header (Some bytes) records after h number is none first =
-    let taken : TakesNth (grid bytes) 0 h after = subst (λ o. IfSome o (λ left. TakesNth left 0 h after)) is first in
-    rw none (taken.0, refl)
+pub has_header : (records after : Option (List Record)) (h : Record) (number : ℕ) → number ≡ 0
+    → IfSome records (λ left. TakesNth left 0 h after) → IfSome records (λ left. HasRow left number h [])
+has_header None after h number none first = tt
+has_header (Some left) after h number none first = rw none (first.0, refl)
 
 abbrev no_records : List Record
 no_records = []
@@ -65,15 +63,29 @@ further [] m r e = cc (sym (slice_get_past no_records m (omega arith)) ∙ e)
 further (x ∷ records) m r e = e
 
 -- the header and a row behind it
-pub has_row : (told : Option (List ℕ)) (records after last : Option (List Record)) (h r : Record) (number : ℕ) → records ≡ option_map grid told → 1 ≤ number
-    → IfSome records (λ left. TakesNth left 0 h after) → IfSome after (λ left. TakesNth left (number - 1) r last) → IfSome told (λ bytes. HasRow (grid bytes) number h r)
-has_row None records after last h r number is some first second = tt
-has_row (Some bytes) records after last h r zero is some first second = absurd (omega arith)
-has_row (Some bytes) records after last h r (suc m) is some first second =
-    let taken : TakesNth (grid bytes) 0 h after = subst (λ o. IfSome o (λ left. TakesNth left 0 h after)) is first in
+has_row : (records after last : Option (List Record)) (h r : Record) (number : ℕ) → 1 ≤ number
+    → IfSome records (λ left. TakesNth left 0 h after) → IfSome after (λ left. TakesNth left (number - 1) r last) → IfSome records (λ left. HasRow left number h r)
+has_row None after last h r number some first second = tt
+has_row (Some left) after last h r zero some first second = absurd (omega arith)
+has_row (Some left) after last h r (suc m) some first second =
     let one : suc m - 1 ≡ m = omega arith in
-    let row : TakesNth (drop 1 (grid bytes)) (suc m - 1) r last = subst (λ o. IfSome o (λ left. TakesNth left (suc m - 1) r last)) taken.1 second in
-    (taken.0, further (grid bytes) m r (ap (λ k. slice_get (drop 1 (grid bytes)) k) (sym one) ∙ row.0))
+    let row : TakesNth (drop 1 left) (suc m - 1) r last = subst (λ o. IfSome o (λ left. TakesNth left (suc m - 1) r last)) first.1 second in
+    (first.0, further left m r (ap (λ k. slice_get (drop 1 left) k) (sym one) ∙ row.0))
+
+-- the read of the row says whether it is there
+pub row_answers : {E : Type 0} (records after last : Option (List Record)) (h r : Record) (number : ℕ) (o : Result Bool E) → 1 ≤ number
+    → IfSome records (λ left. TakesNth left 0 h after) → IfOk o (λ found. found ≡ true → IfSome after (λ left. TakesNth left (number - 1) r last))
+    → IfOk o (λ found. found ≡ true → IfSome records (λ left. HasRow left number h r))
+row_answers records after last h r number (Ok found) some first second = λ yes. has_row records after last h r number some first (second yes)
+row_answers records after last h r number (Err e) some first second = tt
+
+-- the same of all records of a file
+pub rows_of_file : {E : Type 0} (told : Option (List ℕ)) (records : Option (List Record)) (h r : Record) (number : ℕ) (o : Result Bool E) → records ≡ option_map grid told
+    → IfOk o (λ found. found ≡ true → IfSome records (λ left. HasRow left number h r))
+    → IfOk o (λ found. found ≡ true → IfSome told (λ bytes. HasRow (grid bytes) number h r))
+rows_of_file None records h r number (Ok found) is has = λ yes. tt
+rows_of_file (Some bytes) records h r number (Ok found) is has = λ yes. subst (λ o. IfSome o (λ left. HasRow left number h r)) is (has yes)
+rows_of_file told records h r number (Err e) is has = tt
 
 -- the header and a row of the file that a reader was opened for
 pub has_row_in : {R : Type 0} (told : R → Option (List ℕ)) (reader : R) (known : Option Files) (path : List ℕ) (number : ℕ) (h r : Record)

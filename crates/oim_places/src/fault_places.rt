@@ -35,8 +35,8 @@ impl FaultPlace {
     {
         Ok(FaultPlace {
             line: None,
-            header: Text::from_str(alloc, "")?,
-            cell: Text::from_str(alloc, "")?,
+            header: Text::new(String::new(alloc)),
+            cell: Text::new(String::new(alloc)),
         })
     }
 }

@@ -1,10 +1,10 @@
 //! The file of the faults of refused tables (`--faults`): its header, and a record for each fault.
 
-ghost use Rattle.std.specs.Prelude.{◌≡◌, IfOk, string_bytes};
+ghost use Rattle.std.specs.Prelude.{◌≡◌, [], IfOk};
 ghost use Rattle.std.specs.Fmt.{decimal};
-ghost use Rattle.csv.specs.Records.{fields_of};
+ghost use Rattle.csv.specs.Records.{fields_of, partial_of};
 ghost use Rattle.csv.specs.Writing.{default_writer, row_text};
-ghost use Rattle.oim_places.specs.FaultRows.{IsTextOf, fault_fields, fault_names, line_field};
+ghost use Rattle.oim_places.specs.FaultRows.{IsTextOf, PutsField, fault_fields, fault_names, line_field};
 
 use crate::fault_places::FaultPlace;
 use csv::{ByteRecord, WriterBuilder};
@@ -32,42 +32,45 @@ fn record_text(alloc: Global, row: &ByteRecord) -> Result<Vec<u8>, AllocError>
     }
 }
 
-/// A number in decimal digits.
-fn number_text(alloc: Global, number: u32) -> Result<String, AllocError>
-    ensures { IfOk result (λ s. string_bytes s ≡ decimal number) }
+/// Puts a number's decimal digits behind the fields of a record.
+fn put_number(alloc: Global, row: &mut ByteRecord, number: u64) -> Result<(), AllocError>
+    requires { partial_of row.old ≡ [] }
+    ensures { IfOk result (λ u. PutsField row.old row.new (decimal number)) }
 {
-    format!(in alloc; "{number}")
+    let digits = format!(in alloc; "{number}")?;
+    row.push_field(digits.as_bytes())
 }
 
-/// A line's number in decimal digits, and nothing if it is not known.
-fn line_text(alloc: Global, line: Option<u64>) -> Result<String, AllocError>
-    ensures { IfOk result (λ s. string_bytes s ≡ line_field line) }
+/// Puts a line's number behind the fields of a record, and an empty field if it is not known.
+fn put_line(alloc: Global, row: &mut ByteRecord, line: Option<u64>) -> Result<(), AllocError>
+    requires { partial_of row.old ≡ [] }
+    ensures { IfOk result (λ u. PutsField row.old row.new (line_field line)) }
 {
     match line {
-        Some(line) => format!(in alloc; "{line}"),
-        None => Ok(String::new(alloc)),
+        Some(line) => put_number(alloc, row, line),
+        None => row.push_field(b""),
     }
 }
 
-/// The fields of a fault's record.
-fn record_of(
+/// Puts the fields of a fault's record into an empty one.
+fn put_fields(
     alloc: Global,
+    row: &mut ByteRecord,
     id: &str,
     fault: &TableFault,
     place: &FaultPlace,
-) -> Result<ByteRecord, AllocError>
-    ensures { IfOk result (λ r. fields_of r ≡ fault_fields id.now fault.now place.now) }
+) -> Result<(), AllocError>
+    requires { (fields_of row.old ≡ []) × (partial_of row.old ≡ []) }
+    ensures { IfOk result (λ u. fields_of row.new ≡ fault_fields id.now fault.now place.now) }
 {
-    let mut row = ByteRecord::new(alloc);
     row.push_field(id.as_bytes())?;
-    row.push_field(number_text(alloc, fault.row)?.as_bytes())?;
-    row.push_field(number_text(alloc, fault.column)?.as_bytes())?;
-    row.push_field(number_text(alloc, fault.number())?.as_bytes())?;
+    put_number(alloc, row, u64::from(fault.row))?;
+    put_number(alloc, row, u64::from(fault.column))?;
+    put_number(alloc, row, u64::from(fault.number()))?;
     row.push_field(fault.name().as_bytes())?;
-    row.push_field(line_text(alloc, place.line)?.as_bytes())?;
+    put_line(alloc, row, place.line)?;
     row.push_field(place.header.as_str().as_bytes())?;
-    row.push_field(place.cell.as_str().as_bytes())?;
-    Ok(row)
+    row.push_field(place.cell.as_str().as_bytes())
 }
 
 /// The record of the file for a fault of the table with this identifier, at whose place this stands: the
@@ -82,6 +85,7 @@ pub fn fault_row(
 ) -> Result<Vec<u8>, AllocError>
     ensures { IfOk result (λ v. IsTextOf (fault_fields id.now fault.now place.now) v.items) }
 {
-    let row = record_of(alloc, id, fault, place)?;
+    let mut row = ByteRecord::new(alloc);
+    put_fields(alloc, &mut row, id, fault, place)?;
     record_text(alloc, &row)
 }

@@ -1,8 +1,7 @@
 //! A place in a file, and its line, for which the file is read again.
 
-ghost use Rattle.std.specs.Prelude.{◌≡◌, IfOk, IfSome, Some, string_bytes};
-ghost use Rattle.oim_places.specs.FilePlaces as spec;
-ghost use Rattle.oim_places.specs.FilePlaces.{place_text};
+ghost use Rattle.std.specs.Prelude.{◌≡◌, ◌++◌, IfOk, IfSome, Some, string_bytes};
+ghost use Rattle.oim_places.specs.FilePlaces.{cell_part, line_part, place_text};
 ghost use Rattle.oim_places.specs.LineNumbers.{line_of_record};
 
 use crate::line_number::line_of;
@@ -11,26 +10,34 @@ use oim_files::Folder;
 use std::alloc::{AllocError, Global};
 use std::io::Read;
 
-/// What a place says of its line.
-fn line_part(alloc: Global, line: Option<u64>) -> Result<String, AllocError>
-    ensures { IfOk result (λ s. string_bytes s ≡ spec.line_part line) }
-{
-    match line {
-        Some(line) => format!(in alloc; ", line {line}"),
-        None => Ok(String::new(alloc)),
-    }
-}
-
-/// What a place says of its cell, which is counted from 1.
-fn cell_part(alloc: Global, place: Option<usize>) -> Result<String, AllocError>
-    ensures { IfOk result (λ s. string_bytes s ≡ spec.cell_part place) }
+/// What a text says with a cell behind it, which is counted from 1.
+fn with_cell(alloc: Global, text: &str, place: Option<usize>) -> Result<String, AllocError>
+    ensures { IfOk result (λ s. string_bytes s ≡ text.now ++ cell_part place) }
 {
     match place {
         Some(place) => {
             let cell = place.saturating_add(1);
-            format!(in alloc; ", cell {cell}")
+            format!(in alloc; "{text}, cell {cell}")
         }
-        None => Ok(String::new(alloc)),
+        None => String::from_str(alloc, text),
+    }
+}
+
+/// What a path says with a line behind it, and a cell of its record.
+fn with_line(
+    alloc: Global,
+    path: &str,
+    line: Option<u64>,
+    place: Option<usize>,
+) -> Result<String, AllocError>
+    ensures { IfOk result (λ s. string_bytes s ≡ (path.now ++ line_part line) ++ cell_part place) }
+{
+    match line {
+        Some(line) => {
+            let text = format!(in alloc; "{path}, line {line}")?;
+            with_cell(alloc, text.as_str(), place)
+        }
+        None => with_cell(alloc, path, place),
     }
 }
 
@@ -44,10 +51,7 @@ pub fn place_in_file(
     ensures { IfOk result (λ s. string_bytes s ≡ place_text path.now line place) }
 {
     let path = shown(alloc, path)?;
-    let mut out = String::from_str(alloc, path.as_str())?;
-    out.push_str(line_part(alloc, line)?.as_str())?;
-    out.push_str(cell_part(alloc, place)?.as_str())?;
-    Ok(out)
+    with_line(alloc, path.as_str(), line, place)
 }
 
 /// The line of a file at which a record begins. `None` if there is no such record, the file cannot be read

@@ -19,22 +19,19 @@ fn plain(alloc: Global, value: &Value) -> Result<String, AllocError> {
     excerpt(alloc, value.to_string(alloc)?.as_str())
 }
 
+/// A list or an object by its size.
+fn counted(alloc: Global, what: &str, count: usize) -> Result<String, AllocError> {
+    format!(in alloc; "({what} of {count})")
+}
+
 /// What stands at a place: a text in quotes, a list or an object by its size, anything else as it is in
 /// JSON. Fails if memory runs out.
 pub fn standing(alloc: Global, value: Option<&Value>) -> Result<String, AllocError> {
-    let Some(value) = value else {
-        return String::from_str(alloc, "(nothing)");
-    };
-    if let Some(text) = value.as_str() {
-        return quoted(alloc, text);
+    match value {
+        None => String::from_str(alloc, "(nothing)"),
+        Some(Value::String(text)) => quoted(alloc, text.as_str()),
+        Some(Value::Array(list)) => counted(alloc, "a list", list.len()),
+        Some(Value::Object(members)) => counted(alloc, "an object", members.len()),
+        Some(value) => plain(alloc, value),
     }
-    if let Some(list) = value.as_array() {
-        let count = list.len();
-        return format!(in alloc; "(a list of {count})");
-    }
-    if let Some(members) = value.as_object() {
-        let count = members.len();
-        return format!(in alloc; "(an object of {count})");
-    }
-    plain(alloc, value)
 }

@@ -29,7 +29,7 @@ struct Members {
 /// Whether a text between quotes, with blanks behind it, is the name.
 fn is_name(alloc: Global, text: &[u8], name: &str) -> Result<bool, AllocError> {
     match Value::from_slice(alloc, text) {
-        Ok(value) => Ok(value.as_str().is_some_and(|it| it == name)),
+        Ok(value) => Ok(value.as_str() == Some(name)),
         Err(error) if error.is_memory() => Err(AllocError),
         Err(_) => Ok(false),
     }

@@ -1,6 +1,6 @@
 //! The records of a file that is read again.
 
-ghost use Rattle.std.specs.Prelude.{◌≡◌, ◌<◌, IfOk, IfSome, length, true};
+ghost use Rattle.std.specs.Prelude.{◌≡◌, ◌<◌, [], IfOk, IfSome, length, true};
 ghost use Rattle.csv.specs.Records.{fields_of};
 ghost use Rattle.oim_records.specs.Grids.{grid};
 ghost use Rattle.oim_records.specs.Reads.{TakesRecord};
@@ -52,6 +52,39 @@ fn read_nth<R: Read>(
     next_record(records, row)
 }
 
+/// Reads the next record as the header and the one with this number behind it, which stays empty for the header itself, and says
+/// whether it is there.
+fn read_row<R: Read>(
+    records: &mut Records<R>,
+    again: &mut RowAgain,
+    number: usize,
+) -> Result<bool, AllocError>
+    requires { fields_of again.old.row ≡ [] }
+    ensures { IfOk result (λ found. found ≡ true → IfSome records.old (λ left. HasRow left number (fields_of again.new.header) (fields_of again.new.row))) }
+{
+    if !read_nth(records, &mut again.header, 0)? {
+        return Ok(false);
+    }
+    if number == 0 {
+        return Ok(true);
+    }
+    read_nth(records, &mut again.row, number - 1)
+}
+
+/// Reads the header of a file and the record with this number, as `read_row` does.
+fn read_file<R: Read + Drop>(
+    alloc: Global,
+    reader: R,
+    again: &mut RowAgain,
+    number: usize,
+) -> Result<bool, AllocError>
+    requires { fields_of again.old.row ≡ [] }
+    ensures { IfOk result (λ found. found ≡ true → IfSome (R.remaining reader) (λ bytes. HasRow (grid bytes) number (fields_of again.new.header) (fields_of again.new.row))) }
+{
+    let mut records = Records::new(alloc, reader);
+    read_row(&mut records, again, number)
+}
+
 /// The header of a file and the record with this number, which is empty for the header itself. `None` if there
 /// is no such record, or the reader fails.
 pub(crate) fn row_again<R: Read + Drop>(
@@ -61,19 +94,34 @@ pub(crate) fn row_again<R: Read + Drop>(
 ) -> Result<Option<RowAgain>, AllocError>
     ensures { IfOk result (λ o. IfSome o (λ a. IfSome (R.remaining reader) (λ bytes. HasRow (grid bytes) number (fields_of a.header) (fields_of a.row)))) }
 {
-    let mut records = Records::new(alloc, reader);
-    let mut header = ByteRecord::new(alloc);
-    let mut row = ByteRecord::new(alloc);
-    if !read_nth(&mut records, &mut header, 0)? {
-        return Ok(None);
+    let mut again = RowAgain {
+        header: ByteRecord::new(alloc),
+        row: ByteRecord::new(alloc),
+    };
+    if read_file(alloc, reader, &mut again, number)? {
+        Ok(Some(again))
+    } else {
+        Ok(None)
     }
-    if number == 0 {
-        return Ok(Some(RowAgain { header, row }));
+}
+
+/// The number of the first of these records behind their header that has this text at a place.
+fn number_with<R: Read>(
+    records: &mut Records<R>,
+    row: &mut ByteRecord,
+    place: usize,
+    text: &[u8],
+) -> Result<Option<usize>, AllocError> {
+    for number in 0..u32::MAX as usize {
+        if !next_record(records, row)? {
+            return Ok(None);
+        }
+        match row.get(place) {
+            Some(cell) if number > 0 && cell == text => return Ok(Some(number)),
+            _ => {}
+        }
     }
-    if !read_nth(&mut records, &mut row, number - 1)? {
-        return Ok(None);
-    }
-    Ok(Some(RowAgain { header, row }))
+    Ok(None)
 }
 
 /// The number of the first record behind the header that has this text at a place. `None` if there is none.
@@ -85,18 +133,7 @@ pub fn first_record_with<R: Read + Drop>(
 ) -> Result<Option<usize>, AllocError> {
     let mut records = Records::new(alloc, reader);
     let mut row = ByteRecord::new(alloc);
-    if !next_record(&mut records, &mut row)? {
-        return Ok(None);
-    }
-    for number in 1..u32::MAX as usize {
-        if !next_record(&mut records, &mut row)? {
-            return Ok(None);
-        }
-        if row.get(place).is_some_and(|cell| cell == text) {
-            return Ok(Some(number));
-        }
-    }
-    Ok(None)
+    number_with(&mut records, &mut row, place, text)
 }
 
 /// The first fault of a table, whose file is read again. `None` if none is found; the clause speaks of a fault alone.

@@ -7,7 +7,6 @@ use crate::parts::after_mark;
 use oim_files::{EarlyFault, Folder, Source, folder_of, metadata_at, report_of};
 use oim_meta::{MetaFault, Report};
 use serde_json::Value;
-use serde_json::error::Category;
 use std::alloc::Global;
 use std::io::Read;
 
@@ -39,6 +38,15 @@ impl ReportAgain {
     }
 }
 
+/// The value that a metadata of these bytes is, as it is written.
+fn value_of(alloc: Global, bytes: &[u8]) -> Result<Value, EarlyFault> {
+    match Value::from_slice(alloc, after_mark(bytes)) {
+        Ok(value) => Ok(value),
+        Err(error) if error.is_memory() => Err(EarlyFault::Memory),
+        Err(_) => Err(EarlyFault::Report(Source::Report, MetaFault::Syntax)),
+    }
+}
+
 /// The metadata of a run as it is written.
 fn metadata_again<R: Read + Drop, F: Folder<R>>(
     alloc: Global,
@@ -47,14 +55,26 @@ fn metadata_again<R: Read + Drop, F: Folder<R>>(
 ) -> Result<Value, EarlyFault>
     ensures { F.files folder.new ≡ F.files folder.old }
 {
-    let bytes = match metadata_at(alloc, folder, path) {
-        Ok(bytes) => bytes,
-        Err(early) => return Err(early),
-    };
-    match Value::from_slice(alloc, after_mark(bytes.as_slice())) {
-        Ok(value) => Ok(value),
-        Err(error) if matches!(error.classify(), Category::Memory) => Err(EarlyFault::Memory),
-        Err(_) => Err(EarlyFault::Report(Source::Report, MetaFault::Syntax)),
+    match metadata_at(alloc, folder, path) {
+        Ok(bytes) => value_of(alloc, bytes.as_slice()),
+        Err(early) => Err(early),
+    }
+}
+
+/// The report, whose metadata is this value.
+fn with_metadata<R: Read + Drop, F: Folder<R>>(
+    alloc: Global,
+    meta: &str,
+    types: &str,
+    folder: &mut F,
+    metadata: Value,
+) -> Result<ReportAgain, EarlyFault>
+    ensures same { F.files folder.new ≡ F.files folder.old }
+    ensures report { IfOk result (λ a. IfSome (F.files folder.old) (λ files. IsReportOf files meta.now types.now a.report)) }
+{
+    match report_of(alloc, folder, folder_of(meta), meta, types) {
+        Ok(report) => Ok(ReportAgain { report, metadata }),
+        Err(early) => Err(early),
     }
 }
 
@@ -69,12 +89,8 @@ pub fn report_again<R: Read + Drop, F: Folder<R>>(
     ensures same { F.files folder.new ≡ F.files folder.old }
     ensures report { IfOk result (λ a. IfSome (F.files folder.old) (λ files. IsReportOf files meta.now types.now a.report)) }
 {
-    let report = match report_of(alloc, folder, folder_of(meta), meta, types) {
-        Ok(report) => report,
-        Err(early) => return Err(early),
-    };
     match metadata_again(alloc, meta, folder) {
-        Ok(metadata) => Ok(ReportAgain { report, metadata }),
+        Ok(metadata) => with_metadata(alloc, meta, types, folder, metadata),
         Err(early) => Err(early),
     }
 }

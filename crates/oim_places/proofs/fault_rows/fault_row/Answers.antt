@@ -7,5 +7,5 @@ use Rattle.oim_places.proofs.fault_rows.fault_row.Goals as goal
 pub returns : goal.returns
 returns c =
     IfOk-weaker c.record_text.result _ _
-    (λ v h. text_of_record _ _ _ v.items (h ∙ ap (λ fields. row_text default_writer fields) c.in_ok-row.ensures))
+    (λ v h. text_of_record _ _ _ v.items (h ∙ ap (λ fields. row_text default_writer fields) c.in_ok-put_fields.ensures))
     c.record_text.ensures

@@ -1,6 +1,10 @@
-use Rattle.oim_places.proofs.FaultPlaces.{report_is}
+use Rattle.std.proofs.Common.{IfSome, subst}
+use Rattle.std.proofs.lemmas.Result.{IfOk-weaker}
+use Rattle.oim_places.specs.Reports.{IsReportOf}
 use Rattle.oim_places.proofs.reread.report_again.Goals as goal
 
-pub returns-in-Ok-metadata_again-clause-report : goal.returns-in-Ok-metadata_again-clause-report
-returns-in-Ok-metadata_again-clause-report g c =
-    report_is (g.F.Folder.files c.args.folder.now) c.folder_of.result.now c.args.meta.now c.args.types.now c.in-Ok.report c.folder_of.ensures c.in-Ok.ensures.gives
+pub returns-in-Ok-clause-report : goal.returns-in-Ok-clause-report
+returns-in-Ok-clause-report g c =
+    IfOk-weaker c.with_metadata.result _ _
+    (λ a is. subst (λ known. IfSome known (λ files. IsReportOf files c.args.meta.now c.args.types.now a.report)) c.metadata_again.ensures is)
+    c.with_metadata.ensures.report
