@@ -4,7 +4,7 @@ ghost use Rattle.serde_json.specs.View.{view};
 ghost use Rattle.oim_meta.specs.Reading.{Reads};
 ghost use Rattle.oim_files.specs.Metadata.{profile};
 
-use crate::entries::{BadRecord, bad_parameter, bad_type};
+use crate::entries::{BadRecord, Form, PARAMETERS, TYPES, bad_record};
 use crate::explanation::{Explanation, explanation_text};
 use crate::files::{changed, of_file, unread};
 use crate::metadata::{explain_value, of_unread, read_again};
@@ -120,23 +120,11 @@ fn of_record<R: Read + Drop, F: Folder<R>>(
     };
     let line = line_again(alloc, folder, path, bad.number);
     Ok(Explanation {
-        place: Text::new(place_in_file(alloc, path, line, bad.place)?),
+        place: Text::new(place_in_file(alloc, path, line, bad.wrong.place)?),
         found: Text::new(bad.found),
-        cause: bad.cause,
+        cause: bad.wrong.cause,
         sources: Items::new(alloc),
     })
-}
-
-/// The earliest bad record of a types table, or of a parameters file.
-fn bad_record<R: Read + Drop>(
-    alloc: Global,
-    reader: R,
-    source: Source,
-) -> Result<Option<BadRecord>, AllocError> {
-    match source {
-        Source::Types => bad_type(alloc, reader),
-        Source::Parameters | Source::Report => bad_parameter(alloc, reader),
-    }
 }
 
 /// The explanation of a fault of the types table or the parameters file at this path.
@@ -144,41 +132,50 @@ fn of_entries<R: Read + Drop, F: Folder<R>>(
     alloc: Global,
     folder: &mut F,
     path: &str,
-    source: Source,
+    form: &Form,
 ) -> Result<Explanation, AllocError> {
     match folder.open(path) {
         Some(reader) => {
-            let bad = bad_record(alloc, reader, source)?;
+            let bad = bad_record(alloc, form, reader)?;
             of_record(alloc, folder, path, bad)
         }
         None => of_file(alloc, path, "the file cannot be opened again"),
     }
 }
 
-/// The path of the parameters file, as the metadata that is read again names it.
-fn parameters_path<R: Read + Drop, F: Folder<R>>(
+/// The explanation of a fault of the parameters file with this name, of the metadata at this path.
+fn of_parameters_at<R: Read + Drop, F: Folder<R>>(
     alloc: Global,
     folder: &mut F,
     meta: &str,
-) -> Result<Option<String>, AllocError> {
-    let Ok(metadata) = metadata_at(alloc, folder, meta) else {
-        return Ok(None);
-    };
-    match url_in(alloc, metadata.as_slice()) {
-        Ok(Some(url)) => Ok(Some(path_in(alloc, folder_of(meta), url.as_str())?)),
-        _ => Ok(None),
+    url: &str,
+) -> Result<Explanation, AllocError> {
+    let path = path_in(alloc, folder_of(meta), url)?;
+    of_entries(alloc, folder, path.as_str(), &PARAMETERS)
+}
+
+/// The explanation of a fault of the parameters file that a metadata of these bytes, which is at this path, names.
+fn of_parameters_in<R: Read + Drop, F: Folder<R>>(
+    alloc: Global,
+    folder: &mut F,
+    meta: &str,
+    bytes: &[u8],
+) -> Result<Explanation, AllocError> {
+    match url_in(alloc, bytes) {
+        Ok(Some(url)) => of_parameters_at(alloc, folder, meta, url.as_str()),
+        _ => changed(alloc, meta),
     }
 }
 
 /// The explanation of a fault of the parameters file of the metadata at this path.
-fn of_parameters_of<R: Read + Drop, F: Folder<R>>(
+fn of_parameters<R: Read + Drop, F: Folder<R>>(
     alloc: Global,
     folder: &mut F,
     meta: &str,
 ) -> Result<Explanation, AllocError> {
-    match parameters_path(alloc, folder, meta)? {
-        Some(path) => of_entries(alloc, folder, path.as_str(), Source::Parameters),
-        None => changed(alloc, meta),
+    match metadata_at(alloc, folder, meta) {
+        Ok(bytes) => of_parameters_in(alloc, folder, meta, bytes.as_slice()),
+        Err(_) => changed(alloc, meta),
     }
 }
 
@@ -205,8 +202,8 @@ fn explained<R: Read + Drop, F: Folder<R>>(
     }
     match source {
         Source::Report => of_metadata(alloc, meta, types, folder, fault),
-        Source::Types => of_entries(alloc, folder, types, source),
-        Source::Parameters => of_parameters_of(alloc, folder, meta),
+        Source::Types => of_entries(alloc, folder, types, &TYPES),
+        Source::Parameters => of_parameters(alloc, folder, meta),
     }
 }
 

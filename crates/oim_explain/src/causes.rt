@@ -1,5 +1,6 @@
 //! What is wrong at a place of the metadata: a sentence for each case of a fault. `docs/FAULTS.md` has them too.
 
+use crate::levels::text_of;
 use oim_cells::{CellMeaning, meaning};
 use oim_meta::MetaFault;
 use oim_names::{Text, is_identifier, is_ncname};
@@ -126,7 +127,7 @@ fn of_dimension(keys: &[Text], value: Option<&Value>) -> &'static str {
         key_from_end(keys, 0),
         "concept" | "entity" | "period" | "unit" | "language"
     );
-    let Some(text) = value.and_then(|it| it.as_str()) else {
+    let Some(text) = text_of(value) else {
         return "the value of a dimension is not a text";
     };
     match text.strip_prefix("$") {

@@ -1,23 +1,59 @@
 //! The earliest bad record of a types table or of a parameters file.
 
 use csv::ByteRecord;
-use oim_meta::{Kind, MetaFault, Parameters, Records, Types, read_types};
-use oim_names::{Text, is_identifier, is_ncname};
+use oim_meta::{MetaFault, Records, read_types};
+use oim_names::{is_identifier, is_ncname};
 use oim_places::{cell_shown, excerpt, next_record, record_shown, text_at};
 use std::alloc::{AllocError, Global};
+use std::collections::HashSet;
 use std::io::Read;
 
-/// How many records a types table may have behind its header.
-const MOST_TYPES: usize = 1_048_576;
+/// What a file of records is, and what is wrong with a record that breaks its rules.
+#[derive(Clone, Copy)]
+pub(crate) struct Form {
+    /// Whether it is a types table, and no parameters file.
+    is_types: bool,
+    /// How many cells each record has.
+    cells: usize,
+    /// The place of the cell with the name. It and the cells before it stand in one record alone.
+    name: usize,
+    /// How many records may stand behind the header.
+    most: usize,
+    bad_header: &'static str,
+    too_many: &'static str,
+    bad_name: &'static str,
+    repeated: &'static str,
+}
 
-/// How many records a parameters file may have behind its header.
-const MOST_PARAMETERS: usize = 65_536;
+/// A types table.
+pub(crate) const TYPES: Form = Form {
+    is_types: true,
+    cells: 3,
+    name: 1,
+    most: 1_048_576,
+    bad_header: "the header is neither namespace,name,type nor namespace,name,type2",
+    too_many: "there are more than 1,048,576 records behind the header",
+    bad_name: "this name is not an NCName",
+    repeated: "an earlier record has this name in this namespace",
+};
+
+/// A parameters file.
+pub(crate) const PARAMETERS: Form = Form {
+    is_types: false,
+    cells: 2,
+    name: 0,
+    most: 65_536,
+    bad_header: "the header is not name,value",
+    too_many: "there are more than 65,536 records behind the header",
+    bad_name: "this name is not an identifier",
+    repeated: "an earlier record has this name",
+};
 
 /// What is wrong with a record, and with which of its cells, if it is one.
 #[derive(Clone, Copy)]
-struct Wrong {
-    place: Option<usize>,
-    cause: &'static str,
+pub(crate) struct Wrong {
+    pub(crate) place: Option<usize>,
+    pub(crate) cause: &'static str,
 }
 
 /// A bad record of a file.
@@ -25,50 +61,42 @@ struct Wrong {
 pub(crate) struct BadRecord {
     /// Its number, the header being 0.
     pub(crate) number: usize,
-    /// The place of the cell that is bad, if it is one.
-    pub(crate) place: Option<usize>,
+    /// What is wrong with it.
+    pub(crate) wrong: Wrong,
     /// What stands there.
     pub(crate) found: String,
-    /// What is wrong with it.
-    pub(crate) cause: &'static str,
 }
 
 impl BadRecord {
+    /// The record with this number.
     fn of(
         alloc: Global,
         number: usize,
         row: &ByteRecord,
         wrong: Wrong,
-    ) -> Result<BadRecord, AllocError> {
+    ) -> Result<Option<BadRecord>, AllocError> {
         let found = match wrong.place {
             Some(place) => cell_shown(alloc, row, place)?,
             None => record_shown(alloc, row)?,
         };
-        Ok(BadRecord {
+        Ok(Some(BadRecord {
             number,
-            place: wrong.place,
+            wrong,
             found,
-            cause: wrong.cause,
-        })
+        }))
     }
 
-    /// A header that is wrong.
+    /// The header.
     fn of_header(
         alloc: Global,
         header: &str,
         cause: &'static str,
-    ) -> Result<BadRecord, AllocError> {
-        Ok(BadRecord {
+    ) -> Result<Option<BadRecord>, AllocError> {
+        Ok(Some(BadRecord {
             number: 0,
-            place: None,
+            wrong: Wrong { place: None, cause },
             found: excerpt(alloc, header)?,
-            cause,
-        })
-    }
-
-    /// A header that is not there.
-    fn none(alloc: Global) -> Result<BadRecord, AllocError> {
-        BadRecord::of_header(alloc, "(nothing)", NO_HEADER)
+        }))
     }
 }
 
@@ -79,16 +107,14 @@ fn whole(cause: &'static str) -> Option<Wrong> {
 
 /// A record that is bad for one of its cells.
 fn at(place: usize, cause: &'static str) -> Option<Wrong> {
-    Some(Wrong {
-        place: Some(place),
-        cause,
-    })
+    let place = Some(place);
+    Some(Wrong { place, cause })
 }
 
-/// The cells of a record with commas between them, in one line.
-fn joined(alloc: Global, row: &ByteRecord) -> Result<String, AllocError> {
+/// The first cells of a record with commas between them, in one line.
+fn joined(alloc: Global, row: &ByteRecord, count: usize) -> Result<String, AllocError> {
     let mut out = String::new(alloc);
-    for place in 0..row.len() {
+    for place in 0..count {
         if place > 0 {
             out.push(',')?;
         }
@@ -107,220 +133,172 @@ fn first_bytes(row: &ByteRecord) -> Option<usize> {
     None
 }
 
-/// What is wrong with the length of a record or with its bytes.
-fn wrong_form(row: &ByteRecord, count: usize) -> Option<Wrong> {
-    if row.len() != count {
-        return whole("the record has another number of cells than the header");
-    }
-    match first_bytes(row) {
-        Some(place) => at(place, "this is not UTF-8"),
-        None => None,
-    }
-}
-
-/// The words of a types table that are known to be right, under its header.
-#[derive(Drop)]
-struct KnownWords {
-    header: String,
-    words: Vec<Text>,
-}
-
-impl KnownWords {
-    /// Whether a word was right before.
-    fn has(&self, word: &str) -> bool {
-        for known in &self.words {
-            if known.as_str() == word {
-                return true;
-            }
-        }
-        false
-    }
-
-    /// Whether a word is one of the header's: a types table of one record with it has no fault.
-    fn is_right(&mut self, alloc: Global, word: &str) -> Result<bool, AllocError> {
-        if self.has(word) {
-            return Ok(true);
-        }
-        if !word.bytes().all(|it| it.is_ascii_alphanumeric()) {
-            return Ok(false);
-        }
-        let header = self.header.as_str();
-        let text = format!(in alloc; "{header}\nu,n,{word}\n")?;
-        match read_types(alloc, text.as_bytes()) {
-            Ok(_) => {
-                self.words.push(Text::from_str(alloc, word)?)?;
-                Ok(true)
-            }
-            Err(MetaFault::Memory) => Err(AllocError),
-            Err(_) => Ok(false),
-        }
-    }
-}
-
-/// What is wrong with a record of a types table, behind the earlier ones.
-fn wrong_type(
-    alloc: Global,
-    row: &ByteRecord,
-    known: &mut KnownWords,
-    earlier: &Types,
-) -> Result<Option<Wrong>, AllocError> {
-    if let Some(wrong) = wrong_form(row, 3) {
-        return Ok(Some(wrong));
-    }
-    let (uri, name) = (text_at(row, 0).unwrap_or(""), text_at(row, 1).unwrap_or(""));
-    if !is_ncname(name) {
-        return Ok(at(1, "this name is not an NCName"));
-    }
-    if earlier.kind_of(uri, name).is_some() {
-        return Ok(at(1, "an earlier record has this name in this namespace"));
-    }
-    if known.is_right(alloc, text_at(row, 2).unwrap_or(""))? {
-        Ok(None)
-    } else {
-        Ok(at(2, "this is not one of the types that the header allows"))
-    }
-}
-
-/// The types of earlier records and of one more.
-fn with_type(alloc: Global, earlier: Types, row: &ByteRecord) -> Result<Types, AllocError> {
-    let (uri, name) = (text_at(row, 0).unwrap_or(""), text_at(row, 1).unwrap_or(""));
-    if earlier.kind_of(uri, name).is_some() {
-        return Ok(earlier);
-    }
-    earlier.with(alloc, uri, name, Kind::Other)
-}
-
-/// Whether a header alone is a types table.
-fn is_header_of_types(alloc: Global, header: &str) -> Result<bool, AllocError> {
-    match read_types(alloc, header.as_bytes()) {
+/// Whether a text is a types table.
+fn is_types_table(alloc: Global, text: &str) -> Result<bool, AllocError> {
+    match read_types(alloc, text.as_bytes()) {
         Ok(_) => Ok(true),
         Err(MetaFault::Memory) => Err(AllocError),
         Err(_) => Ok(false),
     }
 }
 
-/// What is wrong with a file without a record.
-const NO_HEADER: &str = "the file has no header";
+/// Whether the header of a types table allows a word: with one record that has it, it has no fault.
+fn is_allowed(alloc: Global, header: &str, word: &str) -> Result<bool, AllocError> {
+    let text = format!(in alloc; "{header}\nu,n,{word}\n")?;
+    is_types_table(alloc, text.as_str())
+}
 
-/// The first bad record behind the header of a types table.
-fn bad_entry_of_types<R: Read>(
-    alloc: Global,
-    records: &mut Records<R>,
-    row: &mut ByteRecord,
-    header: String,
-) -> Result<Option<BadRecord>, AllocError> {
-    let mut types = Types::none(alloc);
-    let mut known = KnownWords {
-        header,
-        words: Vec::new(alloc),
-    };
-    for number in 1..MOST_TYPES + 2 {
-        if !next_record(records, row)? {
-            return Ok(None);
+/// What the earlier records of a file have.
+#[derive(Drop)]
+struct Earlier {
+    /// Their names, each behind the cells before it.
+    names: HashSet<String>,
+    /// The words of a types table that its header allows.
+    words: HashSet<String>,
+}
+
+impl Earlier {
+    /// Notes the name of a record, and says whether no earlier one has it.
+    fn is_new(&mut self, alloc: Global, form: &Form, row: &ByteRecord) -> Result<bool, AllocError> {
+        let name = joined(alloc, row, form.name.saturating_add(1))?;
+        Ok(self.names.insert(name)?)
+    }
+
+    /// Whether the header of a types table allows a word, each of which is an NCName.
+    fn is_right(&mut self, alloc: Global, header: &str, word: &str) -> Result<bool, AllocError> {
+        if self.words.contains(word) {
+            return Ok(true);
         }
-        let wrong = if number > MOST_TYPES {
-            whole("there are more than 1,048,576 records behind the header")
-        } else {
-            wrong_type(alloc, row, &mut known, &types)?
-        };
-        if let Some(wrong) = wrong {
-            return Ok(Some(BadRecord::of(alloc, number, row, wrong)?));
+        if !is_ncname(word) || !is_allowed(alloc, header, word)? {
+            return Ok(false);
         }
-        types = with_type(alloc, types, row)?;
+        self.words.insert(String::from_str(alloc, word)?)?;
+        Ok(true)
     }
-    Ok(None)
 }
 
-/// The earliest bad record of a types table. `None` if it has none.
-pub(crate) fn bad_type<R: Read + Drop>(
+/// Whether a name is one that a record may have.
+fn is_name(form: &Form, name: &str) -> bool {
+    if form.is_types {
+        is_ncname(name)
+    } else {
+        is_identifier(name)
+    }
+}
+
+/// What is wrong with the cells of a record behind the earlier ones, which are as many as they must be, and texts.
+fn wrong_cell(
     alloc: Global,
-    reader: R,
-) -> Result<Option<BadRecord>, AllocError> {
-    let mut records = Records::new(alloc, reader);
-    let mut row = ByteRecord::new(alloc);
-    if !next_record(&mut records, &mut row)? {
-        return Ok(Some(BadRecord::none(alloc)?));
-    }
-    let header = joined(alloc, &row)?;
-    if row.len() != 3 || !is_header_of_types(alloc, header.as_str())? {
-        return Ok(Some(BadRecord::of_header(
-            alloc,
-            header.as_str(),
-            "the header is neither namespace,name,type nor namespace,name,type2",
-        )?));
-    }
-    bad_entry_of_types(alloc, &mut records, &mut row, header)
-}
-
-/// What is wrong with a record of a parameters file, behind the earlier ones.
-fn wrong_parameter(row: &ByteRecord, earlier: &Parameters) -> Option<Wrong> {
-    if let Some(wrong) = wrong_form(row, 2) {
-        return Some(wrong);
-    }
-    let name = text_at(row, 0).unwrap_or("");
-    if !is_identifier(name) {
-        return at(0, "this name is not an identifier");
-    }
-    if earlier.has_name(name) {
-        return at(0, "an earlier record has this name");
-    }
-    None
-}
-
-/// The parameters of earlier records and of one more.
-fn with_parameter(
-    alloc: Global,
-    earlier: Parameters,
+    form: &Form,
+    header: &str,
     row: &ByteRecord,
-) -> Result<Parameters, AllocError> {
-    let name = text_at(row, 0).unwrap_or("");
-    if earlier.has_name(name) {
-        return Ok(earlier);
+    earlier: &mut Earlier,
+) -> Result<Option<Wrong>, AllocError> {
+    if !is_name(form, text_at(row, form.name).unwrap_or("")) {
+        return Ok(at(form.name, form.bad_name));
     }
-    earlier.with(alloc, name, "")
+    if !earlier.is_new(alloc, form, row)? {
+        return Ok(at(form.name, form.repeated));
+    }
+    if !form.is_types || earlier.is_right(alloc, header, text_at(row, 2).unwrap_or(""))? {
+        return Ok(None);
+    }
+    Ok(at(2, "this is not one of the types that the header allows"))
 }
 
-/// The first bad record behind the header of a parameters file.
-fn bad_entry_of_parameters<R: Read>(
+/// What is wrong with a record behind the earlier ones.
+fn wrong_record(
     alloc: Global,
+    form: &Form,
+    header: &str,
+    row: &ByteRecord,
+    earlier: &mut Earlier,
+) -> Result<Option<Wrong>, AllocError> {
+    if row.len() != form.cells {
+        return Ok(whole("the record has another number of cells than the header"));
+    }
+    match first_bytes(row) {
+        Some(place) => Ok(at(place, "this is not UTF-8")),
+        None => wrong_cell(alloc, form, header, row, earlier),
+    }
+}
+
+/// The first bad record behind the header.
+fn bad_behind<R: Read>(
+    alloc: Global,
+    form: &Form,
+    header: &str,
     records: &mut Records<R>,
     row: &mut ByteRecord,
+    earlier: &mut Earlier,
 ) -> Result<Option<BadRecord>, AllocError> {
-    let mut parameters = Parameters::none(alloc);
-    for number in 1..MOST_PARAMETERS + 2 {
+    for number in 1..form.most.saturating_add(2) {
         if !next_record(records, row)? {
             return Ok(None);
         }
-        let wrong = if number > MOST_PARAMETERS {
-            whole("there are more than 65,536 records behind the header")
+        let wrong = if number > form.most {
+            whole(form.too_many)
         } else {
-            wrong_parameter(row, &parameters)
+            wrong_record(alloc, form, header, row, earlier)?
         };
         if let Some(wrong) = wrong {
-            return Ok(Some(BadRecord::of(alloc, number, row, wrong)?));
+            return BadRecord::of(alloc, number, row, wrong);
         }
-        parameters = with_parameter(alloc, parameters, row)?;
     }
     Ok(None)
 }
 
-/// The earliest bad record of a parameters file. `None` if it has none.
-pub(crate) fn bad_parameter<R: Read + Drop>(
+/// Whether a header of so many cells is that of the file.
+fn is_header(alloc: Global, form: &Form, count: usize, header: &str) -> Result<bool, AllocError> {
+    if count != form.cells {
+        return Ok(false);
+    }
+    if form.is_types {
+        is_types_table(alloc, header)
+    } else {
+        Ok(header == "name,value")
+    }
+}
+
+/// The first bad record under this header, or the header.
+fn bad_under<R: Read>(
     alloc: Global,
+    form: &Form,
+    header: &str,
+    records: &mut Records<R>,
+    row: &mut ByteRecord,
+) -> Result<Option<BadRecord>, AllocError> {
+    if !is_header(alloc, form, row.len(), header)? {
+        return BadRecord::of_header(alloc, header, form.bad_header);
+    }
+    let mut earlier = Earlier {
+        names: HashSet::new(alloc),
+        words: HashSet::new(alloc),
+    };
+    bad_behind(alloc, form, header, records, row, &mut earlier)
+}
+
+/// The earliest bad record of these.
+fn earliest<R: Read>(
+    alloc: Global,
+    form: &Form,
+    records: &mut Records<R>,
+    row: &mut ByteRecord,
+) -> Result<Option<BadRecord>, AllocError> {
+    if !next_record(records, row)? {
+        return BadRecord::of_header(alloc, "(nothing)", "the file has no header");
+    }
+    let header = joined(alloc, row, row.len())?;
+    bad_under(alloc, form, header.as_str(), records, row)
+}
+
+/// The earliest bad record of a file. `None` if it has none.
+pub(crate) fn bad_record<R: Read + Drop>(
+    alloc: Global,
+    form: &Form,
     reader: R,
 ) -> Result<Option<BadRecord>, AllocError> {
     let mut records = Records::new(alloc, reader);
     let mut row = ByteRecord::new(alloc);
-    if !next_record(&mut records, &mut row)? {
-        return Ok(Some(BadRecord::none(alloc)?));
-    }
-    let header = joined(alloc, &row)?;
-    if header.as_str() != "name,value" || row.len() != 2 {
-        return Ok(Some(BadRecord::of_header(
-            alloc,
-            header.as_str(),
-            "the header is not name,value",
-        )?));
-    }
-    bad_entry_of_parameters(alloc, &mut records, &mut row)
+    earliest(alloc, form, &mut records, &mut row)
 }

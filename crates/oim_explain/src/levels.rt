@@ -1,11 +1,14 @@
 //! The row of a fault, and what the levels of its report write for the fact of one of its cells: the column, the property groups
 //! that the row names, the template and the report. The more specific overrides the more general.
 
+ghost use Rattle.std.specs.Prelude.{◌≤◌};
+
 use oim_cells::{CellMeaning, meaning};
 use oim_meta::{Column, Level, Written, WrittenDecimals};
 use oim_names::find;
 use oim_places::{ReportAgain, RowAgain, text_at};
 use oim_resolve::{CellFault, levels};
+use serde_json::Value;
 use std::alloc::{AllocError, Global};
 
 /// What writes a property of a fact.
@@ -19,6 +22,26 @@ pub(crate) enum Writer {
     Template,
     /// The report.
     Report,
+}
+
+/// A value of the metadata, if it is there and a text.
+pub(crate) fn text_of(value: Option<&Value>) -> Option<&str> {
+    match value {
+        Some(value) => value.as_str(),
+        None => None,
+    }
+}
+
+/// How many keys lead to a level: the template's name, the column's, the group's.
+fn depth(writer: Writer) -> usize
+    ensures { result ≤ 6 }
+{
+    match writer {
+        Writer::Report => 0,
+        Writer::Template => 2,
+        Writer::Column => 4,
+        Writer::Groups(_) => 6,
+    }
 }
 
 /// The row of a fault of a cell.
@@ -62,10 +85,7 @@ impl<'r> RowOfFault<'r> {
     /// The identifier of the template.
     fn template_id(&self) -> &'r str {
         let table = self.table_id;
-        match self.again.written_at(&["tables", table, "template"]) {
-            Some(template) => template.as_str().unwrap_or(table),
-            None => table,
-        }
+        text_of(self.again.written_at(&["tables", table, "template"])).unwrap_or(table)
     }
 
     /// The parameter of this name.
@@ -259,22 +279,20 @@ impl<'r> RowOfFault<'r> {
     where
         'r: 'k,
     {
+        let column = match writer {
+            Writer::Groups(place) => self.column_id(place),
+            _ => self.column_id(self.column),
+        };
+        let levels = [
+            "tableTemplates",
+            self.template_id(),
+            "columns",
+            column,
+            "propertyGroups",
+            self.group_name(column),
+        ];
         let mut keys = Vec::new(alloc);
-        let template = ["tableTemplates", self.template_id()];
-        match writer {
-            Writer::Column => {
-                keys.extend_from_slice(&template)?;
-                keys.extend_from_slice(&["columns", self.column_id(self.column)])?;
-            }
-            Writer::Groups(place) => {
-                let column = self.column_id(place);
-                keys.extend_from_slice(&template)?;
-                keys.extend_from_slice(&["columns", column])?;
-                keys.extend_from_slice(&["propertyGroups", self.group_name(column)])?;
-            }
-            Writer::Template => keys.extend_from_slice(&template)?,
-            Writer::Report => {}
-        }
+        keys.extend_from_slice(&levels[..depth(writer)])?;
         keys.extend_from_slice(property)?;
         Ok(keys)
     }

@@ -1,7 +1,7 @@
 //! The places elsewhere that the fault of a cell comes from: a cell that names a property group, a property of the
 //! metadata, and the cell or the parameter that it refers to.
 
-use crate::levels::{RowOfFault, Writer};
+use crate::levels::{RowOfFault, Writer, text_of};
 use oim_files::{Folder, path_in};
 use oim_meta::{Kind, Written, WrittenDecimals};
 use oim_names::{Items, Text};
@@ -133,21 +133,6 @@ impl<'r, 's> Lines<'r, 's> {
     }
 }
 
-/// The path of the parameters file, if the metadata names one.
-fn parameters_path(
-    alloc: Global,
-    again: &ReportAgain,
-    base: &str,
-) -> Result<Option<String>, AllocError> {
-    match again.written_at(&["parameterURL"]) {
-        Some(url) => match url.as_str() {
-            Some(url) => Ok(Some(path_in(alloc, base, url)?)),
-            None => Ok(None),
-        },
-        None => Ok(None),
-    }
-}
-
 /// The number of the record of a parameters file that has this name.
 fn record_of<R: Read + Drop, F: Folder<R>>(
     alloc: Global,
@@ -161,24 +146,35 @@ fn record_of<R: Read + Drop, F: Folder<R>>(
     }
 }
 
-/// Puts the place of a parameter of the parameters file.
-fn put_given<R: Read + Drop, F: Folder<R>>(
+/// Puts the place of a parameter of the parameters file at this path.
+fn put_given_at<R: Read + Drop, F: Folder<R>>(
     lines: &mut Lines<'_, '_>,
     folder: &mut F,
+    path: &str,
     name: &str,
     text: &str,
 ) -> Result<(), AllocError> {
     let alloc = lines.alloc;
-    let Some(path) = parameters_path(alloc, lines.row.again, lines.row.base)? else {
-        return Ok(());
-    };
-    let path = path.as_str();
     let line = match record_of(alloc, folder, path, name)? {
         Some(number) => line_again(alloc, folder, path, number),
         None => None,
     };
     let place = place_in_file(alloc, path, line, Some(1))?;
     lines.put(place, quoted(alloc, text)?)
+}
+
+/// Puts the place of a parameter of the parameters file, if the metadata names one.
+fn put_given<R: Read + Drop, F: Folder<R>>(
+    lines: &mut Lines<'_, '_>,
+    folder: &mut F,
+    name: &str,
+    text: &str,
+) -> Result<(), AllocError> {
+    let Some(url) = text_of(lines.row.again.written_at(&["parameterURL"])) else {
+        return Ok(());
+    };
+    let path = path_in(lines.alloc, lines.row.base, url)?;
+    put_given_at(lines, folder, path.as_str(), name, text)
 }
 
 /// Puts the place of a parameter: of the table, else of the report, else of the parameters file.
