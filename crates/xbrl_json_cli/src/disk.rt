@@ -2,22 +2,20 @@
 
 ghost use Rattle.std.specs.Io.{ReadsAtMost};
 
-use crate::faults::FaultsFile;
-use crate::file_id::Written;
-use crate::progress::{Progress, Watched};
+use crate::progress::Progress;
+use crate::written::Written;
 use oim_run::Folder;
-use std::fs::OpenFile;
+use std::fs::File;
 use std::io::{ErrorKind, Read};
-use std::rt::{Clock, Files};
 use std::{fs, io};
 
-/// A file of the system, which is opened at its first read unless it is open already.
+/// A file of the system, or where it is.
 #[derive(Drop)]
-pub enum DiskFile<'a, H: Files> {
+enum Source<'a> {
     /// The open file.
-    Open(H::File),
+    Open(File),
     /// The file at this path, which is not open yet.
-    Named(&'a H, String),
+    Named(&'a HostRuntime, String),
 }
 
 /// Reads from a file. Where a signal came before anything was read, it asks again.
@@ -37,18 +35,58 @@ fn read_through_signals<F: Read>(file: &mut F, buf: &mut [u8]) -> io::Result<usi
     Err(io::Error::from(ErrorKind::Interrupted))
 }
 
-impl<'a, H: Files> Read for DiskFile<'a, H>
-where
-    H::File: Read,
-{
-    fn read(&mut self, buf: &mut [u8]) -> io::Result<usize> {
-        if let DiskFile::Named(rt, path) = self {
-            *self = DiskFile::Open(fs::open(*rt, path.as_str())?);
+impl<'a> Source<'a> {
+    /// Reads from the file, which is opened for that.
+    fn read(&mut self, buf: &mut [u8]) -> io::Result<usize>
+        ensures { ReadsAtMost result buf.new }
+    {
+        if let Source::Named(rt, path) = self {
+            *self = Source::Open(fs::open(*rt, path.as_str())?);
         }
         match self {
-            DiskFile::Open(file) => read_through_signals(file, buf),
-            DiskFile::Named(_, _) => Err(io::Error::from(ErrorKind::NotFound)),
+            Source::Open(file) => read_through_signals(file, buf),
+            Source::Named(_, _) => Err(io::Error::from(ErrorKind::NotFound)),
         }
+    }
+}
+
+/// A file of the system, which is opened at its first read unless it is open already. The bytes of a table's file are counted, and
+/// its table counts as done once it is dropped.
+pub struct DiskFile<'a> {
+    source: Source<'a>,
+    /// Where its bytes are counted, if anywhere.
+    progress: Option<&'a Progress<'a>>,
+}
+
+impl<'a> DiskFile<'a> {
+    /// An open file, whose bytes are not counted.
+    pub fn of(file: File) -> DiskFile<'a> {
+        DiskFile {
+            source: Source::Open(file),
+            progress: None,
+        }
+    }
+}
+
+impl<'a> Drop for DiskFile<'a> {
+    fn drop(self) {
+        let Self {
+            source: _,
+            progress,
+        } = self;
+        if let Some(progress) = progress {
+            progress.table_done();
+        }
+    }
+}
+
+impl<'a> Read for DiskFile<'a> {
+    fn read(&mut self, buf: &mut [u8]) -> io::Result<usize> {
+        let count = self.source.read(buf)?;
+        if let Some(progress) = self.progress {
+            progress.count_read(count);
+        }
+        Ok(count)
     }
 }
 
@@ -56,15 +94,13 @@ where
 /// does one that the run writes. A file that is looked for counts as missing only if the system says that
 /// there is no such file; any other that cannot be opened fails at its first read.
 #[derive(Drop)]
-pub struct Disk<'a, 'f, H> {
+pub struct Disk<'a> {
     /// The system.
-    pub rt: &'a H,
+    pub rt: &'a HostRuntime,
     /// The files that the run writes: each file of the report is compared with them.
-    pub written: &'a Written,
-    /// The file of the tables' faults, which is compared with them too.
-    pub faults: &'a FaultsFile<'f>,
+    pub written: &'a Written<'a>,
     /// Counts each file that is looked for as a table, if there is one.
-    pub progress: Option<&'a Progress<'a, H>>,
+    pub progress: Option<&'a Progress<'a>>,
 }
 
 /// Whether the system says that there is no such file: it was not found, or a part of its path is
@@ -73,38 +109,39 @@ fn is_missing(error: &io::Error) -> bool {
     matches!(error.kind(), ErrorKind::NotFound | ErrorKind::NotADirectory)
 }
 
-impl<'a, 'f, H: Files + Eprint + Clock> Folder<Watched<'a, H, DiskFile<'a, H>>> for Disk<'a, 'f, H>
-where
-    H::File: Read,
-{
-    fn open(&mut self, path: &str) -> Option<Watched<'a, H, DiskFile<'a, H>>> {
+/// The size of a file that is looked for, as far as it is known. `None` if there is none.
+fn size_of(metadata: &io::Result<fs::Metadata>) -> Option<u64> {
+    match metadata {
+        Ok(metadata) => Some(metadata.len()),
+        Err(error) if is_missing(error) => None,
+        Err(_) => Some(0),
+    }
+}
+
+impl<'a> Folder<DiskFile<'a>> for Disk<'a> {
+    fn open(&mut self, path: &str) -> Option<DiskFile<'a>> {
         let Ok(file) = fs::open(self.rt, path) else {
             return None;
         };
-        let metadata = file.metadata();
-        if self.written.look_at(&metadata) || self.faults.look_at(path, &metadata) {
+        if self.written.look_at_path(path, &file.metadata()) {
             return None;
         }
-        Some(Watched::new(DiskFile::Open(file), None))
+        Some(DiskFile::of(file))
     }
 
-    fn find(&mut self, path: String) -> Option<Watched<'a, H, DiskFile<'a, H>>> {
+    fn find(&mut self, path: String) -> Option<DiskFile<'a>> {
         let metadata = fs::metadata(self.rt, path.as_str());
-        self.written.look_at(&metadata);
-        self.faults.look_at(path.as_str(), &metadata);
-        let size = match metadata {
-            Ok(metadata) => metadata.len(),
-            Err(error) if is_missing(&error) => {
-                if let Some(progress) = self.progress {
-                    progress.table_missing();
-                }
-                return None;
-            }
-            Err(_) => 0,
-        };
+        self.written.look_at_path(path.as_str(), &metadata);
+        let size = size_of(&metadata);
         if let Some(progress) = self.progress {
             progress.table_found(size);
         }
-        Some(Watched::new(DiskFile::Named(self.rt, path), self.progress))
+        match size {
+            Some(_) => Some(DiskFile {
+                source: Source::Named(self.rt, path),
+                progress: self.progress,
+            }),
+            None => None,
+        }
     }
 }

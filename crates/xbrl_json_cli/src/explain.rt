@@ -3,11 +3,12 @@
 use crate::disk::DiskFile;
 use oim_names::Text;
 use oim_rows::TableFault;
-use oim_run::{Folder, Outcome, Settings, explain_report, explain_table, report_again, table_line};
+use oim_run::{
+    EarlyFault, Folder, Outcome, ReportAgain, Settings, explain_report, explain_table,
+    report_again, table_line,
+};
 use std::alloc::{AllocError, Global};
 use std::fs;
-use std::io::{Eprint, Read};
-use std::rt::Files;
 
 /// How many refused tables are explained.
 const MOST_TABLES: usize = 100;
@@ -15,22 +16,19 @@ const MOST_TABLES: usize = 100;
 /// The files of the system that can be read a second time: the ordinary ones. Who opens a pipe once more may
 /// wait for ever.
 #[derive(Drop)]
-pub struct Ordinary<'a, H> {
+pub struct Ordinary<'a> {
     /// The system.
-    pub rt: &'a H,
+    pub rt: &'a HostRuntime,
 }
 
-impl<'a, H: Files> Folder<DiskFile<'a, H>> for Ordinary<'a, H>
-where
-    H::File: Read,
-{
-    fn open(&mut self, path: &str) -> Option<DiskFile<'a, H>> {
+impl<'a> Folder<DiskFile<'a>> for Ordinary<'a> {
+    fn open(&mut self, path: &str) -> Option<DiskFile<'a>> {
         match fs::metadata(self.rt, path) {
             Ok(metadata) if metadata.is_file() => {}
             _ => return None,
         }
         match fs::open(self.rt, path) {
-            Ok(file) => Some(DiskFile::Open(file)),
+            Ok(file) => Some(DiskFile::of(file)),
             Err(_) => None,
         }
     }
@@ -46,13 +44,48 @@ fn print(rt: &HostRuntime, lines: Result<String, AllocError>) {
 /// Prints below the line of an outcome what there is to say of its fault. What cannot be printed, or finds
 /// no memory, is left out.
 pub fn explain_fault(rt: &HostRuntime, alloc: Global, settings: &Settings, outcome: &Outcome) {
-    let folder = &mut Ordinary { rt };
     if let Outcome::Report(source, fault) = outcome {
         let (meta, types) = (settings.meta.as_str(), settings.types.as_str());
+        let folder = &mut Ordinary { rt };
         print(
             rt,
             explain_report(alloc, meta, types, folder, *source, *fault),
         );
+    }
+}
+
+/// Prints what there is to say of the fault of a table, whose report was read again.
+fn explain_again(
+    rt: &HostRuntime,
+    alloc: Global,
+    meta: &str,
+    report: &Result<ReportAgain, EarlyFault>,
+    fault: &TableFault,
+) {
+    match report {
+        Ok(report) => print(
+            rt,
+            explain_table(alloc, meta, &mut Ordinary { rt }, report, fault),
+        ),
+        Err(_) => {
+            let _ = rt.eprint("    the report cannot be read again, or has changed\n");
+        }
+    }
+}
+
+/// Prints the line of each refused table, and below each of the first 100 what there is to say of its fault.
+fn explain_each(
+    rt: &HostRuntime,
+    alloc: Global,
+    meta: &str,
+    report: &Result<ReportAgain, EarlyFault>,
+    tables: &[(Text, TableFault)],
+) {
+    for (place, (id, fault)) in tables.iter().enumerate() {
+        print(rt, table_line(alloc, id.as_str(), fault));
+        if place < MOST_TABLES {
+            explain_again(rt, alloc, meta, report, fault);
+        }
     }
 }
 
@@ -63,21 +96,9 @@ pub fn explain_tables(
     settings: &Settings,
     tables: &[(Text, TableFault)],
 ) {
-    let folder = &mut Ordinary { rt };
     let (meta, types) = (settings.meta.as_str(), settings.types.as_str());
-    let report = report_again(alloc, meta, types, folder);
-    for (place, (id, fault)) in tables.iter().enumerate() {
-        print(rt, table_line(alloc, id.as_str(), fault));
-        if place >= MOST_TABLES {
-            continue;
-        }
-        match &report {
-            Ok(report) => print(rt, explain_table(alloc, meta, folder, report, fault)),
-            Err(_) => {
-                let _ = rt.eprint("    the report cannot be read again, or has changed\n");
-            }
-        }
-    }
+    let report = report_again(alloc, meta, types, &mut Ordinary { rt });
+    explain_each(rt, alloc, meta, &report, tables);
     if tables.len() > MOST_TABLES {
         let more = tables.len() - MOST_TABLES;
         let _ = eprint!(rt; "    (and {more} more)\n");

@@ -22,30 +22,31 @@
 #![tactic(auto)]
 
 mod disk;
-mod emptied;
 mod explain;
 mod faults;
-mod file_id;
 mod new_file;
 mod output;
+mod over;
 mod paths;
 mod progress;
 mod said;
+mod target;
+mod written;
 
 use disk::Disk;
-use faults::{FaultsFile, refused_before};
-use file_id::Written;
+use faults::refused_before;
 use oim_convert::ConvertFault;
 use oim_run::{Outcome, Request, held_told, request_of, tell};
 use output::SystemOutputs;
 use progress::Progress;
 use said::{StandardError, convert_and_tell, explained};
-use std::alloc::Global;
+use std::alloc::{AllocError, Global};
 use std::io;
 use std::io::{ErrorKind, IsTerminal};
 use std::process::ExitCode;
 use std::sync::Wait;
 use std::thread::Threads;
+use written::Written;
 
 /// Converts as the words ask for, from the system's files to its outputs, and gives the exit status. If the words
 /// ask for it, standard error shows the progress of the run.
@@ -55,29 +56,43 @@ fn converted<T: Threads + Wait + Sync>(
     alloc: Global,
     request: &Request,
 ) -> u8 {
-    let written = &Written::new();
-    let faults = &FaultsFile::of(rt, alloc, request);
+    let written = &Written::new(rt, request);
     let progress = if request.progress {
         Progress::start(rt, rt.stderr().is_terminal())
     } else {
         None
     };
     let progress = progress.as_ref();
-    let mut disk = Disk {
+    let disk = &mut Disk {
         rt,
         written,
-        faults,
         progress,
     };
-    let mut outputs = SystemOutputs {
+    let outputs = &mut SystemOutputs {
         rt,
         request,
         written,
-        faults,
         progress,
     };
     let errors = &mut StandardError { rt };
-    convert_and_tell(rt, threads, alloc, request, &mut disk, &mut outputs, errors)
+    convert_and_tell(rt, threads, alloc, request, disk, outputs, errors)
+}
+
+/// Runs as the words ask for, and gives the exit status.
+fn asked<T: Threads + Wait + Sync>(
+    rt: &HostRuntime,
+    threads: &T,
+    alloc: Global,
+    request: &Request,
+) -> u8 {
+    if request.whole && request.settings.out.is_none() {
+        let _ = rt.eprint("error: --whole wants --out FILE\n");
+        return 2;
+    }
+    match refused_before(rt, alloc, request) {
+        Some(outcome) => tell(&mut StandardError { rt }, alloc, &outcome),
+        None => converted(rt, threads, alloc, request),
+    }
 }
 
 /// Runs with these words, which do not include the program's name, and gives the exit status.
@@ -87,46 +102,53 @@ fn started<T: Threads + Wait + Sync>(
     alloc: Global,
     words: &[&str],
 ) -> u8 {
-    let errors = &mut StandardError { rt };
     if words.is_empty() {
-        let (status, _) = held_told(threads, alloc, io::writer(rt), errors);
+        let (status, _) = held_told(threads, alloc, io::writer(rt), &mut StandardError { rt });
         return status;
     }
-    let request = match request_of(alloc, words) {
-        Ok(request) => request,
-        Err(error) => return explained(rt, alloc, &error),
-    };
-    if request.whole && request.settings.out.is_none() {
-        let _ = rt.eprint("error: --whole wants --out FILE\n");
-        return 2;
+    match request_of(alloc, words) {
+        Ok(request) => asked(rt, threads, alloc, &request),
+        Err(error) => explained(rt, alloc, &error),
     }
-    match refused_before(rt, alloc, &request) {
-        Some(outcome) => tell(errors, alloc, &outcome),
-        None => converted(rt, threads, alloc, &request),
+}
+
+/// Tells that memory ran out, and gives the exit status.
+fn no_memory(rt: &HostRuntime) -> u8 {
+    let outcome = Outcome::Run(ConvertFault::Memory);
+    tell(&mut StandardError { rt }, rt.alloc(), &outcome)
+}
+
+/// The arguments as words.
+fn words_of(alloc: Global, args: &[String]) -> Result<Vec<&str>, AllocError> {
+    let mut words = Vec::new(alloc);
+    for arg in args {
+        words.push(arg.as_str())?;
+    }
+    Ok(words)
+}
+
+/// Runs with these arguments, and gives the exit status.
+fn with_args<T: Threads + Wait + Sync>(rt: &HostRuntime, threads: &T, args: &[String]) -> u8 {
+    let alloc = rt.alloc();
+    match words_of(alloc, args) {
+        Ok(words) => started(rt, threads, alloc, words.as_slice()),
+        Err(_) => no_memory(rt),
     }
 }
 
 /// Runs with the arguments of the process, and gives the exit status.
 fn program<T: Threads + Wait + Sync>(rt: &HostRuntime, threads: &T) -> u8 {
-    let alloc = rt.alloc();
-    let no_memory = Outcome::Run(ConvertFault::Memory);
     let args = match std::env::args(rt) {
         Ok(args) => args,
-        Err(error) if error.kind() == ErrorKind::OutOfMemory => {
-            return tell(&mut StandardError { rt }, alloc, &no_memory);
-        }
+        Err(error) if error.kind() == ErrorKind::OutOfMemory => return no_memory(rt),
         Err(_) => {
             let _ = rt.eprintln("error: an argument is not UTF-8");
             return 2;
         }
     };
-    let Ok(args) = args.skip(1).collect::<Vec<String>>(alloc) else {
-        return tell(&mut StandardError { rt }, alloc, &no_memory);
-    };
-    let words = args.iter().map(|word| word.as_str());
-    match words.collect::<Vec<&str>>(alloc) {
-        Ok(words) => started(rt, threads, alloc, words.as_slice()),
-        Err(_) => tell(&mut StandardError { rt }, alloc, &no_memory),
+    match args.skip(1).collect::<Vec<String>>(rt.alloc()) {
+        Ok(args) => with_args(rt, threads, args.as_slice()),
+        Err(_) => no_memory(rt),
     }
 }
 

@@ -1,7 +1,7 @@
 //! A new file beside the document's, which takes its name once it holds the whole document.
 
-use crate::file_id::FileId;
-use crate::paths::sync_folder;
+use crate::paths::{reached, sync_folder};
+use crate::target::FileId;
 use std::alloc::{AllocError, Global};
 use std::fs::{File, Metadata};
 use std::io::ErrorKind;
@@ -30,6 +30,16 @@ fn path_beside(alloc: Global, target: &str, n: u32) -> Result<String, AllocError
     }
 }
 
+/// The metadata of the ordinary file at a path, which a new one can replace, or that nothing is there. `None` where anything
+/// else is.
+pub fn replaced(rt: &HostRuntime, path: &str) -> Option<Option<Metadata>> {
+    match fs::metadata(rt, path) {
+        Ok(old) if old.is_file() => Some(Some(old)),
+        Err(_) if fs::symlink_metadata(rt, path).is_err() => Some(None),
+        _ => None,
+    }
+}
+
 /// Makes a file that is not there yet, with its path beside the document's.
 fn made(rt: &HostRuntime, alloc: Global, target: &str) -> Option<(File, String)> {
     for n in 0..MOST_NAMES {
@@ -44,24 +54,30 @@ fn made(rt: &HostRuntime, alloc: Global, target: &str) -> Option<(File, String)>
 }
 
 impl NewFile {
-    /// Makes a new file beside the document's, with the permissions of that if it is there. `None` if
+    /// Gives it the permissions of the file that it is to replace. If the system refuses that, it is removed.
+    fn like(self, rt: &HostRuntime, old: &Metadata) -> Option<NewFile> {
+        if self.file.set_permissions(old.permissions()).is_ok() {
+            return Some(self);
+        }
+        self.remove(rt);
+        None
+    }
+
+    /// Makes a new file beside the one at a path, with the permissions of that if it is there. `None` if
     /// the system refuses that, or memory runs out.
     pub fn make(
         rt: &HostRuntime,
         alloc: Global,
-        target: String,
-        old: Option<Metadata>,
+        path: &str,
+        old: &Option<Metadata>,
     ) -> Option<NewFile> {
+        let target = reached(rt, alloc, path)?;
         let (file, path) = made(rt, alloc, target.as_str())?;
         let new = NewFile { file, path, target };
-        let Some(old) = old else {
-            return Some(new);
-        };
-        if new.file.set_permissions(old.permissions()).is_ok() {
-            return Some(new);
+        match old {
+            Some(old) => new.like(rt, old),
+            None => Some(new),
         }
-        new.remove(rt);
-        None
     }
 
     /// Which file it is.

@@ -1,10 +1,9 @@
 //! The progress of a run, shown on standard error while it works.
 
+use std::fmt;
 use std::fmt::{Display, Formatter};
-use std::io::{Read, Write};
 use std::sync::atomic::{AtomicU64, Ordering};
-use std::time::{Clock, Instant};
-use std::{fmt, io};
+use std::time::Instant;
 
 /// How often the line on a terminal is rewritten, in milliseconds.
 const ON_A_TERMINAL: u64 = 200;
@@ -28,9 +27,9 @@ impl Display for Megabytes {
 /// the run share it, and whichever of them counts something when a line is due writes the line. No
 /// contract says anything about the counts.
 #[derive(Drop)]
-pub struct Progress<'a, H> {
+pub struct Progress<'a> {
     /// The system.
-    rt: &'a H,
+    rt: &'a HostRuntime,
     /// When the run began.
     start: Instant,
     /// Whether standard error is a terminal, where one line is rewritten in place.
@@ -49,9 +48,9 @@ pub struct Progress<'a, H> {
     written: AtomicU64,
 }
 
-impl<'a, H: Eprint + Clock> Progress<'a, H> {
+impl<'a> Progress<'a> {
     /// Starts with nothing done. `None` if the system has no clock.
-    pub fn start(rt: &'a H, terminal: bool) -> Option<Progress<'a, H>> {
+    pub fn start(rt: &'a HostRuntime, terminal: bool) -> Option<Progress<'a>> {
         let Ok(start) = Instant::now(rt) else {
             return None;
         };
@@ -68,31 +67,30 @@ impl<'a, H: Eprint + Clock> Progress<'a, H> {
         })
     }
 
-    /// Counts a table whose file has this size in bytes.
-    pub fn table_found(&self, size: u64) {
+    /// Counts a table whose file has this size in bytes, or which has no file and is done at once.
+    pub fn table_found(&self, size: Option<u64>) {
         self.tables.fetch_add(1, Ordering::SeqCst);
-        self.size.fetch_add(size, Ordering::SeqCst);
-    }
-
-    /// Counts a table without a file, which is done at once.
-    pub fn table_missing(&self) {
-        self.table_found(0);
-        self.table_done();
+        match size {
+            Some(size) => {
+                self.size.fetch_add(size, Ordering::SeqCst);
+            }
+            None => self.table_done(),
+        }
     }
 
     /// Counts one more table as done.
-    fn table_done(&self) {
+    pub fn table_done(&self) {
         self.done.fetch_add(1, Ordering::SeqCst);
     }
 
     /// Counts bytes that were read from a table's file.
-    fn count_read(&self, bytes: usize) {
+    pub fn count_read(&self, bytes: usize) {
         self.read.fetch_add(bytes as u64, Ordering::SeqCst);
         self.show_if_due();
     }
 
     /// Counts bytes of the document that were written.
-    fn count_written(&self, bytes: usize) {
+    pub fn count_written(&self, bytes: usize) {
         self.written.fetch_add(bytes as u64, Ordering::SeqCst);
         self.show_if_due();
     }
@@ -136,78 +134,5 @@ impl<'a, H: Eprint + Clock> Progress<'a, H> {
         let _ = eprint!(self.rt;
             "{begin}xbrl-json: {done} of {tables} tables, {read} of {size} MB read, {written} MB written{end}"
         );
-    }
-}
-
-/// A reader of a table's file. Its bytes are counted, and its table counts as done once it is dropped.
-/// Without a progress to count in, it is any other reader.
-pub struct Watched<'a, H: Eprint + Clock, R> {
-    /// The reader.
-    reader: R,
-    /// Where its bytes are counted, if anywhere.
-    progress: Option<&'a Progress<'a, H>>,
-}
-
-impl<'a, H: Eprint + Clock, R> Watched<'a, H, R> {
-    /// A reader that is counted in this progress, if there is one.
-    pub fn new(reader: R, progress: Option<&'a Progress<'a, H>>) -> Watched<'a, H, R> {
-        Watched { reader, progress }
-    }
-}
-
-impl<'a, H: Eprint + Clock, R: Drop> Drop for Watched<'a, H, R> {
-    fn drop(self) {
-        let Self {
-            reader: _,
-            progress,
-        } = self;
-        if let Some(progress) = progress {
-            progress.table_done();
-        }
-    }
-}
-
-impl<'a, H: Eprint + Clock, R: Read> Read for Watched<'a, H, R> {
-    fn read(&mut self, buf: &mut [u8]) -> io::Result<usize> {
-        let count = self.reader.read(buf)?;
-        if let Some(progress) = self.progress {
-            progress.count_read(count);
-        }
-        Ok(count)
-    }
-}
-
-/// A writer whose bytes are counted.
-#[derive(Drop)]
-pub struct Counted<'a, H, W> {
-    /// The writer.
-    writer: W,
-    /// Where its bytes are counted, if anywhere.
-    progress: Option<&'a Progress<'a, H>>,
-}
-
-impl<'a, H, W> Counted<'a, H, W> {
-    /// A writer that is counted in this progress, if there is one.
-    pub fn new(writer: W, progress: Option<&'a Progress<'a, H>>) -> Counted<'a, H, W> {
-        Counted { writer, progress }
-    }
-
-    /// The writer.
-    pub fn into_inner(self) -> W {
-        self.writer
-    }
-}
-
-impl<'a, H: Eprint + Clock, W: Write> Write for Counted<'a, H, W> {
-    fn write(&mut self, buf: &[u8]) -> io::Result<usize> {
-        let count = self.writer.write(buf)?;
-        if let Some(progress) = self.progress {
-            progress.count_written(count);
-        }
-        Ok(count)
-    }
-
-    fn flush(&mut self) -> io::Result<()> {
-        self.writer.flush()
     }
 }

@@ -129,12 +129,18 @@ pub fn convert_and_tell<
     faults_told(rt, alloc, request, &outcome, to)
 }
 
+/// Puts a line without control characters behind others.
+fn put_line(alloc: Global, lines: &mut String, line: &str) -> Result<(), AllocError> {
+    let line = shown(alloc, line)?;
+    lines.push_str(line.as_str())?;
+    lines.push('\n')
+}
+
 /// A text without control characters but the ends of its lines.
 fn lines_shown(alloc: Global, text: &str) -> Result<String, AllocError> {
     let mut lines = String::new(alloc);
     for line in text.lines() {
-        lines.push_str(shown(alloc, line)?.as_str())?;
-        lines.push('\n')?;
+        put_line(alloc, &mut lines, line)?;
     }
     Ok(lines)
 }
