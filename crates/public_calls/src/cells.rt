@@ -3,6 +3,7 @@
 use oim_cells::{
     Accuracy, CellMeaning, NumberKind, decimals, is_boolean, meaning, split_numeral, trimmed,
 };
+use std::test::Fail;
 
 /// A number and the places that its suffix states.
 fn splits_a_numeral() -> bool {
@@ -18,6 +19,7 @@ fn reads_cells() -> bool {
 }
 
 #[test]
-fn calls_of_cells(rt: HostRuntime) {
+fn calls_of_cells(rt: HostRuntime) -> Result<(), Fail> {
     assert!(rt; splits_a_numeral() && reads_cells());
+    Ok(())
 }

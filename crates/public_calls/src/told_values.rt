@@ -1,5 +1,6 @@
 //! Calls of `told`.
 
+use std::test::Fail;
 use told::{Tells, Told};
 
 /// A value that contracts alone remember, once more.
@@ -22,8 +23,9 @@ impl Tells<u8> for One {
 }
 
 #[test]
-fn calls_of_told(rt: HostRuntime) {
+fn calls_of_told(rt: HostRuntime) -> Result<(), Fail> {
     let _ = remembers(&1);
     let _ = is_told(&One);
     assert!(rt; true);
+    Ok(())
 }
