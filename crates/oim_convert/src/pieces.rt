@@ -19,7 +19,7 @@ use std::thread::{Scope, Threads};
 
 /// Sends the facts of a table's file, and gives the table's ending. Where there are other workers, threads decode pieces of it in
 /// the places of those that rest.
-pub(crate) fn send_table<R: Read + Drop, T: Threads + Wait>(
+pub(crate) fn send_table<R: Read + Drop, T: Threads + Wait + Sync>(
     rt: &T,
     alloc: Global,
     file: TableFile<'_, R>,
@@ -45,7 +45,7 @@ struct Sent<'a> {
 }
 
 /// Sends the facts of a table's file, with a scope for the threads that decode pieces of it.
-fn send_in_scope<R: Read + Drop, T: Threads + Wait>(
+fn send_in_scope<R: Read + Drop, T: Threads + Wait + Sync>(
     rt: &T,
     alloc: Global,
     file: TableFile<'_, R>,
@@ -83,9 +83,9 @@ fn take_back<T>(x: &mut T)
 {}
 
 /// Sends the facts of a table's file, piece by piece, in this scope.
-fn send_pieces<'s, E, R: Read + Drop, T: Threads + Wait>(
+fn send_pieces<'s, E, R: Read + Drop, T: Threads + Wait + Sync + 's>(
     scope: &Scope<'s, E>,
-    rt: &T,
+    rt: &'s T,
     alloc: Global,
     file: TableFile<'s, R>,
     helpers: &'s Helpers,
@@ -109,9 +109,9 @@ fn send_pieces<'s, E, R: Read + Drop, T: Threads + Wait>(
 }
 
 /// Sends the pieces of a table that was opened, in memory that goes round, and gives the table's ending.
-fn send_opened<'s, E, R: Read + Drop, T: Threads + Wait>(
+fn send_opened<'s, E, R: Read + Drop, T: Threads + Wait + Sync + 's>(
     scope: &Scope<'s, E>,
-    rt: &T,
+    rt: &'s T,
     pieces: &mut TablePieces<'s, R>,
     helpers: &Helpers,
     feed: &mut Feed,
@@ -133,7 +133,7 @@ fn make_ready<R: Read + Drop, T: Wait>(rt: &T, pieces: &mut TablePieces<'_, R>, 
     pieces.want(feed.is_reached());
     for _ in 0..pieces.wanted_rooms() {
         match feed.kept_room(rt) {
-            Some(room) => pieces.keep_room(room),
+            Some(room) => pieces.keep_room(rt, room),
             None => return,
         }
     }
@@ -141,15 +141,15 @@ fn make_ready<R: Read + Drop, T: Wait>(rt: &T, pieces: &mut TablePieces<'_, R>, 
 
 /// Gives back the memory that a table kept for texts, as far as the rings keep it for others.
 fn give_back_rooms<R: Read + Drop, T: Wait>(rt: &T, pieces: &mut TablePieces<'_, R>, feed: &Feed) {
-    for room in pieces.free_rooms() {
+    for room in pieces.free_rooms(rt) {
         feed.give_back(rt, room);
     }
 }
 
 /// Sends the pieces that are left, and gives the table's ending.
-fn send_left<'s, E, R: Read + Drop, T: Threads + Wait>(
+fn send_left<'s, E, R: Read + Drop, T: Threads + Wait + Sync + 's>(
     scope: &Scope<'s, E>,
-    rt: &T,
+    rt: &'s T,
     pieces: &mut TablePieces<'s, R>,
     helpers: &Helpers,
     feed: &mut Feed,

@@ -24,7 +24,7 @@ pub(crate) struct Serving {
     pub(crate) threaded: bool,
 }
 
-impl<R: Read + Drop, T: Threads + Wait> Serve<Job<R>, Receipt, T, Report> for Serving {
+impl<R: Read + Drop, T: Threads + Wait + Sync> Serve<Job<R>, Receipt, T, Report> for Serving {
     ghost use Rattle.oim_convert.specs.Jobs.{CanServe, gives_of};
 
     ghost can_serve = { λ s report. CanServe report s.limits.rows };

@@ -4,5 +4,6 @@ pub mod Openings
 pub mod Gives
 pub mod CutLaws
 pub mod StepLaws
-pub mod SpareLaws
+pub mod SheetLaws
+pub mod NarrowLaws
 pub mod Examples

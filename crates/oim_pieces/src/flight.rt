@@ -7,22 +7,25 @@ ghost use Rattle.oim_records.specs.PieceTaking.{bytes_left};
 ghost use Rattle.oim_records.specs.Reads.{left_behind};
 ghost use Rattle.oim_rows.specs.Header.{file_header_fault};
 ghost use Rattle.oim_rows.specs.Streams.{IsOutside, ending, stream_of};
+ghost use Rattle.oim_pieces.specs.Lines.{IsLine};
 ghost use Rattle.oim_pieces.specs.Flights.{EndsWith, FewerSteps, IsFront, KeepsStream, NoMoreSteps, behind, steps_in, stream_in};
 
+use crate::crew::Crew;
 use crate::cutter::Cutter;
 use crate::decoded::Asked;
 use crate::decoders::Decoders;
-use crate::flying::{Flying, launch};
+use crate::flying::{Flying, decode_here, launch};
 use crate::helpers::Helpers;
 use oim_decode::{JoinedPiece, PieceDecoder, PieceJoin, TableHead};
 use oim_records::PieceReader;
 use oim_report::Report;
-use oim_rows::{RowForm, TableFault, TableKind, whole_fault};
+use oim_rows::{TableFault, TableKind, whole_fault};
 use std::alloc::Global;
 use std::collections::VecDeque;
 use std::io::Read;
 use std::marker::Model;
-use std::thread::{Scope, Threads};
+use std::sync::Wait;
+use std::thread::Scope;
 
 /// How many pieces of a table are under way at once where nobody waits for them yet. It is decoded here.
 const FEW_UNDER_WAY: usize = 1;
@@ -38,6 +41,7 @@ pub(crate) struct Flight<'a, R: Read + Drop> {
     decoders: Decoders<'a>,
     join: PieceJoin,
     flying: VecDeque<Flying<'a>>,
+    crew: Crew<'a>,
     // whether the rows of the head were given
     has_given: bool,
     // whether what is given is wanted at once
@@ -47,13 +51,14 @@ pub(crate) struct Flight<'a, R: Read + Drop> {
 impl<'a, R: Read + Drop> Model for Flight<'a, R> {
     ghost use Rattle.std.specs.Prelude.{◌≡◌};
     ghost use Rattle.oim_pieces.specs.Flights.{AreChained, FlightLeft};
+    ghost use Rattle.oim_pieces.specs.Lines.{IsLine};
 
     ghost Value = { FlightLeft };
 
     ghost view = { λ a. record { reading = a.decoders; ids = a.join; pieces = a.flying.items; cutter = a.cutter } };
 
     ghost invariant = { λ a. (a.mine.reading ≡ a.decoders) × (a.decoders.table ≡ a.cutter.table) × (a.decoders.limit ≡ a.cutter.limit)
-        × AreChained a.decoders a.flying.items a.cutter.next };
+        × AreChained a.decoders a.flying.items a.cutter.next × IsLine a.decoders a.crew.line };
 }
 
 /// A decoder of the table with this head.
@@ -80,25 +85,27 @@ fn first_decoder<'a>(
     }
 }
 
-/// Joins a piece, waiting for its answer. While it waits, its worker rests.
-fn join_piece<'a, T: Threads>(
+/// Joins a piece, waiting for its answer.
+fn join_piece<'a, T: Wait>(
     rt: &T,
     helpers: &Helpers,
+    crew: &mut Crew<'a>,
     decoders: &mut Decoders<'a>,
-    form: &RowForm<'a>,
+    mine: &mut PieceDecoder<'a>,
     join: &mut PieceJoin,
     piece: Flying<'a>,
 ) -> JoinedPiece
     requires reading { piece.reading ≡ decoders.old }
-    requires form { form.now ≡ decoders.old }
+    requires mine { mine.old.reading ≡ decoders.old }
+    requires line { IsLine decoders.old crew.old.line }
     ensures joined { IsFront piece.entry join.old result join.new }
     ensures same { decoders.new ≡ decoders.old }
+    ensures mine { mine.new.reading ≡ mine.old.reading }
+    ensures line { IsLine decoders.old crew.new.line }
 {
     let first = piece.first();
-    helpers.rest();
-    let answer = piece.settle(rt, decoders);
-    helpers.start();
-    join.join(form, first, answer)
+    let answer = piece.settle(rt, helpers, crew, decoders, mine);
+    join.join(mine.form(), first, answer)
 }
 
 impl<'a, R: Read + Drop> Flight<'a, R> {
@@ -141,22 +148,26 @@ impl<'a, R: Read + Drop> Flight<'a, R> {
             decoders: Decoders::new(alloc, report, table, limit, head),
             join: PieceJoin::new(alloc),
             flying,
+            crew: Crew::new(alloc),
             has_given: false,
             is_wanted: false,
         })
     }
 
-    /// Keeps the memory of a vector for texts that are decoded later.
-    pub(crate) fn keep_room(&mut self, room: Vec<u8>)
+    /// Keeps the memory of a block that was written, for texts that are decoded later: for the thread that wrote it, if that is known.
+    pub(crate) fn keep_room<T: Wait>(&mut self, rt: &T, room: Vec<u8>)
         ensures { self.new ≡ self.old }
     {
-        self.decoders.keep_room(room);
+        if let Some(room) = self.crew.bins.keep(rt, room) {
+            self.decoders.keep_room(room);
+        }
     }
 
-    /// Notes how many vectors the texts of a piece took.
+    /// Notes how many vectors the texts of the piece took that was joined last.
     pub(crate) fn expect(&mut self, count: usize)
         ensures { self.new ≡ self.old }
     {
+        self.crew.bins.note(self.decoders.by(), count);
         self.decoders.expect(count);
     }
 
@@ -166,21 +177,23 @@ impl<'a, R: Read + Drop> Flight<'a, R> {
     }
 
     /// Gives back the vectors whose memory was kept for texts.
-    pub(crate) fn free_rooms(&mut self) -> Vec<Vec<u8>>
+    pub(crate) fn free_rooms<T: Wait>(&mut self, rt: &T) -> Vec<Vec<u8>>
         ensures { self.new ≡ self.old }
     {
-        self.decoders.free_rooms()
+        let mut rooms = self.decoders.free_rooms();
+        self.crew.bins.empty(rt, &mut rooms);
+        rooms
     }
 
     /// Has the next pieces decoded, while there are places for threads, and the next one where no piece is under way.
     #[tactic(auto, using(crate::proofs::FlightLaws::stream_then, crate::proofs::FlightLaws::stream_same, crate::proofs::StepLaws::steps_then, crate::proofs::StepLaws::steps_same))]
-    pub(crate) fn go_ahead<E>(&mut self, scope: &Scope<'a, E>)
+    pub(crate) fn go_ahead<E, T: Wait + Sync + 'a>(&mut self, scope: &Scope<'a, E>, rt: &'a T)
         ensures stream { KeepsStream (stream_in self.old) (stream_in self.new) }
         ensures steps { NoMoreSteps (steps_in self.old) (steps_in self.new) }
         ensures table { self.new.cutter.table ≡ self.old.cutter.table }
     {
         for _ in 0..self.window() {
-            if !self.may_cut() || !self.cut_next(scope) {
+            if !self.may_cut() || !self.cut_next(scope, rt) {
                 return;
             }
         }
@@ -210,7 +223,7 @@ impl<'a, R: Read + Drop> Flight<'a, R> {
                 self.has_given
                     && !self.cutter.is_slow()
                     && self.flying.len() < self.window()
-                    && self.helpers.are_idle()
+                    && (self.crew.count() > 0 || self.helpers.are_idle())
             }
             None => true,
         }
@@ -218,7 +231,7 @@ impl<'a, R: Read + Drop> Flight<'a, R> {
 
     /// Cuts the next piece and has it decoded. False where no piece is left or memory is short.
     #[tactic(auto, using(crate::proofs::FlightLaws::chained_more, crate::proofs::FlightLaws::stream_more, crate::proofs::FlightLaws::stream_kept, crate::proofs::FlightLaws::stream_same, crate::proofs::StepLaws::steps_cut, crate::proofs::StepLaws::steps_kept, crate::proofs::StepLaws::steps_same))]
-    fn cut_next<E>(&mut self, scope: &Scope<'a, E>) -> bool
+    fn cut_next<E, T: Wait + Sync + 'a>(&mut self, scope: &Scope<'a, E>, rt: &'a T) -> bool
         ensures stream { KeepsStream (stream_in self.old) (stream_in self.new) }
         ensures steps { NoMoreSteps (steps_in self.old) (steps_in self.new) }
         ensures table { self.new.cutter.table ≡ self.old.cutter.table }
@@ -232,21 +245,26 @@ impl<'a, R: Read + Drop> Flight<'a, R> {
         let Some(piece) = self.cutter.cut() else {
             return false;
         };
-        let flying = launch(
-            scope,
-            self.helpers,
-            self.is_wanted,
-            &mut self.decoders,
-            &mut self.mine,
-            piece,
-        );
+        let flying = if self.is_wanted {
+            launch(
+                scope,
+                rt,
+                self.helpers,
+                &mut self.crew,
+                &mut self.decoders,
+                &mut self.mine,
+                piece,
+            )
+        } else {
+            decode_here(&mut self.decoders, &mut self.mine, piece)
+        };
         self.flying.push_back_reserved(flying);
         true
     }
 
     /// Joins the piece at the front, waiting for its answer. `None` where no piece is under way.
     #[tactic(auto, using(crate::proofs::StepLaws::steps_joined))]
-    pub(crate) fn join_front<T: Threads>(&mut self, rt: &T) -> Option<JoinedPiece>
+    pub(crate) fn join_front<T: Wait>(&mut self, rt: &T) -> Option<JoinedPiece>
         ensures some { IfSome (stream_in self.old) (λ whole. IfSome result (λ s.
             ReadsRows self.old.cutter.table whole s.rows (behind s.fault (stream_in self.new)))) }
         ensures none { IfNone result ((self.old.pieces ≡ []) × (self.new ≡ self.old)) }
@@ -258,29 +276,30 @@ impl<'a, R: Read + Drop> Flight<'a, R> {
         let joined = join_piece(
             rt,
             self.helpers,
+            &mut self.crew,
             &mut self.decoders,
-            self.mine.form(),
+            &mut self.mine,
             &mut self.join,
             piece,
         );
         Some(joined)
     }
 
-    /// Waits for the pieces that are under way, whose answers nobody needs.
-    pub(crate) fn drain<T: Threads>(&mut self, rt: &T)
+    /// Drops the pieces that are under way, whose answers nobody needs. Those that no thread has drawn are drawn here, so that none decodes them.
+    pub(crate) fn drain<T: Wait>(&mut self, rt: &T)
         ensures { self.new.cutter.table ≡ self.old.cutter.table }
     {
         while self.drop_front(rt) {}
     }
 
-    /// Waits for the piece at the front. False where no piece is under way.
-    fn drop_front<T: Threads>(&mut self, rt: &T) -> bool
+    /// Drops the piece at the front. False where no piece is under way.
+    fn drop_front<T: Wait>(&mut self, rt: &T) -> bool
         ensures fewer { result ≡ true → length self.new.pieces < length self.old.pieces }
         ensures table { self.new.cutter.table ≡ self.old.cutter.table }
     {
         match self.flying.pop_front() {
             Some(piece) => {
-                piece.settle(rt, &mut self.decoders);
+                piece.draw(rt);
                 true
             }
             None => false,

@@ -2,9 +2,11 @@
 
 use std::sync::atomic::{AtomicUsize, Ordering};
 
-/// The most pieces of a table that are under way at once, whatever the number of workers. Cutting them takes about an eighth of the time that
-/// decoding takes, so more would wait, and only take memory.
-const MOST_UNDER_WAY: usize = 8;
+/// The most pieces of a table that are under way at once, whatever the number of workers. More would wait, and only take memory.
+const MOST_UNDER_WAY: usize = 12;
+
+/// The most threads that a table has beside its worker, which decodes pieces as well. With seven, 64 workers on four processors took a fifth more time.
+const MOST_THREADS: usize = 3;
 
 /// How the pieces of a report's tables are shared out: about how many bytes a piece has, and how many threads are at work, which are
 /// workers that do not wait for their ring or an answer, and threads that decode pieces. No contract says anything about it.
@@ -50,14 +52,19 @@ impl Helpers {
         self.busy.load(Ordering::SeqCst) < self.places()
     }
 
-    /// A thread is started only where fewer are at work: as many as workers, and one more for the worker that starts it, which then waits for an answer.
+    /// A thread is started only where fewer are at work: as many as workers, and one more for the worker that starts it, which may wait for an answer.
     fn places(&self) -> usize {
         self.workers.saturating_add(1)
     }
 
-    /// How many pieces of a table may be under way at once.
+    /// How many pieces of a table may be under way at once: some three for each thread that decodes, so that none of them has to wait for more.
     pub(crate) fn window(&self) -> usize {
-        self.places().min(MOST_UNDER_WAY)
+        self.workers.saturating_mul(3).min(MOST_UNDER_WAY)
+    }
+
+    /// How many threads a table may have beside its worker.
+    pub(crate) fn most_threads(&self) -> usize {
+        self.workers.saturating_sub(1).min(MOST_THREADS)
     }
 
     /// Takes a place for a thread, if there is one. It is to be given back.

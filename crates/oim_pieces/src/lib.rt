@@ -32,13 +32,18 @@
 //! ```
 #![tactic(auto)]
 
+mod bins;
+mod crew;
 mod cutter;
 mod decoded;
 mod decoders;
 mod flight;
 mod flying;
 mod helpers;
+mod narrow;
+mod sheet;
 mod table_pieces;
+mod thread;
 
 pub use helpers::Helpers;
 pub use table_pieces::{PIECE_SIZE, TablePieces};

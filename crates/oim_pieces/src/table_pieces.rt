@@ -10,6 +10,7 @@ ghost use Rattle.oim_pieces.specs.Flights.{FewerSteps, IsEnd, KeepsEnd, behind, 
 
 use crate::flight::Flight;
 use crate::helpers::Helpers;
+use crate::narrow::Narrow;
 use oim_decode::{JoinedPiece, open_pieces};
 use oim_json::Block;
 use oim_report::{Limits, Report};
@@ -17,10 +18,11 @@ use oim_rows::{TableFault, TableKind, fault_of_read, whole_fault};
 use std::alloc::Global;
 use std::io::Read;
 use std::marker::Model;
+use std::sync::Wait;
 use std::thread::{Scope, Threads};
 
 /// About how many bytes a piece of a table has in a conversion: so many that decoding them takes far longer than starting a thread.
-pub const PIECE_SIZE: usize = 65_536;
+pub const PIECE_SIZE: usize = 16_384;
 
 /// The facts of one table that are left, piece by piece, as blocks of text. It borrows the table's report. A contract sees the table's
 /// place, what is answered again once the table is settled, how many pieces are under way, and, where the reader tells its bytes, the stream
@@ -28,7 +30,7 @@ pub const PIECE_SIZE: usize = 65_536;
 #[derive(Drop)]
 pub struct TablePieces<'a, R: Read + Drop> {
     alloc: Global,
-    flight: Flight<'a, R>,
+    flight: Flight<'a, Narrow<R>>,
     // the end or the fault that was found behind all that was given
     settled: Option<Option<TableFault>>,
 }
@@ -78,7 +80,7 @@ impl<'a, R: Read + Drop> TablePieces<'a, R> {
         ensures fault { IfSome (R.remaining reader) (λ bytes.
             IfErr result (λ e. IsOutside table e ⊎ (file_header_fault report.now table (grid bytes) ≡ Some e))) }
     {
-        let (head, pieces) = match open_pieces(alloc, reader) {
+        let (head, pieces) = match open_pieces(alloc, Narrow::new(reader, helpers.size())) {
             Ok(Some(opened)) => opened,
             Ok(None) => return Err(whole_fault(table, TableKind::NoHeader)),
             Err(fault) => return Err(fault_of_read(table, fault)),
@@ -102,10 +104,10 @@ impl<'a, R: Read + Drop> TablePieces<'a, R> {
     /// the faults of its cells from left to right. Fails with Read where the reader failed, and with
     /// Memory where memory is short.
     #[tactic(auto, using(crate::proofs::Gives::piece_given, crate::proofs::Gives::short_given, crate::proofs::Gives::end_given, crate::proofs::Gives::fault_given, crate::proofs::Gives::again_ended, crate::proofs::Gives::again_failed, crate::proofs::Gives::end_kept, crate::proofs::Gives::given_kept, crate::proofs::Gives::none_given, crate::proofs::Gives::moved, crate::proofs::StepLaws::steps_fewer))]
-    pub fn next_blocks<E, T: Threads>(
+    pub fn next_blocks<E, T: Threads + Wait + Sync + 'a>(
         &mut self,
         scope: &Scope<'a, E>,
-        rt: &T,
+        rt: &'a T,
     ) -> Result<Option<Vec<Block>>, TableFault>
         ensures blocks { IfSome self.old.left (λ s. IfOk result (λ o. IfSome o (λ blocks.
             GivesBlock self.old.table [] s (Ok (Some (facts_of_rows blocks.items))) [] self.new.left))) }
@@ -126,7 +128,7 @@ impl<'a, R: Read + Drop> TablePieces<'a, R> {
             Some(end) => return answer_of(end),
             None => {}
         }
-        self.flight.go_ahead(scope);
+        self.flight.go_ahead(scope, rt);
         match self.flight.join_front(rt) {
             Some(joined) => self.give(rt, joined),
             None => {
@@ -146,10 +148,10 @@ impl<'a, R: Read + Drop> TablePieces<'a, R> {
     }
 
     /// Keeps the memory of a block that was written, for texts that are decoded later.
-    pub fn keep_room(&mut self, room: Vec<u8>)
+    pub fn keep_room<T: Wait>(&mut self, rt: &T, room: Vec<u8>)
         ensures { self.new ≡ self.old }
     {
-        self.flight.keep_room(room);
+        self.flight.keep_room(rt, room);
     }
 
     /// How many vectors more would serve for the texts of the next pieces. No contract says so.
@@ -158,14 +160,14 @@ impl<'a, R: Read + Drop> TablePieces<'a, R> {
     }
 
     /// Gives back the vectors whose memory was kept for texts.
-    pub fn free_rooms(&mut self) -> Vec<Vec<u8>>
+    pub fn free_rooms<T: Wait>(&mut self, rt: &T) -> Vec<Vec<u8>>
         ensures { self.new ≡ self.old }
     {
-        self.flight.free_rooms()
+        self.flight.free_rooms(rt)
     }
 
     /// The facts of a piece that was joined. Where it has a fault, the table is settled.
-    fn give<T: Threads>(
+    fn give<T: Wait>(
         &mut self,
         rt: &T,
         joined: JoinedPiece,
@@ -195,7 +197,7 @@ impl<'a, R: Read + Drop> TablePieces<'a, R> {
     }
 
     /// Settles the table with this fault. Nobody needs the pieces that are under way.
-    fn settle<T: Threads>(&mut self, rt: &T, fault: TableFault)
+    fn settle<T: Wait>(&mut self, rt: &T, fault: TableFault)
         ensures { (self.new.table ≡ self.old.table) × (self.new.left ≡ Some (ending (Some fault))) × (self.new.answered ≡ Some (Some fault)) }
     {
         self.flight.drain(rt);
