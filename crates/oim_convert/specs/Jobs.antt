@@ -1,5 +1,6 @@
 -- The jobs that workers draw, one for each table, and the receipts that they give for them.
-use Rattle.std.specs.Prelude.{◌≡◌, ◌<◌, ◌≤◌, ℕ, suc, Bool, true, false, List, [], ◌∷◌, Option, Some, flat_map, length, map, slice_get, slice_set, IfSome}
+use Rattle.std.specs.Prelude.{◌≡◌, ◌⊎◌, ◌<◌, ◌≤◌, ℕ, suc, Bool, true, false, List, [], ◌∷◌, Option, Some, None, Any, flat_map, length, map, slice_get, slice_set, IfSome}
+use Rattle.std.specs.List.{list_all}
 use Rattle.oim_report.specs.ReportValue.{ReportValue}
 use Rattle.oim_ring.specs.Ends.{ClosedView, DrainView}
 use Rattle.oim_ring.specs.Items.{blocks_only}
@@ -86,6 +87,14 @@ module _ {R : Type 0} where
     pub job : Job R
     pub planned : slice_get plan table ≡ Some job
     pub kept : IsKept told report limit served table job.reader history
+
+  -- the histories of all tables of the plan, in their order
+  abbrev pub AreTables : (R → Option (List ℕ)) → ReportValue → ℕ → Bool → List (Job R) → List (List Item) → Type 0
+  AreTables told report limit served plan histories = Each (IsTable told report limit served plan) 0 histories
+
+  -- no worker drew a table, or the token of one was lost
+  abbrev pub IsLostIn : List (Shift (Job R) Receipt) → Type 0
+  IsLostIn shifts = (list_all (λ (shift : Shift (Job R) Receipt). shift.stopped) shifts ≡ true) ⊎ Any (λ (receipt : Receipt). receipt.closed ≡ None) (receipts_of shifts)
 
   -- what a server gives for a table of a report
   abbrev pub gives_of : (R → Option (List ℕ)) → Serving → ReportValue → ℕ → Job R → Receipt → Type 0

@@ -2,7 +2,7 @@
 use Rattle.std.specs.Prelude.{◌≡◌, ◌≤◌, ⊤, ℕ, Bool, false, List, [], Option, None, Result, Ok, Err, length, replicate, vec_capacity}
 use Rattle.oim_report.specs.ReportValue.{ReportValue}
 use Rattle.oim_ring.specs.declared.item.Item.{Item}
-use Rattle.oim_convert.specs.Jobs.{Each, IsLane, IsOpened, IsTable}
+use Rattle.oim_convert.specs.Jobs.{AreTables, Each, IsLane, IsOpened}
 use Rattle.oim_crew.specs.Shifts.{IsCrew}
 use Rattle.oim_convert.specs.declared.returning.ReturnRoom.{ReturnRoom}
 use Rattle.oim_convert.specs.declared.fault.ConvertFault.{ConvertFault}
@@ -28,7 +28,7 @@ pub record IsReady {R T : Type 0} (ready : Ready R T) : Type 0 where
 
 -- the histories of all tables of the plan, which were all served by workers or all not; they were not if no worker was to be started
 abbrev pub HasTables : {R : Type 0} → (R → Option (List ℕ)) → ReportValue → ℕ → ℕ → List (Job R) → List (List Item) → Type 0
-HasTables told report limit starts plan hs = (served : Bool) × (starts ≡ 0 → served ≡ false) × Each (IsTable told report limit served plan) 0 hs
+HasTables told report limit starts plan hs = (served : Bool) × (starts ≡ 0 → served ≡ false) × AreTables told report limit served plan hs
 
 -- a conversion that ran gives its run, unless a token was lost
 abbrev pub HasRun : Result Run ConvertFault → Type 0

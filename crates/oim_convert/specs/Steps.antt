@@ -1,14 +1,15 @@
 -- What each part of a conversion on one thread gives to the writer.
-use Rattle.std.specs.Prelude.{◌≡◌, ℕ, true, List, Result, Ok, Err}
+use Rattle.std.specs.Prelude.{◌≡◌, ℕ, true, List, Option, Some, Result, Ok, Err, IfSome}
 use mathlib.Core.List.{IsPrefix}
 use Rattle.oim_json.specs.declared.mark.WriteFault.{WriteFault}
 use Rattle.oim_merge.specs.Histories.{all_of, facts_before}
 use Rattle.oim_merge.specs.Writers.{WriterView, given}
+use Rattle.oim_report.specs.ReportValue.{ReportValue}
 use Rattle.oim_resolve.specs.FactParts.{FactParts as Fact}
 use Rattle.oim_ring.specs.Items.{blocks_only}
 use Rattle.oim_ring.specs.declared.item.Ending as Endings
 use Rattle.oim_ring.specs.declared.item.Item.{Item}
-use Rattle.oim_rows.specs.Streams.{Stream, facts_of}
+use Rattle.oim_rows.specs.Streams.{Stream, facts_of, table_stream}
 use Rattle.oim_convert.specs.Answer.{histories_of}
 use Rattle.oim_convert.specs.Histories.{AreDecoded, IsGiven, facts_in}
 
@@ -16,6 +17,10 @@ use Rattle.oim_convert.specs.Histories.{AreDecoded, IsGiven, facts_in}
 abbrev pub Gave : ℕ → Stream → List Fact → Result Endings.Ending WriteFault → Type 0
 Gave table s facts (Ok ending) = IsGiven table s facts ending
 Gave table s facts (Err w) = IsPrefix facts (facts_of s)
+
+-- the same of a table whose file has these bytes, where they are known
+abbrev pub GaveFile : Option (List ℕ) → ReportValue → ℕ → ℕ → List Fact → Result Endings.Ending WriteFault → Type 0
+GaveFile known report table limit facts answer = IfSome known (λ bytes. Gave table (table_stream report table limit (Some bytes)) facts answer)
 
 -- the writer was given blocks, and of their facts this holds
 pub record TookBlocks (old new : WriterView) (Holds : List Fact → Type 0) : Type 0 where

@@ -1,9 +1,8 @@
 //! The end of a conversion, where the workers' receipts go to their tables and the seats to their
 //! claims, and the room that is kept for it.
 
-ghost use Rattle.std.specs.Prelude.{◌≡◌, ◌⊎◌, None, true, length, map, All, Any, IfNone, IfOk, IfSome, vec_len};
-ghost use Rattle.std.specs.List.{list_all};
-ghost use Rattle.oim_convert.specs.Jobs.{Each, Gives, IsEnded, IsTable, tables_promised, receipts_of};
+ghost use Rattle.std.specs.Prelude.{◌≡◌, length, map, All, IfNone, IfOk, IfSome, vec_len};
+ghost use Rattle.oim_convert.specs.Jobs.{AreTables, Each, Gives, IsEnded, IsLostIn, tables_promised};
 ghost use Rattle.oim_crew.specs.Numbers.{EachOnceBelow};
 ghost use Rattle.oim_convert.specs.Preparing.{IsReturnRoom};
 ghost use Rattle.oim_crew.specs.Shifts.{IsShift};
@@ -63,8 +62,8 @@ pub(crate) fn finish<R: Read + Drop>(
     requires room { IsReturnRoom (length claims.items) claims.workers room }
     ensures cover { IfSome result (λ all. EachOnceBelow (length claims.items) (tables_promised shifts.list.items)) }
     ensures taken { IfSome result (λ all. all.items ≡ map (λ d. d.taken) drains.items) }
-    ensures tables { IfSome result (λ all. Each (IsTable R.remaining report.now limits.rows shifts.served claims.items) 0 all.items) }
-    ensures lost { IfNone result ((list_all (λ shift. shift.stopped) shifts.list.items ≡ true) ⊎ Any (λ receipt. receipt.closed ≡ None) (receipts_of shifts.list.items)) }
+    ensures tables { IfSome result (λ all. AreTables R.remaining report.now limits.rows shifts.served claims.items all.items) }
+    ensures lost { IfNone result (IsLostIn shifts.list.items) }
 {
     // This does not happen: a worker that was started draws, since its flag is never set, and if none
     // was started, one seat has drawn on this thread.

@@ -1,6 +1,6 @@
 //! The conversion on one thread.
 
-ghost use Rattle.std.specs.Prelude.{◌≡◌, ◌≢◌, ◌↔◌, ◌≤◌, ◌<◌, ℕ, List, [], Option, Some, Err, IfErr, IfSome, OnOk, length, vec_capacity};
+ghost use Rattle.std.specs.Prelude.{◌≡◌, ◌≢◌, ◌↔◌, ◌≤◌, ◌<◌, ℕ, List, [], Option, Err, IfErr, IfSome, OnOk, length, vec_capacity};
 ghost use Rattle.oim_json.specs.JsonText.{head_text};
 ghost use Rattle.oim_merge.specs.Histories.{refusals};
 ghost use Rattle.oim_merge.specs.Writers.{Continues, IsBroken};
@@ -8,7 +8,7 @@ ghost use Rattle.oim_rows.specs.Streams.{table_stream};
 ghost use Rattle.oim_convert.specs.Answer.{streams};
 ghost use Rattle.oim_convert.specs.Files.{IsFileOf, AreFilesOf};
 ghost use Rattle.oim_convert.specs.Serial.{AreFew, Converts, HasBegun, IsOfTables, Leaves};
-ghost use Rattle.oim_convert.specs.Steps.{Gave, ReadsTables, TookBlocks};
+ghost use Rattle.oim_convert.specs.Steps.{Gave, GaveFile, ReadsTables, TookBlocks};
 ghost use Rattle.oim_convert.specs.declared.fault.ConvertFault.TheVariants as fault;
 
 use crate::decode::{refused, without_file};
@@ -70,7 +70,7 @@ fn convert_file<R: Read + Drop, W: Sink>(
     requires rows { limits.rows ≤ 4294967294 }
     requires sink { writer.old.sink ≡ W.seen sink.old }
     ensures sink { writer.new.sink ≡ W.seen sink.new }
-    ensures took { TookBlocks writer.old writer.new (λ facts. IfSome (R.remaining reader) (λ bytes. Gave table (table_stream report.now table limits.rows (Some bytes)) facts result)) }
+    ensures took { TookBlocks writer.old writer.new (λ facts. GaveFile (R.remaining reader) report.now table limits.rows facts result) }
     ensures broken { IfErr result (λ fault. IsBroken writer.new fault) }
 {
     match TableBlocks::open(alloc, report, table, reader, limits) {

@@ -1,7 +1,7 @@
 //! A slot for the token of each table, with which its drain is settled.
 
 ghost use Rattle.std.specs.Prelude.{◌≡◌, ◌≤◌, [], None, length, map, All, Contains, IfNone, IfSome, slice_set, vec_len, vec_capacity};
-ghost use Rattle.oim_convert.specs.Jobs.{Each, EachSlot, Fulfills, Gives, IsEnded, IsTable, placed, receipts_of};
+ghost use Rattle.oim_convert.specs.Jobs.{AreTables, Each, EachSlot, Fulfills, Gives, IsEnded, placed, receipts_of};
 ghost use Rattle.oim_crew.specs.Shifts.{IsShift};
 
 use crate::job::{Job, Receipt};
@@ -93,7 +93,7 @@ pub(crate) fn settle_all<R: Read>(
     requires settled { settled.items ≡ [] }
     requires room { vec_len drains ≤ vec_capacity settled }
     ensures taken { IfSome result (λ all. all.items ≡ map (λ d. d.taken) drains.items) }
-    ensures tables { IfSome result (λ all. Each (IsTable R.remaining terms.now.report.now terms.now.limits.rows terms.now.served terms.now.claims.now.items) 0 all.items) }
+    ensures tables { IfSome result (λ all. AreTables R.remaining terms.now.report.now terms.now.limits.rows terms.now.served terms.now.claims.now.items all.items) }
     ensures lost { IfNone result (Contains slots.old None) }
 {
     let _ = terms;

@@ -7,11 +7,16 @@ use Rattle.oim_places.specs.FaultPlaces.{FoundIn, IsTablePath, column_place, fau
 use Rattle.oim_places.specs.FilePlaces.{place_text}
 use Rattle.oim_places.specs.LineNumbers.{line_of_record}
 use Rattle.oim_places.specs.Shown.{shown}
+use Rattle.oim_explain.specs.Explanations.{explanation_of}
 use Rattle.oim_explain.specs.declared.explanation.Explanation.{Explanation}
 
 -- the text names the fault's cell by its column, and its row by the line at which it begins in these bytes, if that is known
 abbrev pub NamesPlace : List ℕ → TableFault → List ℕ → List ℕ → Type 0
 NamesPlace path f bytes text = (line : Option ℕ) × IfSome line (λ n. line_of_record f.row bytes ≡ Some n) × (text ≡ place_text path line (column_place f.column))
+
+-- the same where these files are known, and the one at the path is among them
+abbrev pub NamesPlaceIn : Option Files → List ℕ → TableFault → List ℕ → Type 0
+NamesPlaceIn known path f text = IfSome known (λ files. IfSome (files path) (λ bytes. NamesPlace path f bytes text))
 
 -- the explanation is of the file at this path as a whole, or its place is that of the fault in the file, which has it there, its first
 abbrev pub ExplainsAt : Files → List ℕ → ReportValue → TableFault → Explanation → Type 0
@@ -20,3 +25,7 @@ ExplainsAt files path report f e = (e.place ≡ shown path) ⊎ ((is_of_file f.k
 -- the same for a table of a report whose metadata is at this path; a table that is not there is explained at the metadata
 abbrev pub ExplainsTable : Files → List ℕ → ReportValue → TableFault → Explanation → Type 0
 ExplainsTable files meta report f e = ((length report.tables ≤ f.table) × (e.place ≡ shown meta)) ⊎ ((path : List ℕ) × IsTablePath meta report f.table path × ExplainsAt files path report f e)
+
+-- the text is an explanation of the fault of such a table, whose place is right where the files are known
+abbrev pub SaysOfTable : Option Files → List ℕ → ReportValue → TableFault → List ℕ → Type 0
+SaysOfTable known meta report f text = (e : Explanation) × (text ≡ explanation_of e) × IfSome known (λ files. ExplainsTable files meta report f e)

@@ -1,9 +1,7 @@
 //! The explanation of a table's fault.
 
-ghost use Rattle.std.specs.Prelude.{◌≡◌, ◌<◌, IfOk, IfSome, length, string_bytes};
-ghost use Rattle.oim_explain.specs.Explanations.{explanation_of};
-ghost use Rattle.oim_explain.specs.declared.explanation.Explanation.{Explanation as Said};
-ghost use Rattle.oim_explain.specs.TablePlaces.{ExplainsAt, ExplainsTable, NamesPlace};
+ghost use Rattle.std.specs.Prelude.{◌<◌, IfOk, IfSome, length, string_bytes};
+ghost use Rattle.oim_explain.specs.TablePlaces.{ExplainsAt, ExplainsTable, NamesPlaceIn, SaysOfTable};
 
 use crate::explanation::{Explanation, explanation_text};
 use crate::files::{changed, of_file};
@@ -225,7 +223,7 @@ fn at_record<R: Read + Drop, F: Folder<R>>(
     cells: &RowAgain,
 ) -> Result<Explanation, AllocError>
     requires { (fault.now).table < length table.again.now.report.tables }
-    ensures { IfOk result (λ e. IfSome (F.files folder.old) (λ files. IfSome (files table.entry.path.now) (λ bytes. NamesPlace table.entry.path.now fault.now bytes e.place))) }
+    ensures { IfOk result (λ e. NamesPlaceIn (F.files folder.old) table.entry.path.now fault.now e.place) }
 {
     let line = line_again(alloc, folder, table.path, fault.row as usize);
     let found = found_in(alloc, &table.again.report, fault, cells)?;
@@ -291,7 +289,7 @@ pub fn explain_table<R: Read + Drop, F: Folder<R>>(
     again: &ReportAgain,
     fault: &TableFault,
 ) -> Result<String, AllocError>
-    ensures { IfOk result (λ s. (e : Said) × (string_bytes s ≡ explanation_of e) × IfSome (F.files folder.old) (λ files. ExplainsTable files meta.now again.now.report fault.now e)) }
+    ensures { IfOk result (λ s. SaysOfTable (F.files folder.old) meta.now again.now.report fault.now (string_bytes s)) }
 {
     let explanation = of_table(alloc, meta, folder, again, fault)?;
     explanation_text(alloc, &explanation)

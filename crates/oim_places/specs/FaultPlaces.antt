@@ -38,6 +38,10 @@ IsRowAt records (suc number) row = slice_get records (suc number) ≡ Some row
 abbrev pub HasRow : List Record → ℕ → Record → Record → Type 0
 HasRow records number header row = (slice_get records 0 ≡ Some header) × IsRowAt records number row
 
+-- the same of the file of these bytes, where they are known
+abbrev pub FileHasRow : Option (List ℕ) → ℕ → Record → Record → Type 0
+FileHasRow file number header row = IfSome file (λ bytes. HasRow (grid bytes) number header row)
+
 -- the record so many places behind the next one, and those that are left behind it
 abbrev pub TakesNth : List Record → ℕ → Record → Option (List Record) → Type 0
 TakesNth left before row after = (slice_get left before ≡ Some row) × (after ≡ Some (drop (before + 1) left))

@@ -4,7 +4,7 @@ ghost use Rattle.std.specs.Prelude.{◌≡◌, ◌<◌, [], IfOk, IfSome, length
 ghost use Rattle.csv.specs.Records.{fields_of};
 ghost use Rattle.oim_records.specs.Grids.{grid};
 ghost use Rattle.oim_records.specs.Reads.{TakesRecord};
-ghost use Rattle.oim_places.specs.FaultPlaces.{HasRow, IsFaultOf, TakesNth};
+ghost use Rattle.oim_places.specs.FaultPlaces.{FileHasRow, HasRow, IsFaultOf, TakesNth};
 
 use csv::ByteRecord;
 use oim_decode::TableBlocks;
@@ -79,7 +79,7 @@ fn read_file<R: Read + Drop>(
     number: usize,
 ) -> Result<bool, AllocError>
     requires { fields_of again.old.row ≡ [] }
-    ensures { IfOk result (λ found. found ≡ true → IfSome (R.remaining reader) (λ bytes. HasRow (grid bytes) number (fields_of again.new.header) (fields_of again.new.row))) }
+    ensures { IfOk result (λ found. found ≡ true → FileHasRow (R.remaining reader) number (fields_of again.new.header) (fields_of again.new.row)) }
 {
     let mut records = Records::new(alloc, reader);
     read_row(&mut records, again, number)
@@ -92,7 +92,7 @@ pub(crate) fn row_again<R: Read + Drop>(
     reader: R,
     number: usize,
 ) -> Result<Option<RowAgain>, AllocError>
-    ensures { IfOk result (λ o. IfSome o (λ a. IfSome (R.remaining reader) (λ bytes. HasRow (grid bytes) number (fields_of a.header) (fields_of a.row)))) }
+    ensures { IfOk result (λ o. IfSome o (λ a. FileHasRow (R.remaining reader) number (fields_of a.header) (fields_of a.row))) }
 {
     let mut again = RowAgain {
         header: ByteRecord::new(alloc),

@@ -65,7 +65,8 @@ impl<'a, R: Read + Drop> TableBlocks<'a, R> {
         requires rows { limits.rows ≤ 4294967294 }
 
         // The facts of the table, where its header has no fault.
-        ensures start { IfOk result (λ blocks. (blocks.table ≡ table) × (blocks.limit ≡ limits.rows) × (blocks.given ≡ 0) × (blocks.pending ≡ []) × (blocks.answered ≡ None)) }
+        ensures start { IfOk result (λ blocks. (blocks.table ≡ table) × (blocks.limit ≡ limits.rows)) }
+        ensures begun { IfOk result (λ blocks. (blocks.given ≡ 0) × (blocks.pending ≡ []) × (blocks.answered ≡ None)) }
         ensures stream { IfSome (R.remaining reader) (λ bytes. IfOk result (λ blocks. blocks.left ≡ Some (stream_of report.now table limits.rows (grid bytes)))) }
         ensures header { IfSome (R.remaining reader) (λ bytes. IfOk result (λ _. file_header_fault report.now table (grid bytes) ≡ None)) }
 

@@ -1,8 +1,8 @@
 //! What a value gives the facts of a row, as JSON.
 
-ghost use Rattle.std.specs.Prelude.{◌≡◌, ◌++◌, ◌≤◌, IfOk, IfSome, Ok, OnOk, Some, [], is_ok, length, true, take};
+ghost use Rattle.std.specs.Prelude.{◌≡◌, ◌++◌, ◌≤◌, IfOk, IfSome, Ok, OnOk, codes, Some, [], is_ok, length, true, take};
 ghost use Rattle.oim_cells.specs.Cells.{Absent as nothing_said, seen_meaning};
-ghost use Rattle.oim_json.specs.JsonText.{decimals_text};
+ghost use Rattle.oim_json.specs.JsonText.{decimals_text, quoted};
 ghost use Rattle.oim_report.specs.ReportValue.{ReportValue};
 ghost use Rattle.oim_resolve.specs.Facts.{concept_read, places, stated_read, value_read};
 ghost use Rattle.oim_resolve.specs.Values.{Read};
@@ -16,6 +16,7 @@ use crate::text::copy::put_quoted_front;
 use crate::text::escape::put_quoted;
 use itoa::Buffer;
 use oim_cells::{Accuracy, CellMeaning, decimals};
+use oim_names::{UnitKind, qname, unit};
 use oim_report::{Kind, Report, Side};
 use oim_resolve::{Entry, Role, read_concept, read_value};
 use std::alloc::{AllocError, Global};
@@ -87,8 +88,23 @@ fn put_entry(out: &mut TextBuffer, entry: &Entry) -> Result<(), AllocError>
     }
 }
 
-/// Appends what a value gives a dimension, and answers whether it has no fault there. Fails where memory is short.
-fn put_dimension(
+/// Appends a text as it stands with a comma behind it, where it has the form that is asked for, and answers whether it has. Fails where
+/// memory is short.
+#[tactic(auto, using(std::proofs::Common::append_assoc))]
+fn put_formed(out: &mut TextBuffer, has_form: bool, text: &str) -> Result<bool, AllocError>
+    ensures form { IfOk result (λ sound. sound ≡ has_form) }
+    ensures text { IfOk result (AppendsWhere out.old.items (quoted text.now ++ codes ",") out.new.items) }
+{
+    if has_form {
+        put_quoted(out, text)?;
+        out.push(b',')?;
+    }
+    Ok(has_form)
+}
+
+/// Appends what a value that may be given in another form than it has gives a dimension, and answers whether it has no fault there. Fails
+/// where memory is short.
+fn put_read(
     alloc: Global,
     out: &mut TextBuffer,
     report: &Report,
@@ -105,6 +121,33 @@ fn put_dimension(
     };
     put_entry(out, &entry)?;
     Ok(true)
+}
+
+/// Appends what a value gives a dimension, and answers whether it has no fault there. A text that is given as it stands is not copied
+/// first. Fails where memory is short.
+fn put_dimension(
+    alloc: Global,
+    out: &mut TextBuffer,
+    report: &Report,
+    role: Role,
+    side: Side,
+    value: CellMeaning<'_>,
+) -> Result<bool, AllocError>
+    ensures sound { IfOk result (λ sound. sound ≡ is_ok (value_read report.now role side (seen_meaning value.entry))) }
+    ensures text { IfOk result (AppendsWhere out.old.items (json_for report.now (for_dimension role side) (seen_meaning value.entry)) out.new.items) }
+{
+    let names = report.namespaces();
+    match (role, value) {
+        (Role::Unit, CellMeaning::Text(text)) => match unit(names, text) {
+            Some(UnitKind::Pure) => Ok(true),
+            Some(UnitKind::Written) => put_formed(out, true, text),
+            None => Ok(false),
+        },
+        (Role::Explicit, CellMeaning::Text(text)) => {
+            put_formed(out, qname(names, text).is_some(), text)
+        }
+        _ => put_read(alloc, out, report, role, side, value),
+    }
 }
 
 /// Appends what a value gives for a purpose, with a comma behind it, and answers whether it has no fault for that. Fails where

@@ -70,7 +70,8 @@ fn with_groups<'a>(
     alloc: Global,
     cell: PlannedCell<'a>,
 ) -> Result<(Vec<&'a Level>, Vec<&'a PlannedDimension<'a>>), AllocError>
-    ensures { IfOk result (λ v. (held v.0.items ≡ named_groups (cell_at cell.entry.place)) × (map seen_keyed (held v.1.items) ≡ row_map (cell_at cell.entry.place))) }
+    ensures groups { IfOk result (λ v. held v.0.items ≡ named_groups (cell_at cell.entry.place)) }
+    ensures dimensions { IfOk result (λ v. map seen_keyed (held v.1.items) ≡ row_map (cell_at cell.entry.place)) }
 {
     let columns = cell.columns;
     let column = cell

@@ -1,11 +1,11 @@
-use Rattle.std.proofs.Common.{◌+◌, ◌≤◌, ℕ, List}
-use Rattle.oim_records.specs.Fields.{IsReadTo}
+use Rattle.std.proofs.Common.{◌+◌, ◌≤◌}
+use Rattle.oim_records.specs.Fields.{ReadsOn}
 use Rattle.oim_records.proofs.Ends.{AreEnds}
 use Rattle.oim_records.proofs.record.read_plain.Given as goal
 
 abbrev pub invariant-loop-left : goal.invariant-loop-left
 invariant-loop-left l = record {
-  fields : (old : List ℕ) (first : ℕ) → IsReadTo old l.text l.fn.ranges.items first l.fn.from → IsReadTo old l.text l.ranges.items first l.start;
+  fields : ReadsOn l.text l.fn.ranges.items l.ranges.items l.fn.from l.start;
   low : l.fn.from ≤ l.start;
   high : l.start ≤ l.fn.from + 64;
   marks : AreEnds l.text l.fn.from l.start l.left;
