@@ -153,11 +153,13 @@ impl<'a> Decoders<'a> {
         self.bytes.pop()
     }
 
-    /// Keeps the memory of a piece that was decoded, where there is memory to note it.
+    /// Keeps the memory of a piece that was decoded, if it has any, where there is memory to note it.
     pub(crate) fn keep_bytes(&mut self, bytes: Vec<u8>)
         ensures { self.new ≡ self.old }
     {
-        let _ = self.bytes.push(bytes);
+        if bytes.capacity() > 0 {
+            let _ = self.bytes.push(bytes);
+        }
     }
 
     /// A vector without memory.

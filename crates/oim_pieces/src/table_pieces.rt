@@ -10,7 +10,6 @@ ghost use Rattle.oim_pieces.specs.Flights.{FewerSteps, IsEnd, KeepsEnd, behind, 
 
 use crate::flight::Flight;
 use crate::helpers::Helpers;
-use crate::narrow::Narrow;
 use oim_decode::{JoinedPiece, open_pieces};
 use oim_json::Block;
 use oim_report::{Limits, Report};
@@ -30,7 +29,7 @@ pub const PIECE_SIZE: usize = 16_384;
 #[derive(Drop)]
 pub struct TablePieces<'a, R: Read + Drop> {
     alloc: Global,
-    flight: Flight<'a, Narrow<R>>,
+    flight: Flight<'a, R>,
     // the end or the fault that was found behind all that was given
     settled: Option<Option<TableFault>>,
 }
@@ -80,7 +79,7 @@ impl<'a, R: Read + Drop> TablePieces<'a, R> {
         ensures fault { IfSome (R.remaining reader) (λ bytes.
             IfErr result (λ e. IsOutside table e ⊎ (file_header_fault report.now table (grid bytes) ≡ Some e))) }
     {
-        let (head, pieces) = match open_pieces(alloc, Narrow::new(reader, helpers.size())) {
+        let (head, pieces) = match open_pieces(alloc, reader) {
             Ok(Some(opened)) => opened,
             Ok(None) => return Err(whole_fault(table, TableKind::NoHeader)),
             Err(fault) => return Err(fault_of_read(table, fault)),
