@@ -14,9 +14,6 @@ use std::mem;
 /// A piece whose texts take fewer vectors than this needs none that others gave back.
 const FEW: usize = 4;
 
-/// More vectors than come back at once.
-const MOST_TAKEN: usize = 256;
-
 /// The head of a table, which gives decoders of its pieces, and memory that is used again. A contract sees how the table's rows are read.
 #[derive(Drop)]
 pub(crate) struct Decoders<'a> {
@@ -101,9 +98,19 @@ impl<'a> Decoders<'a> {
         self.usual = count;
     }
 
-    /// How many vectors are to be taken back at once: all that came back, since most are of threads, which use them again. No contract says so.
+    /// How many vectors more would serve for the texts of two pieces that are decoded here. No contract says so.
     pub(crate) fn wanted(&self) -> usize {
-        MOST_TAKEN
+        if self.usual < FEW {
+            return 0;
+        }
+        self.usual
+            .saturating_mul(2)
+            .saturating_sub(self.rooms.len())
+    }
+
+    /// How many vectors each of so many who decode is given of those that are kept.
+    pub(crate) fn share(&self, count: usize) -> usize {
+        self.rooms.len() / count.max(1)
     }
 
     /// Gives a decoder memory for the texts of a piece, of that which was kept.

@@ -25,10 +25,16 @@ use std::collections::VecDeque;
 use std::io::Read;
 use std::marker::Model;
 use std::sync::Wait;
-use std::thread::Scope;
+use std::thread::{Scope, Threads};
 
 /// How many pieces of a table are under way at once where nobody waits for them yet. It is decoded here.
 const FEW_UNDER_WAY: usize = 1;
+
+/// More pieces than are cut at once.
+const MOST_CUT: usize = 256;
+
+/// More vectors than come back at once. All are taken once the table is written, since most are of threads, which use them again.
+const MOST_TAKEN: usize = 256;
 
 /// The pieces of a table that are under way, in their order, and what cuts, decodes and joins them. A contract sees how the rows are read,
 /// the identifiers of the rows that were given, the pieces, and what is left to be cut.
@@ -46,6 +52,8 @@ pub(crate) struct Flight<'a, R: Read + Drop> {
     has_given: bool,
     // whether what is given is wanted at once
     is_wanted: bool,
+    // whether vectors that come back now were those of this table's blocks
+    are_own: bool,
 }
 
 impl<'a, R: Read + Drop> Model for Flight<'a, R> {
@@ -151,6 +159,7 @@ impl<'a, R: Read + Drop> Flight<'a, R> {
             crew: Crew::new(alloc),
             has_given: false,
             is_wanted: false,
+            are_own: false,
         })
     }
 
@@ -158,6 +167,10 @@ impl<'a, R: Read + Drop> Flight<'a, R> {
     pub(crate) fn keep_room<T: Wait>(&mut self, rt: &T, room: Vec<u8>)
         ensures { self.new ≡ self.old }
     {
+        if !self.are_own {
+            self.decoders.keep_room(room);
+            return;
+        }
         if let Some(room) = self.crew.bins.keep(rt, room) {
             self.decoders.keep_room(room);
         }
@@ -173,7 +186,11 @@ impl<'a, R: Read + Drop> Flight<'a, R> {
 
     /// How many vectors more would serve for the texts of the next pieces. No contract says so.
     pub(crate) fn wanted_rooms(&self) -> usize {
-        self.decoders.wanted()
+        if self.is_wanted {
+            MOST_TAKEN
+        } else {
+            self.decoders.wanted()
+        }
     }
 
     /// Gives back the vectors whose memory was kept for texts.
@@ -187,29 +204,30 @@ impl<'a, R: Read + Drop> Flight<'a, R> {
 
     /// Has the next pieces decoded, while there are places for threads, and the next one where no piece is under way.
     #[tactic(auto, using(crate::proofs::FlightLaws::stream_then, crate::proofs::FlightLaws::stream_same, crate::proofs::StepLaws::steps_then, crate::proofs::StepLaws::steps_same))]
-    pub(crate) fn go_ahead<E, T: Wait + Sync + 'a>(&mut self, scope: &Scope<'a, E>, rt: &'a T)
+    pub(crate) fn go_ahead<E, T: Threads + Wait + Sync + 'a>(&mut self, scope: &Scope<'a, E>, rt: &'a T)
         ensures stream { KeepsStream (stream_in self.old) (stream_in self.new) }
         ensures steps { NoMoreSteps (steps_in self.old) (steps_in self.new) }
         ensures table { self.new.cutter.table ≡ self.old.cutter.table }
     {
-        for _ in 0..self.window() {
-            if !self.may_cut() || !self.cut_next(scope, rt) {
+        for _ in 0..MOST_CUT {
+            if !self.may_cut(rt) || !self.cut_next(scope, rt) {
                 return;
             }
         }
     }
 
-    /// Notes whether what is given is wanted at once.
+    /// Notes whether what is given is wanted at once. Vectors that came back before it was are those of other tables' blocks.
     pub(crate) fn want(&mut self, is_wanted: bool)
         ensures { self.new ≡ self.old }
     {
+        self.are_own = self.is_wanted && is_wanted;
         self.is_wanted = is_wanted;
     }
 
     /// How many pieces may be under way at once.
-    fn window(&self) -> usize {
+    fn window<T: Threads>(&self, rt: &T) -> usize {
         if self.is_wanted {
-            self.helpers.window()
+            self.helpers.window(rt)
         } else {
             FEW_UNDER_WAY
         }
@@ -217,12 +235,12 @@ impl<'a, R: Read + Drop> Flight<'a, R> {
 
     /// Whether one more piece is to be cut. The rows of the head, and a short piece, as a slow reader gives it, wait for no others; behind a longer
     /// one others may be read before it is given. No contract says so.
-    fn may_cut(&self) -> bool {
+    fn may_cut<T: Threads>(&self, rt: &T) -> bool {
         match self.flying.front() {
             Some(_) => {
                 self.has_given
                     && !self.cutter.is_slow()
-                    && self.flying.len() < self.window()
+                    && self.flying.len() < self.window(rt)
                     && (self.crew.count() > 0 || self.helpers.are_idle())
             }
             None => true,
@@ -231,7 +249,7 @@ impl<'a, R: Read + Drop> Flight<'a, R> {
 
     /// Cuts the next piece and has it decoded. False where no piece is left or memory is short.
     #[tactic(auto, using(crate::proofs::FlightLaws::chained_more, crate::proofs::FlightLaws::stream_more, crate::proofs::FlightLaws::stream_kept, crate::proofs::FlightLaws::stream_same, crate::proofs::StepLaws::steps_cut, crate::proofs::StepLaws::steps_kept, crate::proofs::StepLaws::steps_same))]
-    fn cut_next<E, T: Wait + Sync + 'a>(&mut self, scope: &Scope<'a, E>, rt: &'a T) -> bool
+    fn cut_next<E, T: Threads + Wait + Sync + 'a>(&mut self, scope: &Scope<'a, E>, rt: &'a T) -> bool
         ensures stream { KeepsStream (stream_in self.old) (stream_in self.new) }
         ensures steps { NoMoreSteps (steps_in self.old) (steps_in self.new) }
         ensures table { self.new.cutter.table ≡ self.old.cutter.table }

@@ -16,7 +16,7 @@ use crate::sheet::{Pending, Question, Reply, Sheet};
 use oim_decode::{PieceAnswer, PieceDecoder};
 use std::marker::Model;
 use std::sync::Wait;
-use std::thread::Scope;
+use std::thread::{Scope, Threads};
 
 /// The answer for a piece: it comes through the channel of that piece, or it is here already.
 #[derive(Drop)]
@@ -257,7 +257,7 @@ fn ask<'a, T: Wait>(
 }
 
 /// Has a piece decoded: by a thread, where it is wanted at once, the piece is not short and there is a thread, or a place for one; or else here.
-pub(crate) fn launch<'s, E, T: Wait + Sync + 's>(
+pub(crate) fn launch<'s, E, T: Threads + Wait + Sync + 's>(
     scope: &Scope<'s, E>,
     rt: &'s T,
     helpers: &'s Helpers,
@@ -283,7 +283,7 @@ pub(crate) fn launch<'s, E, T: Wait + Sync + 's>(
 }
 
 /// Starts one more thread for a table that has too few, where there is a place for it.
-fn grow<'s, E, T: Wait + Sync + 's>(
+fn grow<'s, E, T: Threads + Wait + Sync + 's>(
     scope: &Scope<'s, E>,
     rt: &'s T,
     helpers: &'s Helpers,
@@ -294,7 +294,7 @@ fn grow<'s, E, T: Wait + Sync + 's>(
     ensures decoders { decoders.new ≡ decoders.old }
     ensures line { IsLine decoders.old crew.new.line }
 {
-    if crew.count() >= helpers.most_threads() || !helpers.take() {
+    if crew.count() >= helpers.most_threads(rt) || !helpers.take() {
         return;
     }
     let is_started = match decoders.take() {
@@ -302,7 +302,9 @@ fn grow<'s, E, T: Wait + Sync + 's>(
         None => false,
     };
     if is_started {
-        crew.bins.stock(rt, decoders, decoders.usual());
+        let left = helpers.most_threads(rt).saturating_sub(crew.count());
+        let share = decoders.share(left.saturating_add(2));
+        crew.bins.stock(rt, decoders, share);
     } else {
         helpers.give_back();
     }
