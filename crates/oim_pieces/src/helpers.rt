@@ -4,7 +4,7 @@ use std::sync::atomic::{AtomicUsize, Ordering};
 use std::thread::{Threads, available_parallelism};
 
 /// How many pieces of a table are under way at once for each who decodes them, so that none has to wait for more.
-const PIECES_EACH: usize = 3;
+const PIECES_EACH: usize = 2;
 
 /// The most who decode pieces of a table at once, whatever the number of workers and processors.
 const MOST_AT_WORK: usize = 8;

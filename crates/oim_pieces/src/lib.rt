@@ -40,6 +40,7 @@ mod decoders;
 mod flight;
 mod flying;
 mod helpers;
+mod narrow;
 mod sheet;
 mod table_pieces;
 mod thread;
