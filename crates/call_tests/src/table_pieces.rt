@@ -11,10 +11,10 @@ use std::thread;
 use std::thread::{Scope, Threads};
 
 /// The number of blocks in the first piece of a report's first table, whose file has these bytes.
-fn first_piece<'s, E, T: Threads>(
+fn first_piece<'s, E, T: Threads + Wait + Sync + 's>(
     scope: &Scope<'s, E>,
     helpers: &'s Helpers,
-    rt: &T,
+    rt: &'s T,
     alloc: Global,
     report: &'s Report,
     file: &[u8],
@@ -39,7 +39,8 @@ fn counts() -> bool {
 }
 
 /// Whether a table that was just opened needs no memory of others, and gives back what it was given.
-fn keeps_rooms(alloc: Global, report: &Report, file: &[u8]) -> bool {
+fn keeps_rooms(rt: &(impl AllocGlobal + Wait), report: &Report, file: &[u8]) -> bool {
+    let alloc = rt.alloc();
     if report.tables() == 0 {
         return false;
     }
@@ -50,8 +51,8 @@ fn keeps_rooms(alloc: Global, report: &Report, file: &[u8]) -> bool {
     };
     let needs_none = table.wanted_rooms() == 0;
     table.want(true);
-    table.keep_room(Vec::new(alloc));
-    needs_none && table.free_rooms().len() == 1 && table.free_rooms().is_empty()
+    table.keep_room(rt, Vec::new(alloc));
+    needs_none && table.free_rooms(rt).len() == 1 && table.free_rooms(rt).is_empty()
 }
 
 /// Whether the first piece of a table has this many blocks.
@@ -74,7 +75,7 @@ fn has_blocks(
 fn calls_of_table_pieces(rt: HostRuntime) -> Result<(), Fail> {
     let report = report_of(rt.alloc(), &[])?;
     assert!(rt; counts());
-    assert!(rt; keeps_rooms(rt.alloc(), &report, b"cash\n1\n"));
+    assert!(rt; keeps_rooms(&rt, &report, b"cash\n1\n"));
     assert!(rt; has_blocks(&rt, &report, b"cash\n1\n", 1));
     Ok(())
 }
