@@ -49,7 +49,7 @@ fn keeps_rooms(alloc: Global, report: &Report, file: &[u8]) -> bool {
         return false;
     };
     let needs_none = table.wanted_rooms() == 0;
-    table.want(true);
+    table.want(true, false);
     table.keep_room(Vec::new(alloc));
     needs_none && table.free_rooms().len() == 1 && table.free_rooms().is_empty()
 }

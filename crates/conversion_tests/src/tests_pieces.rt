@@ -53,7 +53,7 @@ fn put_table<'s, E, T: Threads>(
     let Ok(mut table) = TablePieces::open(alloc, helpers, report, 0, file, limits) else {
         return Ok(false);
     };
-    table.want(true);
+    table.want(true, false);
     for _ in 0..u64::MAX {
         match table.next_blocks(scope, rt) {
             Ok(Some(blocks)) => put_blocks(document, blocks.as_slice())?,

@@ -17,6 +17,9 @@ use std::sync::Wait;
 use std::thread;
 use std::thread::{Scope, Threads};
 
+/// So many blocks of a table may wait for the writer before no more pieces of it are begun on threads. More would only take memory.
+const FAR_AHEAD: usize = 64;
+
 /// Sends the facts of a table's file, and gives the table's ending. Where there are other workers, threads decode pieces of it in
 /// the places of those that rest.
 pub(crate) fn send_table<R: Read + Drop, T: Threads + Wait + Sync>(
@@ -125,12 +128,13 @@ fn send_opened<'s, E, R: Read + Drop, T: Threads + Wait + Sync + 's>(
     ending
 }
 
-/// Tells the pieces whether the writer has reached the table, and takes memory for the texts of the next ones, as far as blocks that were written
+/// Tells the pieces whether the writer has reached the table, and whether they are far ahead of it, and takes memory for the texts of the next ones, as far as blocks that were written
 /// gave it back.
-fn make_ready<R: Read + Drop, T: Wait>(rt: &T, pieces: &mut TablePieces<'_, R>, feed: &Feed)
-    ensures { pieces.new ≡ pieces.old }
+fn make_ready<R: Read + Drop, T: Wait>(rt: &T, pieces: &mut TablePieces<'_, R>, feed: &mut Feed)
+    ensures pieces { pieces.new ≡ pieces.old }
+    ensures feed { feed.new ≡ feed.old }
 {
-    pieces.want(feed.is_reached());
+    pieces.want(feed.is_reached(), feed.waiting_blocks() >= FAR_AHEAD);
     for _ in 0..pieces.wanted_rooms() {
         match feed.kept_room(rt) {
             Some(room) => pieces.keep_room(rt, room),

@@ -52,6 +52,8 @@ pub(crate) struct Flight<'a, R: Read + Drop> {
     has_given: bool,
     // whether what is given is wanted at once
     is_wanted: bool,
+    // whether what was given is far ahead of what is written
+    is_ahead: bool,
     // whether vectors that come back now were those of this table's blocks
     are_own: bool,
 }
@@ -159,6 +161,7 @@ impl<'a, R: Read + Drop> Flight<'a, R> {
             crew: Crew::new(alloc),
             has_given: false,
             is_wanted: false,
+            is_ahead: false,
             are_own: false,
         })
     }
@@ -216,12 +219,13 @@ impl<'a, R: Read + Drop> Flight<'a, R> {
         }
     }
 
-    /// Notes whether what is given is wanted at once. Vectors that came back before it was are those of other tables' blocks.
-    pub(crate) fn want(&mut self, is_wanted: bool)
+    /// Notes whether what is given is wanted at once, and whether it is far ahead of what is written. Vectors that came back before it was are those of other tables' blocks.
+    pub(crate) fn want(&mut self, is_wanted: bool, is_ahead: bool)
         ensures { self.new ≡ self.old }
     {
         self.are_own = self.is_wanted && is_wanted;
         self.is_wanted = is_wanted;
+        self.is_ahead = is_ahead;
     }
 
     /// How many pieces may be under way at once.
@@ -239,6 +243,7 @@ impl<'a, R: Read + Drop> Flight<'a, R> {
         match self.flying.front() {
             Some(_) => {
                 self.has_given
+                    && !self.is_ahead
                     && !self.cutter.is_slow()
                     && self.flying.len() < self.window(rt)
                     && (self.crew.count() > 0 || self.helpers.are_idle())

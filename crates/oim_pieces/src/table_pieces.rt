@@ -139,12 +139,13 @@ impl<'a, R: Read + Drop> TablePieces<'a, R> {
         }
     }
 
-    /// Notes whether what is given is wanted at once. Until it is, no thread decodes a piece, and each is decoded when it is asked for, so that
+    /// Notes whether what is given is wanted at once, and whether it is far ahead of what is written: then no further piece is begun while one
+    /// is under way. Until it is wanted, no thread decodes a piece, and each is decoded when it is asked for, so that
     /// they take little memory.
-    pub fn want(&mut self, is_wanted: bool)
+    pub fn want(&mut self, is_wanted: bool, is_ahead: bool)
         ensures { self.new ≡ self.old }
     {
-        self.flight.want(is_wanted);
+        self.flight.want(is_wanted, is_ahead);
     }
 
     /// Keeps the memory of a block that was written, for texts that are decoded later.

@@ -184,6 +184,14 @@ impl Feed {
         self.backlog.wait(rt);
     }
 
+    /// How many blocks were put and not taken, as far as is known. No clause says so.
+    pub fn waiting_blocks(&mut self) -> usize
+        ensures { self.new ≡ self.old }
+    {
+        let free = self.producer.slots();
+        self.producer.capacity().saturating_sub(free)
+    }
+
     /// Whether the writer has reached this feed's table. No clause says so.
     pub fn is_reached(&self) -> bool {
         self.backlog.is_reached()
