@@ -14,7 +14,7 @@ use crate::crew::Crew;
 use crate::cutter::Cutter;
 use crate::decoded::Asked;
 use crate::decoders::Decoders;
-use crate::flying::{Flying, decode_here, launch};
+use crate::flying::{Flying, launch};
 use crate::helpers::Helpers;
 use oim_decode::{JoinedPiece, PieceDecoder, PieceJoin, TableHead};
 use oim_records::PieceReader;
@@ -268,19 +268,15 @@ impl<'a, R: Read + Drop> Flight<'a, R> {
         let Some(piece) = self.cutter.cut() else {
             return false;
         };
-        let flying = if self.is_wanted {
-            launch(
-                scope,
-                rt,
-                self.helpers,
-                &mut self.crew,
-                &mut self.decoders,
-                &mut self.mine,
-                piece,
-            )
-        } else {
-            decode_here(&mut self.decoders, &mut self.mine, piece)
-        };
+        let flying = launch(
+            scope,
+            rt,
+            self.helpers,
+            &mut self.crew,
+            &mut self.decoders,
+            &mut self.mine,
+            piece.staying(!self.is_wanted),
+        );
         self.flying.push_back_reserved(flying);
         true
     }

@@ -190,7 +190,7 @@ pub(crate) fn decode_now<'a>(
 }
 
 /// Decodes a piece here.
-pub(crate) fn decode_here<'a>(
+fn decode_here<'a>(
     decoders: &mut Decoders<'a>,
     decoder: &mut PieceDecoder<'a>,
     piece: CutPiece,
@@ -203,7 +203,7 @@ pub(crate) fn decode_here<'a>(
     let CutPiece {
         bytes,
         first,
-        is_short: _,
+        stays: _,
     } = piece;
     let asked = Asked::of(decoder.form(), &bytes, first);
     let answer = decode_now(decoders, decoder, bytes, first);
@@ -229,7 +229,7 @@ fn ask<'a, T: Wait>(
     let CutPiece {
         bytes,
         first,
-        is_short: _,
+        stays: _,
     } = piece;
     let asked = Asked::of(mine.form(), &bytes, first);
     let question = Question {
@@ -256,7 +256,7 @@ fn ask<'a, T: Wait>(
     }
 }
 
-/// Has a piece decoded: by a thread, where it is wanted at once, the piece is not short and there is a thread, or a place for one; or else here.
+/// Has a piece decoded: here, where it is to stay, or else by the threads of the table and here.
 pub(crate) fn launch<'s, E, T: Threads + Wait + Sync + 's>(
     scope: &Scope<'s, E>,
     rt: &'s T,
@@ -274,7 +274,7 @@ pub(crate) fn launch<'s, E, T: Threads + Wait + Sync + 's>(
     ensures mine { mine.new.reading ≡ mine.old.reading }
     ensures line { IsLine decoders.old crew.new.line }
 {
-    if piece.is_short {
+    if piece.stays {
         return decode_here(decoders, mine, piece);
     }
     let flying = ask(rt, crew, decoders, mine, piece);
