@@ -1,6 +1,6 @@
 //! A table in pieces, which threads decode while workers are idle, and calls of `oim_pieces`.
 
-use crate::readers::{Slow, of_bytes};
+use crate::readers::{AtEnd, Slow, ending};
 use crate::reports::{HEAD, file_of};
 use crate::trials::{Case, Trial, holds};
 use oim_json::Block;
@@ -149,7 +149,7 @@ fn begins_in(
     expected: &[u8],
 ) -> bool {
     let helpers = Helpers::new(size.2, size.1);
-    let file = of_bytes(bytes, size.0);
+    let file = ending(bytes, size.0, AtEnd::Ends);
     let mut document = Vec::new(rt.alloc());
     document.extend_from_slice(HEAD.as_bytes()).is_ok()
         && begins(rt, &helpers, report, file, &mut document, expected)

@@ -24,13 +24,13 @@ pub(crate) struct Slow<'a> {
     pub(crate) at_end: AtEnd<'a>,
 }
 
-/// A reader of these bytes.
-pub(crate) fn of_bytes(bytes: &[u8], step: usize) -> Slow<'_> {
+/// A reader of these bytes that does this at its end.
+pub(crate) fn ending<'a>(bytes: &'a [u8], step: usize, at_end: AtEnd<'a>) -> Slow<'a> {
     Slow {
         bytes,
         row: b"",
         step,
-        at_end: AtEnd::Ends,
+        at_end,
     }
 }
 

@@ -3,7 +3,7 @@
 ghost use Rattle.std.specs.Prelude.{◌≤◌};
 
 use crate::endings::{End, ends_so, ends_so_alone};
-use crate::readers::{AtEnd, Slow, of_bytes, readers_of};
+use crate::readers::{AtEnd, Slow, ending, readers_of};
 use crate::trials::{Case, Trial, all_hold, holds};
 use crate::writers::{Narrow, taking_all};
 use oim_merge::MergeEnd;
@@ -94,10 +94,8 @@ fn is_cut(
     pace: &Pace,
     document: (&[u8], usize),
 ) -> bool {
-    let cut = Slow {
-        at_end: AtEnd::Fails,
-        ..of_bytes(TABLE.get(..place).unwrap_or(TABLE), pace.0)
-    };
+    let bytes = TABLE.get(..place).unwrap_or(TABLE);
+    let cut = ending(bytes, pace.0, AtEnd::Fails);
     let limits = Limits::profile();
     is_refused(rt, report, &[cut], pace.1, limits, document, &[FAILED])
 }
@@ -162,11 +160,11 @@ fn a_reader_cut_at_each_place(rt: HostRuntime) {
 }
 
 /// The files of three tables, and whether the reader fails behind theirs, and the faults.
-type Between = ([(&'static [u8], bool); 3], &'static [TableFault]);
+type Between = (&'static [(&'static [u8], bool)], &'static [TableFault]);
 
 const CASES: &[Between] = &[
     (
-        [
+        &[
             (b"cash\n1\n", false),
             (b"cash\n1\n2", true),
             (b"nope\n", false),
@@ -187,7 +185,7 @@ const CASES: &[Between] = &[
         ],
     ),
     (
-        [
+        &[
             (b"cash\n1\nx\n2\n", true),
             (b"cash\n", false),
             (b"cash\n", false),
@@ -204,10 +202,7 @@ const CASES: &[Between] = &[
 /// A reader of a file, which may fail behind it.
 fn reader_of(file: &(&'static [u8], bool)) -> Slow<'static> {
     let at_end = if file.1 { AtEnd::Fails } else { AtEnd::Ends };
-    Slow {
-        at_end,
-        ..of_bytes(file.0, 64)
-    }
+    ending(file.0, 64, at_end)
 }
 
 /// Whether the case of this number ends so, on one thread and by two workers.

@@ -1,7 +1,7 @@
 //! The conversion on threads at run time: tables that are open at once, shared out among workers, and merged before they end.
 
 use crate::endings::{WHOLE, ends_so};
-use crate::readers::{AtEnd, Slow, of_bytes};
+use crate::readers::{AtEnd, Slow, ending};
 use crate::reports::{HEAD, TAIL, file_of};
 use crate::trials::{Case, Trial, holds};
 use crate::writers::{counting, taking_all};
@@ -19,10 +19,8 @@ fn waiting<'a>(
 ) -> Result<Vec<Option<Slow<'a>>>, AllocError> {
     let mut readers = Vec::new(alloc);
     for wanted in wanted {
-        readers.push(Some(Slow {
-            at_end: AtEnd::Meets(ends, *wanted),
-            ..of_bytes(b"cash\n1\n", 65_536)
-        }))?;
+        let at_end = AtEnd::Meets(ends, *wanted);
+        readers.push(Some(ending(b"cash\n1\n", 65_536, at_end)))?;
     }
     Ok(readers)
 }
@@ -106,10 +104,8 @@ fn ends_late(
 ) -> bool {
     let written = AtomicUsize::new(0);
     let mut writer = counting(expected, &written);
-    let file = Slow {
-        at_end: AtEnd::Waits(&written, HEAD.len().saturating_add(1)),
-        ..of_bytes(bytes, bytes.len() / 2)
-    };
+    let at_end = AtEnd::Waits(&written, HEAD.len().saturating_add(1));
+    let file = ending(bytes, bytes.len() / 2, at_end);
     match vec![in rt.alloc(); Some(file)] {
         Ok(readers) => {
             let limits = Limits::profile();

@@ -1,7 +1,7 @@
 //! Conversions to writers that take a number of bytes and then fail or answer 0.
 
 use crate::endings::{End, FILES, REFUSED, ends_so, ends_so_alone};
-use crate::readers::{AtEnd, Slow, of_bytes, readers_of};
+use crate::readers::{AtEnd, ending, readers_of};
 use crate::reports::{TAIL, file_of};
 use crate::trials::{Case, Trial, holds};
 use crate::writers::{Narrow, taking};
@@ -185,10 +185,7 @@ fn comes_to_ends(
 ) -> bool {
     let ended = AtomicUsize::new(0);
     let mut narrow = taking(whole, 65_536, room, true);
-    let file = Slow {
-        at_end: AtEnd::Meets(&ended, 0),
-        ..of_bytes(bytes, 65_536)
-    };
+    let file = ending(bytes, 65_536, AtEnd::Meets(&ended, 0));
     match readers_of(rt.alloc(), &[file, file, file]) {
         Ok(readers) => {
             ends_so(
