@@ -86,7 +86,9 @@ pub(crate) fn ends_so_alone<R: Read + Drop, W: Write>(
     let sink = &mut Marked::new(writer);
     match convert_serial(alloc, report, readers, limits, Layout::Compact, sink) {
         Ok(()) => end.merge == MergeEnd::Complete,
-        Err(ConvertFault::Tables(found)) => found.as_slice() == end.faults,
+        Err(ConvertFault::Tables(found)) => {
+            end.merge == MergeEnd::Refused && found.as_slice() == end.faults
+        }
         Err(ConvertFault::Write(fault)) => end.merge == MergeEnd::Write(fault),
         Err(_) => false,
     }

@@ -105,7 +105,7 @@ fn ends_late(
     let written = AtomicUsize::new(0);
     let mut writer = counting(expected, &written);
     let at_end = AtEnd::Waits(&written, HEAD.len().saturating_add(1));
-    let file = ending(bytes, bytes.len() / 2, at_end);
+    let file = ending(bytes, bytes.len().div_ceil(2), at_end);
     match vec![in rt.alloc(); Some(file)] {
         Ok(readers) => {
             let limits = Limits::profile();
