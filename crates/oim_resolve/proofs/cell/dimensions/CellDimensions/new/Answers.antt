@@ -26,7 +26,7 @@ invariant_of-result-2 c =
     let planned = held c.in_ok-groups.planned.items in
     record {
       all = record {
-        groups_are = c.in_ok-groups.ensures.0;
-        entries_are = seen_entries planned ∙ ap (λ (es : List Keyed). map (λ k. k.1.0) es) c.in_ok-groups.ensures.1 ∙ row_map_is (cell_at p);
+        groups_are = c.in_ok-groups.ensures.groups;
+        entries_are = seen_entries planned ∙ ap (λ (es : List Keyed). map (λ k. k.1.0) es) c.in_ok-groups.ensures.dimensions ∙ row_map_is (cell_at p);
       };
     }
