@@ -6,9 +6,9 @@ ghost use Rattle.oim_pieces.specs.Sheets.{IsPiece, IsReadBy};
 
 use crate::bins::Bins;
 use crate::decoded::Asked;
+use crate::decoders::Decoders;
 use crate::helpers::Helpers;
 use crate::sheet::{How, Job, Line, OfPiece, OfTable, Pending, Question, Share, Sheet};
-use crate::decoders::Decoders;
 use crate::thread::{Post, perform_here, serve};
 use keyed::Giver;
 use oim_decode::PieceDecoder;
@@ -70,9 +70,9 @@ impl<'a> Crew<'a> {
                 let _ = line.give(rt, job);
             }
             None => {
-                if let Ok((line, _)) =
-                    Giver::<Job<'a>, How<'a>, OfTable>::open(rt, self.alloc, MOST_JOBS, job)
-                {
+                if let Ok((line, _)) = Giver::<Job<'a>, How<'a>, OfTable>::open(
+                    rt, self.alloc, MOST_JOBS, job,
+                ) {
                     self.line = Some(line);
                 }
             }

@@ -207,7 +207,11 @@ impl<'a, R: Read + Drop> Flight<'a, R> {
 
     /// Has the next pieces decoded, while there are places for threads, and the next one where no piece is under way.
     #[tactic(auto, using(crate::proofs::FlightLaws::stream_then, crate::proofs::FlightLaws::stream_same, crate::proofs::StepLaws::steps_then, crate::proofs::StepLaws::steps_same))]
-    pub(crate) fn go_ahead<E, T: Threads + Wait + Sync + 'a>(&mut self, scope: &Scope<'a, E>, rt: &'a T)
+    pub(crate) fn go_ahead<E, T: Threads + Wait + Sync + 'a>(
+        &mut self,
+        scope: &Scope<'a, E>,
+        rt: &'a T,
+    )
         ensures stream { KeepsStream (stream_in self.old) (stream_in self.new) }
         ensures steps { NoMoreSteps (steps_in self.old) (steps_in self.new) }
         ensures table { self.new.cutter.table ≡ self.old.cutter.table }
@@ -254,7 +258,11 @@ impl<'a, R: Read + Drop> Flight<'a, R> {
 
     /// Cuts the next piece and has it decoded. False where no piece is left or memory is short.
     #[tactic(auto, using(crate::proofs::FlightLaws::chained_more, crate::proofs::FlightLaws::stream_more, crate::proofs::FlightLaws::stream_kept, crate::proofs::FlightLaws::stream_same, crate::proofs::StepLaws::steps_cut, crate::proofs::StepLaws::steps_kept, crate::proofs::StepLaws::steps_same))]
-    fn cut_next<E, T: Threads + Wait + Sync + 'a>(&mut self, scope: &Scope<'a, E>, rt: &'a T) -> bool
+    fn cut_next<E, T: Threads + Wait + Sync + 'a>(
+        &mut self,
+        scope: &Scope<'a, E>,
+        rt: &'a T,
+    ) -> bool
         ensures stream { KeepsStream (stream_in self.old) (stream_in self.new) }
         ensures steps { NoMoreSteps (steps_in self.old) (steps_in self.new) }
         ensures table { self.new.cutter.table ≡ self.old.cutter.table }
