@@ -758,7 +758,7 @@ def words_refused(folder):
         status, out, err = run(folder, words)
         case(f"the words {words}", (status, out, err[:7]), (2, b"", "error: "))
     status, out, err = run(folder, [*WORDS, "--help"])
-    defaults = [f"[default: {it}]".encode() in out for it in ("4", "64", "standard output", "compact")]
+    defaults = [f"[default: {it}]".encode() in out for it in ("4", "1024", "standard output", "compact")]
     case("words with --help", (status, defaults, err), (0, [True] * 4, ""))
 
 

@@ -1,25 +1,45 @@
-//! Tests of conversions, with readers and writers of their own: readers that fail at each place of a file or never end,
-//! tables that wait for one another, writers with room for each number of bytes, workers that are not started, full rings, and
-//! a table in pieces of each size.
+//! Tests of conversions and of runs, with readers and writers of their own: readers that fail at each place of a file or never end,
+//! tables that wait for one another, writers with room for each number of bytes or whose flush fails, workers that are not started, full
+//! rings, and a table in pieces of each size.
+//!
+//! And each public name of `oim_pieces`, `oim_convert`, `oim_places`, `oim_explain` and `oim_run` in one call, in the form in which a caller
+//! from outside writes it. The first call of `pieces`, `conversions`, `places`, `explained` and `runs` is the one that its library's own page
+//! shows (`tests/public_calls.py` compares them).
 //!
 //! What a report of files shows as well is left to the scripts over the built program.
 #![tactic(auto)]
 
 #[cfg(test)]
-mod ending;
+mod conversions;
 #[cfg(test)]
-mod report;
+mod endings;
 #[cfg(test)]
-mod tests_pieces;
+mod explained;
+#[cfg(test)]
+mod pieces;
+#[cfg(test)]
+mod places;
+#[cfg(test)]
+mod readers;
+#[cfg(test)]
+mod reports;
+#[cfg(test)]
+mod runs;
+#[cfg(test)]
+mod tests_flushes;
+#[cfg(test)]
+mod tests_folders;
 #[cfg(test)]
 mod tests_readers;
 #[cfg(test)]
-mod tests_refused;
-#[cfg(test)]
 mod tests_rings;
-#[cfg(test)]
-mod tests_starts;
 #[cfg(test)]
 mod tests_threads;
 #[cfg(test)]
 mod tests_writers;
+#[cfg(test)]
+mod trials;
+#[cfg(test)]
+mod words;
+#[cfg(test)]
+mod writers;

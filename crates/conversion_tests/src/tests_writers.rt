@@ -1,79 +1,41 @@
 //! Conversions to writers that take a number of bytes and then fail or answer 0.
 
-use crate::ending::{FILES, REFUSED, all_of, ends_so};
-use crate::report::{TAIL, document_of, file_of, readers_of, report_of};
-use oim_convert::{ConvertFault, convert_serial};
-use oim_json::{Layout, Marked, WriteFault};
+use crate::endings::{End, FILES, REFUSED, ends_so, ends_so_alone};
+use crate::readers::{AtEnd, ending, readers_of};
+use crate::reports::{TAIL, file_of};
+use crate::trials::{Case, Trial, holds};
+use crate::writers::{Narrow, taking};
+use oim_json::WriteFault;
 use oim_merge::MergeEnd;
 use oim_meta::{Limits, Report};
-use std::alloc::{AllocError, Global};
-use std::io;
-use std::io::{Read, Write};
+use std::alloc::Global;
 use std::sync::Wait;
 use std::sync::atomic::{AtomicUsize, Ordering};
-use std::test::Fail;
 use std::thread::Threads;
 
-/// A writer that takes at most `most` bytes per call, and `room` bytes in all. After that it fails, or answers 0, and counts how
-/// often it is asked.
-#[derive(Drop)]
-struct Narrow {
-    taken: Vec<u8>,
-    most: usize,
-    room: usize,
-    fails: bool,
-    refused: u32,
-}
-
-/// Such a writer that took nothing yet.
-fn taking(alloc: Global, most: usize, room: usize, fails: bool) -> Narrow {
-    Narrow {
-        taken: Vec::new(alloc),
-        most,
-        room,
-        fails,
-        refused: 0,
-    }
-}
-
-impl Write for Narrow {
-    fn write(&mut self, bytes: &[u8]) -> io::Result<usize> {
-        if self.taken.len() >= self.room {
-            self.refused = self.refused.saturating_add(1);
-            if self.fails {
-                return Err(io::Error::from(io::ErrorKind::Other));
-            }
-            return Ok(0);
-        }
-        let count = bytes.len().min(self.most).min(self.room - self.taken.len());
-        self.taken.extend_from_slice(&bytes[..count])?;
-        Ok(count)
-    }
-
-    fn flush(&mut self) -> io::Result<()> {
-        Ok(())
-    }
-}
-
-/// The expected end of a conversion to such a writer, where the document has `whole` bytes.
-fn end_of(narrow: &Narrow, whole: usize) -> MergeEnd {
-    if narrow.room >= whole {
-        MergeEnd::Refused
-    } else if narrow.fails {
+/// How a merge ends whose writer takes only this many bytes of so many, and then fails, or answers 0.
+fn end_of(room: usize, whole: usize, fails: bool, end: MergeEnd) -> MergeEnd {
+    if room >= whole {
+        end
+    } else if fails {
         MergeEnd::Write(WriteFault::Failed)
     } else {
         MergeEnd::Write(WriteFault::Zero)
     }
 }
 
-/// Whether it took as much of this document as it had room for, and was asked once for more.
-fn is_filled(narrow: &Narrow, whole: &[u8]) -> bool {
-    let is_asked = (narrow.refused == 1) == (narrow.room < whole.len());
-    is_asked && narrow.refused <= 1 && whole.get(..narrow.room) == Some(narrow.taken.as_slice())
+/// Whether a writer took as much of so many bytes as it had room for, and was asked once for more.
+fn is_filled(narrow: &Narrow<'_>, room: usize, whole: usize) -> bool {
+    match whole.checked_sub(room) {
+        None | Some(0) => narrow.has_left(0, 0),
+        Some(left) => narrow.has_left(left, 1),
+    }
 }
 
 /// The number of workers, the size of the rings, and whether the writer fails or answers 0.
-const WAYS: &[(usize, usize, bool)] = &[
+type Way = (usize, usize, bool);
+
+const WAYS: &[Way] = &[
     (1, 1, true),
     (2, 4, true),
     (8, 1, true),
@@ -83,172 +45,202 @@ const WAYS: &[(usize, usize, bool)] = &[
 ];
 
 /// Whether three tables, of which two are refused, fill such a writer. All their faults are given, whether a write fails or not.
-fn fills(
+fn is_full(
     rt: &(impl AllocGlobal + Threads + Wait + Sync),
     report: &Report,
-    case: (usize, usize, bool),
+    way: &Way,
     room: usize,
     whole: &[u8],
-) -> Result<bool, AllocError> {
-    let readers = readers_of(rt.alloc(), &FILES)?;
-    let mut narrow = taking(rt.alloc(), 65_536, room, case.2);
-    let end = end_of(&narrow, whole.len());
-    let is_ended = ends_so(
-        rt,
-        report,
-        readers,
-        all_of(case.0, case.1),
-        Limits::profile(),
-        &mut narrow,
-        &REFUSED,
-        end,
-    );
-    Ok(is_ended && is_filled(&narrow, whole))
+) -> bool {
+    let mut narrow = taking(whole, 65_536, room, way.2);
+    let merge = end_of(room, whole.len(), way.2, MergeEnd::Refused);
+    let end = End {
+        faults: REFUSED,
+        merge,
+    };
+    match readers_of(rt.alloc(), &FILES) {
+        Ok(readers) => {
+            let limits = Limits::profile();
+            ends_so(
+                rt,
+                report,
+                readers,
+                (way.0, way.1),
+                limits,
+                &mut narrow,
+                end,
+            ) && is_filled(&narrow, room, whole.len())
+        }
+        Err(_) => false,
+    }
 }
 
 /// The same for each room.
-fn fills_each(
+fn are_full(
     rt: &(impl AllocGlobal + Threads + Wait + Sync),
     report: &Report,
-    case: (usize, usize, bool),
+    way: &Way,
     whole: &[u8],
-) -> Result<bool, AllocError> {
+) -> bool {
     for room in 0..=whole.len() {
-        if !fills(rt, report, case, room, whole)? {
-            return Ok(false);
+        if !is_full(rt, report, way, room, whole) {
+            return false;
         }
     }
-    Ok(true)
+    true
 }
+
+/// The same in each way.
+pub(crate) fn fill(
+    rt: &(impl AllocGlobal + Threads + Wait + Sync),
+    report: &Report,
+    whole: &[u8],
+) -> bool {
+    for way in WAYS {
+        if !are_full(rt, report, way, whole) {
+            return false;
+        }
+    }
+    true
+}
+
+/// What three tables with two faults write.
+const ROOMS: Case = Case {
+    tables: 3,
+    written: 2,
+    rows: 1,
+    end: "",
+    trial: Trial::Rooms,
+};
 
 #[test]
-fn writers_of_each_room(rt: HostRuntime) -> Result<(), Fail> {
-    let report = report_of(rt.alloc(), 3)?;
-    let whole = document_of(rt.alloc(), 2, 1, "")?;
-    for case in WAYS {
-        assert!(rt; fills_each(&rt, &report, *case, whole.as_bytes())?);
-    }
-    Ok(())
+fn writers_of_each_room(rt: HostRuntime) {
+    assert!(rt; holds(&rt, &ROOMS));
 }
 
-/// Writers for a conversion on one thread, each given by the bytes it takes per call, its room, whether it fails or answers 0 after
-/// that, and the fault of the write.
-const WRITERS: &[(usize, usize, bool, Option<WriteFault>)] = &[
-    (1, 4096, true, None),
-    (1, 40, true, Some(WriteFault::Failed)),
-    (7, 40, true, Some(WriteFault::Failed)),
-    (64, 40, false, Some(WriteFault::Zero)),
+/// Writers for a conversion on one thread, each given by the bytes that it takes per call, its room, and whether it fails or answers 0
+/// after that.
+type Writer = (usize, usize, bool);
+
+const WRITERS: &[Writer] = &[
+    (1, 4096, true),
+    (1, 40, true),
+    (7, 40, true),
+    (64, 40, false),
 ];
 
-/// Converts a table of one row on one thread. Tells whether it ends with this fault.
-fn ends_alone(
-    alloc: Global,
-    report: &Report,
-    narrow: &mut Narrow,
-    fault: Option<WriteFault>,
-) -> Result<bool, AllocError> {
-    let readers = readers_of(alloc, &[b"cash\n1\n".as_slice()])?;
-    let sink = &mut Marked::new(narrow);
-    let limits = Limits::profile();
-    match convert_serial(alloc, report, readers, limits, Layout::Compact, sink) {
-        Ok(()) => Ok(fault.is_none()),
-        Err(ConvertFault::Write(found)) => Ok(fault == Some(found)),
-        Err(_) => Ok(false),
+/// Whether a table of one row fills such a writer.
+fn is_full_alone(alloc: Global, report: &Report, writer: &Writer, whole: &[u8]) -> bool {
+    let (most, room, fails) = *writer;
+    let mut narrow = taking(whole, most, room, fails);
+    let merge = end_of(room, whole.len(), fails, MergeEnd::Complete);
+    let end = End { faults: &[], merge };
+    match readers_of(alloc, &FILES[..1]) {
+        Ok(readers) => {
+            ends_so_alone(alloc, report, readers, Limits::profile(), &mut narrow, end)
+                && is_filled(&narrow, room, whole.len())
+        }
+        Err(_) => false,
     }
 }
 
-/// Whether such a writer takes a beginning of this document.
-fn fills_alone(
-    alloc: Global,
-    report: &Report,
-    case: (usize, usize, bool, Option<WriteFault>),
-    whole: &[u8],
-) -> Result<bool, AllocError> {
-    let (most, room, fails, fault) = case;
-    let mut narrow = taking(alloc, most, room.min(whole.len()), fails);
-    let is_ended = ends_alone(alloc, report, &mut narrow, fault)?;
-    Ok(is_ended && is_filled(&narrow, whole))
+/// The same for each writer.
+pub(crate) fn fill_alone(alloc: Global, report: &Report, whole: &[u8]) -> bool {
+    for writer in WRITERS {
+        if !is_full_alone(alloc, report, writer, whole) {
+            return false;
+        }
+    }
+    true
 }
+
+/// A table of one row.
+const ALONE: Case = Case {
+    tables: 1,
+    written: 1,
+    rows: 1,
+    end: TAIL,
+    trial: Trial::Alone,
+};
 
 #[test]
-fn narrow_writers_on_one_thread(rt: HostRuntime) -> Result<(), Fail> {
-    let report = report_of(rt.alloc(), 1)?;
-    let whole = document_of(rt.alloc(), 1, 1, TAIL)?;
-    for case in WRITERS {
-        assert!(rt; fills_alone(rt.alloc(), &report, *case, whole.as_bytes())?);
-    }
-    Ok(())
+fn narrow_writers_on_one_thread(rt: HostRuntime) {
+    assert!(rt; holds(&rt, &ALONE));
 }
 
-/// A reader of a table's bytes that counts itself once it is at its end.
-#[derive(Drop)]
-struct Ended<'a> {
-    bytes: &'a [u8],
-    ended: &'a AtomicUsize,
-    is_ended: bool,
-}
-
-impl Read for Ended<'_> {
-    fn read(&mut self, buf: &mut [u8]) -> io::Result<usize> {
-        if self.bytes.is_empty() && !self.is_ended {
-            self.is_ended = true;
-            self.ended.fetch_add(1, Ordering::SeqCst);
-        }
-        self.bytes.read(buf)
-    }
-}
-
-/// Readers of three tables of these bytes.
-fn ending_readers<'a>(
-    alloc: Global,
-    bytes: &'a [u8],
-    ended: &'a AtomicUsize,
-) -> Result<Vec<Option<Ended<'a>>>, AllocError> {
-    let mut readers = Vec::new(alloc);
-    for _ in 0..3 {
-        readers.push(Some(Ended {
-            bytes,
-            ended,
-            is_ended: false,
-        }))?;
-    }
-    Ok(readers)
-}
+/// The end of a conversion whose writer fails.
+const FAILED: End<'static> = End {
+    faults: &[],
+    merge: MergeEnd::Write(WriteFault::Failed),
+};
 
 /// Whether three tables of these bytes, by three workers over rings of one block, fail to write once a part of this document is
 /// written, and still come to their ends.
-fn fails_behind(
+fn comes_to_ends(
     rt: &(impl AllocGlobal + Threads + Wait + Sync),
     report: &Report,
     bytes: &[u8],
     room: usize,
     whole: &[u8],
-) -> Result<bool, AllocError> {
+) -> bool {
     let ended = AtomicUsize::new(0);
-    let readers = ending_readers(rt.alloc(), bytes, &ended)?;
-    let mut narrow = taking(rt.alloc(), 65_536, room, true);
-    let end = MergeEnd::Write(WriteFault::Failed);
-    let is_failed = ends_so(
-        rt,
-        report,
-        readers,
-        all_of(3, 1),
-        Limits::profile(),
-        &mut narrow,
-        &[],
-        end,
-    );
-    Ok(is_failed && ended.load(Ordering::SeqCst) == 3 && is_filled(&narrow, whole))
+    let mut narrow = taking(whole, 65_536, room, true);
+    let file = ending(bytes, 65_536, AtEnd::Meets(&ended, 0));
+    match readers_of(rt.alloc(), &[file, file, file]) {
+        Ok(readers) => {
+            ends_so(
+                rt,
+                report,
+                readers,
+                (3, 1),
+                Limits::profile(),
+                &mut narrow,
+                FAILED,
+            ) && ended.load(Ordering::SeqCst) == 3
+                && is_filled(&narrow, room, whole.len())
+        }
+        Err(_) => false,
+    }
 }
 
-#[test]
-fn a_failed_write_keeps_no_table_from_its_end(rt: HostRuntime) -> Result<(), Fail> {
-    let report = report_of(rt.alloc(), 3)?;
-    let file = file_of(rt.alloc(), 600)?;
-    let whole = document_of(rt.alloc(), 3, 600, TAIL)?;
+/// The same once none, a quarter, two and three quarters are written.
+fn come_to_ends(
+    rt: &(impl AllocGlobal + Threads + Wait + Sync),
+    report: &Report,
+    bytes: &[u8],
+    whole: &[u8],
+) -> bool {
     for quarters in 0..4usize {
         let room = whole.len().saturating_mul(quarters) / 4;
-        assert!(rt; fails_behind(&rt, &report, file.as_bytes(), room, whole.as_bytes())?);
+        if !comes_to_ends(rt, report, bytes, room, whole) {
+            return false;
+        }
     }
-    Ok(())
+    true
+}
+
+/// The same of tables of 600 rows.
+pub(crate) fn fail_behind(
+    rt: &(impl AllocGlobal + Threads + Wait + Sync),
+    report: &Report,
+    whole: &[u8],
+) -> bool {
+    match file_of(rt.alloc(), 600) {
+        Ok(file) => come_to_ends(rt, report, file.as_bytes(), whole),
+        Err(_) => false,
+    }
+}
+
+/// Three tables of 600 rows.
+const BEHIND: Case = Case {
+    tables: 3,
+    written: 3,
+    rows: 600,
+    end: TAIL,
+    trial: Trial::Behind,
+};
+
+#[test]
+fn a_failed_write_keeps_no_table_from_its_end(rt: HostRuntime) {
+    assert!(rt; holds(&rt, &BEHIND));
 }

@@ -3,6 +3,7 @@
 pub(crate) mod answer;
 pub(crate) mod cached_answer;
 pub(crate) mod group_cells;
+pub(crate) mod group_hints;
 pub(crate) mod purpose;
 pub(crate) mod reference;
 pub(crate) mod references;

@@ -138,6 +138,28 @@ impl Feed {
         Ok(())
     }
 
+    /// The same where fewer than `most` blocks were put and not taken, as far as is known. Else the error gives the block back as from a full ring.
+    pub fn put_below(&mut self, block: Block, most: usize) -> Result<(), Block>
+        ensures ring { (self.new.ring ≡ self.old.ring) × (self.new.size ≡ self.old.size) }
+        ensures ok { OnOk result (self.new.sent ≡ self.old.sent ++ items.Block block ∷ []) }
+        ensures full { IfErr result (λ back. (back ≡ block) × (self.new ≡ self.old)) }
+        ensures open { blocks_only self.new.sent ≡ true }
+    {
+        if self.waiting_blocks() >= most {
+            self.waiting.wake();
+            return Err(block);
+        }
+        self.put(block)
+    }
+
+    /// How many blocks were put and not taken, as far as is known.
+    fn waiting_blocks(&mut self) -> usize
+        ensures { self.new ≡ self.old }
+    {
+        let free = self.producer.slots();
+        self.producer.capacity().saturating_sub(free)
+    }
+
     /// Sends the ending and gives the token of the finished feed. Fails with `Full`, which gives the feed
     /// and the ending back unchanged, if the ring is full; it is not while fewer items were sent than its
     /// size. Fails with `Lost` if the ending was sent but there is no token; no clause says what was sent

@@ -16,10 +16,11 @@
 //!   the caller's thread closes all feeds before it writes, and a ring that is opened has room for its
 //!   ending.
 //! - A writer that failed takes items as before, up to the ending of each table.
-//! - **Room in its ring.** A feed that found its ring full sleeps on its Parker until it is given the
+//! - **Room in its ring.** A feed that found its ring full, or as many blocks in it as it may put, one at
+//!   least, sleeps on its Parker until it is given the
 //!   token. The drain first takes an item and then gives the token, which stays until a sleep takes it.
-//!   So a feed that sleeps has found the ring full after the last item was taken. The writer reaches
-//!   the table, takes one of these items, and the feed goes on.
+//!   So a feed that sleeps has found these items after the last one was taken. The writer reaches
+//!   the table, takes one of them, and the feed goes on.
 
 use std::alloc::{AllocError, Global};
 use std::sync::atomic::{AtomicU64, Ordering};

@@ -69,7 +69,7 @@ least_workers : one_of (codes "workers") (given least) ≡ Some (codes "4")
 unfolding clap_on_literals command_line
 least_workers = refl
 
-least_ring : one_of (codes "ring") (given least) ≡ Some (codes "64")
+least_ring : one_of (codes "ring") (given least) ≡ Some (codes "1024")
 unfolding clap_on_literals command_line
 least_ring = refl
 

@@ -63,7 +63,7 @@ command_line layouts = with_rule
     (with_rule
     (with_rule inputs
     (number_option (codes "workers") most_workers (codes "4")))
-    (number_option (codes "ring") largest_ring (codes "64")))
+    (number_option (codes "ring") largest_ring (codes "1024")))
     (option (codes "out")))
     (flag (codes "whole")))
     (word_option (codes "layout") layouts (codes "compact")))

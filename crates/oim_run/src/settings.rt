@@ -182,7 +182,7 @@ pub(crate) fn command<'a>(alloc: Global, layouts: &'a [&'a str]) -> Result<Comma
 {
     let workers = number_option(alloc, "workers", MOST_WORKERS as u64, "4", WORKERS_HELP);
     let command = with(inputs(alloc), workers);
-    let ring = number_option(alloc, "ring", LARGEST_RING as u64, "64", RING_HELP);
+    let ring = number_option(alloc, "ring", LARGEST_RING as u64, "1024", RING_HELP);
     let command = with(command, ring);
     let command = with(command, option(alloc, "out", "FILE", OUT_HELP));
     let whole = flag(alloc, "whole", WHOLE_HELP);

@@ -1,14 +1,16 @@
 //! Calls of `oim_json`.
 
-use crate::held::{NIL_FACT, nil_block, nil_fact, report};
+use crate::held::{NIL_FACT, Over, holds, nil_block, nil_fact};
 use oim_json::{
     Block, Layout, Mark, Marked, Member, Sink, TAIL, WriteFault, block_of, fact_lists_are_one_line,
     facts_are_one_line, head, lines_are_members, member_of, tail, write_all_of, write_members,
 };
 use oim_meta::Report;
+use oim_names::{Items, Text};
 use oim_resolve::Fact;
 use std::alloc::{AllocError, Global};
-use std::test::Fail;
+use std::io;
+use std::io::Write;
 
 /// The text of facts, with commas between them.
 fn text_of(alloc: Global, facts: &[Fact]) -> Result<Option<Block>, AllocError> {
@@ -32,13 +34,44 @@ fn is_member(alloc: Global, fact: &Fact, text: &[u8]) -> bool {
     }
 }
 
+/// Whether the fact without a value has its text.
+fn is_nil_member(alloc: Global) -> bool {
+    match nil_fact(alloc) {
+        Ok(fact) => is_member(alloc, &fact, NIL_FACT),
+        Err(_) => false,
+    }
+}
+
+/// A text that is longer than any room that is kept for texts.
+const LONG: &[u8] = &[b'x'; 10_000];
+
+/// Whether a fact with this value has a text.
+fn is_text_given(alloc: Global, id: Text, value: Text) -> bool {
+    let fact = Fact::new(id, Some(value), Some(-2), Items::new(alloc));
+    member_of(alloc, &fact).is_ok()
+}
+
+/// The same of an identifier and a long value.
+fn is_long_given(alloc: Global, id: Text) -> bool {
+    match Text::from_str(alloc, str::from_utf8(LONG).unwrap_or("")) {
+        Ok(value) => value.as_str().len() == LONG.len() && is_text_given(alloc, id, value),
+        Err(_) => false,
+    }
+}
+
+/// Whether the text of a fact with a long value is given: none is said to need too much.
+fn is_long_member(alloc: Global) -> bool {
+    match Text::from_str(alloc, "t1.r_1.note") {
+        Ok(id) => is_long_given(alloc, id),
+        Err(_) => false,
+    }
+}
+
 #[test]
-fn calls_of_texts(rt: HostRuntime) -> Result<(), Fail> {
+fn calls_of_texts(rt: HostRuntime) {
     facts_are_one_line();
     fact_lists_are_one_line();
-    let fact = nil_fact(rt.alloc())?;
-    assert!(rt; is_member(rt.alloc(), &fact, NIL_FACT));
-    Ok(())
+    assert!(rt; is_nil_member(rt.alloc()) && is_long_member(rt.alloc()));
 }
 
 /// Whether a document of one block is written to a sink of any kind.
@@ -63,13 +96,18 @@ fn is_document(alloc: Global, report: &Report, block: &Block) -> bool {
     }
 }
 
+/// Whether the calls over a report answer as they must.
+pub(crate) fn hold(alloc: Global, report: &Report) -> bool {
+    match nil_block(alloc) {
+        Ok(block) => is_block(&block) && is_document(alloc, report, &block),
+        Err(_) => false,
+    }
+}
+
 #[test]
-fn calls_of_documents(rt: HostRuntime) -> Result<(), Fail> {
+fn calls_of_documents(rt: HostRuntime) {
     lines_are_members();
-    let report = report(rt.alloc())?;
-    let block = nil_block(rt.alloc())?;
-    assert!(rt; is_block(&block) && is_document(rt.alloc(), &report, &block));
-    Ok(())
+    assert!(rt; holds(rt.alloc(), Over::Blocks));
 }
 
 /// The fault of a write of no bytes, and the mark that it leaves.
@@ -85,4 +123,86 @@ fn have_text(alloc: Global, facts: &[Fact]) -> bool {
 #[test]
 fn calls_of_faults_of_writes(rt: HostRuntime) {
     assert!(rt; is_zero(WriteFault::Zero, Mark::Zero) && !have_text(rt.alloc(), &[]));
+}
+
+/// A writer that counts its calls and the bytes that it is offered. At first it fails, then it takes nothing, then two bytes, and from then
+/// on all.
+#[derive(Clone, Copy)]
+struct Moody {
+    calls: usize,
+    offered: usize,
+}
+
+impl Write for Moody {
+    fn write(&mut self, bytes: &[u8]) -> io::Result<usize> {
+        self.calls = self.calls.saturating_add(1);
+        self.offered = self.offered.saturating_add(bytes.len());
+        match self.calls {
+            1 => Err(io::Error::from(io::ErrorKind::Other)),
+            2 => Ok(0),
+            3 => Ok(bytes.len().min(2)),
+            _ => Ok(bytes.len()),
+        }
+    }
+
+    fn flush(&mut self) -> io::Result<()> {
+        Ok(())
+    }
+}
+
+/// Its answers to the first four calls.
+const ANSWERS: &[Option<usize>] = &[None, Some(0), Some(2), Some(5)];
+
+/// Whether a sink over that writer hands on each of its answers, and asks it for no bytes never.
+fn hands_on(writer: &mut Moody) -> bool {
+    let mut sink = Marked::new(writer);
+    for wanted in ANSWERS {
+        if sink.write_some(b"abcde").ok() != *wanted {
+            return false;
+        }
+    }
+    write_all_of(&mut sink, b"").is_ok() && write_all_of(&mut sink, b"abc").is_ok()
+}
+
+#[test]
+fn a_sink_asks_its_writer_once(rt: HostRuntime) {
+    let mut writer = Moody {
+        calls: 0,
+        offered: 0,
+    };
+    assert!(rt; hands_on(&mut writer) && writer.calls == 5 && writer.offered == 23);
+}
+
+/// Adds the fact without a value 200 times.
+fn push_facts(alloc: Global, facts: &mut Vec<Fact>) -> Result<(), AllocError> {
+    for _ in 0..200u32 {
+        facts.push(nil_fact(alloc)?)?;
+    }
+    Ok(())
+}
+
+/// Whether a writer takes the lines of these facts in two calls.
+fn are_two_calls(alloc: Global, facts: &[Fact]) -> bool {
+    let mut writer = Moody {
+        calls: 3,
+        offered: 0,
+    };
+    match text_of(alloc, facts) {
+        Ok(Some(block)) => {
+            let sink = &mut Marked::new(&mut writer);
+            write_members(sink, Layout::Lines, false, &block).is_ok() && writer.calls == 5
+        }
+        _ => false,
+    }
+}
+
+/// Whether lines of more than 8,192 bytes are.
+fn are_chunks(alloc: Global) -> bool {
+    let mut facts = Vec::new(alloc);
+    push_facts(alloc, &mut facts).is_ok() && are_two_calls(alloc, facts.as_slice())
+}
+
+#[test]
+fn lines_are_written_a_chunk_at_a_time(rt: HostRuntime) {
+    assert!(rt; are_chunks(rt.alloc()));
 }

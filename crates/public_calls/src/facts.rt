@@ -1,6 +1,6 @@
 //! Calls of `oim_resolve`.
 
-use crate::held::report;
+use crate::held::{Over, holds};
 use oim_cells::{CellMeaning, NumberKind};
 use oim_meta::{ColumnKind, Kind, Level, Report, Side, Written};
 use oim_names::{Items, Text};
@@ -9,7 +9,6 @@ use oim_resolve::{
     read_value, resolve, side_of,
 };
 use std::alloc::{AllocError, Global};
-use std::test::Fail;
 
 /// The fact of a row's first cell.
 fn fact_of(alloc: Global, report: &Report, row: &Row) -> Result<Option<Fact>, CellFault> {
@@ -36,22 +35,19 @@ fn cells_of(alloc: Global, cash: &str) -> Result<Items<Text>, AllocError> {
     Ok(cells)
 }
 
-/// The first row, with these cells.
-fn row_of(alloc: Global, cells: Items<Text>) -> Result<Row, AllocError> {
-    let id = Text::from_str(alloc, "r_1")?;
-    Ok(Row::new(1, id, cells))
-}
-
-/// The same by the plan of the table, which many cells can ask.
-fn planned_fact_of(alloc: Global, report: &Report, row: &Row) -> Result<Option<Fact>, CellFault> {
+/// Whether the plan of the table, which many cells can ask, gives a fact for it.
+fn is_planned(alloc: Global, report: &Report, row: &Row) -> bool {
     if report.tables() == 0 || report.columns(0) == 0 || row.cells.len() != report.columns(0) {
-        return Ok(None);
+        return false;
     }
     if report.column(0, 0).kind != ColumnKind::Fact {
-        return Ok(None);
+        return false;
     }
-    let plan: Plan<'_> = compile(alloc, report, 0)?;
-    plan.resolve(alloc, row, 0)
+    let plan: Plan<'_> = match compile(alloc, report, 0) {
+        Ok(plan) => plan,
+        Err(_) => return false,
+    };
+    is_fact(plan.resolve(alloc, row, 0))
 }
 
 /// Whether an answer is a fact with an identifier.
@@ -62,17 +58,30 @@ fn is_fact(answer: Result<Option<Fact>, CellFault>) -> bool {
     }
 }
 
-/// Whether a row gives a fact in both ways.
-fn gives(alloc: Global, report: &Report, row: &Row) -> bool {
-    is_fact(fact_of(alloc, report, row)) && is_fact(planned_fact_of(alloc, report, row))
+/// Whether the first row with these cells gives a fact in both ways.
+fn gives(alloc: Global, report: &Report, cells: Items<Text>) -> bool {
+    match Text::from_str(alloc, "r_1") {
+        Ok(id) => are_facts(alloc, report, &Row::new(1, id, cells)),
+        Err(_) => false,
+    }
+}
+
+/// Whether a row does.
+fn are_facts(alloc: Global, report: &Report, row: &Row) -> bool {
+    is_fact(fact_of(alloc, report, row)) && is_planned(alloc, report, row)
+}
+
+/// Whether the calls over a report answer as they must.
+pub(crate) fn hold(alloc: Global, report: &Report) -> bool {
+    match cells_of(alloc, "12") {
+        Ok(cells) => gives(alloc, report, cells),
+        Err(_) => false,
+    }
 }
 
 #[test]
-fn calls_of_facts(rt: HostRuntime) -> Result<(), Fail> {
-    let report = report(rt.alloc())?;
-    let row = row_of(rt.alloc(), cells_of(rt.alloc(), "12")?)?;
-    assert!(rt; gives(rt.alloc(), &report, &row));
-    Ok(())
+fn calls_of_facts(rt: HostRuntime) {
+    assert!(rt; holds(rt.alloc(), Over::Facts));
 }
 
 /// What a fact cell says.
@@ -114,13 +123,16 @@ fn has_names(alloc: Global, level: &Level) -> bool {
     }
 }
 
+/// Whether the calls for cells and levels answer as they must.
+pub(crate) fn hold_of_cells(alloc: Global, report: &Report) -> bool {
+    is_value(report, Kind::Number(NumberKind::Integer), "7")
+        && is_number(report, "eg:Cash")
+        && reads_a_unit(alloc, report, "unit", "iso4217:EUR")
+        && has_names(alloc, report.report_level())
+        && side_of(&Written::Nil) == Side::Whole
+}
+
 #[test]
-fn calls_of_cells_and_levels(rt: HostRuntime) -> Result<(), Fail> {
-    let report = report(rt.alloc())?;
-    assert!(rt; is_value(&report, Kind::Number(NumberKind::Integer), "7"));
-    assert!(rt; is_number(&report, "eg:Cash"));
-    assert!(rt; reads_a_unit(rt.alloc(), &report, "unit", "iso4217:EUR"));
-    assert!(rt; has_names(rt.alloc(), report.report_level()));
-    assert!(rt; matches!(side_of(&Written::Nil), Side::Whole));
-    Ok(())
+fn calls_of_cells_and_levels(rt: HostRuntime) {
+    assert!(rt; holds(rt.alloc(), Over::Cells));
 }

@@ -1,11 +1,11 @@
-//! The report of these calls, and a fact.
+//! The report of these calls, the calls over it, and a fact.
 
+use crate::{blocks, facts, fast_rows, pieces, reports, rows, tables};
 use oim_json::{Block, block_of};
-use oim_meta::{Limits, Parameters, Report, read_report, read_types};
+use oim_meta::{Limits, Parameters, Report, Types, read_report, read_types};
 use oim_names::{Items, Text};
 use oim_resolve::Fact;
 use std::alloc::{AllocError, Global};
-use std::test::Fail;
 
 /// The metadata of a report whose table `t1` has the columns `cash` and `note`.
 pub(crate) const METADATA: &str =
@@ -23,25 +23,68 @@ pub(crate) const METADATA: &str =
 pub(crate) const TYPES: &str =
     "namespace,name,type\nhttp://example.com/eg,Cash,integer\nhttp://example.com/eg,Note,text\n";
 
-/// The report.
-pub(crate) fn report(alloc: Global) -> Result<Box<Report>, Fail> {
-    let types = read_types(alloc, TYPES.as_bytes())?;
-    let parameters = Parameters::none(alloc);
-    let limits = Limits::profile();
-    let report = read_report(alloc, METADATA.as_bytes(), parameters, types, limits)?;
-    Ok(Box::new(alloc, report)?)
+/// A library whose calls are made over the report.
+#[derive(Clone, Copy)]
+pub(crate) enum Over {
+    Blocks,
+    Cells,
+    Facts,
+    FastRows,
+    Heads,
+    Pieces,
+    Reads,
+    Reports,
+    Rows,
+    Tables,
+}
+
+/// Whether the calls of a library over this report answer as they must.
+fn hold_over(alloc: Global, report: &Report, over: Over) -> bool {
+    match over {
+        Over::Blocks => blocks::hold(alloc, report),
+        Over::Cells => facts::hold_of_cells(alloc, report),
+        Over::Facts => facts::hold(alloc, report),
+        Over::FastRows => fast_rows::hold(alloc, report),
+        Over::Heads => pieces::hold_of_heads(alloc, report),
+        Over::Pieces => pieces::hold(alloc, report),
+        Over::Reads => rows::hold_of_reads(alloc, report),
+        Over::Reports => reports::hold(alloc, report),
+        Over::Rows => rows::hold(alloc, report),
+        Over::Tables => tables::hold(alloc, report),
+    }
+}
+
+/// The same over the report with these types.
+fn hold_with(alloc: Global, types: Types, over: Over) -> bool {
+    let (metadata, parameters) = (METADATA.as_bytes(), Parameters::none(alloc));
+    match read_report(alloc, metadata, parameters, types, Limits::profile()) {
+        Ok(report) => hold_over(alloc, &report, over),
+        Err(_) => false,
+    }
+}
+
+/// Whether the calls of a library over the report answer as they must.
+pub(crate) fn holds(alloc: Global, over: Over) -> bool {
+    match read_types(alloc, TYPES.as_bytes()) {
+        Ok(types) => hold_with(alloc, types, over),
+        Err(_) => false,
+    }
 }
 
 /// A fact without a value and without dimensions.
 pub(crate) fn nil_fact(alloc: Global) -> Result<Fact, AllocError> {
-    let id = Text::from_str(alloc, "t1.r_1.note")?;
-    Ok(Fact::new(id, None, None, Items::new(alloc)))
+    match Text::from_str(alloc, "t1.r_1.note") {
+        Ok(id) => Ok(Fact::new(id, None, None, Items::new(alloc))),
+        Err(fault) => Err(fault),
+    }
 }
 
 /// The block of that fact alone.
 pub(crate) fn nil_block(alloc: Global) -> Result<Block, AllocError> {
-    let fact = nil_fact(alloc)?;
-    block_of(alloc, &[fact])
+    match nil_fact(alloc) {
+        Ok(fact) => block_of(alloc, &[fact]),
+        Err(fault) => Err(fault),
+    }
 }
 
 /// Its text.

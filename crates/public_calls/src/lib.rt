@@ -1,11 +1,14 @@
-//! Each public name of the libraries below `oim_convert` in one call, in the form in which a caller from outside writes it. The first call
-//! of a file is the one that its library's own page shows (`tests/public_calls.py` compares them). The crate `call_tests` has the others.
+//! Each public name of the libraries below `oim_pieces` and `oim_places` in one call, in the form in which a caller from outside writes it.
+//! The first call of a file is the one that its library's own page shows (`tests/public_calls.py` compares them). The crate
+//! `conversion_tests` has the others.
 #![tactic(auto)]
 
 #[cfg(test)]
 mod blocks;
 #[cfg(test)]
 mod cells;
+#[cfg(test)]
+mod channels;
 #[cfg(test)]
 mod crews;
 #[cfg(test)]
@@ -27,8 +30,6 @@ mod periods;
 #[cfg(test)]
 mod pieces;
 #[cfg(test)]
-mod places;
-#[cfg(test)]
 mod records;
 #[cfg(test)]
 mod reports;
@@ -40,3 +41,5 @@ mod rows;
 mod tables;
 #[cfg(test)]
 mod told_values;
+#[cfg(test)]
+mod words;

@@ -8,7 +8,6 @@ use oim_merge::{DocumentWriter, MergeEnd, merge};
 use oim_ring::{Drain, Ending, lane};
 use std::alloc::{AllocError, Global};
 use std::sync::Wait;
-use std::test::Fail;
 
 /// The document of one table, which a ring holds.
 fn merges(rt: &(impl AllocGlobal + Wait), block: Block) -> Result<bool, AllocError> {
@@ -41,10 +40,20 @@ fn writes(alloc: Global, block: &Block) -> Result<bool, AllocError> {
     Ok(writer.finish(sink) == MergeEnd::Complete)
 }
 
+/// Whether the fact's document is written in both ways.
+fn are_written(rt: &(impl AllocGlobal + Wait), block: Block) -> bool {
+    matches!(writes(rt.alloc(), &block), Ok(true)) && matches!(merges(rt, block), Ok(true))
+}
+
+/// Whether the calls answer as they must.
+fn hold(rt: &(impl AllocGlobal + Wait)) -> bool {
+    match nil_block(rt.alloc()) {
+        Ok(block) => are_written(rt, block),
+        Err(_) => false,
+    }
+}
+
 #[test]
-fn calls_of_merges(rt: HostRuntime) -> Result<(), Fail> {
-    let block = nil_block(rt.alloc())?;
-    assert!(rt; writes(rt.alloc(), &block)?);
-    assert!(rt; merges(&rt, block)?);
-    Ok(())
+fn calls_of_merges(rt: HostRuntime) {
+    assert!(rt; hold(&rt));
 }

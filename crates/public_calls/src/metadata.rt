@@ -9,7 +9,6 @@ use oim_meta::{
     types_are_of_all_records,
 };
 use std::alloc::Global;
-use std::test::Fail;
 
 /// The report of a metadata file and a types table, without a parameters file.
 fn reads_a_report(alloc: Global) -> Result<Report, MetaFault> {
@@ -69,8 +68,24 @@ fn is_refused_at(alloc: Global, metadata: &[u8]) -> bool {
     }
 }
 
+/// Whether the metadata is a report of one table.
+fn is_a_report(alloc: Global) -> bool {
+    match reads_a_report(alloc) {
+        Ok(report) => report.tables() == 1,
+        Err(_) => false,
+    }
+}
+
+/// Whether a metadata that is read once names no parameters file, and says a report.
+fn says_all(alloc: Global) -> bool {
+    match reads_once(alloc, METADATA.as_bytes()) {
+        Ok(metadata) => names_none(alloc, &metadata) && says_a_report(alloc, metadata),
+        Err(_) => false,
+    }
+}
+
 #[test]
-fn calls_of_metadata(rt: HostRuntime) -> Result<(), Fail> {
+fn calls_of_metadata(rt: HostRuntime) {
     first_fault_is_least();
     first_finding_is_least();
     a_walk_finds_all_faults();
@@ -78,22 +93,17 @@ fn calls_of_metadata(rt: HostRuntime) -> Result<(), Fail> {
     types_are_of_all_records();
     faults_of_shape_are_parts_without_it();
     a_text_writes_one_value();
-    let report = Box::new(rt.alloc(), reads_a_report(rt.alloc())?)?;
-    assert!(rt; report.tables() == 1);
-    Ok(())
+    assert!(rt; is_a_report(rt.alloc()) && says_all(rt.alloc()));
+}
+
+/// Whether the calls for other files answer as they must.
+fn hold_of_other_files(alloc: Global) -> bool {
+    has_parameter(alloc, b"name,value\na,1\n", "a")
+        && names_no_parameters(alloc, METADATA.as_bytes())
+        && is_refused_at(alloc, b"{}")
 }
 
 #[test]
 fn calls_of_other_files(rt: HostRuntime) {
-    assert!(rt; has_parameter(rt.alloc(), b"name,value\na,1\n", "a"));
-    assert!(rt; names_no_parameters(rt.alloc(), METADATA.as_bytes()));
-    assert!(rt; is_refused_at(rt.alloc(), b"{}"));
-}
-
-#[test]
-fn calls_of_a_metadata_read_once(rt: HostRuntime) -> Result<(), Fail> {
-    let metadata = reads_once(rt.alloc(), METADATA.as_bytes())?;
-    assert!(rt; names_none(rt.alloc(), &metadata));
-    assert!(rt; says_a_report(rt.alloc(), metadata));
-    Ok(())
+    assert!(rt; hold_of_other_files(rt.alloc()));
 }

@@ -2,7 +2,6 @@
 
 use oim_period::{Moment, Period, Span, is_date, read};
 use std::alloc::{AllocError, Global};
-use std::test::Fail;
 
 /// The last quarter of a year, as documents write it.
 fn writes_a_quarter(alloc: Global) -> Result<bool, AllocError> {
@@ -38,7 +37,8 @@ fn has_sides() -> bool {
 }
 
 #[test]
-fn calls_of_periods(rt: HostRuntime) -> Result<(), Fail> {
-    assert!(rt; writes_a_quarter(rt.alloc())? && has_sides() && is_date("2024-02-29"));
-    Ok(())
+fn calls_of_periods(rt: HostRuntime) {
+    assert!(rt;
+        matches!(writes_a_quarter(rt.alloc()), Ok(true)) && has_sides() && is_date("2024-02-29")
+    );
 }

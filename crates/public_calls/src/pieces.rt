@@ -2,7 +2,7 @@
 
 ghost use Rattle.std.specs.Prelude.{◌≤◌, ◌+◌};
 
-use crate::held::report;
+use crate::held::{Over, holds};
 use oim_decode::{
     JoinedPiece, PieceAnswer, PieceDecoder, PieceJoin, TableHead, file_in_pieces,
     joined_pieces_are_read, open_pieces, rows_in_pieces,
@@ -11,7 +11,6 @@ use oim_meta::Report;
 use oim_records::RecordReader;
 use oim_rows::{RowForm, TableFault, TableKind, whole_fault};
 use std::alloc::Global;
-use std::test::Fail;
 
 /// A piece of a table, decoded and joined, whose first row has this number.
 fn next_piece(
@@ -78,14 +77,17 @@ fn reads_pieces(alloc: Global, report: &Report, header: &[u8], piece: &[u8]) -> 
     }
 }
 
+/// Whether the calls over a report answer as they must.
+pub(crate) fn hold(alloc: Global, report: &Report) -> bool {
+    reads_pieces(alloc, report, b"cash,note\n", b"1,n\n2,m\n")
+}
+
 #[test]
-fn calls_of_pieces(rt: HostRuntime) -> Result<(), Fail> {
+fn calls_of_pieces(rt: HostRuntime) {
     rows_in_pieces();
     file_in_pieces();
     joined_pieces_are_read();
-    let report = report(rt.alloc())?;
-    assert!(rt; reads_pieces(rt.alloc(), &report, b"cash,note\n", b"1,n\n2,m\n"));
-    Ok(())
+    assert!(rt; holds(rt.alloc(), Over::Pieces));
 }
 
 /// Whether what decodes pieces of a report's first table is made of its file's head.
@@ -104,9 +106,12 @@ fn opens_pieces(alloc: Global, report: &Report, file: &[u8], rows: u64) -> bool 
     }
 }
 
+/// Whether the calls for the head of a file answer as they must.
+pub(crate) fn hold_of_heads(alloc: Global, report: &Report) -> bool {
+    opens_pieces(alloc, report, b"cash,note\n1,n\n2,m\n", 2)
+}
+
 #[test]
-fn calls_of_heads(rt: HostRuntime) -> Result<(), Fail> {
-    let report = report(rt.alloc())?;
-    assert!(rt; opens_pieces(rt.alloc(), &report, b"cash,note\n1,n\n2,m\n", 2));
-    Ok(())
+fn calls_of_heads(rt: HostRuntime) {
+    assert!(rt; holds(rt.alloc(), Over::Heads));
 }

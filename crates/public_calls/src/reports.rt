@@ -1,13 +1,12 @@
 //! Calls of `oim_report`.
 
-use crate::held::report;
+use crate::held::{Over, holds};
 use oim_names::Text;
 use oim_report::{
     Column, ColumnKind, Info, Kind, Level, Limits, Named, Parameters, Report, Side, Table,
     Template, TypedName, Types, Written, WrittenDecimals,
 };
 use std::alloc::Global;
-use std::test::Fail;
 
 /// The first table of a report, and its first column.
 fn has_a_table(report: &Report) -> bool {
@@ -105,17 +104,30 @@ fn is_of(record: &TypedName, uri: &str) -> bool {
     record.uri.as_str() == uri
 }
 
+/// Whether the calls over a report answer as they must.
+pub(crate) fn hold(alloc: Global, report: &Report) -> bool {
+    has_a_table(report)
+        && has_more(report)
+        && says_of_itself(report)
+        && is_copied(report)
+        && has_parameters(alloc)
+        && has_types(alloc)
+}
+
 #[test]
-fn calls_of_reports(rt: HostRuntime) -> Result<(), Fail> {
-    let report = report(rt.alloc())?;
-    assert!(rt; has_a_table(&report) && has_more(&report) && says_of_itself(&report));
-    assert!(rt; is_copied(&report) && has_parameters(rt.alloc()) && has_types(rt.alloc()));
-    Ok(())
+fn calls_of_reports(rt: HostRuntime) {
+    assert!(rt; holds(rt.alloc(), Over::Reports));
+}
+
+/// Whether parts of a caller's own are read.
+fn hold_of_parts(alloc: Global) -> bool {
+    has_no_names(alloc)
+        && thousand_rows().tables == 4_096
+        && is_absent(&Written::Absent, &WrittenDecimals::Absent)
+        && side_of(&Written::Nil).is_none()
 }
 
 #[test]
 fn calls_of_parts(rt: HostRuntime) {
-    assert!(rt; has_no_names(rt.alloc()) && thousand_rows().tables == 4_096);
-    assert!(rt; is_absent(&Written::Absent, &WrittenDecimals::Absent));
-    assert!(rt; side_of(&Written::Nil).is_none());
+    assert!(rt; hold_of_parts(rt.alloc()));
 }

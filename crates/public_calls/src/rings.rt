@@ -6,7 +6,6 @@ use crate::held::{NIL_FACT, nil_block};
 use oim_json::Block;
 use oim_ring::{CloseFault, Closed, Drain, Drained, Ending, Feed, Item, LARGEST_RING, Lanes, lane};
 use std::alloc::{AllocError, Global};
-use std::test::Fail;
 
 /// A block through a ring, and then the table's ending.
 fn hands_over(alloc: Global, block: Block) -> Result<bool, AllocError> {
@@ -45,10 +44,16 @@ fn opens_another(alloc: Global) -> Result<bool, AllocError> {
     }
 }
 
+/// Whether the calls answer as they must.
+fn hold(alloc: Global) -> bool {
+    match nil_block(alloc) {
+        Ok(block) => matches!(hands_over(alloc, block), Ok(true))
+            && matches!(opens_another(alloc), Ok(true)),
+        Err(_) => false,
+    }
+}
+
 #[test]
-fn calls_of_rings(rt: HostRuntime) -> Result<(), Fail> {
-    let block = nil_block(rt.alloc())?;
-    assert!(rt; hands_over(rt.alloc(), block)?);
-    assert!(rt; opens_another(rt.alloc())?);
-    Ok(())
+fn calls_of_rings(rt: HostRuntime) {
+    assert!(rt; hold(rt.alloc()));
 }

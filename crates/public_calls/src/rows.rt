@@ -1,6 +1,6 @@
 //! Calls of `oim_rows`.
 
-use crate::held::report;
+use crate::held::{Over, holds};
 use oim_meta::{Limits, ReadFault, Report};
 use oim_records::{Fields, RecordReader};
 use oim_rows::{
@@ -9,7 +9,9 @@ use oim_rows::{
     whole_fault,
 };
 use std::alloc::Global;
-use std::test::Fail;
+use std::io;
+use std::io::Read;
+use std::sync::atomic::{AtomicUsize, Ordering};
 
 /// The facts of the first row of a report's first table, whose file has these bytes.
 fn first_row(alloc: Global, report: &Report, file: &[u8]) -> Result<Option<RowFacts>, TableFault> {
@@ -67,13 +69,95 @@ fn reads_a_file(alloc: Global, report: &Report, file: &[u8]) -> bool {
     }
 }
 
+/// Whether the calls over a report answer as they must.
+pub(crate) fn hold(alloc: Global, report: &Report) -> bool {
+    fact_identifiers_differ(report);
+    reads_rows(alloc, report, b"cash,note\n1,n\n") && reads_a_file(alloc, report, b"cash\n7\n")
+}
+
 #[test]
-fn calls_of_rows(rt: HostRuntime) -> Result<(), Fail> {
-    let report = report(rt.alloc())?;
-    fact_identifiers_differ(&report);
-    assert!(rt; reads_rows(rt.alloc(), &report, b"cash,note\n1,n\n"));
-    assert!(rt; reads_a_file(rt.alloc(), &report, b"cash\n7\n"));
-    Ok(())
+fn calls_of_rows(rt: HostRuntime) {
+    assert!(rt; holds(rt.alloc(), Over::Rows));
+}
+
+/// A reader that counts how often it is read, and may fail at its end.
+#[derive(Clone, Copy)]
+struct Counted<'a> {
+    bytes: &'a [u8],
+    reads: &'a AtomicUsize,
+    fails: bool,
+}
+
+impl Read for Counted<'_> {
+    fn read(&mut self, buf: &mut [u8]) -> io::Result<usize> {
+        self.reads.fetch_add(1, Ordering::SeqCst);
+        if self.fails && self.bytes.is_empty() {
+            return Err(io::Error::from(io::ErrorKind::Other));
+        }
+        self.bytes.read(buf)
+    }
+}
+
+/// The number of rows before the end or a fault, which is at most three.
+fn rows_before_end(rows: &mut Rows<'_, Counted<'_>>) -> usize {
+    for count in 0..4usize {
+        match rows.next() {
+            Ok(Some(_)) => {}
+            Ok(None) | Err(_) => return count,
+        }
+    }
+    4
+}
+
+/// Whether there are this many rows, and nothing is read after that.
+fn are_all(rows: &mut Rows<'_, Counted<'_>>, reads: &AtomicUsize, count: usize) -> bool {
+    let given = rows_before_end(rows);
+    let before = reads.load(Ordering::SeqCst);
+    given == count
+        && before > 0
+        && rows_before_end(rows) == 0
+        && reads.load(Ordering::SeqCst) == before
+}
+
+/// A table, whether its reader fails at its end, and the number of its rows.
+type Case = (&'static [u8], bool, usize);
+
+const CASES: &[Case] = &[
+    (b"cash\n1\n2\n", false, 2),
+    (b"cash\n1\nx\n2\n", false, 1),
+    (b"cash\n1\n2\n", true, 2),
+];
+
+/// Whether a report's first table has this many rows, and nothing is read after that.
+fn stops_reading(alloc: Global, report: &Report, case: &Case) -> bool {
+    if report.tables() == 0 {
+        return false;
+    }
+    let reads = AtomicUsize::new(0);
+    let reader = Counted {
+        bytes: case.0,
+        reads: &reads,
+        fails: case.1,
+    };
+    match Rows::open(alloc, report, 0, reader, Limits::profile()) {
+        Ok(mut rows) => are_all(&mut rows, &reads, case.2),
+        Err(_) => false,
+    }
+}
+
+/// Whether each of these tables has.
+pub(crate) fn hold_of_reads(alloc: Global, report: &Report) -> bool {
+    for case in CASES {
+        if !stops_reading(alloc, report, case) {
+            return false;
+        }
+    }
+    true
+}
+
+#[test]
+fn nothing_is_read_after_the_end(rt: HostRuntime) {
+    assert!(rt; holds(rt.alloc(), Over::Reads));
 }
 
 /// The identifier of the row with this number, among none.

@@ -1,11 +1,10 @@
 //! Calls of `oim_decode`.
 
-use crate::held::report;
+use crate::held::{Over, holds};
 use oim_decode::{TableBlocks, settled_tables_stay};
 use oim_meta::{Limits, Report};
 use oim_rows::TableFault;
 use std::alloc::Global;
-use std::test::Fail;
 
 /// The number of facts in the first block of a report's first table, whose file has these bytes.
 fn first_block(alloc: Global, report: &Report, file: &[u8]) -> Result<usize, TableFault> {
@@ -19,10 +18,13 @@ fn first_block(alloc: Global, report: &Report, file: &[u8]) -> Result<usize, Tab
     }
 }
 
-#[test]
-fn calls_of_tables(rt: HostRuntime) -> Result<(), Fail> {
-    let report = report(rt.alloc())?;
+/// Whether the calls over a report answer as they must.
+pub(crate) fn hold(alloc: Global, report: &Report) -> bool {
     settled_tables_stay();
-    assert!(rt; first_block(rt.alloc(), &report, b"cash,note\n1,n\n2,m\n") == Ok(4));
-    Ok(())
+    first_block(alloc, report, b"cash,note\n1,n\n2,m\n") == Ok(4)
+}
+
+#[test]
+fn calls_of_tables(rt: HostRuntime) {
+    assert!(rt; holds(rt.alloc(), Over::Tables));
 }

@@ -12,6 +12,7 @@ ghost use Rattle.oim_fast.specs.Groups.{IsGroupCell, IsSaid, Says, level_chosen}
 ghost use Rattle.oim_fast.specs.References.{Grows};
 ghost use Rattle.oim_fast.specs.Rows.{column_in, columns_in};
 
+use crate::row::group_hints::GroupHints;
 use crate::row::source::place_in;
 use crate::row::table_row::TableRow;
 use oim_cells::{CellMeaning, meaning};
@@ -43,6 +44,7 @@ pub(crate) struct GroupCell<'a> {
 #[derive(Drop)]
 pub(crate) struct GroupCells<'a> {
     pub(crate) list: Vec<GroupCell<'a>>,
+    hints: GroupHints,
 }
 
 /// How many groups are looked through one by one at most.
@@ -75,10 +77,20 @@ fn place_of(groups: &[(Text, Level)], name: &str) -> Choice
     }
 }
 
+/// Notes where the group stands that a name names, where it was not guessed and there are many groups.
+#[inline(always)]
+fn note_found(hints: &mut GroupHints, name: &str, guess: usize, cell: &GroupCell<'_>) {
+    if let Choice::Group(place) = cell.choice {
+        if place != guess && cell.groups.len() > FEW {
+            hints.note(name, place, cell.groups.len());
+        }
+    }
+}
+
 impl<'a> GroupCell<'a> {
-    /// The group of a name. Often it is the one that the last row named.
+    /// The group of a name. Often it is the one that the last row named, or stands where it is guessed to stand.
     #[inline(always)]
-    fn find(&self, name: &str) -> Choice
+    fn find(&self, name: &str, guess: usize) -> Choice
         requires { IsRising (keys_of self.now.groups.now) }
         ensures { (column : ColumnValue) → self.now.groups.now ≡ column.groups → Says column (a_text name.now) result }
     {
@@ -87,18 +99,21 @@ impl<'a> GroupCell<'a> {
                 return Choice::Group(place);
             }
         }
+        if guess < self.groups.len() && self.groups[guess].0.as_str() == name {
+            return Choice::Group(guess);
+        }
         place_of(self.groups, name)
     }
 
-    /// What a row says.
+    /// What a row says, where the group that it names is guessed to stand at a place.
     #[inline(always)]
-    fn choice_in(&self, row: &TableRow<'_, '_>) -> Choice
+    fn choice_in(&self, row: &TableRow<'_, '_>, guess: usize) -> Choice
         requires { IsGroupCell row.now.form self.now }
         ensures { Says (column_in row.now.form self.now.column) (meaning_of (field_or_empty row.now.fields self.now.place)) result }
     {
         match meaning(row.text_at(self.place)) {
             CellMeaning::Absent => Choice::Nothing,
-            CellMeaning::Text(name) => self.find(name),
+            CellMeaning::Text(name) => self.find(name, guess),
             CellMeaning::Nil | CellMeaning::Empty | CellMeaning::Unknown => Choice::Unknown,
         }
     }
@@ -111,6 +126,7 @@ impl<'a> GroupCells<'a> {
     {
         GroupCells {
             list: Vec::new(alloc),
+            hints: GroupHints::new(alloc),
         }
     }
 
@@ -161,8 +177,11 @@ impl<'a> GroupCells<'a> {
         ensures columns { map (λ g. g.column) self.new.list.items ≡ map (λ g. g.column) self.old.list.items }
     {
         for i in 0..self.list.len() {
+            let name = row.text_at(self.list[i].place);
+            let guess = self.hints.guess(name);
             let cell = &mut self.list[i];
-            cell.choice = cell.choice_in(row);
+            cell.choice = cell.choice_in(row, guess);
+            note_found(&mut self.hints, name, guess, cell);
         }
     }
 

@@ -1,5 +1,5 @@
 use Rattle.std.specs.Prelude.{◌≡◌, ◌⊎◌, true, false, Option, Some, None, Any, Contains, IfNone, IfSome, length}
-use Rattle.std.proofs.Common.{ap, sym, ◌∙◌, subst, inr}
+use Rattle.std.proofs.Common.{ap, sym, ◌∙◌, subst, inl, inr}
 use Rattle.std.specs.List.{list_all}
 use Rattle.oim_convert.specs.Jobs.{tables_promised, receipts_of}
 use Rattle.oim_crew.specs.Numbers.{EachOnceBelow}
@@ -22,6 +22,10 @@ close-requires-clause-finished g c =
     let busy = subst (λ l. list_all (λ s. s.stopped) l ≡ false) c.as_slice.ensures.value (sym c.all_idle.ensures ∙ c.if-all_idle.false) in
     some_finished g.R.Read.remaining c.args.report.now c.args.limits.rows c.args.shifts.served c.args.claims c.args.shifts.list.items
     c.place_all-seats.result.items c.requires.shifts c.place_all-seats.ensures.seats busy
+
+pub returns-then-all_idle-clause-lost : goal.returns-then-all_idle-clause-lost
+returns-then-all_idle-clause-lost g c =
+    inl (subst (λ l. list_all (λ s. s.stopped) l ≡ true) c.as_slice.ensures.value (sym c.all_idle.ensures ∙ c.if-all_idle.true))
 
 if_some : {A : Type 0} (o : Option A) (P : Type 0) → P → IfSome o (λ _. P)
 if_some (Some x) P p = p

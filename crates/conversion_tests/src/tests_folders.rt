@@ -1,16 +1,15 @@
 //! Runs over a folder of the test's own, which only opens files, and whose readers fail.
 
+use crate::words::{Trial, has_lines, holds};
 use oim_json::Marked;
-use oim_run::{Folder, METADATA, Settings, TABLE, TYPES, job, line, run};
-use std::alloc::Global;
+use oim_run::{Folder, METADATA, Settings, TABLE, TYPES, run};
 use std::io;
 use std::io::Read;
 use std::sync::Wait;
-use std::test::Fail;
 use std::thread::Threads;
 
 /// A reader of bytes that fails once this many of them were read.
-#[derive(Drop)]
+#[derive(Clone, Copy)]
 struct Failing {
     bytes: &'static [u8],
     left: usize,
@@ -31,7 +30,7 @@ impl Read for Failing {
 }
 
 /// The built-in report as a folder: the reader of the file at `path` fails once `left` bytes were read.
-#[derive(Drop)]
+#[derive(Clone, Copy)]
 struct Opening {
     path: &'static str,
     left: usize,
@@ -55,7 +54,9 @@ impl Folder<Failing> for Opening {
 }
 
 /// A file, its length, and the line for a failed read of it.
-const FILES: &[(&str, usize, &str)] = &[
+type File = (&'static str, usize, &'static str);
+
+const FILES: &[File] = &[
     ("m.json", METADATA.len(), "xbrl-json: report: Read (17)\n"),
     ("t.csv", TYPES.len(), "xbrl-json: types: Read (17)\n"),
     (
@@ -65,41 +66,51 @@ const FILES: &[(&str, usize, &str)] = &[
     ),
 ];
 
-/// The lines of a run whose reader of this file fails once this many bytes were read.
-fn lines_of(
+/// Whether a run whose reader of this file fails once this many bytes were read has these lines.
+fn says(
     rt: &(impl AllocGlobal + Threads + Wait + Sync),
     settings: &Settings,
     path: &'static str,
     left: usize,
-) -> Result<String, Fail> {
+    lines: &str,
+) -> bool {
     let mut document = Vec::new(rt.alloc());
-    let mut folder = Opening { path, left };
+    let folder = &mut Opening { path, left };
     let sink = &mut Marked::new(&mut document);
-    let outcome = run(rt, rt.alloc(), settings, &mut folder, sink);
-    Ok(line(rt.alloc(), &outcome)?)
+    let outcome = run(rt, rt.alloc(), settings, folder, sink);
+    has_lines(rt.alloc(), &outcome, lines)
 }
 
-/// The settings with this number of workers.
-fn settings(alloc: Global, workers: usize) -> Result<Settings, Fail> {
-    match job(alloc, &["m.json", "--types", "t.csv"]) {
-        Ok(mut settings) => {
-            settings.workers = workers;
-            Ok(settings)
+/// Whether it has where the reader of a file fails anywhere, and no lines where it does not fail.
+fn fails_anywhere(
+    rt: &(impl AllocGlobal + Threads + Wait + Sync),
+    settings: &Settings,
+    file: &File,
+) -> bool {
+    for left in 0..=file.1 {
+        if !says(rt, settings, file.0, left, file.2) {
+            return false;
         }
-        Err(_) => Err(Fail::new("the words are refused")),
     }
+    says(rt, settings, file.0, usize::MAX, "")
 }
+
+/// The same for each file.
+pub(crate) fn fail(rt: &(impl AllocGlobal + Threads + Wait + Sync), settings: &Settings) -> bool {
+    for file in FILES {
+        if !fails_anywhere(rt, settings, file) {
+            return false;
+        }
+    }
+    true
+}
+
+/// The words for this number of workers.
+const ONE: &[&str] = &["m.json", "--types", "t.csv", "--workers", "1"];
+
+const TWO: &[&str] = &["m.json", "--types", "t.csv", "--workers", "2"];
 
 #[test]
-fn readers_that_fail_after_each_byte(rt: HostRuntime) -> Result<(), Fail> {
-    for workers in [1, 2] {
-        let settings = settings(rt.alloc(), workers)?;
-        for (path, length, lines) in FILES {
-            for left in 0..=*length {
-                assert!(rt; lines_of(&rt, &settings, *path, left)?.as_str() == *lines);
-            }
-            assert!(rt; lines_of(&rt, &settings, *path, usize::MAX)?.is_empty());
-        }
-    }
-    Ok(())
+fn readers_that_fail_after_each_byte(rt: HostRuntime) {
+    assert!(rt; holds(&rt, ONE, Trial::Folders) && holds(&rt, TWO, Trial::Folders));
 }

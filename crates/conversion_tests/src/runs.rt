@@ -1,21 +1,20 @@
 //! Calls of `oim_run`.
 
-use crate::report::report_of;
-use crate::settings::settings;
+use crate::words::{Trial, WORDS, holds};
+use oim_files::{folder_of, report_of};
 use oim_json::{Layout, Marked};
 use oim_meta::{Limits, Report};
 use oim_run::{
-    Course, Ending, Folder, METADATA, Outcome, Outputs, Request, Settings, Source, TABLE, TYPES,
-    Teller, Texts, cannot_write, convert_as, convert_report, convert_to, held_told, line,
-    request_of, run, run_to, shown, status, tell, terminal_line,
+    Course, EarlyFault, Ending, Folder, METADATA, Outcome, Outputs, Request, Settings, Source,
+    TABLE, TYPES, Teller, Texts, cannot_write, convert_as, convert_report, convert_to, held_told,
+    line, request_of, run, run_to, shown, status, tell, terminal_line,
 };
 use std::alloc::{AllocError, Global};
 use std::sync::Wait;
-use std::test::Fail;
 use std::thread::Threads;
 
 /// A folder of a caller's own: it opens the files of the held report.
-#[derive(Drop)]
+#[derive(Clone, Copy)]
 struct Held;
 
 impl Folder<&'static [u8]> for Held {
@@ -41,13 +40,17 @@ fn runs(
     Ok(status(&outcome) == 0 && line.as_str() == "" && document.as_slice().ends_with(b"}}\n"))
 }
 
+/// Whether a request is for a whole document.
+fn is_whole(request: &Request) -> bool {
+    request.whole && !request.progress
+}
+
 /// Whether the words ask for a whole document, beside the settings.
 fn asks(alloc: Global) -> bool {
-    let request: Request = match request_of(alloc, &["m.json", "--types", "t.csv", "--whole"]) {
-        Ok(request) => request,
-        Err(_) => return false,
-    };
-    request.whole && !request.progress
+    match request_of(alloc, &["m.json", "--types", "t.csv", "--whole"]) {
+        Ok(request) => is_whole(&request),
+        Err(_) => false,
+    }
 }
 
 /// Whether a path is shown, as a line for a terminal has it.
@@ -56,14 +59,6 @@ fn shows(alloc: Global, path: &str) -> bool {
         Ok(path) => terminal_line(alloc, &Outcome::CannotRead(path)).is_ok(),
         Err(_) => false,
     }
-}
-
-#[test]
-fn calls_of_runs(rt: HostRuntime) -> Result<(), Fail> {
-    let settings = settings(rt.alloc())?;
-    assert!(rt; runs(&rt, &settings)?);
-    assert!(rt; asks(rt.alloc()) && shows(rt.alloc(), "m.json"));
-    Ok(())
 }
 
 /// Whether a report is refused for its types table.
@@ -86,7 +81,7 @@ fn converts_to(rt: &(impl AllocGlobal + Threads + Wait + Sync)) -> bool {
 }
 
 /// Outputs of a caller's own, which count the whole documents that were ended.
-#[derive(Drop)]
+#[derive(Clone, Copy)]
 struct Counting {
     alloc: Global,
     whole: usize,
@@ -110,16 +105,21 @@ impl Outputs<Vec<u8>> for Counting {
 }
 
 /// Whether one document is converted, to where the words say.
-fn converts_once(rt: &(impl AllocGlobal + Threads + Wait + Sync)) -> bool {
+fn converts(rt: &(impl AllocGlobal + Threads + Wait + Sync), request: &Request) -> bool {
     let mut outputs = Counting {
         alloc: rt.alloc(),
         whole: 0,
     };
-    let Ok(request) = request_of(rt.alloc(), &["m.json", "--types", "t.csv"]) else {
-        return false;
-    };
-    let outcome = convert_as(rt, rt.alloc(), &request, &mut Held, &mut outputs);
+    let outcome = convert_as(rt, rt.alloc(), request, &mut Held, &mut outputs);
     status(&outcome) == 0 && outputs.whole == 1
+}
+
+/// Whether one is by the words of the held report.
+fn converts_once(rt: &(impl AllocGlobal + Threads + Wait + Sync)) -> bool {
+    match request_of(rt.alloc(), WORDS) {
+        Ok(request) => converts(rt, &request),
+        Err(_) => false,
+    }
 }
 
 /// A teller of a caller's own, which counts the bytes that it was given.
@@ -151,22 +151,37 @@ fn is_silent(rt: &(impl AllocGlobal + Threads + Wait + Sync)) -> bool {
     status == 0 && teller.bytes == 0 && document.as_slice().ends_with(b"}}\n")
 }
 
+/// Whether the calls with settings answer as they must.
+pub(crate) fn hold(rt: &(impl AllocGlobal + Threads + Wait + Sync), settings: &Settings) -> bool {
+    matches!(runs(rt, settings), Ok(true)) && refuses(rt, settings)
+}
+
 #[test]
-fn calls_of_other_runs(rt: HostRuntime) -> Result<(), Fail> {
-    let settings = settings(rt.alloc())?;
-    assert!(rt; refuses(&rt, &settings));
-    assert!(rt; converts_to(&rt));
-    assert!(rt; converts_once(&rt) && is_told(rt.alloc()));
-    assert!(rt; is_silent(&rt));
-    Ok(())
+fn calls_of_runs(rt: HostRuntime) {
+    assert!(rt; holds(&rt, WORDS, Trial::Runs));
+}
+
+/// Whether the calls without settings do.
+fn hold_without(rt: &(impl AllocGlobal + Threads + Wait + Sync)) -> bool {
+    asks(rt.alloc())
+        && shows(rt.alloc(), "m.json")
+        && is_told(rt.alloc())
+        && converts_to(rt)
+        && converts_once(rt)
+        && is_silent(rt)
+}
+
+#[test]
+fn calls_of_other_runs(rt: HostRuntime) {
+    assert!(rt; hold_without(&rt));
 }
 
 /// Whether a report whose tables are given by readers is converted.
-fn converts_a_report(
+fn converts_tables(
     rt: &(impl AllocGlobal + Threads + Wait + Sync),
     report: &Report,
-) -> Result<bool, AllocError> {
-    let tables = vec![in rt.alloc(); Some(TABLE.as_bytes())]?;
+    tables: Vec<Option<&[u8]>>,
+) -> bool {
     let mut document = Vec::new(rt.alloc());
     let sink = &mut Marked::new(&mut document);
     let course = Course {
@@ -176,12 +191,34 @@ fn converts_a_report(
         layout: Layout::Compact,
     };
     let outcome = convert_report(rt, rt.alloc(), report, tables, course, sink);
-    Ok(status(&outcome) == 0)
+    status(&outcome) == 0 && document.as_slice().ends_with(b"}}\n")
+}
+
+/// Whether the held report is.
+fn converts_a_report(rt: &(impl AllocGlobal + Threads + Wait + Sync), report: &Report) -> bool {
+    match vec![in rt.alloc(); Some(TABLE.as_bytes())] {
+        Ok(tables) => converts_tables(rt, report, tables),
+        Err(_) => false,
+    }
+}
+
+/// Whether it is where its files are read first.
+fn converts_the_held(rt: &(impl AllocGlobal + Threads + Wait + Sync)) -> bool {
+    let folder = &mut Held;
+    let report: Result<Report, EarlyFault> = report_of(
+        rt.alloc(),
+        folder,
+        folder_of("m.json"),
+        "m.json",
+        "t.csv",
+    );
+    match report {
+        Ok(report) => converts_a_report(rt, &report),
+        Err(_) => false,
+    }
 }
 
 #[test]
-fn calls_of_conversions_to_outcomes(rt: HostRuntime) -> Result<(), Fail> {
-    let report = report_of(rt.alloc(), &[])?;
-    assert!(rt; converts_a_report(&rt, &report)?);
-    Ok(())
+fn calls_of_conversions_to_outcomes(rt: HostRuntime) {
+    assert!(rt; converts_the_held(&rt));
 }

@@ -1,16 +1,14 @@
-//! The report of these tests, its tables, and its documents.
+//! The report of these tests, its tables, and its documents, as texts.
 
-use oim_meta::{Limits, Parameters, Report, read_report, read_types};
 use std::alloc::{AllocError, Global};
-use std::test::Fail;
 
 /// The metadata up to its tables.
 const METADATA: &str =
     r#"{"documentInfo":{"documentType":"https://xbrl.org/2021/xbrl-csv","namespaces":{"eg":"http://example.com/eg","iso4217":"http://www.xbrl.org/2003/iso4217"},"taxonomy":["http://example.com/eg.xsd"]},"dimensions":{"entity":"eg:A1","period":"2021-01-01T00:00:00/2022-01-01T00:00:00","unit":"iso4217:EUR"},"tableTemplates":{"p":{"columns":{"cash":{"dimensions":{"concept":"eg:Cash"}},"note":{"dimensions":{"concept":"eg:Note"}}}}},"tables":{"#;
 
 /// The types of its concepts.
-const TYPES: &str =
-    "namespace,name,type\nhttp://example.com/eg,Cash,integer\nhttp://example.com/eg,Note,text\n";
+pub(crate) const TYPES: &[u8] =
+    b"namespace,name,type\nhttp://example.com/eg,Cash,integer\nhttp://example.com/eg,Note,text\n";
 
 /// The beginning of each document, before its facts.
 pub(crate) const HEAD: &str =
@@ -23,28 +21,45 @@ pub(crate) const TAIL: &str = "}}\n";
 const ONE: &str =
     r#".cash":{"dimensions":{"concept":"eg:Cash","entity":"eg:A1","period":"2021-01-01T00:00:00/2022-01-01T00:00:00","unit":"iso4217:EUR"},"value":"1"}"#;
 
-/// The metadata of this many tables of one template: `t1`, `t2` and so on.
-fn metadata_of(alloc: Global, tables: usize) -> Result<String, AllocError> {
+/// Adds a table to a metadata.
+fn push_table(alloc: Global, text: &mut String, table: usize) -> Result<(), AllocError> {
+    let comma = if table > 1 { "," } else { "" };
+    let one = format!(in alloc;
+        "{comma}\"t{table}\":{{\"url\":\"t{table}.csv\",\"template\":\"p\"}}"
+    )?;
+    text.push_str(one.as_str())
+}
+
+/// The metadata of this many tables of one template: `t1`, `t2` and so on, which are in the order of their numbers up to 9.
+pub(crate) fn metadata_of(alloc: Global, tables: usize) -> Result<String, AllocError> {
     let mut text = String::from_str(alloc, METADATA)?;
     for table in 1..=tables {
-        let comma = if table > 1 { "," } else { "" };
-        let one = format!(in alloc;
-            "{comma}\"t{table}\":{{\"url\":\"t{table}.csv\",\"template\":\"p\"}}"
-        )?;
-        text.push_str(one.as_str())?;
+        push_table(alloc, &mut text, table)?;
     }
     text.push_str("}}")?;
     Ok(text)
 }
 
-/// The report of this many tables, which are in the order of their numbers up to 9.
-pub(crate) fn report_of(alloc: Global, tables: usize) -> Result<Box<Report>, Fail> {
-    let types = read_types(alloc, TYPES.as_bytes())?;
-    let text = metadata_of(alloc, tables)?;
-    let parameters = Parameters::none(alloc);
-    let limits = Limits::profile();
-    let report = read_report(alloc, text.as_bytes(), parameters, types, limits)?;
-    Ok(Box::new(alloc, report)?)
+/// Adds a fact of a cash of 1 to a document.
+fn push_fact(alloc: Global, text: &mut String, table: usize, row: usize) -> Result<(), AllocError> {
+    let comma = if table > 1 || row > 1 { "," } else { "" };
+    let fact = format!(in alloc; "{comma}\"t{table}.r_{row}{ONE}")?;
+    text.push_str(fact.as_str())
+}
+
+/// Adds those of this many tables of this many rows.
+fn push_facts(
+    alloc: Global,
+    text: &mut String,
+    tables: usize,
+    rows: usize,
+) -> Result<(), AllocError> {
+    for table in 1..=tables {
+        for row in 1..=rows {
+            push_fact(alloc, text, table, row)?;
+        }
+    }
+    Ok(())
 }
 
 /// The document of this many tables of this many rows, each with a cash of 1, up to and with these last bytes.
@@ -55,13 +70,7 @@ pub(crate) fn document_of(
     end: &str,
 ) -> Result<String, AllocError> {
     let mut text = String::from_str(alloc, HEAD)?;
-    for table in 1..=tables {
-        for row in 1..=rows {
-            let comma = if table > 1 || row > 1 { "," } else { "" };
-            let fact = format!(in alloc; "{comma}\"t{table}.r_{row}{ONE}")?;
-            text.push_str(fact.as_str())?;
-        }
-    }
+    push_facts(alloc, &mut text, tables, rows)?;
     text.push_str(end)?;
     Ok(text)
 }
@@ -73,16 +82,4 @@ pub(crate) fn file_of(alloc: Global, rows: usize) -> Result<String, AllocError> 
         text.push_str("1\n")?;
     }
     Ok(text)
-}
-
-/// These readers, as those of a report's tables.
-pub(crate) fn readers_of<R: Drop + Copy>(
-    alloc: Global,
-    readers: &[R],
-) -> Result<Vec<Option<R>>, AllocError> {
-    let mut list = Vec::new(alloc);
-    for reader in readers {
-        list.push(Some(*reader))?;
-    }
-    Ok(list)
 }

@@ -1,0 +1,234 @@
+//! A table in pieces, which threads decode while workers are idle, and calls of `oim_pieces`.
+
+use crate::readers::{AtEnd, Slow, ending};
+use crate::reports::{HEAD, file_of};
+use crate::trials::{Case, Trial, holds};
+use oim_json::Block;
+use oim_meta::{Limits, Report};
+use oim_pieces::{Helpers, PIECE_SIZE, TablePieces};
+use oim_rows::TableFault;
+use std::alloc::{AllocError, Global};
+use std::sync::Wait;
+use std::thread;
+use std::thread::{Scope, Threads};
+
+/// The number of blocks in the first piece of a report's first table, whose file has these bytes.
+fn first_piece<'s, E, T: Threads + Wait + Sync + 's>(
+    scope: &Scope<'s, E>,
+    helpers: &'s Helpers,
+    rt: &'s T,
+    alloc: Global,
+    report: &'s Report,
+    file: &[u8],
+) -> Result<usize, TableFault> {
+    if report.tables() == 0 {
+        return Ok(0);
+    }
+    let limits = Limits::profile();
+    let mut table = TablePieces::open(alloc, helpers, report, 0, file, limits)?;
+    match table.next_blocks(scope, rt)? {
+        Some(blocks) => Ok(blocks.len()),
+        None => Ok(0),
+    }
+}
+
+/// Whether a count of two workers, and one of one, say who can help.
+fn counts() -> bool {
+    let helpers = Helpers::new(2, PIECE_SIZE);
+    helpers.start();
+    helpers.rest();
+    !helpers.is_alone() && Helpers::new(1, PIECE_SIZE).is_alone()
+}
+
+/// Whether a table that was just opened needs no memory of others, and gives back what it was given.
+fn keeps_rooms(rt: &(impl AllocGlobal + Wait), report: &Report, file: &[u8]) -> bool {
+    let alloc = rt.alloc();
+    if report.tables() == 0 {
+        return false;
+    }
+    let helpers = Helpers::new(4, PIECE_SIZE);
+    let limits = Limits::profile();
+    let Ok(mut table) = TablePieces::open(alloc, &helpers, report, 0, file, limits) else {
+        return false;
+    };
+    let needs_none = table.wanted_rooms() == 0;
+    table.want(true);
+    table.keep_room(rt, Vec::new(alloc));
+    needs_none && table.free_rooms(rt).len() == 1 && table.free_rooms(rt).is_empty()
+}
+
+/// Adds the texts of blocks to the beginning of a document.
+fn put_blocks(document: &mut Vec<u8>, blocks: &[Block]) -> Result<(), AllocError> {
+    for block in blocks {
+        if document.len() > HEAD.len() {
+            document.push(b',')?;
+        }
+        document.extend_from_slice(block.bytes())?;
+    }
+    Ok(())
+}
+
+/// Adds the facts of a table to the beginning of a document, piece by piece. Tells whether the table has no fault.
+fn put_pieces<'s, E, T: Threads + Wait + Sync + 's>(
+    scope: &Scope<'s, E>,
+    rt: &'s T,
+    table: &mut TablePieces<'s, Slow<'_>>,
+    document: &mut Vec<u8>,
+) -> bool {
+    for _ in 0..u64::MAX {
+        match table.next_blocks(scope, rt) {
+            Ok(Some(blocks)) => {
+                if put_blocks(document, blocks.as_slice()).is_err() {
+                    return false;
+                }
+            }
+            Ok(None) => return true,
+            Err(_) => return false,
+        }
+    }
+    false
+}
+
+/// The same of a report's first table.
+fn put_table<'s, E, T: Threads + Wait + Sync + 's>(
+    scope: &Scope<'s, E>,
+    rt: &'s T,
+    alloc: Global,
+    helpers: &'s Helpers,
+    report: &'s Report,
+    file: Slow<'_>,
+    document: &mut Vec<u8>,
+) -> bool {
+    if report.tables() == 0 {
+        return false;
+    }
+    match TablePieces::open(alloc, helpers, report, 0, file, Limits::profile()) {
+        Ok(mut table) => {
+            table.want(true);
+            put_pieces(scope, rt, &mut table, document)
+        }
+        Err(_) => false,
+    }
+}
+
+/// Whether a table gives this beginning of a document, behind the head that was put already.
+fn begins(
+    rt: &(impl AllocGlobal + Threads + Wait + Sync),
+    helpers: &Helpers,
+    report: &Report,
+    file: Slow<'_>,
+    document: &mut Vec<u8>,
+    expected: &[u8],
+) -> bool {
+    let alloc = rt.alloc();
+    let lent = &mut *document;
+    let is_good = thread::scope(thread::scope_env(), rt, move |scope| {
+        put_table(scope, rt, alloc, helpers, report, file, lent)
+    });
+    is_good && document.as_slice() == expected
+}
+
+/// How many bytes a reader gives at a time, and the size of the pieces: one record, two records, 64 bytes, and that of a conversion.
+/// And the number of workers.
+const SIZES: &[(usize, usize, usize)] = &[
+    (2, 1, 1),
+    (2, 1, 4),
+    (4, 1, 1),
+    (4, 1, 4),
+    (64, 64, 1),
+    (64, 64, 4),
+    (65_536, PIECE_SIZE, 1),
+    (65_536, PIECE_SIZE, 4),
+];
+
+/// Whether a file does in pieces of a size.
+fn begins_in(
+    rt: &(impl AllocGlobal + Threads + Wait + Sync),
+    report: &Report,
+    bytes: &[u8],
+    size: &(usize, usize, usize),
+    expected: &[u8],
+) -> bool {
+    let helpers = Helpers::new(size.2, size.1);
+    let file = ending(bytes, size.0, AtEnd::Ends);
+    let mut document = Vec::new(rt.alloc());
+    document.extend_from_slice(HEAD.as_bytes()).is_ok()
+        && begins(rt, &helpers, report, file, &mut document, expected)
+}
+
+/// Whether it does in pieces of each size.
+fn begins_in_each(
+    rt: &(impl AllocGlobal + Threads + Wait + Sync),
+    report: &Report,
+    bytes: &[u8],
+    expected: &[u8],
+) -> bool {
+    for size in SIZES {
+        if !begins_in(rt, report, bytes, size, expected) {
+            return false;
+        }
+    }
+    true
+}
+
+/// Whether a table of 200 rows does.
+pub(crate) fn begin(
+    rt: &(impl AllocGlobal + Threads + Wait + Sync),
+    report: &Report,
+    expected: &[u8],
+) -> bool {
+    match file_of(rt.alloc(), 200) {
+        Ok(file) => begins_in_each(rt, report, file.as_bytes(), expected),
+        Err(_) => false,
+    }
+}
+
+/// A table of 200 rows, without an end.
+const ROWS: Case = Case {
+    tables: 1,
+    written: 1,
+    rows: 200,
+    end: "",
+    trial: Trial::Pieces,
+};
+
+#[test]
+fn pieces_of_each_size(rt: HostRuntime) {
+    assert!(rt; holds(&rt, &ROWS));
+}
+
+/// Whether the first piece of a table has one block.
+fn has_a_block(
+    rt: &(impl AllocGlobal + Threads + Wait + Sync),
+    helpers: &Helpers,
+    report: &Report,
+    file: &[u8],
+) -> bool {
+    let alloc = rt.alloc();
+    let given = thread::scope(thread::scope_env(), rt, move |scope| {
+        first_piece(scope, helpers, rt, alloc, report, file)
+    });
+    given == Ok(1)
+}
+
+/// Whether the calls over a report answer as they must.
+pub(crate) fn hold(rt: &(impl AllocGlobal + Threads + Wait + Sync), report: &Report) -> bool {
+    let helpers = Helpers::new(4, PIECE_SIZE);
+    counts()
+        && keeps_rooms(rt, report, b"cash\n1\n")
+        && has_a_block(rt, &helpers, report, b"cash\n1\n")
+}
+
+/// A table of one row.
+const ONE_ROW: Case = Case {
+    tables: 1,
+    written: 1,
+    rows: 1,
+    end: "",
+    trial: Trial::Piece,
+};
+
+#[test]
+fn calls_of_table_pieces(rt: HostRuntime) {
+    assert!(rt; holds(&rt, &ONE_ROW));
+}

@@ -1,0 +1,165 @@
+//! Calls of `oim_places`.
+
+use csv::ByteRecord;
+use oim_files::Texts;
+use oim_meta::Records;
+use oim_names::Text;
+use oim_places::{
+    FaultPlace, ReportAgain, RowAgain, cell_shown, excerpt, fault_place, first_record_with,
+    is_of_file, line_again, next_record, part_at, place_in_file, place_in_record, pointer,
+    pointer_to, quoted, record_again, record_shown, report_again, standing, table_path, text_at,
+};
+use oim_rows::{TableFault, TableKind};
+use oim_run::{METADATA, TYPES};
+use serde_json::Value;
+use std::alloc::{AllocError, Global};
+
+/// A fault of the first row of the first table.
+const FAULT: TableFault = TableFault {
+    table: 0,
+    row: 1,
+    column: 1,
+    kind: TableKind::BadNumber,
+};
+
+/// Whether the fault of a table's first row is in the second line of its file, which has `x` under `cash` there.
+fn finds_the_cell(
+    alloc: Global,
+    folder: &mut Texts<'_>,
+    again: &ReportAgain,
+    fault: &TableFault,
+) -> Result<bool, AllocError> {
+    let place: FaultPlace = fault_place(alloc, "f/m.json", folder, again, fault)?;
+    let is_there = place.header.as_str() == "cash" && place.cell.as_str() == "x";
+    Ok(is_there && place.line == Some(2))
+}
+
+/// Whether the first cell of a record is `x`.
+fn has_the_cell(found: &Option<RowAgain>) -> bool {
+    match found {
+        Some(again) => text_at(&again.row, 0) == Some("x"),
+        None => false,
+    }
+}
+
+/// Whether the fault's record is in the file at a path.
+fn finds_a_record(
+    alloc: Global,
+    folder: &mut Texts<'_>,
+    again: &ReportAgain,
+    fault: &TableFault,
+) -> bool {
+    if fault.table >= again.report.tables() {
+        return false;
+    }
+    let Ok(path) = table_path(alloc, "f/m.json", &again.report, fault.table) else {
+        return false;
+    };
+    match record_again(alloc, folder, path.as_str(), &again.report, fault) {
+        Ok(found) => has_the_cell(&found),
+        Err(_) => false,
+    }
+}
+
+/// Whether both are found in the files of a folder.
+fn finds_the_fault(alloc: Global, folder: &mut Texts<'_>) -> bool {
+    match report_again(alloc, "f/m.json", "t.csv", folder) {
+        Ok(again) => {
+            let is_there = matches!(finds_the_cell(alloc, folder, &again, &FAULT), Ok(true));
+            is_there && finds_a_record(alloc, folder, &again, &FAULT)
+        }
+        Err(_) => false,
+    }
+}
+
+/// Whether a text is this one.
+fn is_text(text: Result<String, AllocError>, expected: &str) -> bool {
+    match text {
+        Ok(text) => text.as_str() == expected,
+        Err(_) => false,
+    }
+}
+
+/// Whether the line of the fault is found, and the place is told by it.
+fn tells_the_line(alloc: Global, folder: &mut Texts<'_>) -> bool {
+    let line = line_again(alloc, folder, "f/t1.csv", 1);
+    let place = place_in_file(alloc, "f/t1.csv", line, place_in_record(&FAULT));
+    is_text(place, "f/t1.csv, line 2, cell 1") && !is_of_file(FAULT.kind)
+}
+
+/// Whether the calls over these answer as they must.
+fn hold(alloc: Global) -> bool {
+    let files = [
+        ("f/m.json", METADATA.as_bytes()),
+        ("t.csv", TYPES.as_bytes()),
+        ("f/t1.csv", b"cash\nx\n".as_slice()),
+    ];
+    let folder = &mut Texts { files: &files };
+    finds_the_fault(alloc, folder) && tells_the_line(alloc, folder)
+}
+
+#[test]
+fn calls_of_places_of_faults(rt: HostRuntime) {
+    assert!(rt; hold(rt.alloc()));
+}
+
+/// Whether a record of one cell is shown, and its cell.
+fn shows_a_record(alloc: Global, row: &ByteRecord) -> bool {
+    is_text(cell_shown(alloc, row, 0), "\"a\"")
+        && is_text(record_shown(alloc, row), "(a record of 1)")
+}
+
+/// Whether the first record of a file is.
+fn shows_the_first(alloc: Global, file: &[u8]) -> bool {
+    let mut records = Records::new(alloc, file);
+    let mut row = ByteRecord::new(alloc);
+    matches!(next_record(&mut records, &mut row), Ok(true)) && shows_a_record(alloc, &row)
+}
+
+/// Whether the first record with a cell is found in a file.
+fn finds_the_first(alloc: Global, file: &[u8]) -> bool {
+    matches!(first_record_with(alloc, file, 0, b"x"), Ok(Some(1)))
+}
+
+#[test]
+fn calls_of_records_read_again(rt: HostRuntime) {
+    assert!(rt; finds_the_first(rt.alloc(), b"a\nx\n") && shows_the_first(rt.alloc(), b"a\n"));
+}
+
+/// Whether the part of a JSON text at a key is shown.
+fn shows_a_part(alloc: Global, part: &[u8]) -> bool {
+    match Value::from_slice(alloc, part) {
+        Ok(value) => is_text(standing(alloc, Some(&value)), "\"b\""),
+        Err(_) => false,
+    }
+}
+
+/// Whether it is found by its key.
+fn finds_a_part(alloc: Global, json: &[u8], keys: &[Text]) -> bool {
+    match part_at(alloc, json, keys) {
+        Ok(Some(part)) => shows_a_part(alloc, part),
+        _ => false,
+    }
+}
+
+/// Whether the calls for this key answer as they must.
+fn hold_of_key(alloc: Global, keys: &[Text]) -> bool {
+    finds_a_part(alloc, b"{\"a\":\"b\"}", keys)
+        && is_text(pointer(alloc, keys), "/a")
+        && is_text(pointer_to(alloc, &["a"]), "/a")
+        && is_text(excerpt(alloc, "/a"), "/a")
+        && is_text(quoted(alloc, "b"), "\"b\"")
+}
+
+/// Whether the calls for a key do.
+fn hold_of_json(alloc: Global) -> bool {
+    match Text::from_str(alloc, "a") {
+        Ok(key) => hold_of_key(alloc, &[key]),
+        Err(_) => false,
+    }
+}
+
+#[test]
+fn calls_of_places_in_json(rt: HostRuntime) {
+    assert!(rt; hold_of_json(rt.alloc()));
+}

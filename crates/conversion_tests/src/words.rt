@@ -1,0 +1,54 @@
+//! The settings of these tests, and the lines of an outcome.
+
+use crate::{runs, tests_flushes, tests_folders};
+use oim_run::{Outcome, Settings, job, line};
+use std::alloc::Global;
+use std::sync::Wait;
+use std::thread::Threads;
+
+/// What is tried with settings.
+#[derive(Clone, Copy)]
+pub(crate) enum Trial {
+    /// Calls of `oim_run`.
+    Runs,
+    /// Writers whose flush fails.
+    Flushes,
+    /// Folders whose readers fail.
+    Folders,
+}
+
+/// Whether a trial with settings ends as it must.
+fn succeeds(
+    rt: &(impl AllocGlobal + Threads + Wait + Sync),
+    settings: &Settings,
+    trial: Trial,
+) -> bool {
+    match trial {
+        Trial::Runs => runs::hold(rt, settings),
+        Trial::Flushes => tests_flushes::end_unflushed(rt, settings),
+        Trial::Folders => tests_folders::fail(rt, settings),
+    }
+}
+
+/// Whether one with the settings of these words does.
+pub(crate) fn holds(
+    rt: &(impl AllocGlobal + Threads + Wait + Sync),
+    words: &[&str],
+    trial: Trial,
+) -> bool {
+    match job(rt.alloc(), words) {
+        Ok(settings) => succeeds(rt, &settings, trial),
+        Err(_) => false,
+    }
+}
+
+/// The words that name the files of the held report.
+pub(crate) const WORDS: &[&str] = &["m.json", "--types", "t.csv"];
+
+/// Whether an outcome has these lines.
+pub(crate) fn has_lines(alloc: Global, outcome: &Outcome, lines: &str) -> bool {
+    match line(alloc, outcome) {
+        Ok(line) => line.as_str() == lines,
+        Err(_) => false,
+    }
+}
