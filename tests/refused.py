@@ -202,7 +202,7 @@ def pieces_without_threads(folder, document, pool):
     case("a table of many pieces", None if (status, err) == (0, "") and len(json.loads(whole)["facts"]) == 2 * rows else (status, err))
     case("the same by threads", None if run(pieces, "", ["--workers", "4"], str(counts)) == (0, whole, "") else "another document")
     threads = int(re.search(r"thread (\d+)", counts.read_text())[1])
-    case("its pieces have threads of their own", None if threads > 8 else f"{threads} threads")
+    case("its pieces have threads of their own", None if threads > 4 else f"{threads} threads")
     todo = [f"thread:{k}" for k in range(2, 10)] + [f"thread:{k}+" for k in range(2, 10)]
     for refuse, seen in zip(todo, pool.map(lambda it: run(pieces, it, ["--workers", "4"]), todo)):
         case(f"pieces, {refuse}", None if seen == (0, whole, "") else (seen[0], seen[2], len(seen[1])))

@@ -25,7 +25,7 @@ from typing import Dict, List, NamedTuple, Optional, Tuple
 NAMESPACES = {"eg": "http://example.com/eg"}
 TAXONOMY = ["http://example.com/eg.xsd"]
 COMMON = {"entity": "eg:A1", "period": "2021-12-31T00:00:00"}
-PIECE = 65_536
+PIECE = 32_768
 SECONDS = 100
 Row = Tuple[str, str, str]
 

@@ -5,5 +5,4 @@ pub mod Gives
 pub mod CutLaws
 pub mod StepLaws
 pub mod SheetLaws
-pub mod NarrowLaws
 pub mod Examples

@@ -42,7 +42,6 @@ mod decoders;
 mod flight;
 mod flying;
 mod helpers;
-mod narrow;
 mod sheet;
 mod table_pieces;
 mod thread;

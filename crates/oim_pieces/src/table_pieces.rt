@@ -10,7 +10,6 @@ ghost use Rattle.oim_pieces.specs.Flights.{FewerSteps, IsEnd, KeepsEnd, behind, 
 
 use crate::flight::Flight;
 use crate::helpers::Helpers;
-use crate::narrow::Narrow;
 use oim_decode::{JoinedPiece, open_pieces};
 use oim_json::Block;
 use oim_report::{Limits, Report};
@@ -21,7 +20,7 @@ use std::marker::Model;
 use std::sync::Wait;
 use std::thread::{Scope, Threads};
 
-/// About how many bytes a piece of a table has in a conversion: so many that decoding them takes far longer than starting a thread.
+/// About how many bytes a piece of a table has in a conversion: so many that decoding them takes far longer than handing them to a thread.
 pub const PIECE_SIZE: usize = 32_768;
 
 /// The facts of one table that are left, piece by piece, as blocks of text. It borrows the table's report. A contract sees the table's
@@ -30,7 +29,7 @@ pub const PIECE_SIZE: usize = 32_768;
 #[derive(Drop)]
 pub struct TablePieces<'a, R: Read + Drop> {
     alloc: Global,
-    flight: Flight<'a, Narrow<R>>,
+    flight: Flight<'a, R>,
     // the end or the fault that was found behind all that was given
     settled: Option<Option<TableFault>>,
 }
@@ -80,7 +79,7 @@ impl<'a, R: Read + Drop> TablePieces<'a, R> {
         ensures fault { IfSome (R.remaining reader) (λ bytes.
             IfErr result (λ e. IsOutside table e ⊎ (file_header_fault report.now table (grid bytes) ≡ Some e))) }
     {
-        let (head, pieces) = match open_pieces(alloc, Narrow::new(reader, helpers.size())) {
+        let (head, pieces) = match open_pieces(alloc, reader) {
             Ok(Some(opened)) => opened,
             Ok(None) => return Err(whole_fault(table, TableKind::NoHeader)),
             Err(fault) => return Err(fault_of_read(table, fault)),
