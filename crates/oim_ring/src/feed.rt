@@ -145,11 +145,11 @@ impl Feed {
         ensures full { IfErr result (λ back. (back ≡ block) × (self.new ≡ self.old)) }
         ensures open { blocks_only self.new.sent ≡ true }
     {
-        if self.waiting_blocks() >= most {
-            self.waiting.wake();
-            return Err(block);
+        if self.waiting_blocks() < most {
+            return self.put(block);
         }
-        self.put(block)
+        self.waiting.wake();
+        Err(block)
     }
 
     /// How many blocks were put and not taken, as far as is known.
