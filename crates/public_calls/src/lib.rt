@@ -8,8 +8,6 @@ mod blocks;
 #[cfg(test)]
 mod cells;
 #[cfg(test)]
-mod channels;
-#[cfg(test)]
 mod crews;
 #[cfg(test)]
 mod facts;
