@@ -2,8 +2,9 @@
 //!
 //! A worker waits in two places, for room in its ring and for its turn (`backlog`). The writer waits
 //! for an item. That these waits end is not proved. It rests on the following, and on this of the code around: a worker waits
-//! elsewhere only for threads that it started itself, to decode a part of its table, and these wait for nothing. Whoever hands on a
-//! vector that was given back waits only for a call of that kind that is under way.
+//! elsewhere only for a part of its table that a thread of its own is decoding, and at the table's end for these threads, which then have
+//! ended or find that no more parts come; a thread waits only for a part. Whoever hands on a vector that was given back waits only for a
+//! call of that kind that is under way.
 //!
 //! - The writer sleeps for some milliseconds at most and then looks again. So it needs no wake; one
 //!   only comes earlier.
