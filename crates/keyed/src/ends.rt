@@ -80,7 +80,7 @@ impl<T: Drop, K, F: Fit<K, T>> Giver<T, K, F> {
         Ok((Giver { to, from, pass }, taker))
     }
 
-    /// Sends an item. Gives it back where there is no room, or nobody who takes it.
+    /// Sends an item. Gives it back where there is no room.
     pub fn give<R: Wait>(&mut self, rt: &R, item: T) -> Result<(), T>
         requires { IfSome self.old (λ k. F.fits k item) }
         ensures same { self.new ≡ self.old }

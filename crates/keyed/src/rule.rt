@@ -6,8 +6,10 @@ use crossbeam_channel::protocol::{Lesson, Outcome, Protocol, Split};
 pub trait Fit<K, T> {
     ghost use Rattle.std.specs.Prelude.{Option};
 
+    /// What an item says of all items of its channel, if it says anything.
     ghost key: { T → Option K };
 
+    /// What an item is to be where this is known.
     ghost fits: { K → T → Type 0 };
 }
 

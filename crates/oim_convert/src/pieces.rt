@@ -14,8 +14,8 @@ use oim_ring::{Ending, Feed};
 use std::alloc::Global;
 use std::io::Read;
 use std::sync::Wait;
-use std::thread;
 use std::thread::{Scope, Threads};
+use std::{mem, thread};
 
 /// Sends the facts of a table's file, and gives the table's ending. Where there are other workers, threads decode pieces of it in
 /// the places of those that rest.
@@ -103,38 +103,44 @@ fn send_pieces<'s, E, R: Read + Drop, T: Threads + Wait + Sync + 's>(
         limits,
     } = file;
     match TablePieces::open(alloc, helpers, report, table, reader, limits) {
-        Ok(mut pieces) => send_opened(scope, rt, &mut pieces, helpers, feed),
+        Ok(pieces) => send_opened(scope, rt, pieces, helpers, feed),
         Err(fault) => Ending::Refused(fault),
     }
 }
 
-/// Sends the pieces of a table that was opened, in memory that goes round, and gives the table's ending.
+/// Sends the pieces of a table that was opened, in memory that goes round, lets go of the table, and gives its ending.
 fn send_opened<'s, E, R: Read + Drop, T: Threads + Wait + Sync + 's>(
     scope: &Scope<'s, E>,
     rt: &'s T,
-    pieces: &mut TablePieces<'s, R>,
+    pieces: TablePieces<'s, R>,
     helpers: &Helpers,
     feed: &mut Feed,
 ) -> Ending
     requires fresh { feed.old.sent ≡ [] }
     ensures ring { feed.new.ring ≡ feed.old.ring }
-    ensures given { IfSome pieces.old.left (λ s. IsGiven pieces.old.table s (facts_in feed.new.sent) result) }
+    ensures given { IfSome pieces.entry.left (λ s. IsGiven pieces.entry.table s (facts_in feed.new.sent) result) }
 {
-    let ending = send_left(scope, rt, pieces, helpers, feed);
-    give_back_rooms(rt, pieces, feed);
+    let mut pieces = pieces;
+    let ending = send_left(scope, rt, &mut pieces, helpers, feed);
+    give_back_rooms(rt, &mut pieces, feed);
+    mem::drop(pieces);
     ending
 }
 
 /// Tells the pieces whether the writer has reached the table, and takes memory for the texts of the next ones, as far as blocks that were written
 /// gave it back.
-fn make_ready<R: Read + Drop, T: Wait>(rt: &T, pieces: &mut TablePieces<'_, R>, feed: &Feed)
-    ensures { pieces.new ≡ pieces.old }
+fn make_ready<R: Read + Drop, T: Wait>(rt: &T, pieces: &mut TablePieces<'_, R>, feed: &mut Feed)
+    ensures pieces { pieces.new ≡ pieces.old }
+    ensures feed { feed.new ≡ feed.old }
 {
     pieces.want(feed.is_reached());
     for _ in 0..pieces.wanted_rooms() {
         match feed.kept_room(rt) {
             Some(room) => pieces.keep_room(rt, room),
-            None => return,
+            None => {
+                pieces.note_left(feed.waiting_blocks());
+                return;
+            }
         }
     }
 }

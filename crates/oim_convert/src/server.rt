@@ -31,7 +31,10 @@ impl<R: Read + Drop, T: Threads + Wait + Sync> Serve<Job<R>, Receipt, T, Report>
 
     ghost gives = { gives_of R.remaining };
 
-    fn serve(&self, rt: &T, report: &Report, number: usize, job: Job<R>) -> Receipt {
+    fn serve(&self, rt: &T, report: &Report, number: usize, job: Job<R>) -> Receipt
+    where
+        T: Sync,
+    {
         let closed = if self.threaded {
             decode(rt, self.alloc, report, self.limits, job)
         } else {

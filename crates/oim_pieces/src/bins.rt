@@ -50,7 +50,10 @@ impl Bin {
 #[derive(Drop)]
 pub(crate) struct Bins {
     bins: Vec<Bin>,
+    // the thread of each piece, and how many of its blocks have not come back
     written: VecDeque<(usize, usize)>,
+    // how many blocks these are
+    out: usize,
 }
 
 impl Bins {
@@ -59,10 +62,11 @@ impl Bins {
         Bins {
             bins: Vec::new(alloc),
             written: VecDeque::new(alloc),
+            out: 0,
         }
     }
 
-    /// How many there are.
+    /// How many there are: one for each thread that was started, or could not be.
     pub(crate) fn count(&self) -> usize {
         self.bins.len()
     }
@@ -96,16 +100,36 @@ impl Bins {
 
     /// Notes that the thread of this number wrote the next blocks, so many of them.
     pub(crate) fn note(&mut self, number: usize, count: usize) {
-        if count > 0 {
-            let _ = self.written.push_back((number, count));
+        if count > 0 && self.written.push_back((number, count)).is_ok() {
+            self.out = self.out.saturating_add(count);
         }
     }
 
-    /// Keeps the vector of the next block that comes back for the thread that wrote it. Gives it back where that is no thread.
+    /// Forgets who wrote the blocks that were given but the last `left`, since these have come back, or do not.
+    pub(crate) fn forget(&mut self, left: usize) {
+        for _ in 0..self.written.len() {
+            let over = self.out.saturating_sub(left);
+            if over == 0 {
+                return;
+            }
+            let Some((number, count)) = self.written.pop_front() else {
+                return;
+            };
+            let gone = count.min(over);
+            self.out = self.out.saturating_sub(gone);
+            if count > gone {
+                let _ = self.written.push_front((number, count - gone));
+            }
+        }
+    }
+
+    /// Keeps the vector of the next block that comes back for the thread that wrote it, or drops it where many are kept for that. Gives it back
+    /// where no thread wrote it.
     pub(crate) fn keep<T: Wait>(&mut self, rt: &T, room: Vec<u8>) -> Option<Vec<u8>> {
         let Some((number, count)) = self.written.pop_front() else {
             return Some(room);
         };
+        self.out = self.out.saturating_sub(1);
         if count > 1 {
             let _ = self.written.push_front((number, count - 1));
         }

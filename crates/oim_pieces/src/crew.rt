@@ -17,7 +17,7 @@ use std::alloc::Global;
 use std::sync::Wait;
 use std::thread::Scope;
 
-/// How many pieces may wait for the threads of a table. Fewer are under way at once.
+/// How many pieces may lie in the line of a table, those among them that its worker has drawn meanwhile. Fewer are under way at once.
 const MOST_JOBS: usize = 64;
 
 /// The threads of a table: the channel by which they are sent pieces, once there is one, and the memory that each of them uses again. Once it
@@ -58,7 +58,7 @@ impl<'a> Crew<'a> {
         }
     }
 
-    /// Puts a piece up for the threads of the table. Where memory is short it is dropped, and nobody draws it.
+    /// Puts a piece up for the threads of the table. Where memory is short or the line is full it is dropped, and its worker draws the piece.
     #[tactic(auto, using(crate::proofs::SheetLaws::job_known, crate::proofs::SheetLaws::job_fits, crate::proofs::SheetLaws::line_opens, crate::proofs::SheetLaws::line_fits))]
     fn put<T: Wait>(&mut self, rt: &T, form: &RowForm<'a>, job: Job<'a>)
         requires line { IsLine form.now self.old.line }
@@ -114,7 +114,7 @@ impl<'a> Crew<'a> {
         }
     }
 
-    /// Decodes a piece here that nobody has drawn, and sends its answer. False where there is none.
+    /// Takes a piece from the line, and decodes it here and sends its answer, if nobody has drawn it. False where the line has none.
     pub(crate) fn help<T: Wait>(
         &mut self,
         rt: &T,
@@ -136,7 +136,7 @@ impl<'a> Crew<'a> {
         }
     }
 
-    /// A piece that nobody has drawn, if there is one.
+    /// The next piece of the line, if there is one.
     #[tactic(auto, using(crate::proofs::SheetLaws::line_gives))]
     fn draw<T: Wait>(&mut self, rt: &T, form: &RowForm<'a>) -> Option<Job<'a>>
         requires { IsLine form.now self.old.line }
@@ -149,7 +149,7 @@ impl<'a> Crew<'a> {
         }
     }
 
-    /// How many threads there are.
+    /// How many threads were started, or could not be.
     pub(crate) fn count(&self) -> usize {
         self.bins.count()
     }

@@ -51,7 +51,7 @@ pub(crate) struct Cutter<R: Read + Drop> {
     over: Option<Option<TableFault>>,
     // how many bytes a piece is to have
     size: usize,
-    // whether the last piece was short, as at the end of a file and of a reader that gives few bytes at a time
+    // whether the last piece was short, or the last read, as at the end of a file and of a reader that gives few bytes at a time
     is_slow: bool,
 }
 
@@ -153,7 +153,7 @@ impl<R: Read + Drop> Cutter<R> {
             Ok(Some(FilePiece { bytes, records })) => {
                 let first = self.next as u32;
                 let is_short = bytes.len() < self.size / 2;
-                self.is_slow = is_short;
+                self.is_slow = is_short || self.pieces.is_short();
                 self.next += records;
                 Some(CutPiece {
                     bytes,

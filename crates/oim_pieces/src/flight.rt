@@ -176,6 +176,13 @@ impl<'a, R: Read + Drop> Flight<'a, R> {
         }
     }
 
+    /// Notes that the vectors of all blocks that were given but the last `left` have come back.
+    pub(crate) fn note_left(&mut self, left: usize)
+        ensures { self.new ≡ self.old }
+    {
+        self.crew.bins.forget(left);
+    }
+
     /// Notes how many vectors the texts of the piece took that was joined last.
     pub(crate) fn expect(&mut self, count: usize)
         ensures { self.new ≡ self.old }
@@ -184,7 +191,7 @@ impl<'a, R: Read + Drop> Flight<'a, R> {
         self.decoders.expect(count);
     }
 
-    /// How many vectors more would serve for the texts of the next pieces. No contract says so.
+    /// How many vectors more are to be taken for the texts of the next pieces: all that came back, once the table is written.
     pub(crate) fn wanted_rooms(&self) -> usize {
         if self.is_wanted {
             MOST_TAKEN

@@ -44,7 +44,7 @@ impl Helpers {
         self.workers < 2
     }
 
-    /// Notes that a worker is at work.
+    /// Notes that a worker or a thread is at work, whether or not there is a place for it.
     pub fn start(&self) {
         self.busy.fetch_add(1, Ordering::SeqCst);
     }
@@ -78,7 +78,8 @@ impl Helpers {
         count
     }
 
-    /// How many may decode pieces of a table at once: its worker, and threads beside it. More than there are processors would only take memory.
+    /// How many may decode pieces of a table at once: its worker, and threads beside it, one at least. More than there are processors would
+    /// only take memory.
     fn most_at_work<T: Threads>(&self, rt: &T) -> usize {
         self.processors(rt).min(self.workers).clamp(2, MOST_AT_WORK)
     }

@@ -9,7 +9,7 @@ use oim_decode::PieceAnswer;
 use oim_rows::RowForm;
 use std::snapshot::Snapshot;
 
-/// A piece that nobody has drawn yet: what is asked, its bytes, the number of its first row, and how many vectors its texts may take.
+/// A piece that nobody has drawn yet: what is asked, its bytes, the number of its first row, and how many vectors are lent for its texts.
 #[derive(Drop)]
 pub(crate) struct Question<'a> {
     pub(crate) asked: Asked<'a>,

@@ -96,7 +96,7 @@ impl<'a, R: Read + Drop> TablePieces<'a, R> {
 
     /// The facts of the next piece in blocks of 1 to 256, in header order and row by row, or None at the end. Where there are
     /// places for them, threads of the scope decode pieces that come later. After the end or a fault it answers the same again, and cuts
-    /// nothing. Where the reader tells its bytes, blocks come at most once for each piece under way and each byte behind them, and once more.
+    /// nothing. The caller is to count as at work (`Helpers::start`): it rests while it waits for an answer. Where the reader tells its bytes, blocks come at most once for each piece under way and each byte behind them, and once more.
     ///
     /// Fails, where the facts of all rows before were given, with the first fault of the first bad
     /// row, in this order: Ragged, NotUtf8, TooManyRows, MissingRowId, BadRowId, RepeatedRowId, then
@@ -146,14 +146,23 @@ impl<'a, R: Read + Drop> TablePieces<'a, R> {
         self.flight.want(is_wanted);
     }
 
-    /// Keeps the memory of a block that was written, for texts that are decoded later.
+    /// Keeps the memory of a block that was written, for texts that are decoded later, or drops it where much is kept. Once the table is
+    /// written, its own blocks are to come in the order in which they were given.
     pub fn keep_room<T: Wait>(&mut self, rt: &T, room: Vec<u8>)
         ensures { self.new ≡ self.old }
     {
         self.flight.keep_room(rt, room);
     }
 
-    /// How many vectors more would serve for the texts of the next pieces. No contract says so.
+    /// Notes that the vectors of all blocks that were given but the last `left` have come back, so that those of these are known for theirs.
+    pub fn note_left(&mut self, left: usize)
+        ensures { self.new ≡ self.old }
+    {
+        self.flight.note_left(left);
+    }
+
+    /// How many vectors more are to be taken for the texts of the next pieces: all that came back, once the table is written. No
+    /// contract says so.
     pub fn wanted_rooms(&self) -> usize {
         self.flight.wanted_rooms()
     }

@@ -107,7 +107,8 @@ pub(crate) fn serve<'a, T: Wait>(rt: &T, helpers: &Helpers, post: Post<'a>)
     unreachable!()
 }
 
-/// The next job, waiting for one without a place in the count. `None` where no more come, and then the place was given back.
+/// The next job, waiting for one without a place in the count, which is taken again even where there is none. `None` where no more come, and
+/// then the place was given back.
 fn next_job<'a, T: Wait>(rt: &T, helpers: &Helpers, share: &mut Share<'a>) -> Option<Job<'a>>
     ensures same { share.new ≡ share.old }
     ensures job { IfSome result (λ job. IfSome share.old (λ how. IsReadBy how.reading.value job)) }

@@ -154,8 +154,8 @@ impl Feed {
         Err(block)
     }
 
-    /// How many blocks were put and not taken, as far as is known.
-    fn waiting_blocks(&mut self) -> usize
+    /// How many blocks were put and not taken, as far as is known. It waits for nothing.
+    pub fn waiting_blocks(&mut self) -> usize
         ensures count { result ≤ length self.old.sent }
         ensures same { self.new ≡ self.old }
     {
