@@ -38,7 +38,7 @@ pub(crate) fn refused(table: usize, kind: TableKind) -> Ending
 
 /// Decodes a table: sends its facts, and closes its feed with its ending. `None` if the token of the
 /// feed is lost.
-pub(crate) fn decode<R: Read + Drop, T: Threads + Wait + Sync>(
+pub(crate) fn decode<R: Read + Drop, T: Threads + Wait>(
     rt: &T,
     alloc: Global,
     report: &Report,

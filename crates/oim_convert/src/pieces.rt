@@ -6,6 +6,7 @@ ghost use Rattle.oim_convert.specs.TableFiles.{IsSentOfFile, IsTableFile};
 ghost use Rattle.oim_rows.specs.Streams.{facts_of_rows};
 
 use crate::decode::send_file;
+use crate::leave::Leave;
 use crate::sending::put_waiting;
 use crate::table_file::TableFile;
 use oim_json::Block;
@@ -19,7 +20,7 @@ use std::{mem, thread};
 
 /// Sends the facts of a table's file, and gives the table's ending. Where there are other workers, threads decode pieces of it in
 /// the places of those that rest.
-pub(crate) fn send_table<R: Read + Drop, T: Threads + Wait + Sync>(
+pub(crate) fn send_table<R: Read + Drop, T: Threads + Wait>(
     rt: &T,
     alloc: Global,
     file: TableFile<'_, R>,
@@ -34,7 +35,7 @@ pub(crate) fn send_table<R: Read + Drop, T: Threads + Wait + Sync>(
     if helpers.is_alone() {
         send_file(rt, alloc, file, helpers, feed)
     } else {
-        send_in_scope(rt, alloc, file, helpers, feed)
+        send_in_scope(&Leave::of(rt), alloc, file, helpers, feed)
     }
 }
 

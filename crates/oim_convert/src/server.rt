@@ -24,17 +24,14 @@ pub(crate) struct Serving {
     pub(crate) threaded: bool,
 }
 
-impl<R: Read + Drop, T: Threads + Wait + Sync> Serve<Job<R>, Receipt, T, Report> for Serving {
+impl<R: Read + Drop, T: Threads + Wait> Serve<Job<R>, Receipt, T, Report> for Serving {
     ghost use Rattle.oim_convert.specs.Jobs.{CanServe, gives_of};
 
     ghost can_serve = { λ s report. CanServe report s.limits.rows };
 
     ghost gives = { gives_of R.remaining };
 
-    fn serve(&self, rt: &T, report: &Report, number: usize, job: Job<R>) -> Receipt
-    where
-        T: Sync,
-    {
+    fn serve(&self, rt: &T, report: &Report, number: usize, job: Job<R>) -> Receipt {
         let closed = if self.threaded {
             decode(rt, self.alloc, report, self.limits, job)
         } else {

@@ -47,7 +47,7 @@ fn fault_before(workers: usize, size: usize, readers: usize, tables: usize) -> O
 
 /// What a conversion needs, prepared before anything is written.
 #[derive(Drop)]
-struct Ready<R: Read + Drop, T: Threads + Wait + Sync> {
+struct Ready<R: Read + Drop, T: Threads + Wait> {
     crew: Crew<Job<R>, Receipt, Serving, T, Report>,
     unmerged: Unmerged,
     room: ReturnRoom<R>,
@@ -55,7 +55,7 @@ struct Ready<R: Read + Drop, T: Threads + Wait + Sync> {
 
 /// Everything that a conversion with this many workers and rings of this size needs. Fails if memory
 /// runs out.
-fn prepare<R: Read + Drop, T: Threads + Wait + Sync>(
+fn prepare<R: Read + Drop, T: Threads + Wait>(
     alloc: Global,
     report: &Report,
     readers: Vec<Option<R>>,

@@ -83,7 +83,7 @@ pub fn all_idle<V, O>(shifts: &[Shift<V, O>]) -> bool
 
 /// If no worker could be started, draws all items on this thread and serves each with the spare
 /// server. Tells whether the server is in use, and not the spare one.
-fn spare_unless_started<V: Drop, O: Drop, S: Serve<V, O, T, C> + Drop, T: Sync, C>(
+fn spare_unless_started<V: Drop, O: Drop, S: Serve<V, O, T, C> + Drop, T, C>(
     site: &Site<'_, V, S, T, C>,
     room: &mut Room<V, O, S, T, C>,
 ) -> bool

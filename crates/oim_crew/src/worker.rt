@@ -22,8 +22,6 @@ pub trait Serve<V, O, T, C> {
 
     /// Serves the item under a number.
     fn serve(&self, rt: &T, shared: &C, number: usize, item: V) -> O
-    where
-        T: Sync,
         requires { can_serve self.now shared.now number item }
         ensures { gives self.now shared.now number item result };
 }
@@ -60,7 +58,7 @@ impl<V, O, S: Serve<V, O, T, C>, T, C> Promise<Shift<V, O>> for ShiftOf<V, S, T,
 }
 
 /// Draws until no item is left, and serves each item that it draws.
-pub(crate) fn work<V, O, S: Serve<V, O, T, C>, T: Sync, C>(
+pub(crate) fn work<V, O, S: Serve<V, O, T, C>, T, C>(
     rt: &T,
     shared: &C,
     server: &S,
@@ -83,7 +81,7 @@ pub(crate) fn work<V, O, S: Serve<V, O, T, C>, T: Sync, C>(
 }
 
 /// The same, or nothing if the worker was stopped before.
-fn work_unless<V, O, S: Serve<V, O, T, C>, T: Sync, C>(
+fn work_unless<V, O, S: Serve<V, O, T, C>, T, C>(
     rt: &T,
     shared: &C,
     server: &S,
@@ -146,11 +144,7 @@ pub(crate) fn start<
         rt: Snapshot::of(rt),
         shared: Snapshot::of(shared),
     };
-    let shift = move || -> Shift<V, O>
-        requires items { CanServeAll (S.can_serve server.now shared.now) claims.now.items }
-        requires station { IsStation claims.now station }
-        ensures { IsShift (S.gives server.entry.now shared.entry.now) claims.entry.now result }
-    { work_unless(rt, shared, server, claims, station, stop) };
+    let shift = move || work_unless(rt, shared, server, claims, station, stop);
     match scope.spawn_with(promise, shift) {
         Ok(handle) => Ok(handle),
         Err(refused) => {

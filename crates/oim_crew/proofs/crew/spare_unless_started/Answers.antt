@@ -6,7 +6,7 @@ use Rattle.oim_crew.proofs.LongerLists.{all-more}
 use Rattle.oim_crew.proofs.crew.spare_unless_started.Goals as goal
 
 pub work-served-requires-clause-station : goal.work-served-requires-clause-station
-work-served-requires-clause-station g c κs within =
+work-served-requires-clause-station g c =
     let claims = c.args.site.now.claims.now in
     let idle = sym c.all_idle.ensures ∙ c.if-not-all_idle.false in
     let idle' = subst (λ l. list_all (λ s. s.stopped) l ≡ true) c.as_slice.ensures.value idle in
