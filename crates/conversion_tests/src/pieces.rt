@@ -9,8 +9,8 @@ use oim_pieces::{Helpers, PIECE_SIZE, TablePieces};
 use oim_rows::TableFault;
 use std::alloc::{AllocError, Global};
 use std::sync::Wait;
-use std::thread;
 use std::thread::{Scope, Threads};
+use std::{mem, thread};
 
 /// The number of blocks in the first piece of a report's first table, whose file has these bytes.
 fn first_piece<'s, E, T: Threads + Wait + Sync + 's>(
@@ -26,7 +26,9 @@ fn first_piece<'s, E, T: Threads + Wait + Sync + 's>(
     }
     let limits = Limits::profile();
     let mut table = TablePieces::open(alloc, helpers, report, 0, file, limits)?;
-    match table.next_blocks(scope, rt)? {
+    let first = table.next_blocks(scope, rt);
+    mem::drop(table);
+    match first? {
         Some(blocks) => Ok(blocks.len()),
         None => Ok(0),
     }
@@ -53,8 +55,12 @@ fn keeps_rooms(rt: &(impl AllocGlobal + Wait), report: &Report, file: &[u8]) -> 
     };
     let needs_none = table.wanted_rooms() == 0;
     table.want(true);
+    table.note_left(0);
     table.keep_room(rt, Vec::new(alloc));
-    needs_none && table.free_rooms(rt).len() == 1 && table.free_rooms(rt).is_empty()
+    let has_one = table.free_rooms(rt).len() == 1;
+    let has_none = table.free_rooms(rt).is_empty();
+    mem::drop(table);
+    needs_none && has_one && has_none
 }
 
 /// Adds the texts of blocks to the beginning of a document.
@@ -105,7 +111,9 @@ fn put_table<'s, E, T: Threads + Wait + Sync + 's>(
     match TablePieces::open(alloc, helpers, report, 0, file, Limits::profile()) {
         Ok(mut table) => {
             table.want(true);
-            put_pieces(scope, rt, &mut table, document)
+            let is_good = put_pieces(scope, rt, &mut table, document);
+            mem::drop(table);
+            is_good
         }
         Err(_) => false,
     }

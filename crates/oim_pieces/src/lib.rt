@@ -26,7 +26,9 @@
 //!     }
 //!     let limits = Limits::profile();
 //!     let mut table = TablePieces::open(alloc, helpers, report, 0, file, limits)?;
-//!     match table.next_blocks(scope, rt)? {
+//!     let first = table.next_blocks(scope, rt);
+//!     mem::drop(table);
+//!     match first? {
 //!         Some(blocks) => Ok(blocks.len()),
 //!         None => Ok(0),
 //!     }
