@@ -165,16 +165,20 @@ class FolderPackage(Package):
 
     def all_entries(self, folder: str) -> Iterator[Tuple[str, os.DirEntry[str]]]:
         """What stands in a folder and in those inside of it, but for the folders, with its name in the package's folder. No recursion: folders may be deep."""
-        ways = [(folder, iter(entries_of(os.path.join(self.top, folder), self.label)))]
+        ways = [self.way_into(folder)]
         while ways:
             at, entries = ways[-1]
             it = next(entries, None)
             if it is None:
                 ways.pop()
             elif it.is_dir(follow_symlinks=False):
-                ways.append((f"{at}{it.name}/", iter(entries_of(it.path, self.label))))
+                ways.append(self.way_into(f"{at}{it.name}/"))
             else:
                 yield at + it.name, it
+
+    def way_into(self, folder: str) -> Tuple[str, Iterator[os.DirEntry[str]]]:
+        """A folder by its name in the package's folder, and what stands in it."""
+        return folder, iter(entries_of(os.path.join(self.top, folder), f"{self.label.rstrip('/')}/{folder}".rstrip("/")))
 
     def disk(self, name: str) -> str:
         """The path on the disk; a link that leads outside of the folder is refused."""

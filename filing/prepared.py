@@ -60,13 +60,14 @@ class Files:
             raise Refusal(FILES, self.package.shown(name), f"cannot read (there is no such file; 'parameterURL' of {asker} names it)")
 
     def refuse_unread(self) -> None:
-        """Refuses a CSV file of the report that nothing names: its facts would be missing in silence. A URL that is not plain is left to xbrl-json."""
+        """Refuses a CSV file of the report that nothing names: its facts would be missing in silence. A URL that is not plain, or a folder in the
+        place of a table, is left to xbrl-json."""
         tables = self.merged.value.get("tables", {}).values()
         urls = [it.get("url") if isinstance(it, dict) else None for it in tables]
         if not all(map(is_plain, urls)) or (self.parameters is None and "parameterURL" in self.merged.value):
             return
         name = next(self.unread(), None)
-        if name is not None:
+        if name is not None and not any(self.package.children(self.name(it)) != ([], []) for it in self.all()):
             raise wrong(self.package.shown(name), "is not read: no table of the joined metadata has this url (names are compared exactly)")
 
     def unread(self) -> Iterator[str]:

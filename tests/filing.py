@@ -115,7 +115,11 @@ def write(folder, files):
     for path, text in files.items():
         at = folder / path
         at.parent.mkdir(parents=True, exist_ok=True)
-        at.write_bytes(text if isinstance(text, bytes) else text.encode())
+        at.write_bytes(as_bytes(text))
+
+
+def as_bytes(text):
+    return text if isinstance(text, bytes) else text.encode()
 
 
 def pack(path, files, top="", method=zipfile.ZIP_DEFLATED):
@@ -179,7 +183,10 @@ def listing(folder):
 
 
 def prepared(folder, report=REPORT, taxonomies=(TAXONOMY,), words=(), name="reports/report.json", form="folder"):
-    """What a run with --prepare says, and the files that it makes. Inputs must stay as they are, and nothing else may be left."""
+    """What a run with --prepare says, and the files that it makes. Inputs must stay as they are, and nothing else may be left. The table of
+    REPORT is there where a metadata file names it: without that the report would be refused."""
+    if not any(b"t.csv" in as_bytes(text) for files in (report, *taxonomies) for name, text in files.items() if not name.endswith(".csv")):
+        report = {it: text for it, text in report.items() if it != "reports/t.csv"}
     shutil.rmtree(folder / "w", ignore_errors=True)
     work = folder / "w"
     work.mkdir()
@@ -345,7 +352,8 @@ def forms_of_reports(folder):
 
 def catalogs(folder):
     """Which file stands for a URL."""
-    other = {"other/mod.json": meta({**INFO, "namespaces": {"eg": EG, "two": "http://two.example/"}}), "other/mod.xsd": schema(ELEMENTS)}
+    info = {**INFO, "namespaces": {"eg": EG, "two": "http://two.example/"}}
+    other = {"other/mod.json": meta(info, tables=MERGED["tables"]), "other/mod.xsd": schema(ELEMENTS)}
     two = "documentInfo/namespaces/two"
 
     def by(name, entries, taken, more=None, attributes=""):
@@ -1866,7 +1874,9 @@ def files_that_nothing_names(folder):
         inside = {**moved, "reports/q/a/report.json": meta(), "reports/q/a/T.csv": rows}
         stops(folder, f"no report stands so deep, {form}", f"r/reports/q/a/T.csv: {said}", report=inside, form=form, **inputs)
         none = [{**TAXONOMY, "reg/mod.json": meta(INFO)}]
-        stops(folder, f"no table at all, {form}", f"r/reports/t.csv: {said}", taxonomies=none, form=form)
+        stops(folder, f"no table at all, {form}", f"r/reports/T.csv: {said}", report={**REPORT, "reports/T.csv": rows}, taxonomies=none, form=form)
+        inside = {**bare, "reports/t.csv/x.csv": rows, "reports/T.csv": rows}
+        makes(folder, f"a folder in a table's place is the converter's fault, {form}", parts={"tables": optional}, report=inside, form=form, **inputs)
         for part in ({"tables": {"t": {"url": "./t.csv"}}}, {"tables": {"t": 7}}, {"tables": {"t": {}}}, {"tables": {"t": {"url": "t.csv"}}, "parameterURL": "./p.csv"}):
             wrong_url = [{**TAXONOMY, "reg/mod.json": meta(INFO, **part)}]
             makes(folder, f"a URL that is the converter's fault: {part}, {form}", parts=part, report={**REPORT, **bare}, taxonomies=wrong_url, form=form)
@@ -2731,7 +2741,7 @@ def keys_of_the_cache(folder):
         (((0, ""), TYPES.replace("Note", "Nope")), size, 2),
     )
     case("a ZIP is another package", (made("t.zip"), len(entries())), (((0, ""), TYPES), 3))
-    write(folder, {"t/reg/mod.json": meta({**INFO, "taxonomy": ["two.xsd"]}), "t/reg/two.xsd": schema(item("Two"))})
+    write(folder, {"t/reg/mod.json": meta({**INFO, "taxonomy": ["two.xsd"]}, tables=MERGED["tables"]), "t/reg/two.xsd": schema(item("Two"))})
     case("another entry point", made(), ((0, ""), records("Two,text")))
     write(folder, {"t3/META-INF/catalog.xml": catalog(rewrite()), "t3/reg/two.xsd": schema(item("Three"))})
     write(folder, {"r6/reports/report.json": meta({"namespaces": {"eg": EG}, "taxonomy": [HOST + "mod.xsd"]})})
