@@ -1859,7 +1859,8 @@ def files_that_nothing_names(folder):
             stops(folder, f"{name} in a folder of reports, {form}", line, report=moved, form=form, **inputs)
         many = {f"reports/{it}.csv": rows for it in ("t", "sub/u", "z", "b/a", "sub/v")}
         stops(folder, f"the first of several, {form}", f"r/reports/b/a.csv: {said}", report={**bare, **many}, form=form, **inputs)
-        passed = ("t.csv", "sub/u.csv", "t.txt", "T.csv.bak", "csv", "._T.csv", ".x/T.csv", "a/.x/T.csv", "__MACOSX/T.csv", "../T.csv", "../META-INF/T.csv", "../other/T.csv")
+        passed = ["t.csv", "sub/u.csv", "t.txt", "T.csv.bak", "csv", "._T.csv", ".x/T.csv", "a/.x/T.csv", "__MACOSX/T.csv"]
+        passed += ["../T.csv", "../META-INF/T.csv", "../other/T.csv"]
         named = {f"reports/{it}".replace("reports/../", ""): rows for it in passed}
         made = makes(folder, f"what is none of the report, {form}", parts={"tables": optional}, report={**bare, **named}, form=form, **inputs)
         case(f"what is none of the report is not prepared, {form}", sorted(made), ["meta.json", "p.csv", "sub/u.csv", "t.csv", "types.csv"])
@@ -1877,7 +1878,8 @@ def files_that_nothing_names(folder):
         stops(folder, f"no table at all, {form}", f"r/reports/T.csv: {said}", report={**REPORT, "reports/T.csv": rows}, taxonomies=none, form=form)
         inside = {**bare, "reports/t.csv/x.csv": rows, "reports/T.csv": rows}
         makes(folder, f"a folder in a table's place is the converter's fault, {form}", parts={"tables": optional}, report=inside, form=form, **inputs)
-        for part in ({"tables": {"t": {"url": "./t.csv"}}}, {"tables": {"t": 7}}, {"tables": {"t": {}}}, {"tables": {"t": {"url": "t.csv"}}, "parameterURL": "./p.csv"}):
+        bad_tables = [{"tables": {"t": it}} for it in ({"url": "./t.csv"}, 7, {})]
+        for part in (*bad_tables, {"tables": {"t": {"url": "t.csv"}}, "parameterURL": "./p.csv"}):
             wrong_url = [{**TAXONOMY, "reg/mod.json": meta(INFO, **part)}]
             makes(folder, f"a URL that is the converter's fault: {part}, {form}", parts=part, report={**REPORT, **bare}, taxonomies=wrong_url, form=form)
     lone = {**bare, "reports/T.csv": rows}
@@ -1961,7 +1963,8 @@ def parameters_in_other_letters(folder):
         return {"tableTemplates": {"t": {"columns": {"cash": {"dimensions": {"concept": "eg:Cash"}, **column}}}}}
 
     def in_group(**group):
-        return {"tableTemplates": {"t": {"columns": {"k": {"propertyGroups": {"g": group}}, "cash": {"dimensions": {"concept": "eg:Cash"}, "propertiesFrom": ["k"]}}}}}
+        cash = {"dimensions": {"concept": "eg:Cash"}, "propertiesFrom": ["k"]}
+        return {"tableTemplates": {"t": {"columns": {"k": {"propertyGroups": {"g": group}}, "cash": cash}}}}
 
     for form in ("folder", "zip"):
         for side in ("", "@start", "@end"):
@@ -1995,8 +1998,9 @@ def parameters_in_other_letters(folder):
         ("no parameters", "a", {**unit, "parameterURL": "q.csv"}),
     ):
         given = filed(given, **parts)
-        given["report"]["reports/q.csv"] = "name,value\n"
-        given["report"].update({"reports/p.txt": given["report"].pop("reports/p.csv")} if "parameterURL" in parts else {"reports/q.txt": given["report"].pop("reports/q.csv")})
+        if "parameterURL" in parts:
+            given["report"].pop("reports/p.csv")
+            given["report"]["reports/q.csv"] = "name,value\n"
         makes(folder, f"no parameter in other letters: {name}", parts={"tables": tables}, **given)
     broken = filed("Unit", **unit)
     broken["report"]["reports/p.csv"] = b"name,value\n\n\xff\xfe,\nUnit\nunit,1,2\n" + b'"'
