@@ -246,7 +246,7 @@ def threads_and_memory(folder, document, pool):
         seen[it].append(called(counts))
     # Right: 28 on one or two processors and 76 on four, with the workers; where threads that ended kept their places, 8.
     threads = [it["thread"] for it in seen[many]]
-    case("24 tables have threads", None if max(threads) >= 16 and max(threads) <= 120 else f"{threads} threads")
+    case("24 tables have threads", None if 16 <= max(threads) <= 120 else f"{threads} threads")
     # Right: 5 on one or two processors and 7 on four; one for each piece would be 159.
     threads = [it["thread"] for it in seen[long]]
     case("a table's threads stay", None if max(threads) <= 20 else f"{threads} threads")

@@ -206,9 +206,9 @@ def ways(numbers: random.Random, tables: List[Table]) -> List[Way]:
 
 
 def peak(process: int) -> int:
-    """The most memory that a process has had so far, in KiB."""
+    """The most memory that a process has had so far, in KiB; 0 of one that ended."""
     lines = Path(f"/proc/{process}/status").read_text().splitlines()
-    return next(int(it.split()[1]) for it in lines if it.startswith("VmHWM:"))
+    return next((int(it.split()[1]) for it in lines if it.startswith("VmHWM:")), 0)
 
 
 def unread_output(program: str) -> Optional[str]:
@@ -229,11 +229,11 @@ def unread_output(program: str) -> Optional[str]:
     facts = wrote.count(b'"value":')
     if (run.returncode, said, facts) != (0, b"", 2 * len(rows)):
         return f"status {run.returncode}, {said[:200]!r}, {facts} facts"
-    return None if most < MOST_MEMORY else f"it took {most} KiB"
+    return None if 0 < most < MOST_MEMORY else f"it took {most} KiB"
 
 
 def feed_and_stall(pipe: Path, whole: bytes, step: int, goes_on: threading.Event) -> None:
-    """Gives a pipe the first GIVEN of these bytes, each part once the last was read, and the others once it is told to go on."""
+    """Gives a pipe the first GIVEN of these bytes, each part once the one before was read, and the others once it is told to go on."""
     try:
         with open(pipe, "wb", buffering=0) as file:
             for at in range(0, GIVEN, step):
@@ -248,7 +248,7 @@ def feed_and_stall(pipe: Path, whole: bytes, step: int, goes_on: threading.Event
 
 
 def stalled(program: str, workers: int, step: int) -> Optional[str]:
-    """What is wrong with a run whose table comes by a pipe that stalls, or None: all rows given must be written before more come, but for a few."""
+    """What is wrong with a run whose table comes by a pipe that stalls: all rows given, but for the last few, must be written before more come."""
     it = Table("t", [(f"i{at}", str(at), "a") for at in range(6_000)], None)
     records = [record(["id", "amount", "note"], "\n")] + [record(list(row), "\n") for row in it.rows]
     must = sum(1 for end in accumulate(map(len, records)) if end <= GIVEN - HELD_BACK) - 1
