@@ -37,7 +37,7 @@ SECONDS = 100
 # how much a table may take whose output nobody reads, in KiB: it took 9,356 with 4 workers, and 49,644 where nothing bounded what waits
 MOST_MEMORY = 30_000
 # how long rows are waited for that must come out
-PATIENCE = 20
+PATIENCE = 60
 # how many bytes a table's pipe is given before it stalls, and how many of them may still wait: those of a block of 256 facts and a row
 GIVEN = 100_000
 HELD_BACK = 4_096
