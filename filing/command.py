@@ -18,7 +18,7 @@ from .metadata import check_parts, merge
 from .origins import Origins
 from .outputs import refuse_outputs
 from .packages import Package, open_package
-from .parameters import check_parameters
+from .parameters import check_parameters, check_references
 from .prefixes import Renaming, lost_prefixes
 from .prepared import META, TYPES, Files, move_into, write_files
 from .progress import Progress
@@ -148,7 +148,9 @@ def join(report: Found, packages: List[Package], settings: Settings, progress: P
     refuse_unknown_dimensions(origins, namespaces, kinds)
     files = Files(report, merged)
     files.require_parameters()
+    files.refuse_unread()
     check_parameters(merged, renaming, files)
+    check_references(merged, files)
     return origins, files, types_table(kinds, namespaces.values())
 
 

@@ -43,8 +43,16 @@ class Package(ABC):
         """The names of the files and of the folders in a folder, `""` being the root, in order."""
 
     @abstractmethod
+    def files_below(self, folder: str) -> Iterator[str]:
+        """The names of what stands in a folder, whose name ends with a slash, and in those inside of it, but for the folders, in order."""
+
+    @abstractmethod
     def digest(self) -> bytes:
         """A digest of all that the package holds."""
+
+    def identity(self, name: str) -> object:
+        """What a file is known by, whatever its name."""
+        return name
 
     def path_on_disk(self, name: str) -> Optional[str]:
         """The path of a file that stands on the disk by itself, or None where it must be unpacked."""
@@ -105,6 +113,9 @@ class ZipPackage(Package):
     def children(self, folder: str) -> Tuple[List[str], List[str]]:
         return self.listing.children((self.root + folder).rstrip("/"))
 
+    def files_below(self, folder: str) -> Iterator[str]:
+        return (it[len(self.root) :] for it in self.listing.below(self.root + folder))
+
     def digest(self) -> bytes:
         """Of the file that is open: another one may have taken its name since."""
         file = self.file.fileno()
@@ -129,6 +140,17 @@ class FolderPackage(Package):
         found = entries_of(self.disk(folder), self.shown(folder))
         return [it.name for it in found if not it.is_dir()], [it.name for it in found if it.is_dir()]
 
+    def files_below(self, folder: str) -> Iterator[str]:
+        return (name[len(self.root) :] for name, _ in self.all_entries(self.root + folder))
+
+    def identity(self, name: str) -> object:
+        """The file itself: a link, and a system that does not tell capitals from small letters, give one file two names."""
+        try:
+            known = os.stat(os.path.join(self.top, self.root + name))
+        except (OSError, ValueError):
+            return name
+        return known.st_dev, known.st_ino
+
     def digest(self) -> bytes:
         """Of all that the folder holds, also beside the root, where links may lead: names, contents of files, targets of links."""
         links: List[Tuple[str, str]] = []
@@ -142,12 +164,21 @@ class FolderPackage(Package):
         return digest_of(json.dumps([self.root, links, list(zip(files, digests))]).encode())
 
     def all_entries(self, folder: str) -> Iterator[Tuple[str, os.DirEntry[str]]]:
-        """What stands in a folder and in those inside of it, but for the folders, with its name in the package's folder."""
-        for it in entries_of(os.path.join(self.top, folder), self.label):
-            if it.is_dir(follow_symlinks=False):
-                yield from self.all_entries(f"{folder}{it.name}/")
+        """What stands in a folder and in those inside of it, but for the folders, with its name in the package's folder. No recursion: folders may be deep."""
+        ways = [self.way_into(folder)]
+        while ways:
+            at, entries = ways[-1]
+            it = next(entries, None)
+            if it is None:
+                ways.pop()
+            elif it.is_dir(follow_symlinks=False):
+                ways.append(self.way_into(f"{at}{it.name}/"))
             else:
-                yield folder + it.name, it
+                yield at + it.name, it
+
+    def way_into(self, folder: str) -> Tuple[str, Iterator[os.DirEntry[str]]]:
+        """A folder by its name in the package's folder, and what stands in it."""
+        return folder, iter(entries_of(os.path.join(self.top, folder), f"{self.label.rstrip('/')}/{folder}".rstrip("/")))
 
     def disk(self, name: str) -> str:
         """The path on the disk; a link that leads outside of the folder is refused."""
@@ -186,6 +217,9 @@ class Beside(Package):
 
     def children(self, folder: str) -> Tuple[List[str], List[str]]:
         return [], []
+
+    def files_below(self, folder: str) -> Iterator[str]:
+        return iter(())
 
     def digest(self) -> bytes:
         raise NotImplementedError

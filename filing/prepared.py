@@ -7,12 +7,14 @@ import re
 import shutil
 import stat
 from contextlib import contextmanager
+from itertools import groupby
 from typing import Any, Dict, Iterable, Iterator, List, Optional, Set
 
 from .finding import Found
 from .metadata import Merged
 from .packages import Package, mode_of, pieces_of_disk
-from .refusals import FILES, Refusal, cannot_write
+from .refusals import FILES, Refusal, cannot_write, wrong
+from .report import REPORTS, reports_in
 
 META, TYPES = "meta.json", "types.csv"
 # What xbrl-json takes as the path of a table; the segments are looked at besides.
@@ -22,6 +24,11 @@ PLAIN = re.compile(r"[^\\:?#%\x00-\x1f]+")
 def is_plain(url: object) -> bool:
     """Whether xbrl-json takes a URL as a path below the metadata's folder. Others are its fault, and are never looked at here."""
     return isinstance(url, str) and bool(PLAIN.fullmatch(url)) and not {"", ".", ".."}.intersection(url.split("/"))
+
+
+def is_csv(path: str) -> bool:
+    """Whether a file is CSV by its name. What systems and editors leave (`._t.csv`, `.ipynb_checkpoints`) is none of the report."""
+    return path.lower().endswith(".csv") and not any(it.startswith(".") or it == "__MACOSX" for it in path.split("/"))
 
 
 class Files:
@@ -51,6 +58,34 @@ class Files:
         if not self.package.has(name):
             asker = self.merged.origin(("parameterURL",))
             raise Refusal(FILES, self.package.shown(name), f"cannot read (there is no such file; 'parameterURL' of {asker} names it)")
+
+    def refuse_unread(self) -> None:
+        """Refuses a CSV file of the report that nothing names: its facts would be missing in silence. A URL that is not plain, or a folder in the
+        place of a table, is left to xbrl-json."""
+        tables = self.merged.value.get("tables", {}).values()
+        urls = [it.get("url") if isinstance(it, dict) else None for it in tables]
+        if not all(map(is_plain, urls)) or (self.parameters is None and "parameterURL" in self.merged.value):
+            return
+        name = next(self.unread(), None)
+        if name is not None and not any(self.package.children(self.name(it)) != ([], []) for it in self.all()):
+            raise wrong(self.package.shown(name), "is not read: no table of the joined metadata has this url (names are compared exactly)")
+
+    def unread(self) -> Iterator[str]:
+        """The CSV files in the report's folder, and in those inside of it, that are neither a table nor the parameters file."""
+        read = {self.package.identity(self.name(it)) for it in self.all()}
+        found = (it for it in self.package.files_below(self.folder) if is_csv(it[len(self.folder) :]) and self.package.has(it))
+        for folder, names in groupby((it for it in found if self.package.identity(it) not in read), self.part):
+            if not self.is_of_another_report(folder):
+                yield from names
+
+    def part(self, name: str) -> str:
+        """The report's folder, or the one in it where a file stands in or below that."""
+        first, slash, _ = name[len(self.folder) :].partition("/")
+        return f"{self.folder}{first}/" if slash else self.folder
+
+    def is_of_another_report(self, folder: str) -> bool:
+        """Whether a folder inside of the report's own has a report by itself, which only one of `reports` can have."""
+        return self.folder == REPORTS and folder != REPORTS and bool(reports_in(self.package, folder, []))
 
     def parameter_text(self) -> Optional[bytes]:
         return None if self.parameters is None else self.package.text(self.name(self.parameters))

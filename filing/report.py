@@ -13,6 +13,7 @@ from .refusals import WRONG, Refusal, wrong
 from .strict_json import Json, read_json
 from .urls import Place
 
+REPORTS = "reports/"
 PACKAGE_ENDINGS = (".zip", ".xbr", ".xbri")
 PACKAGE_FILE = "META-INF/reportPackage.json"
 TAXONOMY_FILE = "META-INF/taxonomyPackage.xml"
@@ -45,7 +46,7 @@ def find_report(package: Package) -> Found:
     """The one xBRL-CSV report of a package, in `reports` or else in the folders there."""
     check_package_file(package)
     passed: List[Tuple[str, object]] = []
-    levels = [["reports/"], [f"reports/{it}/" for it in package.children("reports")[1]]]
+    levels = [[REPORTS], [f"{REPORTS}{it}/" for it in package.children("reports")[1]]]
     for folders in levels:
         found = [name for folder in folders for name in reports_in(package, folder, passed)]
         if len(found) > 1:

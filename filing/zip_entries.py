@@ -5,7 +5,7 @@ from __future__ import annotations
 import stat
 import zipfile
 from bisect import bisect_left
-from typing import Dict, Iterable, List, Optional, Set, Tuple
+from typing import Dict, Iterable, Iterator, List, Optional, Set, Tuple
 
 from .refusals import wrong
 
@@ -95,3 +95,11 @@ class Listing:
             (folders if below else files).append(name)
             at = bisect_left(self.names, front + name + "\1", at)
         return files, folders
+
+    def below(self, folder: str) -> Iterator[str]:
+        """The names of the files in a folder, whose name ends with a slash, and in those inside of it, in order."""
+        front = folder.replace("/", "\0")
+        for at in range(bisect_left(self.names, front), len(self.names)):
+            if not self.names[at].startswith(front):
+                return
+            yield self.names[at].replace("\0", "/")

@@ -189,7 +189,7 @@ def says(folder: Path, name: str, files: Dict[str, Any], line: str, *places: str
     wanted = f"xbrl-json: {line}\n" + "".join(f"    {it}\n" for it in places)
     case(f"{name}: the line as ever", plain == (1, f"xbrl-json: {line}\n"), plain)
     case(name, explained == (1, wanted), explained[1], "wanted", wanted)
-    case(f"{name}: the sentence is no longer than 80", len(explained[1].split("\n")[3].strip()) <= 80, explained[1])
+    case(f"{name}: the sentence is no longer than 100", len(explained[1].split("\n")[3].strip()) <= 100, explained[1])
 
 
 def edited(keys: Place, value: Any, report: Dict[str, Any] = REPORT) -> Dict[str, Any]:
@@ -275,14 +275,16 @@ def entries(folder: Path) -> None:
 IDENTIFIED = {(*CASH[:3], "k"): {}, (*CASH[:2], "rowIdColumn"): "k"}
 GROUPS = {(*CASH[:3], "g"): {"propertyGroups": {"net": {}}}, (*CASH, "propertiesFrom"): ["g"]}
 OPEN = {(*CASH, "dimensions", "concept"): "eg:Open"}
-MALFORMED = "an entity, unit, language or explicit member is not well-formed"
+MALFORMED = "an entity, unit, language or explicit member is not well-formed, or its prefix is not declared"
+NO_NAME = "the types table has no concept of this name, or its prefix is not declared"
+UNREAD = "the file cannot be opened or read to its end, or is a folder"
 UNKNOWN_SPECIAL = "a text begins with # and is not a special value"
 WITH_OPEN = TYPES + "http://example.com/eg,Open,boolean\n"
 # Of a table: what is edited in the metadata, its file, the place and the fault, the three lines behind the file's path, and those of the
 # places elsewhere that the fault comes from.
 TABLES: List[Tuple[Any, ...]] = [
     ({("tables", "t1", "url"): "no.csv"}, None, "0, 0 NoFile (20)", "r/no.csv", "(the whole file)", "a table that is not optional has no file"),
-    ({("tables", "t1", "url"): "d"}, None, "0, 0 Read (21)", "r/d", "(the whole file)", "the reader failed"),
+    ({("tables", "t1", "url"): "d"}, None, "0, 0 Read (21)", "r/d", "(the whole file)", UNREAD),
     ({}, "", "0, 0 NoHeader (22)", "r/t1.csv", "(the whole file)", "the file has no record at all"),
     ({}, "cash,no\x7fpe\n", "0, 2 UnknownHeader (23)", "r/t1.csv, line 1, cell 2", '"no\\x7fpe"', "a header cell does not name a column of the template"),
     ({}, "\r\n\ncash,note,cash\n", "0, 3 RepeatedHeader (24)", "r/t1.csv, line 3, cell 3", '"cash"', "a column stands twice in the header"),
@@ -338,7 +340,7 @@ TABLES: List[Tuple[Any, ...]] = [
         "1, 1 UnknownName (34)",
         "r/t1.csv, line 2, cell 1",
         '"100" in cash (eg:Chas) of row r_1',
-        "the types table has no concept of this name",
+        NO_NAME,
         f'{AT_CASH}/dimensions/concept: "eg:Chas"',
     ),
     (
@@ -403,7 +405,7 @@ TABLES: List[Tuple[Any, ...]] = [
         "1, 1 BadFactValue (44)",
         "r/t1.csv, line 2, cell 1",
         '"yes" in cash (eg:Open) of row r_1',
-        "the cell of a boolean, date or name is not well-formed",
+        "the cell of a boolean, date or name is not well-formed, or its prefix is not declared",
     ),
 ]
 
@@ -472,7 +474,7 @@ SOURCES: List[Tuple[Dict[Place, Any], str, str, str, List[str]]] = [
         {("tables", "t1"): {"url": "t1.csv"}, ("tableTemplates",): {"t1": {"columns": {"cash": {"dimensions": {"concept": "##x"}}}}}},
         "cash\n1\n",
         "UnknownName (34)",
-        "the types table has no concept of this name",
+        NO_NAME,
         ['/tableTemplates/t1/columns/cash/dimensions/concept: "##x"'],
     ),
 ]
@@ -528,7 +530,11 @@ def unreadable(folder: Path) -> None:
     said = run_as(folder, "pipe", b"")
     pipe.wait(timeout=60)
     case("a types table from a named pipe, which has nothing for a second reader", said == wanted, said)
-    says(folder, "a folder", {}, "types: Read (17)", "r", "(the whole file)", "the reader failed", words=("r/m.json", "--types", "r"))
+    says(folder, "a folder", {}, "types: Read (17)", "r", "(the whole file)", UNREAD, words=("r/m.json", "--types", "r"))
+    says(folder, "a folder as META", {}, "report: Read (17)", "r", "(the whole file)", UNREAD, words=("r", "--types", "t.csv"))
+    (folder / "r/p/p.csv").mkdir(parents=True)
+    with_url = {"r/m.json": {**REPORT, "parameterURL": "p/p.csv"}}
+    says(folder, "a folder as the parameters file", with_url, "parameters: Read (17)", "r/p/p.csv", "(the whole file)", UNREAD)
     said = subprocess.run([PROGRAM, "none.json", "--types", "t.csv", "--explain"], cwd=folder, capture_output=True).stderr
     case("a file that is not there", said == b"xbrl-json: cannot read none.json\n", said)
 

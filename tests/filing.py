@@ -115,7 +115,11 @@ def write(folder, files):
     for path, text in files.items():
         at = folder / path
         at.parent.mkdir(parents=True, exist_ok=True)
-        at.write_bytes(text if isinstance(text, bytes) else text.encode())
+        at.write_bytes(as_bytes(text))
+
+
+def as_bytes(text):
+    return text if isinstance(text, bytes) else text.encode()
 
 
 def pack(path, files, top="", method=zipfile.ZIP_DEFLATED):
@@ -179,7 +183,10 @@ def listing(folder):
 
 
 def prepared(folder, report=REPORT, taxonomies=(TAXONOMY,), words=(), name="reports/report.json", form="folder"):
-    """What a run with --prepare says, and the files that it makes. Inputs must stay as they are, and nothing else may be left."""
+    """What a run with --prepare says, and the files that it makes. Inputs must stay as they are, and nothing else may be left. The table of
+    REPORT is there where a metadata file names it: without that the report would be refused."""
+    if not any(b"t.csv" in as_bytes(text) for files in (report, *taxonomies) for name, text in files.items() if not name.endswith(".csv")):
+        report = {it: text for it, text in report.items() if it != "reports/t.csv"}
     shutil.rmtree(folder / "w", ignore_errors=True)
     work = folder / "w"
     work.mkdir()
@@ -345,7 +352,8 @@ def forms_of_reports(folder):
 
 def catalogs(folder):
     """Which file stands for a URL."""
-    other = {"other/mod.json": meta({**INFO, "namespaces": {"eg": EG, "two": "http://two.example/"}}), "other/mod.xsd": schema(ELEMENTS)}
+    info = {**INFO, "namespaces": {"eg": EG, "two": "http://two.example/"}}
+    other = {"other/mod.json": meta(info, tables=MERGED["tables"]), "other/mod.xsd": schema(ELEMENTS)}
     two = "documentInfo/namespaces/two"
 
     def by(name, entries, taken, more=None, attributes=""):
@@ -1835,6 +1843,170 @@ def tables_that_are_none(folder):
         case(f"no link in an input: {report}", [it for it in (folder / "a folder").rglob("*") if it.is_symlink()], [])
 
 
+def files_that_nothing_names(folder):
+    """A CSV file of the report that no table names is refused, as its facts would be missing in silence; what is no file of the report is passed over."""
+    optional = {"t": {"url": "t.csv", "optional": True}, "u": {"url": "sub/u.csv", "template": "t", "optional": True}}
+    inputs = {"taxonomies": [{**TAXONOMY, "reg/mod.json": meta(INFO, tableTemplates={"t": TEMPLATE}, tables=optional, parameterURL="p.csv")}]}
+    bare = {"reports/report.json": REPORT["reports/report.json"], "reports/p.csv": "name,value\n"}
+    said = "is not read: no table of the joined metadata has this url (names are compared exactly)"
+    rows = "cash\n1\n"
+    for form in ("folder", "zip"):
+        for name in ("T.csv", "t.CSV", "T.CSV", "t2.csv", "a/t.csv", "Sub/u.csv", "sub/t.csv", "sub/a/u.csv", "P.csv", "t csv.csv", "-.csv"):
+            line = f"r/reports/{name}: {said}"
+            stops(folder, f"{name}, which no table names, {form}", line, report={**bare, f"reports/{name}": rows}, form=form, **inputs)
+            moved = {it.replace("reports/", "reports/q/"): text for it, text in {**bare, f"reports/{name}": rows}.items()}
+            line = f"r/reports/q/{name}: {said}"
+            stops(folder, f"{name} in a folder of reports, {form}", line, report=moved, form=form, **inputs)
+        many = {f"reports/{it}.csv": rows for it in ("t", "sub/u", "z", "b/a", "sub/v")}
+        stops(folder, f"the first of several, {form}", f"r/reports/b/a.csv: {said}", report={**bare, **many}, form=form, **inputs)
+        passed = ["t.csv", "sub/u.csv", "t.txt", "T.csv.bak", "csv", "._T.csv", ".x/T.csv", "a/.x/T.csv", "__MACOSX/T.csv"]
+        passed += ["../T.csv", "../META-INF/T.csv", "../other/T.csv"]
+        named = {f"reports/{it}".replace("reports/../", ""): rows for it in passed}
+        made = makes(folder, f"what is none of the report, {form}", parts={"tables": optional}, report={**bare, **named}, form=form, **inputs)
+        case(f"what is none of the report is not prepared, {form}", sorted(made), ["meta.json", "p.csv", "sub/u.csv", "t.csv", "types.csv"])
+        beside = {**bare, "reports/q/report.json": meta(), "reports/q/T.csv": rows, "reports/q/a/T.csv": rows}
+        makes(folder, f"files of another report, {form}", parts={"tables": optional}, report=beside, form=form, **inputs)
+        for name, text in (("q/a/report.json", meta()), ("q/report.json", meta().replace("xbrl-csv", "xbrl-json")), ("q/report.txt", meta())):
+            other = {**bare, f"reports/{name}": text, "reports/q/T.csv": rows}
+            stops(folder, f"files beside {name}, {form}", f"r/reports/q/T.csv: {said}", report=other, form=form, **inputs)
+        moved = {it.replace("reports/", "reports/q/"): text for it, text in bare.items()}
+        around = {"reports/T.csv": rows, "reports/r/T.csv": rows, "reports/q2/T.csv": rows}
+        makes(folder, f"files beside the report's folder, {form}", parts={"tables": optional}, report={**moved, **around}, form=form, **inputs)
+        inside = {**moved, "reports/q/a/report.json": meta(), "reports/q/a/T.csv": rows}
+        stops(folder, f"no report stands so deep, {form}", f"r/reports/q/a/T.csv: {said}", report=inside, form=form, **inputs)
+        none = [{**TAXONOMY, "reg/mod.json": meta(INFO)}]
+        stops(folder, f"no table at all, {form}", f"r/reports/T.csv: {said}", report={**REPORT, "reports/T.csv": rows}, taxonomies=none, form=form)
+        inside = {**bare, "reports/t.csv/x.csv": rows, "reports/T.csv": rows}
+        makes(folder, f"a folder in a table's place is the converter's fault, {form}", parts={"tables": optional}, report=inside, form=form, **inputs)
+        bad_tables = [{"tables": {"t": it}} for it in ({"url": "./t.csv"}, 7, {})]
+        for part in (*bad_tables, {"tables": {"t": {"url": "t.csv"}}, "parameterURL": "./p.csv"}):
+            wrong_url = [{**TAXONOMY, "reg/mod.json": meta(INFO, **part)}]
+            makes(folder, f"a URL that is the converter's fault: {part}, {form}", parts=part, report={**REPORT, **bare}, taxonomies=wrong_url, form=form)
+    lone = {**bare, "reports/T.csv": rows}
+    makes(folder, "a file beside a lone metadata file", parts={"tables": optional}, report=lone, form="file", **inputs)
+    pack(folder / "zipped.zip", lone)
+    write(folder / "z", inputs["taxonomies"][0])
+    for words in ([], ["--out", "kept.json"], ["--explain"]):
+        write(folder, {"kept.json": "kept"})
+        seen = start(["zipped.zip", "--taxonomy", "z", *words], folder), (folder / "kept.json").read_text()
+        case(f"nothing is converted then: {words}", seen, ((1, b"", f"xbrl-filing: zipped.zip/reports/T.csv: {said}\n"), "kept"))
+
+
+def links_to_files_that_nothing_names(folder):
+    """In an unpacked package a file is known by more than its name, and what is no file is none that was forgotten."""
+    said = "is not read: no table of the joined metadata has this url (names are compared exactly)"
+    place = folder / "r/reports"
+
+    def seen(make):
+        subprocess.run(["rm", "-rf", "r", "t", "o"], cwd=folder, check=True)  # folders that are too deep for shutil
+        write(folder / "r", REPORT)
+        write(folder / "t", TAXONOMY)
+        make()
+        return run(["r", "--taxonomy", "t", "--prepare", "o"], folder)
+
+    def deep():
+        before = os.getcwd()
+        os.chdir(place)
+        for _ in range(1500):
+            os.mkdir("d")
+            os.chdir("d")
+        os.chdir(before)
+
+    def linked(name, target):
+        return lambda: (place / name).symlink_to(target)
+
+    def of_a_linked_folder():
+        write(folder, {"r/data/t.csv": "cash\n2\n", "r/data/report.json": REPORT["reports/report.json"]})
+        shutil.rmtree(place)
+        place.symlink_to("data")
+
+    for name, make in {
+        "a link to a table": linked("T.csv", "t.csv"),
+        "a hard link to a table": lambda: os.link(place / "t.csv", place / "T.csv"),
+        "a table by a link to a file beside it": lambda: ((place / "t.csv").rename(place / "real.csv"), (place / "t.csv").symlink_to("real.csv")),
+        "a link that leads nowhere": linked("T.csv", "none.csv"),
+        "a link to itself": lambda: (write(folder, {"r/reports/a/x": ""}), linked("a/T.csv", "T.csv")()),
+        "a folder": lambda: (place / "T.csv").mkdir(),
+        "a link to a folder of others": lambda: (write(folder, {"r/other/T.csv": "x"}), (place / "other").symlink_to("../other")),
+        "a folder that leads to itself": linked("d", "."),
+        "a pipe": lambda: os.mkfifo(place / "T.csv"),
+        "deep folders": deep,
+        "a report in a folder by a link": of_a_linked_folder,
+    }.items():
+        case(f"no file that was forgotten: {name}", seen(make), (0, ""))
+    for name, make in {
+        "a link to a file that is no table": lambda: (write(folder, {"r/u.csv": "x"}), (place / "T.csv").symlink_to("../u.csv")),
+        "a folder by a link": lambda: (of_a_linked_folder(), write(folder, {"r/data/T.csv": "x"})),
+        "below deep folders": lambda: (write(folder, {"r/reports/" + "d/" * 200 + "T.csv": "x"})),
+    }.items():
+        status, err = seen(make)
+        case(f"a file that was forgotten: {name}", (status, err.replace("d/", "")), (1, f"xbrl-filing: r/reports/T.csv: {said}\n"))
+    outside = "xbrl-filing: r/reports/T.csv: is a link that leads outside of r\n"
+    write(folder, {"u.csv": "x"})
+    case("a file outside, which no table names", seen(linked("T.csv", "../../u.csv")), (1, outside))
+
+
+def parameters_in_other_letters(folder):
+    """A parameter to which nothing refers is refused where one is missing that differs in capitals alone; nothing else that is missing is."""
+    end = "which is no parameter and no column of it (names are compared exactly)"
+    level = {"columns": {"cash": {"dimensions": {"concept": "eg:Cash"}}, "Region": {}}}
+    tables = {"t": {"url": "t.csv"}}
+
+    def filed(name, value="1", **parts):
+        file = meta(INFO, **{"tableTemplates": {"t": level}, "tables": tables, "parameterURL": "p.csv", **parts})
+        return {"report": {**REPORT, "reports/p.csv": f"name,value\nother,1\n{name},{value}\n"}, "taxonomies": [{**TAXONOMY, "reg/mod.json": file}]}
+
+    def told(given, wanted, file="r/reports/p.csv"):
+        return f"{file}: nothing refers to the parameter '{given}', and the template 't' refers to '${wanted}', {end}"
+
+    def at_column(**column):
+        return {"tableTemplates": {"t": {"columns": {"cash": {"dimensions": {"concept": "eg:Cash"}, **column}}}}}
+
+    def in_group(**group):
+        cash = {"dimensions": {"concept": "eg:Cash"}, "propertiesFrom": ["k"]}
+        return {"tableTemplates": {"t": {"columns": {"k": {"propertyGroups": {"g": group}}, "cash": cash}}}}
+
+    for form in ("folder", "zip"):
+        for side in ("", "@start", "@end"):
+            parts = {"dimensions": {"period": f"$refPeriod{side}"}}
+            stops(folder, f"a period by another name {side}, {form}", told("refperiod", "refPeriod"), form=form, **filed("refperiod", **parts))
+            makes(folder, f"a period by its name {side}, {form}", parts=parts, form=form, **filed("refPeriod", **parts))
+    for name, parts in {
+        "the report's decimals": {"decimals": "$places"},
+        "a template's dimensions": {"tableTemplates": {"t": {**level, "dimensions": {"unit": "$places"}}}},
+        "a column's decimals": at_column(decimals="$places"),
+        "a group's decimals": in_group(decimals="$places"),
+        "a group's dimensions": in_group(dimensions={"eg:Region": "$places"}),
+    }.items():
+        stops(folder, f"{name} by another name", told("Places", "places"), **filed("Places", **parts))
+        makes(folder, f"{name} by its name", parts=parts, **filed("places", **parts))
+        makes(folder, f"{name}, and no such parameter", parts=parts, **filed("place", **parts))
+    unit = {"dimensions": {"unit": "$unit"}}
+    own = filed("a", **unit, parameters={"Unit": "x"})
+    stops(folder, "a parameter of the metadata", told("Unit", "unit", "t0/reg/mod.json"), **own)
+    own = filed("a", **unit, tables={"t": {"url": "t.csv", "parameters": {"UNIT": "x"}}})
+    stops(folder, "a parameter of a table", told("UNIT", "unit", "t0/reg/mod.json"), **own)
+    for name, given, parts in (
+        ("both names are there", "Unit", {**unit, "parameters": {"unit": "x"}}),
+        ("the other one is used too", "Unit", {**unit, "decimals": "$Unit"}),
+        ("a column has the name", "region", {"dimensions": {"eg:Region": "$Region"}}),
+        ("the number of a row", "rownumber", {"dimensions": {"eg:Branch": "$rowNumber"}}),
+        ("a text with two marks", "$unit", {"dimensions": {"eg:Branch": "$$Unit"}}),
+        ("a side of what is no period", "unit", {"dimensions": {"eg:Branch": "$Unit@end"}}),
+        ("a template that no table uses", "Unit", {"tableTemplates": {"t": level, "u": {**level, **unit}}}),
+        ("the header is no parameter", "a", {"dimensions": {"unit": "$Name"}}),
+        ("no parameters", "a", {**unit, "parameterURL": "q.csv"}),
+    ):
+        given = filed(given, **parts)
+        if "parameterURL" in parts:
+            given["report"].pop("reports/p.csv")
+            given["report"]["reports/q.csv"] = "name,value\n"
+        makes(folder, f"no parameter in other letters: {name}", parts={"tables": tables}, **given)
+    broken = filed("Unit", **unit)
+    broken["report"]["reports/p.csv"] = b"name,value\n\n\xff\xfe,\nUnit\nunit,1,2\n" + b'"'
+    makes(folder, "a parameters file that is the converter's fault", parts=unit, **broken)
+
+
 def heeding():
     """A program that runs in the background may ignore some signals; one that is tested here does not."""
     for it in (signal.SIGTERM, signal.SIGINT, signal.SIGHUP):
@@ -2573,7 +2745,7 @@ def keys_of_the_cache(folder):
         (((0, ""), TYPES.replace("Note", "Nope")), size, 2),
     )
     case("a ZIP is another package", (made("t.zip"), len(entries())), (((0, ""), TYPES), 3))
-    write(folder, {"t/reg/mod.json": meta({**INFO, "taxonomy": ["two.xsd"]}), "t/reg/two.xsd": schema(item("Two"))})
+    write(folder, {"t/reg/mod.json": meta({**INFO, "taxonomy": ["two.xsd"]}, tables=MERGED["tables"]), "t/reg/two.xsd": schema(item("Two"))})
     case("another entry point", made(), ((0, ""), records("Two,text")))
     write(folder, {"t3/META-INF/catalog.xml": catalog(rewrite()), "t3/reg/two.xsd": schema(item("Three"))})
     write(folder, {"r6/reports/report.json": meta({"namespaces": {"eg": EG}, "taxonomy": [HOST + "mod.xsd"]})})
@@ -2927,6 +3099,9 @@ PARTS = (
     unpacked_packages,
     tables,
     tables_that_are_none,
+    files_that_nothing_names,
+    links_to_files_that_nothing_names,
+    parameters_in_other_letters,
     temporary_files,
     signals,
     a_signal_between_two_steps,

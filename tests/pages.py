@@ -68,7 +68,7 @@ def help_in(text: str) -> Help:
     """What a --help says, section by section."""
     parts = dict(re.findall(r"^(\w[\w ]*):(.*?)(?=^\w[\w ]*:|\Z)", text, re.M | re.S))
     lines = {name: [it for it in part.splitlines() if it.startswith(" ") and it.strip()] for name, part in parts.items()}
-    statuses = dict(it.split(None, 1) for it in lines["Exit status"])
+    statuses = dict(it.split(None, 1) for it in re.sub(r"\n {3,}", " ", parts["Exit status"]).split("\n") if it.strip())
     return Help(parts["Usage"].strip(), option_in(lines["Arguments"][0]), [option_in(it) for it in lines["Options"]], statuses)
 
 

@@ -3,7 +3,8 @@
  * first 64 calls whose bits are set, KIND:short cuts each read or write to one byte, KIND:again has every other one say
  * that a signal came. Kinds: memory, read, write, zero (a write that
  * takes nothing), open, stat, thread, cut (a file that is made shorter), sync, rename. At the end the number of calls of each kind is
- * written to the file that REFUSE_COUNT names.
+ * written to the file that REFUSE_COUNT names, and behind them how many calls for memory asked for LARGE bytes or more (large), and how many
+ * threads made BUSY of them or more (busy).
  *
  *     cc -shared -fPIC -O1 -o refuse.so tests/refuse.c -ldl
  */
@@ -21,6 +22,7 @@
 #include <unistd.h>
 
 enum kind { MEMORY, READ, WRITE, OPEN, STAT, THREAD, CUT, SYNC, RENAME, KINDS };
+enum { LARGE = 32768, BUSY = 100 };
 
 extern void *__libc_malloc(size_t);
 extern void *__libc_realloc(void *, size_t);
@@ -29,6 +31,8 @@ static const char *const names[KINDS] = {"memory", "read", "write", "open", "sta
 static unsigned long calls[KINDS];
 static unsigned long from[KINDS], mask[KINDS];
 static int onward[KINDS], cut[KINDS], again[KINDS], zero;
+static unsigned long large, busy;
+static __thread unsigned long own __attribute__((tls_model("initial-exec")));
 
 __attribute__((constructor)) static void read_words(void) {
     const char *words = getenv("REFUSE");
@@ -55,9 +59,15 @@ static int is_interrupted(enum kind k) { return again[k] && (__atomic_load_n(&ca
 
 static int fails(int why) { errno = why; return -1; }
 
-void *malloc(size_t size) { return refuses(MEMORY) ? (errno = ENOMEM, (void *)0) : __libc_malloc(size); }
+static int refuses_memory(size_t size) {
+    if (size >= LARGE) __atomic_add_fetch(&large, 1, __ATOMIC_SEQ_CST);
+    if (++own == BUSY) __atomic_add_fetch(&busy, 1, __ATOMIC_SEQ_CST);
+    return refuses(MEMORY);
+}
 
-void *realloc(void *old, size_t size) { return refuses(MEMORY) ? (errno = ENOMEM, (void *)0) : __libc_realloc(old, size); }
+void *malloc(size_t size) { return refuses_memory(size) ? (errno = ENOMEM, (void *)0) : __libc_malloc(size); }
+
+void *realloc(void *old, size_t size) { return refuses_memory(size) ? (errno = ENOMEM, (void *)0) : __libc_realloc(old, size); }
 
 ssize_t read(int file, void *to, size_t size) {
     if (refuses(READ)) return fails(EIO);
@@ -96,6 +106,7 @@ void _exit(int status) {
     const char *path = getenv("REFUSE_COUNT");
     int file = path ? syscall(SYS_openat, AT_FDCWD, path, O_WRONLY | O_CREAT | O_TRUNC, 0600) : -1;
     for (int k = 0; file >= 0 && k < KINDS; k++) dprintf(file, "%s %lu\n", names[k], calls[k]);
+    if (file >= 0) dprintf(file, "large %lu\nbusy %lu\n", large, busy);
     syscall(SYS_exit_group, status);
     __builtin_unreachable();
 }

@@ -6,7 +6,9 @@
 A report of three tables and a parameters file is converted once with nothing refused. Then each call that the system can refuse is
 refused, the first alone, then the second, and so on, and again with all that come after it. Whatever is refused, the program must
 end by itself, and what it has written must be a beginning of the whole document, cut only where the lines on standard error say:
-a refused table's line, or the run's own. With --whole the file has the whole document, or is as it was, and so is the file of --faults. Each case that is not so has a line; the last line counts. Needs cc, Python 3.9 and Linux.
+a refused table's line, or the run's own. With --whole the file has the whole document, or is as it was, and so is the file of --faults. Memory
+is also refused at many places over a table of seven pieces. The library that refuses counts, too: how many threads are started over many tables and over
+one, how many of them do work, and how often much memory is asked for. Each case that is not so has a line; the last line counts. Needs cc, Python 3.9 and Linux.
 """
 import concurrent.futures
 import json
@@ -77,6 +79,11 @@ def copied(folder, name, files):
     return other
 
 
+def called(counts):
+    """How many calls of each kind a run has written to its file of counts."""
+    return {name: int(number) for name, number in map(str.split, Path(counts).read_text().splitlines())}
+
+
 def run(folder, refuse="", words=(), counts=None):
     """Status, standard output and lines of a run in which a call is refused."""
     told = {**os.environ, "LD_PRELOAD": SHIM, "REFUSE": refuse, "REFUSE_COUNT": counts or "/dev/null"}
@@ -93,16 +100,16 @@ class Document:
     def __init__(self, whole):
         self.whole = whole
         ends = [m.start() for m in re.finditer(rb'[,{]"t\d\.', whole)]
-        self.starts = {table: [it for it in ends if whole[it + 2 :].startswith(f"{table}.".encode())] for table in TABLES}
+        self.starts = {table: [it for it in ends if whole.startswith(f"{table}.".encode(), it + 2)] for table in TABLES}
         self.head = self.starts[TABLES[0]][0] + 1
         self.tail = whole.rindex(b"}}")
 
-    def cuts(self, table):
-        """The texts that end at a fact of a table, or before its first one."""
+    def is_cut(self, out, table):
+        """Whether a text is a beginning of the document that ends at a fact of a table, or before its first one."""
         first = TABLES.index(table)
         begin = self.starts[table]
         after = self.starts[TABLES[first + 1]][0] if first + 1 < len(TABLES) else self.tail
-        return {self.whole[: begin[0] if first else self.head]} | {self.whole[:it] for it in begin[1:] + [after]}
+        return self.whole.startswith(out) and len(out) in [begin[0] if first else self.head, *begin[1:], after]
 
 
 def fault_of(seen, document, kind):
@@ -117,9 +124,9 @@ def fault_of(seen, document, kind):
         tables, names = [LINE.fullmatch(it)[1] for it in lines], {LINE.fullmatch(it)[2] for it in lines}
         if tables != sorted(set(tables)) or not names <= FAULTS[kind]:
             return f"lines {lines}"
-        return None if out in document.cuts(tables[0]) else f"another text before {lines[0]}: {out!r}"
+        return None if document.is_cut(out, tables[0]) else f"another text before {lines[0]}: {out!r}"
     if kind == "memory" and err == "" and status in (1, 3):  # no memory was left for the line
-        return None if out == b"" or any(out in document.cuts(it) for it in TABLES) else f"another text: {out!r}"
+        return None if out == b"" or any(document.is_cut(out, it) for it in TABLES) else f"another text: {out!r}"
     if err in ENDS[kind] and status == (1 if err.endswith((" (16)\n", " (17)\n")) else 3):
         if "output" in err:
             return None if document.whole.startswith(out) else f"no beginning of the document: {out!r}"
@@ -151,7 +158,7 @@ def each_call_refused(folder, document, pool):
     for workers, ring in SIZES:
         words = ["--workers", workers, "--ring", ring]
         run(folder, "", words, path)
-        calls = {name: int(number) for name, number in map(str.split, Path(path).read_text().splitlines())}
+        calls = called(path)
         calls["zero"] = calls["write"]
         few = ["read", "write", "zero", "open", "stat", "thread"]
         kinds = few if workers == "3" else ["memory", *few]
@@ -164,7 +171,7 @@ def wrong_words_without_memory(folder, document, pool):
     """Words that are refused are so, or memory ran out before that could be said."""
     path, words = str(folder / "counts"), ["--workers", "65"]
     wrong = run(folder, "", words, path)
-    calls = int(re.search(r"memory (\d+)", Path(path).read_text())[1])
+    calls = called(path)["memory"]
     case("wrong words", None if wrong[:2] == (2, b"") and wrong[2].startswith("error: invalid value '65'") and calls > 20 else (wrong, calls))
     short = [(3, b"", it) for it in ("error: out of memory\n", "xbrl-json: run: Memory (53)\n", "")]
     todo = [f"memory:{n}{more}" for n in range(1, calls + 1) for more in ("", "+")]
@@ -201,11 +208,54 @@ def pieces_without_threads(folder, document, pool):
     status, whole, err = run(pieces, "", ["--workers", "1"])
     case("a table of many pieces", None if (status, err) == (0, "") and len(json.loads(whole)["facts"]) == 2 * rows else (status, err))
     case("the same by threads", None if run(pieces, "", ["--workers", "4"], str(counts)) == (0, whole, "") else "another document")
-    threads = int(re.search(r"thread (\d+)", counts.read_text())[1])
-    case("its pieces have threads of their own", None if threads > 8 else f"{threads} threads")
+    threads = called(counts)["thread"]
+    case("its pieces have threads of their own", None if threads > 4 else f"{threads} threads")
     todo = [f"thread:{k}" for k in range(2, 10)] + [f"thread:{k}+" for k in range(2, 10)]
     for refuse, seen in zip(todo, pool.map(lambda it: run(pieces, it, ["--workers", "4"]), todo)):
         case(f"pieces, {refuse}", None if seen == (0, whole, "") else (seen[0], seen[2], len(seen[1])))
+
+
+def pieces_without_memory(folder, document, pool):
+    """A table of seven pieces between two short ones, on four workers: memory is refused at many places, once or from there on."""
+    large = copied(folder, "seven", {it: it for it in TABLES})
+    for table, rows in zip(TABLES, (3, 7_000, 3)):
+        (large / f"{table}.csv").write_text("name,cash,note\n" + "".join(f"{table}{i},{i},a note of some length\n" for i in range(rows)))
+    counts, words = str(folder / "counts"), ["--workers", "4", "--ring", "4"]
+    status, whole, err = run(large, "", words, counts)
+    is_whole = (status, err) == (0, "") and len(json.loads(whole)["facts"]) == 2 * 7_006
+    case("a table of seven pieces", None if is_whole else (status, err))
+    if not is_whole:
+        return
+    of_seven = Document(whole)
+    todo = [f"memory:{n}{more}" for n in range(1, called(counts)["memory"] + 20, 4) for more in ("", "+")]
+    for refuse, seen in zip(todo, pool.map(lambda it: run(large, it, words), todo)):
+        case(f"seven pieces, {refuse}", fault_of(seen, of_seven, "memory"))
+
+
+def threads_and_memory(folder, document, pool):
+    """Each of many tables has threads, however many came before it; the threads do work; and the memory that pieces took is used again."""
+    counts, words = str(folder / "counts"), ["--workers", "4", "--ring", "4"]
+    many = copied(folder, "tables", {f"t{i:02}": "t" for i in range(24)})
+    long = copied(folder, "long", {"t1": "t1"})
+    for path, rows in ((many / "t.csv", 6_000), (long / "t1.csv", 150_000)):
+        path.write_text("name,cash,note\n" + "".join(f"r{i},{i},a note of some length\n" for i in range(rows)))
+    seen = {many: [], long: []}
+    for it in (many, long) * 3:
+        status, _, err = run(it, "", words, counts)
+        case(f"nothing refused, {it.name}", None if (status, err) == (0, "") else (status, err))
+        seen[it].append(called(counts))
+    # Right: 28 on one or two processors and 76 on four, with the workers; where threads that ended kept their places, 8.
+    threads = [it["thread"] for it in seen[many]]
+    case("24 tables have threads", None if 16 <= max(threads) <= 120 else f"{threads} threads")
+    # Right: 5 on one or two processors and 7 on four; one for each piece would be 159.
+    threads = [it["thread"] for it in seen[long]]
+    case("a table's threads stay", None if max(threads) <= 20 else f"{threads} threads")
+    # Right: the program's own, the worker, and one on one or two processors or three on four.
+    busy = [it["busy"] for it in seen[long]]
+    case("threads decode pieces", None if max(busy) >= 3 else f"{busy} threads asked for memory at least 100 times")
+    # Right: 250 to 490 times; where no piece took the memory of another, 1,764.
+    large = [it["large"] for it in seen[long]]
+    case("memory is used again", None if min(large) <= 900 else f"32 KiB or more were asked for {large} times")
 
 
 def one_worker_without_threads(folder, document, pool):
@@ -245,13 +295,17 @@ NOT_WRITTEN = (3, b"", "xbrl-json: cannot write out.json\n")
 
 
 def an_output_that_cannot_be_emptied(folder, document, pool):
-    """What was in the file stays, and so does a file of which the system does not say which one it is."""
+    """What was in the file stays, and so does a file of which the system does not say which one it is once it is open. The look at its path before
+    that may fail."""
     out = folder / "out.json"
     out.write_bytes(b"what was there")
     seen = run(folder, "cut:1+", OUT)
     case("cut:1+, --out", None if (seen, out.read_bytes()) == (FAILED_WRITE, b"what was there") else (seen, out.read_bytes()))
     seen = run(folder, "stat:1", OUT)
-    case("stat:1, --out", None if (seen, out.read_bytes()) == (NOT_WRITTEN, b"what was there") else (seen, out.read_bytes()))
+    case("stat:1, --out", None if (seen, out.read_bytes()) == ((0, b"", ""), document.whole) else (seen, out.read_bytes()))
+    out.write_bytes(b"what was there")
+    seen = run(folder, "stat:2", OUT)
+    case("stat:2, --out", None if (seen, out.read_bytes()) == (NOT_WRITTEN, b"what was there") else (seen, out.read_bytes()))
     out.unlink()
 
 
@@ -265,7 +319,7 @@ def a_whole_output_or_none(folder, document, pool):
             if old is not None:
                 out.write_bytes(old)
             run(folder, "", words, path)
-            calls = {name: int(number) for name, number in map(str.split, Path(path).read_text().splitlines())}
+            calls = called(path)
             calls["zero"] = calls["write"]
             for n in range(1, calls[kind] + 1):
                 out.unlink(missing_ok=True)
@@ -306,7 +360,7 @@ def a_file_of_faults_or_none(folder, document, pool):
     run(bad, "", words, path)
     whole = f"{FAULT_HEADER}\nt2,1,2,40,BadNumber,2,cash,y\n"
     case("--faults, nothing refused", None if faults.read_text() == whole else faults.read_text())
-    calls = {name: int(number) for name, number in map(str.split, Path(path).read_text().splitlines())}
+    calls = called(path)
     calls["zero"] = calls["write"]
     for old in (b"what was there", None):
         for kind, n in ((kind, n) for kind in ("memory", "read", "write", "zero", "open", "stat", "sync", "rename") for n in range(1, calls[kind] + 1)):
@@ -345,7 +399,7 @@ def main():
         status, whole, err = run(folder)
         case("nothing refused", None if (status, err) == (0, "") and len(json.loads(whole)["facts"]) == 18 else (status, err))
         document = Document(whole)
-        for part in (each_call_refused, wrong_words_without_memory, some_threads_refused, pieces_without_threads, one_worker_without_threads, cut_short, each_open_refused_beside_an_output, an_output_that_cannot_be_emptied, a_whole_output_or_none, a_file_of_faults_or_none, a_first_write_that_fails):
+        for part in (each_call_refused, wrong_words_without_memory, some_threads_refused, pieces_without_threads, pieces_without_memory, threads_and_memory, one_worker_without_threads, cut_short, each_open_refused_beside_an_output, an_output_that_cannot_be_emptied, a_whole_output_or_none, a_file_of_faults_or_none, a_first_write_that_fails):
             part(folder, document, pool)
     print(f"on a system that refuses: {count - len(failed)} as they must be, {len(failed)} not")
     sys.exit(1 if failed else 0)

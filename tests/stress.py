@@ -4,29 +4,43 @@
     tests/stress.py PROGRAM
 
 The script makes reports of 1 to 200 tables, empty, short, and so long that they are decoded in pieces, some with identifiers of their own,
-with quotes and line ends of all kinds at places where a piece may end. Each is converted by 2 to 64 workers with rings of 1 to 4 blocks. What is
+with quotes and line ends of all kinds at places where a piece may end. Each is converted by 2 to 64 workers with rings of 1 to 4 blocks, and
+with rings of 65 and 1,024 before a reader that comes late, so that as many blocks wait as may. What is
 written must be the document by this script's own reading; in some reports a row has a fault near the place where a piece ends, and then what
 is written, the lines and the status must be those of one worker. A run that takes longer than a hundred seconds is stopped, and is a
-failure. The last line counts. Needs Linux and Python 3.9 or later.
+failure.
+
+Two more things are seen: a run whose output nobody reads takes no more memory than some blocks need, however large the ring, and rows that
+came by a pipe are written before the next bytes come. The last line counts. Needs Linux and Python 3.9 or later.
 """
 from __future__ import annotations
 
+import fcntl
 import json
 import os
 import random
 import subprocess
 import sys
 import tempfile
+import termios
 import threading
 import time
+from itertools import accumulate
 from pathlib import Path
 from typing import Dict, List, NamedTuple, Optional, Tuple
 
 NAMESPACES = {"eg": "http://example.com/eg"}
 TAXONOMY = ["http://example.com/eg.xsd"]
 COMMON = {"entity": "eg:A1", "period": "2021-12-31T00:00:00"}
-PIECE = 65_536
+PIECE = 32_768
 SECONDS = 100
+# how much a table may take whose output nobody reads, in KiB: it took 9,356 with 4 workers, and 49,644 where nothing bounded what waits
+MOST_MEMORY = 30_000
+# how long rows are waited for that must come out
+PATIENCE = 60
+# how many bytes a table's pipe is given before it stalls, and how many of them may still wait: those of a block of 256 facts and a row
+GIVEN = 100_000
+HELD_BACK = 4_096
 Row = Tuple[str, str, str]
 
 
@@ -125,9 +139,11 @@ def feed(pipe: Path, whole: bytes, step: int) -> None:
 
 
 def read_all(stream, is_slow: bool, into: List[bytes]) -> None:
-    """Reads a stream to its end, now and then waiting."""
+    """Reads a stream to its end. A slow reader comes late, and waits now and then."""
+    if is_slow:
+        time.sleep(0.2)
     while True:
-        got = stream.read(65_536)
+        got = stream.read1(65_536)
         if not got:
             return
         into.append(got)
@@ -181,10 +197,89 @@ def report(numbers: random.Random, kind: int) -> List[Table]:
 def ways(numbers: random.Random, tables: List[Table]) -> List[Way]:
     """Some ways to convert a report."""
     found = []
-    for workers in (2, 4, numbers.choice([3, 8, 16]), 64):
+    small = [(workers, numbers.choice([1, 2, 4]), 0.3) for workers in (2, 4, numbers.choice([3, 8, 16]), 64)]
+    large = [(numbers.choice([2, 4, 8]), ring, 1.0) for ring in (65, 1024)]
+    for workers, ring, how_often_slowly in small + large:
         slow = [it.name for it in tables if it.rows and len(tables) < 10 and numbers.random() < 0.3]
-        found.append(Way(workers, numbers.choice([1, 2, 4]), numbers.random() < 0.4, slow, numbers.random() < 0.3))
+        found.append(Way(workers, ring, numbers.random() < 0.4, slow, numbers.random() < how_often_slowly))
     return found
+
+
+def peak(process: int) -> int:
+    """The most memory that a process has had so far, in KiB; 0 of one that ended."""
+    lines = Path(f"/proc/{process}/status").read_text().splitlines()
+    return next((int(it.split()[1]) for it in lines if it.startswith("VmHWM:")), 0)
+
+
+def unread_output(program: str) -> Optional[str]:
+    """What is wrong with a run whose output nobody reads for two seconds, where the ring has room for more than may wait."""
+    rows = [(f"i{at}", str(at), "a note") for at in range(150_000)]
+    with tempfile.TemporaryDirectory() as name:
+        folder = Path(name)
+        write(folder, random.Random(1), [Table("t", rows, None)])
+        words = [program, "meta.json", "--types", "types.csv", "--workers", "4", "--ring", "1024"]
+        run = subprocess.Popen(words, cwd=folder, stdin=subprocess.DEVNULL, stdout=subprocess.PIPE, stderr=subprocess.PIPE)
+        time.sleep(2)
+        most = peak(run.pid)
+        try:
+            wrote, said = run.communicate(timeout=SECONDS)
+        except subprocess.TimeoutExpired:
+            run.kill()
+            return "it was stopped, since it did not end"
+    facts = wrote.count(b'"value":')
+    if (run.returncode, said, facts) != (0, b"", 2 * len(rows)):
+        return f"status {run.returncode}, {said[:200]!r}, {facts} facts"
+    return None if 0 < most < MOST_MEMORY else f"it took {most} KiB"
+
+
+def feed_and_stall(pipe: Path, whole: bytes, step: int, goes_on: threading.Event) -> None:
+    """Gives a pipe the first GIVEN of these bytes, each part once the one before was read, and the others once it is told to go on."""
+    try:
+        with open(pipe, "wb", buffering=0) as file:
+            for at in range(0, GIVEN, step):
+                file.write(whole[at : min(at + step, GIVEN)])
+                end = time.monotonic() + PATIENCE
+                while fcntl.ioctl(file, termios.FIONREAD, bytes(4)) != bytes(4) and time.monotonic() < end:
+                    time.sleep(0.002)
+            goes_on.wait()
+            file.write(whole[GIVEN:])
+    except BrokenPipeError:
+        pass
+
+
+def stalled(program: str, workers: int, step: int) -> Optional[str]:
+    """What is wrong with a run whose table comes by a pipe that stalls: all rows given, but for the last few, must be written before more come."""
+    it = Table("t", [(f"i{at}", str(at), "a") for at in range(6_000)], None)
+    records = [record(["id", "amount", "note"], "\n")] + [record(list(row), "\n") for row in it.rows]
+    must = sum(1 for end in accumulate(map(len, records)) if end <= GIVEN - HELD_BACK) - 1
+    goes_on = threading.Event()
+    with tempfile.TemporaryDirectory() as name:
+        folder = Path(name)
+        write(folder, random.Random(1), [it])
+        pipe = folder / "t.csv"
+        pipe.unlink()
+        os.mkfifo(pipe)
+        words = [program, "meta.json", "--types", "types.csv", "--workers", str(workers)]
+        run = subprocess.Popen(words, cwd=folder, stdin=subprocess.DEVNULL, stdout=subprocess.PIPE)
+        wrote: List[bytes] = []
+        reader = threading.Thread(target=read_all, args=(run.stdout, False, wrote), daemon=True)
+        reader.start()
+        threading.Thread(target=feed_and_stall, args=(pipe, "".join(records).encode(), step, goes_on), daemon=True).start()
+        end = time.monotonic() + PATIENCE
+        rows = 0
+        while rows < must and time.monotonic() < end:
+            time.sleep(0.02)
+            rows = b"".join(wrote).count(b'"value":') // 2
+        goes_on.set()
+        try:
+            status = run.wait(SECONDS)
+        except subprocess.TimeoutExpired:
+            run.kill()
+            return "it was stopped, since it did not end"
+        reader.join(SECONDS)
+    if rows < must:
+        return f"{rows} rows were written, and not {must}, before more came"
+    return None if (status, b"".join(wrote)) == (0, document([it])) else f"status {status}, another document"
 
 
 def main(program: str) -> None:
@@ -209,6 +304,13 @@ def main(program: str) -> None:
                 at = len(os.path.commonprefix([wanted[1], found[1]]))
                 print(f"FAILED report {kind}, {way}: status {found[0]}, {found[2][:200]!r}, from byte {at}")
                 print(f"  wanted {wanted[1][max(at - 60, 0) : at + 60]!r}\n  found  {found[1][max(at - 60, 0) : at + 60]!r}")
+    cases = {"an output that nobody reads": unread_output(program)}
+    for workers, step in ((1, 20_000), (1, 65_536), (4, 20_000), (4, 65_536)):
+        cases[f"a pipe that stalls, {workers} workers, {step} bytes at a time"] = stalled(program, workers, step)
+    for name, why in cases.items():
+        well, bad = (well, bad + 1) if why else (well + 1, bad)
+        if why:
+            print(f"FAILED {name}: {why}")
     print(f"under stress: {well} as they must be, {bad} not")
     sys.exit(1 if bad else 0)
 

@@ -364,9 +364,13 @@ def outputs_over_inputs(folder):
         (folder / f"hard.{name}").unlink()
         (folder / name).unlink()
         before = held(folder)
-        for path in (name, f"./{name}", f"soft.{name}"):
-            seen = run([*WORDS, "--out", path], folder)
-            case(f"--out {path}, which is not there", seen == (3, b"", f"xbrl-json: cannot write {path}\n") and held(folder) == before, seen, held(folder))
+        for path in (name, f"./{name}", f"{folder}/{name}", f"folder/../{name}", f"soft.{name}"):
+            for words in ([], ["--whole"], ["--whole", "--workers", "1"]):
+                seen = run([*WORDS, *words, "--out", path], folder)
+                # The new file of --whole makes none at the path of the parameters file, which then cannot be read; a link that leads nowhere is opened.
+                is_unread = words and said == "parameters" and not path.startswith("soft.")
+                wanted = "cannot read parameters.csv" if is_unread else f"cannot write {path}"
+                case(f"--out {path} {words}, which is not there", seen == (3, b"", f"xbrl-json: {wanted}\n") and held(folder) == before, seen, held(folder))
         full_report(folder)
 
 

@@ -2,13 +2,15 @@
 //! tables that wait for one another, writers with room for each number of bytes or whose flush fails, workers that are not started, full
 //! rings, and a table in pieces of each size.
 //!
-//! And each public name of `oim_pieces`, `oim_convert`, `oim_places`, `oim_explain` and `oim_run` in one call, in the form in which a caller
-//! from outside writes it. The first call of `pieces`, `conversions`, `places`, `explained` and `runs` is the one that its library's own page
+//! And each public name of `keyed`, `oim_pieces`, `oim_convert`, `oim_places`, `oim_explain` and `oim_run` in one call, in the form in which a caller
+//! from outside writes it. The first call of `channels`, `pieces`, `conversions`, `places`, `explained` and `runs` is the one that its library's own page
 //! shows (`tests/public_calls.py` compares them).
 //!
 //! What a report of files shows as well is left to the scripts over the built program.
 #![tactic(auto)]
 
+#[cfg(test)]
+mod channels;
 #[cfg(test)]
 mod conversions;
 #[cfg(test)]

@@ -9,14 +9,14 @@ use oim_pieces::{Helpers, PIECE_SIZE, TablePieces};
 use oim_rows::TableFault;
 use std::alloc::{AllocError, Global};
 use std::sync::Wait;
-use std::thread;
 use std::thread::{Scope, Threads};
+use std::{mem, thread};
 
 /// The number of blocks in the first piece of a report's first table, whose file has these bytes.
-fn first_piece<'s, E, T: Threads>(
+fn first_piece<'s, E, T: Threads + Wait + Sync + 's>(
     scope: &Scope<'s, E>,
     helpers: &'s Helpers,
-    rt: &T,
+    rt: &'s T,
     alloc: Global,
     report: &'s Report,
     file: &[u8],
@@ -26,7 +26,9 @@ fn first_piece<'s, E, T: Threads>(
     }
     let limits = Limits::profile();
     let mut table = TablePieces::open(alloc, helpers, report, 0, file, limits)?;
-    match table.next_blocks(scope, rt)? {
+    let first = table.next_blocks(scope, rt);
+    mem::drop(table);
+    match first? {
         Some(blocks) => Ok(blocks.len()),
         None => Ok(0),
     }
@@ -41,7 +43,8 @@ fn counts() -> bool {
 }
 
 /// Whether a table that was just opened needs no memory of others, and gives back what it was given.
-fn keeps_rooms(alloc: Global, report: &Report, file: &[u8]) -> bool {
+fn keeps_rooms(rt: &(impl AllocGlobal + Wait), report: &Report, file: &[u8]) -> bool {
+    let alloc = rt.alloc();
     if report.tables() == 0 {
         return false;
     }
@@ -52,8 +55,12 @@ fn keeps_rooms(alloc: Global, report: &Report, file: &[u8]) -> bool {
     };
     let needs_none = table.wanted_rooms() == 0;
     table.want(true);
-    table.keep_room(Vec::new(alloc));
-    needs_none && table.free_rooms().len() == 1 && table.free_rooms().is_empty()
+    table.note_left(0);
+    table.keep_room(rt, Vec::new(alloc));
+    let has_one = table.free_rooms(rt).len() == 1;
+    let has_none = table.free_rooms(rt).is_empty();
+    mem::drop(table);
+    needs_none && has_one && has_none
 }
 
 /// Adds the texts of blocks to the beginning of a document.
@@ -68,9 +75,9 @@ fn put_blocks(document: &mut Vec<u8>, blocks: &[Block]) -> Result<(), AllocError
 }
 
 /// Adds the facts of a table to the beginning of a document, piece by piece. Tells whether the table has no fault.
-fn put_pieces<'s, E, T: Threads>(
+fn put_pieces<'s, E, T: Threads + Wait + Sync + 's>(
     scope: &Scope<'s, E>,
-    rt: &T,
+    rt: &'s T,
     table: &mut TablePieces<'s, Slow<'_>>,
     document: &mut Vec<u8>,
 ) -> bool {
@@ -89,9 +96,9 @@ fn put_pieces<'s, E, T: Threads>(
 }
 
 /// The same of a report's first table.
-fn put_table<'s, E, T: Threads>(
+fn put_table<'s, E, T: Threads + Wait + Sync + 's>(
     scope: &Scope<'s, E>,
-    rt: &T,
+    rt: &'s T,
     alloc: Global,
     helpers: &'s Helpers,
     report: &'s Report,
@@ -104,7 +111,9 @@ fn put_table<'s, E, T: Threads>(
     match TablePieces::open(alloc, helpers, report, 0, file, Limits::profile()) {
         Ok(mut table) => {
             table.want(true);
-            put_pieces(scope, rt, &mut table, document)
+            let is_good = put_pieces(scope, rt, &mut table, document);
+            mem::drop(table);
+            is_good
         }
         Err(_) => false,
     }
@@ -214,7 +223,7 @@ fn has_a_block(
 pub(crate) fn hold(rt: &(impl AllocGlobal + Threads + Wait + Sync), report: &Report) -> bool {
     let helpers = Helpers::new(4, PIECE_SIZE);
     counts()
-        && keeps_rooms(rt.alloc(), report, b"cash\n1\n")
+        && keeps_rooms(rt, report, b"cash\n1\n")
         && has_a_block(rt, &helpers, report, b"cash\n1\n")
 }
 

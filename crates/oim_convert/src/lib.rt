@@ -66,6 +66,7 @@ mod fault;
 mod job;
 mod lanes;
 mod laws;
+mod leave;
 mod limits;
 mod pieces;
 mod returning;

@@ -6,6 +6,7 @@ ghost use Rattle.oim_convert.specs.TableFiles.{IsSentOfFile, IsTableFile};
 ghost use Rattle.oim_rows.specs.Streams.{facts_of_rows};
 
 use crate::decode::send_file;
+use crate::leave::Leave;
 use crate::sending::put_waiting;
 use crate::table_file::TableFile;
 use oim_json::Block;
@@ -14,8 +15,8 @@ use oim_ring::{Ending, Feed};
 use std::alloc::Global;
 use std::io::Read;
 use std::sync::Wait;
-use std::thread;
 use std::thread::{Scope, Threads};
+use std::{mem, thread};
 
 /// Sends the facts of a table's file, and gives the table's ending. Where there are other workers, threads decode pieces of it in
 /// the places of those that rest.
@@ -34,7 +35,7 @@ pub(crate) fn send_table<R: Read + Drop, T: Threads + Wait>(
     if helpers.is_alone() {
         send_file(rt, alloc, file, helpers, feed)
     } else {
-        send_in_scope(rt, alloc, file, helpers, feed)
+        send_in_scope(&Leave::of(rt), alloc, file, helpers, feed)
     }
 }
 
@@ -45,7 +46,7 @@ struct Sent<'a> {
 }
 
 /// Sends the facts of a table's file, with a scope for the threads that decode pieces of it.
-fn send_in_scope<R: Read + Drop, T: Threads + Wait>(
+fn send_in_scope<R: Read + Drop, T: Threads + Wait + Sync>(
     rt: &T,
     alloc: Global,
     file: TableFile<'_, R>,
@@ -83,9 +84,9 @@ fn take_back<T>(x: &mut T)
 {}
 
 /// Sends the facts of a table's file, piece by piece, in this scope.
-fn send_pieces<'s, E, R: Read + Drop, T: Threads + Wait>(
+fn send_pieces<'s, E, R: Read + Drop, T: Threads + Wait + Sync + 's>(
     scope: &Scope<'s, E>,
-    rt: &T,
+    rt: &'s T,
     alloc: Global,
     file: TableFile<'s, R>,
     helpers: &'s Helpers,
@@ -103,53 +104,59 @@ fn send_pieces<'s, E, R: Read + Drop, T: Threads + Wait>(
         limits,
     } = file;
     match TablePieces::open(alloc, helpers, report, table, reader, limits) {
-        Ok(mut pieces) => send_opened(scope, rt, &mut pieces, helpers, feed),
+        Ok(pieces) => send_opened(scope, rt, pieces, helpers, feed),
         Err(fault) => Ending::Refused(fault),
     }
 }
 
-/// Sends the pieces of a table that was opened, in memory that goes round, and gives the table's ending.
-fn send_opened<'s, E, R: Read + Drop, T: Threads + Wait>(
+/// Sends the pieces of a table that was opened, in memory that goes round, lets go of the table, and gives its ending.
+fn send_opened<'s, E, R: Read + Drop, T: Threads + Wait + Sync + 's>(
     scope: &Scope<'s, E>,
-    rt: &T,
-    pieces: &mut TablePieces<'s, R>,
+    rt: &'s T,
+    pieces: TablePieces<'s, R>,
     helpers: &Helpers,
     feed: &mut Feed,
 ) -> Ending
     requires fresh { feed.old.sent ≡ [] }
     ensures ring { feed.new.ring ≡ feed.old.ring }
-    ensures given { IfSome pieces.old.left (λ s. IsGiven pieces.old.table s (facts_in feed.new.sent) result) }
+    ensures given { IfSome pieces.entry.left (λ s. IsGiven pieces.entry.table s (facts_in feed.new.sent) result) }
 {
-    let ending = send_left(scope, rt, pieces, helpers, feed);
-    give_back_rooms(rt, pieces, feed);
+    let mut pieces = pieces;
+    let ending = send_left(scope, rt, &mut pieces, helpers, feed);
+    give_back_rooms(rt, &mut pieces, feed);
+    mem::drop(pieces);
     ending
 }
 
 /// Tells the pieces whether the writer has reached the table, and takes memory for the texts of the next ones, as far as blocks that were written
 /// gave it back.
-fn make_ready<R: Read + Drop, T: Wait>(rt: &T, pieces: &mut TablePieces<'_, R>, feed: &Feed)
-    ensures { pieces.new ≡ pieces.old }
+fn make_ready<R: Read + Drop, T: Wait>(rt: &T, pieces: &mut TablePieces<'_, R>, feed: &mut Feed)
+    ensures pieces { pieces.new ≡ pieces.old }
+    ensures feed { feed.new ≡ feed.old }
 {
     pieces.want(feed.is_reached());
     for _ in 0..pieces.wanted_rooms() {
         match feed.kept_room(rt) {
-            Some(room) => pieces.keep_room(room),
-            None => return,
+            Some(room) => pieces.keep_room(rt, room),
+            None => {
+                pieces.note_left(feed.waiting_blocks());
+                return;
+            }
         }
     }
 }
 
 /// Gives back the memory that a table kept for texts, as far as the rings keep it for others.
 fn give_back_rooms<R: Read + Drop, T: Wait>(rt: &T, pieces: &mut TablePieces<'_, R>, feed: &Feed) {
-    for room in pieces.free_rooms() {
+    for room in pieces.free_rooms(rt) {
         feed.give_back(rt, room);
     }
 }
 
 /// Sends the pieces that are left, and gives the table's ending.
-fn send_left<'s, E, R: Read + Drop, T: Threads + Wait>(
+fn send_left<'s, E, R: Read + Drop, T: Threads + Wait + Sync + 's>(
     scope: &Scope<'s, E>,
-    rt: &T,
+    rt: &'s T,
     pieces: &mut TablePieces<'s, R>,
     helpers: &Helpers,
     feed: &mut Feed,

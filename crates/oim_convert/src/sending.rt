@@ -9,8 +9,11 @@ use oim_pieces::Helpers;
 use oim_ring::{CloseFault, Closed, Ending, Feed};
 use std::sync::Wait;
 
-/// Sends a block once it is the feed's turn, trying again while the ring is full. During each call that may wait its worker counts as
-/// resting, also where that call returns at once. No clause says so.
+/// The most blocks of a table that wait for the writer, however large its ring. More would only take memory, which is dear to touch first.
+const MOST_WAITING: usize = 64;
+
+/// Sends a block once it is the feed's turn, trying again while the ring is full or so many blocks wait. During each call that may wait its worker
+/// counts as resting, also where that call returns at once. No clause says so.
 pub(crate) fn put_waiting<T: Wait>(rt: &T, helpers: &Helpers, feed: &mut Feed, block: Block)
     ensures ring { feed.new.ring ≡ feed.old.ring }
     ensures sent { feed.new.sent ≡ feed.old.sent ++ items.Block block ∷ [] }
@@ -20,7 +23,7 @@ pub(crate) fn put_waiting<T: Wait>(rt: &T, helpers: &Helpers, feed: &mut Feed, b
         helpers.rest();
         feed.wait_for_turn(rt);
         helpers.start();
-        match feed.put(block) {
+        match feed.put_below(block, MOST_WAITING) {
             Ok(()) => return,
             Err(back) => block = back,
         }

@@ -128,7 +128,7 @@ impl MetaFault {
                 "there are more bytes, tables, columns or records than the limit"
             }
             MetaFault::Memory => "memory ran out",
-            MetaFault::Read => "the reader failed",
+            MetaFault::Read => "the file cannot be opened or read to its end, or is a folder",
         }
     }
 }

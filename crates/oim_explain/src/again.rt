@@ -179,11 +179,48 @@ fn of_parameters<R: Read + Drop, F: Folder<R>>(
     }
 }
 
-/// The path of a file that was not read to its end; that of the metadata for a parameters file, which it names.
-fn unread_path<'p>(meta: &'p str, types: &'p str, source: Source) -> &'p str {
+/// What is said of the parameters file that a metadata of these bytes, which is at this path, names; of the metadata where it names none.
+fn of_named_file(
+    alloc: Global,
+    meta: &str,
+    bytes: &[u8],
+    said: &'static str,
+) -> Result<Explanation, AllocError> {
+    match url_in(alloc, bytes) {
+        Ok(Some(url)) => {
+            let path = path_in(alloc, folder_of(meta), url.as_str())?;
+            of_file(alloc, path.as_str(), said)
+        }
+        _ => of_file(alloc, meta, said),
+    }
+}
+
+/// What is said of the parameters file of the metadata at this path; of the metadata where that cannot be read.
+fn of_parameters_file<R: Read + Drop, F: Folder<R>>(
+    alloc: Global,
+    folder: &mut F,
+    meta: &str,
+    said: &'static str,
+) -> Result<Explanation, AllocError> {
+    match metadata_at(alloc, folder, meta) {
+        Ok(bytes) => of_named_file(alloc, meta, bytes.as_slice(), said),
+        Err(_) => of_file(alloc, meta, said),
+    }
+}
+
+/// What is said of a file as a whole, whatever stands in it.
+fn of_whole<R: Read + Drop, F: Folder<R>>(
+    alloc: Global,
+    meta: &str,
+    types: &str,
+    folder: &mut F,
+    source: Source,
+    said: &'static str,
+) -> Result<Explanation, AllocError> {
     match source {
-        Source::Report | Source::Parameters => meta,
-        Source::Types => types,
+        Source::Report => of_file(alloc, meta, said),
+        Source::Types => of_file(alloc, types, said),
+        Source::Parameters => of_parameters_file(alloc, folder, meta, said),
     }
 }
 
@@ -197,8 +234,7 @@ fn explained<R: Read + Drop, F: Folder<R>>(
     fault: MetaFault,
 ) -> Result<Explanation, AllocError> {
     if matches!(fault, MetaFault::Memory | MetaFault::Read) {
-        let path = unread_path(meta, types, source);
-        return of_file(alloc, path, fault.explanation());
+        return of_whole(alloc, meta, types, folder, source, fault.explanation());
     }
     match source {
         Source::Report => of_metadata(alloc, meta, types, folder, fault),

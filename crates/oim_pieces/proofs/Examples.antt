@@ -13,13 +13,10 @@ use Rattle.oim_rows.specs.Streams.{Stream, ending, stream_from}
 use Rattle.oim_rows.specs.declared.fault.TableFault.{TableFault}
 use Rattle.oim_rows.specs.declared.fault.TableKind.TheVariants as kind
 use Rattle.oim_decode.specs.Apart.{Apart, apart_from}
-use Rattle.oim_decode.specs.PieceAnswers.{PieceLeft}
 use Rattle.oim_pieces.specs.Comings.{Comes}
 use Rattle.oim_pieces.specs.Cutting.{IsOver, TakesRows, left_over}
-use Rattle.oim_pieces.specs.Flights.{AllRead, AreChained, EndsWith, FewerSteps, FlyingPiece, IsAnswer, IsEnd, IsFront, KeepsEnd, KeepsStream, NoMoreSteps, behind, first_of, left_of, rows_in, rows_left, steps_for, steps_in, stream_in}
-use Rattle.std.specs.declared.thread.PromisedHandle.{PromisedHandle}
+use Rattle.oim_pieces.specs.Flights.{AreChained, EndsWith, FewerSteps, FlyingPiece, IsAnswer, IsEnd, IsFront, KeepsEnd, KeepsStream, NoMoreSteps, behind, first_of, left_of, rows_in, rows_left, steps_for, steps_in, stream_in}
 use Rattle.oim_pieces.specs.declared.decoded.Asked.{Asked}
-use Rattle.oim_pieces.specs.declared.decoded.Decoded.{Decoded}
 use Rattle.oim_pieces.specs.declared.flying.Coming.TheVariants.{Here, Thread}
 
 -- a report of one table, each of whose rows has an identifier and no facts
@@ -67,12 +64,6 @@ piece_cut_wrong : (TakesRows (Some (a ∷ b ∷ [])) (b ∷ []) (Some (a ∷ [])
 piece_cut_wrong = (λ h. absurd (cc h), λ h. absurd (cc h), λ h. h)
 
 -- DECODERS AND ANSWERS
-abbrev decoder : ℕ → PieceLeft
-decoder limit = record { reading = limited limit; left = [] }
-
-all_read : AllRead reading (decoder 9 ∷ decoder 9 ∷ []) × (AllRead reading (decoder 9 ∷ decoder 8 ∷ []) → ⊥)
-all_read = ((refl, (refl, tt)), λ h. let limits : 8 ≡ 9 = ap (λ (g : Reading). g.limit) h.1.0 in absurd (omega (arith, limits)))
-
 abbrev ids_of : List (List ℕ) → Apart
 ids_of [] = record { rows = []; ids = []; fault = None }
 ids_of (k ∷ ks) = record { rows = [] ∷ (ids_of ks).rows; ids = k ∷ (ids_of ks).ids; fault = None }
@@ -164,7 +155,7 @@ ids_behind : IsFront second (codes "kk" ∷ []) (record { rows = [] ∷ []; faul
 unfolding apart_from chars is_row_identifier is_plain_char is_ncname is_name_char is_name_start field_at is_utf8 lib.Utf8.encode
 ids_behind = record { answer = ids_of (codes "kkk" ∷ []); decoded = inl refl; joined = inl refl; behind = λ h. refl }
 
--- COMING: an answer that is here is for what was asked; a thread has promised one for just that
+-- COMING: an answer that is here is for what was asked; one that a thread gives comes through the channel of just that piece
 abbrev asked : Asked → List Record → Asked
 asked any rows = record any { reading = record any.reading { value = reading }; first = 6; rows = record any.rows { value = rows } }
 
@@ -172,5 +163,5 @@ comes_here : (any : Asked) → Comes (asked any (c ∷ [])) (Here (ids_of (codes
 unfolding apart_from chars is_row_identifier is_plain_char is_ncname is_name_char is_name_start field_at is_utf8 lib.Utf8.encode
 comes_here any = record { decoded = inl refl; few = omega arith }
 
-promised : (any : Asked) (h : PromisedHandle Decoded Asked) → h.promise ≡ asked any (c ∷ []) → Comes (asked any (c ∷ [])) (Thread h)
-promised any h is = (ap (λ (p : Asked). p.reading.value) is, ap (λ (p : Asked). p.first) is, ap (λ (p : Asked). p.rows.value) is)
+through_its_channel : (any : Asked) → Comes (asked any (c ∷ [])) (Thread (Some (asked any (c ∷ [])))) × (Comes (asked any (c ∷ [])) (Thread None) → ⊥)
+through_its_channel any = ((refl, refl, refl), λ h. h)

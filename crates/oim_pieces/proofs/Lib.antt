@@ -4,5 +4,5 @@ pub mod Openings
 pub mod Gives
 pub mod CutLaws
 pub mod StepLaws
-pub mod SpareLaws
+pub mod SheetLaws
 pub mod Examples

@@ -1,5 +1,6 @@
 -- What decodes a piece, and what it answers, may cross threads.
 use denote.Param.Send.{IsSend, IsSync, sendable}
+use denote.Param.SendFields.{declared_send, variants_send}
 use denote.Ref.{NamedLft}
 use Rattle.std.proofs.Crossing.{crosses}
 use Rattle.oim_fast.proofs.table.row_writer.RowWriter.TheSendSync as writer
@@ -20,6 +21,21 @@ use Rattle.oim_rows.specs.contracts.row_plan.RowPlan as RowPlan
 use Rattle.oim_decode.proofs.piece.piece_answer.PieceAnswer.TheSendSync as answer
 use Rattle.oim_decode.specs.contracts.piece.piece_answer.PieceAnswer as Answer
 use Rattle.oim_decode.specs.contracts.piece.piece_decoder.PieceDecoder as Decoder
+use Rattle.keyed.proofs.ends.Giver.TheSendSync as giver
+use Rattle.keyed.proofs.ends.Taker.TheSendSync as taker
+use Rattle.keyed.specs.contracts.ends.Giver as Giver
+use Rattle.oim_pieces.proofs.bins.Bin.TheSendSync as bin
+use Rattle.oim_pieces.specs.contracts.bins.Bin as Bin
+use Rattle.oim_pieces.specs.contracts.decoded.Asked as Asked
+use Rattle.oim_pieces.specs.contracts.sheet.How as How
+use Rattle.oim_pieces.specs.contracts.sheet.OfPiece as OfPiece
+use Rattle.oim_pieces.specs.contracts.sheet.OfPieceFitAskedSheet.TheImpl as of_piece
+use Rattle.oim_pieces.specs.contracts.sheet.OfTable as OfTable
+use Rattle.oim_pieces.specs.contracts.sheet.OfTableFitHowJob.TheImpl as of_table
+use Rattle.oim_pieces.specs.contracts.sheet.Question as Question
+use Rattle.oim_pieces.specs.contracts.sheet.Reply as Reply
+use Rattle.oim_pieces.specs.contracts.sheet.Sheet as Sheet
+use Rattle.oim_pieces.specs.contracts.thread.Post as Post
 
 pub answer_send : IsSend Answer.the_row
 answer_send = answer.the_send
@@ -50,3 +66,24 @@ ids_send = ids.the_send
 
 pub decoder_send : (a : NamedLft) → IsSend (Decoder.the_row a)
 decoder_send a = search (sendable, crosses, row_plan_send, form_send, writer_send, records_send, ids_send) depth 20
+
+bin_send : IsSend Bin.the_row
+bin_send = bin.the_send
+
+reply_send : IsSend Reply.the_row
+reply_send = search (sendable, crosses, answer_send) depth 20
+
+question_send : (a : NamedLft) → IsSend (Question.the_row a)
+question_send a = search (sendable, crosses) depth 20
+
+sheet_send : (a : NamedLft) → IsSend (Sheet.the_row a)
+sheet_send a = variants_send (Sheet.enum a) ((question_send a, tt), ((reply_send, tt), tt))
+
+job_send : (a : NamedLft) → IsSend (Giver.the_row (Sheet.the_row a) (Asked.the_row a) OfPiece.the_row of_piece.ghosts)
+job_send a = giver.the_send (Sheet.the_row a) (Asked.the_row a) OfPiece.the_row of_piece.ghosts (sheet_send a)
+
+pub post_send : (a : NamedLft) → IsSend (Post.the_row a)
+post_send a =
+    let job = Giver.the_row (Sheet.the_row a) (Asked.the_row a) OfPiece.the_row of_piece.ghosts in
+    let share = taker.the_send job (How.the_row a) OfTable.the_row of_table.ghosts (job_send a) in
+    declared_send (Post.the_type a) (decoder_send a, (share, (bin_send, (search sendable, tt))))

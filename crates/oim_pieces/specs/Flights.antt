@@ -6,13 +6,8 @@ use Rattle.oim_rows.specs.RowFacts.{Reading}
 use Rattle.oim_rows.specs.Streams.{IsOutside, Stream, ending, stream_from}
 use Rattle.oim_rows.specs.declared.fault.TableFault.{TableFault}
 use Rattle.oim_decode.specs.Apart.{Apart}
-use Rattle.oim_decode.specs.PieceAnswers.{IsDecoded, IsJoined, PieceLeft}
+use Rattle.oim_decode.specs.PieceAnswers.{IsDecoded, IsJoined}
 use Rattle.oim_pieces.specs.Cutting.{CutterLeft}
-
--- decoders read rows in this way
-abbrev pub AllRead : Reading → List PieceLeft → Type 0
-AllRead g [] = ⊤
-AllRead g (d ∷ ds) = (d.reading ≡ g) × AllRead g ds
 
 -- a piece: how its rows are read, the number of the first, and the rows
 pub record FlyingPiece : Type 0 where

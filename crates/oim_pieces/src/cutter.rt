@@ -13,12 +13,31 @@ use oim_rows::{TableFault, TableKind, fault_of_read, whole_fault};
 use std::io::Read;
 use std::marker::Model;
 
-/// Whole records of a table's file, the number of the first as a row, and whether they are fewer bytes than half of those that were asked for.
+/// Whole records of a table's file, the number of the first as a row, and whether the worker that cut them decodes them, as it does with fewer bytes
+/// than half of those that were asked for.
 #[derive(Drop)]
 pub(crate) struct CutPiece {
     pub(crate) bytes: Vec<u8>,
     pub(crate) first: u32,
-    pub(crate) is_short: bool,
+    pub(crate) stays: bool,
+}
+
+impl CutPiece {
+    /// The same piece. Where it is to stay, the worker that cut it decodes it, as it does with a short one.
+    pub(crate) fn staying(self, stays: bool) -> CutPiece
+        ensures { (result.bytes ≡ self.bytes) × (result.first ≡ self.first) }
+    {
+        let CutPiece {
+            bytes,
+            first,
+            stays: is_short,
+        } = self;
+        CutPiece {
+            bytes,
+            first,
+            stays: is_short || stays,
+        }
+    }
 }
 
 /// What cuts the file of a table. A contract sees the place of the table, its limit of rows, the number of the next row, the records that are left
@@ -32,7 +51,7 @@ pub(crate) struct Cutter<R: Read + Drop> {
     over: Option<Option<TableFault>>,
     // how many bytes a piece is to have
     size: usize,
-    // whether the last piece was short, as at the end of a file and of a reader that gives few bytes at a time
+    // whether the last piece was short, or the last read, as at the end of a file and of a reader that gives few bytes at a time
     is_slow: bool,
 }
 
@@ -134,12 +153,12 @@ impl<R: Read + Drop> Cutter<R> {
             Ok(Some(FilePiece { bytes, records })) => {
                 let first = self.next as u32;
                 let is_short = bytes.len() < self.size / 2;
-                self.is_slow = is_short;
+                self.is_slow = is_short || self.pieces.is_short();
                 self.next += records;
                 Some(CutPiece {
                     bytes,
                     first,
-                    is_short,
+                    stays: is_short,
                 })
             }
             Ok(None) => {

@@ -1,38 +1,20 @@
-//! A piece that a thread has decoded, and what it has promised of it.
+//! Which rows are asked for.
 
-ghost use Rattle.std.specs.Prelude.{◌≡◌, ◌≤◌, ◌+◌, drop};
+ghost use Rattle.std.specs.Prelude.{◌≡◌, drop};
 ghost use Rattle.csv.specs.declared.parser.State.TheVariants as state;
 ghost use Rattle.oim_records.specs.Grids.{records_left};
-ghost use Rattle.oim_pieces.specs.Flights.{IsAnswer};
 
-use crate::helpers::Helpers;
-use oim_decode::{PieceAnswer, PieceDecoder, TableHead};
+use oim_decode::TableHead;
 use oim_rows::RowForm;
 use std::snapshot::Snapshot;
-use std::thread::Promise;
 use told::{Tells, Told};
 
-/// The answer for a piece, and the decoder that gave it.
-#[derive(Drop)]
-pub(crate) struct Decoded<'a> {
-    pub(crate) decoder: PieceDecoder<'a>,
-    pub(crate) answer: PieceAnswer,
-}
-
-/// Which rows are asked for: how they are read, the number of the first, and, for contracts alone, the rows. As a promise it says of the
-/// answer that it is for these rows.
+/// Which rows are asked for: how they are read, the number of the first, and, for contracts alone, the rows.
 #[derive(Drop)]
 pub(crate) struct Asked<'a> {
     pub(crate) reading: Snapshot<RowForm<'a>>,
     pub(crate) first: u32,
     pub(crate) rows: Told<TableHead>,
-}
-
-impl<'a> Promise<Decoded<'a>> for Asked<'a> {
-    ghost use Rattle.std.specs.Prelude.{◌≡◌};
-    ghost use Rattle.oim_pieces.specs.Flights.{IsAnswer};
-
-    ghost kept_by = { λ a d. IsAnswer a.reading.value a.first a.rows.value d.answer × (d.decoder.reading ≡ a.reading.value) };
 }
 
 /// Tells the records of a piece.
@@ -82,30 +64,4 @@ impl<'a> Asked<'a> {
             rows: Told::of(&RowsBehind { head }),
         }
     }
-}
-
-/// What a thread is given: a decoder, a piece, the number of its first row, and the count in which it has a place.
-#[derive(Drop)]
-pub(crate) struct Duty<'a> {
-    pub(crate) decoder: PieceDecoder<'a>,
-    pub(crate) bytes: Vec<u8>,
-    pub(crate) first: u32,
-    pub(crate) helpers: &'a Helpers,
-}
-
-/// Decodes a piece, and then gives the place back.
-pub(crate) fn decode_and_tell<'a>(duty: Duty<'a>) -> Decoded<'a>
-    requires { duty.first ≤ duty.decoder.reading.limit + 1 }
-    ensures answer { IsAnswer duty.entry.decoder.reading duty.entry.first (records_left state.StartRecord duty.entry.bytes.items) result.answer }
-    ensures reading { result.decoder.reading ≡ duty.entry.decoder.reading }
-{
-    let Duty {
-        mut decoder,
-        bytes,
-        first,
-        helpers,
-    } = duty;
-    let answer = decoder.decode(bytes, first);
-    helpers.give_back();
-    Decoded { decoder, answer }
 }

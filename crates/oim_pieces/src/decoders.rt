@@ -1,9 +1,11 @@
-//! The decoders that threads are given.
+//! The decoders that threads are given, and memory that is used again.
 
-ghost use Rattle.std.specs.Prelude.{◌≡◌, ◌≤◌, ◌<◌, IfSome, [], length};
+ghost use Rattle.std.specs.Prelude.{◌≡◌, ◌≤◌, ◌<◌, List, IfSome, length};
 ghost use Rattle.oim_decode.specs.Heads.{reading_in};
+ghost use Rattle.oim_records.specs.Grids.{Record};
+ghost use Rattle.oim_pieces.specs.Flights.{IsAnswer};
 
-use oim_decode::{PieceDecoder, TableHead};
+use oim_decode::{PieceAnswer, PieceDecoder, TableHead};
 use oim_report::Report;
 use std::alloc::Global;
 use std::marker::Model;
@@ -12,7 +14,7 @@ use std::mem;
 /// A piece whose texts take fewer vectors than this needs none that others gave back.
 const FEW: usize = 4;
 
-/// The head of a table, and decoders of its pieces that no thread has. A contract sees how the table's rows are read.
+/// The head of a table, which gives decoders of its pieces, and memory that is used again. A contract sees how the table's rows are read.
 #[derive(Drop)]
 pub(crate) struct Decoders<'a> {
     alloc: Global,
@@ -20,31 +22,30 @@ pub(crate) struct Decoders<'a> {
     table: usize,
     limit: u32,
     head: TableHead,
-    spare: Vec<PieceDecoder<'a>>,
     // memory for texts
     rooms: Vec<Vec<u8>>,
     // how many vectors the texts of a piece take
     usual: usize,
-    // memory for the bytes of a piece
-    bytes: Option<Vec<u8>>,
+    // memory for the bytes of pieces
+    bytes: Vec<Vec<u8>>,
+    // which thread gave the answer that was joined last; none has this number where it was decoded here
+    by: usize,
 }
 
 impl<'a> Model for Decoders<'a> {
     ghost use Rattle.std.specs.Prelude.{◌≡◌, ◌≤◌, ◌<◌, length};
     ghost use Rattle.oim_decode.specs.Heads.{reading_in};
-    ghost use Rattle.oim_pieces.specs.Flights.{AllRead};
     ghost use Rattle.oim_rows.specs.RowFacts.{Reading};
 
     ghost Value = { Reading };
 
     ghost view = { λ a. reading_in a.report.now a.table a.limit a.head };
 
-    ghost invariant = { λ a. (a.table < length a.report.now.tables) × (a.limit ≤ 4294967294)
-        × AllRead (reading_in a.report.now a.table a.limit a.head) a.spare.items };
+    ghost invariant = { λ a. (a.table < length a.report.now.tables) × (a.limit ≤ 4294967294) };
 }
 
 impl<'a> Decoders<'a> {
-    /// No decoder yet of the table at this place of a report, whose rows are at most `limit`.
+    /// What gives decoders of the table at this place of a report, whose rows are at most `limit`.
     pub(crate) fn new(
         alloc: Global,
         report: &'a Report,
@@ -62,31 +63,18 @@ impl<'a> Decoders<'a> {
             table,
             limit,
             head,
-            spare: Vec::new(alloc),
             rooms: Vec::new(alloc),
             usual: 0,
-            bytes: None,
+            bytes: Vec::new(alloc),
+            by: usize::MAX,
         }
     }
 
-    /// A decoder that no thread has, or a new one. `None` where memory is short.
+    /// A new decoder. `None` where memory is short.
     pub(crate) fn take(&mut self) -> Option<PieceDecoder<'a>>
         ensures decoder { IfSome result (λ d. d.reading ≡ self.old) }
         ensures same { self.new ≡ self.old }
     {
-        let mut decoder = self.ready()?;
-        self.lend_rooms(&mut decoder);
-        Some(decoder)
-    }
-
-    /// A decoder that no thread has, or a new one. `None` where memory is short.
-    fn ready(&mut self) -> Option<PieceDecoder<'a>>
-        ensures decoder { IfSome result (λ d. d.reading ≡ self.old) }
-        ensures same { self.new ≡ self.old }
-    {
-        if let Some(decoder) = self.spare.pop() {
-            return Some(decoder);
-        }
         match self
             .head
             .decoder(self.alloc, self.report, self.table, self.limit)
@@ -110,7 +98,7 @@ impl<'a> Decoders<'a> {
         self.usual = count;
     }
 
-    /// How many vectors more would serve for the texts of two pieces. No contract says so.
+    /// How many vectors more would serve for the texts of two pieces that are decoded here. No contract says so.
     pub(crate) fn wanted(&self) -> usize {
         if self.usual < FEW {
             return 0;
@@ -118,6 +106,11 @@ impl<'a> Decoders<'a> {
         self.usual
             .saturating_mul(2)
             .saturating_sub(self.rooms.len())
+    }
+
+    /// How many vectors each of so many who decode is given of those that are kept.
+    pub(crate) fn share(&self, count: usize) -> usize {
+        self.rooms.len() / count.max(1)
     }
 
     /// Gives a decoder memory for the texts of a piece, of that which was kept.
@@ -147,7 +140,7 @@ impl<'a> Decoders<'a> {
     }
 
     /// Gives back a vector whose memory was kept for texts, if there is one.
-    fn free_room(&mut self) -> Option<Vec<u8>>
+    pub(crate) fn free_room(&mut self) -> Option<Vec<u8>>
         ensures { self.new ≡ self.old }
     {
         self.rooms.pop()
@@ -164,17 +157,53 @@ impl<'a> Decoders<'a> {
     pub(crate) fn free_bytes(&mut self) -> Option<Vec<u8>>
         ensures { self.new ≡ self.old }
     {
-        self.bytes.take()
+        self.bytes.pop()
     }
 
-    /// Keeps a decoder that a thread gave back. Where memory is short, it is dropped.
-    pub(crate) fn keep(&mut self, decoder: PieceDecoder<'a>)
-        requires { decoder.reading ≡ self.old }
+    /// Keeps the memory of a piece that was decoded, if it has any, where there is memory to note it.
+    pub(crate) fn keep_bytes(&mut self, bytes: Vec<u8>)
         ensures { self.new ≡ self.old }
     {
-        let mut decoder = decoder;
-        self.take_memory(&mut decoder);
-        self.push_spare(decoder);
+        if bytes.capacity() > 0 {
+            let _ = self.bytes.push(bytes);
+        }
+    }
+
+    /// A vector without memory.
+    pub(crate) fn no_bytes(&self) -> Vec<u8> {
+        Vec::new(self.alloc)
+    }
+
+    /// Notes that the answer that is joined next was decoded here.
+    pub(crate) fn note_here(&mut self)
+        ensures { self.new ≡ self.old }
+    {
+        self.by = usize::MAX;
+    }
+
+    /// Notes which thread gave the answer that is joined next.
+    pub(crate) fn note(&mut self, by: usize)
+        ensures { self.new ≡ self.old }
+    {
+        self.by = by;
+    }
+
+    /// Which thread gave the answer that was joined last.
+    pub(crate) fn by(&self) -> usize {
+        self.by
+    }
+
+    /// How many vectors the texts of a piece may take.
+    pub(crate) fn usual(&self) -> usize {
+        self.usual.saturating_add(1).max(FEW)
+    }
+
+    /// The answer for a piece that none comes for, whose first row has this number: memory was refused.
+    #[tactic(auto, using(crate::proofs::SheetLaws::refused_answer))]
+    pub(crate) fn no_answer(&self, first: u32) -> PieceAnswer
+        ensures { (rows : List Record) → IsAnswer self.now first rows result }
+    {
+        PieceAnswer::refused(self.alloc, self.table)
     }
 
     /// Takes back the memory that a decoder keeps, of the piece that it decoded and for texts.
@@ -183,16 +212,6 @@ impl<'a> Decoders<'a> {
         ensures same { self.new ≡ self.old }
     {
         self.take_rooms(decoder);
-        self.bytes = Some(decoder.take_room());
-    }
-
-    /// Keeps a decoder that no thread has. Where memory is short, it is dropped.
-    fn push_spare(&mut self, decoder: PieceDecoder<'a>)
-        requires { decoder.reading ≡ self.old }
-        ensures { self.new ≡ self.old }
-    {
-        if self.spare.reserve(1).is_ok() {
-            self.spare.push_reserved(decoder);
-        }
+        self.keep_bytes(decoder.take_room());
     }
 }

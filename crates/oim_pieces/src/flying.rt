@@ -1,22 +1,27 @@
 //! A piece that is under way.
 
-ghost use Rattle.std.specs.Prelude.{◌≡◌, ◌≤◌, ◌+◌};
+ghost use Rattle.std.specs.Prelude.{◌≡◌, ◌≤◌, ◌+◌, IfSome, Some};
 ghost use Rattle.csv.specs.declared.parser.State.TheVariants as state;
 ghost use Rattle.oim_records.specs.Grids.{records_left};
 ghost use Rattle.oim_pieces.specs.Flights.{IsAnswer};
+ghost use Rattle.oim_pieces.specs.Lines.{IsLine};
+ghost use Rattle.oim_pieces.specs.Sheets.{FitsPiece, IsAnswerIn, IsReadBy};
 
+use crate::crew::Crew;
 use crate::cutter::CutPiece;
-use crate::decoded::{Asked, Decoded, Duty, decode_and_tell};
+use crate::decoded::Asked;
 use crate::decoders::Decoders;
 use crate::helpers::Helpers;
+use crate::sheet::{Pending, Question, Reply, Sheet};
 use oim_decode::{PieceAnswer, PieceDecoder};
 use std::marker::Model;
-use std::thread::{PromisedHandle, Scope, Threads};
+use std::sync::Wait;
+use std::thread::{Scope, Threads};
 
-/// The answer for a piece: from a thread, or here already.
+/// The answer for a piece: it comes through the channel of that piece, or it is here already.
 #[derive(Drop)]
 pub(crate) enum Coming<'a> {
-    Thread(PromisedHandle<Decoded<'a>, Asked<'a>>),
+    Thread(Pending<'a>),
     Here(PieceAnswer),
 }
 
@@ -57,23 +62,131 @@ impl<'a> Flying<'a> {
         self.asked.first
     }
 
-    /// The answer for the piece, waiting for its thread. The thread's decoder is kept.
-    #[tactic(auto, using(crate::proofs::FlightLaws::answer_same))]
-    pub(crate) fn settle<T: Threads>(self, rt: &T, decoders: &mut Decoders<'a>) -> PieceAnswer
-        requires { self.reading ≡ decoders.old }
+    /// Draws the piece, if no thread has, and drops it.
+    pub(crate) fn draw<T: Wait>(self, rt: &T) {
+        let Flying { asked: _, coming } = self;
+        if let Coming::Thread(mut pending) = coming {
+            let _ = pending.look(rt);
+        }
+    }
+
+    /// The answer for the piece, waiting for it while no other piece can be decoded here.
+    #[tactic(auto, using(crate::proofs::SheetLaws::of_asked, crate::proofs::SheetLaws::of_reads, crate::proofs::SheetLaws::of_first))]
+    pub(crate) fn settle<T: Wait>(
+        self,
+        rt: &T,
+        helpers: &Helpers,
+        crew: &mut Crew<'a>,
+        decoders: &mut Decoders<'a>,
+        mine: &mut PieceDecoder<'a>,
+    ) -> PieceAnswer
+        requires reading { self.reading ≡ decoders.old }
+        requires mine { mine.old.reading ≡ decoders.old }
+        requires line { IsLine decoders.old crew.old.line }
         ensures answer { IsAnswer self.entry.reading self.entry.first self.entry.rows result }
         ensures same { decoders.new ≡ decoders.old }
+        ensures mine { mine.new.reading ≡ mine.old.reading }
+        ensures line { IsLine decoders.old crew.new.line }
     {
-        let Flying { asked: _, coming } = self;
+        let Flying { asked, coming } = self;
+        decoders.note_here();
         match coming {
-            Coming::Thread(handle) => {
-                let Decoded { decoder, answer } = handle.join(rt);
-                decoders.keep(decoder);
-                answer
+            Coming::Thread(pending) => {
+                let first = asked.first;
+                await_answer(rt, helpers, crew, decoders, mine, pending, first)
             }
             Coming::Here(answer) => answer,
         }
     }
+}
+
+/// What comes through the channel of a piece. Pieces that nobody has drawn are decoded here until it comes or there is none; then its worker rests.
+fn await_sheet<'a, T: Wait>(
+    rt: &T,
+    helpers: &Helpers,
+    crew: &mut Crew<'a>,
+    decoders: &mut Decoders<'a>,
+    mine: &mut PieceDecoder<'a>,
+    pending: Pending<'a>,
+) -> Option<Sheet<'a>>
+    requires mine { mine.old.reading ≡ decoders.old }
+    requires line { IsLine decoders.old crew.old.line }
+    ensures sheet { IfSome result (λ sheet. IfSome pending.entry (λ a. FitsPiece a sheet)) }
+    ensures same { decoders.new ≡ decoders.old }
+    ensures mine { mine.new.reading ≡ mine.old.reading }
+    ensures line { IsLine decoders.old crew.new.line }
+{
+    let mut coming = pending;
+    for _ in rt.forever() {
+        if let Ok(sheet) = coming.look(rt) {
+            return Some(sheet);
+        }
+        if !crew.help(rt, decoders, mine) {
+            helpers.rest();
+            let sheet = coming.take(rt);
+            helpers.start();
+            return sheet;
+        }
+    }
+    unreachable!()
+}
+
+/// The answer that comes through the channel of a piece, whose first row has this number. A piece that nobody has drawn is decoded here.
+#[tactic(auto, using(crate::proofs::SheetLaws::may_decode, crate::proofs::SheetLaws::decoded_here, crate::proofs::SheetLaws::refused_here))]
+fn await_answer<'a, T: Wait>(
+    rt: &T,
+    helpers: &Helpers,
+    crew: &mut Crew<'a>,
+    decoders: &mut Decoders<'a>,
+    mine: &mut PieceDecoder<'a>,
+    pending: Pending<'a>,
+    first: u32,
+) -> PieceAnswer
+    requires mine { mine.old.reading ≡ decoders.old }
+    requires line { IsLine decoders.old crew.old.line }
+    requires reading { IsReadBy decoders.old pending }
+    requires first { IfSome pending (λ a. a.first ≡ first) }
+    ensures answer { IsAnswerIn pending.entry result }
+    ensures same { decoders.new ≡ decoders.old }
+    ensures mine { mine.new.reading ≡ mine.old.reading }
+    ensures line { IsLine decoders.old crew.new.line }
+{
+    match await_sheet(rt, helpers, crew, decoders, mine, pending) {
+        Some(Sheet::Ask(question)) => {
+            let Question {
+                asked: _,
+                bytes,
+                first,
+                rooms: _,
+            } = question;
+            decode_now(decoders, mine, bytes, first)
+        }
+        Some(Sheet::Answer(reply)) => {
+            let Reply { answer, bytes, by } = reply;
+            decoders.keep_bytes(bytes);
+            decoders.note(by);
+            answer
+        }
+        None => decoders.no_answer(first),
+    }
+}
+
+/// Decodes the bytes of a piece here.
+pub(crate) fn decode_now<'a>(
+    decoders: &mut Decoders<'a>,
+    decoder: &mut PieceDecoder<'a>,
+    bytes: Vec<u8>,
+    first: u32,
+) -> PieceAnswer
+    requires { first ≤ decoder.old.reading.limit + 1 }
+    ensures answer { IsAnswer decoder.old.reading first (records_left state.StartRecord bytes.items) result }
+    ensures decoder { decoder.new.reading ≡ decoder.old.reading }
+    ensures decoders { decoders.new ≡ decoders.old }
+{
+    decoders.lend_rooms(decoder);
+    let answer = decoder.decode(bytes, first);
+    decoders.take_memory(decoder);
+    answer
 }
 
 /// Decodes a piece here.
@@ -90,73 +203,109 @@ fn decode_here<'a>(
     let CutPiece {
         bytes,
         first,
-        is_short: _,
+        stays: _,
     } = piece;
     let asked = Asked::of(decoder.form(), &bytes, first);
-    decoders.lend_rooms(decoder);
-    let answer = decoder.decode(bytes, first);
-    decoders.take_memory(decoder);
+    let answer = decode_now(decoders, decoder, bytes, first);
     Flying::here(asked, answer)
 }
 
-/// Starts a thread that decodes a piece, in a place that was taken for it. Where none can be made, decodes it here.
-fn start<'s, E>(
-    scope: &Scope<'s, E>,
-    helpers: &'s Helpers,
-    decoder: PieceDecoder<'s>,
+/// Asks the threads of the table for the answer of a piece. Where memory is short, decodes it here.
+fn ask<'a, T: Wait>(
+    rt: &T,
+    crew: &mut Crew<'a>,
+    decoders: &mut Decoders<'a>,
+    mine: &mut PieceDecoder<'a>,
     piece: CutPiece,
-) -> Flying<'s>
-    requires { piece.first ≤ decoder.reading.limit + 1 }
-    ensures { (result.reading ≡ decoder.entry.reading) × (result.first ≡ piece.first) × (result.rows ≡ records_left state.StartRecord piece.bytes.items) }
+) -> Flying<'a>
+    requires mine { mine.old.reading ≡ decoders.old }
+    requires line { IsLine decoders.old crew.old.line }
+    requires first { piece.first ≤ decoders.old.limit + 1 }
+    ensures piece { (result.reading ≡ decoders.old) × (result.first ≡ piece.first) × (result.rows ≡ records_left state.StartRecord piece.bytes.items) }
+    ensures decoders { decoders.new ≡ decoders.old }
+    ensures mine { mine.new.reading ≡ mine.old.reading }
+    ensures line { IsLine decoders.old crew.new.line }
 {
     let CutPiece {
         bytes,
         first,
-        is_short: _,
+        stays: _,
     } = piece;
-    let asked = Asked::of(decoder.form(), &bytes, first);
-    let promise = Asked::of(decoder.form(), &bytes, first);
-    let duty = Duty {
-        decoder,
+    let asked = Asked::of(mine.form(), &bytes, first);
+    let question = Question {
+        asked: Asked::of(mine.form(), &bytes, first),
         bytes,
         first,
-        helpers,
+        rooms: decoders.usual(),
     };
-    match scope.spawn_with(promise, move || decode_and_tell(duty)) {
-        Ok(handle) => Flying {
+    match crew.ask(rt, mine.form(), question) {
+        Ok(pending) => Flying {
             asked,
-            coming: Coming::Thread(handle),
+            coming: Coming::Thread(pending),
         },
-        Err(refused) => {
-            let Decoded { decoder: _, answer } = (refused.value)();
+        Err(back) => {
+            let Question {
+                asked: _,
+                bytes,
+                first,
+                rooms: _,
+            } = back;
+            let answer = decode_now(decoders, mine, bytes, first);
             Flying::here(asked, answer)
         }
     }
 }
 
-/// Has a piece decoded: by a thread, where it is wanted at once, there is a place for one and the piece is not short, or else here.
-pub(crate) fn launch<'s, E>(
+/// Has a piece decoded: here, where it is to stay, or else by the threads of the table and here.
+pub(crate) fn launch<'s, E, T: Threads + Wait + Sync + 's>(
     scope: &Scope<'s, E>,
+    rt: &'s T,
     helpers: &'s Helpers,
-    is_wanted: bool,
+    crew: &mut Crew<'s>,
     decoders: &mut Decoders<'s>,
     mine: &mut PieceDecoder<'s>,
     piece: CutPiece,
 ) -> Flying<'s>
     requires mine { mine.old.reading ≡ decoders.old }
+    requires line { IsLine decoders.old crew.old.line }
     requires first { piece.first ≤ decoders.old.limit + 1 }
     ensures piece { (result.reading ≡ decoders.old) × (result.first ≡ piece.first) × (result.rows ≡ records_left state.StartRecord piece.bytes.items) }
     ensures decoders { decoders.new ≡ decoders.old }
     ensures mine { mine.new.reading ≡ mine.old.reading }
+    ensures line { IsLine decoders.old crew.new.line }
 {
-    if !is_wanted || piece.is_short || !helpers.take() {
+    if piece.stays {
         return decode_here(decoders, mine, piece);
     }
-    match decoders.take() {
-        Some(decoder) => start(scope, helpers, decoder, piece),
-        None => {
-            helpers.give_back();
-            decode_here(decoders, mine, piece)
-        }
+    let flying = ask(rt, crew, decoders, mine, piece);
+    grow(scope, rt, helpers, crew, decoders);
+    flying
+}
+
+/// Starts one more thread for a table that has too few, where there is a place for it.
+fn grow<'s, E, T: Threads + Wait + Sync + 's>(
+    scope: &Scope<'s, E>,
+    rt: &'s T,
+    helpers: &'s Helpers,
+    crew: &mut Crew<'s>,
+    decoders: &mut Decoders<'s>,
+)
+    requires { IsLine decoders.old crew.old.line }
+    ensures decoders { decoders.new ≡ decoders.old }
+    ensures line { IsLine decoders.old crew.new.line }
+{
+    if crew.count() >= helpers.most_threads(rt) || !helpers.take() {
+        return;
+    }
+    let is_started = match decoders.take() {
+        Some(decoder) => crew.start(scope, rt, helpers, decoder),
+        None => false,
+    };
+    if is_started {
+        let left = helpers.most_threads(rt).saturating_sub(crew.count());
+        let share = decoders.share(left.saturating_add(2));
+        crew.bins.stock(rt, decoders, share);
+    } else {
+        helpers.give_back();
     }
 }

@@ -1,10 +1,16 @@
 //! How the pieces of tables are shared out to threads.
 
 use std::sync::atomic::{AtomicUsize, Ordering};
+use std::thread::{Threads, available_parallelism};
 
-/// The most pieces of a table that are under way at once, whatever the number of workers. Cutting them takes about an eighth of the time that
-/// decoding takes, so more would wait, and only take memory.
-const MOST_UNDER_WAY: usize = 8;
+/// How many pieces of a table are under way at once for each who decodes them, so that none has to wait for more.
+const PIECES_EACH: usize = 2;
+
+/// The most who decode pieces of a table at once, whatever the number of workers and processors.
+const MOST_AT_WORK: usize = 8;
+
+/// How many processors there are where the system does not say.
+const SOME_PROCESSORS: usize = 4;
 
 /// How the pieces of a report's tables are shared out: about how many bytes a piece has, and how many threads are at work, which are
 /// workers that do not wait for their ring or an answer, and threads that decode pieces. No contract says anything about it.
@@ -13,6 +19,8 @@ pub struct Helpers {
     busy: AtomicUsize,
     workers: usize,
     size: usize,
+    // how many processors there are, once somebody has asked
+    processors: AtomicUsize,
 }
 
 impl Helpers {
@@ -22,6 +30,7 @@ impl Helpers {
             busy: AtomicUsize::new(0),
             workers,
             size,
+            processors: AtomicUsize::new(0),
         }
     }
 
@@ -35,7 +44,7 @@ impl Helpers {
         self.workers < 2
     }
 
-    /// Notes that a worker is at work.
+    /// Notes that a worker or a thread is at work, whether or not there is a place for it.
     pub fn start(&self) {
         self.busy.fetch_add(1, Ordering::SeqCst);
     }
@@ -50,14 +59,39 @@ impl Helpers {
         self.busy.load(Ordering::SeqCst) < self.places()
     }
 
-    /// A thread is started only where fewer are at work: as many as workers, and one more for the worker that starts it, which then waits for an answer.
+    /// A thread is started only where fewer are at work: as many as workers, and one more for the worker that starts it, which may wait for an answer.
     fn places(&self) -> usize {
         self.workers.saturating_add(1)
     }
 
+    /// How many processors there are.
+    fn processors<T: Threads>(&self, rt: &T) -> usize {
+        let known = self.processors.load(Ordering::SeqCst);
+        if known > 0 {
+            return known;
+        }
+        let count = match available_parallelism(rt) {
+            Ok(count) => count.get(),
+            Err(_) => SOME_PROCESSORS,
+        };
+        self.processors.store(count, Ordering::SeqCst);
+        count
+    }
+
+    /// How many may decode pieces of a table at once: its worker, and threads beside it, one at least. More than there are processors would
+    /// only take memory.
+    fn most_at_work<T: Threads>(&self, rt: &T) -> usize {
+        self.processors(rt).min(self.workers).clamp(2, MOST_AT_WORK)
+    }
+
     /// How many pieces of a table may be under way at once.
-    pub(crate) fn window(&self) -> usize {
-        self.places().min(MOST_UNDER_WAY)
+    pub(crate) fn window<T: Threads>(&self, rt: &T) -> usize {
+        self.most_at_work(rt).saturating_mul(PIECES_EACH)
+    }
+
+    /// How many threads a table may have beside its worker.
+    pub(crate) fn most_threads<T: Threads>(&self, rt: &T) -> usize {
+        self.most_at_work(rt).saturating_sub(1)
     }
 
     /// Takes a place for a thread, if there is one. It is to be given back.

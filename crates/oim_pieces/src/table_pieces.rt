@@ -17,10 +17,11 @@ use oim_rows::{TableFault, TableKind, fault_of_read, whole_fault};
 use std::alloc::Global;
 use std::io::Read;
 use std::marker::Model;
+use std::sync::Wait;
 use std::thread::{Scope, Threads};
 
-/// About how many bytes a piece of a table has in a conversion: so many that decoding them takes far longer than starting a thread.
-pub const PIECE_SIZE: usize = 65_536;
+/// About how many bytes a piece of a table has in a conversion: so many that decoding them takes far longer than handing them to a thread.
+pub const PIECE_SIZE: usize = 32_768;
 
 /// The facts of one table that are left, piece by piece, as blocks of text. It borrows the table's report. A contract sees the table's
 /// place, what is answered again once the table is settled, how many pieces are under way, and, where the reader tells its bytes, the stream
@@ -95,17 +96,17 @@ impl<'a, R: Read + Drop> TablePieces<'a, R> {
 
     /// The facts of the next piece in blocks of 1 to 256, in header order and row by row, or None at the end. Where there are
     /// places for them, threads of the scope decode pieces that come later. After the end or a fault it answers the same again, and cuts
-    /// nothing. Where the reader tells its bytes, blocks come at most once for each piece under way and each byte behind them, and once more.
+    /// nothing. The caller is to count as at work (`Helpers::start`): it rests while it waits for an answer. Where the reader tells its bytes, blocks come at most once for each piece under way and each byte behind them, and once more.
     ///
     /// Fails, where the facts of all rows before were given, with the first fault of the first bad
     /// row, in this order: Ragged, NotUtf8, TooManyRows, MissingRowId, BadRowId, RepeatedRowId, then
     /// the faults of its cells from left to right. Fails with Read where the reader failed, and with
     /// Memory where memory is short.
     #[tactic(auto, using(crate::proofs::Gives::piece_given, crate::proofs::Gives::short_given, crate::proofs::Gives::end_given, crate::proofs::Gives::fault_given, crate::proofs::Gives::again_ended, crate::proofs::Gives::again_failed, crate::proofs::Gives::end_kept, crate::proofs::Gives::given_kept, crate::proofs::Gives::none_given, crate::proofs::Gives::moved, crate::proofs::StepLaws::steps_fewer))]
-    pub fn next_blocks<E, T: Threads>(
+    pub fn next_blocks<E, T: Threads + Wait + Sync + 'a>(
         &mut self,
         scope: &Scope<'a, E>,
-        rt: &T,
+        rt: &'a T,
     ) -> Result<Option<Vec<Block>>, TableFault>
         ensures blocks { IfSome self.old.left (λ s. IfOk result (λ o. IfSome o (λ blocks.
             GivesBlock self.old.table [] s (Ok (Some (facts_of_rows blocks.items))) [] self.new.left))) }
@@ -126,7 +127,7 @@ impl<'a, R: Read + Drop> TablePieces<'a, R> {
             Some(end) => return answer_of(end),
             None => {}
         }
-        self.flight.go_ahead(scope);
+        self.flight.go_ahead(scope, rt);
         match self.flight.join_front(rt) {
             Some(joined) => self.give(rt, joined),
             None => {
@@ -145,27 +146,36 @@ impl<'a, R: Read + Drop> TablePieces<'a, R> {
         self.flight.want(is_wanted);
     }
 
-    /// Keeps the memory of a block that was written, for texts that are decoded later.
-    pub fn keep_room(&mut self, room: Vec<u8>)
+    /// Keeps the memory of a block that was written, for texts that are decoded later, or drops it where much is kept. Once the table is
+    /// written, its own blocks are to come in the order in which they were given.
+    pub fn keep_room<T: Wait>(&mut self, rt: &T, room: Vec<u8>)
         ensures { self.new ≡ self.old }
     {
-        self.flight.keep_room(room);
+        self.flight.keep_room(rt, room);
     }
 
-    /// How many vectors more would serve for the texts of the next pieces. No contract says so.
+    /// Notes that the vectors of all blocks that were given but the last `left` have come back, so that those of these are known for theirs.
+    pub fn note_left(&mut self, left: usize)
+        ensures { self.new ≡ self.old }
+    {
+        self.flight.note_left(left);
+    }
+
+    /// How many vectors more are to be taken for the texts of the next pieces: all that came back, once the table is written. No
+    /// contract says so.
     pub fn wanted_rooms(&self) -> usize {
         self.flight.wanted_rooms()
     }
 
     /// Gives back the vectors whose memory was kept for texts.
-    pub fn free_rooms(&mut self) -> Vec<Vec<u8>>
+    pub fn free_rooms<T: Wait>(&mut self, rt: &T) -> Vec<Vec<u8>>
         ensures { self.new ≡ self.old }
     {
-        self.flight.free_rooms()
+        self.flight.free_rooms(rt)
     }
 
     /// The facts of a piece that was joined. Where it has a fault, the table is settled.
-    fn give<T: Threads>(
+    fn give<T: Wait>(
         &mut self,
         rt: &T,
         joined: JoinedPiece,
@@ -195,7 +205,7 @@ impl<'a, R: Read + Drop> TablePieces<'a, R> {
     }
 
     /// Settles the table with this fault. Nobody needs the pieces that are under way.
-    fn settle<T: Threads>(&mut self, rt: &T, fault: TableFault)
+    fn settle<T: Wait>(&mut self, rt: &T, fault: TableFault)
         ensures { (self.new.table ≡ self.old.table) × (self.new.left ≡ Some (ending (Some fault))) × (self.new.answered ≡ Some (Some fault)) }
     {
         self.flight.drain(rt);

@@ -142,16 +142,21 @@ impl CellFault {
             CellFault::UnknownSpecial => "a text begins with # and is not a special value",
             CellFault::UnknownGroup => "a cell names no property group of its column",
             CellFault::NoConcept => "no concept is given",
-            CellFault::UnknownName => "the types table has no concept of this name",
+            CellFault::UnknownName => {
+                "the types table has no concept of this name, or its prefix is not declared"
+            }
             CellFault::BadReference => "a dimension that is not typed is nil or empty",
-            CellFault::BadValue =>
-                "an entity, unit, language or explicit member is not well-formed",
+            CellFault::BadValue => {
+                "an entity, unit, language or explicit member is not well-formed, or its prefix is not declared"
+            }
             CellFault::BadPeriod => "a period is not well-formed",
             CellFault::NotDuration => "the start or end of an instant is asked for",
             CellFault::BadDecimals => "decimals are neither an integer nor INF",
             CellFault::BadNumber => "the cell of a number is not a numeral",
             CellFault::Memory => "memory ran out",
-            CellFault::BadFactValue => "the cell of a boolean, date or name is not well-formed",
+            CellFault::BadFactValue => {
+                "the cell of a boolean, date or name is not well-formed, or its prefix is not declared"
+            }
         }
     }
 }

@@ -30,7 +30,7 @@ use std::sync::atomic::{AtomicBool, AtomicUsize, Ordering};
 use std::sync::{Arc, Wait};
 
 /// The most vectors that are kept for new blocks.
-const MOST_ROOMS: usize = 96;
+const MOST_ROOMS: usize = 160;
 
 /// The largest vector that is kept, in bytes.
 const LARGEST_ROOM: usize = 262_144;

@@ -1,6 +1,6 @@
 //! The sending end of a ring.
 
-ghost use Rattle.std.specs.Prelude.{◌≡◌, ◌<◌, ◌-◌, [], ◌∷◌, ◌++◌, true, length, IsOk, OnOk, IfErr};
+ghost use Rattle.std.specs.Prelude.{◌≡◌, ◌<◌, ◌≤◌, ◌-◌, [], ◌∷◌, ◌++◌, true, length, IsOk, OnOk, IfErr};
 ghost use Rattle.rtrb.specs.Ring.{sent, producer_capacity};
 ghost use Rattle.oim_ring.specs.Closing.{Closes};
 ghost use Rattle.oim_ring.specs.Ends.{sender_ring};
@@ -136,6 +136,31 @@ impl Feed {
         self.producer.push_reserved(Item::Block(block));
         self.waiting.tell(facts);
         Ok(())
+    }
+
+    /// Sends a block as `put` does, where fewer than `most` blocks were put and not taken, as far as is known. Else the error gives the block
+    /// back, as `put` does where the ring is full. So it sends while fewer items were sent than `most` and than the ring's size.
+    pub fn put_below(&mut self, block: Block, most: usize) -> Result<(), Block>
+        ensures ring { (self.new.ring ≡ self.old.ring) × (self.new.size ≡ self.old.size) }
+        ensures ok { OnOk result (self.new.sent ≡ self.old.sent ++ items.Block block ∷ []) }
+        ensures full { IfErr result (λ back. (back ≡ block) × (self.new ≡ self.old)) }
+        ensures room { length self.old.sent < self.old.size → length self.old.sent < most → IsOk result }
+        ensures open { blocks_only self.new.sent ≡ true }
+    {
+        if self.waiting_blocks() < most {
+            return self.put(block);
+        }
+        self.waiting.wake();
+        Err(block)
+    }
+
+    /// How many blocks were put and not taken, as far as is known. It waits for nothing.
+    pub fn waiting_blocks(&mut self) -> usize
+        ensures count { result ≤ length self.old.sent }
+        ensures same { self.new ≡ self.old }
+    {
+        let free = self.producer.slots();
+        self.producer.capacity().saturating_sub(free)
     }
 
     /// Sends the ending and gives the token of the finished feed. Fails with `Full`, which gives the feed

@@ -2,8 +2,9 @@
 //!
 //! A worker waits in two places, for room in its ring and for its turn (`backlog`). The writer waits
 //! for an item. That these waits end is not proved. It rests on the following, and on this of the code around: a worker waits
-//! elsewhere only for threads that it started itself, to decode a part of its table, and these wait for nothing. Whoever hands on a
-//! vector that was given back waits only for a call of that kind that is under way.
+//! elsewhere only for a part of its table that a thread of its own is decoding, and at the table's end for these threads, which then have
+//! ended or find that no more parts come; a thread waits only for a part. Whoever hands on a vector that was given back waits only for a
+//! call of that kind that is under way.
 //!
 //! - The writer sleeps for some milliseconds at most and then looks again. So it needs no wake; one
 //!   only comes earlier.
@@ -16,10 +17,11 @@
 //!   the caller's thread closes all feeds before it writes, and a ring that is opened has room for its
 //!   ending.
 //! - A writer that failed takes items as before, up to the ending of each table.
-//! - **Room in its ring.** A feed that found its ring full sleeps on its Parker until it is given the
+//! - **Room in its ring.** A feed that found its ring full, or as many blocks in it as it may put, one at
+//!   least, sleeps on its Parker until it is given the
 //!   token. The drain first takes an item and then gives the token, which stays until a sleep takes it.
-//!   So a feed that sleeps has found the ring full after the last item was taken. The writer reaches
-//!   the table, takes one of these items, and the feed goes on.
+//!   So a feed that sleeps has found these items after the last one was taken. The writer reaches
+//!   the table, takes one of them, and the feed goes on.
 
 use std::alloc::{AllocError, Global};
 use std::sync::atomic::{AtomicU64, Ordering};

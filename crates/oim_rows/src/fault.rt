@@ -90,7 +90,7 @@ impl TableKind {
     pub fn explanation(&self) -> &'static str {
         match self {
             TableKind::NoFile => "a table that is not optional has no file",
-            TableKind::Read => "the reader failed",
+            TableKind::Read => "the file cannot be opened or read to its end, or is a folder",
             TableKind::NoHeader => "the file has no record at all",
             TableKind::UnknownHeader => "a header cell does not name a column of the template",
             TableKind::RepeatedHeader => "a column stands twice in the header",

@@ -15,7 +15,7 @@ use oim_names::Text;
 use std::alloc::{AllocError, Global};
 
 /// The program's version, and the kit that proves it, in the words of `rt version`.
-const VERSION: &str = "0.11.0 (proved with rattle-kit-13f logic dac8208d650f15bf)";
+const VERSION: &str = "0.12.0 (proved with rattle-kit-13f logic dac8208d650f15bf)";
 
 /// The help of each argument.
 const META_HELP: &str = "The metadata file of the report";
@@ -53,9 +53,11 @@ date, qname or other, and that of a dimension is explicit or typed. With the hea
 
 Exit status:
   0  the document is written
-  1  the report has a fault, which standard error names
+  1  the report has a fault, or the system refused a file, memory or a thread for it (Read, Memory
+     or NoThread); standard error names which
   2  the words of the command line are wrong
-  3  a file cannot be read or written, or memory ran out"#;
+  3  META, the types table or the parameters file cannot be opened, an output cannot be written,
+     or memory ran out"#;
 
 /// The settings of a run.
 #[derive(Drop)]

@@ -16,6 +16,15 @@ fn hands_over(alloc: Global, block: Block) -> Result<bool, AllocError> {
     Ok(is_put && is_closed && is_taken)
 }
 
+/// Whether a block waits in a ring, and another comes back from it, where one may wait.
+fn bounds(alloc: Global, block: Block, other: Block) -> Result<bool, AllocError> {
+    let (mut feed, _drain) = lane(alloc, 4)?;
+    let is_put = feed.put_below(block, 1).is_ok();
+    let waits = feed.waiting_blocks() == 1;
+    let comes_back = feed.put_below(other, 1).is_err();
+    Ok(is_put && waits && comes_back)
+}
+
 /// The token of a feed that was closed.
 fn closed(feed: Feed) -> Result<Closed, CloseFault>
     ensures { IfOk result (λ closed. closed.ring ≡ feed.ring) }
@@ -44,6 +53,14 @@ fn opens_another(alloc: Global) -> Result<bool, AllocError> {
     }
 }
 
+/// Whether a ring bounds how many blocks wait.
+fn bounds_blocks(alloc: Global) -> bool {
+    match (nil_block(alloc), nil_block(alloc)) {
+        (Ok(block), Ok(other)) => matches!(bounds(alloc, block, other), Ok(true)),
+        _ => false,
+    }
+}
+
 /// Whether the calls answer as they must.
 fn hold(alloc: Global) -> bool {
     match nil_block(alloc) {
@@ -55,5 +72,5 @@ fn hold(alloc: Global) -> bool {
 
 #[test]
 fn calls_of_rings(rt: HostRuntime) {
-    assert!(rt; hold(rt.alloc()));
+    assert!(rt; hold(rt.alloc()) && bounds_blocks(rt.alloc()));
 }

@@ -38,6 +38,18 @@ fn cuts_by_hand(rt: HostRuntime) -> Result<(), Fail> {
     Ok(())
 }
 
+/// Whether a reader that gave all it has says that its last read was short, and not before a read.
+fn says_short(alloc: Global, text: &[u8]) -> bool {
+    let mut pieces = PieceReader::new(alloc, text);
+    !pieces.is_short() && pieces.next(1, false).is_ok() && pieces.is_short()
+}
+
+#[test]
+fn reads_short(rt: HostRuntime) -> Result<(), Fail> {
+    assert!(rt; says_short(rt.alloc(), b"a,b\n"));
+    Ok(())
+}
+
 /// Whether the next record of a text is UTF-8, and has this many fields and this last field.
 fn is_text(records: &mut PieceRecords, count: usize, last: &str) -> bool {
     if !matches!(records.read(), Ok(true)) || count == 0 {

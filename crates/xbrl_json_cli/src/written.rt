@@ -1,6 +1,7 @@
 //! The files that a run writes, and whether the report reads one of them.
 
 use crate::target::{FileId, Target};
+use oim_names::Text;
 use oim_run::{Ending, Request};
 use std::cell::Cell;
 use std::fs::Metadata;
@@ -17,6 +18,8 @@ pub struct Written<'a> {
     document: Cell<Option<FileId>>,
     /// The new file beside it, if the document is written there first.
     beside: Cell<Option<FileId>>,
+    /// What the path of the document's file leads to when the run begins, if the words name one.
+    place: Target,
     /// The file of the faults, if the words name one.
     faults: Target,
     /// Whether the report reads one of the document's files.
@@ -33,17 +36,24 @@ fn is_of(file: Option<FileId>, metadata: &Metadata) -> bool {
     }
 }
 
+/// What a path leads to, if the words name one.
+fn target_of(rt: &HostRuntime, path: &Option<Text>) -> Target {
+    match path {
+        Some(path) => Target::of(rt, path.as_str()),
+        None => Target::Other,
+    }
+}
+
 impl<'a> Written<'a> {
     /// The file of the faults that the words name, and no file of the document, as long as none is open.
     pub fn new(rt: &'a HostRuntime, request: &Request) -> Written<'a> {
-        let faults = match &request.faults {
-            Some(path) => Target::of(rt, path.as_str()),
-            None => Target::Other,
-        };
+        let place = target_of(rt, &request.settings.out);
+        let faults = target_of(rt, &request.faults);
         Written {
             rt,
             document: Cell::new(None),
             beside: Cell::new(None),
+            place,
             faults,
             is_read: AtomicBool::new(false),
             faults_are_read: AtomicBool::new(false),
@@ -74,7 +84,11 @@ impl<'a> Written<'a> {
         if are_faults {
             self.faults_are_read.store(true, Ordering::SeqCst);
         }
-        self.look_at(metadata) || are_faults
+        let is_place = self.place.is(self.rt, path, metadata);
+        if is_place {
+            self.is_read.store(true, Ordering::SeqCst);
+        }
+        self.look_at(metadata) || are_faults || is_place
     }
 
     /// How an output ends, by the files that the report was seen to read.

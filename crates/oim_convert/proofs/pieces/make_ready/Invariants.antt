@@ -3,5 +3,6 @@ use Rattle.oim_convert.proofs.pieces.make_ready.Given as goal
 
 abbrev pub invariant-loop : goal.invariant-loop
 invariant-loop g l = record {
-  same : l.pieces ≡ l.fn.pieces;
+  pieces : l.pieces ≡ l.fn.pieces;
+  feed : l.feed ≡ l.fn.feed;
 }

@@ -1,7 +1,8 @@
-use Rattle.std.proofs.Common.{◌++◌, ◌∷◌, ◌+◌, [], ap, sym, ◌∙◌}
+use Rattle.std.proofs.Common.{◌++◌, ◌∷◌, ◌+◌, [], ap, sym, subst, ◌∙◌}
 use Rattle.oim_records.specs.PieceTaking.{bytes_left}
 use Rattle.oim_rows.specs.RowFacts.{Reading}
 use Rattle.oim_pieces.specs.Cutting.{CutterLeft}
+use Rattle.oim_pieces.specs.Lines.{IsLine}
 use Rattle.oim_pieces.proofs.Openings.{behind_chain, behind_stream}
 use Rattle.oim_pieces.proofs.flight.Flight.behind.Goals as goal
 
@@ -17,6 +18,7 @@ invariant_of-result g c =
       ap (λ (x : Reading). x.limit) c.new-2.ensures ∙ sym (ap (λ (x : CutterLeft). x.limit) c.new.ensures),
       behind_chain c.args.report.now c.args.table c.args.limit c.args.head c.push_back_reserved.new.self.items f c.new-2.result c.new.result.next items reads
           (c.here.ensures.1 ∙ c.of_head-asked.ensures.1) (c.here.ensures.2 ∙ c.of_head-asked.ensures.2) c.requires.header next,
+      subst (IsLine c.new-2.result) (sym c.new-4.ensures) tt,
     )
 
 pub returns-clause-stream : goal.returns-clause-stream

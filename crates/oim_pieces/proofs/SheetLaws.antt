@@ -1,0 +1,79 @@
+-- The channels of pieces, and that to the threads of a table.
+use Rattle.std.proofs.Common.{◌≡◌, ◌+◌, ◌≤◌, ◌<◌, ℕ, List, length, Option, Some, None, IfSome, IsSome, refl, sym, ap, subst, ◌∙◌, arith}
+use Rattle.csv.specs.declared.parser.State.TheVariants as state
+use Rattle.oim_records.specs.Grids.{Record, records_left}
+use Rattle.oim_rows.specs.RowFacts.{Reading}
+use Rattle.oim_decode.specs.Apart.{Apart}
+use Rattle.oim_decode.specs.PieceAnswers.{refused}
+use Rattle.oim_decode.proofs.HeadLaws.{refused_decoded}
+use Rattle.oim_pieces.specs.Flights.{IsAnswer}
+use Rattle.oim_pieces.specs.Lines.{IsHow, IsLine, how_in}
+use Rattle.oim_pieces.specs.Sheets.{FitsPiece, IsAnswerIn, IsOf, IsPiece, IsReadBy}
+use Rattle.oim_pieces.specs.declared.decoded.Asked.{Asked}
+use Rattle.oim_pieces.specs.declared.sheet.How.{How}
+use Rattle.oim_pieces.specs.declared.sheet.Question.{Question}
+use Rattle.oim_pieces.specs.declared.sheet.Sheet.TheVariants.{Ask, Answer}
+use Rattle.oim_pieces.proofs.FlightLaws.{answer_same}
+
+-- THE CHANNEL OF A PIECE
+
+-- the piece that lies there may be decoded
+pub may_decode : (g : Reading) (known : Option Asked) (q : Question) → IsReadBy g known → IfSome known (λ a. FitsPiece a (Ask q)) → q.first ≤ g.limit + 1
+may_decode g None q reads fits = absurd reads
+may_decode g (Some a) q reads fits = subst (λ (x : Reading). q.first ≤ x.limit + 1) reads fits.may
+
+-- its answer is that of what was asked
+pub decoded_here : (g : Reading) (known : Option Asked) (q : Question) (answer : Apart) → IsReadBy g known → IfSome known (λ a. FitsPiece a (Ask q))
+    → IsAnswer g q.first (records_left state.StartRecord q.bytes.items) answer → IsAnswerIn known answer
+decoded_here g None q answer reads fits is = tt
+decoded_here g (Some a) q answer reads fits is = answer_same a.reading.value g a.first q.first a.rows.value (records_left state.StartRecord q.bytes.items) answer is (sym reads) fits.first fits.rows
+
+-- none comes, and memory was refused
+pub refused_here : (g : Reading) (first : ℕ) (known : Option Asked) (answer : Apart) → IsReadBy g known → IfSome known (λ a. a.first ≡ first)
+    → ((rows : List Record) → IsAnswer g first rows answer) → IsAnswerIn known answer
+refused_here g first None answer reads at is = tt
+refused_here g first (Some a) answer reads at is = answer_same a.reading.value g a.first first a.rows.value a.rows.value answer (is a.rows.value) (sym reads) (sym at) refl
+
+-- an answer came through the channel of the piece that was asked for
+pub of_asked : (asked : Asked) (known : Option Asked) (answer : Apart) → IsOf asked known → IsAnswerIn known answer
+    → IsAnswer asked.reading.value asked.first asked.rows.value answer
+of_asked asked None answer same is = absurd same
+of_asked asked (Some a) answer same is =
+    answer_same asked.reading.value a.reading.value asked.first a.first asked.rows.value a.rows.value answer is same.0 same.1 same.2
+
+pub of_reads : (g : Reading) (asked : Asked) (known : Option Asked) → IsOf asked known → asked.reading.value ≡ g → IsReadBy g known
+of_reads g asked None same reads = absurd same
+of_reads g asked (Some a) same reads = same.0 ∙ reads
+
+pub of_first : (asked : Asked) (known : Option Asked) → IsOf asked known → IfSome known (λ a. a.first ≡ asked.first)
+of_first asked None same = tt
+of_first asked (Some a) same = same.1
+
+-- memory was refused for a piece
+pub refused_answer : (g : Reading) (first : ℕ) (rows : List Record) (a : Apart) → a ≡ refused g.table → first ≤ 4294967296 → IsAnswer g first rows a
+refused_answer g first rows a is may = record {
+  decoded = refused_decoded g first rows a is;
+  few = let none : length a.ids ≡ 0 = ap (λ (x : Apart). length x.ids) is in omega (arith, none, may);
+}
+
+-- THE CHANNEL TO THE THREADS
+
+pub job_known : (g : Reading) (job : Option Asked) → IsReadBy g job → IsSome (how_in job)
+job_known g None reads = absurd reads
+job_known g (Some a) reads = refl
+
+pub job_fits : (g : Reading) (job : Option Asked) → IsReadBy g job → IfSome (how_in job) (λ how. IsReadBy how.reading.value job)
+job_fits g None reads = absurd reads
+job_fits g (Some a) reads = refl
+
+pub line_opens : (g : Reading) (job : Option Asked) (line : Option How) → IsReadBy g job → line ≡ how_in job → IsHow g line
+line_opens g None line reads is = absurd reads
+line_opens g (Some a) line reads is = subst (IsHow g) (sym is) reads
+
+pub line_fits : (g : Reading) (line : Option How) (job : Option Asked) → IsHow g line → IsReadBy g job → IfSome line (λ how. IsReadBy how.reading.value job)
+line_fits g None job how reads = tt
+line_fits g (Some h) job how reads = subst (λ (x : Reading). IsReadBy x job) (sym how) reads
+
+pub line_gives : (g : Reading) (line : Option How) (job : Option Asked) → IsHow g line → IfSome line (λ how. IsReadBy how.reading.value job) → IsReadBy g job
+line_gives g None job how fits = absurd how
+line_gives g (Some h) job how fits = subst (λ (x : Reading). IsReadBy x job) how fits
