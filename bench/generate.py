@@ -1,11 +1,11 @@
 #!/usr/bin/env python3
 """Writes a large valid xBRL-CSV report into a folder, the same bytes for the same words.
 
-    generate.py FOLDER [--shape positions] [--megabytes 64] [--tables N] [--row-ids]
+    generate.py FOLDER [--shape positions] [--megabytes 64] [--tables N] [--largest PERCENT] [--row-ids]
 
 FOLDER gets meta.json, types.csv, t01.csv and so on, and sizes.json (bytes of CSV, rows and facts). The tables are of one
-size, together just above the megabytes (of 1,000,000 bytes) asked for. There are eight, and three of the shape `datapoints`,
-where --tables does not say another number.
+size, together just above the megabytes (of 1,000,000 bytes) asked for; with --largest the fourth, or the last of fewer, has so many percent of
+the bytes. There are eight, and three of the shapes `datapoints` and `wide`, where --tables does not say another number.
 
 The shape `positions`: each row has five fact columns: an amount in the row's currency, a price with the unit of a property
 group, a count, a rate with an exponent and its own decimals, and a text with quotes and letters beyond ASCII. Its period is
@@ -23,6 +23,8 @@ the decimals of a property group, and an estimate with decimals by suffix or by 
 The shape `datapoints` is the form in which banking supervisors publish: a column with 10,000 property groups, one for each
 data point, and each row names another one. A group has the concept, two members, and the unit and decimals by parameters of
 the report; each row has a typed key, and one column has all values.
+
+The shape `wide` has the template of 200 columns of `mixed` alone.
 """
 import argparse
 import json
@@ -109,7 +111,8 @@ https://example.org/bench,Line,explicit
 """
 
 
-def mixed_metadata(tables):
+def mixed_metadata(tables, is_wide=False):
+    """The metadata of the shape `mixed`, or `wide`."""
     group = lambda unit, decimals: {"dimensions": {"unit": unit}, "decimals": decimals}
     groups = {"gross": group("iso4217:EUR", 2), "net": group("iso4217:DKK", 0), "ceded": group("iso4217:SEK", -3)}
     lines = {
@@ -133,7 +136,7 @@ def mixed_metadata(tables):
         "wide": {"rowIdColumn": "id", "dimensions": {"b:Line": "$line"}, "columns": {"id": {}, "line": {}, **wide}},
     }
     last = len(tables) - 1
-    report["tables"] = {t: {"url": f"{t}.csv", "template": "wide" if i == last and last > 0 else "lines"} for i, t in enumerate(tables)}
+    report["tables"] = {t: {"url": f"{t}.csv", "template": "wide" if is_wide or i == last and last > 0 else "lines"} for i, t in enumerate(tables)}
     return report
 
 
@@ -333,8 +336,8 @@ def write_table(path, numbers, size, header, row_of):
 
 def forms(options, tables):
     """The metadata, the types table, and for each table its header and its rows."""
-    if options.shape == "mixed":
-        report = mixed_metadata(tables)
+    if options.shape in ("mixed", "wide"):
+        report = mixed_metadata(tables, options.shape == "wide")
         rows = {"lines": lines_row, "wide": wide_row}
         kinds = [report["tables"][t]["template"] for t in tables]
         headers = [",".join(report["tableTemplates"][kind]["columns"]) + "\n" for kind in kinds]
@@ -349,26 +352,41 @@ def forms(options, tables):
     return metadata(tables, options.row_ids), TYPES, [(header, lambda numbers, n: row(numbers, n, options.row_ids))] * len(tables)
 
 
+def shares_of(options):
+    """How many bytes each table has."""
+    whole = options.megabytes * 1e6
+    if options.largest is None:
+        return [whole / options.tables] * options.tables
+    largest = whole * options.largest / 100
+    shares = [(whole - largest) / (options.tables - 1)] * options.tables
+    shares[min(3, options.tables - 1)] = largest
+    return shares
+
+
 def main():
     parser = argparse.ArgumentParser(description=__doc__, formatter_class=argparse.RawDescriptionHelpFormatter)
     parser.add_argument("folder", type=Path)
-    parser.add_argument("--shape", choices=["positions", "mixed", "texts", "datapoints"], default="positions")
+    parser.add_argument("--shape", choices=["positions", "mixed", "texts", "datapoints", "wide"], default="positions")
     parser.add_argument("--megabytes", type=float, default=64.0)
     parser.add_argument("--tables", type=int)
+    parser.add_argument("--largest", type=float, metavar="PERCENT")
     parser.add_argument("--row-ids", action="store_true")
     options = parser.parse_args()
     if options.tables is None:
-        options.tables = 3 if options.shape == "datapoints" else 8
+        options.tables = 3 if options.shape in ("datapoints", "wide") else 8
     if options.tables < 1:
         parser.error("--tables is 1 at least")
+    if options.largest is not None and (options.tables < 2 or not 0 < options.largest < 100):
+        parser.error("--largest is between 0 and 100, of two tables at least")
     options.folder.mkdir(parents=True, exist_ok=True)
     tables = [f"t{i:02}" for i in range(1, options.tables + 1)]
     report, types, parts = forms(options, tables)
     (options.folder / "meta.json").write_bytes((json.dumps(report, indent=1) + "\n").encode())
     (options.folder / "types.csv").write_bytes(types.encode())
     sizes = {"bytes": 0, "rows": 0, "facts": 0}
-    for place, (table, (header, row_of)) in enumerate(zip(tables, parts)):
-        part = write_table(options.folder / f"{table}.csv", Numbers(place), options.megabytes * 1e6 / options.tables, header, row_of)
+    shares = shares_of(options)
+    for place, (table, share, (header, row_of)) in enumerate(zip(tables, shares, parts)):
+        part = write_table(options.folder / f"{table}.csv", Numbers(place), share, header, row_of)
         sizes = {name: sizes[name] + part[name] for name in sizes}
     (options.folder / "sizes.json").write_bytes((json.dumps({"tables": options.tables, **sizes}) + "\n").encode())
     print(f"{options.tables} tables, {sizes['bytes']} bytes of CSV, {sizes['rows']} rows, {sizes['facts']} facts")

@@ -214,7 +214,10 @@ class Copies:
     def __init__(self, crate, folder, minutes):
         self.crate, self.folder, self.minutes = crate, Path(folder), minutes
         self.at = self.folder / "crates" / crate
-        self.specs = {it.stem: it.read_text() for it in sorted((TOP / "crates" / crate / "specs").glob("*.antt")) if it.stem != "Lib"}
+        specs = TOP / "crates" / crate / "specs"
+        found = [*sorted(specs.glob("*.antt")), *sorted((specs / "state").glob("*.antt"))]
+        self.files = {it.stem: str(it.relative_to(specs)) for it in found if it.stem not in ("Lib", "state")}
+        self.specs = {it: (specs / file).read_text() for it, file in self.files.items()}
         self.cases = {it.stem: it.read_text() for it in sorted((TOP / "crates" / crate / "proofs").glob("Examples*.antt"))}
         self.root = "main" if (TOP / "crates" / crate / "src/main.rt").exists() else "lib"
         self.copy()
@@ -249,11 +252,11 @@ class Copies:
         return self.users(file) & found
 
     def names(self, text, file):
-        return re.search(rf"\bRattle\.{self.crate}\.specs\.{file}\b", text)
+        return re.search(rf"\bRattle\.{self.crate}\.specs\.(?:state\.)?{file}\b", text)
 
     def renamed(self, text, mark, files):
         for it in files:
-            text = re.sub(rf"\bRattle\.{self.crate}\.specs\.{it}\b", f"Rattle.{self.crate}.proofs.{mark}{it}", text)
+            text = re.sub(rf"\bRattle\.{self.crate}\.specs\.(?:state\.)?{it}\b", f"Rattle.{self.crate}.proofs.{mark}{it}", text)
         return text
 
     def write(self, cases, changes):
@@ -262,7 +265,7 @@ class Copies:
         for it in proofs.glob("Change*.antt"):
             it.unlink()
         for it in self.specs:
-            (self.at / "specs" / f"{it}.antt").write_text(self.specs[it])
+            (self.at / "specs" / self.files[it]).write_text(self.specs[it])
         names, cited = [], []
         for number, change in enumerate(changes):
             mark = f"Change{number:03}"

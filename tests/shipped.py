@@ -160,12 +160,12 @@ def what_is_a_source(copy: Copy) -> None:
     before = copy.sum()
     case("the sum is one", len(before) == 64, before)
     crates = (copy.top / "crates.txt").read_bytes()
-    used = crates.replace(b"xbrl_json_cli may_wait", b"xbrl_json_cli may_abort=1 may_wait").replace(b"told:", b"told: itoa", 1)
-    changes = [longer(copy, f"crates/{it}") for it in ("oim_names/src/lib.rt", "told/specs/Lib.antt", "oim_json/proofs/Lib.antt", "oim_run/src/.hidden", "oim_cells/src/a/b.rt")]
+    used = crates.replace(b"xbrl_json_cli may_wait", b"xbrl_json_cli may_abort=1 may_wait").replace(b"ghost_value:", b"ghost_value: itoa", 1)
+    changes = [longer(copy, f"crates/{it}") for it in ("oim_names/src/lib.rt", "ghost_value/specs/Lib.antt", "oim_json/proofs/Lib.antt", "oim_run/src/.hidden", "oim_cells/src/a/b.rt")]
     for it in [*changes, longer(copy, "HANDLES"), Changed(copy, "crates.txt", used)]:
         with it:
             case(f"{it.path.relative_to(copy.top)} is a source", copy.sum() not in ("", before))
-    others = [longer(copy, "crates/told/must-fail/a.edit"), longer(copy, "crates/refusals/src/lib.rt"), longer(copy, "crates/told/out/a"), longer(copy, "README.md")]
+    others = [longer(copy, "crates/ghost_value/must-fail/a.edit"), longer(copy, "crates/refusals/src/lib.rt"), longer(copy, "crates/ghost_value/out/a"), longer(copy, "README.md")]
     lines = sorted(crates.splitlines(keepends=True), reverse=True)
     for it in [*others, longer(copy, "crates.txt", b"# more\nother_tests: oim_run\n"), Changed(copy, "crates.txt", b"".join(lines))]:
         with it:
@@ -269,14 +269,14 @@ def proving(copy: Copy) -> None:
     case("--prove that fails", seen.status == 3 and "not proved; what the prover said is in " in seen.err and not (copy.top / BUILT).exists(), seen)
     log = Path(seen.err.split()[-1])
     case("--prove that fails keeps what was said", log.exists() and "rt: told NOT PROVED" in log.read_text() and "xbrl-json: told NOT PROVED\n" in seen.err, log)
-    with longer(copy, "crates/told/must-fail/a.edit"), longer(copy, "crates/told/audit/a.edit"):
+    with longer(copy, "crates/ghost_value/must-fail/a.edit"), longer(copy, "crates/ghost_value/audit/a.edit"):
         seen = copy.run(["./xbrl-json", "--prove"], kit=True)
     crates = [line.split()[0].rstrip(":") for line in (copy.kit / "seen").read_text().splitlines()]
     lines = [f"xbrl-json: proved {name}, {at + 1} of {len(crates)} (" for at, name in enumerate(crates)]
     case("--prove tells of each crate", seen.status == 0 and all(it in seen.err for it in lines), seen)
     case("--prove takes the program and what stands below it", "xbrl_json_cli" in crates and "oim_names" in crates and "refusals" not in crates, crates)
     files = (copy.kit / "files").read_text().split()
-    case("--prove tries no wrong bodies", "crates/told/src" in files and not [it for it in files if it.endswith(("/must-fail", "/gate", "/audit", "/out"))], files)
+    case("--prove tries no wrong bodies", "crates/ghost_value/src" in files and not [it for it in files if it.endswith(("/must-fail", "/gate", "/audit", "/out"))], files)
     seen = copy.run(["./xbrl-json"])
     case("what was proved runs", seen == (0, b"proved by a made-up kit\n", ""), seen)
     seen = copy.run(["./xbrl-json", "--prove", "more"], kit=True)

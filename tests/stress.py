@@ -3,11 +3,11 @@
 
     tests/stress.py PROGRAM
 
-The script makes reports of 1 to 200 tables, empty, short, and so long that they are decoded in pieces, some with identifiers of their own,
-with quotes and line ends of all kinds at places where a piece may end. Each is converted by 2 to 64 workers with rings of 1 to 4 blocks, and
+The script makes reports of 1 to 200 tables, empty, short, and so long that they are decoded in pieces, with identifiers of their own,
+quotes and line ends of all kinds at places where a piece may end, and some with a byte-order mark before the first quote. Each is converted by 1 to 64 workers with rings of 1 to 4 blocks, and
 with rings of 65 and 1,024 before a reader that comes late, so that as many blocks wait as may. What is
-written must be the document by this script's own reading; in some reports a row has a fault near the place where a piece ends, and then what
-is written, the lines and the status must be those of one worker. A run that takes longer than a hundred seconds is stopped, and is a
+written must be the document by this script's own reading; in some reports a row has a fault near the place where a piece ends, or an identifier that came
+one row, some hundred rows or many pieces before, and then what is written, the lines and the status must be those of one worker. A run that takes longer than a hundred seconds is stopped, and is a
 failure.
 
 Two more things are seen: a run whose output nobody reads takes no more memory than some blocks need, however large the ring, and rows that
@@ -25,7 +25,7 @@ import tempfile
 import termios
 import threading
 import time
-from itertools import accumulate
+from itertools import accumulate, product
 from pathlib import Path
 from typing import Dict, List, NamedTuple, Optional, Tuple
 
@@ -33,6 +33,7 @@ NAMESPACES = {"eg": "http://example.com/eg"}
 TAXONOMY = ["http://example.com/eg.xsd"]
 COMMON = {"entity": "eg:A1", "period": "2021-12-31T00:00:00"}
 PIECE = 32_768
+MARK = b"\xef\xbb\xbf"
 SECONDS = 100
 # how much a table may take whose output nobody reads, in KiB: it took 9,356 with 4 workers, and 49,644 where nothing bounded what waits
 MOST_MEMORY = 30_000
@@ -83,14 +84,17 @@ def record(fields: List[str], end: str) -> str:
 
 
 def csv_of(numbers: random.Random, it: Table) -> bytes:
-    """The file of a table. A row with a fault has no amount that is a number, or the identifier of the first row."""
+    """The file of a table. A row with a fault has no amount that is a number, or the identifier of an earlier row: the last, one some hundred before, or
+    the first."""
     ends = numbers.choice(["\n", "\r\n", "\r"])
+    mark = numbers.choice([b"", MARK])
     lines = [record(["id", "amount", "note"], ends)]
     for at, (name, amount, note) in enumerate(it.rows):
         if at == it.bad:
-            name, amount = (it.rows[0][0], amount) if at and numbers.random() < 0.5 else (name, "none")
+            earlier = max(at - numbers.choice([1, 400, at]), 0)
+            name, amount = (it.rows[earlier][0], amount) if at and numbers.random() < 0.7 else (name, "none")
         lines.append(record([name, amount, note], ends))
-    return "".join(lines).encode()
+    return mark + "".join(lines).encode()
 
 
 def write(folder: Path, numbers: random.Random, tables: List[Table]) -> None:
@@ -197,7 +201,7 @@ def report(numbers: random.Random, kind: int) -> List[Table]:
 def ways(numbers: random.Random, tables: List[Table]) -> List[Way]:
     """Some ways to convert a report."""
     found = []
-    small = [(workers, numbers.choice([1, 2, 4]), 0.3) for workers in (2, 4, numbers.choice([3, 8, 16]), 64)]
+    small = [(workers, numbers.choice([1, 2, 4]), 0.3) for workers in (1, 2, 4, numbers.choice([3, 8, 16]), 64)]
     large = [(numbers.choice([2, 4, 8]), ring, 1.0) for ring in (65, 1024)]
     for workers, ring, how_often_slowly in small + large:
         slow = [it.name for it in tables if it.rows and len(tables) < 10 and numbers.random() < 0.3]
@@ -247,7 +251,7 @@ def feed_and_stall(pipe: Path, whole: bytes, step: int, goes_on: threading.Event
         pass
 
 
-def stalled(program: str, workers: int, step: int) -> Optional[str]:
+def stalled(program: str, workers: int, ring: int, step: int) -> Optional[str]:
     """What is wrong with a run whose table comes by a pipe that stalls: all rows given, but for the last few, must be written before more come."""
     it = Table("t", [(f"i{at}", str(at), "a") for at in range(6_000)], None)
     records = [record(["id", "amount", "note"], "\n")] + [record(list(row), "\n") for row in it.rows]
@@ -259,7 +263,7 @@ def stalled(program: str, workers: int, step: int) -> Optional[str]:
         pipe = folder / "t.csv"
         pipe.unlink()
         os.mkfifo(pipe)
-        words = [program, "meta.json", "--types", "types.csv", "--workers", str(workers)]
+        words = [program, "meta.json", "--types", "types.csv", "--workers", str(workers), "--ring", str(ring)]
         run = subprocess.Popen(words, cwd=folder, stdin=subprocess.DEVNULL, stdout=subprocess.PIPE)
         wrote: List[bytes] = []
         reader = threading.Thread(target=read_all, args=(run.stdout, False, wrote), daemon=True)
@@ -305,8 +309,8 @@ def main(program: str) -> None:
                 print(f"FAILED report {kind}, {way}: status {found[0]}, {found[2][:200]!r}, from byte {at}")
                 print(f"  wanted {wanted[1][max(at - 60, 0) : at + 60]!r}\n  found  {found[1][max(at - 60, 0) : at + 60]!r}")
     cases = {"an output that nobody reads": unread_output(program)}
-    for workers, step in ((1, 20_000), (1, 65_536), (4, 20_000), (4, 65_536)):
-        cases[f"a pipe that stalls, {workers} workers, {step} bytes at a time"] = stalled(program, workers, step)
+    for workers, ring, step in product((1, 2, 4), (1, 1024), (20_000, 65_536)):
+        cases[f"a pipe that stalls, {workers} workers, a ring of {ring}, {step} bytes at a time"] = stalled(program, workers, ring, step)
     for name, why in cases.items():
         well, bad = (well, bad + 1) if why else (well + 1, bad)
         if why:

@@ -93,13 +93,13 @@ fn tables_that_wait_for_one_another(rt: HostRuntime) {
     assert!(rt; all_are_converted(&rt));
 }
 
-/// Whether this many workers convert a table of these bytes, which come in two halves and end only once a member is written, to this
-/// document.
+/// Whether a table of these bytes, which come in two halves and end only once a member is written, is converted to this document by so
+/// many workers with a ring of this size.
 fn ends_late(
     rt: &(impl AllocGlobal + Threads + Wait + Sync),
     report: &Report,
     bytes: &[u8],
-    workers: usize,
+    way: (usize, usize),
     expected: &[u8],
 ) -> bool {
     let written = AtomicUsize::new(0);
@@ -109,31 +109,38 @@ fn ends_late(
     match vec![in rt.alloc(); Some(file)] {
         Ok(readers) => {
             let limits = Limits::profile();
-            ends_so(
-                rt,
-                report,
-                readers,
-                (workers, 1024),
-                limits,
-                &mut writer,
-                WHOLE,
-            ) && writer.has_left(0, 0)
+            ends_so(rt, report, readers, way, limits, &mut writer, WHOLE) && writer.has_left(0, 0)
         }
         Err(_) => false,
     }
 }
 
-/// Whether one worker and four do, of a table of 1,200 rows.
+/// Workers and the size of a ring.
+const WAYS: &[(usize, usize)] = &[(1, 1), (1, 1024), (2, 1), (2, 1024), (4, 1), (4, 1024)];
+
+/// Whether it is in each of these ways.
+fn ends_late_in_each_way(
+    rt: &(impl AllocGlobal + Threads + Wait + Sync),
+    report: &Report,
+    bytes: &[u8],
+    expected: &[u8],
+) -> bool {
+    for way in WAYS {
+        if !ends_late(rt, report, bytes, *way, expected) {
+            return false;
+        }
+    }
+    true
+}
+
+/// The same of a table of 1,200 rows.
 pub(crate) fn end_late(
     rt: &(impl AllocGlobal + Threads + Wait + Sync),
     report: &Report,
     expected: &[u8],
 ) -> bool {
     match file_of(rt.alloc(), 1200) {
-        Ok(file) => {
-            ends_late(rt, report, file.as_bytes(), 1, expected)
-                && ends_late(rt, report, file.as_bytes(), 4, expected)
-        }
+        Ok(file) => ends_late_in_each_way(rt, report, file.as_bytes(), expected),
         Err(_) => false,
     }
 }

@@ -4,7 +4,7 @@ use Rattle.std.specs.Prelude.{⊤, IfSome, IsSome}
 use mathlib.Core.Option.{some, some-ne-none, some-injective}
 use lib.ListN.{get_elem?}
 use Rattle.crossbeam_channel.specs.Fifo.{Pushes, Pops, Forks}
-use Rattle.keyed.specs.Keyed.{AllFit, AllKnow, IsKeyed}
+use Rattle.keyed.specs.state.Keyed.{AllFit, AllKnow, IsKeyed}
 
 -- one more who knows
 snoc_know : {K : Type 0} (k : K) (views : List (Option K)) → AllKnow k views → AllKnow k (views ++ Some k ∷ [])

@@ -20,7 +20,7 @@ pub struct Keyed<F> {
 
 impl<K, T, F: Fit<K, T>> Protocol<T, Option<K>> for Keyed<F> {
     ghost use Rattle.std.specs.Prelude.{None};
-    ghost use Rattle.keyed.specs.Keyed.{IsKeyed};
+    ghost use Rattle.keyed.specs.state.Keyed.{IsKeyed};
 
     ghost holds = { IsKeyed F.fits };
 

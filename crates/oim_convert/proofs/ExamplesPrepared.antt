@@ -14,10 +14,10 @@ use Rattle.oim_rows.specs.declared.fault.TableFault.{TableFault}
 use Rattle.oim_crew.specs.Claims.{Claiming, Drawer, fresh}
 use Rattle.oim_convert.specs.Jobs.{IsLane, IsOpened}
 use Rattle.oim_convert.specs.Limits.{IsWorkerCount}
-use Rattle.oim_convert.specs.Preparing.{HasRun, IsReturnRoom}
+use Rattle.oim_convert.specs.state.Preparing.{HasRun, IsReturnRoom}
 use Rattle.oim_convert.specs.Serial.{AreFew}
 use Rattle.oim_crew.specs.Shifts.{ArePosts, IsCrew, IsStation}
-use Rattle.oim_convert.specs.Working.{CanMerge}
+use Rattle.oim_convert.specs.state.Working.{CanMerge}
 use Rattle.oim_crew.specs.declared.crew.Crew.{Crew}
 use Rattle.oim_crew.specs.declared.crew.Posts.{Posts}
 use Rattle.oim_convert.specs.declared.fault.ConvertFault.TheVariants as fault

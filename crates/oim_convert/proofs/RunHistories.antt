@@ -17,10 +17,11 @@ use Rattle.oim_rows.specs.declared.fault.TableFault.{TableFault}
 use Rattle.oim_rows.specs.declared.fault.TableKind.{TableKind}
 use Rattle.oim_rows.specs.declared.fault.TableKind.TheVariants as kind
 use Rattle.oim_convert.specs.Answer.{IsAnswer, ending_of, streams, streams_from}
-use Rattle.oim_convert.specs.Files.{AreFilesOf, IsFileOf}
+use Rattle.oim_convert.specs.Files.{AreFilesOf}
+use Rattle.oim_records.specs.Reads.{IsFileOf}
 use Rattle.oim_convert.specs.Histories.{AreDecoded, AreUnserved, IsDecoded, IsGiven, IsHistory, IsStream}
 use Rattle.oim_convert.specs.Jobs.{Each, EachSlot, IsTable}
-use Rattle.oim_convert.specs.Preparing.{HasTables}
+use Rattle.oim_convert.specs.state.Preparing.{HasTables}
 use Rattle.oim_convert.specs.Served.{AreServed, IsServed}
 use Rattle.oim_convert.specs.Runs.{AreHistories, AreStreams, AreThreaded, AreUncut, IsCut, IsOuter, IsRun, IsThreadless, Writes}
 use Rattle.oim_convert.specs.declared.fault.ConvertFault.{ConvertFault}

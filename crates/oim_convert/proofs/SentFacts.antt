@@ -17,7 +17,7 @@ use Rattle.oim_rows.specs.Streams.{IsOutside, Stream, ending, facts_of, facts_of
 use Rattle.oim_rows.specs.declared.fault.TableFault.{TableFault}
 use Rattle.oim_rows.specs.declared.fault.TableKind.TheVariants as kind
 use Rattle.oim_convert.specs.Answer.{ending_of}
-use Rattle.oim_convert.specs.Files.{IsFileOf}
+use Rattle.oim_records.specs.Reads.{IsFileOf}
 use Rattle.oim_convert.specs.Histories.{IsDecoded, IsGiven, facts_in}
 use Rattle.oim_convert.proofs.TableFiles.{has_file, has_no_file, refused_header}
 

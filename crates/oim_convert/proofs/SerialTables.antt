@@ -26,11 +26,12 @@ use Rattle.oim_ring.specs.declared.item.Item.TheVariants.{Block, Ending}
 use Rattle.oim_rows.specs.Streams.{Stream, facts_of, table_stream}
 use Rattle.oim_rows.specs.declared.fault.TableFault.{TableFault}
 use Rattle.oim_convert.specs.Answer.{IsAnswer, answer_text, ending_of, histories_of, history_of, streams_from}
-use Rattle.oim_convert.specs.Files.{IsFileOf, AreFilesOf}
+use Rattle.oim_convert.specs.Files.{AreFilesOf}
+use Rattle.oim_records.specs.Reads.{IsFileOf}
 use Rattle.oim_convert.specs.Histories.{AreDecoded, IsDecoded, IsGiven, facts_in}
 use Rattle.oim_convert.specs.Runs.{AreStreams}
 use Rattle.oim_convert.specs.WrittenHistories.{WritesHistories}
-use Rattle.oim_convert.specs.Steps.{AreItemsOf, Gave, ReadsTables, TookBlocks}
+use Rattle.oim_convert.specs.state.Steps.{AreItemsOf, Gave, ReadsTables, TookBlocks}
 use Rattle.oim_convert.proofs.SentFacts.{facts_push}
 use Rattle.oim_convert.proofs.StreamHistories.{blocks_facts, facts_with, open_streams, streams_answer, streams_text}
 use Rattle.oim_convert.proofs.WrittenIds.{behind_table, cut_in_table, first_rows, refused_table}

@@ -6,7 +6,7 @@ use Rattle.oim_report.specs.ReportValue.{ReportValue}
 use Rattle.oim_rows.specs.Header.{file_header_fault}
 use Rattle.oim_rows.specs.Streams.{ending, stream_of}
 use Rattle.oim_rows.specs.declared.fault.TableFault.{TableFault}
-use Rattle.oim_convert.specs.Files.{IsFileOf}
+use Rattle.oim_records.specs.Reads.{IsFileOf}
 
 -- the stream of a table whose header has a fault is only that fault
 pub refused_header : (report : ReportValue) (table limit : ℕ) (rs : List Record) (e : TableFault) → file_header_fault report table rs ≡ Some e → stream_of report table limit rs ≡ ending (Some e)

@@ -1,12 +1,6 @@
 -- The files of a report's tables, as readers tell them.
-use Rattle.std.specs.Prelude.{⊤, ◌≡◌, ℕ, List, [], ◌∷◌, Option, Some, None}
-
--- a table without a reader has no file, and the file of a reader is the bytes that are left in it
-abbrev pub IsFileOf : {R : Type 0} → (R → Option (List ℕ)) → Option R → Option (List ℕ) → Type 0
-IsFileOf told None None = ⊤
-IsFileOf told None (Some bytes) = ⊥
-IsFileOf told (Some r) None = ⊥
-IsFileOf told (Some r) (Some bytes) = told r ≡ Some bytes
+use Rattle.std.specs.Prelude.{⊤, ℕ, List, [], ◌∷◌, Option}
+use Rattle.oim_records.specs.Reads.{IsFileOf}
 
 -- the files of the readers, one for each
 abbrev pub AreFilesOf : {R : Type 0} → (R → Option (List ℕ)) → List (Option R) → List (Option (List ℕ)) → Type 0

@@ -6,7 +6,7 @@ use Rattle.oim_ring.specs.Ends.{ClosedView, DrainView}
 use Rattle.oim_ring.specs.Items.{blocks_only}
 use Rattle.oim_ring.specs.declared.item.Item.{Item}
 use Rattle.oim_rows.specs.Streams.{table_stream}
-use Rattle.oim_convert.specs.Files.{IsFileOf}
+use Rattle.oim_records.specs.Reads.{IsFileOf}
 use Rattle.oim_convert.specs.Histories.{IsDecoded, IsUnserved}
 use Rattle.oim_convert.specs.declared.job.Job.{Job}
 use Rattle.oim_convert.specs.declared.job.Receipt.{Receipt}

@@ -2,14 +2,11 @@ pub mod Files
 pub mod Limits
 pub mod Answer
 pub mod FaultNames
-pub mod Steps
 pub mod Serial
 pub mod Served
 pub mod Histories
-pub mod TableFiles
 pub mod Jobs
 pub mod Runs
 pub mod Identifiers
-pub mod Preparing
 pub mod WrittenHistories
-pub mod Working
+pub mod state

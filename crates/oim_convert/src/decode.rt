@@ -2,9 +2,9 @@
 
 ghost use Rattle.std.specs.Prelude.{◌≡◌, ◌≤◌, ◌<◌, ℕ, List, [], length, Option, Some, None, IfSome};
 ghost use Rattle.oim_convert.specs.Answer.{ending_of};
-ghost use Rattle.oim_convert.specs.Files.{IsFileOf};
+ghost use Rattle.oim_records.specs.Reads.{IsFileOf};
 ghost use Rattle.oim_convert.specs.Histories.{IsDecoded, IsGiven, facts_in};
-ghost use Rattle.oim_convert.specs.TableFiles.{IsSentOfFile, IsTableFile};
+ghost use Rattle.oim_convert.specs.state.TableFiles.{IsSentOfFile, IsTableFile};
 ghost use Rattle.oim_ring.specs.declared.item.Ending.TheVariants.{Refused};
 ghost use Rattle.oim_rows.specs.Header.{file_fault};
 ghost use Rattle.oim_rows.specs.Streams.{table_stream};
@@ -18,7 +18,7 @@ use oim_decode::TableBlocks;
 use oim_pieces::Helpers;
 use oim_report::{Limits, Report};
 use oim_ring::{Closed, Ending, Feed};
-use oim_rows::{TableFault, TableKind};
+use oim_rows::{TableKind, whole_fault};
 use std::alloc::Global;
 use std::io::Read;
 use std::sync::Wait;
@@ -28,12 +28,7 @@ use std::thread::Threads;
 pub(crate) fn refused(table: usize, kind: TableKind) -> Ending
     ensures { result ≡ Refused (file_fault table kind) }
 {
-    Ending::Refused(TableFault {
-        table,
-        row: 0,
-        column: 0,
-        kind,
-    })
+    Ending::Refused(whole_fault(table, kind))
 }
 
 /// Decodes a table: sends its facts, and closes its feed with its ending. `None` if the token of the

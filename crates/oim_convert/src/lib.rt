@@ -67,6 +67,7 @@ mod job;
 mod lanes;
 mod laws;
 mod leave;
+mod lent;
 mod limits;
 mod pieces;
 mod returning;

@@ -2,11 +2,12 @@
 
 ghost use Rattle.std.specs.Prelude.{◌≡◌, ◌++◌, [], IfSome};
 ghost use Rattle.oim_convert.specs.Histories.{IsGiven, facts_in};
-ghost use Rattle.oim_convert.specs.TableFiles.{IsSentOfFile, IsTableFile};
+ghost use Rattle.oim_convert.specs.state.TableFiles.{IsSentOfFile, IsTableFile};
 ghost use Rattle.oim_rows.specs.Streams.{facts_of_rows};
 
 use crate::decode::send_file;
 use crate::leave::Leave;
+use crate::lent::take_back;
 use crate::sending::put_waiting;
 use crate::table_file::TableFile;
 use oim_json::Block;
@@ -77,11 +78,6 @@ fn send_in_scope<R: Read + Drop, T: Threads + Wait + Sync>(
     take_back(feed);
     ending
 }
-
-/// Does nothing. Using a returned reference here ties it, for the proof, to the parameter that lent it.
-fn take_back<T>(x: &mut T)
-    ensures { x.new ≡ x.old }
-{}
 
 /// Sends the facts of a table's file, piece by piece, in this scope.
 fn send_pieces<'s, E, R: Read + Drop, T: Threads + Wait + Sync + 's>(

@@ -4,7 +4,7 @@
 ghost use Rattle.std.specs.Prelude.{◌≡◌, length, map, All, IfNone, IfOk, IfSome, vec_len};
 ghost use Rattle.oim_convert.specs.Jobs.{AreTables, Each, Gives, IsEnded, IsLostIn, tables_promised};
 ghost use Rattle.oim_crew.specs.Numbers.{EachOnceBelow};
-ghost use Rattle.oim_convert.specs.Preparing.{IsReturnRoom};
+ghost use Rattle.oim_convert.specs.state.Preparing.{IsReturnRoom};
 ghost use Rattle.oim_crew.specs.Shifts.{IsShift};
 
 use crate::job::{Job, Receipt};

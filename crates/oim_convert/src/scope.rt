@@ -3,9 +3,10 @@
 ghost use Rattle.std.specs.Prelude.{◌≡◌, false, true, All, length, vec_len};
 ghost use Rattle.oim_convert.specs.Jobs.{CanServe, Gives};
 ghost use Rattle.oim_crew.specs.Shifts.{CanServeAll, IsCrew, IsShift};
-ghost use Rattle.oim_convert.specs.Working.{CanMerge, CanWork, HasWorked, IsMerged};
+ghost use Rattle.oim_convert.specs.state.Working.{CanMerge, CanWork, HasWorked, IsMerged};
 
 use crate::job::{Job, Receipt};
+use crate::lent::take_back;
 use crate::server::Serving;
 use oim_crew::{Claims, Crew, Posts, Shifts, Site, join_crew, start_crew};
 use oim_json::{Layout, Sink};
@@ -60,7 +61,7 @@ fn merge_all<T: Wait, W: Sink>(rt: &T, unmerged: Unmerged, sink: &mut W) -> Merg
 /// The results of the workers and of the merge.
 #[derive(Drop)]
 pub(crate) struct Worked<R> {
-    /// Whether workers served the tables, which otherwise are refused because no thread could be made, is in it.
+    /// What each worker gave, and in it whether workers served the tables: where no thread could be made, all are refused.
     pub(crate) shifts: Shifts<Job<R>, Receipt>,
     pub(crate) merged: Merged,
 }
@@ -160,8 +161,3 @@ pub(crate) fn work_crew<R: Read + Drop + Send, T: Threads + Wait + Sync, W: Sink
     let worked = work_and_merge(&site, posts, stops.as_slice(), starts, unmerged, sink);
     (claims, worked)
 }
-
-/// Does nothing. Using a returned reference here ties it, for the proof, to the parameter that lent it.
-fn take_back<T>(x: &mut T)
-    ensures { x.new ≡ x.old }
-{}

@@ -10,7 +10,7 @@ use oim_ring::{CloseFault, Closed, Ending, Feed};
 use std::sync::Wait;
 
 /// The most blocks of a table that wait for the writer, however large its ring. More would only take memory, which is dear to touch first.
-const MOST_WAITING: usize = 64;
+const MOST_WAITING: usize = 32;
 
 /// Sends a block once it is the feed's turn, trying again while the ring is full or so many blocks wait. During each call that may wait its worker
 /// counts as resting, also where that call returns at once. No clause says so.

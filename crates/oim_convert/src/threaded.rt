@@ -5,7 +5,7 @@ ghost use Rattle.oim_convert.specs.Answer.{IsAnswer, streams};
 ghost use Rattle.oim_convert.specs.Files.{AreFilesOf};
 ghost use Rattle.oim_convert.specs.Histories.{AreUnserved};
 ghost use Rattle.oim_convert.specs.Limits.{IsWorkerCount};
-ghost use Rattle.oim_convert.specs.Preparing.{HasRun, HasTables, IsReady};
+ghost use Rattle.oim_convert.specs.state.Preparing.{HasRun, HasTables, IsReady};
 ghost use Rattle.oim_convert.specs.Runs.{AnswersFault, AreHistories, AreStreams, AreThreaded, AreUncut, Writes, early_fault};
 ghost use Rattle.oim_convert.specs.Served.{AreServed};
 ghost use Rattle.oim_json.specs.JsonText.{head_text};

@@ -48,7 +48,7 @@ use Rattle.atomic_table.proofs.Lists.{at_set, set_else}
 use Rattle.oim_crew.specs.declared.view.View.{View}
 use Rattle.oim_crew.specs.Numbers.{times, once_below}
 use Rattle.oim_crew.specs.Claims.{Drawer}
-use Rattle.oim_crew.specs.Views.{drawer, spent, word, all_shares, all_finished, all_times, all_lengths, Fits, Claimed, Told}
+use Rattle.oim_crew.specs.state.Views.{drawer, spent, word, all_shares, all_finished, all_times, all_lengths, Fits, Claimed, Told}
 use Rattle.oim_crew.proofs.ViewSums.{sum-set, sum-le}
 
 once_more : (n len k : ℕ) → n < len → once_below (min (n + 1) len) k ≡ once_below (min n len) k + cond (eqb n k) 1 0

@@ -39,7 +39,7 @@ use Rattle.atomic_table.specs.Table.{State, opening, Splits, Joins}
 use Rattle.atomic_table.proofs.Lists.{at_snoc, set_else}
 use Rattle.oim_crew.specs.declared.view.View.{View}
 use Rattle.oim_crew.specs.Numbers.{times, once_below, EachOnceBelow}
-use Rattle.oim_crew.specs.Views.{word, all_shares, all_finished, all_times, all_lengths, opening_view, spent, Fits, Claimed, one_less, one_seat, joined}
+use Rattle.oim_crew.specs.state.Views.{word, all_shares, all_finished, all_times, all_lengths, opening_view, spent, Fits, Claimed, one_less, one_seat, joined}
 use Rattle.oim_crew.proofs.ViewSums.{sum-set, sum-only}
 use Rattle.oim_crew.proofs.ClaimSteps.{AllFit, fit-set}
 

@@ -1,4 +1,4 @@
 pub mod Numbers
 pub mod Claims
-pub mod Views
 pub mod Shifts
+pub mod state

@@ -29,7 +29,7 @@ impl<V> Model for Claims<V> {
 
     ghost coded = { claiming_coded V.code };
 
-    ghost use Rattle.oim_crew.specs.Views.{claiming};
+    ghost use Rattle.oim_crew.specs.state.Views.{claiming};
 
     ghost view = { λ c. claiming c.table.shared.table_id c.table.shared.key.items.value.items c.table.shared.key.workers };
 

@@ -1,7 +1,7 @@
 //! A seat of the claims, with which one thread draws.
 
 ghost use Rattle.std.specs.Prelude.{◌≡◌, false, cond};
-ghost use Rattle.oim_crew.specs.Views.{drawer};
+ghost use Rattle.oim_crew.specs.state.Views.{drawer};
 
 use crate::view::BoardSeat;
 use std::marker::Model;
@@ -22,7 +22,7 @@ impl<V> Model for Seat<V> {
 
     ghost coded = { drawer_coded V.code };
 
-    ghost use Rattle.oim_crew.specs.Views.{drawer};
+    ghost use Rattle.oim_crew.specs.state.Views.{drawer};
 
     ghost view = { λ s. drawer s.token.table_id s.token.me.0 s.finished };
 

@@ -2,7 +2,7 @@
 
 ghost use Rattle.std.specs.Prelude.{◌≡◌, ◌+◌, ◌<◌, ◌≤◌, [], length, replicate, vec_capacity, true};
 ghost use Rattle.oim_crew.specs.Claims.{fresh};
-ghost use Rattle.oim_crew.specs.Views.{opening_view, claiming, joined_seat};
+ghost use Rattle.oim_crew.specs.state.Views.{opening_view, claiming, joined_seat};
 
 use crate::seat::Seat;
 use crate::view::{BoardSeat, Cut, Gather, Shed, Steps};

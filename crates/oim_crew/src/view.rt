@@ -32,7 +32,7 @@ pub struct Plan<V> {
 pub struct Drawing;
 
 impl<V> TableRule<Option<V>, View<V>, Plan<V>> for Drawing {
-    ghost use Rattle.oim_crew.specs.Views.{Claimed, opening_view};
+    ghost use Rattle.oim_crew.specs.state.Views.{Claimed, opening_view};
 
     ghost holds = { λ plan. Claimed plan.items.value.items plan.workers };
 
@@ -52,7 +52,7 @@ pub type BoardSeat<V> = atomic_table::Seat<Option<V>, View<V>>;
 pub struct Draw;
 
 impl<V> Play<Option<V>, View<V>> for Draw {
-    ghost use Rattle.oim_crew.specs.Views.{Told};
+    ghost use Rattle.oim_crew.specs.state.Views.{Told};
 
     ghost then = { λ _. Told };
 }
@@ -61,7 +61,7 @@ impl<V> Play<Option<V>, View<V>> for Draw {
 pub struct Cut;
 
 impl<V> Split<View<V>> for Cut {
-    ghost use Rattle.oim_crew.specs.Views.{one_less, one_seat};
+    ghost use Rattle.oim_crew.specs.state.Views.{one_less, one_seat};
 
     ghost left = { one_less };
 
@@ -72,7 +72,7 @@ impl<V> Split<View<V>> for Cut {
 pub struct Shed;
 
 impl<V> Split<View<V>> for Shed {
-    ghost use Rattle.oim_crew.specs.Views.{spent};
+    ghost use Rattle.oim_crew.specs.state.Views.{spent};
 
     ghost left = { λ _. spent };
 
@@ -83,7 +83,7 @@ impl<V> Split<View<V>> for Shed {
 pub struct Gather;
 
 impl<V> Join<View<V>> for Gather {
-    ghost use Rattle.oim_crew.specs.Views.{joined, spent};
+    ghost use Rattle.oim_crew.specs.state.Views.{joined, spent};
 
     ghost both = { joined };
 

@@ -4,7 +4,7 @@ use Rattle.std.proofs.lemmas.Grind.{flat_map-append}
 use Rattle.std.proofs.lemmas.List.{take-append-drop}
 use Rattle.oim_resolve.specs.FactParts.{FactParts as Fact}
 use Rattle.oim_rows.specs.Streams.{facts_of_rows}
-use Rattle.oim_decode.specs.RowEnds.{stretches}
+use Rattle.oim_decode.specs.state.RowEnds.{stretches}
 use Rattle.oim_decode.proofs.RowCounts.{facts_push}
 
 -- a block more, and the facts behind it

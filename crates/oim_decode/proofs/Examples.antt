@@ -14,9 +14,8 @@ use Rattle.oim_rows.specs.Streams.{ending}
 use Rattle.oim_rows.specs.declared.fault.TableFault.{TableFault}
 use Rattle.oim_rows.specs.declared.fault.TableKind.TheVariants as kind
 use Rattle.oim_decode.specs.RowTexts.{AddsFacts, facts_in}
-use Rattle.oim_decode.specs.Blocks.{AddsNone, AnswersFacts, CountsRow, GivesFound, IsBehind, LeavesNone, ReadsRows, TakesOne, answered_of, has_row, left_of, turns_left}
+use Rattle.oim_decode.specs.Blocks.{AddsNone, AnswersFacts, CountsRow, GivesFound, IsBehind, LeavesNone, ReadsRows, TakesOne, has_row, left_of, turns_left}
 use Rattle.oim_decode.specs.Heads.{header_in, mark, reading_in}
-use Rattle.oim_decode.specs.declared.table.table_blocks.Progress.TheVariants as progress
 
 abbrev a : Fact
 a = record { id = codes "a"; value = None; decimals = None; dimensions = [] }
@@ -26,19 +25,16 @@ b = record { id = codes "b"; value = None; decimals = None; dimensions = [] }
 
 -- a row may have no facts
 -- a settled table has nothing left but its ending
-ended : left_of progress.Ended (Some (record { rows = (a ∷ []) ∷ []; fault = None })) ≡ Some (ending None)
+ended : left_of (Some None) (Some (record { rows = (a ∷ []) ∷ []; fault = None })) ≡ Some (ending None)
 ended = refl
 
--- and answers the same again, while one that is read has no answer yet
+-- also where that is a fault; one that is still read has its rows
 abbrev failed : TableFault
 failed = file_fault 0 kind.Read
 
-left_then : (left_of progress.Reading (Some (record { rows = (a ∷ []) ∷ []; fault = None })) ≡ Some (record { rows = (a ∷ []) ∷ []; fault = None }))
-    × (left_of (progress.Failed failed) None ≡ Some (ending (Some failed)))
+left_then : (left_of None (Some (record { rows = (a ∷ []) ∷ []; fault = None })) ≡ Some (record { rows = (a ∷ []) ∷ []; fault = None }))
+    × (left_of (Some (Some failed)) None ≡ Some (ending (Some failed)))
 left_then = (refl, refl)
-
-answered : map answered_of (progress.Reading ∷ progress.Ended ∷ progress.Failed failed ∷ []) ≡ None ∷ Some None ∷ Some (Some failed) ∷ []
-answered = refl
 
 -- two rows and the end behind them are looked for, or nothing
 turns : (turns_left None 2 ≡ 3) × (turns_left (Some None) 2 ≡ 0)

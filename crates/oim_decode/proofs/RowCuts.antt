@@ -5,7 +5,7 @@ use Rattle.std.proofs.lemmas.List.{get_or_default, get_or_past, take-append-drop
 use Rattle.std.proofs.Math.Seq.{drop-cons, take-append-add}
 use Rattle.oim_resolve.specs.FactParts.{FactParts as Fact}
 use Rattle.oim_rows.specs.Streams.{facts_of_rows}
-use Rattle.oim_decode.specs.RowEnds.{counts_from, stretches}
+use Rattle.oim_decode.specs.state.RowEnds.{counts_from, stretches}
 
 pub counts_length : (n : ℕ) (rows : List (List Fact)) → length (counts_from n rows) ≡ length rows
 unfolding counts_from

@@ -9,8 +9,6 @@ use Rattle.oim_rows.specs.RowFacts.{Reading}
 use Rattle.oim_rows.specs.Streams.{GivesNext, IsOutside, Stream, ending, facts_of_rows}
 use Rattle.oim_rows.specs.declared.fault.TableFault.{TableFault}
 use Rattle.oim_rows.specs.declared.fault.TableKind.TheVariants as kind
-use Rattle.oim_decode.specs.declared.table.table_blocks.Progress.{Progress}
-use Rattle.oim_decode.specs.declared.table.table_blocks.Progress.TheVariants as progress
 
 -- how a table is read, how many of its rows are read, and, where the reader tells its bytes, the stream of the others and the records
 -- that are not read yet
@@ -32,26 +30,20 @@ pub record BlocksLeft : Type 0 where
   pub left : Option Stream
   pub unread : Option (List Record)
 
-abbrev pub answered_of : Progress → Option (Option TableFault)
-answered_of progress.Reading = None
-answered_of progress.Ended = Some None
-answered_of (progress.Failed e) = Some (Some e)
+-- the stream that is left of a table: its end once that was found, or else this one
+abbrev pub left_of : Option (Option TableFault) → Option Stream → Option Stream
+left_of None s = s
+left_of (Some end) s = Some (ending end)
 
--- a settled table has no rows any more
-abbrev pub left_of : Progress → Option Stream → Option Stream
-left_of progress.Reading s = s
-left_of progress.Ended s = Some (ending None)
-left_of (progress.Failed e) s = Some (ending (Some e))
-
--- what is left of a table whose rows are read so far, whose facts are pending so, and that has come so far
-abbrev pub blocks_left : RowsUnread → List Fact → Progress → BlocksLeft
-blocks_left rows facts p = record {
+-- what is left of a table whose rows are read so far, whose facts are pending so, and whose end or fault was found so far
+abbrev pub blocks_left : RowsUnread → List Fact → Option (Option TableFault) → BlocksLeft
+blocks_left rows facts settled = record {
   table = rows.reading.table;
   limit = rows.reading.limit;
   given = rows.given;
   pending = facts;
-  answered = answered_of p;
-  left = left_of p rows.left;
+  answered = settled;
+  left = left_of settled rows.left;
   unread = rows.unread;
 }
 

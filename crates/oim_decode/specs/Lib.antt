@@ -4,6 +4,5 @@ pub mod Laws
 pub mod Apart
 pub mod Pieces
 pub mod PieceAnswers
-pub mod RowEnds
-pub mod KeptIds
 pub mod Heads
+pub mod state

@@ -3,7 +3,6 @@
 pub(crate) mod piece_answer;
 mod piece_blocks;
 pub(crate) mod piece_decoder;
-mod piece_id;
 pub(crate) mod piece_join;
 mod piece_rows;
 mod rooms;

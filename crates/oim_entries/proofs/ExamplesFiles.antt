@@ -10,7 +10,7 @@ use Rattle.csv.specs.Reading.{records_from, strip_bom}
 use Rattle.csv.specs.Records.{field_at}
 use Rattle.csv.specs.declared.error.ErrorKind.TheVariants as kind
 use Rattle.oim_entries.specs.CsvFiles.{EntryFile, all_of, fault_of_read, file_result, text_field}
-use Rattle.oim_records.specs.ReadFaults.{fault_of_kind}
+use Rattle.oim_records.specs.state.ReadFaults.{fault_of_kind}
 use Rattle.oim_entries.specs.WholeFile.{kind_said, record_at}
 use Rattle.oim_records.specs.declared.read_fault.ReadFault.TheVariants as read
 use Rattle.oim_entries.specs.declared.type_words.TypeWords.TheVariants.{Plain, Wider}

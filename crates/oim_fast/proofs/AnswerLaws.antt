@@ -7,7 +7,7 @@ use Rattle.oim_report.specs.declared.data.Side.{Side}
 use Rattle.oim_report.specs.declared.kind.Kind.{Kind}
 use Rattle.oim_resolve.specs.Facts.{concept_read}
 use Rattle.oim_resolve.specs.declared.role.Role.TheVariants.{Concept, Entity, Period, Unit as AUnit, Language, Explicit, Typed}
-use Rattle.oim_fast.specs.Answers.{IsAnswer, IsSilent, is_sound_for, is_typed_purpose, json_for}
+use Rattle.oim_fast.specs.state.Answers.{IsAnswer, IsSilent, is_sound_for, is_typed_purpose, json_for}
 use Rattle.oim_fast.specs.declared.row.answer.Answer.{Answer}
 use Rattle.oim_fast.specs.declared.row.purpose.Purpose.{Purpose}
 use Rattle.oim_fast.specs.declared.row.purpose.Purpose.TheVariants.{Dimension, Decimals}

@@ -14,20 +14,20 @@ use Rattle.oim_resolve.specs.FactValues.{text_in}
 use Rattle.oim_resolve.specs.Facts.{cell_result, fact_meaning, fact_of, is_absent, is_dropped, is_numeric}
 use Rattle.oim_resolve.specs.Written.{levels}
 use Rattle.oim_rows.specs.RowFacts.{Reading, field_or_empty}
-use Rattle.oim_fast.specs.CellValues.{IsValue}
-use Rattle.oim_fast.specs.CellWriters.{IsCellWriter, IsInRow, PutsCell, PutsSaid, column_at}
-use Rattle.oim_fast.specs.Columns.{AreFactColumns, IsFactColumn}
-use Rattle.oim_fast.specs.FactTexts.{AddsFact, IsOfReferences, IsWithin, PutsFact, object_text, value_of}
+use Rattle.oim_fast.specs.state.CellValues.{IsValue}
+use Rattle.oim_fast.specs.state.CellWriters.{IsCellWriter, IsInRow, PutsCell, PutsSaid, column_at}
+use Rattle.oim_fast.specs.state.Columns.{AreFactColumns, IsFactColumn}
+use Rattle.oim_fast.specs.state.FactTexts.{AddsFact, IsOfReferences, IsWithin, PutsFact, object_text, value_of}
 use Rattle.oim_fast.specs.Facts.{WritesFact, fact_text, start_text}
 use Rattle.oim_resolve.specs.FactParts.{FactParts as Fact}
 use mathlib.Core.List.{IsPrefix}
 use Rattle.oim_fast.specs.declared.table.cell_writer.CellWriter.{CellWriter}
 use Rattle.oim_fast.proofs.MakerLaws.{ready_again}
-use Rattle.oim_fast.specs.FrameTexts.{FrameValue, Segment, with_part, with_value}
-use Rattle.oim_fast.specs.Frames.{AreFrameDecimals, IsTextOf, no_dimensions, with_parts}
-use Rattle.oim_fast.specs.KeptFrames.{IsTextFor}
-use Rattle.oim_fast.specs.Parts.{IsPart, IsPartValue}
-use Rattle.oim_fast.specs.References.{IsFresh, Key, ReferenceValue, key_of}
+use Rattle.oim_fast.specs.state.FrameTexts.{FrameValue, Segment, with_part, with_value}
+use Rattle.oim_fast.specs.state.Frames.{AreFrameDecimals, IsTextOf, no_dimensions, with_parts}
+use Rattle.oim_fast.specs.state.KeptFrames.{IsTextFor}
+use Rattle.oim_fast.specs.state.Parts.{IsPart, IsPartValue}
+use Rattle.oim_fast.specs.state.References.{IsFresh, Key, ReferenceValue, key_of}
 use Rattle.oim_fast.specs.Rows.{RowValue, cell_in, column_in}
 use Rattle.oim_fast.specs.declared.frame.fact_column.FactColumn.{FactColumn}
 use Rattle.oim_fast.specs.declared.frame.frame_decimals.FrameDecimals.{FrameDecimals}
@@ -148,7 +148,7 @@ pub column_there : (f : Reading) (cells : List GroupCell) (cs : List FactColumn)
 column_there f cells cs i c h lt is =
     ap (λ (k : FactColumn). k.column) is ∙ sym (get_or-map (λ (k : FactColumn). k.column) cs i c 0 lt) ∙ ap (λ ys. get_or ys i 0) h.columns
 
-pub columns_length : (f : Reading) (cells : List GroupCell) (cs : List FactColumn) → AreFactColumns f cells cs → length cs ≡ length (Rattle.oim_fast.specs.Columns.fact_columns_in f f.header)
+pub columns_length : (f : Reading) (cells : List GroupCell) (cs : List FactColumn) → AreFactColumns f cells cs → length cs ≡ length (Rattle.oim_fast.specs.state.Columns.fact_columns_in f f.header)
 columns_length f cells cs h = sym (length-map cs (λ (k : FactColumn). k.column)) ∙ ap length h.columns
 
 -- a column was looked up

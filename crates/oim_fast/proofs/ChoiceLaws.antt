@@ -15,9 +15,9 @@ use Rattle.oim_report.proofs.GroupOrder.{column_rises}
 use Rattle.oim_resolve.specs.ProgramCell.{held}
 use Rattle.oim_resolve.proofs.LevelOrder.{column_level_rises, report_rises, template_rises}
 use Rattle.oim_rows.specs.RowFacts.{Reading, field_or_empty, source_of_column}
-use Rattle.oim_fast.specs.Columns.{IsFactColumn}
-use Rattle.oim_fast.specs.Frames.{Chooses, groups_chosen, is_known_choice, levels_chosen}
-use Rattle.oim_fast.specs.Groups.{IsGroupCell, IsSaid, Says, choice_in, choices_in, group_at, level_at, level_chosen, levels_at}
+use Rattle.oim_fast.specs.state.Columns.{IsFactColumn}
+use Rattle.oim_fast.specs.state.Frames.{Chooses, groups_chosen, is_known_choice, levels_chosen}
+use Rattle.oim_fast.specs.state.Groups.{IsGroupCell, IsSaid, Says, choice_in, choices_in, group_at, level_at, level_chosen, levels_at}
 use Rattle.oim_fast.specs.Rows.{RowValue, column_in}
 use Rattle.oim_fast.specs.declared.frame.fact_column.FactColumn.{FactColumn}
 use Rattle.oim_fast.specs.declared.row.group_cells.Choice.{Choice}

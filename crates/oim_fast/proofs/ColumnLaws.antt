@@ -10,8 +10,8 @@ use Rattle.oim_rows.specs.Header.{is_column}
 use Rattle.oim_report.specs.Readers.{no_column}
 use Rattle.oim_report.specs.declared.data.Column.{Column}
 use Rattle.oim_rows.specs.RowFacts.{Reading, holds_facts, is_fact_column}
-use Rattle.oim_fast.specs.Columns.{AreFactColumns, IsColumnAt, IsFactColumn, fact_column_at, fact_columns_in}
-use Rattle.oim_fast.specs.References.{Grows}
+use Rattle.oim_fast.specs.state.Columns.{AreFactColumns, IsColumnAt, IsFactColumn, fact_column_at, fact_columns_in}
+use Rattle.oim_fast.specs.state.References.{Grows}
 use Rattle.oim_fast.specs.Rows.{columns_in}
 use Rattle.oim_fast.specs.declared.frame.fact_column.FactColumn.{FactColumn}
 use Rattle.oim_fast.specs.declared.row.group_cells.GroupCell.{GroupCell}

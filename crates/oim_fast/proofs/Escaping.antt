@@ -8,8 +8,8 @@ use Rattle.std.proofs.lemmas.Simd.{trailing_mask_l}
 use lib.Lanes.{mask_l}
 use lib.Count.{count_trailing_zeros}
 use Rattle.oim_json.specs.JsonText.{escaped_byte, is_unescaped}
-use Rattle.oim_fast.specs.Escapes.{is_escaped}
-use Rattle.oim_fast.specs.Places.{Placed}
+use Rattle.oim_fast.specs.state.Escapes.{is_escaped}
+use Rattle.oim_fast.specs.state.Places.{Placed}
 use Rattle.oim_records.proofs.PassingRuns.{not-not, run_stops, run_through}
 use Rattle.oim_fast.proofs.PlacedBytes.{Placed-then}
 use Rattle.oim_json.proofs.Quoted.{all_unescaped}

@@ -9,13 +9,13 @@ use Rattle.oim_report.specs.declared.data.Column.{Column as AColumn}
 use Rattle.oim_report.specs.declared.data.Level.{Level}
 use Rattle.oim_report.specs.declared.kind.Kind.TheVariants as kind
 use Rattle.oim_rows.specs.RowFacts.{Reading}
-use Rattle.oim_fast.specs.Answers.{dimension_json}
-use Rattle.oim_fast.specs.Escapes.{is_escaped}
-use Rattle.oim_fast.specs.FrameTexts.{FrameValue, frame_dimensions}
-use Rattle.oim_fast.specs.Groups.{group_at, names_none}
-use Rattle.oim_fast.specs.Pieces.{behind, name_text}
+use Rattle.oim_fast.specs.state.Answers.{dimension_json}
+use Rattle.oim_fast.specs.state.Escapes.{is_escaped}
+use Rattle.oim_fast.specs.state.FrameTexts.{FrameValue, frame_dimensions}
+use Rattle.oim_fast.specs.state.Groups.{group_at, names_none}
+use Rattle.oim_fast.specs.state.Pieces.{behind, name_text}
 use Rattle.oim_fast.specs.Rows.{RowValue}
-use Rattle.oim_fast.specs.Sources.{Column, RowNumber, source_text}
+use Rattle.oim_fast.specs.state.Sources.{Column, RowNumber, source_text}
 use Rattle.oim_fast.specs.declared.frame.frame_decimals.FrameDecimals.TheVariants.{Settled}
 use Rattle.oim_fast.specs.declared.row.group_cells.Choice.TheVariants as choice
 

@@ -4,10 +4,10 @@ use Rattle.std.specs.Option.{option_to_list}
 use Rattle.oim_cells.specs.declared.cells.NumberKind.TheVariants.{Decimal}
 use Rattle.oim_report.specs.declared.kind.Kind.TheVariants as kind
 use Rattle.oim_rows.specs.RowFacts.{Reading}
-use Rattle.oim_fast.specs.Columns.{fact_columns_in}
-use Rattle.oim_fast.specs.Frames.{groups_chosen}
-use Rattle.oim_fast.specs.Groups.{choice_in, group_at}
-use Rattle.oim_fast.specs.KeptFrames.{kind_code, text_in, text_of}
+use Rattle.oim_fast.specs.state.Columns.{fact_columns_in}
+use Rattle.oim_fast.specs.state.Frames.{groups_chosen}
+use Rattle.oim_fast.specs.state.Groups.{choice_in, group_at}
+use Rattle.oim_fast.specs.state.KeptFrames.{kind_code, text_in, text_of}
 use Rattle.oim_fast.specs.Rows.{column_in}
 use Rattle.oim_fast.specs.declared.frame.frame.Body.TheVariants as body
 use Rattle.oim_fast.specs.declared.row.group_cells.Choice.TheVariants as choice

@@ -10,12 +10,12 @@ use Rattle.oim_cells.specs.declared.cells.Accuracy.{Accuracy}
 use Rattle.oim_json.specs.JsonText.{decimals_text, escaped_byte, quoted, value_text}
 use Rattle.oim_report.specs.declared.kind.Kind.{Kind}
 use Rattle.oim_resolve.specs.Facts.{is_numeric, places}
-use Rattle.oim_fast.specs.FactTexts.{TriesFact, WritesObject, WritesOpening, are_settled, are_sound_decimals, cut, fact_room, frame_decimals, frame_length, has_decimals, has_settled, opening_decimals, value_of}
-use Rattle.oim_fast.specs.FrameTexts.{AreRuns, FrameValue, IsLaidOut, Segment, dimensions_start, frame_dimensions, rest_from, segment_text, segments_from}
-use Rattle.oim_fast.specs.Pieces.{behind}
-use Rattle.oim_fast.specs.Places.{Placed, Stays}
-use Rattle.oim_fast.specs.References.{ReferenceValue, given_by, is_sound_by}
-use Rattle.oim_fast.specs.Writing.{WritesRuns}
+use Rattle.oim_fast.specs.state.FactTexts.{TriesFact, WritesObject, WritesOpening, are_settled, are_sound_decimals, cut, fact_room, frame_decimals, frame_length, has_decimals, has_settled, opening_decimals, value_of}
+use Rattle.oim_fast.specs.state.FrameTexts.{AreRuns, FrameValue, IsLaidOut, Segment, dimensions_start, frame_dimensions, rest_from, segment_text, segments_from}
+use Rattle.oim_fast.specs.state.Pieces.{behind}
+use Rattle.oim_fast.specs.state.Places.{Placed, Stays}
+use Rattle.oim_fast.specs.state.References.{ReferenceValue, given_by, is_sound_by}
+use Rattle.oim_fast.specs.state.Writing.{WritesRuns}
 use Rattle.oim_fast.specs.declared.frame.frame_decimals.FrameDecimals.{FrameDecimals}
 use Rattle.oim_fast.specs.declared.frame.frame_decimals.FrameDecimals.TheVariants as decimals
 use Rattle.oim_fast.specs.declared.frame.frame_text.Run.{Run}

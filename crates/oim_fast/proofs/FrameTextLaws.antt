@@ -5,7 +5,7 @@ use Rattle.std.proofs.Math.Seq.{drop-append_seam}
 use Rattle.std.proofs.lemmas.List.{drop_all, drop-append-le, take-append-le}
 use Rattle.oim_report.specs.declared.kind.Kind.{Kind}
 use Rattle.oim_resolve.specs.Facts.{is_dropped}
-use Rattle.oim_fast.specs.FrameTexts.{AreRuns, FrameValue, IsLaidOut, Segment, rest_from, segments_from, with_part, with_value}
+use Rattle.oim_fast.specs.state.FrameTexts.{AreRuns, FrameValue, IsLaidOut, Segment, rest_from, segments_from, with_part, with_value}
 use Rattle.oim_fast.specs.declared.frame.frame_decimals.FrameDecimals.{FrameDecimals}
 use Rattle.oim_fast.specs.declared.frame.part.Part.{Part}
 use Rattle.oim_fast.specs.declared.frame.part.PartValue.{PartValue}

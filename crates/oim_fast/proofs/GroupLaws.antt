@@ -16,7 +16,7 @@ use Rattle.oim_names.proofs.Searches.{searched}
 use Rattle.oim_report.specs.Rising.{IsRising}
 use Rattle.oim_report.specs.declared.data.Column.{Column}
 use Rattle.oim_report.specs.declared.data.Level.{Level}
-use Rattle.oim_fast.specs.Groups.{Names}
+use Rattle.oim_fast.specs.state.Groups.{Names}
 use Rattle.oim_fast.specs.declared.row.group_cells.Choice.TheVariants as choice
 
 -- a name whose value stands at a place names the group there

@@ -1,7 +1,7 @@
 -- What stays true when items are added to a list.
 use Rattle.std.proofs.Common.{◌≡◌, ℕ, zero, suc, List, [], ◌∷◌, ◌++◌, length, Some, refl, sym, ap, ◌∙◌, append_assoc, append-nil, arith}
 use Rattle.std.specs.List.{slice_get, All}
-use Rattle.oim_fast.specs.References.{Grows}
+use Rattle.oim_fast.specs.state.References.{Grows}
 
 pub slice_get-append : {A : Type 0} (xs ys : List A) (i : ℕ) (x : A) → slice_get xs i ≡ Some x → slice_get (xs ++ ys) i ≡ Some x
 slice_get-append [] ys i x e = absurd (cc)

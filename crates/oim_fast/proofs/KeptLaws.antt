@@ -7,8 +7,8 @@ use Rattle.std.proofs.lemmas.List.{get_or-set_same, length-append}
 use Rattle.std.proofs.lemmas.Option.{slice_get-get_or}
 use Rattle.oim_cells.specs.Cells.{meaning_of}
 use Rattle.oim_report.specs.ReportValue.{ReportValue}
-use Rattle.oim_fast.specs.Answers.{IsAnswer, IsCached}
-use Rattle.oim_fast.specs.References.{AddsPlaces, IsEmptyText, IsKept}
+use Rattle.oim_fast.specs.state.Answers.{IsAnswer, IsCached}
+use Rattle.oim_fast.specs.state.References.{AddsPlaces, IsEmptyText, IsKept}
 use Rattle.oim_fast.specs.declared.row.cached_answer.CachedAnswer.{CachedAnswer}
 use Rattle.oim_fast.specs.declared.row.purpose.Purpose.{Purpose}
 use Rattle.oim_fast.proofs.Growth.{all_append}

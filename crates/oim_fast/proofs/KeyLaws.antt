@@ -9,11 +9,11 @@ use Rattle.oim_rows.specs.RowFacts.{Reading}
 use Rattle.oim_report.specs.declared.data.Level.{Level}
 use Rattle.oim_report.specs.declared.kind.Kind.{Kind}
 use Rattle.oim_resolve.specs.Written.{written_decimals}
-use Rattle.oim_fast.specs.Frames.{AreFrameDecimals, AreKindDecimals, HasReferredKind, IsTextOf, levels_chosen}
-use Rattle.oim_fast.specs.KeptFrames.{IsBody, IsFrame}
-use Rattle.oim_fast.specs.Parts.{AreDecimals, IsPart, IsPartValue, IsReferred}
-use Rattle.oim_fast.specs.References.{Grows, Key, ReferenceValue, key_of}
-use Rattle.oim_fast.specs.FrameTexts.{FrameValue}
+use Rattle.oim_fast.specs.state.Frames.{AreFrameDecimals, AreKindDecimals, HasReferredKind, IsTextOf, levels_chosen}
+use Rattle.oim_fast.specs.state.KeptFrames.{IsBody, IsFrame}
+use Rattle.oim_fast.specs.state.Parts.{AreDecimals, IsPart, IsPartValue, IsReferred}
+use Rattle.oim_fast.specs.state.References.{Grows, Key, ReferenceValue, key_of}
+use Rattle.oim_fast.specs.state.FrameTexts.{FrameValue}
 use Rattle.oim_fast.specs.declared.frame.frame.Body.{Body}
 use Rattle.oim_fast.specs.declared.frame.frame.Body.TheVariants as body
 use Rattle.oim_fast.specs.declared.frame.frame.Frame.{Frame}

@@ -13,8 +13,8 @@ use Rattle.oim_resolve.specs.Facts.{cell_result}
 use Rattle.oim_rows.specs.Header.{Header}
 use Rattle.oim_rows.specs.RowFacts.{at_place, facts_from, in_front, is_fact_column}
 use Rattle.oim_rows.specs.declared.fault.TableFault.{TableFault}
-use Rattle.oim_fast.specs.CellWriters.{GiveFacts, HasFacts, column_at}
-use Rattle.oim_fast.specs.Columns.{fact_columns_in}
+use Rattle.oim_fast.specs.state.CellWriters.{GiveFacts, HasFacts, column_at}
+use Rattle.oim_fast.specs.state.Columns.{fact_columns_in}
 use Rattle.oim_fast.specs.Facts.{WritesFact, WritesFacts, fact_text}
 use Rattle.oim_fast.specs.Rows.{RowValue, cell_in, columns_in, row_in}
 

@@ -2,9 +2,9 @@
 use Rattle.std.proofs.Common.{◌≡◌, List, [], map, sym, subst, arith}
 use Rattle.std.specs.List.{All}
 use Rattle.oim_rows.specs.RowFacts.{Reading}
-use Rattle.oim_fast.specs.Making.{IsMaker, IsReadyMaker}
-use Rattle.oim_fast.specs.Parts.{IsPart}
-use Rattle.oim_fast.specs.References.{Grows, IsFresh, Key, ReferenceValue, key_of}
+use Rattle.oim_fast.specs.state.Making.{IsMaker, IsReadyMaker}
+use Rattle.oim_fast.specs.state.Parts.{IsPart}
+use Rattle.oim_fast.specs.state.References.{Grows, IsFresh, Key, ReferenceValue, key_of}
 use Rattle.oim_fast.specs.Rows.{RowValue}
 use Rattle.oim_fast.specs.declared.frame.frame_maker.FrameMaker.{FrameMaker}
 use Rattle.oim_fast.specs.declared.frame.part.Part.{Part}

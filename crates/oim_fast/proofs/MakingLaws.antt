@@ -15,15 +15,16 @@ use Rattle.oim_resolve.specs.Facts.{concept_read, is_dropped}
 use Rattle.oim_resolve.specs.ProgramCell.{held}
 use Rattle.oim_resolve.specs.Written.{written}
 use Rattle.oim_rows.specs.RowFacts.{Reading}
-use Rattle.oim_fast.specs.FrameTexts.{FrameValue, is_ready, with_part, with_value}
-use Rattle.oim_fast.specs.Frames.{AreKindDecimals, HasConstantKind, HasReferredKind, IsTextOf, are_ready, entry_of, levels_chosen, no_dimensions, with_parts}
+use Rattle.oim_fast.specs.state.FrameTexts.{FrameValue, is_ready, with_part, with_value}
+use Rattle.oim_fast.specs.state.Frames.{AreKindDecimals, HasConstantKind, HasReferredKind, IsTextOf, are_ready, entry_of, levels_chosen, no_dimensions, with_parts}
 use Rattle.oim_fast.specs.Facts.{column_lead}
-use Rattle.oim_fast.specs.KeptFrames.{IsBody, kind_code}
-use Rattle.oim_fast.specs.Making.{AddsEntries, IsBodyOf, IsConcept, IsOpening, SaysConcept}
-use Rattle.oim_fast.specs.Parts.{IsPart, IsPartValue, IsReferred}
-use Rattle.oim_fast.specs.Pieces.{constant_meaning, named, written_entries}
-use Rattle.oim_fast.specs.Sources.{source_written}
-use Rattle.oim_fast.specs.References.{Grows, Key, ReferenceValue, key_of}
+use Rattle.oim_fast.specs.state.KeptFrames.{IsBody, kind_code}
+use Rattle.oim_fast.specs.state.Making.{AddsEntries, IsBodyOf, IsConcept, IsOpening, SaysConcept}
+use Rattle.oim_fast.specs.state.Parts.{IsPart, IsPartValue, IsReferred}
+use Rattle.oim_fast.specs.state.Pieces.{constant_meaning}
+use Rattle.oim_resolve.specs.ProgramLevels.{named, written_entries}
+use Rattle.oim_fast.specs.state.Sources.{source_written}
+use Rattle.oim_fast.specs.state.References.{Grows, Key, ReferenceValue, key_of}
 use Rattle.oim_fast.specs.declared.frame.frame.Body.{Body}
 use Rattle.oim_fast.specs.declared.frame.frame_maker.Concept.{Concept}
 use Rattle.oim_fast.specs.declared.frame.frame_maker.Concept.TheVariants as concept

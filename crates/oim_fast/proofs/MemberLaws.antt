@@ -15,9 +15,10 @@ use Rattle.oim_resolve.specs.Values.{side_of, value}
 use Rattle.oim_resolve.specs.Written.{levels, names, written}
 use Rattle.oim_resolve.specs.declared.role.Role.{Role}
 use Rattle.oim_resolve.specs.declared.role.Role.TheVariants as role
-use Rattle.oim_fast.specs.Answers.{dimension_json}
-use Rattle.oim_fast.specs.FactTexts.{cut}
-use Rattle.oim_fast.specs.Pieces.{behind, dimension_piece, name_text, named, written_entries, written_pieces}
+use Rattle.oim_fast.specs.state.Answers.{dimension_json}
+use Rattle.oim_fast.specs.state.FactTexts.{cut}
+use Rattle.oim_fast.specs.state.Pieces.{behind, dimension_piece, name_text, written_pieces}
+use Rattle.oim_resolve.specs.ProgramLevels.{named, written_entries}
 use Rattle.oim_fast.proofs.FrameLaws.{piece_text}
 
 -- dimensions, each with a comma behind it

@@ -7,7 +7,7 @@ use Rattle.std.proofs.lemmas.Bool.{ltb-true}
 use lib.Lanes.{mask_l}
 use lib.Count.{count_trailing_zeros}
 use Rattle.oim_records.proofs.PassingRuns.{not-not, run_stops, run_through}
-use Rattle.oim_fast.specs.Digits.{is_digit, is_other}
+use Rattle.oim_fast.specs.state.Digits.{is_digit, is_other}
 use Rattle.oim_fast.proofs.Escaping.{front_passes}
 
 both_true : (a b : Bool) → (a && b) ≡ true → (a ≡ true) × (b ≡ true)

@@ -12,7 +12,7 @@ use Rattle.oim_cells.specs.declared.cells.NumberKind.TheVariants.{Integer, Decim
 use Rattle.oim_cells.specs.Blanks.{trimmed}
 use Rattle.oim_cells.specs.Numeral.{IsDecimal, IsDecimals, IsDouble, IsInteger, IsNumeralOf, IsSplit, bare, no_power, pointed, power, suffixed}
 use Rattle.oim_fast.proofs.Ink.{split_trims}
-use Rattle.oim_fast.specs.Digits.{IsFrontOf, IsPointed, IsSuffix, begins_with_sign, marks_power, takes_point}
+use Rattle.oim_fast.specs.state.Digits.{IsFrontOf, IsPointed, IsSuffix, begins_with_sign, marks_power, takes_point}
 
 -- digits, one more
 pub digits_push : (xs : List ℕ) (d : ℕ) → AllDigits 10 xs → digit_value d < 10 → AllDigits 10 (xs ++ d ∷ [])

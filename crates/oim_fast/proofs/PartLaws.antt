@@ -9,11 +9,11 @@ use Rattle.oim_json.specs.JsonText.{decimals_text}
 use Rattle.oim_report.specs.declared.data.Written.{Written}
 use Rattle.oim_resolve.specs.Values.{Read}
 use Rattle.oim_rows.specs.RowFacts.{Reading}
-use Rattle.oim_fast.specs.Answers.{IsAnswer}
-use Rattle.oim_fast.specs.Parts.{IsPartValue, IsStated, PutsAnswer, purpose_of}
-use Rattle.oim_fast.specs.Pieces.{behind, constant_meaning, name_text}
-use Rattle.oim_fast.specs.References.{Key, ReferenceValue, key_of}
-use Rattle.oim_fast.specs.Sources.{source_written}
+use Rattle.oim_fast.specs.state.Answers.{IsAnswer}
+use Rattle.oim_fast.specs.state.Parts.{IsPartValue, IsStated, PutsAnswer, purpose_of}
+use Rattle.oim_fast.specs.state.Pieces.{behind, constant_meaning, name_text}
+use Rattle.oim_fast.specs.state.References.{Key, ReferenceValue, key_of}
+use Rattle.oim_fast.specs.state.Sources.{source_written}
 use Rattle.oim_fast.specs.declared.frame.frame_decimals.FrameDecimals.TheVariants as decimals
 use Rattle.oim_fast.specs.declared.frame.part.PartValue.{PartValue}
 use Rattle.oim_fast.specs.declared.frame.part.PartValue.TheVariants as part

@@ -11,7 +11,7 @@ use Rattle.oim_resolve.specs.Faults.{least, unless}
 use Rattle.oim_resolve.specs.declared.fact.CellFault.{CellFault}
 use Rattle.oim_resolve.specs.declared.role.Role.{Role}
 use Rattle.oim_resolve.specs.declared.role.Role.TheVariants.{Explicit, Unit as AUnit}
-use Rattle.oim_fast.specs.Answers.{dimension_json}
+use Rattle.oim_fast.specs.state.Answers.{dimension_json}
 
 by_ok : {A : Type 0} (o : Option CellFault) (x y : A) → unless o (Ok x) ≡ Ok y → y ≡ x
 by_ok None x y e = cc

@@ -15,15 +15,15 @@ use Rattle.oim_report.specs.declared.kind.Kind.TheVariants as kind
 use Rattle.oim_resolve.specs.Facts.{concept_read, given}
 use Rattle.oim_resolve.specs.Values.{value}
 use Rattle.oim_resolve.specs.Written.{levels, written}
-use Rattle.oim_fast.specs.Answers.{IsAnswer}
-use Rattle.oim_fast.specs.Columns.{IsFactColumn}
-use Rattle.oim_fast.specs.Frames.{Chooses, HasConstantKind, HasReferredKind, is_known_choice, levels_chosen}
-use Rattle.oim_fast.specs.FrameTexts.{FrameValue}
-use Rattle.oim_fast.specs.Groups.{IsGroupCell, IsSaid, choices_in}
-use Rattle.oim_fast.specs.KeptFrames.{IsBody, IsFor, IsFrame, IsKnownFor, IsOfConcept, IsTextFor, kind_code, text_of}
-use Rattle.oim_fast.specs.References.{IsFresh, Key, ReferenceValue, key_of, meaning_at_hand}
+use Rattle.oim_fast.specs.state.Answers.{IsAnswer}
+use Rattle.oim_fast.specs.state.Columns.{IsFactColumn}
+use Rattle.oim_fast.specs.state.Frames.{Chooses, HasConstantKind, HasReferredKind, is_known_choice, levels_chosen}
+use Rattle.oim_fast.specs.state.FrameTexts.{FrameValue}
+use Rattle.oim_fast.specs.state.Groups.{IsGroupCell, IsSaid, choices_in}
+use Rattle.oim_fast.specs.state.KeptFrames.{IsBody, IsFor, IsFrame, IsKnownFor, IsOfConcept, IsTextFor, kind_code, text_of}
+use Rattle.oim_fast.specs.state.References.{IsFresh, Key, ReferenceValue, key_of, meaning_at_hand}
 use Rattle.oim_fast.specs.Rows.{RowValue, cell_in, column_in}
-use Rattle.oim_fast.specs.Sources.{source_text}
+use Rattle.oim_fast.specs.state.Sources.{source_text}
 use Rattle.oim_fast.specs.declared.frame.fact_column.FactColumn.{FactColumn}
 use Rattle.oim_fast.specs.declared.frame.frame.Body.{Body}
 use Rattle.oim_fast.specs.declared.frame.frame.Body.TheVariants as body

@@ -17,7 +17,7 @@ use Rattle.oim_report.specs.declared.kind.Kind.{Kind}
 use Rattle.oim_report.specs.declared.kind.Kind.TheVariants as kind
 use Rattle.oim_resolve.specs.FactValues.{ValueParts, in_form, numeral_given, plain, text_given, value_given}
 use Rattle.oim_resolve.specs.Facts.{is_absent, is_nil, is_unknown}
-use Rattle.oim_fast.specs.CellValues.{IsValue}
+use Rattle.oim_fast.specs.state.CellValues.{IsValue}
 use Rattle.oim_fast.specs.declared.frame.value.Value.{Value}
 use Rattle.oim_fast.proofs.Texts.{plain_meaning}
 

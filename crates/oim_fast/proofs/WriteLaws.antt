@@ -2,9 +2,9 @@
 use Rattle.std.proofs.Common.{◌≡◌, ◌<◌, ◌≤◌, ◌+◌, ◌-◌, ◌*◌, ℕ, zero, suc, true, List, [], ◌∷◌, ◌++◌, length, take, drop, IfSome, refl, sym, ap, ◌∙◌, arith, take-add, take-append-drop, drop-drop}
 use Rattle.std.specs.Prelude.{slice_range}
 use Rattle.std.specs.List.{slice_get}
-use Rattle.oim_fast.specs.Answers.{IsAnswer}
-use Rattle.oim_fast.specs.Pieces.{behind}
-use Rattle.oim_fast.specs.References.{ReferenceValue, given_by, is_sound_by, meaning_at_hand}
+use Rattle.oim_fast.specs.state.Answers.{IsAnswer}
+use Rattle.oim_fast.specs.state.Pieces.{behind}
+use Rattle.oim_fast.specs.state.References.{ReferenceValue, given_by, is_sound_by, meaning_at_hand}
 use Rattle.oim_fast.specs.declared.row.answer.Answer.{Answer}
 use Rattle.oim_fast.proofs.FrameTextLaws.{range_more}
 

@@ -29,7 +29,7 @@ use Rattle.std.proofs.Common.{
   inr,
   append_assoc,
 }
-use Rattle.oim_files.specs.Folders.{IsFileOf}
+use Rattle.oim_records.specs.Reads.{IsFileOf}
 use Rattle.oim_entries.specs.CsvFiles.{OrOutside}
 use Rattle.oim_records.specs.Grids.{grid}
 use Rattle.oim_report.specs.Parameters.{ParametersValue}

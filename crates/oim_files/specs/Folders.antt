@@ -1,5 +1,5 @@
 -- The files of a folder, and the folder of a path.
-use Rattle.std.specs.Prelude.{⊤, ◌≡◌, ◌≢◌, ◌⊎◌, ℕ, List, [], ◌∷◌, ◌++◌, Option, Some, None, if◌then◌else◌}
+use Rattle.std.specs.Prelude.{◌≡◌, ◌≢◌, ◌⊎◌, ℕ, List, [], ◌∷◌, ◌++◌, Option, Some, None, if◌then◌else◌}
 use Rattle.std.specs.List.{All}
 use Rattle.std.specs.Str.{bytes_eq}
 use Rattle.std.specs.Borrow.{Bor}
@@ -7,13 +7,6 @@ use Rattle.std.specs.Borrow.{Bor}
 -- the bytes of the file at each path
 abbrev pub Files : Type 0
 Files = List ℕ → Option (List ℕ)
-
--- a path without a reader has no file, and the file of a reader is the bytes that are left in it
-abbrev pub IsFileOf : {R : Type 0} → (R → Option (List ℕ)) → Option R → Option (List ℕ) → Type 0
-IsFileOf told None None = ⊤
-IsFileOf told None (Some bytes) = ⊥
-IsFileOf told (Some r) None = ⊥
-IsFileOf told (Some r) (Some bytes) = told r ≡ Some bytes
 
 -- a path up to and including its last slash, or nothing if it has none
 pub record IsFolderOf (base path : List ℕ) : Type 0 where

@@ -1,7 +1,8 @@
 //! Folders, from which the files of a report are read.
 
 ghost use Rattle.std.specs.Prelude.{◌≡◌, ℕ, List, Option, Some, None, IfSome, option_map, string_bytes};
-ghost use Rattle.oim_files.specs.Folders.{IsFileOf, IsFolderOf, first_at};
+ghost use Rattle.oim_files.specs.Folders.{IsFolderOf, first_at};
+ghost use Rattle.oim_records.specs.Reads.{IsFileOf};
 
 use std::io::Read;
 

@@ -1,7 +1,7 @@
 -- Texts that are put together and then written.
 use Rattle.std.specs.Prelude.{◌≡◌, ℕ, Bool, true, false, List, [], ◌++◌, Result, Ok, Err}
 use Rattle.std.proofs.Common.{refl, sym, ap, ◌∙◌, subst, append_assoc, append-nil}
-use Rattle.oim_json.specs.Chunks.{IsPut, Puts}
+use Rattle.oim_json.specs.state.Chunks.{IsPut, Puts}
 use Rattle.oim_json.specs.Document.{piece}
 use Rattle.oim_json.specs.Sinks.{SinkView, Broke, WritesAll, Wrote}
 use Rattle.oim_json.specs.declared.mark.WriteFault.{WriteFault}

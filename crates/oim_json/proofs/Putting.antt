@@ -2,7 +2,7 @@
 use Rattle.std.specs.Prelude.{◌≡◌, ◌+◌, ℕ, Bool, List, [], ◌++◌, Option, Some, None, take, drop, option_map, slice_get}
 use Rattle.std.proofs.Common.{refl, sym, ap, ◌∙◌, subst}
 use Rattle.oim_resolve.specs.FactParts.{FactParts as Fact}
-use Rattle.oim_json.specs.Chunks.{IsPut}
+use Rattle.oim_json.specs.state.Chunks.{IsPut}
 use Rattle.oim_json.specs.Document.{has_any, line_start, more_members, piece}
 use Rattle.oim_json.specs.JsonText.{member_text}
 use Rattle.oim_json.specs.Sinks.{SinkView, Broke}

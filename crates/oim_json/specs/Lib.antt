@@ -3,5 +3,5 @@ pub mod Document
 pub mod Blocks
 pub mod Lines
 pub mod Sinks
-pub mod Chunks
 pub mod FaultNames
+pub mod state

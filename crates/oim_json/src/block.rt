@@ -8,11 +8,11 @@ ghost use Rattle.oim_json.specs.Lines.{IsOneLine};
 ghost use Rattle.oim_json.specs.declared.layout.Layout.TheVariants.{Compact};
 
 use crate::member::push_member;
+use ghost_value::{Denotes, GhostValue};
 use oim_names::Items;
 use oim_resolve::Fact;
 use std::alloc::{AllocError, Global};
 use std::marker::Model;
-use told::{Tells, Told};
 
 /// The texts of 1 to 256 facts, joined by commas. A contract sees the list of facts; the block itself
 /// keeps only their texts and where each ends.
@@ -22,7 +22,7 @@ pub struct Block {
     bytes: Vec<u8>,
     // where each text ends
     ends: Vec<usize>,
-    facts: Told<Items<Fact>>,
+    facts: GhostValue<Items<Fact>>,
 }
 
 impl Model for Block {
@@ -37,14 +37,14 @@ impl Model for Block {
     ghost invariant = { λ b. IsBlockOf b.bytes.items b.ends.items b.facts.value };
 }
 
-/// Tells the facts that it lends.
+/// Denotes the facts that it lends.
 #[derive(Drop)]
 struct Lent<'a> {
     facts: &'a [Fact],
 }
 
-impl Tells<Items<Fact>> for Lent<'_> {
-    ghost told = { λ a. a.facts.now };
+impl Denotes<Items<Fact>> for Lent<'_> {
+    ghost denoted = { λ a. a.facts.now };
 }
 
 /// The block of 1 to 256 facts. Where memory runs out it fails.
@@ -63,14 +63,14 @@ pub fn block_of(alloc: Global, facts: &[Fact]) -> Result<Block, AllocError>
     Ok(Block {
         bytes,
         ends,
-        facts: Told::of(&Lent { facts }),
+        facts: GhostValue::of(&Lent { facts }),
     })
 }
 
 impl Block {
     /// A block from the texts of 1 to 256 facts, each behind a comma, and from where each text ends.
     /// `facts` tells contracts the facts. It takes no memory.
-    pub fn from_parts(bytes: Vec<u8>, ends: Vec<usize>, facts: Told<Items<Fact>>) -> Block
+    pub fn from_parts(bytes: Vec<u8>, ends: Vec<usize>, facts: GhostValue<Items<Fact>>) -> Block
         requires texts { bytes.items ≡ behind_commas facts.value }
         requires ends { ends.items ≡ ends_from 0 facts.value }
         requires some { 1 ≤ length facts.value }

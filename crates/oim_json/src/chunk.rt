@@ -1,7 +1,7 @@
 //! Bytes that are put together before they are written.
 
 ghost use Rattle.std.specs.Prelude.{◌≡◌, ◌≤◌, ◌+◌, ◌++◌, [], length};
-ghost use Rattle.oim_json.specs.Chunks.{Puts};
+ghost use Rattle.oim_json.specs.state.Chunks.{Puts};
 ghost use Rattle.oim_json.specs.Sinks.{WritesAll};
 
 use crate::mark::WriteFault;

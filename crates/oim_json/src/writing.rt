@@ -1,7 +1,7 @@
 //! The members of a block's facts, written in a layout.
 
 ghost use Rattle.std.specs.Prelude.{◌≡◌, ◌++◌};
-ghost use Rattle.oim_json.specs.Chunks.{Puts};
+ghost use Rattle.oim_json.specs.state.Chunks.{Puts};
 ghost use Rattle.oim_json.specs.Document.{line_start, more_members, piece};
 ghost use Rattle.oim_json.specs.Sinks.{WritesAll};
 ghost use Rattle.oim_json.specs.declared.layout.Layout.TheVariants.{Lines};

@@ -12,7 +12,7 @@ use Rattle.oim_merge.specs.declared.progress.Standing.{Standing}
 use Rattle.oim_merge.specs.declared.progress.Standing.TheVariants as standings
 use Rattle.oim_merge.specs.Histories.{tail_for, facts_before, refusals, unfinished}
 use Rattle.oim_merge.specs.Merging.{EndsWith}
-use Rattle.oim_merge.specs.Steps.{StandsAt}
+use Rattle.oim_merge.specs.state.Steps.{StandsAt}
 use Rattle.oim_merge.specs.Writers.{WriterView, given, text_so_far, whole_text, writing}
 use Rattle.oim_resolve.specs.FactParts.{FactParts as Fact}
 use Rattle.oim_ring.specs.Items.{blocks_only}

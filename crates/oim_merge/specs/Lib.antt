@@ -1,4 +1,4 @@
 pub mod Histories
 pub mod Merging
-pub mod Steps
 pub mod Writers
+pub mod state

@@ -4,11 +4,11 @@ ghost use Rattle.std.specs.Prelude.{◌++◌, ◌∷◌, []};
 ghost use Rattle.oim_json.specs.Sinks.{sink_at};
 ghost use Rattle.oim_ring.specs.declared.item.Item.TheVariants as items;
 
+use ghost_value::{Denotes, GhostValue};
 use oim_json::{Block, Mark, Sink};
 use oim_names::Items;
 use oim_ring::{Ending, Item};
 use std::marker::Model;
-use told::{Tells, Told};
 
 /// A sink as contracts see it: its mark, and the bytes that it tells. No value of this type is made.
 #[derive(Drop)]
@@ -31,8 +31,8 @@ pub(crate) struct Now<'a, W> {
     pub(crate) sink: &'a W,
 }
 
-impl<W: Sink> Tells<SinkState> for Now<'_, W> {
-    ghost told = { λ n. W.seen n.sink.now };
+impl<W: Sink> Denotes<SinkState> for Now<'_, W> {
+    ghost denoted = { λ n. W.seen n.sink.now };
 }
 
 /// Bytes.
@@ -41,35 +41,35 @@ pub(crate) struct Bytes<'a> {
     pub(crate) bytes: &'a [u8],
 }
 
-impl Tells<Items<u8>> for Bytes<'_> {
-    ghost told = { λ b. b.bytes.now };
+impl Denotes<Items<u8>> for Bytes<'_> {
+    ghost denoted = { λ b. b.bytes.now };
 }
 
 /// No items.
 pub(crate) struct NoItems;
 
-impl Tells<Items<Item>> for NoItems {
-    ghost told = { λ _. [] };
+impl Denotes<Items<Item>> for NoItems {
+    ghost denoted = { λ _. [] };
 }
 
 /// Items, and then a block.
 #[derive(Drop)]
 pub(crate) struct WithBlock<'a> {
-    pub(crate) before: &'a Told<Items<Item>>,
+    pub(crate) before: &'a GhostValue<Items<Item>>,
     pub(crate) block: &'a Block,
 }
 
-impl Tells<Items<Item>> for WithBlock<'_> {
-    ghost told = { λ n. n.before.now.value ++ items.Block n.block.now ∷ [] };
+impl Denotes<Items<Item>> for WithBlock<'_> {
+    ghost denoted = { λ n. n.before.now.value ++ items.Block n.block.now ∷ [] };
 }
 
 /// Items, and then an ending.
 #[derive(Drop)]
 pub(crate) struct WithEnding<'a> {
-    pub(crate) before: &'a Told<Items<Item>>,
+    pub(crate) before: &'a GhostValue<Items<Item>>,
     pub(crate) ending: Ending,
 }
 
-impl Tells<Items<Item>> for WithEnding<'_> {
-    ghost told = { λ n. n.before.now.value ++ items.Ending n.ending ∷ [] };
+impl Denotes<Items<Item>> for WithEnding<'_> {
+    ghost denoted = { λ n. n.before.now.value ++ items.Ending n.ending ∷ [] };
 }

@@ -5,18 +5,18 @@ ghost use Rattle.oim_json.specs.Sinks.{SinkView};
 ghost use Rattle.oim_json.specs.declared.layout.Layout.{Layout};
 ghost use Rattle.oim_merge.specs.Histories.{refusals};
 ghost use Rattle.oim_merge.specs.Merging.{EndsWith};
-ghost use Rattle.oim_merge.specs.Steps.{Advances, Begins};
+ghost use Rattle.oim_merge.specs.state.Steps.{Advances, Begins};
 ghost use Rattle.oim_merge.specs.Writers.{IsBroken, IsWritten, given, whole_text, writing};
 ghost use Rattle.oim_ring.specs.declared.item.Item.TheVariants as items;
 
 use crate::progress::{MergeEnd, Progress, Standing};
 use crate::remember::{Bytes, NoItems, Now, SinkState, WithBlock, WithEnding};
+use ghost_value::GhostValue;
 use oim_json::{Block, Layout, Sink, WriteFault, tail, write_all_of, write_members};
 use oim_names::Items;
 use oim_ring::{Ending, Item};
 use oim_rows::TableFault;
 use std::marker::Model;
-use told::Told;
 
 /// Writes a document (xBRL-JSON 1.0) to a sink: its head, the facts of blocks up to the first table that
 /// is refused, and the tail if none is. After a failed write it writes nothing more: a test shows it, and the
@@ -29,10 +29,10 @@ use told::Told;
 pub struct DocumentWriter {
     layout: Layout,
     progress: Progress,
-    head: Told<Items<u8>>,
-    items: Told<Items<Item>>,
-    before: Told<SinkState>,
-    sink: Told<SinkState>,
+    head: GhostValue<Items<u8>>,
+    items: GhostValue<Items<Item>>,
+    before: GhostValue<SinkState>,
+    sink: GhostValue<SinkState>,
 }
 
 impl Model for DocumentWriter {
@@ -40,7 +40,7 @@ impl Model for DocumentWriter {
 
     ghost Value = { WriterView };
 
-    ghost use Rattle.oim_merge.specs.Steps.{StandsAt};
+    ghost use Rattle.oim_merge.specs.state.Steps.{StandsAt};
 
     ghost view = { λ w. writing w.layout w.head.value w.items.value w.before.value w.sink.value };
 
@@ -52,15 +52,15 @@ impl DocumentWriter {
     pub fn begin<W: Sink>(layout: Layout, head: &[u8], sink: &mut W) -> DocumentWriter
         ensures { result ≡ writing layout head.now [] (W.seen sink.old) (W.seen sink.new) }
     {
-        let before = Told::of(&Now { sink: &*sink });
+        let before = GhostValue::of(&Now { sink: &*sink });
         let progress = write_head(head, sink);
         DocumentWriter {
             layout,
             progress,
-            head: Told::of(&Bytes { bytes: head }),
-            items: Told::of(&NoItems),
+            head: GhostValue::of(&Bytes { bytes: head }),
+            items: GhostValue::of(&NoItems),
             before,
-            sink: Told::of(&Now { sink: &*sink }),
+            sink: GhostValue::of(&Now { sink: &*sink }),
         }
     }
 
@@ -70,11 +70,11 @@ impl DocumentWriter {
         ensures { self.new ≡ given self.old (items.Block block.now ∷ []) (W.seen sink.new) }
     {
         write_block(block, &mut self.progress, self.layout, sink);
-        self.items = Told::of(&WithBlock {
+        self.items = GhostValue::of(&WithBlock {
             before: &self.items,
             block,
         });
-        self.sink = Told::of(&Now { sink: &*sink });
+        self.sink = GhostValue::of(&Now { sink: &*sink });
     }
 
     /// Takes the ending of a table. If the table is refused, its fault is appended to `faults`, which must
@@ -87,7 +87,7 @@ impl DocumentWriter {
         ensures room { vec_capacity faults.new ≡ vec_capacity faults.old }
     {
         note_ending(ending, &mut self.progress, faults);
-        self.items = Told::of(&WithEnding {
+        self.items = GhostValue::of(&WithEnding {
             before: &self.items,
             ending,
         });

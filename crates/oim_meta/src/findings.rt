@@ -5,10 +5,10 @@ ghost use Rattle.oim_meta.specs.Findings.{finding, found, first_of, seen_found};
 ghost use Rattle.oim_meta.specs.Paths.{place_path};
 
 use crate::place::Place;
+use ghost_value::{Denotes, GhostValue};
 use oim_entries::MetaFault;
 use oim_names::{Items, Text};
 use std::marker::Model;
-use told::{Tells, Told};
 
 /// A fault, and the keys that lead to its place, the outermost first; no keys for the metadata as a whole.
 #[derive(Drop)]
@@ -29,7 +29,7 @@ pub(crate) struct Found<'v> {
 #[derive(Drop)]
 pub(crate) struct Findings<'v> {
     first: Option<Found<'v>>,
-    all: Told<Items<Finding>>,
+    all: GhostValue<Items<Finding>>,
 }
 
 impl<'v> Model for Findings<'v> {
@@ -47,12 +47,12 @@ impl<'v> Model for Findings<'v> {
 /// The findings so far, and one more.
 #[derive(Drop)]
 struct OneMore<'a, 'v> {
-    before: &'a Told<Items<Finding>>,
+    before: &'a GhostValue<Items<Finding>>,
     last: &'a Found<'v>,
 }
 
-impl<'a, 'v> Tells<Items<Finding>> for OneMore<'a, 'v> {
-    ghost told = { λ t. t.before.now.value ++ seen_found t.last.now ∷ [] };
+impl<'a, 'v> Denotes<Items<Finding>> for OneMore<'a, 'v> {
+    ghost denoted = { λ t. t.before.now.value ++ seen_found t.last.now ∷ [] };
 }
 
 impl<'v> Findings<'v> {
@@ -63,7 +63,7 @@ impl<'v> Findings<'v> {
     {
         Findings {
             first: None,
-            all: Told::seen(nothing),
+            all: GhostValue::seen(nothing),
         }
     }
 
@@ -80,7 +80,7 @@ impl<'v> Findings<'v> {
     {
         let last = Found { fault, place };
         let before = &self.all;
-        let all = Told::of(&OneMore {
+        let all = GhostValue::of(&OneMore {
             before,
             last: &last,
         });

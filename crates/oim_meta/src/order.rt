@@ -27,6 +27,7 @@ fn repeats_earlier(alloc: Global, members: &Map<String, Value>) -> Result<bool, 
 pub(crate) fn repeats_text(alloc: Global, members: &Map<String, Value>) -> Result<bool, AllocError>
     ensures { IfOk result (λ repeats. repeats ≡ repeated (members_view members.now.entries)) }
 {
+    // For the proof: there are no more members than a number can count.
     let _ = members.len();
     repeats_earlier(alloc, members)
 }

@@ -5,5 +5,5 @@ pub mod Names
 pub mod Unit
 pub mod Language
 pub mod Fault
-pub mod Texts
 pub mod PlainPath
+pub mod state

@@ -34,7 +34,7 @@ pub struct Text {
 
 impl Model for Text {
     ghost use Rattle.std.specs.Prelude.{ℕ, List};
-    ghost use Rattle.oim_names.specs.Texts.{bytes_in};
+    ghost use Rattle.oim_names.specs.state.Texts.{bytes_in};
 
     ghost Value = { List ℕ };
 

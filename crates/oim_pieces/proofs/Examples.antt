@@ -13,9 +13,9 @@ use Rattle.oim_rows.specs.Streams.{Stream, ending, stream_from}
 use Rattle.oim_rows.specs.declared.fault.TableFault.{TableFault}
 use Rattle.oim_rows.specs.declared.fault.TableKind.TheVariants as kind
 use Rattle.oim_decode.specs.Apart.{Apart, apart_from}
-use Rattle.oim_pieces.specs.Comings.{Comes}
+use Rattle.oim_pieces.specs.state.Comings.{Comes}
 use Rattle.oim_pieces.specs.Cutting.{IsOver, TakesRows, left_over}
-use Rattle.oim_pieces.specs.Flights.{AreChained, EndsWith, FewerSteps, FlyingPiece, IsAnswer, IsEnd, IsFront, KeepsEnd, KeepsStream, NoMoreSteps, behind, first_of, left_of, rows_in, rows_left, steps_for, steps_in, stream_in}
+use Rattle.oim_pieces.specs.Flights.{AreChained, EndsWith, FewerSteps, FlyingPiece, IsAnswer, IsEnd, IsFront, KeepsEnd, KeepsStream, NoMoreSteps, behind, first_of, rows_in, rows_left, steps_for, steps_in, stream_in}
 use Rattle.oim_pieces.specs.declared.decoded.Asked.{Asked}
 use Rattle.oim_pieces.specs.declared.flying.Coming.TheVariants.{Here, Thread}
 
@@ -106,12 +106,9 @@ stream_of_the_cutter = refl
 kept : KeepsStream (Some (ending None)) (Some (ending None)) × (KeepsStream (Some (ending None)) None → ⊥)
 kept = (refl, λ h. absurd (cc h))
 
--- ENDS. An end that was found stays, whatever else is left; behind a fault nothing comes
+-- ENDS. Behind a fault nothing comes
 abbrev one : Stream
 one = record { rows = [] ∷ []; fault = None }
-
-left_of_a_table : (left_of None (Some one) ≡ Some one) × (left_of (Some None) (Some one) ≡ Some (ending None)) × (left_of (Some (Some read)) None ≡ Some (ending (Some read)))
-left_of_a_table = (refl, refl, refl)
 
 behind_a_piece : (behind None (Some one) ≡ Some one) × (behind (Some read) (Some one) ≡ Some (ending (Some read))) × (behind (Some read) None ≡ Some (ending (Some read)))
 behind_a_piece = (refl, refl, refl)

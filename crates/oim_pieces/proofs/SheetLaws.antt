@@ -7,8 +7,8 @@ use Rattle.oim_decode.specs.Apart.{Apart}
 use Rattle.oim_decode.specs.PieceAnswers.{refused}
 use Rattle.oim_decode.proofs.HeadLaws.{refused_decoded}
 use Rattle.oim_pieces.specs.Flights.{IsAnswer}
-use Rattle.oim_pieces.specs.Lines.{IsHow, IsLine, how_in}
-use Rattle.oim_pieces.specs.Sheets.{FitsPiece, IsAnswerIn, IsOf, IsPiece, IsReadBy}
+use Rattle.oim_pieces.specs.state.Lines.{IsHow, IsLine, how_in}
+use Rattle.oim_pieces.specs.state.Sheets.{FitsPiece, IsAnswerIn, IsOf, IsPiece, IsReadBy}
 use Rattle.oim_pieces.specs.declared.decoded.Asked.{Asked}
 use Rattle.oim_pieces.specs.declared.sheet.How.{How}
 use Rattle.oim_pieces.specs.declared.sheet.Question.{Question}

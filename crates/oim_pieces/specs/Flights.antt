@@ -52,11 +52,6 @@ stream_in f = rows_left f.reading f.ids f.pieces f.cutter.next f.cutter.left
 abbrev pub KeepsStream : Option Stream → Option Stream → Type 0
 KeepsStream old new = IfSome old (λ s. new ≡ Some s)
 
--- the stream that is left of a table: its end once that was found, or else this one
-abbrev pub left_of : Option (Option TableFault) → Option Stream → Option Stream
-left_of None left = left
-left_of (Some end) left = Some (ending end)
-
 -- what is left behind a piece: nothing but its fault, or what comes next
 abbrev pub behind : Option TableFault → Option Stream → Option Stream
 behind None next = next

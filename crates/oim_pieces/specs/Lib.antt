@@ -1,5 +1,3 @@
 pub mod Cutting
 pub mod Flights
-pub mod Sheets
-pub mod Lines
-pub mod Comings
+pub mod state

@@ -1,8 +1,8 @@
 //! The threads of a table, which stay until the table is over.
 
 ghost use Rattle.std.specs.Prelude.{◌≡◌, IfErr, IfOk, IfSome, None, Some};
-ghost use Rattle.oim_pieces.specs.Lines.{IsHow, IsLine};
-ghost use Rattle.oim_pieces.specs.Sheets.{IsPiece, IsReadBy};
+ghost use Rattle.oim_pieces.specs.state.Lines.{IsHow, IsLine};
+ghost use Rattle.oim_pieces.specs.state.Sheets.{IsPiece, IsReadBy};
 
 use crate::bins::Bins;
 use crate::decoded::Asked;

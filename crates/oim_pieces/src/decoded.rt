@@ -4,42 +4,42 @@ ghost use Rattle.std.specs.Prelude.{◌≡◌, drop};
 ghost use Rattle.csv.specs.declared.parser.State.TheVariants as state;
 ghost use Rattle.oim_records.specs.Grids.{records_left};
 
+use ghost_value::{Denotes, GhostValue};
 use oim_decode::TableHead;
 use oim_rows::RowForm;
 use std::snapshot::Snapshot;
-use told::{Tells, Told};
 
 /// Which rows are asked for: how they are read, the number of the first, and, for contracts alone, the rows.
 #[derive(Drop)]
 pub(crate) struct Asked<'a> {
     pub(crate) reading: Snapshot<RowForm<'a>>,
     pub(crate) first: u32,
-    pub(crate) rows: Told<TableHead>,
+    pub(crate) rows: GhostValue<TableHead>,
 }
 
-/// Tells the records of a piece.
+/// Denotes the records of a piece.
 #[derive(Drop)]
 struct RecordsOf<'a> {
     bytes: &'a Vec<u8>,
 }
 
-impl Tells<TableHead> for RecordsOf<'_> {
+impl Denotes<TableHead> for RecordsOf<'_> {
     ghost use Rattle.csv.specs.declared.parser.State.TheVariants as state;
     ghost use Rattle.oim_records.specs.Grids.{records_left};
 
-    ghost told = { λ a. records_left state.StartRecord a.bytes.now.items };
+    ghost denoted = { λ a. records_left state.StartRecord a.bytes.now.items };
 }
 
-/// Tells the records behind the header of a head.
+/// Denotes the records behind the header of a head.
 #[derive(Drop)]
 struct RowsBehind<'a> {
     head: &'a TableHead,
 }
 
-impl Tells<TableHead> for RowsBehind<'_> {
+impl Denotes<TableHead> for RowsBehind<'_> {
     ghost use Rattle.std.specs.Prelude.{drop};
 
-    ghost told = { λ a. drop 1 a.head.now };
+    ghost denoted = { λ a. drop 1 a.head.now };
 }
 
 impl<'a> Asked<'a> {
@@ -50,7 +50,7 @@ impl<'a> Asked<'a> {
         Asked {
             reading: Snapshot::of(form),
             first,
-            rows: Told::of(&RecordsOf { bytes }),
+            rows: GhostValue::of(&RecordsOf { bytes }),
         }
     }
 
@@ -61,7 +61,7 @@ impl<'a> Asked<'a> {
         Asked {
             reading: Snapshot::of(form),
             first: 1,
-            rows: Told::of(&RowsBehind { head }),
+            rows: GhostValue::of(&RowsBehind { head }),
         }
     }
 }

@@ -4,8 +4,8 @@ ghost use Rattle.std.specs.Prelude.{◌≡◌, ◌≤◌, ◌+◌, IfSome, Some}
 ghost use Rattle.csv.specs.declared.parser.State.TheVariants as state;
 ghost use Rattle.oim_records.specs.Grids.{records_left};
 ghost use Rattle.oim_pieces.specs.Flights.{IsAnswer};
-ghost use Rattle.oim_pieces.specs.Lines.{IsLine};
-ghost use Rattle.oim_pieces.specs.Sheets.{FitsPiece, IsAnswerIn, IsReadBy};
+ghost use Rattle.oim_pieces.specs.state.Lines.{IsLine};
+ghost use Rattle.oim_pieces.specs.state.Sheets.{FitsPiece, IsAnswerIn, IsReadBy};
 
 use crate::crew::Crew;
 use crate::cutter::CutPiece;
@@ -34,7 +34,7 @@ pub(crate) struct Flying<'a> {
 
 impl<'a> Model for Flying<'a> {
     ghost use Rattle.oim_pieces.specs.Flights.{FlyingPiece};
-    ghost use Rattle.oim_pieces.specs.Comings.{Comes};
+    ghost use Rattle.oim_pieces.specs.state.Comings.{Comes};
 
     ghost Value = { FlyingPiece };
 

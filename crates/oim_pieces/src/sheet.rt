@@ -1,7 +1,7 @@
 //! What lies in the channel of a piece: the piece, until it is drawn, and then its answer.
 
 ghost use Rattle.std.specs.Prelude.{◌≡◌};
-ghost use Rattle.oim_pieces.specs.Sheets.{IsPiece};
+ghost use Rattle.oim_pieces.specs.state.Sheets.{IsPiece};
 
 use crate::decoded::Asked;
 use keyed::{Fit, Giver, Taker};
@@ -37,7 +37,7 @@ pub(crate) enum Sheet<'a> {
 pub(crate) struct OfPiece;
 
 impl<'a> Fit<Asked<'a>, Sheet<'a>> for OfPiece {
-    ghost use Rattle.oim_pieces.specs.Sheets.{FitsPiece, asked_in};
+    ghost use Rattle.oim_pieces.specs.state.Sheets.{FitsPiece, asked_in};
 
     ghost key = { asked_in };
 
@@ -60,8 +60,8 @@ pub(crate) struct How<'a> {
 pub(crate) struct OfTable;
 
 impl<'a> Fit<How<'a>, Job<'a>> for OfTable {
-    ghost use Rattle.oim_pieces.specs.Lines.{how_in};
-    ghost use Rattle.oim_pieces.specs.Sheets.{IsReadBy};
+    ghost use Rattle.oim_pieces.specs.state.Lines.{how_in};
+    ghost use Rattle.oim_pieces.specs.state.Sheets.{IsReadBy};
 
     ghost key = { how_in };
 

@@ -36,7 +36,8 @@ pub struct TablePieces<'a, R: Read + Drop> {
 
 impl<'a, R: Read + Drop> Model for TablePieces<'a, R> {
     ghost use Rattle.std.specs.Prelude.{length};
-    ghost use Rattle.oim_pieces.specs.Flights.{PiecesLeft, left_of, stream_in};
+    ghost use Rattle.oim_decode.specs.Blocks.{left_of};
+    ghost use Rattle.oim_pieces.specs.Flights.{PiecesLeft, stream_in};
 
     ghost Value = { PiecesLeft };
 

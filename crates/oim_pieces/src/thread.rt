@@ -1,8 +1,8 @@
 //! What a thread of a table does.
 
 ghost use Rattle.std.specs.Prelude.{◌≡◌, IfSome};
-ghost use Rattle.oim_pieces.specs.Lines.{IsHow};
-ghost use Rattle.oim_pieces.specs.Sheets.{IsReadBy};
+ghost use Rattle.oim_pieces.specs.state.Lines.{IsHow};
+ghost use Rattle.oim_pieces.specs.state.Sheets.{IsReadBy};
 
 use crate::bins::Bin;
 use crate::decoders::Decoders;

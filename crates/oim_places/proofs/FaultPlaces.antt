@@ -2,7 +2,8 @@
 use Rattle.std.proofs.Common.{◌≡◌, ◌∙◌, ◌⊎◌, ℕ, zero, suc, List, [], ◌∷◌, Option, Some, None, Result, Ok, Err, IfOk, IfSome, true, false, ap, inl, inr, refl, subst, sym, unwrap_or}
 use Rattle.std.specs.Prelude.{⊤}
 use Rattle.csv.specs.Records.{fields_of}
-use Rattle.oim_files.specs.Folders.{Files, IsFileOf, IsFolderOf}
+use Rattle.oim_files.specs.Folders.{Files, IsFolderOf}
+use Rattle.oim_records.specs.Reads.{IsFileOf}
 use Rattle.oim_files.specs.Metadata.{profile}
 use Rattle.oim_files.specs.Steps.{IsReport}
 use Rattle.oim_records.specs.Grids.{Record, grid}

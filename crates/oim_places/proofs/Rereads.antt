@@ -4,8 +4,7 @@ use Rattle.std.proofs.lemmas.Option.{IfSome_then, slice_get_past}
 use Rattle.csv.proofs.RoundTrip.{read-write-many}
 use Rattle.csv.specs.Writing.{default_writer, row_text}
 use Rattle.oim_records.specs.Grids.{Field, Record, grid}
-use Rattle.oim_records.specs.Reads.{TakesRecord}
-use Rattle.oim_files.specs.Folders.{IsFileOf}
+use Rattle.oim_records.specs.Reads.{IsFileOf, TakesRecord}
 use Rattle.oim_places.specs.FaultPlaces.{FoundIn, HasRow, TakesNth}
 use Rattle.oim_places.specs.FaultRows.{IsTextOf}
 use Rattle.oim_files.specs.Folders.{Files}

@@ -5,8 +5,8 @@ use Rattle.std.specs.List.{prefix_len}
 use Rattle.std.proofs.lemmas.List.{get_or-drop, length-drop}
 use Rattle.std.proofs.lemmas.List.Sums.{prefix_len_is}
 use native.Mathlib.Decide.{dec_lt}
-use Rattle.oim_records.specs.Bytes.{ends_field, joins_field}
-use Rattle.oim_records.specs.Fields.{IsReadTo}
+use Rattle.oim_records.specs.state.Bytes.{ends_field, joins_field}
+use Rattle.oim_records.specs.state.Fields.{IsReadTo}
 use Rattle.oim_records.specs.declared.field.FieldRange.{FieldRange}
 use Rattle.oim_records.proofs.FieldReads.{plain-field}
 use Rattle.oim_records.proofs.RecordReads.{comma-reads, field-pushed}

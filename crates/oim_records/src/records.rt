@@ -4,7 +4,7 @@ ghost use Rattle.std.specs.Prelude.{◌≡◌, [], option_map, MatchResult, Some
 ghost use Rattle.csv.specs.Reading.{stops_reader};
 ghost use Rattle.csv.specs.Records.{fields_of};
 ghost use Rattle.oim_records.specs.Grids.{grid};
-ghost use Rattle.oim_records.specs.ReadFaults.{fault_of_kind};
+ghost use Rattle.oim_records.specs.state.ReadFaults.{fault_of_kind};
 ghost use Rattle.oim_records.specs.Reads.{TakesRecord};
 
 use crate::read_fault::ReadFault;
@@ -39,7 +39,7 @@ impl<R: Read> Model for Records<R> {
     ghost use Rattle.std.specs.Prelude.{List, [], Option, Some, option_map, if◌then◌else◌};
     ghost use Rattle.csv.specs.Reading.{reader_state, source_of};
     ghost use Rattle.oim_records.specs.Grids.{Record, records_left};
-    ghost use Rattle.oim_records.specs.PlainReaders.{IsPlainUnlessFailed};
+    ghost use Rattle.oim_records.specs.state.PlainReaders.{IsPlainUnlessFailed};
 
     ghost Value = { Option (List Record) };
 

@@ -194,6 +194,7 @@ impl Report {
         ensures order { PartsRise self.now.level self.now.templates self.now.tables }
         ensures identifiers { HaveIdentifiers self.now.templates self.now.tables }
     {
+        // For the proof: what the type keeps is at hand where a field is looked at.
         let _level = &self.level;
     }
 

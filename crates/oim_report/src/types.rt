@@ -6,17 +6,17 @@ ghost use Rattle.oim_report.specs.Types.{kind_in, with_kind};
 use crate::kind::Kind;
 use crate::named::Named;
 use crate::typed_name::TypedName;
+use ghost_value::{Denotes, GhostValue};
 use oim_names::Items;
 use std::alloc::{AllocError, Global};
 use std::marker::Model;
-use told::{Tells, Told};
 
 /// The types of concepts and dimensions, which take the place of the taxonomy (XBRL 2.1, XBRL Dimensions 1.0).
 /// A contract sees the records of the types table, in file order.
 #[derive(Drop)]
 pub struct Types {
     namespaces: Named<Named<Kind>>,
-    records: Told<Items<TypedName>>,
+    records: GhostValue<Items<TypedName>>,
 }
 
 impl Model for Types {
@@ -43,14 +43,14 @@ impl Clone for Types {
 /// The records of some types, and one more.
 #[derive(Drop)]
 struct OneMore<'a> {
-    before: &'a Told<Items<TypedName>>,
+    before: &'a GhostValue<Items<TypedName>>,
     uri: &'a str,
     local: &'a str,
     kind: Kind,
 }
 
-impl Tells<Items<TypedName>> for OneMore<'_> {
-    ghost told = { λ t. with_kind t.before.now.value t.uri.now t.local.now t.kind };
+impl Denotes<Items<TypedName>> for OneMore<'_> {
+    ghost denoted = { λ t. with_kind t.before.now.value t.uri.now t.local.now t.kind };
 }
 
 impl Types {
@@ -71,7 +71,7 @@ impl Types {
     {
         Types {
             namespaces: Named::new(alloc),
-            records: Told::seen(&Items::new(alloc)),
+            records: GhostValue::seen(&Items::new(alloc)),
         }
     }
 
@@ -94,7 +94,7 @@ impl Types {
         let before = &records;
         Ok(Types {
             namespaces,
-            records: Told::of(&OneMore {
+            records: GhostValue::of(&OneMore {
                 before,
                 uri,
                 local,

@@ -20,14 +20,14 @@ use Rattle.oim_report.specs.Readers.{column_of, template_of}
 use Rattle.oim_report.specs.declared.data.Level.{Level}
 use Rattle.oim_report.specs.declared.data.Written.{Written}
 use Rattle.oim_resolve.specs.Cell.{Cell, column, meaning_at}
-use Rattle.oim_resolve.specs.ProgramLevels.{named, merged_at, merged_levels, written_names, put_levels}
-use Rattle.oim_resolve.specs.ProgramDimensions.{row_entries, written_entries}
+use Rattle.oim_resolve.specs.ProgramLevels.{named, merged_at, merged_levels, written_entries, written_names, put_levels}
+use Rattle.oim_resolve.specs.state.ProgramDimensions.{row_entries}
 use Rattle.oim_resolve.specs.Order.{IsAscending}
 use Rattle.oim_resolve.specs.ProgramPlan.{Entry, Keyed, entry_in, group_in, planned_levels, planned_column, planned_level}
 use Rattle.oim_resolve.specs.ProgramPlan.{put_entry, put_entries, keep, over, with_named, seen_planned, seen_keyed, seen_flagged, seen_group}
 use Rattle.oim_resolve.specs.declared.plan.dimension.PlannedDimension.{PlannedDimension}
 use Rattle.oim_resolve.specs.declared.plan.group.PlannedGroup.{PlannedGroup}
-use Rattle.oim_resolve.specs.Rows.{planned_named, planned_groups, row_map}
+use Rattle.oim_resolve.specs.state.Rows.{planned_named, planned_groups, row_map}
 use Rattle.oim_resolve.specs.Written.{put_name, names, written, levels, named_groups, group_named}
 use Rattle.oim_resolve.proofs.Ascending.{order, Precedes, turned, earlier, IsAscending-put, IsAscending-fold, IsAscending-names}
 use Rattle.oim_resolve.proofs.Merges.{names_merged, value_at-merged, picked, pick_written}

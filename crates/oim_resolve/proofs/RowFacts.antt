@@ -16,10 +16,10 @@ use Rattle.oim_resolve.specs.Cell.{Cell}
 use Rattle.oim_resolve.specs.Facts.{given, role_of, is_dropped, value_faults_of, entry_given, value_read, dimension_faults, dimension_entry, named_entry, concept_read}
 use Rattle.oim_resolve.specs.Faults.{least, unless, both}
 use Rattle.oim_resolve.specs.ProgramLevels.{named}
-use Rattle.oim_resolve.specs.ProgramDimensions.{Dimensions, dimension_read, named_read, dimensions_of, dimension_concept, row_meaning, row_entries}
+use Rattle.oim_resolve.specs.state.ProgramDimensions.{Dimensions, dimension_read, named_read, dimensions_of, dimension_concept, row_meaning, row_entries}
 use Rattle.oim_resolve.specs.ProgramPlan.{Entry, entry_in}
 use Rattle.oim_resolve.specs.Values.{value, side_of}
-use Rattle.oim_resolve.specs.Rows.{row_map}
+use Rattle.oim_resolve.specs.state.Rows.{row_map}
 use Rattle.oim_resolve.specs.Written.{names, written, levels}
 use Rattle.oim_resolve.proofs.LeastFaults.{both_unless, joined, joined-assoc, joined-nothing, nothing-joined}
 use Rattle.oim_resolve.proofs.Overlays.{row_lookup}

@@ -6,10 +6,8 @@ pub mod Faults
 pub mod FactValues
 pub mod Facts
 pub mod Order
-pub mod Rows
-pub mod ProgramPlace
 pub mod ProgramCell
 pub mod ProgramValues
 pub mod ProgramLevels
 pub mod ProgramPlan
-pub mod ProgramDimensions
+pub mod state

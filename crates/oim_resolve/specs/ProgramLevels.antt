@@ -12,6 +12,10 @@ abbrev pub named : {V : Type 0} → List ℕ → Option V → List (List ℕ × 
 named n None = []
 named n (Some v) = (n, v) ∷ []
 
+-- what the levels write, in byte order of names
+abbrev pub written_entries : List Level → List (List ℕ × Written)
+written_entries ls = flat_map (λ n. named n (written ls n)) (names ls)
+
 -- what three levels write for a name, and whether the last does
 abbrev pub merged_at : Level → Level → Level → List ℕ → Option (Written × Bool)
 merged_at report template column n =

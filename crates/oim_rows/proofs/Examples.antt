@@ -23,12 +23,11 @@ use Rattle.oim_rows.specs.FaultNames.{name_of, number_of}
 use Rattle.oim_records.specs.declared.read_fault.ReadFault.TheVariants as read
 use Rattle.oim_rows.specs.Header.{fault_at, file_fault, file_header_fault, header_fault, header_of, is_column, names_row_id}
 use Rattle.oim_rows.specs.Identifiers.{facts_of_tables}
-use Rattle.oim_rows.specs.Progressing.{answered_of, left_of}
+use Rattle.oim_rows.specs.state.Progressing.{left_of}
 use Rattle.oim_rows.specs.RowFacts.{Reading, cell_at, early_fact_at, fact_at, facts_from, holds_facts, id_kind, is_fact_column, row_fault, row_id_text, row_result, source_of_column}
 use Rattle.oim_rows.specs.Streams.{answer_of, early_header_fault, early_row_answer, ending, facts_of, fault_of_read, kept_answer, row_answer, stream_from, stream_of, table_stream}
 use Rattle.oim_rows.specs.WholeTable.{ids_of, row_after, row_at}
 use Rattle.oim_rows.specs.declared.fault.TableKind.TheVariants as kind
-use Rattle.oim_rows.specs.declared.rows.Progress.TheVariants as progress
 
 abbrev columns : List Column
 columns =
@@ -260,9 +259,6 @@ kept_answers = (refl, refl, refl)
 answers_again : (answer_of None ≡ Ok None) × (answer_of (Some (file_fault 0 kind.Read)) ≡ Err (file_fault 0 kind.Read))
 answers_again = (refl, refl)
 
-progress_answers : (answered_of progress.Reading ≡ None) × (answered_of progress.Ended ≡ Some None) × (answered_of (progress.Failed (file_fault 0 kind.Read)) ≡ Some (Some (file_fault 0 kind.Read)))
-progress_answers = (refl, refl, refl)
-
-progress_left : (left_of progress.Reading reading 1 [] (Some []) ≡ Some (ending None)) × (left_of progress.Reading reading 1 [] None ≡ None) × (left_of progress.Ended reading 1 [] (Some []) ≡ None)
+rows_left : (left_of None reading 1 [] (Some []) ≡ Some (ending None)) × (left_of None reading 1 [] None ≡ None) × (left_of (Some None) reading 1 [] (Some []) ≡ None)
 unfolding stream_from
-progress_left = (refl, refl, refl)
+rows_left = (refl, refl, refl)

@@ -2,9 +2,7 @@ pub mod FaultNames
 pub mod Header
 pub mod RowFacts
 pub mod Streams
-pub mod KeptIds
 pub mod Left
-pub mod Decoding
-pub mod Progressing
 pub mod WholeTable
 pub mod Identifiers
+pub mod state

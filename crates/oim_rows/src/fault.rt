@@ -223,8 +223,8 @@ pub(crate) fn fault_of_whole_row(table: usize, row: u32, kind: TableKind) -> Tab
     }
 }
 
-/// A fault of a row at a place in the header, from 0.
-pub(crate) fn fault_at_place(table: usize, row: u32, place: usize, kind: TableKind) -> TableFault
+/// A fault of a row at a place in the header, from 0. A place above the greatest 32-bit number is given as that number.
+pub fn fault_at_place(table: usize, row: u32, place: usize, kind: TableKind) -> TableFault
     ensures { result ≡ fault_at table row (place + 1) kind }
 {
     let column = if place < u32::MAX as usize {

@@ -24,13 +24,13 @@ enum Kept {
 /// The identifier of a row. One of up to 23 bytes stands in the value itself, so that it takes no memory of its own. A contract
 /// sees its bytes.
 #[derive(Drop)]
-pub(crate) struct RowId {
+pub struct RowId {
     kept: Kept,
 }
 
 impl Model for RowId {
     ghost use Rattle.std.specs.Prelude.{List, ℕ};
-    ghost use Rattle.oim_rows.specs.KeptIds.{bytes_kept};
+    ghost use Rattle.oim_rows.specs.state.KeptIds.{bytes_kept};
 
     ghost Value = { List ℕ };
 
@@ -38,8 +38,9 @@ impl Model for RowId {
 }
 
 impl RowId {
-    /// A copy of a text. Fails if memory runs out, which it does not for a short one.
-    pub(crate) fn new(alloc: Global, text: &str) -> Result<RowId, AllocError>
+    /// A copy of a text. Fails where memory is short, which it is not for a text of up to 23 bytes.
+    #[inline]
+    pub fn new(alloc: Global, text: &str) -> Result<RowId, AllocError>
         ensures { IfOk result (λ id. id ≡ text.now) }
     {
         let kept = match ArrayString::from(text) {
@@ -50,7 +51,8 @@ impl RowId {
     }
 
     /// The text.
-    fn as_str(&self) -> &str
+    #[inline]
+    pub fn as_str(&self) -> &str
         ensures { result.now ≡ self.now }
     {
         match &self.kept {

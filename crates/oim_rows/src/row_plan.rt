@@ -33,7 +33,7 @@ pub struct RowPlan<'a> {
 
 impl<'a> Model for RowPlan<'a> {
     ghost use Rattle.oim_rows.specs.RowFacts.{Reading};
-    ghost use Rattle.oim_rows.specs.Decoding.{IsOfTable};
+    ghost use Rattle.oim_rows.specs.state.Decoding.{IsOfTable};
 
     ghost Value = { Reading };
 

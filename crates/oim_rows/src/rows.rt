@@ -22,14 +22,6 @@ use std::marker::Model;
 /// The facts of one row, in header order.
 pub type RowFacts = Items<Fact>;
 
-/// What `next` does.
-#[derive(Clone, Copy)]
-enum Progress {
-    Reading,
-    Ended,
-    Failed(TableFault),
-}
-
 /// The rows of one table that are left (xBRL-CSV 1.0, table files: the first record is the header, and each
 /// record behind it a row). It borrows the table's report. A contract sees the table's place, the limit,
 /// how many rows were given, what is answered again once it is settled, and, where the reader tells its
@@ -41,7 +33,8 @@ pub struct Rows<'a, R: Read + Drop> {
     records: RecordReader<R>,
     ids: RowIds,
     given: u32,
-    progress: Progress,
+    // the end or the fault that was found
+    settled: Option<Option<TableFault>>,
 }
 
 impl<'a, R: Read + Drop> Model for Rows<'a, R> {
@@ -50,14 +43,14 @@ impl<'a, R: Read + Drop> Model for Rows<'a, R> {
 
     ghost Value = { RowsLeft };
 
-    ghost use Rattle.oim_rows.specs.Progressing.{answered_of, left_of};
+    ghost use Rattle.oim_rows.specs.state.Progressing.{left_of};
 
     ghost view = { λ a. record {
       table = a.decoder.table;
       limit = a.decoder.limit;
       given = a.given;
-      answered = answered_of a.progress;
-      left = left_of a.progress a.decoder (a.given + 1) a.ids a.records.left;
+      answered = a.settled;
+      left = left_of a.settled a.decoder (a.given + 1) a.ids a.records.left;
       unread = a.records.left;
     } };
 
@@ -149,7 +142,7 @@ impl<'a, R: Read + Drop> Rows<'a, R> {
             records,
             ids: RowIds::new(alloc),
             given: 0,
-            progress: Progress::Reading,
+            settled: None,
         })
     }
 
@@ -167,10 +160,10 @@ impl<'a, R: Read + Drop> Rows<'a, R> {
         ensures same { (self.new.table ≡ self.old.table) × (self.new.limit ≡ self.old.limit) }
         ensures counts { IfOk result (λ o. OnSome o ((self.new.given ≡ self.old.given + 1) × (self.new.given ≤ self.new.limit))) }
     {
-        match self.progress {
-            Progress::Reading => {}
-            Progress::Ended => return Ok(None),
-            Progress::Failed(fault) => return Err(fault),
+        match self.settled {
+            None => {}
+            Some(None) => return Ok(None),
+            Some(Some(fault)) => return Err(fault),
         }
         let number = self.given + 1;
         match read_row(
@@ -185,11 +178,11 @@ impl<'a, R: Read + Drop> Rows<'a, R> {
                 Ok(Some(facts))
             }
             Ok(None) => {
-                self.progress = Progress::Ended;
+                self.settled = Some(None);
                 Ok(None)
             }
             Err(fault) => {
-                self.progress = Progress::Failed(fault);
+                self.settled = Some(Some(fault));
                 Err(fault)
             }
         }

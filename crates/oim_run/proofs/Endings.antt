@@ -4,7 +4,8 @@ use Rattle.std.proofs.Common.{refl, sym, ap, subst, ◌∙◌, inl, inr}
 use Rattle.std.proofs.lemmas.List.{length-append, map_more}
 use Rattle.std.specs.Io.KnownBytes.{Appends, Keeps}
 use Rattle.oim_convert.specs.Answer.{IsAnswer, streams}
-use Rattle.oim_convert.specs.Files.{AreFilesOf, IsFileOf}
+use Rattle.oim_convert.specs.Files.{AreFilesOf}
+use Rattle.oim_records.specs.Reads.{IsFileOf}
 use Rattle.oim_convert.specs.Runs.{AnswersFault, AreHistories, AreStreams, AreUncut, Writes, early_fault}
 use Rattle.oim_convert.specs.declared.fault.ConvertFault.{ConvertFault}
 use Rattle.oim_convert.specs.declared.fault.ConvertFault.TheVariants as fault
@@ -23,7 +24,7 @@ use Rattle.oim_files.specs.Metadata.{profile}
 use Rattle.oim_run.specs.Buffers.{Buffered, flushed, told_behind}
 use Rattle.std.specs.Borrow.{Bor}
 use Rattle.oim_files.specs.Folders.{Files, IsFolderOf, first_at}
-use Rattle.oim_run.specs.Naming.{outcome_by}
+use Rattle.oim_run.specs.state.Naming.{outcome_by}
 use Rattle.oim_run.specs.Outcomes.{EndsAs, Leaves, table_ids}
 use Rattle.oim_run.specs.Runs.{EndsOver, files_of, range_fault, table_file, table_files}
 use Rattle.oim_files.specs.Steps.{IsReport}

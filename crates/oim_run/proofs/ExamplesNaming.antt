@@ -10,7 +10,7 @@ use Rattle.oim_resolve.specs.declared.fact.CellFault.TheVariants as cell
 use Rattle.oim_rows.specs.Header.{fault_at}
 use Rattle.oim_rows.specs.declared.fault.TableFault.{TableFault}
 use Rattle.oim_rows.specs.declared.fault.TableKind.TheVariants as table
-use Rattle.oim_run.specs.Naming.{outcome_alone, outcome_at, outcome_by, with_names}
+use Rattle.oim_run.specs.state.Naming.{outcome_alone, outcome_at, outcome_by, with_names}
 use Rattle.oim_run.specs.declared.outcome.Outcome.TheVariants as outcome
 
 -- NAMES

@@ -22,7 +22,7 @@ use Rattle.oim_ring.specs.declared.item.Item.{Item}
 use Rattle.oim_ring.specs.declared.item.Item.TheVariants.{Ending}
 use Rattle.oim_rows.specs.Streams.{Stream, table_stream}
 use Rattle.oim_rows.specs.declared.fault.TableFault.{TableFault}
-use Rattle.oim_run.specs.Naming.{with_names}
+use Rattle.oim_run.specs.state.Naming.{with_names}
 use Rattle.oim_run.specs.Outcomes.{name_in, named_by, refused_tables, table_ids}
 
 -- ONE FAULT OF A TABLE, IN TABLE ORDER

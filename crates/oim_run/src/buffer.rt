@@ -6,10 +6,10 @@ ghost use Rattle.std.specs.Io.KnownBytes.{Appends, Keeps, WriteAppends};
 ghost use Rattle.oim_run.specs.Buffers.{told_behind};
 ghost use Rattle.oim_json.specs.declared.mark.Mark.TheVariants.{Fine};
 
+use ghost_value::GhostValue;
 use oim_json::{Mark, Sink};
 use std::io;
 use std::io::{ErrorKind, Write};
-use told::Told;
 
 /// Gathers bytes before they go to a writer. As a sink it holds what the writer holds and what waits.
 pub(crate) struct Buffer<W> {
@@ -20,7 +20,7 @@ pub(crate) struct Buffer<W> {
     /// Whether a write failed.
     mark: Mark,
     /// What the writer was at first, for contracts alone.
-    first: Told<W>,
+    first: GhostValue<W>,
 }
 
 /// Takes the first bytes out.
@@ -60,7 +60,7 @@ impl<W: Write> Buffer<W> {
         ensures told { (⟦<Buffer<W> as Sink>⟧.seen result).told ≡ told_behind (W.contents writer) (W.contents writer) [] }
         ensures fine { (⟦<Buffer<W> as Sink>⟧.seen result).mark ≡ Fine }
     {
-        let first = Told::seen(&writer);
+        let first = GhostValue::seen(&writer);
         Buffer {
             writer,
             waiting,

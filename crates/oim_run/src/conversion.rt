@@ -6,7 +6,7 @@ ghost use Rattle.oim_convert.specs.Files.{AreFilesOf};
 ghost use Rattle.oim_convert.specs.Runs.{early_fault};
 ghost use Rattle.oim_convert.specs.Serial.{AreFew};
 ghost use Rattle.oim_convert.specs.declared.fault.ConvertFault.TheVariants as convert_faults;
-ghost use Rattle.oim_run.specs.Naming.{outcome_alone, outcome_by, with_names};
+ghost use Rattle.oim_run.specs.state.Naming.{outcome_alone, outcome_by, with_names};
 ghost use Rattle.oim_run.specs.Outcomes.{EndsAs, Leaves, name_in, table_ids};
 
 use crate::outcome::Outcome;

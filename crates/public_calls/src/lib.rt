@@ -16,6 +16,8 @@ mod fast_rows;
 #[cfg(test)]
 mod files;
 #[cfg(test)]
+mod ghost_values;
+#[cfg(test)]
 mod held;
 #[cfg(test)]
 mod merges;
@@ -37,7 +39,5 @@ mod rings;
 mod rows;
 #[cfg(test)]
 mod tables;
-#[cfg(test)]
-mod told_values;
 #[cfg(test)]
 mod words;

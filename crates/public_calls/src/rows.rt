@@ -4,9 +4,9 @@ use crate::held::{Over, holds};
 use oim_meta::{Limits, ReadFault, Report};
 use oim_records::{Fields, RecordReader};
 use oim_rows::{
-    RowFacts, RowForm, RowIds, RowPlan, Rows, TableFault, TableKind, fact_identifiers_differ,
-    fault_of_read, push_row_number, stream_is_of_all_rows, table_stream_is_of_all_rows,
-    whole_fault,
+    RowFacts, RowForm, RowId, RowIds, RowPlan, Rows, TableFault, TableKind,
+    fact_identifiers_differ, fault_at_place, fault_of_read, push_row_number, stream_is_of_all_rows,
+    table_stream_is_of_all_rows, whole_fault,
 };
 use std::alloc::Global;
 use std::io;
@@ -167,10 +167,20 @@ fn is_new(alloc: Global, number: u32) -> bool {
     push_row_number(&mut id, number).is_ok() && !ids.has(id.as_str())
 }
 
+/// Whether a copy of an identifier is that text.
+fn is_kept(alloc: Global, text: &str) -> bool {
+    match RowId::new(alloc, text) {
+        Ok(id) => id.as_str() == text,
+        Err(_) => false,
+    }
+}
+
 #[test]
 fn calls_of_identifiers_and_faults(rt: HostRuntime) {
     stream_is_of_all_rows();
     table_stream_is_of_all_rows();
     let failed = fault_of_read(0, ReadFault::Read);
-    assert!(rt; failed == whole_fault(0, TableKind::Read) && is_new(rt.alloc(), 7));
+    let repeated = fault_at_place(0, 2, 0, TableKind::RepeatedRowId);
+    assert!(rt; failed == whole_fault(0, TableKind::Read) && repeated.column == 1);
+    assert!(rt; is_new(rt.alloc(), 7) && is_kept(rt.alloc(), "r_7"));
 }

@@ -6,13 +6,12 @@ ghost use Rattle.oim_rows.specs.RowFacts.{IsTextRecord, id_place_of};
 ghost use Rattle.oim_decode.specs.Apart.{id_in};
 ghost use Rattle.oim_decode.specs.PieceAnswers.{AddsApart, cells_apart, no_rows, refused as no_memory};
 
-use crate::piece::piece_id::PieceId;
 use crate::piece::piece_rows::PieceRows;
 use crate::piece::rooms::Rooms;
 use crate::table::row_texts::RowTexts;
 use oim_fast::TableRow;
 use oim_records::Fields;
-use oim_rows::{TableFault, TableKind, whole_fault};
+use oim_rows::{RowId, TableFault, TableKind, whole_fault};
 use std::alloc::{AllocError, Global};
 use std::marker::Model;
 
@@ -22,7 +21,7 @@ use std::marker::Model;
 #[derive(Drop)]
 pub struct PieceAnswer {
     pub(crate) rows: PieceRows,
-    pub(crate) ids: Vec<PieceId>,
+    pub(crate) ids: Vec<RowId>,
     pub(crate) fault: Option<TableFault>,
 }
 
@@ -39,8 +38,8 @@ impl Model for PieceAnswer {
 fn id_of(
     alloc: Global,
     row: &TableRow<'_, '_>,
-    ids: &mut Vec<PieceId>,
-) -> Result<Option<PieceId>, AllocError>
+    ids: &mut Vec<RowId>,
+) -> Result<Option<RowId>, AllocError>
     ensures id { IfOk result (λ o. id_in (id_place_of row.now.form) row.now.fields ≡ option_to_list o) }
     ensures room { IfOk result (λ o. IfSome o (λ _. vec_len ids.new < vec_capacity ids.new)) }
     ensures same { ids.new.items ≡ ids.old.items }
@@ -48,7 +47,7 @@ fn id_of(
     match row.form().id_place() {
         Some(place) => {
             ids.reserve(1)?;
-            Ok(Some(PieceId::new(alloc, row.text_at(Some(place)))?))
+            Ok(Some(RowId::new(alloc, row.text_at(Some(place)))?))
         }
         None => Ok(None),
     }
@@ -56,7 +55,7 @@ fn id_of(
 
 /// Adds an identifier to others, where there is room for it.
 #[inline]
-fn keep_id(ids: &mut Vec<PieceId>, id: Option<PieceId>)
+fn keep_id(ids: &mut Vec<RowId>, id: Option<RowId>)
     requires { IfSome id (λ _. vec_len ids.old < vec_capacity ids.old) }
     ensures { ids.new.items ≡ ids.old.items ++ option_to_list id }
 {

@@ -2,7 +2,7 @@
 
 ghost use Rattle.std.specs.Prelude.{◌≡◌, ◌++◌, IfOk, OnOk};
 ghost use Rattle.oim_rows.specs.Streams.{facts_of_rows};
-ghost use Rattle.oim_decode.specs.RowEnds.{stretches};
+ghost use Rattle.oim_decode.specs.state.RowEnds.{stretches};
 
 use crate::piece::piece_rows::PieceRows;
 use crate::piece::written_rows::WrittenRows;
@@ -55,7 +55,7 @@ pub(crate) fn blocks_of(alloc: Global, rows: PieceRows) -> Result<Vec<Block>, Al
     ensures { IfOk result (λ blocks. facts_of_rows blocks.items ≡ facts_of_rows rows) }
 {
     let (full, last) = rows.into_stretches();
-    let mut blocks = Vec::new(alloc);
+    let mut blocks = Vec::with_capacity(alloc, full.len().saturating_add(1))?;
     push_stretches(alloc, full, &mut blocks)?;
     push_blocks(alloc, last.into_facts(), &mut blocks)?;
     Ok(blocks)

@@ -7,10 +7,9 @@ ghost use Rattle.oim_decode.specs.PieceAnswers.{IsJoined};
 
 use crate::piece::piece_answer::PieceAnswer;
 use crate::piece::piece_blocks::blocks_of;
-use crate::piece::piece_id::PieceId;
 use crate::piece::piece_rows::PieceRows;
 use oim_json::Block;
-use oim_rows::{RowForm, RowIds, TableFault, TableKind, whole_fault};
+use oim_rows::{RowForm, RowId, RowIds, TableFault, TableKind, fault_at_place, whole_fault};
 use std::alloc::{AllocError, Global};
 use std::marker::Model;
 
@@ -51,7 +50,7 @@ impl Model for JoinedPiece {
 fn first_repeated(
     alloc: Global,
     before: &mut RowIds,
-    ids: &[PieceId],
+    ids: &[RowId],
 ) -> Result<Option<usize>, AllocError>
     ensures place { IfOk result (λ place. place ≡ repeated_from 0 before.old ids.now) }
     ensures within { IfOk result (λ place. IfSome place (λ k. k < length ids.now)) }
@@ -76,17 +75,7 @@ fn fault_of_repeated_id(form: &RowForm<'_>, number: u32) -> TableFault
         Some(place) => place,
         None => 0,
     };
-    let column = if place < u32::MAX as usize {
-        place as u32 + 1
-    } else {
-        u32::MAX
-    };
-    TableFault {
-        table: form.table(),
-        row: number,
-        column,
-        kind: TableKind::RepeatedRowId,
-    }
+    fault_at_place(form.table(), number, place, TableKind::RepeatedRowId)
 }
 
 impl PieceJoin {

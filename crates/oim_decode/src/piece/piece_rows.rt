@@ -4,7 +4,7 @@ ghost use Rattle.std.specs.Prelude.{◌≡◌, ◌++◌, [], take};
 ghost use Rattle.oim_fast.specs.Facts.{facts_of_row};
 ghost use Rattle.oim_rows.specs.RowFacts.{IsTextRecord};
 ghost use Rattle.oim_decode.specs.PieceAnswers.{AddsRowFacts};
-ghost use Rattle.oim_decode.specs.RowEnds.{IsEndIn, stretches};
+ghost use Rattle.oim_decode.specs.state.RowEnds.{IsEndIn, stretches};
 
 use crate::piece::rooms::Rooms;
 use crate::piece::written_rows::WrittenRows;
@@ -17,6 +17,9 @@ use std::alloc::{AllocError, Global};
 use std::marker::Model;
 use std::mem;
 
+/// How many stretches a piece has room for at first.
+const FEW: usize = 16;
+
 /// The texts of the facts of a piece's rows, in stretches of whole rows that each have the facts of one block, where they fit. A
 /// contract sees the facts of each row.
 #[derive(Drop)]
@@ -28,7 +31,7 @@ pub(crate) struct PieceRows {
 impl Model for PieceRows {
     ghost use Rattle.std.specs.Prelude.{◌++◌, List};
     ghost use Rattle.oim_resolve.specs.FactParts.{FactParts as FactValue};
-    ghost use Rattle.oim_decode.specs.RowEnds.{stretches};
+    ghost use Rattle.oim_decode.specs.state.RowEnds.{stretches};
 
     ghost Value = { List (List FactValue) };
 
@@ -67,6 +70,9 @@ impl PieceRows {
     fn close(&mut self, alloc: Global, room: Vec<u8>) -> Result<(), AllocError>
         ensures { self.new ≡ self.old }
     {
+        if self.full.is_empty() {
+            self.full.reserve(FEW)?;
+        }
         let next = self.last.like(alloc, room)?;
         let full = mem::replace(&mut self.last, next);
         match self.full.push(full) {

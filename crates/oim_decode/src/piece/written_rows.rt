@@ -10,6 +10,7 @@ ghost use Rattle.oim_decode.specs.RowTexts.{facts_in};
 use crate::table::fact_list::{first, none, then};
 use crate::table::pending_facts::PendingFacts;
 use crate::table::row_texts::RowTexts;
+use ghost_value::{Denotes, GhostValue};
 use oim_fast::TableRow;
 use oim_names::Items;
 use oim_records::Fields;
@@ -17,7 +18,9 @@ use oim_resolve::Fact;
 use oim_rows::{TableFault, TableKind, whole_fault};
 use std::alloc::{AllocError, Global};
 use std::marker::Model;
-use told::{Tells, Told};
+
+/// How many rows a stretch has room for at first.
+const FEW_ROWS: usize = 64;
 
 /// The texts of the facts of some rows, and where those of each row end. A contract sees the facts of each row.
 #[derive(Drop)]
@@ -25,14 +28,14 @@ pub(crate) struct WrittenRows {
     facts: PendingFacts,
     // how many facts there are up to the end of each row
     ends: Vec<usize>,
-    rows: Told<Items<Items<Fact>>>,
+    rows: GhostValue<Items<Items<Fact>>>,
 }
 
 impl Model for WrittenRows {
     ghost use Rattle.std.specs.Prelude.{◌≡◌, List};
     ghost use Rattle.oim_resolve.specs.FactParts.{FactParts as FactValue};
     ghost use Rattle.oim_rows.specs.Streams.{facts_of_rows};
-    ghost use Rattle.oim_decode.specs.RowEnds.{counts_from};
+    ghost use Rattle.oim_decode.specs.state.RowEnds.{counts_from};
 
     ghost Value = { List (List FactValue) };
 
@@ -47,8 +50,8 @@ struct OneRow<'a, 'b, 'r> {
     row: &'b TableRow<'a, 'r>,
 }
 
-impl Tells<Items<Items<Fact>>> for OneRow<'_, '_, '_> {
-    ghost told = { λ t. facts_in (facts_of_row t.row.now) ∷ [] };
+impl Denotes<Items<Items<Fact>>> for OneRow<'_, '_, '_> {
+    ghost denoted = { λ t. facts_in (facts_of_row t.row.now) ∷ [] };
 }
 
 /// How many facts the first `count` rows have, where these are the ends of all rows.
@@ -61,6 +64,13 @@ fn facts_before(ends: &[usize], count: usize) -> usize
         return 0;
     }
     ends[count - 1]
+}
+
+/// For how many rows room is made where there are so many: for some at first, so that it seldom grows.
+fn room_for(count: usize) -> usize
+    ensures { 1 ≤ result }
+{
+    if count == 0 { FEW_ROWS } else { 1 }
 }
 
 impl WrittenRows {
@@ -81,7 +91,7 @@ impl WrittenRows {
     {
         Ok(WrittenRows {
             facts: self.facts.like(alloc, room)?,
-            ends: Vec::with_capacity(alloc, self.ends.len())?,
+            ends: Vec::with_capacity(alloc, self.ends.len().max(FEW_ROWS))?,
             rows: none(),
         })
     }
@@ -141,7 +151,7 @@ impl WrittenRows {
         ensures facts { AddsRowFacts row.now.form.table (facts_of_row row.now) self.old self.new result }
         ensures same { texts.new ≡ texts.old }
     {
-        if self.ends.reserve(1).is_err() {
+        if self.ends.reserve(room_for(self.ends.len())).is_err() {
             return Err(whole_fault(row.table(), TableKind::Memory));
         }
         let rows = then(&self.rows, &OneRow { row });

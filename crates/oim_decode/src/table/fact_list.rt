@@ -2,73 +2,76 @@
 
 ghost use Rattle.std.specs.Prelude.{◌≡◌, ◌++◌, [], take, drop};
 
+use ghost_value::{Denotes, GhostValue};
 use oim_names::Items;
-use told::{Tells, Told};
 
 struct Nothing;
 
-impl<T> Tells<Items<T>> for Nothing {
-    ghost told = { λ _. [] };
+impl<T> Denotes<Items<T>> for Nothing {
+    ghost denoted = { λ _. [] };
 }
 
 /// The empty list.
 #[inline(always)]
-pub(crate) fn none<T>() -> Told<Items<T>>
+pub(crate) fn none<T>() -> GhostValue<Items<T>>
     ensures { result.value ≡ [] }
 {
-    Told::of(&Nothing)
+    GhostValue::of(&Nothing)
 }
 
 #[derive(Drop)]
 struct Both<'a, T, N> {
-    before: &'a Told<Items<T>>,
+    before: &'a GhostValue<Items<T>>,
     note: &'a N,
 }
 
-impl<T, N: Tells<Items<T>>> Tells<Items<T>> for Both<'_, T, N> {
-    ghost told = { λ t. t.before.now.value ++ N.told t.note.now };
+impl<T, N: Denotes<Items<T>>> Denotes<Items<T>> for Both<'_, T, N> {
+    ghost denoted = { λ t. t.before.now.value ++ N.denoted t.note.now };
 }
 
 /// A list, and then what a note tells.
 #[inline(always)]
-pub(crate) fn then<T, N: Tells<Items<T>>>(before: &Told<Items<T>>, note: &N) -> Told<Items<T>>
-    ensures { result.value ≡ before.now.value ++ N.told note.now }
+pub(crate) fn then<T, N: Denotes<Items<T>>>(
+    before: &GhostValue<Items<T>>,
+    note: &N,
+) -> GhostValue<Items<T>>
+    ensures { result.value ≡ before.now.value ++ N.denoted note.now }
 {
-    Told::of(&Both { before, note })
+    GhostValue::of(&Both { before, note })
 }
 
 #[derive(Drop)]
 struct Front<'a, T> {
-    all: &'a Told<Items<T>>,
+    all: &'a GhostValue<Items<T>>,
     count: usize,
 }
 
-impl<T> Tells<Items<T>> for Front<'_, T> {
-    ghost told = { λ t. take t.count t.all.now.value };
+impl<T> Denotes<Items<T>> for Front<'_, T> {
+    ghost denoted = { λ t. take t.count t.all.now.value };
 }
 
 /// The first `count` items.
 #[inline(always)]
-pub(crate) fn first<T>(all: &Told<Items<T>>, count: usize) -> Told<Items<T>>
+pub(crate) fn first<T>(all: &GhostValue<Items<T>>, count: usize) -> GhostValue<Items<T>>
     ensures { result.value ≡ take count all.now.value }
 {
-    Told::of(&Front { all, count })
+    GhostValue::of(&Front { all, count })
 }
 
 #[derive(Drop)]
 struct Back<'a, T> {
-    all: &'a Told<Items<T>>,
+    all: &'a GhostValue<Items<T>>,
     count: usize,
 }
 
-impl<T> Tells<Items<T>> for Back<'_, T> {
-    ghost told = { λ t. drop t.count t.all.now.value };
+impl<T> Denotes<Items<T>> for Back<'_, T> {
+    ghost denoted = { λ t. drop t.count t.all.now.value };
 }
 
 /// The items behind the first `count`.
 #[inline(always)]
-pub(crate) fn rest<T>(all: &Told<Items<T>>, count: usize) -> Told<Items<T>>
+pub(crate) fn rest<T>(all: &GhostValue<Items<T>>, count: usize) -> GhostValue<Items<T>>
     ensures { result.value ≡ drop count all.now.value }
 {
-    Told::of(&Back { all, count })
+    GhostValue::of(&Back { all, count })
 }

@@ -8,6 +8,7 @@ ghost use Rattle.oim_decode.specs.RowTexts.{AddsFacts, facts_in};
 use crate::table::fact_list::{first, none, rest, then};
 use crate::table::row_texts::RowTexts;
 use crate::table::table_blocks::MOST;
+use ghost_value::{Denotes, GhostValue};
 use oim_fast::{TableRow, TextBuffer};
 use oim_json::Block;
 use oim_names::Items;
@@ -17,7 +18,6 @@ use oim_rows::TableFault;
 use std::alloc::{AllocError, Global};
 use std::marker::Model;
 use std::mem;
-use told::{Tells, Told};
 
 /// How many bytes more than the last texts have are made ready for others.
 const AHEAD: usize = 2048;
@@ -28,7 +28,7 @@ pub(crate) struct PendingFacts {
     bytes: TextBuffer,
     // where each text ends
     ends: Vec<usize>,
-    facts: Told<Items<Fact>>,
+    facts: GhostValue<Items<Fact>>,
 }
 
 impl Model for PendingFacts {
@@ -49,8 +49,8 @@ struct RowNote<'a, 'b, 'r> {
     row: &'b TableRow<'a, 'r>,
 }
 
-impl Tells<Items<Fact>> for RowNote<'_, '_, '_> {
-    ghost told = { λ t. facts_in (facts_of_row t.row.now) };
+impl Denotes<Items<Fact>> for RowNote<'_, '_, '_> {
+    ghost denoted = { λ t. facts_in (facts_of_row t.row.now) };
 }
 
 /// The empty text in the memory of `room`. It takes no memory.

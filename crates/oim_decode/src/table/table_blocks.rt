@@ -18,14 +18,6 @@ use std::marker::Model;
 /// How many facts a block has at most.
 pub(crate) const MOST: usize = 256;
 
-/// What comes after the facts that are read.
-#[derive(Clone, Copy)]
-enum Progress {
-    Reading,
-    Ended,
-    Failed(TableFault),
-}
-
 /// The facts of one table that are left, as blocks of text (xBRL-CSV 1.0, table files: the first record is
 /// the header, and each record behind it a row). It borrows the table's report. A contract sees the
 /// table's place, the limit, how many rows were read, the facts that are read and not given, the stream
@@ -36,7 +28,8 @@ pub struct TableBlocks<'a, R: Read + Drop> {
     alloc: Global,
     rows: TextRows<'a, R>,
     facts: PendingFacts,
-    progress: Progress,
+    // the end or the fault that was found behind the facts that are read
+    settled: Option<Option<TableFault>>,
 }
 
 impl<'a, R: Read + Drop> Model for TableBlocks<'a, R> {
@@ -44,7 +37,7 @@ impl<'a, R: Read + Drop> Model for TableBlocks<'a, R> {
 
     ghost Value = { BlocksLeft };
 
-    ghost view = { λ a. blocks_left a.rows a.facts a.progress };
+    ghost view = { λ a. blocks_left a.rows a.facts a.settled };
 }
 
 impl<'a, R: Read + Drop> TableBlocks<'a, R> {
@@ -78,7 +71,7 @@ impl<'a, R: Read + Drop> TableBlocks<'a, R> {
                 alloc,
                 rows,
                 facts: PendingFacts::new(alloc),
-                progress: Progress::Reading,
+                settled: None,
             }),
             Err(fault) => Err(fault),
         }
@@ -115,9 +108,9 @@ impl<R: Read + Drop> TableBlocks<'_, R> {
         let whole = self.fill();
         let count = self.facts.count();
         if count == 0 {
-            return match self.progress {
-                Progress::Failed(fault) => Err(fault),
-                Progress::Reading | Progress::Ended => Ok(None),
+            return match self.settled {
+                Some(Some(fault)) => Err(fault),
+                Some(None) | None => Ok(None),
             };
         }
         match self.facts.take_block(self.alloc, share(count, whole), room) {
@@ -125,7 +118,7 @@ impl<R: Read + Drop> TableBlocks<'_, R> {
             Err(_) => {
                 let fault = whole_fault(self.rows.table(), TableKind::Memory);
                 self.facts = PendingFacts::new(self.alloc);
-                self.progress = Progress::Failed(fault);
+                self.settled = Some(Some(fault));
                 Err(fault)
             }
         }
@@ -146,15 +139,15 @@ impl<R: Read + Drop> TableBlocks<'_, R> {
         let mut whole = 0;
         let width = self.rows.width();
         while has_room(self.facts.count(), width) {
-            match self.progress {
-                Progress::Reading => {}
-                Progress::Ended | Progress::Failed(_) => return whole,
+            match self.settled {
+                Some(_) => return whole,
+                None => {}
             }
             whole = self.facts.count();
             match self.rows.next_row(&mut self.facts) {
                 Ok(true) => {}
-                Ok(false) => self.progress = Progress::Ended,
-                Err(fault) => self.progress = Progress::Failed(fault),
+                Ok(false) => self.settled = Some(None),
+                Err(fault) => self.settled = Some(Some(fault)),
             }
         }
         whole

@@ -2,7 +2,7 @@
 
 ghost use Rattle.std.specs.Prelude.{◌≡◌};
 ghost use Rattle.oim_cells.specs.Cells.{seen_meaning};
-ghost use Rattle.oim_fast.specs.Pieces.{constant_meaning, parameter_meaning};
+ghost use Rattle.oim_fast.specs.state.Pieces.{constant_meaning, parameter_meaning};
 
 use oim_cells::{CellMeaning, meaning};
 use oim_report::Written;

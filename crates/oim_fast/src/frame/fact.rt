@@ -5,9 +5,9 @@ ghost use Rattle.std.specs.List.{list_all};
 ghost use mathlib.Core.List.{IsPrefix};
 ghost use Rattle.oim_json.specs.JsonText.{decimals_text, escaped_byte, is_unescaped, value_text};
 ghost use Rattle.oim_resolve.specs.Facts.{is_numeric, places};
-ghost use Rattle.oim_fast.specs.FactTexts.{EndsInstead, IsOfReferences, PutsFact, TriesFact, WritesDecimals, WritesObject, WritesOpening};
-ghost use Rattle.oim_fast.specs.FactTexts.{fact_room, has_settled, value_of};
-ghost use Rattle.oim_fast.specs.Places.{Placed, Stays};
+ghost use Rattle.oim_fast.specs.state.FactTexts.{EndsInstead, IsOfReferences, PutsFact, TriesFact, WritesDecimals, WritesObject, WritesOpening};
+ghost use Rattle.oim_fast.specs.state.FactTexts.{fact_room, has_settled, value_of};
+ghost use Rattle.oim_fast.specs.state.Places.{Placed, Stays};
 
 use crate::frame::frame_decimals::FrameDecimals;
 use crate::frame::frame_text::FrameText;

@@ -5,11 +5,11 @@ ghost use Rattle.std.specs.List.{All, slice_get};
 ghost use Rattle.std.specs.Option.{option_map};
 ghost use Rattle.oim_json.specs.JsonText.{escaped_byte};
 ghost use Rattle.oim_rows.specs.RowFacts.{holds_facts};
-ghost use Rattle.oim_fast.specs.Columns.{AreFactColumns, IsColumnAt};
-ghost use Rattle.oim_fast.specs.KeptFrames.{kind_code};
-ghost use Rattle.oim_fast.specs.Frames.{is_known_choice};
-ghost use Rattle.oim_fast.specs.Groups.{IsGroupCell, choices_in};
-ghost use Rattle.oim_fast.specs.References.{Grows};
+ghost use Rattle.oim_fast.specs.state.Columns.{AreFactColumns, IsColumnAt};
+ghost use Rattle.oim_fast.specs.state.KeptFrames.{kind_code};
+ghost use Rattle.oim_fast.specs.state.Frames.{is_known_choice};
+ghost use Rattle.oim_fast.specs.state.Groups.{IsGroupCell, choices_in};
+ghost use Rattle.oim_fast.specs.state.References.{Grows};
 ghost use Rattle.oim_fast.specs.Rows.{columns_in};
 
 use crate::row::group_cells::{Choice, GroupCells};

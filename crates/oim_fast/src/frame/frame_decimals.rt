@@ -3,9 +3,9 @@
 ghost use Rattle.std.specs.Prelude.{◌≡◌, [], IfOk, map};
 ghost use Rattle.std.specs.List.{All};
 ghost use Rattle.oim_resolve.specs.Values.{Read};
-ghost use Rattle.oim_fast.specs.Parts.{AreDecimals, IsStated};
-ghost use Rattle.oim_fast.specs.Pieces.{parameter_meaning};
-ghost use Rattle.oim_fast.specs.References.{Grows, IsFresh, key_of};
+ghost use Rattle.oim_fast.specs.state.Parts.{AreDecimals, IsStated};
+ghost use Rattle.oim_fast.specs.state.Pieces.{parameter_meaning};
+ghost use Rattle.oim_fast.specs.state.References.{Grows, IsFresh, key_of};
 
 use crate::frame::constant::parameter_of;
 use crate::row::answer::{Answer, put_decimals};

@@ -5,13 +5,14 @@ ghost use Rattle.std.specs.List.{All};
 ghost use Rattle.oim_report.specs.InOrder.{LevelRises};
 ghost use Rattle.oim_resolve.specs.ProgramCell.{held};
 ghost use Rattle.oim_rows.specs.RowFacts.{Reading};
-ghost use Rattle.oim_fast.specs.Columns.{IsFactColumn, column_choices};
-ghost use Rattle.oim_fast.specs.Frames.{AreKindDecimals, IsTextOfKind, levels_chosen};
-ghost use Rattle.oim_fast.specs.Groups.{IsGroupCell, levels_at};
-ghost use Rattle.oim_fast.specs.KeptFrames.{IsBodyFor, IsFor, IsFrame, kind_code};
-ghost use Rattle.oim_fast.specs.Making.{AddsWhere, IsBodyOf, IsConcept, IsMaker, IsOpening, IsReadyMaker, SaysConcept, from_general, keys_in};
-ghost use Rattle.oim_fast.specs.Pieces.{entries_named, written_entries};
-ghost use Rattle.oim_fast.specs.References.{Grows, IsFresh, key_of};
+ghost use Rattle.oim_fast.specs.state.Columns.{IsFactColumn, column_choices};
+ghost use Rattle.oim_fast.specs.state.Frames.{AreKindDecimals, IsTextOfKind, levels_chosen};
+ghost use Rattle.oim_fast.specs.state.Groups.{IsGroupCell, levels_at};
+ghost use Rattle.oim_fast.specs.state.KeptFrames.{IsBodyFor, IsFor, IsFrame, kind_code};
+ghost use Rattle.oim_fast.specs.state.Making.{AddsWhere, IsBodyOf, IsConcept, IsMaker, IsOpening, IsReadyMaker, SaysConcept, from_general, keys_in};
+ghost use Rattle.oim_fast.specs.state.Pieces.{entries_named};
+ghost use Rattle.oim_resolve.specs.ProgramLevels.{written_entries};
+ghost use Rattle.oim_fast.specs.state.References.{Grows, IsFresh, key_of};
 
 use crate::frame::fact_column::{FactColumn, kind_number};
 use crate::frame::frame::{Body, Frame};
@@ -309,6 +310,7 @@ impl<'a> FrameMaker<'a> {
         if !added {
             return Ok(None);
         }
+        text.fit();
         Ok(Some(text))
     }
 

@@ -1,7 +1,7 @@
 //! All of a column's facts that is the same in each row, as one text with places for what references give.
 
 ghost use Rattle.std.specs.Prelude.{◌≡◌, ◌≤◌, ◌+◌, ◌++◌, [], IfOk, length, slice_range, take, true};
-ghost use Rattle.oim_fast.specs.FrameTexts.{dimensions_start, is_ready, with_part};
+ghost use Rattle.oim_fast.specs.state.FrameTexts.{dimensions_start, is_ready, with_part};
 
 use crate::frame::frame_decimals::FrameDecimals;
 use crate::frame::part::{Part, PartValue};
@@ -38,7 +38,7 @@ pub(crate) struct FrameText {
 
 impl Model for FrameText {
     ghost use Rattle.std.specs.Prelude.{slice_range, take};
-    ghost use Rattle.oim_fast.specs.FrameTexts.{FrameValue, IsLaidOut, rest_from, segments_from};
+    ghost use Rattle.oim_fast.specs.state.FrameTexts.{FrameValue, IsLaidOut, rest_from, segments_from};
 
     ghost Value = { FrameValue };
 
@@ -80,6 +80,14 @@ impl FrameText {
             decimals,
             runs: Vec::new(alloc),
         })
+    }
+
+    /// Gives back memory that the text does not need.
+    pub(crate) fn fit(&mut self)
+        ensures { self.new ≡ self.old }
+    {
+        self.text.fit();
+        self.runs.shrink_to_fit();
     }
 
     /// Adds a dimension, unless a fact of this kind does not have it. False where it is not known. Fails where memory is short.

@@ -3,12 +3,12 @@
 ghost use Rattle.std.specs.Prelude.{◌≡◌, ◌<◌, [], Some, None, IfOk, IfSome, length, true};
 ghost use Rattle.std.specs.List.{All, slice_get};
 ghost use Rattle.oim_resolve.specs.Written.{levels};
-ghost use Rattle.oim_fast.specs.Columns.{IsFactColumn};
-ghost use Rattle.oim_fast.specs.Frames.{HasReferredKind, is_known_choice};
-ghost use Rattle.oim_fast.specs.Groups.{choices_in};
-ghost use Rattle.oim_fast.specs.KeptFrames.{HasFrame, HasTextFor, IsFor, IsFrame, IsKnownFor, IsOfConcept, text_in};
-ghost use Rattle.oim_fast.specs.Making.{IsMaker, keys_in};
-ghost use Rattle.oim_fast.specs.References.{Grows, HoldsStill, HoldsWith};
+ghost use Rattle.oim_fast.specs.state.Columns.{IsFactColumn};
+ghost use Rattle.oim_fast.specs.state.Frames.{HasReferredKind, is_known_choice};
+ghost use Rattle.oim_fast.specs.state.Groups.{choices_in};
+ghost use Rattle.oim_fast.specs.state.KeptFrames.{HasFrame, HasTextFor, IsFor, IsFrame, IsKnownFor, IsOfConcept, text_in};
+ghost use Rattle.oim_fast.specs.state.Making.{IsMaker, keys_in};
+ghost use Rattle.oim_fast.specs.state.References.{Grows, HoldsStill, HoldsWith};
 ghost use Rattle.oim_fast.specs.Rows.{cell_in};
 
 use crate::frame::fact_column::{FactColumn, kind_number};
@@ -242,6 +242,7 @@ impl Frames {
         ensures frames { All (IsFrame row.now.form (keys_in maker.new)) self.new.list.items }
         ensures column { column.new ≡ record column.old { last_of_kind = column.new.last_of_kind } }
     {
+        // For the proof: the number of a row is below 2^32.
         let _digits = row.digits();
         let Some(kind) = maker.references.at(reference).kind else {
             return Ok(None);

@@ -4,7 +4,7 @@ ghost use Rattle.std.specs.Prelude.{◌≡◌, ◌<◌, ◌≤◌, ◌+◌, ℕ,
 ghost use Rattle.std.specs.Simd.Lanes.{mask_l};
 ghost use Rattle.std.specs.Str.Parse.{AllDigits, without_leading_sign};
 ghost use Rattle.oim_cells.specs.Numeral.{IsInteger, IsNumeralOf};
-ghost use Rattle.oim_fast.specs.Digits.{IsFrontOf, IsSuffix, IsUnsigned, begins_with_sign, is_other, marks_power, takes_point};
+ghost use Rattle.oim_fast.specs.state.Digits.{IsFrontOf, IsSuffix, IsUnsigned, begins_with_sign, is_other, marks_power, takes_point};
 
 use oim_cells::{Accuracy, NumberKind, decimals};
 use std::simd::prelude::*;

@@ -3,10 +3,10 @@
 ghost use Rattle.std.specs.Prelude.{◌≡◌, List, None, IfOk, map};
 ghost use Rattle.std.specs.List.{All};
 ghost use Rattle.oim_resolve.specs.Facts.{role_of};
-ghost use Rattle.oim_fast.specs.Parts.{IsPart, PutsAnswer};
-ghost use Rattle.oim_fast.specs.Pieces.{name_text};
-ghost use Rattle.oim_fast.specs.References.{Grows, IsFresh, Key, key_of};
-ghost use Rattle.oim_fast.specs.Sources.{source_written};
+ghost use Rattle.oim_fast.specs.state.Parts.{IsPart, PutsAnswer};
+ghost use Rattle.oim_fast.specs.state.Pieces.{name_text};
+ghost use Rattle.oim_fast.specs.state.References.{Grows, IsFresh, Key, key_of};
+ghost use Rattle.oim_fast.specs.state.Sources.{source_written};
 
 use crate::frame::constant::constant_of;
 use crate::row::answer::Answer;

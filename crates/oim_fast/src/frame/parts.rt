@@ -3,9 +3,9 @@
 ghost use Rattle.std.specs.Prelude.{◌≡◌, [], Some, IfOk, IfSome, map, true};
 ghost use Rattle.std.specs.List.{All, slice_get};
 ghost use Rattle.std.specs.Option.{option_map};
-ghost use Rattle.oim_fast.specs.Frames.{entry_of};
-ghost use Rattle.oim_fast.specs.Parts.{IsPart};
-ghost use Rattle.oim_fast.specs.References.{Grows, HoldsStill, HoldsWith, IsFresh, key_of};
+ghost use Rattle.oim_fast.specs.state.Frames.{entry_of};
+ghost use Rattle.oim_fast.specs.state.Parts.{IsPart};
+ghost use Rattle.oim_fast.specs.state.References.{Grows, HoldsStill, HoldsWith, IsFresh, key_of};
 
 use crate::frame::part::Part;
 use crate::row::purpose::is_same_side;

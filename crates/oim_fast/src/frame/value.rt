@@ -7,7 +7,7 @@ ghost use Rattle.oim_report.specs.ReportValue.{ReportValue};
 ghost use Rattle.oim_report.specs.declared.kind.Kind.{Kind as KindValue};
 ghost use Rattle.oim_report.specs.declared.kind.Kind.TheVariants.{Number as number_kind};
 ghost use Rattle.oim_resolve.specs.FactValues.{plain as plain_text, text_given};
-ghost use Rattle.oim_fast.specs.CellValues.{IsCellValue, IsValue};
+ghost use Rattle.oim_fast.specs.state.CellValues.{IsCellValue, IsValue};
 
 use crate::frame::numeral::{numeral_len, suffix_behind};
 use crate::row::table_row::TableRow;

@@ -2,9 +2,9 @@
 
 ghost use Rattle.std.specs.Prelude.{◌+◌, ◌-◌, ◌*◌, ◌<◌, ◌≤◌, MatchOption, length, slice_range};
 ghost use Rattle.std.specs.List.{All};
-ghost use Rattle.oim_fast.specs.FrameTexts.{AreRuns};
-ghost use Rattle.oim_fast.specs.Places.{Placed, Stays};
-ghost use Rattle.oim_fast.specs.Writing.{WritesRun, WritesRuns};
+ghost use Rattle.oim_fast.specs.state.FrameTexts.{AreRuns};
+ghost use Rattle.oim_fast.specs.state.Places.{Placed, Stays};
+ghost use Rattle.oim_fast.specs.state.Writing.{WritesRun, WritesRuns};
 
 use crate::frame::frame_text::Run;
 use crate::row::references::References;

@@ -6,7 +6,7 @@ ghost use Rattle.oim_json.specs.JsonText.{decimals_text, quoted};
 ghost use Rattle.oim_report.specs.ReportValue.{ReportValue};
 ghost use Rattle.oim_resolve.specs.Facts.{concept_read, places, stated_read, value_read};
 ghost use Rattle.oim_resolve.specs.Values.{Read};
-ghost use Rattle.oim_fast.specs.Answers.{AppendsWhere, IsAnswer, IsSilent, IsTypedAnswer, decimals_json, dimension_json, is_sound_for, json_for};
+ghost use Rattle.oim_fast.specs.state.Answers.{AppendsWhere, IsAnswer, IsSilent, IsTypedAnswer, decimals_json, dimension_json, is_sound_for, json_for};
 ghost use Rattle.oim_fast.specs.declared.row.purpose.Purpose.{Purpose as PurposeValue};
 ghost use Rattle.oim_fast.specs.declared.row.purpose.Purpose.TheVariants.{Dimension as for_dimension};
 

@@ -3,8 +3,8 @@
 ghost use Rattle.std.specs.Prelude.{◌≡◌, ◌≤◌, false, length, take, true};
 ghost use Rattle.std.specs.String.{string_bytes};
 ghost use Rattle.oim_cells.specs.Cells.{meaning_of};
-ghost use Rattle.oim_fast.specs.Answers.{IsAnswer, IsCached, IsTypedAnswer};
-ghost use Rattle.oim_fast.specs.References.{IsEmptyText};
+ghost use Rattle.oim_fast.specs.state.Answers.{IsAnswer, IsCached, IsTypedAnswer};
+ghost use Rattle.oim_fast.specs.state.References.{IsEmptyText};
 
 use crate::row::answer::Answer;
 use crate::row::purpose::Purpose;

@@ -8,8 +8,8 @@ ghost use Rattle.oim_cells.specs.Cells.{Text as a_text, meaning_of};
 ghost use Rattle.oim_report.specs.Rising.{IsRising};
 ghost use Rattle.oim_report.specs.declared.data.Column.{Column as ColumnValue};
 ghost use Rattle.oim_rows.specs.RowFacts.{field_or_empty};
-ghost use Rattle.oim_fast.specs.Groups.{IsGroupCell, IsSaid, Says, level_chosen};
-ghost use Rattle.oim_fast.specs.References.{Grows};
+ghost use Rattle.oim_fast.specs.state.Groups.{IsGroupCell, IsSaid, Says, level_chosen};
+ghost use Rattle.oim_fast.specs.state.References.{Grows};
 ghost use Rattle.oim_fast.specs.Rows.{column_in, columns_in};
 
 use crate::row::group_hints::GroupHints;

@@ -2,9 +2,9 @@
 
 ghost use Rattle.std.specs.Prelude.{◌≡◌, ◌+◌, ◌<◌, [], IfOk, length, true};
 ghost use Rattle.std.specs.List.{All};
-ghost use Rattle.oim_fast.specs.Answers.{IsAnswer, IsCached, is_typed_purpose};
-ghost use Rattle.oim_fast.specs.References.{AddsPlaces, IsKept, meaning_at_hand};
-ghost use Rattle.oim_fast.specs.Sources.{seen_source, source_text};
+ghost use Rattle.oim_fast.specs.state.Answers.{IsAnswer, IsCached, is_typed_purpose};
+ghost use Rattle.oim_fast.specs.state.References.{AddsPlaces, IsKept, meaning_at_hand};
+ghost use Rattle.oim_fast.specs.state.Sources.{seen_source, source_text};
 
 use crate::row::answer::Answer;
 use crate::row::cached_answer::CachedAnswer;
@@ -12,12 +12,12 @@ use crate::row::purpose::Purpose;
 use crate::row::source::Source;
 use crate::row::table_row::TableRow;
 use crate::row::text_places::{TextPlaces, number_of};
+use ghost_value::{Denotes, GhostValue};
 use oim_names::Text;
 use oim_report::Report;
 use oim_resolve::Role;
 use std::alloc::{AllocError, Global};
 use std::marker::Model;
-use told::{Tells, Told};
 
 /// How many texts are kept at first.
 const FEWEST: usize = 32;
@@ -34,12 +34,12 @@ pub(crate) struct Reference<'a> {
     /// The place of the answer to the text of the row at hand.
     current: usize,
     places: TextPlaces,
-    text: Told<Text>,
+    text: GhostValue<Text>,
 }
 
 impl<'a> Model for Reference<'a> {
-    ghost use Rattle.oim_fast.specs.References.{ReferenceValue, IsKept};
-    ghost use Rattle.oim_fast.specs.Sources.{seen_source};
+    ghost use Rattle.oim_fast.specs.state.References.{ReferenceValue, IsKept};
+    ghost use Rattle.oim_fast.specs.state.Sources.{seen_source};
 
     ghost Value = { ReferenceValue };
 
@@ -54,8 +54,8 @@ struct TextNote<'a> {
     text: &'a str,
 }
 
-impl Tells<Text> for TextNote<'_> {
-    ghost told = { λ t. t.text.now };
+impl Denotes<Text> for TextNote<'_> {
+    ghost denoted = { λ t. t.text.now };
 }
 
 /// A text that is told by bytes that begin with it.
@@ -65,10 +65,10 @@ struct FrontNote<'a> {
     len: usize,
 }
 
-impl Tells<Text> for FrontNote<'_> {
+impl Denotes<Text> for FrontNote<'_> {
     ghost use Rattle.std.specs.Prelude.{take};
 
-    ghost told = { λ t. take t.len t.bytes.now };
+    ghost denoted = { λ t. take t.len t.bytes.now };
 }
 
 /// How many texts are kept at first for a purpose.
@@ -181,7 +181,7 @@ impl<'a> Reference<'a> {
             answers,
             current: 0,
             places: known,
-            text: Told::of(&TextNote { text: "" }),
+            text: GhostValue::of(&TextNote { text: "" }),
         })
     }
 
@@ -218,7 +218,7 @@ impl<'a> Reference<'a> {
             text,
         );
         self.current = place;
-        self.text = Told::of(&TextNote { text });
+        self.text = GhostValue::of(&TextNote { text });
         read
     }
 
@@ -232,7 +232,7 @@ impl<'a> Reference<'a> {
             let (bytes, len) = row.bytes_at(place);
             if len > 0 && bytes[0] != b'#' {
                 self.current = 0;
-                self.text = Told::of(&FrontNote { bytes, len });
+                self.text = GhostValue::of(&FrontNote { bytes, len });
                 let kept = &mut self.answers[0];
                 return kept.read_typed(bytes, len);
             }
@@ -256,7 +256,7 @@ impl<'a> Reference<'a> {
             text,
         );
         self.current = place;
-        self.text = Told::of(&TextNote { text });
+        self.text = GhostValue::of(&TextNote { text });
         read
     }
 

@@ -2,8 +2,8 @@
 
 ghost use Rattle.std.specs.Prelude.{◌≡◌, ◌<◌, [], IfOk, IfSome, OnOk, length, map};
 ghost use Rattle.std.specs.List.{All, slice_get};
-ghost use Rattle.oim_fast.specs.Answers.{IsAnswer};
-ghost use Rattle.oim_fast.specs.References.{Grows, HasKey, IsFresh, IsOfReport, key_of, key_seen, meaning_at_hand};
+ghost use Rattle.oim_fast.specs.state.Answers.{IsAnswer};
+ghost use Rattle.oim_fast.specs.state.References.{Grows, HasKey, IsFresh, IsOfReport, key_of, key_seen, meaning_at_hand};
 
 use crate::row::answer::Answer;
 use crate::row::purpose::Purpose;
@@ -23,7 +23,7 @@ pub(crate) struct References<'a> {
 
 impl<'a> Model for References<'a> {
     ghost use Rattle.std.specs.Prelude.{List};
-    ghost use Rattle.oim_fast.specs.References.{ReferenceValue};
+    ghost use Rattle.oim_fast.specs.state.References.{ReferenceValue};
 
     ghost Value = { List ReferenceValue };
 

@@ -4,7 +4,7 @@ ghost use Rattle.std.specs.Prelude.{◌≡◌, true};
 ghost use Rattle.std.specs.List.{position_from};
 ghost use Rattle.std.specs.Option.{option_map};
 ghost use Rattle.oim_rows.specs.Header.{is_column};
-ghost use Rattle.oim_fast.specs.Sources.{seen_source, source_decimals, source_named, source_text, source_written};
+ghost use Rattle.oim_fast.specs.state.Sources.{seen_source, source_decimals, source_named, source_text, source_written};
 
 use crate::row::table_row::TableRow;
 use oim_report::{Written, WrittenDecimals};

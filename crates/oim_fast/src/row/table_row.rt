@@ -89,6 +89,7 @@ impl<'a, 'r> TableRow<'a, 'r> {
         ensures value { result.now ≡ decimal self.now.number }
         ensures within { self.now.number < 2 ^ 32 }
     {
+        // For the proof: the number is below 2^32.
         let _number = self.number;
         self.digits
     }

@@ -2,8 +2,8 @@
 
 ghost use Rattle.std.specs.Prelude.{◌≡◌, ◌<◌, ◌≤◌, ◌++◌, ◌∷◌, [], IfOk, OnOk, length, true};
 ghost use mathlib.Core.List.{IsPrefix};
-ghost use Rattle.oim_fast.specs.CellWriters.{IsCellWriter, IsInRow, PutsCell, PutsSaid, column_at};
-ghost use Rattle.oim_fast.specs.FactTexts.{IsOfReferences};
+ghost use Rattle.oim_fast.specs.state.CellWriters.{IsCellWriter, IsInRow, PutsCell, PutsSaid, column_at};
+ghost use Rattle.oim_fast.specs.state.FactTexts.{IsOfReferences};
 ghost use Rattle.oim_fast.specs.Facts.{WritesFacts};
 
 use crate::frame::fact::put_fact;
@@ -42,6 +42,22 @@ fn note_end(before: usize, end: usize, ends: &mut Vec<usize>) -> Result<(), Allo
         ends.push(end)?;
     }
     Ok(())
+}
+
+/// How many facts a block of texts has at most.
+const BLOCK: usize = 256;
+
+/// Takes memory for where `count` more texts end, and at first for a whole block of them. Fails where memory is short.
+#[inline(always)]
+fn reserve_ends(ends: &mut Vec<usize>, count: usize) -> Result<(), AllocError>
+    ensures { ends.new.items ≡ ends.old.items }
+{
+    let more = if ends.is_empty() {
+        count.max(BLOCK)
+    } else {
+        count
+    };
+    ends.reserve(more)
 }
 
 /// Appends the fact of a cell of any form in the column of a frame, whose text begins with `start`, where it has one. A value is copied
@@ -96,6 +112,7 @@ impl<'a> CellWriter<'a> {
         ensures form { IsCellWriter row.now.form self.new }
         ensures row { OnOk result (IsInRow row.now self.new) }
     {
+        // For the proof: the number of a row is below 2^32.
         let _digits = row.digits();
         self.maker.refresh(alloc, row)?;
         self.start.read(row)?;
@@ -154,7 +171,7 @@ impl<'a> CellWriter<'a> {
         ensures facts { IfOk result (λ written. written ≡ true → WritesFacts row.now out.old.items out.new.items ends.old.items ends.new.items) }
     {
         let count = self.columns.len();
-        ends.reserve(count)?;
+        reserve_ends(ends, count)?;
         for i in 0..count {
             let before = out.len();
             let done = self.put_cell(alloc, row, i, out)?;

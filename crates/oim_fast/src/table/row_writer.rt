@@ -7,21 +7,21 @@ ghost use Rattle.oim_fast.specs.Facts.{WritesFacts};
 use crate::row::table_row::TableRow;
 use crate::table::cell_writer::CellWriter;
 use crate::text::buffer::TextBuffer;
+use ghost_value::GhostValue;
 use oim_rows::RowForm;
 use std::alloc::{AllocError, Global};
 use std::marker::Model;
-use told::Told;
 
 /// Writes the facts of a table's rows: all that is ready for it. A contract sees what its rows are read by.
 #[derive(Drop)]
 pub struct RowWriter<'a> {
-    form: Told<RowForm<'a>>,
+    form: GhostValue<RowForm<'a>>,
     cells: CellWriter<'a>,
 }
 
 impl<'a> Model for RowWriter<'a> {
     ghost use Rattle.oim_rows.specs.RowFacts.{Reading};
-    ghost use Rattle.oim_fast.specs.CellWriters.{IsCellWriter};
+    ghost use Rattle.oim_fast.specs.state.CellWriters.{IsCellWriter};
 
     ghost Value = { Reading };
 
@@ -38,7 +38,7 @@ impl<'a> RowWriter<'a> {
         ensures { IfOk result (λ w. w ≡ form.now) }
     {
         Ok(RowWriter {
-            form: Told::seen(form),
+            form: GhostValue::seen(form),
             cells: CellWriter::new(alloc, form)?,
         })
     }

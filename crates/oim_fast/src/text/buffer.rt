@@ -111,6 +111,14 @@ impl TextBuffer {
         make_room(&mut self.room, self.len, BEHIND)
     }
 
+    /// Gives back memory that the text does not need.
+    pub(crate) fn fit(&mut self)
+        ensures items { self.new.items ≡ self.old.items }
+    {
+        self.room.truncate(self.len.saturating_add(BEHIND));
+        self.room.shrink_to_fit();
+    }
+
     /// Takes memory for `more` bytes behind the text. Fails where memory is short.
     pub(crate) fn reserve(&mut self, more: usize) -> Result<(), AllocError>
         ensures items { self.new.items ≡ self.old.items }

@@ -4,9 +4,9 @@ ghost use Rattle.std.specs.Prelude.{◌≡◌, ◌+◌, ◌++◌, ◌*◌, ◌<�
 ghost use Rattle.std.specs.List.{flat_map, prefix_len};
 ghost use Rattle.std.specs.Simd.Lanes.{mask_l};
 ghost use mathlib.Core.List.{IsPrefix};
-ghost use Rattle.oim_fast.specs.Escapes.{is_escaped};
+ghost use Rattle.oim_fast.specs.state.Escapes.{is_escaped};
 ghost use Rattle.oim_json.specs.JsonText.{escaped_byte, is_unescaped, quoted};
-ghost use Rattle.oim_fast.specs.Places.{Placed};
+ghost use Rattle.oim_fast.specs.state.Places.{Placed};
 
 use crate::text::buffer::{TextBuffer, make_room};
 use crate::text::escape::escape_of;

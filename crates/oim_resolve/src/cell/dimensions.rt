@@ -8,9 +8,9 @@ ghost use Rattle.oim_resolve.specs.Faults.{least, unless};
 ghost use Rattle.oim_resolve.specs.Order.{IsAscending};
 ghost use Rattle.oim_resolve.specs.ProgramCell.{cell_at, held};
 ghost use Rattle.oim_resolve.specs.ProgramValues.{seen_stated};
-ghost use Rattle.oim_resolve.specs.ProgramDimensions.{AreMet, dimension_read, dimensions_of, entries_in};
+ghost use Rattle.oim_resolve.specs.state.ProgramDimensions.{AreMet, dimension_read, dimensions_of, entries_in};
 ghost use Rattle.oim_resolve.specs.ProgramPlan.{seen_keyed, seen_planned};
-ghost use Rattle.oim_resolve.specs.Rows.{row_map};
+ghost use Rattle.oim_resolve.specs.state.Rows.{row_map};
 ghost use Rattle.oim_resolve.specs.Written.{levels, named_groups, written_decimals};
 
 use crate::cell::decimals::Stated;
@@ -65,7 +65,7 @@ fn lent<'a>(
 }
 
 /// The groups that the row names, and the dimensions of the column with those of the groups.
-#[tactic(auto, unfolding(crate::specs::Rows::row_map))]
+#[tactic(auto, unfolding(crate::specs::state::Rows::row_map))]
 fn with_groups<'a>(
     alloc: Global,
     cell: PlannedCell<'a>,

@@ -1,7 +1,7 @@
 //! What the levels of a cell write, with or without the row's groups.
 
 ghost use Rattle.std.specs.Prelude.{◌≡◌, ◌<◌, length, get_or};
-ghost use Rattle.oim_resolve.specs.ProgramDimensions.{entries_in};
+ghost use Rattle.oim_resolve.specs.state.ProgramDimensions.{entries_in};
 
 use crate::plan::{PlannedColumn, PlannedDimension};
 

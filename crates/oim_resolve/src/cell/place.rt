@@ -1,6 +1,6 @@
 //! A cell as the program holds it, and what its row says.
 
-ghost use Rattle.oim_resolve.specs.ProgramPlace.{IsPlace};
+ghost use Rattle.oim_resolve.specs.state.ProgramPlace.{IsPlace};
 
 use crate::cell::decimals::Stated;
 use crate::cell::texts::not_empty;
@@ -30,7 +30,7 @@ impl<'a> Place<'a> {
     ghost use Rattle.oim_resolve.specs.Cell.{text_at, meaning_at};
     ghost use Rattle.oim_resolve.specs.Facts.{fact_meaning, id_of, stated_by};
     ghost use Rattle.oim_resolve.specs.ProgramCell.{cell_at};
-    ghost use Rattle.oim_resolve.specs.ProgramDimensions.{reference_text, row_meaning};
+    ghost use Rattle.oim_resolve.specs.state.ProgramDimensions.{reference_text, row_meaning};
     ghost use Rattle.oim_resolve.specs.ProgramPlan.{seen_planned, seen_reference};
     ghost use Rattle.oim_resolve.specs.ProgramValues.{seen_stated};
     ghost use Rattle.oim_resolve.specs.Values.{not_empty, text_in_row, referred};

@@ -10,9 +10,9 @@ ghost use Rattle.oim_resolve.specs.Cell.{column, meaning_at};
 ghost use Rattle.oim_resolve.specs.Facts.{cell_and_group_faults, cell_result, concept_read, early_result, fact_meaning, given, is_absent, is_unknown, names_no_group};
 ghost use Rattle.oim_resolve.specs.Faults.{least};
 ghost use Rattle.oim_resolve.specs.ProgramCell.{cell_at};
-ghost use Rattle.oim_resolve.specs.ProgramDimensions.{dimension_concept};
+ghost use Rattle.oim_resolve.specs.state.ProgramDimensions.{dimension_concept};
 ghost use Rattle.oim_resolve.specs.ProgramPlan.{ArePlanned, over, seen_flagged, seen_group, seen_planned, with_named};
-ghost use Rattle.oim_resolve.specs.Rows.{planned_named, row_map};
+ghost use Rattle.oim_resolve.specs.state.Rows.{planned_named, row_map};
 ghost use Rattle.oim_resolve.specs.Written.{group_named};
 
 use crate::cell::dimensions::CellDimensions;
@@ -151,7 +151,7 @@ impl<'a> PlannedCell<'a> {
     }
 
     /// The concept, where a level writes it. It takes no memory.
-    #[tactic(auto, unfolding(crate::specs::Rows::row_map))]
+    #[tactic(auto, unfolding(crate::specs::state::Rows::row_map))]
     fn concept(&self) -> Option<&'a PlannedDimension<'a>>
         ensures { option_map seen_flagged result ≡ value_at (codes "concept") (row_map (cell_at self.now.place)) }
     {

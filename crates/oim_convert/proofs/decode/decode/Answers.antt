@@ -4,7 +4,7 @@ use Rattle.oim_ring.specs.Ends.{ClosedView}
 use Rattle.oim_ring.specs.Items.{blocks_only}
 use Rattle.oim_ring.specs.declared.item.Item.TheVariants as items
 use Rattle.oim_rows.specs.Streams.{table_stream}
-use Rattle.oim_convert.specs.Files.{IsFileOf}
+use Rattle.oim_records.specs.Reads.{IsFileOf}
 use Rattle.oim_convert.specs.Histories.{IsDecoded, IsGiven, facts_in}
 use Rattle.oim_convert.proofs.SentFacts.{file_decoded, if_some_both, no_file_decoded}
 use Rattle.oim_convert.proofs.decode.decode.Goals as goal

@@ -3,7 +3,7 @@ use Rattle.std.proofs.Common.{refl, subst}
 use Rattle.std.proofs.lemmas.Option.{IfSome_then}
 use Rattle.oim_ring.specs.declared.item.Ending.TheVariants.{Refused}
 use Rattle.oim_rows.specs.Streams.{table_stream}
-use Rattle.oim_convert.specs.Steps.{Gave}
+use Rattle.oim_convert.specs.state.Steps.{Gave}
 use Rattle.oim_convert.proofs.SentFacts.{unopened_given}
 use Rattle.oim_convert.proofs.SerialTables.{took_as, took_nothing}
 use Rattle.oim_convert.proofs.serial.convert_file.Goals as goal

@@ -1,8 +1,8 @@
 use Rattle.std.specs.Prelude.{Some, None, IfSome, Ok, ℕ, List, [], Option}
 use Rattle.std.proofs.Common.{inl, refl, subst}
 use Rattle.oim_rows.specs.Streams.{table_stream}
-use Rattle.oim_convert.specs.Files.{IsFileOf}
-use Rattle.oim_convert.specs.Steps.{Gave}
+use Rattle.oim_records.specs.Reads.{IsFileOf}
+use Rattle.oim_convert.specs.state.Steps.{Gave}
 use Rattle.oim_convert.proofs.TableFiles.{has_file, has_no_file}
 use Rattle.oim_convert.proofs.SerialTables.{took_as, took_nothing}
 use Rattle.oim_convert.proofs.serial.convert_table.Goals as goal

@@ -7,8 +7,8 @@ use Rattle.oim_resolve.specs.FactParts.{FactParts as Fact}
 use Rattle.oim_ring.specs.declared.item.Item.TheVariants as items
 use Rattle.oim_rows.specs.Streams.{table_stream}
 use Rattle.oim_convert.specs.Answer.{histories_of, streams}
-use Rattle.oim_convert.specs.Files.{IsFileOf}
-use Rattle.oim_convert.specs.Steps.{Gave}
+use Rattle.oim_records.specs.Reads.{IsFileOf}
+use Rattle.oim_convert.specs.state.Steps.{Gave}
 use Rattle.oim_convert.proofs.TableFiles.{nothing_left}
 use Rattle.oim_convert.proofs.SerialTables.{HasRead, continues_more, files_begin, files_end, first_nothing, next_broke, next_read, refusals_more, took_refusals}
 use Rattle.oim_convert.proofs.serial.convert_tables.Goals as goal

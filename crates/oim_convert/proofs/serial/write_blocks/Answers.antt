@@ -3,7 +3,7 @@ use Rattle.std.proofs.Common.{ap, refl, ◌∙◌}
 use Rattle.std.proofs.lemmas.Option.{IfSome_then}
 use Rattle.oim_merge.specs.Writers.{WriterView}
 use Rattle.oim_ring.specs.declared.item.Ending.TheVariants.{Closed, Refused}
-use Rattle.oim_convert.specs.Steps.{Gave}
+use Rattle.oim_convert.specs.state.Steps.{Gave}
 use Rattle.oim_convert.proofs.SentFacts.{IsReading, block_given, cut_short, end_given, fault_given, reading_begins, so_far}
 use Rattle.oim_convert.proofs.SerialTables.{took_as, took_more, took_nothing}
 use Rattle.oim_convert.proofs.serial.write_blocks.Goals as goal

@@ -1,5 +1,5 @@
 use Rattle.std.proofs.Common.{◌≡◌, IfSome}
-use Rattle.oim_convert.specs.Steps.{TookBlocks}
+use Rattle.oim_convert.specs.state.Steps.{TookBlocks}
 use Rattle.oim_convert.proofs.SentFacts.{IsReading}
 use Rattle.oim_convert.proofs.serial.write_blocks.Given as goal
 

@@ -6,7 +6,7 @@ use Rattle.oim_ring.specs.Ends.{DrainView}
 use Rattle.oim_ring.specs.declared.item.Item.{Item}
 use Rattle.oim_crew.specs.Claims.{Claiming}
 use Rattle.oim_convert.specs.Jobs.{Each, IsEnded, IsTable}
-use Rattle.oim_convert.specs.Preparing.{IsReturnRoom}
+use Rattle.oim_convert.specs.state.Preparing.{IsReturnRoom}
 use Rattle.oim_convert.specs.declared.job.Job.{Job}
 use Rattle.oim_convert.proofs.ReceiptsAndDrains.{lanes_ended, lanes_fresh, opened_serve}
 use Rattle.oim_convert.proofs.RunHistories.{as_many, rings_len}

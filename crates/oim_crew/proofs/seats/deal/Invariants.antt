@@ -1,6 +1,6 @@
 use Rattle.std.proofs.Common.{◌≡◌, ◌≤◌, ◌-◌, replicate, vec_capacity}
 use Rattle.oim_crew.specs.Claims.{fresh}
-use Rattle.oim_crew.specs.Views.{opening_view, claiming}
+use Rattle.oim_crew.specs.state.Views.{opening_view, claiming}
 use Rattle.oim_crew.proofs.seats.deal.Given as goal
 
 abbrev pub invariant-loop-made : goal.invariant-loop-made

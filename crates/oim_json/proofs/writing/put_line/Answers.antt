@@ -1,6 +1,6 @@
 use Rattle.std.specs.Prelude.{◌++◌}
 use Rattle.std.proofs.Common.{◌∙◌, ap, subst}
-use Rattle.oim_json.specs.Chunks.{Puts}
+use Rattle.oim_json.specs.state.Chunks.{Puts}
 use Rattle.oim_json.specs.Document.{line_start}
 use Rattle.oim_json.specs.Sinks.{Broke}
 use Rattle.oim_json.specs.declared.layout.Layout.TheVariants.{Lines}

@@ -1,7 +1,7 @@
 use Rattle.std.specs.Prelude.{◌<◌, ◌≤◌, [], length}
 use Rattle.std.proofs.Common.{arith, subst, sym}
 use Rattle.std.proofs.lemmas.List.{take_all}
-use Rattle.oim_json.specs.Chunks.{IsPut}
+use Rattle.oim_json.specs.state.Chunks.{IsPut}
 use Rattle.oim_json.specs.Document.{more_members}
 use Rattle.oim_json.specs.declared.layout.Layout.TheVariants.{Lines}
 use Rattle.oim_json.proofs.Chunks.{put_out}

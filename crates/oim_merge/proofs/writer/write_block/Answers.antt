@@ -4,7 +4,7 @@ use Rattle.std.proofs.lemmas.Bool.{lt-ltb}
 use Rattle.oim_json.specs.Document.{more_members}
 use Rattle.oim_json.specs.Sinks.{Broke, SinkView, Wrote}
 use Rattle.oim_json.specs.declared.layout.Layout.{Layout}
-use Rattle.oim_merge.specs.Steps.{StandsAt}
+use Rattle.oim_merge.specs.state.Steps.{StandsAt}
 use Rattle.oim_merge.specs.Writers.{given}
 use Rattle.oim_merge.specs.declared.progress.Standing.TheVariants as standings
 use Rattle.oim_ring.specs.declared.item.Item.TheVariants as items

@@ -1,5 +1,5 @@
 use Rattle.std.proofs.Common.{◌≡◌}
-use Rattle.oim_pieces.specs.Lines.{IsLine}
+use Rattle.oim_pieces.specs.state.Lines.{IsLine}
 use Rattle.oim_pieces.proofs.flying.await_sheet.Given as goal
 
 abbrev pub invariant-loop : goal.invariant-loop

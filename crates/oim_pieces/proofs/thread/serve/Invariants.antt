@@ -1,4 +1,4 @@
-use Rattle.oim_pieces.specs.Lines.{IsHow}
+use Rattle.oim_pieces.specs.state.Lines.{IsHow}
 use Rattle.oim_pieces.proofs.thread.serve.Given as goal
 
 abbrev pub invariant-loop : goal.invariant-loop

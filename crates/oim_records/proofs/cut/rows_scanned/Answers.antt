@@ -1,5 +1,5 @@
 use Rattle.std.proofs.Common.{◌∙◌, ap, sym, arith}
-use Rattle.oim_records.specs.Scans.{fresh}
+use Rattle.oim_records.specs.state.Scans.{fresh}
 use Rattle.oim_records.specs.declared.scan.Scan.{Scan}
 use Rattle.oim_records.proofs.Meaning.{rows-between, rows-within_one}
 use Rattle.oim_records.proofs.Walks.{scanned-rows, scanned-seen}

@@ -1,5 +1,5 @@
 use Rattle.std.proofs.Common.{refl}
-use Rattle.oim_records.specs.Bytes.{ends_field}
+use Rattle.oim_records.specs.state.Bytes.{ends_field}
 use Rattle.oim_records.proofs.LaneMarks.{bit-set, bit-within}
 use Rattle.oim_records.proofs.lanes.field_ends.Goals as goal
 

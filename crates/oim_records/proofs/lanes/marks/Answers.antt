@@ -1,5 +1,5 @@
 use Rattle.std.proofs.Common.{refl}
-use Rattle.oim_records.specs.Runs.{is_special}
+use Rattle.oim_records.specs.state.Runs.{is_special}
 use Rattle.oim_records.proofs.LaneMarks.{bit-set, bit-within}
 use Rattle.oim_records.proofs.lanes.marks.Goals as goal
 

@@ -1,7 +1,6 @@
 use Rattle.std.proofs.Common.{◌≡◌, ◌++◌, ◌∙◌, sym, ap, subst, arith, drop, take, length, length-take-le}
 use Rattle.std.proofs.lemmas.List.{take_at}
-use Rattle.oim_records.specs.Fields.{fields_in}
-use Rattle.oim_records.specs.Held.{IsTaken}
+use Rattle.oim_records.specs.state.Fields.{IsFirstRecord, fields_in}
 use Rattle.oim_records.proofs.FieldLaws.{line-starts}
 use Rattle.oim_records.proofs.PieceReads.{lines-passed, none-left, record-taken}
 use Rattle.oim_records.proofs.piece_records.read_first.Goals as goal
@@ -32,4 +31,4 @@ returns-clause-read c =
     let size : length text ≡ c.args.end = length-take-le c.args.end c.args.bytes.now c.requires.end in
     let long : length now ≡ length text = c.read_record.auto.text in
     let taken = record-taken text now rest ranges c.args.from c.line_start-at.result next c.line_start-at.ensures.value read.first read.behind (omega (arith, inside.1)) inside.2 in
-    subst (λ xs. IsTaken (drop c.args.from text) (fields_in (now ++ rest) ranges) (drop next xs)) (sym (take_at now rest c.args.end (long ∙ size))) taken
+    subst (λ xs. IsFirstRecord (drop c.args.from text) (fields_in (now ++ rest) ranges) (drop next xs)) (sym (take_at now rest c.args.end (long ∙ size))) taken

@@ -1,6 +1,6 @@
 use Rattle.std.proofs.Common.{◌+◌, ap, arith}
-use Rattle.oim_records.specs.Bits.{IsLowest}
-use Rattle.oim_records.specs.Bytes.{ends_field}
+use Rattle.oim_records.specs.state.Bits.{IsLowest}
+use Rattle.oim_records.specs.state.Bytes.{ends_field}
 use Rattle.oim_records.proofs.Ends.{ends-first, ends-next, plain-read}
 use Rattle.oim_records.proofs.record.read_plain.Goals as goal
 

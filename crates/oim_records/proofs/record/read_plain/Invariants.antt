@@ -1,5 +1,5 @@
 use Rattle.std.proofs.Common.{◌+◌, ◌≤◌}
-use Rattle.oim_records.specs.Fields.{ReadsOn}
+use Rattle.oim_records.specs.state.Fields.{ReadsOn}
 use Rattle.oim_records.proofs.Ends.{AreEnds}
 use Rattle.oim_records.proofs.record.read_plain.Given as goal
 

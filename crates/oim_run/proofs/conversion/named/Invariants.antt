@@ -1,5 +1,5 @@
 use Rattle.std.proofs.Common.{◌≡◌, ◌≤◌, ◌++◌, drop, vec_len, vec_capacity, length}
-use Rattle.oim_run.specs.Naming.{with_names}
+use Rattle.oim_run.specs.state.Naming.{with_names}
 use Rattle.oim_run.proofs.conversion.named.Given as goal
 
 abbrev pub invariant-loop-fault : goal.invariant-loop-fault

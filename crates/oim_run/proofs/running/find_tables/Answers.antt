@@ -1,5 +1,5 @@
 use Rattle.std.proofs.Common.{◌∙◌, arith, subst, rules, IfSome, string_bytes}
-use Rattle.oim_files.specs.Folders.{IsFileOf}
+use Rattle.oim_records.specs.Reads.{IsFileOf}
 use Rattle.oim_run.proofs.Endings.{one_longer, one_more}
 use Rattle.oim_run.proofs.FileFacts.{found_file}
 use Rattle.oim_run.proofs.running.find_tables.Goals as goal

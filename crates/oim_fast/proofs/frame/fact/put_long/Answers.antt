@@ -1,5 +1,5 @@
 use Rattle.std.proofs.Common.{◌∙◌, ap, subst, take}
-use Rattle.oim_fast.specs.FactTexts.{AddsFact}
+use Rattle.oim_fast.specs.state.FactTexts.{AddsFact}
 use Rattle.oim_fast.specs.declared.frame.value.Value.{Value}
 use Rattle.oim_fast.proofs.LongValues.{long_added, old_kept, put_true, two_there}
 use Rattle.oim_fast.proofs.frame.fact.put_long.Goals as goal

@@ -1,6 +1,6 @@
 use Rattle.std.proofs.Common.{◌≡◌, ◌*◌, length, sym, ap, ◌∙◌, arith}
-use Rattle.oim_fast.specs.FactTexts.{frame_length}
-use Rattle.oim_fast.specs.FrameTexts.{FrameValue}
+use Rattle.oim_fast.specs.state.FactTexts.{frame_length}
+use Rattle.oim_fast.specs.state.FrameTexts.{FrameValue}
 use Rattle.oim_fast.proofs.FactTextLaws.{frame_length_is, segments_length}
 use Rattle.oim_fast.proofs.frame.fact.room_for.Goals as goal
 

@@ -1,6 +1,6 @@
 use Rattle.std.proofs.Common.{◌≡◌, ◌++◌, ◌∷◌, [], Some, None, Option, length, map, sym, ap, subst, ◌∙◌, arith}
 use Rattle.std.specs.List.{All}
-use Rattle.oim_fast.specs.Columns.{IsColumnAt, IsFactColumn}
+use Rattle.oim_fast.specs.state.Columns.{IsColumnAt, IsFactColumn}
 use Rattle.oim_fast.specs.declared.frame.fact_column.FactColumn.{FactColumn}
 use Rattle.oim_fast.proofs.ColumnLaws.{one_more}
 use Rattle.oim_fast.proofs.frame.fact_column.fact_columns.Goals as goal

@@ -1,6 +1,6 @@
 use Rattle.std.proofs.Common.{◌<◌, arith, map, take}
 use lib.Lanes.{mask_l}
-use Rattle.oim_fast.specs.Digits.{is_other}
+use Rattle.oim_fast.specs.state.Digits.{is_other}
 use Rattle.oim_fast.proofs.NumeralMarks.{all_digits, digits_before}
 use Rattle.oim_fast.proofs.frame.numeral.digits_at_once.Goals as goal
 

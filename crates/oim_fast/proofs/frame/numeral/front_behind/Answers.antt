@@ -1,6 +1,6 @@
 use Rattle.std.proofs.Common.{Bool, List, ℕ, sym, subst, ◌∙◌, arith, take, drop}
 use Rattle.std.proofs.lemmas.List.{take_rest}
-use Rattle.oim_fast.specs.Digits.{IsUnsigned}
+use Rattle.oim_fast.specs.state.Digits.{IsUnsigned}
 use Rattle.oim_fast.proofs.Numerals.{digits_there, pointed_digits_there}
 use Rattle.oim_fast.proofs.frame.numeral.front_behind.Goals as goal
 

@@ -1,6 +1,6 @@
 use Rattle.std.proofs.Common.{arith}
 use Rattle.std.proofs.lemmas.Simd.{zip2_splat}
-use Rattle.oim_fast.specs.Digits.{is_other}
+use Rattle.oim_fast.specs.state.Digits.{is_other}
 use Rattle.oim_records.proofs.Masks.{either, from_splat, masked}
 use Rattle.oim_fast.proofs.Escaping.{below}
 use Rattle.oim_fast.proofs.frame.numeral.other_marks.Goals as goal

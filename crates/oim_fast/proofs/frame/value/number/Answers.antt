@@ -2,7 +2,7 @@ use Rattle.std.proofs.Common.{None, Some, false, refl, sym, subst, ap, arith, dr
 use Rattle.oim_cells.specs.Cells.{meaning_of}
 use Rattle.oim_rows.specs.RowFacts.{field_or_empty}
 use Rattle.oim_report.specs.declared.kind.Kind.TheVariants.{Number as number_kind}
-use Rattle.oim_fast.specs.CellValues.{IsValue}
+use Rattle.oim_fast.specs.state.CellValues.{IsValue}
 use Rattle.oim_fast.specs.declared.frame.value.Value.{Value}
 use Rattle.oim_fast.proofs.Numerals.{suffix_split, whole_split}
 use Rattle.oim_fast.proofs.ValueLaws.{number_found}

@@ -2,7 +2,7 @@ use Rattle.std.proofs.Common.{None, Some, IfSome, false, refl, sym, subst}
 use Rattle.oim_cells.specs.Cells.{meaning_of}
 use Rattle.oim_rows.specs.RowFacts.{field_or_empty}
 use Rattle.oim_report.specs.declared.kind.Kind.{Kind}
-use Rattle.oim_fast.specs.CellValues.{IsValue}
+use Rattle.oim_fast.specs.state.CellValues.{IsValue}
 use Rattle.oim_fast.specs.declared.frame.value.Value.{Value}
 use Rattle.oim_fast.proofs.ValueLaws.{plain_value}
 use Rattle.oim_fast.proofs.frame.value.quick_value.Goals as goal

@@ -1,7 +1,7 @@
 use Rattle.std.proofs.Common.{List, ℕ, ◌∙◌, sym, subst}
 use Rattle.std.proofs.lemmas.Slice.Eq.{bytes_eq-Decides}
 use Rattle.oim_cells.specs.Cells.{meaning_of}
-use Rattle.oim_fast.specs.CellValues.{IsValue}
+use Rattle.oim_fast.specs.state.CellValues.{IsValue}
 use Rattle.oim_fast.proofs.frame.value.rare_value.Goals as goal
 
 pub returns-then-eq : goal.returns-then-eq

@@ -1,9 +1,9 @@
 use Rattle.std.proofs.Common.{◌≡◌, ◌<◌, ◌-◌, ◌++◌, ℕ, List, [], length, drop, sym, ap, subst, ◌∙◌, arith, append_assoc, append-nil}
 use Rattle.std.specs.Prelude.{slice_range}
 use Rattle.std.proofs.lemmas.List.{length-take}
-use Rattle.oim_fast.specs.Pieces.{behind}
-use Rattle.oim_fast.specs.Places.{Placed}
-use Rattle.oim_fast.specs.References.{given_by}
+use Rattle.oim_fast.specs.state.Pieces.{behind}
+use Rattle.oim_fast.specs.state.Places.{Placed}
+use Rattle.oim_fast.specs.state.References.{given_by}
 use Rattle.oim_fast.proofs.PlacedBytes.{Placed-then}
 use Rattle.oim_fast.proofs.WriteLaws.{answered, behind_some, none_given, range_split}
 use Rattle.oim_fast.proofs.frame.write.write_run.Goals as goal

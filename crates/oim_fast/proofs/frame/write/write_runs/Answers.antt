@@ -2,9 +2,9 @@ use Rattle.std.proofs.Common.{◌≡◌, ◌+◌, ◌++◌, ◌∷◌, true, Lis
 use Rattle.std.specs.Prelude.{slice_range}
 use Rattle.std.specs.List.{flat_map}
 use Rattle.std.proofs.lemmas.List.{drop_more, get_or_default}
-use Rattle.oim_fast.specs.FrameTexts.{AreRuns, rest_from, segment_text, segments_from}
-use Rattle.oim_fast.specs.Pieces.{behind}
-use Rattle.oim_fast.specs.References.{given_by, is_sound_by}
+use Rattle.oim_fast.specs.state.FrameTexts.{AreRuns, rest_from, segment_text, segments_from}
+use Rattle.oim_fast.specs.state.Pieces.{behind}
+use Rattle.oim_fast.specs.state.References.{given_by, is_sound_by}
 use Rattle.oim_fast.specs.declared.frame.frame_text.Run.{Run}
 use Rattle.oim_fast.proofs.FrameTextLaws.{runs_within}
 use Rattle.oim_fast.proofs.PlacedBytes.{Placed-stays, Placed-then, Stays-then}

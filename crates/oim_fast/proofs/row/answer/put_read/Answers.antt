@@ -1,6 +1,6 @@
 use Rattle.std.proofs.Common.{◌++◌, sym, ap, ◌∙◌}
 use Rattle.oim_cells.specs.Cells.{seen_meaning}
-use Rattle.oim_fast.specs.Answers.{dimension_json}
+use Rattle.oim_fast.specs.state.Answers.{dimension_json}
 use Rattle.oim_fast.proofs.ReadLaws.{entry_read}
 use Rattle.oim_fast.proofs.row.answer.put_read.Goals as goal
 

@@ -1,6 +1,6 @@
 use Rattle.std.proofs.Common.{◌∷◌, [], ◌++◌, ap, ◌∙◌, append_assoc, arith}
 use Rattle.std.proofs.lemmas.List.{length_push}
-use Rattle.oim_fast.specs.References.{IsEmptyText}
+use Rattle.oim_fast.specs.state.References.{IsEmptyText}
 use Rattle.oim_fast.proofs.Growth.{all_push}
 use Rattle.oim_fast.proofs.row.reference.add_places.Goals as goal
 

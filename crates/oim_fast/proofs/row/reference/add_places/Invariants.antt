@@ -1,5 +1,5 @@
 use Rattle.std.proofs.Common.{◌≡◌, ◌+◌, length}
-use Rattle.oim_fast.specs.References.{AddsPlaces}
+use Rattle.oim_fast.specs.state.References.{AddsPlaces}
 use Rattle.oim_fast.proofs.row.reference.add_places.Given as goal
 
 abbrev pub invariant-loop-i : goal.invariant-loop-i

@@ -1,7 +1,7 @@
 use Rattle.std.proofs.Common.{◌≡◌, ◌<◌, length, get_or, sym, ap, subst, arith, ◌∙◌}
 use Rattle.std.proofs.lemmas.List.{length-map}
-use Rattle.oim_fast.specs.References.{IsFresh, IsOfReport, ReferenceValue, key_of}
-use Rattle.oim_fast.specs.Sources.{source_text}
+use Rattle.oim_fast.specs.state.References.{IsFresh, IsOfReport, ReferenceValue, key_of}
+use Rattle.oim_fast.specs.state.Sources.{source_text}
 use Rattle.oim_fast.proofs.Refreshed.{set_map, set_below, set_all}
 use Rattle.oim_fast.proofs.row.references.refresh_all.Goals as goal
 

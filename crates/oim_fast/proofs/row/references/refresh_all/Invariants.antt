@@ -1,6 +1,6 @@
 use Rattle.std.proofs.Common.{◌≡◌, ◌<◌, ℕ, map, get_or}
 use Rattle.std.specs.List.{All}
-use Rattle.oim_fast.specs.References.{IsFresh, IsOfReport, ReferenceValue, key_of}
+use Rattle.oim_fast.specs.state.References.{IsFresh, IsOfReport, ReferenceValue, key_of}
 use Rattle.oim_fast.proofs.row.references.refresh_all.Given as goal
 
 abbrev pub invariant-loop-i : goal.invariant-loop-i

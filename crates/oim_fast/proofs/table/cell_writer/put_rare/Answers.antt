@@ -1,8 +1,8 @@
 use Rattle.std.proofs.Common.{◌≡◌, ap, subst}
 use Rattle.oim_cells.specs.Cells.{meaning_of}
 use Rattle.oim_report.specs.declared.kind.Kind.{Kind}
-use Rattle.oim_fast.specs.CellValues.{IsCellValue, IsValue}
-use Rattle.oim_fast.specs.FrameTexts.{FrameValue}
+use Rattle.oim_fast.specs.state.CellValues.{IsCellValue, IsValue}
+use Rattle.oim_fast.specs.state.FrameTexts.{FrameValue}
 use Rattle.oim_fast.proofs.CellWriterLaws.{value_is_plain, value_said}
 use Rattle.oim_fast.proofs.table.cell_writer.put_rare.Goals as goal
 

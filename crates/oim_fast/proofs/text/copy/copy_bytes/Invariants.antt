@@ -1,7 +1,7 @@
 use Rattle.std.proofs.Common.{◌+◌, ◌*◌, ◌≤◌, take}
 use Rattle.std.specs.List.{flat_map}
 use Rattle.oim_json.specs.JsonText.{escaped_byte}
-use Rattle.oim_fast.specs.Places.{Placed}
+use Rattle.oim_fast.specs.state.Places.{Placed}
 use Rattle.oim_fast.proofs.text.copy.copy_bytes.Given as goal
 
 abbrev pub invariant-loop-i : goal.invariant-loop-i

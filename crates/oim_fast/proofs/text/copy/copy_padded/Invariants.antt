@@ -1,5 +1,5 @@
 use Rattle.std.proofs.Common.{◌+◌, ◌-◌, ◌≤◌, length, take}
-use Rattle.oim_fast.specs.Places.{Placed}
+use Rattle.oim_fast.specs.state.Places.{Placed}
 use Rattle.oim_fast.proofs.text.copy.copy_padded.Given as goal
 
 abbrev pub invariant-loop-done : goal.invariant-loop-done

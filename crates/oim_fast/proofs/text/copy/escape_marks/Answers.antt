@@ -1,6 +1,6 @@
 use Rattle.std.proofs.Common.{arith}
 use Rattle.std.proofs.lemmas.Simd.{zip2_splat}
-use Rattle.oim_fast.specs.Escapes.{is_escaped}
+use Rattle.oim_fast.specs.state.Escapes.{is_escaped}
 use Rattle.oim_records.proofs.Masks.{hit, either, masked}
 use Rattle.oim_fast.proofs.Escaping.{below}
 use Rattle.oim_fast.proofs.text.copy.escape_marks.Goals as goal

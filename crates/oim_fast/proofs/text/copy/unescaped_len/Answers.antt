@@ -1,6 +1,6 @@
 use Rattle.std.proofs.Common.{◌<◌, arith, map, take}
 use lib.Lanes.{mask_l}
-use Rattle.oim_fast.specs.Escapes.{is_escaped}
+use Rattle.oim_fast.specs.state.Escapes.{is_escaped}
 use Rattle.oim_fast.proofs.Escaping.{no_marks, some_marks}
 use Rattle.oim_fast.proofs.text.copy.unescaped_len.Goals as goal
 

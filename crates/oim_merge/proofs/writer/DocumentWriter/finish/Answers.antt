@@ -4,7 +4,7 @@ use Rattle.oim_json.specs.Sinks.{Broke, SinkView, Wrote}
 use Rattle.oim_json.specs.declared.layout.Layout.{Layout}
 use Rattle.oim_merge.specs.Histories.{refusals}
 use Rattle.oim_merge.specs.Merging.{EndsWith}
-use Rattle.oim_merge.specs.Steps.{StandsAt}
+use Rattle.oim_merge.specs.state.Steps.{StandsAt}
 use Rattle.oim_merge.specs.Writers.{WriterView, whole_text}
 use Rattle.oim_merge.specs.declared.progress.MergeEnd.TheVariants as end
 use Rattle.oim_merge.specs.declared.progress.Standing.TheVariants as standings

@@ -2,7 +2,7 @@ use Rattle.std.proofs.Common.{◌++◌, ◌∷◌, ◌+◌, [], ap, sym, subst, 
 use Rattle.oim_records.specs.PieceTaking.{bytes_left}
 use Rattle.oim_rows.specs.RowFacts.{Reading}
 use Rattle.oim_pieces.specs.Cutting.{CutterLeft}
-use Rattle.oim_pieces.specs.Lines.{IsLine}
+use Rattle.oim_pieces.specs.state.Lines.{IsLine}
 use Rattle.oim_pieces.proofs.Openings.{behind_chain, behind_stream}
 use Rattle.oim_pieces.proofs.flight.Flight.behind.Goals as goal
 

@@ -1,5 +1,5 @@
 use Rattle.std.proofs.Common.{◌∙◌, [], refl, arith}
-use Rattle.oim_records.specs.Scans.{fresh}
+use Rattle.oim_records.specs.state.Scans.{fresh}
 use Rattle.oim_records.proofs.Walks.{scanned-none}
 use Rattle.oim_records.proofs.piece_reader.PieceReader.take_all.Goals as goal
 

@@ -1,6 +1,6 @@
 use Rattle.std.proofs.Common.{◌≡◌, ◌≤◌, ◌∙◌, ap, arith, length, sym, take}
 use Rattle.oim_rows.specs.Streams.{facts_of_rows}
-use Rattle.oim_decode.specs.RowEnds.{counts_from}
+use Rattle.oim_decode.specs.state.RowEnds.{counts_from}
 use Rattle.oim_decode.proofs.RowCuts.{all_taken, count_before, counts_length, counts_take, facts_of_first, first_within}
 use Rattle.oim_decode.proofs.piece.written_rows.WrittenRows.cut.Goals as goal
 

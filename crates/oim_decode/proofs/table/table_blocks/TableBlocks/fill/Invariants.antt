@@ -1,20 +1,20 @@
 use Rattle.std.proofs.Common.{◌≡◌, ◌⊎◌, ◌<◌, ◌≤◌, ◌-◌, IfSome, IsSome, None}
-use Rattle.oim_decode.specs.Blocks.{HasRead, IsBehind, answered_of, blocks_left, left_of, turns_left}
+use Rattle.oim_decode.specs.Blocks.{HasRead, IsBehind, blocks_left, left_of, turns_left}
 use Rattle.oim_decode.proofs.table.table_blocks.TableBlocks.fill.Given as goal
 
 abbrev pub invariant-loop-self : goal.invariant-loop-self
 invariant-loop-self g l = record {
-  reads : IfSome l.fn.self.left (λ s. HasRead l.fn.self.table s l.fn.self.pending l.self-inside.facts (left_of l.self-inside.progress l.self-inside.rows.left));
-  again : IsSome l.fn.self.answered → blocks_left l.self-inside.rows l.self-inside.facts l.self-inside.progress ≡ l.fn.self;
+  reads : IfSome l.fn.self.left (λ s. HasRead l.fn.self.table s l.fn.self.pending l.self-inside.facts (left_of l.self-inside.settled l.self-inside.rows.left));
+  again : IsSome l.fn.self.answered → blocks_left l.self-inside.rows l.self-inside.facts l.self-inside.settled ≡ l.fn.self;
   table : l.self-inside.rows.reading.table ≡ l.fn.self.table;
   limit : l.self-inside.rows.reading.limit ≡ l.fn.self.limit;
   whole : l.whole ≤ 256;
   behind : l.fn.self.answered ≡ None → IfSome l.fn.self.unread (λ rs. IsBehind l.fn.self.table rs (l.self-inside.rows.given - l.fn.self.given)
-      (answered_of l.self-inside.progress) l.self-inside.rows.unread);
+      l.self-inside.settled l.self-inside.rows.unread);
   begun : l.fn.self.given ≤ l.self-inside.rows.given;
   within : l.self-inside.rows.given ≤ l.self-inside.rows.reading.limit;
   moves : (l.fn.self.given < l.self-inside.rows.given) ⊎ (l.self-inside.facts ≡ l.fn.self.pending);
 }
 
 abbrev pub decreases-loop-self : goal.decreases-loop-self
-decreases-loop-self g l = turns_left (answered_of l.self-inside.progress) (l.self-inside.rows.reading.limit - l.self-inside.rows.given)
+decreases-loop-self g l = turns_left l.self-inside.settled (l.self-inside.rows.reading.limit - l.self-inside.rows.given)

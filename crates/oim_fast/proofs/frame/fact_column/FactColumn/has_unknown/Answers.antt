@@ -1,8 +1,8 @@
 use Rattle.std.proofs.Common.{◌≡◌, ℕ, List, sym, subst, take, true, arith}
 use Rattle.std.specs.List.{All}
 use Rattle.std.proofs.lemmas.List.{take_all}
-use Rattle.oim_fast.specs.Frames.{is_known_choice}
-use Rattle.oim_fast.specs.Groups.{choices_in}
+use Rattle.oim_fast.specs.state.Frames.{is_known_choice}
+use Rattle.oim_fast.specs.state.Groups.{choices_in}
 use Rattle.oim_fast.specs.declared.row.group_cells.Choice.{Choice}
 use Rattle.oim_fast.proofs.ChoiceLaws.{choices_more, known_of}
 use Rattle.oim_fast.proofs.Growth.{all_push}

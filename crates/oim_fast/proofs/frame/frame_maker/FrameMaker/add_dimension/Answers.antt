@@ -1,7 +1,7 @@
 use Rattle.std.proofs.Common.{map, sym}
-use Rattle.oim_fast.specs.Frames.{entry_of}
-use Rattle.oim_fast.specs.Parts.{IsPart}
-use Rattle.oim_fast.specs.References.{key_of}
+use Rattle.oim_fast.specs.state.Frames.{entry_of}
+use Rattle.oim_fast.specs.state.Parts.{IsPart}
+use Rattle.oim_fast.specs.state.References.{key_of}
 use Rattle.oim_fast.proofs.Growth.{grows_none}
 use Rattle.oim_fast.proofs.MakerLaws.{maker_with}
 use Rattle.oim_fast.proofs.MakingLaws.{adds_one, entry_there, part_there, there_in}

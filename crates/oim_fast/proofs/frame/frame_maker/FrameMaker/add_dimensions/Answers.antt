@@ -4,9 +4,9 @@ use Rattle.std.proofs.lemmas.List.{take_all}
 use Rattle.oim_report.specs.declared.data.Written.{Written}
 use Rattle.oim_resolve.specs.ProgramCell.{held}
 use Rattle.oim_resolve.specs.Written.{written}
-use Rattle.oim_fast.specs.Making.{AddsEntries}
-use Rattle.oim_fast.specs.Pieces.{named}
-use Rattle.oim_fast.specs.References.{key_of}
+use Rattle.oim_fast.specs.state.Making.{AddsEntries}
+use Rattle.oim_resolve.specs.ProgramLevels.{named}
+use Rattle.oim_fast.specs.state.References.{key_of}
 use Rattle.oim_fast.proofs.Growth.{grows_none, grows_twice}
 use Rattle.oim_fast.proofs.MakingLaws.{adds_grow, adds_more, adds_none, entries_more}
 use Rattle.oim_fast.proofs.frame.frame_maker.FrameMaker.add_dimensions.Goals as goal

@@ -3,9 +3,9 @@ use Rattle.std.specs.List.{flat_map}
 use Rattle.std.specs.Prelude.{reverse}
 use Rattle.oim_resolve.specs.ProgramCell.{held}
 use Rattle.oim_resolve.specs.Written.{written}
-use Rattle.oim_fast.specs.Making.{AddsEntries, IsMaker}
-use Rattle.oim_fast.specs.Pieces.{named}
-use Rattle.oim_fast.specs.References.{Grows, key_of}
+use Rattle.oim_fast.specs.state.Making.{AddsEntries, IsMaker}
+use Rattle.oim_resolve.specs.ProgramLevels.{named}
+use Rattle.oim_fast.specs.state.References.{Grows, key_of}
 use Rattle.oim_fast.proofs.frame.frame_maker.FrameMaker.add_dimensions.Given as goal
 
 abbrev pub invariant-loop-i : goal.invariant-loop-i

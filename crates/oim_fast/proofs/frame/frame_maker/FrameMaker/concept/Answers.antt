@@ -1,9 +1,9 @@
 use Rattle.std.proofs.Common.{map, reverse, sym, ap, inl}
 use Rattle.oim_resolve.specs.ProgramCell.{held}
-use Rattle.oim_fast.specs.Frames.{entry_of}
-use Rattle.oim_fast.specs.KeptFrames.{kind_code}
-use Rattle.oim_fast.specs.Parts.{IsPart}
-use Rattle.oim_fast.specs.References.{key_of}
+use Rattle.oim_fast.specs.state.Frames.{entry_of}
+use Rattle.oim_fast.specs.state.KeptFrames.{kind_code}
+use Rattle.oim_fast.specs.state.Parts.{IsPart}
+use Rattle.oim_fast.specs.state.References.{key_of}
 use Rattle.oim_fast.proofs.Growth.{grows_none}
 use Rattle.oim_fast.proofs.MakerLaws.{maker_with}
 use Rattle.oim_fast.proofs.MakingLaws.{concept_made, entry_there, part_there, there_in}

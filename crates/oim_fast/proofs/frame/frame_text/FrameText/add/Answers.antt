@@ -1,6 +1,6 @@
 use Rattle.std.proofs.Common.{◌≡◌, ◌++◌, ◌∷◌, [], false, List, ℕ, refl, sym, ap, ◌∙◌, subst}
 use Rattle.oim_resolve.specs.Facts.{is_dropped}
-use Rattle.oim_fast.specs.FrameTexts.{FrameValue, IsLaidOut, with_value}
+use Rattle.oim_fast.specs.state.FrameTexts.{FrameValue, IsLaidOut, with_value}
 use Rattle.oim_fast.specs.declared.frame.frame_text.Run.{Run}
 use Rattle.oim_fast.specs.declared.frame.part.PartValue.TheVariants as part
 use Rattle.oim_fast.proofs.FrameTextLaws.{laid_out_more, laid_out_run, run_at_end, seen, value_more, value_run, with_it}

@@ -2,11 +2,11 @@ use Rattle.std.proofs.Common.{◌≡◌, ℕ, Option, None, IfSome, map, true, s
 use Rattle.std.specs.Prelude.{IsSomeAnd}
 use Rattle.std.specs.List.{All, slice_get}
 use Rattle.oim_resolve.specs.Written.{levels}
-use Rattle.oim_fast.specs.Columns.{IsFactColumn}
-use Rattle.oim_fast.specs.Frames.{HasReferredKind, is_known_choice}
-use Rattle.oim_fast.specs.Groups.{choices_in}
-use Rattle.oim_fast.specs.KeptFrames.{IsKnownFor, IsTextFor, text_in}
-use Rattle.oim_fast.specs.References.{key_of}
+use Rattle.oim_fast.specs.state.Columns.{IsFactColumn}
+use Rattle.oim_fast.specs.state.Frames.{HasReferredKind, is_known_choice}
+use Rattle.oim_fast.specs.state.Groups.{choices_in}
+use Rattle.oim_fast.specs.state.KeptFrames.{IsKnownFor, IsTextFor, text_in}
+use Rattle.oim_fast.specs.state.References.{key_of}
 use Rattle.oim_fast.specs.Rows.{cell_in}
 use Rattle.oim_fast.specs.declared.frame.fact_column.FactColumn.{FactColumn}
 use Rattle.oim_fast.specs.declared.row.group_cells.GroupCells.{GroupCells}

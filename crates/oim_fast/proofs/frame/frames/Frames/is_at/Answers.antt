@@ -1,5 +1,5 @@
 use Rattle.std.proofs.Common.{arith}
-use Rattle.oim_fast.specs.KeptFrames.{IsKnownFor}
+use Rattle.oim_fast.specs.state.KeptFrames.{IsKnownFor}
 use Rattle.oim_fast.proofs.ServedLaws.{some_there}
 use Rattle.oim_fast.proofs.frame.frames.Frames.is_at.Goals as goal
 

@@ -1,6 +1,6 @@
 use Rattle.std.proofs.Common.{◌≡◌, List, arith, length, sym, ap, subst, ◌∙◌, ◌++◌, ◌∷◌, []}
 use Rattle.std.specs.List.{All, slice_get}
-use Rattle.oim_fast.specs.KeptFrames.{IsFrame}
+use Rattle.oim_fast.specs.state.KeptFrames.{IsFrame}
 use Rattle.oim_fast.specs.declared.frame.frame.Frame.{Frame}
 use Rattle.oim_fast.proofs.Growth.{all_push, slice_get-last}
 use Rattle.oim_fast.proofs.frame.frames.Frames.keep.Goals as goal

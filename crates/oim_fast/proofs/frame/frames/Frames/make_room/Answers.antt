@@ -1,4 +1,4 @@
-use Rattle.oim_fast.specs.KeptFrames.{IsFrame}
+use Rattle.oim_fast.specs.state.KeptFrames.{IsFrame}
 use Rattle.oim_fast.proofs.MakerLaws.{all_of_none}
 use Rattle.oim_fast.proofs.frame.frames.Frames.make_room.Goals as goal
 

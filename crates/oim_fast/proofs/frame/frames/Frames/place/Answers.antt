@@ -1,7 +1,7 @@
 use Rattle.std.proofs.Common.{map}
 use Rattle.std.specs.List.{slice_get}
-use Rattle.oim_fast.specs.KeptFrames.{IsFor, IsKnownFor}
-use Rattle.oim_fast.specs.References.{key_of}
+use Rattle.oim_fast.specs.state.KeptFrames.{IsFor, IsKnownFor}
+use Rattle.oim_fast.specs.state.References.{key_of}
 use Rattle.oim_fast.specs.declared.frame.frame.Frame.{Frame}
 use Rattle.oim_fast.proofs.ChoiceLaws.{groups_within}
 use Rattle.oim_fast.proofs.Growth.{grows_none}

@@ -4,9 +4,9 @@ use Rattle.oim_report.specs.declared.data.Side.{Side}
 use Rattle.oim_resolve.specs.Facts.{role_of}
 use Rattle.oim_resolve.specs.declared.role.Role.{Role}
 use Rattle.oim_rows.specs.RowFacts.{Reading}
-use Rattle.oim_fast.specs.Parts.{purpose_of}
-use Rattle.oim_fast.specs.References.{Key}
-use Rattle.oim_fast.specs.Sources.{seen_source, source_written}
+use Rattle.oim_fast.specs.state.Parts.{purpose_of}
+use Rattle.oim_fast.specs.state.References.{Key}
+use Rattle.oim_fast.specs.state.Sources.{seen_source, source_written}
 use Rattle.oim_fast.specs.declared.row.purpose.Purpose.{Purpose}
 use Rattle.oim_fast.specs.declared.row.purpose.Purpose.TheVariants.{Dimension}
 use Rattle.oim_fast.proofs.PartLaws.{key_there}

@@ -1,4 +1,4 @@
-use Rattle.oim_fast.specs.Parts.{IsPart}
+use Rattle.oim_fast.specs.state.Parts.{IsPart}
 use Rattle.oim_fast.proofs.MakerLaws.{all_of_none}
 use Rattle.oim_fast.proofs.frame.parts.Parts.make_room.Goals as goal
 

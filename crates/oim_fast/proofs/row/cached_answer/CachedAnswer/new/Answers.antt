@@ -1,6 +1,6 @@
 use Rattle.std.proofs.Common.{ap, sym, subst, ◌∙◌}
 use Rattle.oim_cells.specs.Cells.{Meaning, meaning_of}
-use Rattle.oim_fast.specs.Answers.{IsAnswer}
+use Rattle.oim_fast.specs.state.Answers.{IsAnswer}
 use Rattle.oim_fast.proofs.Texts.{empty_meaning}
 use Rattle.oim_fast.proofs.row.cached_answer.CachedAnswer.new.Goals as goal
 

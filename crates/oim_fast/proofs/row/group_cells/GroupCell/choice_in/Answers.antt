@@ -1,7 +1,7 @@
 use Rattle.std.proofs.Common.{◌≡◌, ap, ◌∙◌, subst}
 use Rattle.oim_cells.specs.Cells.{Meaning, Text, meaning_of}
 use Rattle.oim_rows.specs.RowFacts.{field_or_empty}
-use Rattle.oim_fast.specs.Groups.{Says}
+use Rattle.oim_fast.specs.state.Groups.{Says}
 use Rattle.oim_fast.specs.Rows.{column_in}
 use Rattle.oim_fast.proofs.row.group_cells.GroupCell.choice_in.Goals as goal
 

@@ -9,7 +9,7 @@ use Rattle.oim_report.specs.Rising.{IsRising}
 use Rattle.oim_report.specs.declared.data.Column.{Column}
 use Rattle.oim_report.specs.declared.data.Level.{Level}
 use Rattle.oim_rows.specs.Header.{Header, is_column}
-use Rattle.oim_fast.specs.Groups.{IsGroupCell}
+use Rattle.oim_fast.specs.state.Groups.{IsGroupCell}
 use Rattle.oim_fast.specs.Rows.{column_in}
 use Rattle.oim_fast.proofs.Growth.{all_push}
 use Rattle.oim_fast.proofs.row.group_cells.GroupCells.place_for.Goals as goal

@@ -1,6 +1,6 @@
 use Rattle.std.proofs.Common.{◌≡◌, ◌<◌, ℕ, length, get_or, sym, ap, subst, arith, refl, ◌∙◌}
 use Rattle.std.proofs.lemmas.List.{length-map}
-use Rattle.oim_fast.specs.Groups.{IsGroupCell, IsSaid}
+use Rattle.oim_fast.specs.state.Groups.{IsGroupCell, IsSaid}
 use Rattle.oim_fast.specs.declared.row.group_cells.GroupCell.{GroupCell}
 use Rattle.oim_fast.proofs.Refreshed.{set_map, set_below, set_all}
 use Rattle.oim_fast.proofs.row.group_cells.GroupCells.refresh.Goals as goal

@@ -1,6 +1,6 @@
 use Rattle.std.proofs.Common.{◌≡◌, ◌<◌, ℕ, map, get_or}
 use Rattle.std.specs.List.{All}
-use Rattle.oim_fast.specs.Groups.{IsGroupCell, IsSaid}
+use Rattle.oim_fast.specs.state.Groups.{IsGroupCell, IsSaid}
 use Rattle.oim_fast.specs.declared.row.group_cells.GroupCell.{GroupCell}
 use Rattle.oim_fast.proofs.row.group_cells.GroupCells.refresh.Given as goal
 

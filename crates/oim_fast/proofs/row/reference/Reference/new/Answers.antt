@@ -1,5 +1,5 @@
 use Rattle.std.proofs.Common.{sym, subst, arith, ap, List, ℕ, length}
-use Rattle.oim_fast.specs.References.{AddsPlaces, IsKept}
+use Rattle.oim_fast.specs.state.References.{AddsPlaces, IsKept}
 use Rattle.oim_fast.specs.declared.row.cached_answer.CachedAnswer.{CachedAnswer}
 use Rattle.oim_fast.proofs.KeptLaws.{kept_first}
 use Rattle.oim_fast.proofs.row.reference.Reference.new.Goals as goal

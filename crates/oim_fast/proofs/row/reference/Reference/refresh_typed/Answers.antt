@@ -1,7 +1,7 @@
 use Rattle.std.proofs.Common.{◌≡◌, ◌<◌, true, arith, length, take, sym, ap, ◌∙◌, subst, get_or-take, length-take-le}
 use Rattle.oim_cells.specs.Cells.{Meaning, Text, meaning_of}
-use Rattle.oim_fast.specs.Answers.{IsAnswer, is_typed_purpose}
-use Rattle.oim_fast.specs.References.{ReferenceValue}
+use Rattle.oim_fast.specs.state.Answers.{IsAnswer, is_typed_purpose}
+use Rattle.oim_fast.specs.state.References.{ReferenceValue}
 use Rattle.oim_fast.specs.declared.row.purpose.Purpose.{Purpose}
 use Rattle.oim_fast.specs.declared.row.purpose.Purpose.TheVariants.{Dimension}
 use Rattle.oim_resolve.specs.declared.role.Role.TheVariants.{Typed}

@@ -1,8 +1,8 @@
 use Rattle.std.proofs.Common.{◌≡◌, ◌++◌, ◌∷◌, [], List, Some, ap, sym, subst, ◌∙◌, append-nil, arith, length}
 use Rattle.std.specs.List.{All, slice_get}
 use Rattle.std.specs.Option.{option_map}
-use Rattle.oim_fast.specs.References.{IsFresh, ReferenceValue, key_of}
-use Rattle.oim_fast.specs.Sources.{source_text}
+use Rattle.oim_fast.specs.state.References.{IsFresh, ReferenceValue, key_of}
+use Rattle.oim_fast.specs.state.Sources.{source_text}
 use Rattle.oim_fast.proofs.Growth.{all_push, slice_get-last}
 use Rattle.oim_fast.proofs.row.references.References.place_for.Goals as goal
 

@@ -3,13 +3,13 @@ use Rattle.oim_cells.specs.Cells.{Meaning, meaning_of}
 use Rattle.oim_report.specs.declared.kind.Kind.{Kind}
 use Rattle.oim_resolve.specs.Facts.{cell_result, fact_meaning, is_absent}
 use Rattle.oim_rows.specs.RowFacts.{field_or_empty}
-use Rattle.oim_fast.specs.CellValues.{IsValue}
-use Rattle.oim_fast.specs.CellWriters.{PutsCell, column_at}
-use Rattle.oim_fast.specs.Columns.{IsFactColumn}
+use Rattle.oim_fast.specs.state.CellValues.{IsValue}
+use Rattle.oim_fast.specs.state.CellWriters.{PutsCell, column_at}
+use Rattle.oim_fast.specs.state.Columns.{IsFactColumn}
 use Rattle.oim_fast.specs.Facts.{WritesFact}
-use Rattle.oim_fast.specs.FrameTexts.{FrameValue}
-use Rattle.oim_fast.specs.KeptFrames.{IsTextFor, text_in}
-use Rattle.oim_fast.specs.References.{key_of}
+use Rattle.oim_fast.specs.state.FrameTexts.{FrameValue}
+use Rattle.oim_fast.specs.state.KeptFrames.{IsTextFor, text_in}
+use Rattle.oim_fast.specs.state.References.{key_of}
 use Rattle.oim_fast.specs.Rows.{cell_in}
 use Rattle.oim_fast.specs.declared.frame.fact_column.FactColumn.{FactColumn}
 use Rattle.oim_fast.specs.declared.row.group_cells.GroupCells.{GroupCells}

@@ -1,7 +1,7 @@
 use Rattle.std.proofs.Common.{◌<◌, ◌∙◌, ◌++◌, ◌∷◌, [], ℕ, List, length, sym, ap, subst, arith}
 use mathlib.Core.List.{IsPrefix}
-use Rattle.oim_fast.specs.CellWriters.{HasFacts, column_at}
-use Rattle.oim_fast.specs.Columns.{fact_columns_in}
+use Rattle.oim_fast.specs.state.CellWriters.{HasFacts, column_at}
+use Rattle.oim_fast.specs.state.Columns.{fact_columns_in}
 use Rattle.oim_fast.proofs.CellWriterLaws.{again, behind, cell_done, cell_failed, cell_left, columns_length, wrote_behind}
 use Rattle.oim_fast.proofs.LoopLaws.{all_given, ends_stay, none_yet, one_more, text_stays}
 use Rattle.oim_fast.proofs.table.cell_writer.CellWriter.put_cells.Goals as goal
@@ -22,8 +22,8 @@ returns-then-not-done-clause-form c = again c.args.row.now _ c.put_cell.ensures.
 pub returns-in_err-note_end-clause-form : goal.returns-in_err-note_end-clause-form
 returns-in_err-note_end-clause-form c = again c.args.row.now _ c.put_cell.ensures.row
 
-pub returns-in_err-reserve-clause-form : goal.returns-in_err-reserve-clause-form
-returns-in_err-reserve-clause-form c = again c.args.row.now c.args.self.now c.requires
+pub returns-in_err-reserve_ends-clause-form : goal.returns-in_err-reserve_ends-clause-form
+returns-in_err-reserve_ends-clause-form c = again c.args.row.now c.args.self.now c.requires
 
 pub returns-clause-form : goal.returns-clause-form
 returns-clause-form c = again c.args.row.now _ c.loop-i.invariant.row
@@ -85,5 +85,5 @@ loop-i-init c =
     let x = c.args.row.now in
     record {
       row = c.requires;
-      facts = subst (λ (ns : List ℕ). HasFacts x 0 c.args.out.now.items c.args.out.now.items c.args.ends.now.items ns) (sym c.reserve.ensures.items) (none_yet x c.args.out.now.items c.args.ends.now.items);
+      facts = subst (λ (ns : List ℕ). HasFacts x 0 c.args.out.now.items c.args.out.now.items c.args.ends.now.items ns) (sym c.reserve_ends.ensures) (none_yet x c.args.out.now.items c.args.ends.now.items);
     }

@@ -1,4 +1,4 @@
-use Rattle.oim_fast.specs.CellWriters.{HasFacts, IsInRow}
+use Rattle.oim_fast.specs.state.CellWriters.{HasFacts, IsInRow}
 use Rattle.oim_fast.proofs.table.cell_writer.CellWriter.put_cells.Given as goal
 
 abbrev pub invariant-loop-i : goal.invariant-loop-i

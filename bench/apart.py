@@ -1,0 +1,131 @@
+#!/usr/bin/env python3
+"""How near a run with four workers comes to four programs that share nothing, and what it takes beside them.
+
+    bench/apart.py PROGRAM [PLAIN] [--megabytes 48] [--rounds 11] [--real-time]
+
+PROGRAM is the program's file, PLAIN that of plain Rust (`plain`), which is left out where there is none. What a machine gives are four programs of
+one worker each, on a quarter of a report each, at once: that is the first line. The others are whole reports of the same shape and bytes:
+one table, eight, eight of which one has 40 % of the bytes, one with identifiers of its own, and tables of 200 columns. Each is made by `generate.py`
+and written to /dev/null, but where a file is named. A line has the median and the least of the rounds, which are made in turn, as a multiple of the line
+that it is measured by; the seconds of processor; and the most memory of one further run. With --real-time each run has real-time priority,
+which takes a privilege, and keeps other work of the machine away. Needs Linux, GNU time (/usr/bin/time) and Python 3.9 or later.
+"""
+from __future__ import annotations
+
+import argparse
+import os
+import statistics
+import subprocess
+import sys
+import tempfile
+import time
+from pathlib import Path
+from typing import Dict, List, NamedTuple, Optional
+
+HERE = Path(__file__).resolve().parent
+
+
+class Line(NamedTuple):
+    """What is run at once, where its output goes, and the line that it is measured by."""
+
+    commands: List[List[str]]
+    output: str
+    by: Optional[str]
+
+
+class Seen(NamedTuple):
+    """The seconds of clock and of processor of a round."""
+
+    clock: float
+    processor: float
+
+
+def generate(folder: Path, megabytes: float, *words: str) -> List[str]:
+    """The words for a report that is made in a folder."""
+    subprocess.run([str(HERE / "generate.py"), str(folder), "--megabytes", str(megabytes), *words], check=True, stdout=subprocess.DEVNULL)
+    return [str(folder / "meta.json"), "--types", str(folder / "types.csv")]
+
+
+def lines_of(program: str, plain: Optional[str], folder: Path, megabytes: float) -> Dict[str, Line]:
+    """The lines of the table, by their names."""
+    quarters = [generate(folder / f"quarter{i}", megabytes / 4, "--tables", "2") for i in range(4)]
+    one = generate(folder / "one", megabytes, "--tables", "1")
+    eight = generate(folder / "eight", megabytes)
+    unequal = generate(folder / "unequal", megabytes, "--largest", "40")
+    named = generate(folder / "named", megabytes, "--tables", "1", "--row-ids")
+    wide = generate(folder / "wide", megabytes / 2, "--shape", "wide")
+    four = "four programs of one worker"
+    document, copy = str(folder / "document.json"), str(folder / "copy.json")
+    lines = {
+        four: Line([[program, *it, "--workers", "1"] for it in quarters], os.devnull, None),
+        "one table": Line([[program, *one]], os.devnull, four),
+        "eight tables": Line([[program, *eight]], os.devnull, four),
+        "eight, one with 40 %": Line([[program, *unequal]], os.devnull, four),
+        "eight, 64 workers": Line([[program, *eight, "--workers", "64"]], os.devnull, "eight tables"),
+        "one with identifiers": Line([[program, *named]], os.devnull, "one table"),
+        "200 columns": Line([[program, *wide]], os.devnull, None),
+        "one table, to a file": Line([[program, *one]], document, None),
+        "the same by `dd bs=64k`": Line([["dd", f"if={document}", f"of={copy}", "bs=64k", "status=none"]], os.devnull, None),
+    }
+    lines["one table, to a file"] = lines["one table, to a file"]._replace(by="the same by `dd bs=64k`")
+    if plain:
+        lines["plain Rust, eight tables"] = Line([[plain, *eight]], os.devnull, None)
+        lines["plain Rust, 200 columns"] = Line([[plain, *wide]], os.devnull, None)
+        lines["200 columns"] = lines["200 columns"]._replace(by="plain Rust, 200 columns")
+    return lines
+
+
+def run(line: Line, is_real_time: bool) -> Seen:
+    """One round of a line."""
+    first = (lambda: os.sched_setscheduler(0, os.SCHED_FIFO, os.sched_param(10))) if is_real_time else None
+    used = 0.0
+    with open(line.output, "wb") as output:
+        begin = time.perf_counter()
+        runs = [subprocess.Popen(it, stdin=subprocess.DEVNULL, stdout=output, preexec_fn=first) for it in line.commands]
+        for it in runs:
+            _, status, usage = os.wait4(it.pid, 0)
+            if status:
+                sys.exit(f"{' '.join(it.args)}: status {os.waitstatus_to_exitcode(status)}")
+            used += usage.ru_utime + usage.ru_stime
+        return Seen(time.perf_counter() - begin, used)
+
+
+def memory(line: Line) -> float:
+    """The most memory of one run of a line, in MB: of all that run at once. GNU time starts it, since what Python starts is charged with Python's memory."""
+    most = 0
+    for command in line.commands:
+        with tempfile.NamedTemporaryFile("r") as report, open(line.output, "wb") as output:
+            subprocess.run(["/usr/bin/time", "--quiet", "-o", report.name, "-f", "%M", *command], stdin=subprocess.DEVNULL, stdout=output, check=True)
+            most += int(report.read())
+    return most * 1024 / 1e6
+
+
+def main() -> None:
+    """Makes the reports, measures, and prints the table."""
+    parser = argparse.ArgumentParser(description=__doc__, formatter_class=argparse.RawDescriptionHelpFormatter)
+    parser.add_argument("program", type=os.path.abspath)
+    parser.add_argument("plain", type=os.path.abspath, nargs="?")
+    parser.add_argument("--megabytes", type=float, default=48.0)
+    parser.add_argument("--rounds", type=int, default=11)
+    parser.add_argument("--real-time", action="store_true")
+    options = parser.parse_args()
+    with tempfile.TemporaryDirectory() as name:
+        lines = lines_of(options.program, options.plain, Path(name), options.megabytes)
+        seen: Dict[str, List[Seen]] = {it: [] for it in lines}
+        for at in range(options.rounds + 1):
+            for it, line in lines.items():
+                found = run(line, options.real_time)
+                if at:
+                    seen[it].append(found)
+        most = {it: memory(line) for it, line in lines.items()}
+    median = {it: statistics.median(one.clock for one in all) for it, all in seen.items()}
+    least = {it: min(one.clock for one in all) for it, all in seen.items()}
+    print(f"{options.megabytes:g} MB of CSV (200 columns: half of that), {len(os.sched_getaffinity(0))} processors, {options.rounds} rounds\n")
+    print("| Run | median s | least s | measured by | times, of medians | of the least | processor s | MB |\n|---|---|---|---|---|---|---|---|")
+    for it, line in lines.items():
+        times = f"{line.by} | {median[it] / median[line.by]:.2f} | {least[it] / least[line.by]:.2f}" if line.by else "| | "
+        print(f"| {it} | {median[it]:.4f} | {least[it]:.4f} | {times} | {statistics.median(one.processor for one in seen[it]):.3f} | {most[it]:.0f} |")
+
+
+if __name__ == "__main__":
+    main()

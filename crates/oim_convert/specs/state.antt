@@ -1,0 +1,4 @@
+pub mod Steps
+pub mod TableFiles
+pub mod Preparing
+pub mod Working

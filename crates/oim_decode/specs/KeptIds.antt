@@ -1,9 +1,0 @@
--- The bytes of an identifier as a piece keeps it.
-use Rattle.std.specs.Prelude.{ℕ, List}
-use Rattle.std.specs.String.{string_bytes}
-use Rattle.oim_decode.specs.declared.piece.piece_id.Kept.{Kept}
-use Rattle.oim_decode.specs.declared.piece.piece_id.Kept.TheVariants as kept
-
-abbrev pub bytes_kept : Kept → List ℕ
-bytes_kept (kept.Short s) = s.bytes
-bytes_kept (kept.Long s) = string_bytes s

@@ -1,0 +1,72 @@
+-- The text of a fact in pieces: what each dimension that the levels of a cell write adds to it. (xBRL-JSON 1.0, a fact object)
+use Rattle.std.specs.Prelude.{◌≡◌, ℕ, Bool, true, ◌||◌, List, [], ◌∷◌, ◌++◌, codes, is_ok, if◌then◌else◌}
+use Rattle.std.specs.List.{All, flat_map}
+use Rattle.std.specs.Option.{option_map_or}
+use Rattle.oim_cells.specs.Cells.{Meaning, meaning_of}
+use Rattle.oim_cells.specs.Cells as m
+use Rattle.oim_json.specs.JsonText.{quoted}
+use Rattle.oim_report.specs.Readers.{parameter_of}
+use Rattle.oim_report.specs.ReportValue.{ReportValue}
+use Rattle.oim_report.specs.declared.data.Level.{Level}
+use Rattle.oim_report.specs.declared.data.Side.{Side}
+use Rattle.oim_report.specs.declared.data.Written.{Written}
+use Rattle.oim_report.specs.declared.data.Written.TheVariants as w
+use Rattle.oim_report.specs.declared.data.WrittenDecimals.{WrittenDecimals}
+use Rattle.oim_report.specs.declared.data.WrittenDecimals.TheVariants as d
+use Rattle.oim_report.specs.declared.kind.Kind.{Kind}
+use Rattle.oim_resolve.specs.Cell.{Cell}
+use Rattle.oim_resolve.specs.Facts.{entry_given, is_dropped, role_of, value_read}
+use Rattle.oim_resolve.specs.ProgramLevels.{named}
+use Rattle.oim_resolve.specs.Values.{Fixed, Read, Stated, side_of, value}
+use Rattle.oim_resolve.specs.Written.{written}
+use Rattle.oim_rows.specs.RowFacts.{Reading}
+use Rattle.oim_fast.specs.state.Answers.{dimension_json}
+
+-- what levels write for one name
+abbrev pub entries_named : List Level → List ℕ → List (List ℕ × Written)
+entries_named ls n = named n (written ls n)
+
+-- a dimension's name and colon
+abbrev pub name_text : List ℕ → List ℕ
+name_text n = quoted n ++ codes ":"
+
+-- a text behind another; no text where the second is empty
+abbrev pub behind : List ℕ → List ℕ → List ℕ
+behind lead [] = []
+behind lead (b ∷ bs) = lead ++ b ∷ bs
+
+-- what a meaning gives a dimension of a fact whose concept is of a kind: name and value with a comma behind them
+abbrev pub dimension_piece : ReportValue → Kind → List ℕ → Side → Meaning → List ℕ
+dimension_piece r k n s v = if is_dropped k (role_of r n) then [] else behind (name_text n) (dimension_json (entry_given r (role_of r n) s v))
+
+-- all that is written gives in a cell
+abbrev pub written_pieces : Cell → Kind → List (List ℕ × Written) → List ℕ
+written_pieces c k es = flat_map (λ e. dimension_piece c.report k e.0 (side_of e.1) (value c e.1)) es
+
+-- a meaning has no fault in a dimension of a fact whose concept is of a kind
+abbrev pub is_sound_dimension : ReportValue → Kind → List ℕ → Side → Meaning → Bool
+is_sound_dimension r k n s v = is_dropped k (role_of r n) || is_ok (value_read r (role_of r n) s v)
+
+-- nor has any that is written in a cell
+abbrev pub AreSound : Cell → Kind → List (List ℕ × Written) → Type 0
+AreSound c k es = All (λ e. is_sound_dimension c.report k e.0 (side_of e.1) (value c e.1) ≡ true) es
+
+-- the meaning of the parameter of a name, or nothing
+abbrev pub parameter_meaning : Reading → List ℕ → Meaning
+parameter_meaning f n = option_map_or meaning_of (parameter_of f.report f.table n) m.Absent
+
+-- the meaning of what is written where rows say nothing of it: of a literal, or of a parameter
+abbrev pub constant_meaning : Reading → Written → Meaning
+constant_meaning f w.Nil = m.Nil
+constant_meaning f w.Empty = m.Empty
+constant_meaning f (w.Text t) = m.Text t
+constant_meaning f (w.Named n s) = parameter_meaning f n
+constant_meaning f (w.RowNumber s) = m.Absent
+constant_meaning f w.Absent = m.Absent
+
+-- what decimals state where rows say nothing of them
+abbrev pub constant_stated : Reading → WrittenDecimals → Stated
+constant_stated f (d.Fixed a) = Fixed a
+constant_stated f (d.Named n) = Read (parameter_meaning f n)
+constant_stated f d.RowNumber = Read m.Absent
+constant_stated f d.Absent = Read m.Absent

@@ -1,0 +1,9 @@
+pub mod Places
+pub mod Scans
+pub mod Runs
+pub mod Bits
+pub mod Bytes
+pub mod Fields
+pub mod Held
+pub mod PlainReaders
+pub mod ReadFaults

@@ -1,0 +1,3 @@
+pub mod Rows
+pub mod ProgramPlace
+pub mod ProgramDimensions

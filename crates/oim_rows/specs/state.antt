@@ -1,0 +1,3 @@
+pub mod KeptIds
+pub mod Decoding
+pub mod Progressing

@@ -1,0 +1,29 @@
+//! Calls of `told`.
+
+use ghost_value::{Denotes, GhostValue};
+
+/// A value that contracts alone remember, once more.
+fn remembers(value: &u8) -> GhostValue<u8> {
+    let seen = GhostValue::seen(value);
+    seen.again()
+}
+
+/// What data tells.
+fn is_told<N: Denotes<u8>>(note: &N) -> GhostValue<u8> {
+    GhostValue::of(note)
+}
+
+/// Data that tells a number.
+#[derive(Drop)]
+struct One;
+
+impl Denotes<u8> for One {
+    ghost denoted = { λ _. 1 };
+}
+
+#[test]
+fn calls_of_told(rt: HostRuntime) {
+    let _ = remembers(&1);
+    let _ = is_told(&One);
+    assert!(rt; true);
+}
