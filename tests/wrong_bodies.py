@@ -12,7 +12,8 @@ that is not proved counts for nothing. An edit of a function that another edit o
 one that changes no function but a constant, and one that showed no reason of its own in company, is tried alone. With --alone
 each edit is. With --gate only those of crates/*/gate are tried, with nothing kept, and a round's check proves no more than the
 functions that it changes and what these call: so it is for a repository whose crates were just proved as they stand, as the gate does
-it, and wants no more than their built libraries, those of `rt ci` too. Each edit has a line, and the last line is 'N refused, M not'; the status is 0 only where all are refused. Python
+it, and wants no more than their built libraries, those of `rt ci` too. As many crates are audited at once as there are processors and memory
+(3 GiB each), the largest first. Each edit has a line, and the last line is 'N refused, M not'; the status is 0 only where all are refused. Python
 3.9 or later is needed.
 """
 from __future__ import annotations
@@ -26,6 +27,7 @@ import subprocess
 import sys
 import tempfile
 import time
+from concurrent.futures import ThreadPoolExecutor
 from dataclasses import dataclass
 from pathlib import Path
 from typing import Any
@@ -35,6 +37,8 @@ GATE = "gate"
 FOLDERS = "must-fail", GATE, "audit"
 FUNCTION = re.compile(r"( *)(?:pub(?:\([a-z]+\))? )?(?:const )?fn (\w+)")
 WORK, RLIB = "out/incremental", "out/rlib"
+# How many bytes of memory one check may take.
+CHECK_MEMORY = 3 << 30
 # The type of a block of methods: of a trait's, or of its own.
 OWNER = re.compile(r"impl\b(?:.*? for (?:&\S* ?)?(\w+)|(?:<.*?>)? (\w+))")
 AT = re.compile(r"(?:note: )?(?:\./)?((?:src|proofs)/\S+?):(\d+):\d+: (.*)")
@@ -239,11 +243,10 @@ def lone_reason(crate: str, said: list[str]) -> str | None:
 
 
 class Room:
-    """A copy of the repository, where edits are applied and checked."""
+    """A copy of the repository, where edits of one crate are applied and checked."""
 
     def __init__(self, folder: Path):
         self.crates = folder / "crates"
-        self.checks = 0
         shutil.copytree(TOP / "crates", self.crates, ignore=lambda at, names: ["out"] if Path(at).parent.name == "crates" else [])
         (folder / ".git").mkdir()
         for name in ("crates.txt", "HANDLES"):
@@ -260,6 +263,13 @@ class Room:
         there = self.crates / crate / part
         shutil.rmtree(there, ignore_errors=True)
         shutil.copytree(TOP / "crates" / crate / part, there, symlinks=True)
+
+    def furnish(self, below: list[str], is_gate: bool) -> None:
+        """Brings the libraries below a crate."""
+        for it in below:
+            self.bring(it, RLIB)
+        for it in below if is_gate else []:
+            self.seal(it)
 
     def check(self, crate: str, texts: Texts, only: list[str] | None) -> list[str]:
         """Checks a crate with these texts in place of its own, and gives what was said: over its kept work, or with nothing kept, and then
@@ -281,7 +291,6 @@ class Room:
         """What a check says up to the lines of the crate's functions, or to the first line of another crate, which it has to prove first."""
         lines: list[str] = []
         is_begun = False
-        self.checks += 1
         with subprocess.Popen(["rt", "check", "--jobs", "1", *flags], cwd=folder, **QUIET) as ran:
             for line in ran.stdout:
                 lines.append(line.rstrip("\n"))
@@ -321,9 +330,9 @@ def edits_of(crate: str, folders: tuple[str, ...]) -> list[Edit]:
 class Audit:
     """The audit of one crate."""
 
-    def __init__(self, room: Room, crate: str, way: Way):
-        self.room, self.crate, self.way = room, crate, way
-        self.refused = self.others = 0
+    def __init__(self, crate: str, way: Way):
+        self.crate, self.way = crate, way
+        self.checks = self.refused = self.others = 0
         self.before: set[str] = set()
 
     def tell(self, edit: Edit, why: str | None, otherwise: str = "NOT REFUSED") -> None:
@@ -336,22 +345,25 @@ class Audit:
         good = []
         for edit in edits:
             try:
-                edit.apply(self.room.crates / self.crate, {})
+                edit.apply(TOP / "crates" / self.crate, {})
                 good.append(edit)
             except BadEdit as why:
                 self.tell(edit, None, f"BAD EDIT: {why}")
         return good
 
     def run(self) -> None:
-        """Tries all edits, and again alone those that showed no reason in company."""
-        begun, before = time.time(), self.room.checks
-        if not self.way.gate:
-            self.stands()
-        edits = edits_of(self.crate, self.way.folders())
-        again = self.rounds(self.applied(edits), self.way.alone)
-        self.rounds(again, True)
+        """Tries all edits, in a room of its own, and again alone those that showed no reason in company."""
+        begun = time.time()
+        with tempfile.TemporaryDirectory(prefix="wrong-bodies-") as name:
+            self.room = Room(Path(name))
+            self.room.furnish(libraries()[self.crate], self.way.gate)
+            if not self.way.gate:
+                self.stands()
+            edits = edits_of(self.crate, self.way.folders())
+            again = self.rounds(self.applied(edits), self.way.alone)
+            self.rounds(again, True)
         took = time.time() - begun
-        print(f"{self.crate}: {len(edits)} edits in {self.room.checks - before} checks, {took:.0f} seconds", flush=True)
+        print(f"{self.crate}: {len(edits)} edits in {self.checks} checks, {took:.0f} seconds", flush=True)
 
     def stands(self) -> None:
         """Ends the audit where the crate is not proved without any edit, since then a refusal says nothing."""
@@ -364,6 +376,7 @@ class Audit:
     def check(self, texts: Texts, places: set[Place]) -> list[str]:
         """Checks the crate, and ends the audit where that would first have to prove a library."""
         only = sorted(path_of(self.crate, it) for it in places if it.function) if self.way.gate else None
+        self.checks += 1
         said = self.room.check(self.crate, texts, only)
         others = [it[1] for it in map(OF_CRATE.match, said) if it and it[1] != self.crate]
         if others:
@@ -431,7 +444,30 @@ def chosen(words: list[str], way: Way) -> list[str]:
     wrong = [it for it in words if it not in known]
     if wrong:
         sys.exit(f"no crate of crates.txt: {' '.join(wrong)}\n{__doc__}")
-    return [it for it in words or known if edits_of(it, way.folders())]
+    return sorted((it for it in words or known if edits_of(it, way.folders())), key=size_of, reverse=True)
+
+
+def size_of(crate: str) -> int:
+    """How many bytes of code a crate has."""
+    return sum(it.stat().st_size for it in (TOP / "crates" / crate / "src").rglob("*.rt"))
+
+
+def at_once() -> int:
+    """How many checks may run at once: as many as there are processors for this process, and memory."""
+    free = re.search(r"^MemAvailable: +(\d+) kB$", Path("/proc/meminfo").read_text(), re.M)
+    return max(1, min(len(os.sched_getaffinity(0)), int(free[1]) * 1024 // CHECK_MEMORY if free else 1))
+
+
+def run_all(audits: list[Audit]) -> None:
+    """Runs the audits, several at once. Where one ends all, those that have not begun are left out."""
+    with ThreadPoolExecutor(at_once()) as pool:
+        begun = [pool.submit(it.run) for it in audits]
+        try:
+            for it in begun:
+                it.result()
+        except BaseException:
+            pool.shutdown(wait=False, cancel_futures=True)
+            raise
 
 
 def main(words: list[str]) -> int:
@@ -441,18 +477,9 @@ def main(words: list[str]) -> int:
     if lacks:
         print(*lacks, f"So nothing was tried: {BUILD}.", sep="\n")
         return 2
-    refused = others = 0
-    with tempfile.TemporaryDirectory(prefix="wrong-bodies-") as name:
-        room = Room(Path(name))
-        for crate in crates:
-            for it in libraries()[crate]:
-                room.bring(it, RLIB)
-                if way.gate:
-                    room.seal(it)
-            audit = Audit(room, crate, way)
-            audit.run()
-            shutil.rmtree(room.crates / crate / WORK, ignore_errors=True)
-            refused, others = refused + audit.refused, others + audit.others
+    audits = [Audit(it, way) for it in crates]
+    run_all(audits)
+    refused, others = sum(it.refused for it in audits), sum(it.others for it in audits)
     print(f"{refused} refused, {others} not")
     return 1 if others else 0
 

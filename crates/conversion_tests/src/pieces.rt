@@ -34,14 +34,6 @@ fn first_piece<'s, E, T: Threads + Wait + Sync + 's>(
     }
 }
 
-/// Whether a count of two workers, and one of one, say who can help.
-fn counts() -> bool {
-    let helpers = Helpers::new(2, PIECE_SIZE);
-    helpers.start();
-    helpers.rest();
-    !helpers.is_alone() && Helpers::new(1, PIECE_SIZE).is_alone()
-}
-
 /// Whether a table that was just opened needs no memory of others, and gives back what it was given.
 fn keeps_rooms(rt: &(impl AllocGlobal + Wait), report: &Report, file: &[u8]) -> bool {
     let alloc = rt.alloc();
@@ -222,9 +214,11 @@ fn has_a_block(
 /// Whether the calls over a report answer as they must.
 pub(crate) fn hold(rt: &(impl AllocGlobal + Threads + Wait + Sync), report: &Report) -> bool {
     let helpers = Helpers::new(4, PIECE_SIZE);
-    counts()
-        && keeps_rooms(rt, report, b"cash\n1\n")
-        && has_a_block(rt, &helpers, report, b"cash\n1\n")
+    helpers.start();
+    let are_good = keeps_rooms(rt, report, b"cash\n1\n")
+        && has_a_block(rt, &helpers, report, b"cash\n1\n");
+    helpers.rest();
+    are_good
 }
 
 /// A table of one row.

@@ -26,11 +26,11 @@ use Rattle.oim_convert.specs.FaultNames.{name_of, number_of}
 use Rattle.oim_convert.specs.Histories.{AreUnserved, IsDecoded, IsStream}
 use Rattle.oim_convert.specs.Identifiers.{WriteOwnIds}
 use Rattle.oim_convert.specs.Runs.{AreStreams, IsCut, early_fault}
-use Rattle.oim_convert.specs.Jobs.{Gives, placed}
+use Rattle.oim_convert.specs.Tasks.{Gives, placed}
 use Rattle.oim_convert.specs.Serial.{AreBelow, Leaves}
 use Rattle.oim_convert.specs.declared.fault.ConvertFault.TheVariants as fault
-use Rattle.oim_convert.specs.declared.job.Job.{Job}
-use Rattle.oim_convert.specs.declared.job.Receipt.{Receipt}
+use Rattle.oim_convert.specs.declared.table_task.TableTask.{TableTask}
+use Rattle.oim_convert.specs.declared.table_task.TaskResult.{TaskResult}
 
 -- EARLY FAULTS: workers, the ring's size, readers, tables
 
@@ -256,17 +256,17 @@ fault_of_no_table : AreBelow 1 (ragged ∷ []) → ⊥
 unfolding ragged
 fault_of_no_table below = omega (arith, below.0)
 
-receipt : ℕ → ClosedView → Receipt
-receipt table closed = record { table = table; closed = Some closed }
+task_result : ℕ → ClosedView → TaskResult
+task_result table closed = record { table = table; closed = Some closed }
 
--- receipts in any order fill the slots in table order
-receipts_in_table_order : (a b : ClosedView) → placed (receipt 1 b ∷ receipt 0 a ∷ []) (None ∷ None ∷ None ∷ []) ≡ Some a ∷ Some b ∷ None ∷ []
-unfolding receipt
-receipts_in_table_order a b = refl
+-- results in any order fill the closed feeds in table order
+results_in_table_order : (a b : ClosedView) → placed (task_result 1 b ∷ task_result 0 a ∷ []) (None ∷ None ∷ None ∷ []) ≡ Some a ∷ Some b ∷ None ∷ []
+unfolding task_result
+results_in_table_order a b = refl
 
-module _ {R : Type 0} (told : R → Option (List ℕ)) (report : ReportValue) (limit : ℕ) (served : Bool) (job : Job R) where
-  lost_token : Gives told report limit served 1 job (record { table = 1; closed = None })
+module _ {R : Type 0} (told : R → Option (List ℕ)) (report : ReportValue) (limit : ℕ) (served : Bool) (task : TableTask R) where
+  lost_token : Gives told report limit served 1 task (record { table = 1; closed = None })
   lost_token = (refl, tt)
 
-  receipt_for_another_table : Gives told report limit served 1 job (record { table = 0; closed = None }) → ⊥
-  receipt_for_another_table gives = let e = gives.0 in cc
+  result_for_another_table : Gives told report limit served 1 task (record { table = 0; closed = None }) → ⊥
+  result_for_another_table gives = let e = gives.0 in cc

@@ -12,7 +12,7 @@ use Rattle.oim_ring.specs.declared.item.Item.{Item}
 use Rattle.oim_ring.specs.declared.item.Item.TheVariants.{Ending}
 use Rattle.oim_rows.specs.declared.fault.TableFault.{TableFault}
 use Rattle.oim_crew.specs.Claims.{Claiming, Drawer, fresh}
-use Rattle.oim_convert.specs.Jobs.{IsLane, IsOpened}
+use Rattle.oim_convert.specs.Tasks.{IsLane, IsOpened}
 use Rattle.oim_convert.specs.Limits.{IsWorkerCount}
 use Rattle.oim_convert.specs.state.Preparing.{HasRun, IsReturnRoom}
 use Rattle.oim_convert.specs.Serial.{AreFew}
@@ -21,8 +21,8 @@ use Rattle.oim_convert.specs.state.Working.{CanMerge}
 use Rattle.oim_crew.specs.declared.crew.Crew.{Crew}
 use Rattle.oim_crew.specs.declared.crew.Posts.{Posts}
 use Rattle.oim_convert.specs.declared.fault.ConvertFault.TheVariants as fault
-use Rattle.oim_convert.specs.declared.job.Job.{Job}
-use Rattle.oim_convert.specs.declared.job.Receipt.{Receipt}
+use Rattle.oim_convert.specs.declared.table_task.TableTask.{TableTask}
+use Rattle.oim_convert.specs.declared.table_task.TaskResult.{TaskResult}
 use Rattle.oim_convert.specs.declared.returning.ReturnRoom.{ReturnRoom}
 use Rattle.oim_convert.specs.declared.scope.Unmerged.{Unmerged}
 use Rattle.oim_crew.specs.declared.worker.Station.{Station}
@@ -59,9 +59,9 @@ no_memory_for_a_run none = none
 -- ROOM FOR WHAT COMES BACK, here of two tables and three workers
 module _ {R : Type 0} (room : ReturnRoom R) where
   room_for_two :
-      room.slots.items ≡ None ∷ None ∷ [] → room.seats.items ≡ [] → vec_capacity room.seats ≡ 3 → room.settled.items ≡ [] → vec_capacity room.settled ≡ 2
+      room.closed_feeds.items ≡ None ∷ None ∷ [] → room.seats.items ≡ [] → vec_capacity room.seats ≡ 3 → room.settled.items ≡ [] → vec_capacity room.settled ≡ 2
       → IsReturnRoom 2 3 room
-  room_for_two slots seats three settled two = record { slots = slots; seats = (seats, omega (arith, three)); settled = (settled, omega (arith, two)) }
+  room_for_two closed_feeds seats three settled two = record { closed_feeds = closed_feeds; seats = (seats, omega (arith, three)); settled = (settled, omega (arith, two)) }
 
   no_seat_for_the_fourth : vec_capacity room.seats ≡ 3 → IsReturnRoom 2 4 room → ⊥
   no_seat_for_the_fourth three r = omega (arith, three, r.seats.1)
@@ -69,34 +69,34 @@ module _ {R : Type 0} (room : ReturnRoom R) where
   no_room_for_the_third : vec_capacity room.settled ≡ 2 → IsReturnRoom 3 3 room → ⊥
   no_room_for_the_third two r = omega (arith, two, r.settled.1)
 
-  no_slot_for_the_second : room.slots.items ≡ None ∷ [] → IsReturnRoom 2 3 room → ⊥
-  no_slot_for_the_second one r = let e : None ∷ [] ≡ None ∷ None ∷ [] = sym one ∙ r.slots in cc
+  no_closed_for_the_second : room.closed_feeds.items ≡ None ∷ [] → IsReturnRoom 2 3 room → ⊥
+  no_closed_for_the_second one r = let e : None ∷ [] ≡ None ∷ None ∷ [] = sym one ∙ r.closed_feeds in cc
 
-  slot_in_use : (closed : ClosedView) → room.slots.items ≡ None ∷ Some closed ∷ [] → IsReturnRoom 2 3 room → ⊥
-  slot_in_use closed used r = let e : None ∷ Some closed ∷ [] ≡ None ∷ None ∷ [] = sym used ∙ r.slots in cc
+  closed_in_use : (closed : ClosedView) → room.closed_feeds.items ≡ None ∷ Some closed ∷ [] → IsReturnRoom 2 3 room → ⊥
+  closed_in_use closed used r = let e : None ∷ Some closed ∷ [] ≡ None ∷ None ∷ [] = sym used ∙ r.closed_feeds in cc
 
 -- JOBS of two tables, and the drains of their rings
-abbrev job : {R : Type 0} → Job R → ℕ → Ring → List Item → Job R
-job some table ring sent = record some { table = table; reader = None; feed = record { ring = ring; size = 4; sent = sent } }
+abbrev task : {R : Type 0} → TableTask R → ℕ → Ring → List Item → TableTask R
+task some table ring sent = record some { table = table; reader = None; feed = record { ring = ring; size = 4; sent = sent } }
 
 abbrev drain : Ring → List Item → DrainView
 drain ring taken = record { ring = ring; taken = taken }
 
-module _ {R : Type 0} (some : Job R) (a b : Ring) where
-  abbrev plan : List (Job R)
-  plan = job some 0 a [] ∷ job some 1 b [] ∷ []
+module _ {R : Type 0} (some : TableTask R) (a b : Ring) where
+  abbrev plan : List (TableTask R)
+  plan = task some 0 a [] ∷ task some 1 b [] ∷ []
 
-  opened : IsOpened 1 (job some 1 b [])
+  opened : IsOpened 1 (task some 1 b [])
   opened = record { numbered = refl; fresh = refl }
 
-  opened_for_another : IsOpened 0 (job some 1 b []) → ⊥
+  opened_for_another : IsOpened 0 (task some 1 b []) → ⊥
   opened_for_another it = let e = it.numbered in cc
 
-  opened_and_used : IsOpened 1 (job some 1 b (Ending Closed ∷ [])) → ⊥
+  opened_and_used : IsOpened 1 (task some 1 b (Ending Closed ∷ [])) → ⊥
   opened_and_used it = let e = it.fresh in cc
 
   lane : IsLane plan 1 (drain b [])
-  lane = record { job = job some 1 b []; planned = refl; ring = refl; fresh = refl }
+  lane = record { task = task some 1 b []; planned = refl; ring = refl; fresh = refl }
 
   lane_of_no_table : IsLane plan 2 (drain b []) → ⊥
   lane_of_no_table it = let e = it.planned in cc
@@ -112,7 +112,7 @@ two_items id = record { id = id; items = 5 ∷ 6 ∷ []; workers = 3 }
 abbrev drawn : TableId → Drawer ℕ
 drawn id = record (fresh (two_items id)) { numbers = 0 ∷ [] }
 
-module _ (id : TableId) (station : Station ℕ Receipt) where
+module _ (id : TableId) (station : Station ℕ TaskResult) where
   idle : station.seat ≡ fresh (two_items id) → station.done.items ≡ [] → vec_capacity station.done ≡ 2 → IsStation (two_items id) station
   idle seat done two = (seat, done, omega (arith, two))
 
@@ -123,7 +123,7 @@ module _ (id : TableId) (station : Station ℕ Receipt) where
   has_drawn seat it = let e : length (drawn id).numbers ≡ length (fresh (two_items id)).numbers = λ i. length ((sym seat ∙ it.0) i).numbers in omega (arith, e)
 
 -- CREWS: a station and a flag for each of three workers
-module _ {S T C : Type 0} (id : TableId) (posts : Posts ℕ Receipt S T C) where
+module _ {S T C : Type 0} (id : TableId) (posts : Posts ℕ TaskResult S T C) where
   three_posts :
       All (IsStation (two_items id)) posts.stations.items → vec_len posts.stations ≡ 3 → posts.room.started.items ≡ [] → posts.room.shifts.items ≡ []
       → vec_capacity posts.room.started ≡ 3 → vec_capacity posts.room.shifts ≡ 3 → ArePosts (two_items id) posts
@@ -144,7 +144,7 @@ module _ {S T C : Type 0} (id : TableId) (posts : Posts ℕ Receipt S T C) where
   no_room_for_shifts two it = omega (arith, two, it.count, it.room.1)
 
 -- a crew with a flag too few
-two_flags : {S T C : Type 0} (crew : Crew ℕ Receipt S T C) → crew.claims.workers ≡ 3 → length crew.stops.items ≡ 2 → IsCrew crew → ⊥
+two_flags : {S T C : Type 0} (crew : Crew ℕ TaskResult S T C) → crew.claims.workers ≡ 3 → length crew.stops.items ≡ 2 → IsCrew crew → ⊥
 two_flags crew three two it = omega (arith, three, two, it.stops)
 
 -- MERGING: there is room for a fault of each drain, and none was taken from

@@ -4,13 +4,13 @@ pub mod SerialTables
 pub mod SentFacts
 pub mod PutBlocks
 pub mod OpeningLanes
-pub mod SlotsAndLists
+pub mod ClosedFeeds
 pub mod WrittenBack
-pub mod ReceiptsAndDrains
+pub mod ResultsAndDrains
 pub mod Sends
 pub mod RunHistories
 pub mod OwnFaults
-pub mod ReceiptCover
+pub mod ResultCover
 pub mod FaultTables
 pub mod WrittenIds
 mod Examples

@@ -20,28 +20,28 @@ use Rattle.oim_convert.specs.Answer.{IsAnswer, ending_of, streams, streams_from}
 use Rattle.oim_convert.specs.Files.{AreFilesOf}
 use Rattle.oim_records.specs.Reads.{IsFileOf}
 use Rattle.oim_convert.specs.Histories.{AreDecoded, AreUnserved, IsDecoded, IsGiven, IsHistory, IsStream}
-use Rattle.oim_convert.specs.Jobs.{Each, EachSlot, IsTable}
+use Rattle.oim_convert.specs.Tasks.{Each, EachClosedFeed, IsTable}
 use Rattle.oim_convert.specs.state.Preparing.{HasTables}
 use Rattle.oim_convert.specs.Served.{AreServed, IsServed}
 use Rattle.oim_convert.specs.Runs.{AreHistories, AreStreams, AreThreaded, AreUncut, IsCut, IsOuter, IsRun, IsThreadless, Writes}
 use Rattle.oim_convert.specs.declared.fault.ConvertFault.{ConvertFault}
-use Rattle.oim_convert.specs.declared.job.Job.{Job}
+use Rattle.oim_convert.specs.declared.table_task.TableTask.{TableTask}
 use Rattle.oim_convert.specs.declared.run.Run.{Run}
 use Rattle.oim_convert.proofs.OwnFaults.{IsOwn, has_thread, own_table}
 use Rattle.oim_convert.proofs.StreamHistories.{stream_of_whole, streams_answer}
 
 -- ROOM
 
-none_slot : {X : Type 0} (n t : ℕ) (x : X) (slot : Option X) → slot ≡ None → slice_get (replicate n slot) t ≡ Some (Some x) → ⊥
-none_slot zero t x slot is e = cc
-none_slot (suc n) zero x slot is e = cc
-none_slot (suc n) (suc t) x slot is e = none_slot n t x slot is e
+none_closed : {X : Type 0} (n t : ℕ) (x : X) (closed : Option X) → closed ≡ None → slice_get (replicate n closed) t ≡ Some (Some x) → ⊥
+none_closed zero t x closed is e = cc
+none_closed (suc n) zero x closed is e = cc
+none_closed (suc n) (suc t) x closed is e = none_closed n t x closed is e
 
-pub slots_begin : {R : Type 0} (told : R → Option (List ℕ)) (report : ReportValue) (limit : ℕ) (served : Bool) (plan : List (Job R)) (n : ℕ)
-    (slots : List (Option ClosedView)) → slots ≡ replicate n None
-    → EachSlot told report limit served plan slots
-slots_begin told report limit served plan n slots is = λ table closed e.
-    absurd (none_slot n table closed None refl (subst (λ (l : List (Option ClosedView)). slice_get l table ≡ Some (Some closed)) is e))
+pub closed_feeds_begin : {R : Type 0} (told : R → Option (List ℕ)) (report : ReportValue) (limit : ℕ) (served : Bool) (plan : List (TableTask R)) (n : ℕ)
+    (closed_feeds : List (Option ClosedView)) → closed_feeds ≡ replicate n None
+    → EachClosedFeed told report limit served plan closed_feeds
+closed_feeds_begin told report limit served plan n closed_feeds is = λ table closed e.
+    absurd (none_closed n table closed None refl (subst (λ (l : List (Option ClosedView)). slice_get l table ≡ Some (Some closed)) is e))
 
 pub replicate_len : {X : Type 0} (n : ℕ) (x : X) → length (replicate n x) ≡ n
 replicate_len zero x = refl
@@ -64,17 +64,17 @@ get_mapped f [] k x e = absurd (cc)
 get_mapped f (y ∷ ys) zero x e = let same : y ≡ x = cc in ap (λ z. Some (f z)) same
 get_mapped f (y ∷ ys) (suc k) x e = get_mapped f ys k x e
 
-module _ {R : Type 0} (told : R → Option (List ℕ)) (report : ReportValue) (limit : ℕ) (plan : List (Job R)) (readers : List (Option R)) (same : map (λ (job : Job R). job.reader) plan ≡ readers) where
+module _ {R : Type 0} (told : R → Option (List ℕ)) (report : ReportValue) (limit : ℕ) (plan : List (TableTask R)) (readers : List (Option R)) (same : map (λ (task : TableTask R). task.reader) plan ≡ readers) where
   -- the readers from place n on
   abbrev AreFrom : ℕ → List (Option R) → Type 0
   AreFrom n rs = (k : ℕ) → slice_get rs k ≡ slice_get readers (n + k)
 
-  reader_at : (n : ℕ) (r : Option R) (rs : List (Option R)) (job : Job R) → AreFrom n (r ∷ rs) → slice_get plan n ≡ Some job → job.reader ≡ r
-  reader_at n r rs job are at =
-      let planned : slice_get readers n ≡ Some job.reader = subst (λ (l : List (Option R)). slice_get l n ≡ Some job.reader) same (get_mapped (λ (j : Job R). j.reader) plan n job at) in
+  reader_at : (n : ℕ) (r : Option R) (rs : List (Option R)) (task : TableTask R) → AreFrom n (r ∷ rs) → slice_get plan n ≡ Some task → task.reader ≡ r
+  reader_at n r rs task are at =
+      let planned : slice_get readers n ≡ Some task.reader = subst (λ (l : List (Option R)). slice_get l n ≡ Some task.reader) same (get_mapped (λ (j : TableTask R). j.reader) plan n task at) in
       let here : Some r ≡ slice_get readers (n + 0) = are 0 in
       let n0 : n + 0 ≡ n = omega arith in
-      let both : Some r ≡ Some job.reader = here ∙ (ap (λ m. slice_get readers m) n0 ∙ planned) in cc
+      let both : Some r ≡ Some task.reader = here ∙ (ap (λ m. slice_get readers m) n0 ∙ planned) in cc
 
   from_next : (n : ℕ) (r : Option R) (rs : List (Option R)) → AreFrom n (r ∷ rs) → AreFrom (n + 1) rs
   from_next n r rs are k = let e : n + suc k ≡ (n + 1) + k = omega arith in are (suc k) ∙ ap (λ m. slice_get readers m) e
@@ -88,7 +88,7 @@ module _ {R : Type 0} (told : R → Option (List ℕ)) (report : ReportValue) (l
   decoded_from n (h ∷ hs) (r ∷ rs) [] are len fs each = absurd fs
   decoded_from n (h ∷ hs) (r ∷ rs) (f ∷ files) are len fs each =
       let e : suc n ≡ n + 1 = omega arith in (
-        each.0.kept f (subst (λ (x : Option R). IsFileOf told x f) (sym (reader_at n r rs each.0.job are each.0.planned)) fs.0),
+        each.0.kept f (subst (λ (x : Option R). IsFileOf told x f) (sym (reader_at n r rs each.0.task are each.0.planned)) fs.0),
         decoded_from (n + 1) hs rs files (from_next n r rs are) (omega (arith, len)) fs.1 (subst (λ (m : ℕ). Each (IsTable told report limit true plan) m hs) e each.1),
       )
 
@@ -125,8 +125,8 @@ module _ {R : Type 0} (told : R → Option (List ℕ)) (report : ReportValue) (l
   served_from served n [] each = tt
   served_from served n (h ∷ hs) each = (
     record {
-      reader = each.0.job.reader;
-      given = subst (λ (l : List (Option R)). slice_get l n ≡ Some each.0.job.reader) same (get_mapped (λ (j : Job R). j.reader) plan n each.0.job each.0.planned);
+      reader = each.0.task.reader;
+      given = subst (λ (l : List (Option R)). slice_get l n ≡ Some each.0.task.reader) same (get_mapped (λ (j : TableTask R). j.reader) plan n each.0.task each.0.planned);
       kept = each.0.kept;
     },
     served_from served (suc n) hs each.1,
@@ -213,8 +213,8 @@ threads_of report limit files hs (inr unserved) = inl unserved
 
 -- A RUN
 
-module _ (l : Layout) {R : Type 0} (told : R → Option (List ℕ)) (report : ReportValue) (limit starts : ℕ) (plan : List (Job R))
-    (readers : List (Option R)) (same : map (λ (job : Job R). job.reader) plan ≡ readers)
+module _ (l : Layout) {R : Type 0} (told : R → Option (List ℕ)) (report : ReportValue) (limit starts : ℕ) (plan : List (TableTask R))
+    (readers : List (Option R)) (same : map (λ (task : TableTask R). task.reader) plan ≡ readers)
     (count : length readers ≡ length report.tables) (files : List (Option (List ℕ))) (are : AreFilesOf told readers files) (old new : SinkView) where
   histories : (run : Run) → HasTables told report limit starts plan run.drains.items → IsRun l report (length report.tables) old new run → AreHistories (streams report limit files) run.drains.items
   histories run has writes = tables_are told report limit plan readers same starts run.drains.items files (writes.count ∙ sym count) are has
@@ -242,8 +242,8 @@ module _ (l : Layout) {R : Type 0} (told : R → Option (List ℕ)) (report : Re
   run_unserved (Err e) has writes none = tt
 
 -- where the readers need not tell their bytes
-pub run_served : (l : Layout) {R : Type 0} (told : R → Option (List ℕ)) (report : ReportValue) (limit starts : ℕ) (plan : List (Job R)) (readers : List (Option R))
-    → map (λ (job : Job R). job.reader) plan ≡ readers → length readers ≡ length report.tables → (old new : SinkView) (r : Result Run ConvertFault)
+pub run_served : (l : Layout) {R : Type 0} (told : R → Option (List ℕ)) (report : ReportValue) (limit starts : ℕ) (plan : List (TableTask R)) (readers : List (Option R))
+    → map (λ (task : TableTask R). task.reader) plan ≡ readers → length readers ≡ length report.tables → (old new : SinkView) (r : Result Run ConvertFault)
     → IfOk r (λ run. HasTables told report limit starts plan run.drains.items) → Writes l report (length report.tables) old new r
     → IfOk r (λ run. AreServed told report limit starts readers run.drains.items)
 run_served l told report limit starts plan readers same count old new (Ok run) has writes =

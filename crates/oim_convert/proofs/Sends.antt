@@ -4,8 +4,8 @@ use denote.Param.Send.{IsSend, IsSync, sendable}
 use Rattle.std.proofs.Crossing.{crosses}
 use Rattle.oim_pieces.specs.contracts.helpers.Helpers as Helpers
 use Rattle.oim_ring.proofs.Sends.{closed_send, feed_send}
-use Rattle.oim_convert.specs.contracts.job.Job as Job
-use Rattle.oim_convert.specs.contracts.job.Receipt as Receipt
+use Rattle.oim_convert.specs.contracts.table_task.TableTask as TableTask
+use Rattle.oim_convert.specs.contracts.table_task.TaskResult as TaskResult
 
 helpers_send : IsSend Helpers.the_row
 helpers_send = search (sendable, crosses) depth 20
@@ -13,8 +13,8 @@ helpers_send = search (sendable, crosses) depth 20
 helpers_sync : IsSync Helpers.the_row
 helpers_sync = search (sendable, crosses) depth 20
 
-pub job_send : (R : RattleType) → IsSend R → IsSend (Job.the_row R)
-job_send R s = search (sendable, crosses, feed_send, helpers_send, helpers_sync) depth 20
+pub task_send : (R : RattleType) → IsSend R → IsSend (TableTask.the_row R)
+task_send R s = search (sendable, crosses, feed_send, helpers_send, helpers_sync) depth 20
 
-pub receipt_send : IsSend Receipt.the_row
-receipt_send = search (sendable, crosses, closed_send) depth 20
+pub task_result_send : IsSend TaskResult.the_row
+task_result_send = search (sendable, crosses, closed_send) depth 20

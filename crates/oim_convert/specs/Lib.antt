@@ -5,7 +5,7 @@ pub mod FaultNames
 pub mod Serial
 pub mod Served
 pub mod Histories
-pub mod Jobs
+pub mod Tasks
 pub mod Runs
 pub mod Identifiers
 pub mod WrittenHistories

@@ -2,7 +2,7 @@
 use Rattle.std.specs.Prelude.{◌≡◌, ℕ, Bool, false, List, Option, Some, length, slice_get}
 use Rattle.oim_report.specs.ReportValue.{ReportValue}
 use Rattle.oim_ring.specs.declared.item.Item.{Item}
-use Rattle.oim_convert.specs.Jobs.{Each, IsKept}
+use Rattle.oim_convert.specs.Tasks.{Each, IsKept}
 
 module _ {R : Type 0} where
   -- the history of this table: it was decoded from the file of its reader, if that tells its bytes, or there was no thread for it

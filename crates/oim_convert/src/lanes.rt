@@ -1,10 +1,10 @@
 //! One ring for each table.
 
 ghost use Rattle.std.specs.Prelude.{◌≡◌, ◌≤◌, All, length, IfOk, map};
-ghost use Rattle.oim_convert.specs.Jobs.{Each, IsLane, IsOpened};
+ghost use Rattle.oim_convert.specs.Tasks.{Each, IsLane, IsOpened};
 ghost use Rattle.oim_ring.specs.Limits.{IsRingSize};
 
-use crate::job::Job;
+use crate::table_task::TableTask;
 use oim_pieces::{Helpers, PIECE_SIZE};
 use oim_ring::{Drain, Lanes};
 use std::alloc::{AllocError, Global};
@@ -19,32 +19,32 @@ const MOST_AHEAD: usize = 4_096;
 /// How many facts a full block has.
 const FULL_BLOCK: usize = 256;
 
-/// A job and a drain for each reader, in order, for this many workers and rings of this size. Nothing was sent or taken yet.
+/// A task and a drain for each reader, in order, for this many workers and rings of this size. Nothing was sent or taken yet.
 pub(crate) fn open_lanes<R: Drop>(
     alloc: Global,
     readers: Vec<Option<R>>,
     workers: usize,
     size: usize,
-) -> Result<(Vec<Job<R>>, Vec<Drain>), AllocError>
+) -> Result<(Vec<TableTask<R>>, Vec<Drain>), AllocError>
     requires { IsRingSize size }
-    ensures readers { IfOk result (λ r. map (λ job. job.reader) r.0.items ≡ readers.items) }
-    ensures jobs { IfOk result (λ r. Each IsOpened 0 r.0.items) }
+    ensures readers { IfOk result (λ r. map (λ task. task.reader) r.0.items ≡ readers.items) }
+    ensures tasks { IfOk result (λ r. Each IsOpened 0 r.0.items) }
     ensures drains { IfOk result (λ r. Each (IsLane r.0.items) 0 r.1.items) }
     ensures count { IfOk result (λ r. length r.1.items ≡ length r.0.items) }
-    ensures sizes { IfOk result (λ r. All (λ job. job.feed.size ≡ size) r.0.items) }
+    ensures sizes { IfOk result (λ r. All (λ task. task.feed.size ≡ size) r.0.items) }
 {
     let mut lanes = Lanes::new(
         alloc,
         size.saturating_mul(FULL_RINGS * FULL_BLOCK).min(MOST_AHEAD),
     )?;
     let helpers = Arc::new(alloc, Helpers::new(workers, PIECE_SIZE))?;
-    let mut jobs = Vec::new(alloc);
+    let mut tasks = Vec::new(alloc);
     let mut drains = Vec::new(alloc);
     for reader in readers {
-        let table = jobs.len();
+        let table = tasks.len();
         let (feed, drain) = lanes.open(alloc, size)?;
         let shared = Arc::try_clone(&helpers)?;
-        jobs.push(Job {
+        tasks.push(TableTask {
             table,
             reader,
             feed,
@@ -52,5 +52,5 @@ pub(crate) fn open_lanes<R: Drop>(
         })?;
         drains.push(drain)?;
     }
-    Ok((jobs, drains))
+    Ok((tasks, drains))
 }

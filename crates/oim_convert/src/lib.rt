@@ -29,7 +29,7 @@
 //!   histories, one for each table, or a beginning of it.
 //!
 //! Inside, a run is answered only after its claims were closed with all their seats, so the workers gave
-//! one receipt for each table (`finish` in `src/returning.rt`). That no table is refused for want of a thread
+//! one result for each table (`finish` in `src/returning.rt`). That no table is refused for want of a thread
 //! where a worker was started says `under_way` of `start_crew`, and no clause of `convert` can.
 //!
 //! What is proved of the facts (`written_identifiers_differ`): whatever files the tables have, no two
@@ -61,9 +61,9 @@
 //! ```
 #![tactic(auto)]
 
+mod closed_feeds;
 mod decode;
 mod fault;
-mod job;
 mod lanes;
 mod laws;
 mod leave;
@@ -76,8 +76,8 @@ mod scope;
 mod sending;
 mod serial;
 mod server;
-mod slots;
 mod table_file;
+mod table_task;
 mod threaded;
 
 pub use fault::ConvertFault;

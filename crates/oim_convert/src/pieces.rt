@@ -5,7 +5,6 @@ ghost use Rattle.oim_convert.specs.Histories.{IsGiven, facts_in};
 ghost use Rattle.oim_convert.specs.state.TableFiles.{IsSentOfFile, IsTableFile};
 ghost use Rattle.oim_rows.specs.Streams.{facts_of_rows};
 
-use crate::decode::send_file;
 use crate::leave::Leave;
 use crate::lent::take_back;
 use crate::sending::put_waiting;
@@ -33,11 +32,7 @@ pub(crate) fn send_table<R: Read + Drop, T: Threads + Wait>(
     ensures ring { feed.new.ring ≡ feed.old.ring }
     ensures given { IsSentOfFile R.remaining file.entry (facts_in feed.new.sent) result }
 {
-    if helpers.is_alone() {
-        send_file(rt, alloc, file, helpers, feed)
-    } else {
-        send_in_scope(&Leave::of(rt), alloc, file, helpers, feed)
-    }
+    send_in_scope(&Leave::of(rt), alloc, file, helpers, feed)
 }
 
 /// The ending of a table, and its feed.

@@ -1,14 +1,14 @@
-//! The end of a conversion, where the workers' receipts go to their tables and the seats to their
+//! The end of a conversion, where the workers' results go to their tables and the seats to their
 //! claims, and the room that is kept for it.
 
 ghost use Rattle.std.specs.Prelude.{◌≡◌, length, map, All, IfNone, IfOk, IfSome, vec_len};
-ghost use Rattle.oim_convert.specs.Jobs.{AreTables, Each, Gives, IsEnded, IsLostIn, tables_promised};
+ghost use Rattle.oim_convert.specs.Tasks.{AreTables, Each, Gives, IsEnded, IsLostIn, tables_promised};
 ghost use Rattle.oim_crew.specs.Numbers.{EachOnceBelow};
 ghost use Rattle.oim_convert.specs.state.Preparing.{IsReturnRoom};
 ghost use Rattle.oim_crew.specs.Shifts.{IsShift};
 
-use crate::job::{Job, Receipt};
-use crate::slots::{Terms, place_all, settle_all};
+use crate::closed_feeds::{Terms, place_all, settle_all};
+use crate::table_task::{TableTask, TaskResult};
 use oim_crew::{Claims, Seat, Shifts, all_idle};
 use oim_report::{Limits, Report};
 use oim_ring::{Closed, Drain, Drained};
@@ -18,8 +18,8 @@ use std::io::Read;
 /// Room for the tokens of all tables, for the seats of all workers, and for the settled drains.
 #[derive(Drop)]
 pub(crate) struct ReturnRoom<R> {
-    pub(crate) slots: Vec<Option<Closed>>,
-    pub(crate) seats: Vec<Seat<Job<R>>>,
+    pub(crate) closed_feeds: Vec<Option<Closed>>,
+    pub(crate) seats: Vec<Seat<TableTask<R>>>,
     pub(crate) settled: Vec<Drained>,
 }
 
@@ -31,27 +31,27 @@ pub(crate) fn return_room<R: Drop>(
 ) -> Result<ReturnRoom<R>, AllocError>
     ensures { IfOk result (λ room. IsReturnRoom tables workers room) }
 {
-    let mut slots = Vec::with_capacity(alloc, tables)?;
+    let mut closed_feeds = Vec::with_capacity(alloc, tables)?;
     for _made in 0..tables {
-        slots.push_reserved(None);
+        closed_feeds.push_reserved(None);
     }
     let seats = Vec::with_capacity(alloc, workers)?;
     let settled = Vec::with_capacity(alloc, tables)?;
     Ok(ReturnRoom {
-        slots,
+        closed_feeds,
         seats,
         settled,
     })
 }
 
 /// Settles each drain with the token of its table, and closes the claims with the seats of all
-/// workers, which shows that there is one receipt for each table. `None` if the end of a ring was
+/// workers, which shows that there is one result for each table. `None` if the end of a ring was
 /// lost, or if no worker has drawn. Only the clauses use `report` and `limits`.
 pub(crate) fn finish<R: Read + Drop>(
     report: &Report,
     limits: Limits,
-    claims: Claims<Job<R>>,
-    shifts: Shifts<Job<R>, Receipt>,
+    claims: Claims<TableTask<R>>,
+    shifts: Shifts<TableTask<R>, TaskResult>,
     drains: Vec<Drain>,
     room: ReturnRoom<R>,
 ) -> Option<Vec<Drained>>
@@ -71,19 +71,19 @@ pub(crate) fn finish<R: Read + Drop>(
         return None;
     }
     let ReturnRoom {
-        mut slots,
+        mut closed_feeds,
         seats,
         settled,
     } = room;
-    let slots = slots.as_mut_slice();
+    let closed_feeds = closed_feeds.as_mut_slice();
     let terms = Terms {
         report,
         limits,
         served: shifts.served,
         claims: &claims,
     };
-    let seats = place_all(&terms, shifts.list, slots, seats);
-    let all = settle_all(&terms, drains, slots, settled);
+    let seats = place_all(&terms, shifts.list, closed_feeds, seats);
+    let all = settle_all(&terms, drains, closed_feeds, settled);
     claims.close(seats);
     all
 }

@@ -1,13 +1,13 @@
 //! The scope of threads in which workers decode tables while the caller's thread merges.
 
 ghost use Rattle.std.specs.Prelude.{◌≡◌, false, true, All, length, vec_len};
-ghost use Rattle.oim_convert.specs.Jobs.{CanServe, Gives};
+ghost use Rattle.oim_convert.specs.Tasks.{CanServe, Gives};
 ghost use Rattle.oim_crew.specs.Shifts.{CanServeAll, IsCrew, IsShift};
 ghost use Rattle.oim_convert.specs.state.Working.{CanMerge, CanWork, HasWorked, IsMerged};
 
-use crate::job::{Job, Receipt};
 use crate::lent::take_back;
 use crate::server::Serving;
+use crate::table_task::{TableTask, TaskResult};
 use oim_crew::{Claims, Crew, Posts, Shifts, Site, join_crew, start_crew};
 use oim_json::{Layout, Sink};
 use oim_merge::{MergeEnd, merge};
@@ -62,7 +62,7 @@ fn merge_all<T: Wait, W: Sink>(rt: &T, unmerged: Unmerged, sink: &mut W) -> Merg
 #[derive(Drop)]
 pub(crate) struct Worked<R> {
     /// What each worker gave, and in it whether workers served the tables: where no thread could be made, all are refused.
-    pub(crate) shifts: Shifts<Job<R>, Receipt>,
+    pub(crate) shifts: Shifts<TableTask<R>, TaskResult>,
     pub(crate) merged: Merged,
 }
 
@@ -75,8 +75,8 @@ struct Returned<'a, R, W> {
 /// Starts the workers, merges while they draw and decode, and then joins them.
 fn serve_and_merge<'s, E, R: Read + Drop + Send + 's, T: Threads + Wait + Sync + 's, W: Sink>(
     scope: &Scope<'s, E>,
-    site: &Site<'s, Job<R>, Serving, T, Report>,
-    posts: Posts<Job<R>, Receipt, Serving, T, Report>,
+    site: &Site<'s, TableTask<R>, Serving, T, Report>,
+    posts: Posts<TableTask<R>, TaskResult, Serving, T, Report>,
     stops: &'s [AtomicBool],
     starts: usize,
     unmerged: Unmerged,
@@ -93,8 +93,8 @@ fn serve_and_merge<'s, E, R: Read + Drop + Send + 's, T: Threads + Wait + Sync +
 
 /// The same in a scope of threads, which ends once all of them are joined.
 fn work_and_merge<R: Read + Drop + Send, T: Threads + Wait + Sync, W: Sink>(
-    site: &Site<'_, Job<R>, Serving, T, Report>,
-    posts: Posts<Job<R>, Receipt, Serving, T, Report>,
+    site: &Site<'_, TableTask<R>, Serving, T, Report>,
+    posts: Posts<TableTask<R>, TaskResult, Serving, T, Report>,
     stops: &[AtomicBool],
     starts: usize,
     unmerged: Unmerged,
@@ -127,11 +127,11 @@ pub(crate) fn work_crew<R: Read + Drop + Send, T: Threads + Wait + Sync, W: Sink
     rt: &T,
     report: &Report,
     server: Serving,
-    crew: Crew<Job<R>, Receipt, Serving, T, Report>,
+    crew: Crew<TableTask<R>, TaskResult, Serving, T, Report>,
     starts: usize,
     unmerged: Unmerged,
     sink: &mut W,
-) -> (Claims<Job<R>>, Worked<R>)
+) -> (Claims<TableTask<R>>, Worked<R>)
     requires threaded { server.threaded ≡ true }
     requires crew { IsCrew crew }
     requires items { CanServeAll (CanServe report.now server.limits.rows) crew.claims.items }

@@ -4,8 +4,8 @@ ghost use Rattle.std.specs.Prelude.{◌≡◌, [], IfSome};
 ghost use Rattle.oim_convert.specs.Histories.{IsUnserved};
 
 use crate::decode::{decode, refused};
-use crate::job::{Job, Receipt};
 use crate::sending::close_waiting;
+use crate::table_task::{TableTask, TaskResult};
 use oim_crew::Serve;
 use oim_report::{Limits, Report};
 use oim_ring::Closed;
@@ -24,20 +24,20 @@ pub(crate) struct Serving {
     pub(crate) threaded: bool,
 }
 
-impl<R: Read + Drop, T: Threads + Wait> Serve<Job<R>, Receipt, T, Report> for Serving {
-    ghost use Rattle.oim_convert.specs.Jobs.{CanServe, gives_of};
+impl<R: Read + Drop, T: Threads + Wait> Serve<TableTask<R>, TaskResult, T, Report> for Serving {
+    ghost use Rattle.oim_convert.specs.Tasks.{CanServe, gives_of};
 
     ghost can_serve = { λ s report. CanServe report s.limits.rows };
 
     ghost gives = { gives_of R.remaining };
 
-    fn serve(&self, rt: &T, report: &Report, number: usize, job: Job<R>) -> Receipt {
+    fn serve(&self, rt: &T, report: &Report, number: usize, task: TableTask<R>) -> TaskResult {
         let closed = if self.threaded {
-            decode(rt, self.alloc, report, self.limits, job)
+            decode(rt, self.alloc, report, self.limits, task)
         } else {
-            refuse(rt, job)
+            refuse(rt, task)
         };
-        Receipt {
+        TaskResult {
             table: number,
             closed,
         }
@@ -45,16 +45,16 @@ impl<R: Read + Drop, T: Threads + Wait> Serve<Job<R>, Receipt, T, Report> for Se
 }
 
 /// Closes the feed of a table for which no thread could be made.
-fn refuse<R: Drop, T: Wait>(rt: &T, job: Job<R>) -> Option<Closed>
-    requires { job.feed.sent ≡ [] }
-    ensures ring { IfSome result (λ closed. closed.ring ≡ job.feed.ring) }
-    ensures sent { IfSome result (λ closed. IsUnserved job.table closed.sent) }
+fn refuse<R: Drop, T: Wait>(rt: &T, task: TableTask<R>) -> Option<Closed>
+    requires { task.feed.sent ≡ [] }
+    ensures ring { IfSome result (λ closed. closed.ring ≡ task.feed.ring) }
+    ensures sent { IfSome result (λ closed. IsUnserved task.table closed.sent) }
 {
-    let Job {
+    let TableTask {
         table,
         reader: _,
         feed,
         helpers: _,
-    } = job;
+    } = task;
     close_waiting(rt, feed, refused(table, TableKind::NoThread))
 }

@@ -12,13 +12,13 @@ ghost use Rattle.oim_json.specs.JsonText.{head_text};
 ghost use Rattle.oim_ring.specs.Limits.{IsRingSize};
 
 use crate::fault::ConvertFault;
-use crate::job::{Job, Receipt};
 use crate::lanes::open_lanes;
 use crate::limits::MOST_WORKERS;
 use crate::returning::{ReturnRoom, finish, return_room};
 use crate::run::Run;
 use crate::scope::{Unmerged, Worked, work_crew};
 use crate::server::Serving;
+use crate::table_task::{TableTask, TaskResult};
 use oim_crew::{Crew, crew_of};
 use oim_json::{Layout, Sink, head};
 use oim_report::{Limits, Report};
@@ -48,7 +48,7 @@ fn fault_before(workers: usize, size: usize, readers: usize, tables: usize) -> O
 /// What a conversion needs, prepared before anything is written.
 #[derive(Drop)]
 struct Ready<R: Read + Drop, T: Threads + Wait> {
-    crew: Crew<Job<R>, Receipt, Serving, T, Report>,
+    crew: Crew<TableTask<R>, TaskResult, Serving, T, Report>,
     unmerged: Unmerged,
     room: ReturnRoom<R>,
 }
@@ -65,16 +65,16 @@ fn prepare<R: Read + Drop, T: Threads + Wait>(
 ) -> Result<Ready<R, T>, AllocError>
     requires workers { IsWorkerCount workers }
     requires size { IsRingSize size }
-    ensures readers { IfOk result (λ ready. map (λ job. job.reader) ready.crew.claims.items ≡ readers.items) }
+    ensures readers { IfOk result (λ ready. map (λ task. task.reader) ready.crew.claims.items ≡ readers.items) }
     ensures ready { IfOk result (λ ready. IsReady ready) }
     ensures head { IfOk result (λ ready. ready.unmerged.head.items ≡ head_text report.now) }
     ensures layout { IfOk result (λ ready. ready.unmerged.layout ≡ layout) }
     ensures seats { IfOk result (λ ready. ready.crew.claims.workers ≡ workers) }
-    ensures rings { IfOk result (λ ready. All (λ job. job.feed.size ≡ size) ready.crew.claims.items) }
+    ensures rings { IfOk result (λ ready. All (λ task. task.feed.size ≡ size) ready.crew.claims.items) }
 {
-    let (jobs, drains) = open_lanes(alloc, readers, workers, size)?;
-    let room = return_room(alloc, jobs.len(), workers)?;
-    let crew = crew_of(alloc, jobs, workers)?;
+    let (tasks, drains) = open_lanes(alloc, readers, workers, size)?;
+    let room = return_room(alloc, tasks.len(), workers)?;
+    let crew = crew_of(alloc, tasks, workers)?;
     let faults = Vec::with_capacity(alloc, drains.len())?;
     let unmerged = Unmerged {
         drains,

@@ -3,12 +3,12 @@ use Rattle.std.specs.Prelude.{◌≡◌, ◌≤◌, ℕ, All, Option, List, [], 
 use Rattle.oim_json.specs.Sinks.{SinkView}
 use Rattle.oim_merge.specs.Merging.{EndEach, IsFresh, Merges, rings_of, taken_of}
 use Rattle.oim_report.specs.declared.report.Report.{Report}
-use Rattle.oim_convert.specs.Jobs.{CanServe, gives_of}
+use Rattle.oim_convert.specs.Tasks.{CanServe, gives_of}
 use Rattle.oim_crew.specs.Shifts.{ArePosts, CanServeAll, IsShift, serving}
 use Rattle.oim_crew.specs.declared.crew.Posts.{Posts}
 use Rattle.oim_crew.specs.declared.site.Site.{Site}
-use Rattle.oim_convert.specs.declared.job.Job.{Job}
-use Rattle.oim_convert.specs.declared.job.Receipt.{Receipt}
+use Rattle.oim_convert.specs.declared.table_task.TableTask.{TableTask}
+use Rattle.oim_convert.specs.declared.table_task.TaskResult.{TaskResult}
 use Rattle.oim_convert.specs.declared.server.Serving.{Serving}
 use Rattle.oim_convert.specs.declared.scope.Merged.{Merged}
 use Rattle.oim_convert.specs.declared.scope.Unmerged.{Unmerged}
@@ -25,7 +25,7 @@ pub record IsMerged (unmerged : Unmerged) (old new : SinkView) (merged : Merged)
   pub written : Merges unmerged.layout old new unmerged.head.items (taken_of merged.drains.items) merged.faults.items merged.end
 
 -- what workers and a merge need: tables that both servers can serve, a station and a flag for each worker, and drains
-pub record CanWork {R S T U C X : Type 0} (site : Site (Job R) Serving U Report) (posts : Posts (Job R) Receipt S T C) (stops : List X) (unmerged : Unmerged) : Type 0 where
+pub record CanWork {R S T U C X : Type 0} (site : Site (TableTask R) Serving U Report) (posts : Posts (TableTask R) TaskResult S T C) (stops : List X) (unmerged : Unmerged) : Type 0 where
   pub items : CanServeAll (CanServe site.shared.now site.server.now.limits.rows) site.claims.now.items
   pub spare : CanServeAll (CanServe site.shared.now site.spare.now.limits.rows) site.claims.now.items
   pub ready : ArePosts site.claims.now posts
@@ -33,7 +33,7 @@ pub record CanWork {R S T U C X : Type 0} (site : Site (Job R) Serving U Report)
   pub fresh : CanMerge unmerged
 
 -- the shift of each worker, by the server that was used, which is the spare one if no worker was to be started; and what was merged
-pub record HasWorked {R U : Type 0} (told : R → Option (List ℕ)) (site : Site (Job R) Serving U Report) (starts : ℕ) (unmerged : Unmerged)
+pub record HasWorked {R U : Type 0} (told : R → Option (List ℕ)) (site : Site (TableTask R) Serving U Report) (starts : ℕ) (unmerged : Unmerged)
     (old new : SinkView) (worked : Worked R) : Type 0 where
   pub shifts : All (IsShift (gives_of told (serving worked.shifts.served site) site.shared.now) site.claims.now) worked.shifts.list.items
   pub count : vec_len worked.shifts.list ≡ site.claims.now.workers

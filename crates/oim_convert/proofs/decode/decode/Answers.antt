@@ -12,9 +12,9 @@ use Rattle.oim_convert.proofs.decode.decode.Goals.{in-None, in-Some}
 
 pub returns-clause-history : goal.returns-clause-history
 returns-clause-history g c =
-    let told = g.R.Read.remaining in let report = c.args.report.now in let table = c.args.job.table in let limit = c.args.limits.rows in
+    let told = g.R.Read.remaining in let report = c.args.report.now in let table = c.args.task.table in let limit = c.args.limits.rows in
     let feed = c.match-reader.feed in let e = c.match-reader.ending in
-    let Kept : ClosedView → Type 0 = λ closed. (file : Option (List ℕ)) → IsFileOf told c.args.job.reader file → IsDecoded table (table_stream report table limit file) closed.sent in
+    let Kept : ClosedView → Type 0 = λ closed. (file : Option (List ℕ)) → IsFileOf told c.args.task.reader file → IsDecoded table (table_stream report table limit file) closed.sent in
     if_some_both c.close_waiting.result (λ closed. closed.sent ≡ feed.sent ++ items.Ending e ∷ []) (λ _. blocks_only feed.sent ≡ true) Kept
     (λ closed sent only. elim c.match-reader.branch [
       | in-None w ↦ λ file is. no_file_decoded told file report table limit feed.sent closed.sent e (subst (λ r.

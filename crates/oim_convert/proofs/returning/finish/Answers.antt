@@ -1,17 +1,17 @@
 use Rattle.std.specs.Prelude.{◌≡◌, ◌⊎◌, true, false, Option, Some, None, Any, Contains, IfNone, IfSome, length}
 use Rattle.std.proofs.Common.{ap, sym, ◌∙◌, subst, inl, inr}
 use Rattle.std.specs.List.{list_all}
-use Rattle.oim_convert.specs.Jobs.{tables_promised, receipts_of}
+use Rattle.oim_convert.specs.Tasks.{tables_promised, results_of}
 use Rattle.oim_crew.specs.Numbers.{EachOnceBelow}
-use Rattle.oim_convert.specs.declared.job.Receipt.{Receipt}
-use Rattle.oim_convert.proofs.ReceiptCover.{covered, lost_receipt, seats_mine, some_finished}
-use Rattle.oim_convert.proofs.RunHistories.{replicate_len, slots_begin}
+use Rattle.oim_convert.specs.declared.table_task.TaskResult.{TaskResult}
+use Rattle.oim_convert.proofs.ResultCover.{covered, lost_result, seats_mine, some_finished}
+use Rattle.oim_convert.proofs.RunHistories.{replicate_len, closed_feeds_begin}
 use Rattle.oim_convert.proofs.returning.finish.Goals as goal
 
-pub place_all-seats-requires-clause-slots : goal.place_all-seats-requires-clause-slots
-place_all-seats-requires-clause-slots g c =
-    slots_begin g.R.Read.remaining c.args.report.now c.args.limits.rows c.args.shifts.served c.args.claims.items (length c.args.claims.items) c.as_mut_slice-slots.result.now
-    (c.as_mut_slice-slots.ensures.value ∙ c.requires.room.slots)
+pub place_all-seats-requires-clause-closed_feeds : goal.place_all-seats-requires-clause-closed_feeds
+place_all-seats-requires-clause-closed_feeds g c =
+    closed_feeds_begin g.R.Read.remaining c.args.report.now c.args.limits.rows c.args.shifts.served c.args.claims.items (length c.args.claims.items) c.as_mut_slice-closed_feeds.result.now
+    (c.as_mut_slice-closed_feeds.ensures.value ∙ c.requires.room.closed_feeds)
 
 pub close-requires-clause-mine : goal.close-requires-clause-mine
 close-requires-clause-mine g c =
@@ -43,13 +43,13 @@ returns-clause-cover g c =
 
 pub returns-clause-lost : goal.returns-clause-lost
 returns-clause-lost g c =
-    let tokens = receipts_of c.args.shifts.list.items in
-    let first = c.as_mut_slice-slots.result.now in
-    let after = c.place_all-seats.new.slots in
+    let tokens = results_of c.args.shifts.list.items in
+    let first = c.as_mut_slice-closed_feeds.result.now in
+    let after = c.place_all-seats.new.closed_feeds in
     let n = length c.args.claims.items in
-    let len : length first ≡ n = ap length (c.as_mut_slice-slots.ensures.value ∙ c.requires.room.slots) ∙ replicate_len n None in
+    let len : length first ≡ n = ap length (c.as_mut_slice-closed_feeds.ensures.value ∙ c.requires.room.closed_feeds) ∙ replicate_len n None in
     let each =
     covered g.R.Read.remaining c.args.report.now c.args.limits.rows c.args.shifts.served c.args.claims c.args.shifts.list.items c.place_all-seats.result.items
     c.requires.shifts c.place_all-seats.ensures.seats c.close.ensures in
-    if_none c.settle_all-all.result (Contains after None) ((list_all (λ s. s.stopped) c.args.shifts.list.items ≡ true) ⊎ Any (λ (t : Receipt). t.closed ≡ None) tokens)
-    (λ gap. inr (lost_receipt tokens first after n len c.place_all-seats.ensures.placed each gap)) c.settle_all-all.ensures.lost
+    if_none c.settle_all-all.result (Contains after None) ((list_all (λ s. s.stopped) c.args.shifts.list.items ≡ true) ⊎ Any (λ (t : TaskResult). t.closed ≡ None) tokens)
+    (λ gap. inr (lost_result tokens first after n len c.place_all-seats.ensures.placed each gap)) c.settle_all-all.ensures.lost

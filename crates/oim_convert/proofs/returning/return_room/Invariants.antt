@@ -3,7 +3,7 @@ use Rattle.oim_convert.proofs.returning.return_room.Given as goal
 
 abbrev pub invariant-loop-made : goal.invariant-loop-made
 invariant-loop-made g l = record {
-  made : l.slots.items ≡ replicate l._made None;
-  count : vec_len l.slots ≡ l._made;
-  room : l.tables ≤ vec_capacity l.slots;
+  made : l.closed_feeds.items ≡ replicate l._made None;
+  count : vec_len l.closed_feeds ≡ l._made;
+  room : l.tables ≤ vec_capacity l.closed_feeds;
 }

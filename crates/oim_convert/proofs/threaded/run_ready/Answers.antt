@@ -5,15 +5,15 @@ use Rattle.oim_merge.specs.Merging.{EndEach, Merges, taken_of}
 use Rattle.oim_ring.specs.Ends.{DrainView}
 use Rattle.oim_ring.specs.declared.item.Item.{Item}
 use Rattle.oim_crew.specs.Claims.{Claiming}
-use Rattle.oim_convert.specs.Jobs.{Each, IsEnded, IsTable}
+use Rattle.oim_convert.specs.Tasks.{Each, IsEnded, IsTable}
 use Rattle.oim_convert.specs.state.Preparing.{IsReturnRoom}
-use Rattle.oim_convert.specs.declared.job.Job.{Job}
-use Rattle.oim_convert.proofs.ReceiptsAndDrains.{lanes_ended, lanes_fresh, opened_serve}
+use Rattle.oim_convert.specs.declared.table_task.TableTask.{TableTask}
+use Rattle.oim_convert.proofs.ResultsAndDrains.{lanes_ended, lanes_fresh, opened_serve}
 use Rattle.oim_convert.proofs.RunHistories.{as_many, rings_len}
 use Rattle.oim_convert.proofs.threaded.run_ready.Goals as goal
 
 pub work_crew-claims-requires-clause-items : goal.work_crew-claims-requires-clause-items
-work_crew-claims-requires-clause-items g c κs within = opened_serve c.args.report.now c.args.limits.rows c.args.ready.crew.claims.items c.requires.ready.jobs c.requires.count c.requires.rows
+work_crew-claims-requires-clause-items g c κs within = opened_serve c.args.report.now c.args.limits.rows c.args.ready.crew.claims.items c.requires.ready.tasks c.requires.count c.requires.rows
 
 pub work_crew-claims-requires-clause-fresh : goal.work_crew-claims-requires-clause-fresh
 work_crew-claims-requires-clause-fresh g c κs within = (
@@ -26,23 +26,23 @@ work_crew-claims-requires-clause-fresh g c κs within = (
 pub finish-requires-clause-drains : goal.finish-requires-clause-drains
 finish-requires-clause-drains g c =
     let ended = c.work_crew-claims.result.1.merged.drains.items in
-    subst (λ (z : Claiming (Job g.row.R.Denot)). Each (IsEnded z.items) 0 ended) (sym c.work_crew-claims.ensures.claims)
+    subst (λ (z : Claiming (TableTask g.row.R.Denot)). Each (IsEnded z.items) 0 ended) (sym c.work_crew-claims.ensures.claims)
     (lanes_ended c.args.ready.crew.claims.items 0 c.args.ready.unmerged.drains.items ended c.work_crew-claims.ensures.merged.rings c.work_crew-claims.ensures.merged.ended c.requires.ready.drains)
 
 pub finish-requires-clause-count : goal.finish-requires-clause-count
 finish-requires-clause-count g c =
     rings_len c.work_crew-claims.result.1.merged.drains.items c.args.ready.unmerged.drains.items c.work_crew-claims.ensures.merged.rings
-    ∙ (c.requires.ready.count ∙ ap (λ (z : Claiming (Job g.row.R.Denot)). length z.items) (sym c.work_crew-claims.ensures.claims))
+    ∙ (c.requires.ready.count ∙ ap (λ (z : Claiming (TableTask g.row.R.Denot)). length z.items) (sym c.work_crew-claims.ensures.claims))
 
 pub finish-requires-clause-room : goal.finish-requires-clause-room
-finish-requires-clause-room g c = subst (λ (z : Claiming (Job g.row.R.Denot)). IsReturnRoom (length z.items) z.workers c.args.ready.room) (sym c.work_crew-claims.ensures.claims) c.requires.ready.room
+finish-requires-clause-room g c = subst (λ (z : Claiming (TableTask g.row.R.Denot)). IsReturnRoom (length z.items) z.workers c.args.ready.room) (sym c.work_crew-claims.ensures.claims) c.requires.ready.room
 
 pub returns-in-Some-clause-tables : goal.returns-in-Some-clause-tables
 returns-in-Some-clause-tables g c =
     let served = c.work_crew-claims.result.1.shifts.served in (
       served,
       c.work_crew-claims.ensures.alone,
-      subst (λ (z : Claiming (Job g.row.R.Denot)).
+      subst (λ (z : Claiming (TableTask g.row.R.Denot)).
           Each (IsTable g.R.Read.remaining c.args.report.now c.args.limits.rows served z.items) 0 c.in-Some.drains.items)
           c.work_crew-claims.ensures.claims c.in-Some.ensures.tables,
     )

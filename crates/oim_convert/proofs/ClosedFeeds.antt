@@ -1,20 +1,20 @@
--- Slots and lists while the drains are settled one after another.
+-- The closed feeds and lists while the drains are settled one after another.
 use Rattle.std.specs.Prelude.{◌≡◌, ℕ, ◌+◌, ◌<◌, zero, suc, List, [], ◌∷◌, ◌++◌, Option, Some, None, length, slice_get, slice_set, map}
 use Rattle.std.proofs.Common.{arith, ap, sym, ◌∙◌, subst, append_assoc}
 use Rattle.std.proofs.lemmas.Option.{slice_get-get_or}
 use Rattle.std.proofs.Common.{get_or}
-use Rattle.oim_convert.specs.Jobs.{Each}
+use Rattle.oim_convert.specs.Tasks.{Each}
 
--- emptying a slot leaves the others as they are
-pub slot_kept : {X : Type 0} (xs : List (Option X)) (i k : ℕ) (x : X) → slice_get (slice_set xs i None) k ≡ Some (Some x) → slice_get xs k ≡ Some (Some x)
-slot_kept [] i k x e = absurd (cc)
-slot_kept (y ∷ ys) zero zero x e = absurd (cc)
-slot_kept (y ∷ ys) zero (suc k) x e = e
-slot_kept (y ∷ ys) (suc i) zero x e = e
-slot_kept (y ∷ ys) (suc i) (suc k) x e = slot_kept ys i k x e
+-- emptying a place leaves the others as they are
+pub closed_kept : {X : Type 0} (xs : List (Option X)) (i k : ℕ) (x : X) → slice_get (slice_set xs i None) k ≡ Some (Some x) → slice_get xs k ≡ Some (Some x)
+closed_kept [] i k x e = absurd (cc)
+closed_kept (y ∷ ys) zero zero x e = absurd (cc)
+closed_kept (y ∷ ys) zero (suc k) x e = e
+closed_kept (y ∷ ys) (suc i) zero x e = e
+closed_kept (y ∷ ys) (suc i) (suc k) x e = closed_kept ys i k x e
 
-pub slot_read : {X : Type 0} (xs : List (Option X)) (i : ℕ) (d : Option X) (x : X) → i < length xs → get_or xs i d ≡ Some x → slice_get xs i ≡ Some (Some x)
-slot_read xs i d x lt e = slice_get-get_or xs i d lt ∙ ap (λ o. Some o) e
+pub closed_read : {X : Type 0} (xs : List (Option X)) (i : ℕ) (d : Option X) (x : X) → i < length xs → get_or xs i d ≡ Some x → slice_get xs i ≡ Some (Some x)
+closed_read xs i d x lt e = slice_get-get_or xs i d lt ∙ ap (λ o. Some o) e
 
 pub each_first : {X : Type 0} (P : ℕ → X → Type 0) (n : ℕ) (x : X) (xs ys : List X) → ys ≡ x ∷ xs → Each P n ys → P n x × Each P (suc n) xs
 each_first {X} P n x xs ys e each = subst (λ (l : List X). Each P n l) e each
