@@ -34,7 +34,7 @@ pub(crate) fn ending<'a>(bytes: &'a [u8], step: usize, at_end: AtEnd<'a>) -> Slo
     }
 }
 
-/// The number of turns that a reader may wait.
+/// The number of turns that a reader may wait. Then the test fails, so that a broken schedule shows within the minute that a test has.
 const TURNS: u32 = 20_000_000;
 
 /// Whether a count reaches this value in time.

@@ -66,7 +66,7 @@ pub(crate) fn finish<R: Read + Drop>(
     ensures lost { IfNone result (IsLostIn shifts.list.items) }
 {
     // This does not happen: a worker that was started draws, since its flag is never set, and if none
-    // was started, one seat has drawn on this thread.
+    // was started, one seat has drawn on this thread. No contract speaks of the flag.
     if all_idle(shifts.list.as_slice()) {
         return None;
     }
