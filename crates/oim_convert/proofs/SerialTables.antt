@@ -1,12 +1,12 @@
 -- Tables that are read on one thread, and given to a writer.
-use Rattle.std.specs.Prelude.{◌≡◌, ℕ, ◌+◌, List, [], ◌∷◌, ◌++◌, true, false, Option, Some, None, Result, Ok, Err, length}
+use Rattle.std.specs.Prelude.{◌≡◌, ℕ, ◌+◌, List, [], ◌∷◌, ◌++◌, false, Option, Ok, Err, length}
 use Rattle.std.proofs.Common.{refl, sym, ap, ◌∙◌, subst, append_assoc, append-nil, arith, inl, inr}
 use mathlib.Core.List.{IsPrefix}
 use Rattle.oim_json.proofs.Members.{members_more}
 use Rattle.oim_json.proofs.Writes.{broke_before}
 use Rattle.oim_json.specs.Document.{has_any, members, more_members}
 use Rattle.oim_json.specs.JsonText.{head_text}
-use Rattle.oim_json.specs.Sinks.{SinkView, Broke, Wrote}
+use Rattle.oim_json.specs.Sinks.{SinkView, Broke}
 use Rattle.oim_json.specs.declared.layout.Layout.{Layout}
 use Rattle.oim_json.specs.declared.mark.WriteFault.{WriteFault}
 use Rattle.oim_merge.proofs.Writing.{all_refusals, blocks_refusals, given_more, given_nothing}
@@ -18,7 +18,6 @@ use Rattle.oim_merge.specs.declared.progress.MergeEnd.TheVariants as end
 use Rattle.oim_report.specs.ReportValue.{ReportValue}
 use Rattle.oim_resolve.specs.FactParts.{FactParts as Fact}
 use Rattle.oim_ring.proofs.TakenWhole.{blocks_more}
-use Rattle.oim_ring.specs.Items.{blocks_only}
 use Rattle.oim_ring.specs.declared.item.Ending as Endings
 use Rattle.oim_ring.specs.declared.item.Ending.TheVariants.{Closed, Refused}
 use Rattle.oim_ring.specs.declared.item.Item.{Item}
@@ -29,7 +28,6 @@ use Rattle.oim_convert.specs.Answer.{IsAnswer, answer_text, ending_of, histories
 use Rattle.oim_convert.specs.Files.{AreFilesOf}
 use Rattle.oim_records.specs.Reads.{IsFileOf}
 use Rattle.oim_convert.specs.Histories.{AreDecoded, IsDecoded, IsGiven, facts_in}
-use Rattle.oim_convert.specs.Runs.{AreStreams}
 use Rattle.oim_convert.specs.WrittenHistories.{WritesHistories}
 use Rattle.oim_convert.specs.state.Steps.{AreItemsOf, Gave, ReadsTables, TookBlocks}
 use Rattle.oim_convert.proofs.SentFacts.{facts_push}

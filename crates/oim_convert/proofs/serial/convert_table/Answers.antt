@@ -1,4 +1,4 @@
-use Rattle.std.specs.Prelude.{Some, None, IfSome, Ok, ℕ, List, [], Option}
+use Rattle.std.specs.Prelude.{Some, IfSome, Ok, ℕ, List, [], Option}
 use Rattle.std.proofs.Common.{inl, refl, subst}
 use Rattle.oim_rows.specs.Streams.{table_stream}
 use Rattle.oim_records.specs.Reads.{IsFileOf}

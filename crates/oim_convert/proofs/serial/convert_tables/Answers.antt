@@ -1,9 +1,8 @@
-use Rattle.std.specs.Prelude.{◌≡◌, ◌∷◌, [], List, ℕ, Option, Ok, Err, length}
+use Rattle.std.specs.Prelude.{◌≡◌, ◌∷◌, [], List, ℕ, Option, Ok, length}
 use Rattle.std.proofs.Common.{◌∙◌, ap, refl, subst, sym, arith}
 use Rattle.std.specs.Vec.Iter.{into_iter_items}
 use Rattle.oim_merge.specs.Histories.{all_of, facts_before, refusals}
 use Rattle.oim_merge.specs.Writers.{WriterView}
-use Rattle.oim_resolve.specs.FactParts.{FactParts as Fact}
 use Rattle.oim_ring.specs.declared.item.Item.TheVariants as items
 use Rattle.oim_rows.specs.Streams.{table_stream}
 use Rattle.oim_convert.specs.Answer.{histories_of, streams}

@@ -1,8 +1,5 @@
-use Rattle.std.proofs.Common.{ap, sym, subst, ◌∙◌}
-use Rattle.oim_json.specs.Sinks.{SinkView}
+use Rattle.std.proofs.Common.{ap, ◌∙◌}
 use Rattle.oim_merge.specs.Histories.{refusals}
-use Rattle.oim_merge.specs.Merging.{EndsWith}
-use Rattle.oim_merge.specs.Writers.{WriterView, whole_text}
 use Rattle.oim_merge.specs.declared.progress.MergeEnd.TheVariants as end
 use Rattle.oim_convert.specs.Answer.{streams}
 use Rattle.oim_convert.proofs.SerialTables.{broken_answer, broken_tables, ended_tables, refused_answer, whole_answer}
