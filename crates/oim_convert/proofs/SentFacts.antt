@@ -28,9 +28,6 @@ facts_push [] facts = append-nil facts
 facts_push (Block fs ∷ items) facts = ap (λ l. fs ++ l) (facts_push items facts) ∙ sym (append_assoc fs (facts_in items) facts)
 facts_push (Ending e ∷ items) facts = facts_push items facts
 
-pub block_sent : (old new : List Item) (facts : List Fact) → new ≡ old ++ Block facts ∷ [] → facts_in new ≡ facts_in old ++ facts
-block_sent old new facts e = ap facts_in e ∙ facts_push old facts
-
 -- ROWS
 
 pub rows_append : (xs ys : List (List Fact)) → facts_of_rows (xs ++ ys) ≡ facts_of_rows xs ++ facts_of_rows ys

@@ -13,7 +13,6 @@ use crate::item::{Ending, Item};
 use crate::waiting::FeedWaiting;
 use oim_json::Block;
 use rtrb::{Finished, Producer};
-use std::alloc::Global;
 use std::marker::Model;
 use std::sync::Wait;
 
@@ -223,15 +222,6 @@ impl Feed {
     /// A vector that a feed or a drain of the report gave back, with what it held, if one is kept. No clause says which.
     pub fn kept_room<R: Wait>(&self, rt: &R) -> Option<Vec<u8>> {
         self.backlog.kept_room(rt)
-    }
-
-    /// A vector for the texts of a block: one that `kept_room` gives, or else an empty one. No clause says what it holds. It
-    /// allocates no memory.
-    pub fn room<R: Wait>(&self, rt: &R, alloc: Global) -> Vec<u8> {
-        match self.backlog.kept_room(rt) {
-            Some(room) => room,
-            None => Vec::new(alloc),
-        }
     }
 
     /// Whether `wait_for_turn` would wait now.

@@ -13,7 +13,7 @@
 //!
 //! There is no lock around a ring, and none of these calls waits. Only `Feed::wait`,
 //! `Feed::wait_for_turn` and `Drain::wait` sleep, until the other end or the writer has moved or, in the
-//! last, for some milliseconds. `Feed::room`, `Feed::kept_room`, `Feed::give_back` and `Drain::give_back`,
+//! last, for some milliseconds. `Feed::kept_room`, `Feed::give_back` and `Drain::give_back`,
 //! which hand on vectors that were given back, may wait for one another for a moment. `Lanes`
 //! opens the rings of one report, whose feeds wait for their turn while too many facts wait in all
 //! rings together. Of these calls no clause says more than that what was sent and taken stays the same.

@@ -271,31 +271,28 @@ fn blocks_of<T: Wait>(rt: &T, drain: &mut Drain) -> u32 {
     0
 }
 
-/// Whether a feed finds no vector that is kept, so that its room is an empty one.
-fn finds_none<T: Wait>(rt: &T, alloc: Global, feed: &Feed) -> bool {
-    feed.room(rt, alloc).is_empty()
-}
-
 /// Whether a vector is kept, which the feed then has.
 fn keeps_one<T: Wait>(rt: &T, feed: &Feed) -> bool {
     feed.kept_room(rt).is_some()
 }
 
 /// Whether the vector that a block gave back reaches this feed and then not the other, and goes back.
-fn is_handed_on<T: Wait>(rt: &T, alloc: Global, next: &Feed, feed: &Feed) -> bool {
-    let room = next.room(rt, alloc);
-    let is_kept = !room.is_empty() && finds_none(rt, alloc, feed);
+fn is_handed_on<T: Wait>(rt: &T, next: &Feed, feed: &Feed) -> bool {
+    let Some(room) = next.kept_room(rt) else {
+        return false;
+    };
+    let is_kept = !room.is_empty() && !keeps_one(rt, feed);
     next.give_back(rt, room);
     is_kept
 }
 
 /// Whether the vector of a block that was given back reaches the feed of any table, and only once, and one that a feed gives back reaches
 /// another feed.
-fn comes_back<T: Wait>(rt: &T, alloc: Global, block: Block, rings: &Rings) -> bool {
+fn comes_back<T: Wait>(rt: &T, block: Block, rings: &Rings) -> bool {
     let (feed, next) = (&rings.own.0, &rings.next.0);
-    let was_empty = finds_none(rt, alloc, feed);
+    let was_empty = !keeps_one(rt, feed);
     rings.own.1.give_back(rt, block);
-    let is_handed_on = is_handed_on(rt, alloc, next, feed);
+    let is_handed_on = is_handed_on(rt, next, feed);
     let is_first = feed.is_reached() && !next.is_reached();
     is_first && was_empty && is_handed_on && keeps_one(rt, feed) && !keeps_one(rt, feed)
 }
@@ -304,7 +301,7 @@ fn comes_back<T: Wait>(rt: &T, alloc: Global, block: Block, rings: &Rings) -> bo
 fn a_room_comes_back(rt: HostRuntime) {
     let alloc = rt.alloc();
     let comes = match (&open_three(alloc, 2, 1), block(alloc)) {
-        (Ok(rings), Ok(block)) => comes_back(&rt, alloc, block, rings),
+        (Ok(rings), Ok(block)) => comes_back(&rt, block, rings),
         _ => false,
     };
     assert!(rt; comes);
