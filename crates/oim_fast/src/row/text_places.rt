@@ -7,7 +7,7 @@ use std::alloc::{AllocError, Global};
 /// How many places there are where few texts come back, and how many at most.
 const MANY: usize = 256;
 
-const MOST: usize = 2048;
+const MOST: usize = 8192;
 
 /// How many places a text may have.
 const WAYS: usize = 4;
