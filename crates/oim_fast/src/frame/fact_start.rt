@@ -9,6 +9,7 @@ ghost use Rattle.oim_fast.specs.Rows.{row_in};
 
 use crate::row::table_row::TableRow;
 use crate::text::buffer::TextBuffer;
+use crate::text::copy::put_escaped_front;
 use crate::text::escape::put_escaped;
 use oim_rows::RowForm;
 use std::alloc::{AllocError, Global};
@@ -26,7 +27,10 @@ fn put_id(out: &mut TextBuffer, row: &TableRow<'_, '_>) -> Result<(), AllocError
     ensures stays { IsPrefix out.old.items out.new.items }
 {
     match row.form().id_place() {
-        Some(place) => put_escaped(out, row.text_at(Some(place))),
+        Some(place) => {
+            let (bytes, len) = row.bytes_at(place);
+            put_escaped_front(out, bytes, len)
+        }
         None => {
             out.put(b"r_")?;
             out.put(row.digits().as_bytes())

@@ -310,7 +310,7 @@ impl<'a> FrameMaker<'a> {
         if !added {
             return Ok(None);
         }
-        text.fit();
+        text.fit(alloc);
         Ok(Some(text))
     }
 

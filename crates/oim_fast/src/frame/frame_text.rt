@@ -82,12 +82,17 @@ impl FrameText {
         })
     }
 
-    /// Gives back memory that the text does not need.
-    pub(crate) fn fit(&mut self)
+    /// Moves text and references to memory of their own size. Where there is none they stay.
+    pub(crate) fn fit(&mut self, alloc: Global)
         ensures { self.new ≡ self.old }
     {
-        self.text.fit();
-        self.runs.shrink_to_fit();
+        self.text.fit(alloc);
+        let Ok(mut runs) = Vec::with_capacity(alloc, self.runs.len()) else {
+            return;
+        };
+        if runs.extend_from_slice(self.runs.as_slice()).is_ok() {
+            self.runs = runs;
+        }
     }
 
     /// Adds a dimension, unless a fact of this kind does not have it. False where it is not known. Fails where memory is short.

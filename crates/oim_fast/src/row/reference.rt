@@ -96,8 +96,8 @@ fn add_places(
     Ok(())
 }
 
-/// Doubles the places of texts. Fails where memory is short; what was there stays.
-fn double(
+/// Goes on to four times as many places of texts. Fails where memory is short; what was there stays.
+fn widen(
     alloc: Global,
     answers: &mut Vec<CachedAnswer>,
     places: &mut TextPlaces,
@@ -105,12 +105,12 @@ fn double(
     ensures { AddsPlaces answers.old.items answers.new.items }
 {
     let count = answers.len();
-    add_places(alloc, answers, count)?;
+    add_places(alloc, answers, count.saturating_mul(3))?;
     places.widen(answers.len())
 }
 
-/// Reads a text that is not kept, and answers the place where it is kept now: its own, or one of those beside it. Doubles the
-/// places where they are too few. Fails where memory is short.
+/// Reads a text that is not kept, and answers the place where it is kept now: its own, or one of those beside it. Goes on
+/// to more places where they are too few. Fails where memory is short.
 #[cold]
 #[inline(never)]
 fn read_text(
@@ -135,7 +135,7 @@ fn read_text(
     if read.is_err() || !are_few || count < FEWEST {
         return (place, read);
     }
-    (place, double(alloc, answers, places))
+    (place, widen(alloc, answers, places))
 }
 
 /// The place where a text is kept, or is read to. Fails where memory is short.

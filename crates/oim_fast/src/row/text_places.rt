@@ -7,7 +7,7 @@ use std::alloc::{AllocError, Global};
 /// How many places there are where few texts come back, and how many at most.
 const MANY: usize = 256;
 
-const MOST: usize = 2048;
+const MOST: usize = 8192;
 
 /// How many places a text may have.
 const WAYS: usize = 4;
@@ -21,9 +21,10 @@ const WORDS: usize = 64;
 pub(crate) struct TextPlaces {
     /// The number of the text that is kept at each place, or 0.
     numbers: Vec<u32>,
-    /// The texts that were read since counting began: how many, and the number of the first of them.
+    /// The texts that were read since counting began: how many, and the numbers of the first of them and of a later one.
     count: u32,
     first: u32,
+    later: u32,
 }
 
 /// Eight bytes of a text as a number.
@@ -120,6 +121,7 @@ impl TextPlaces {
             numbers: Vec::new(alloc),
             count: 0,
             first: 0,
+            later: 0,
         }
     }
 
@@ -182,11 +184,15 @@ impl TextPlaces {
     }
 
     /// Counts a text that was read, and answers whether so many places are too few: below `MANY` where more texts were read than there
-    /// are places, and below `MOST` where the first of the texts comes back. Then counting begins again.
+    /// are places, and below `MOST` where one of two texts comes back: the first, or a later one, which is taken anew each time that
+    /// as many again were read, since the first may be kept by now. Then counting begins again.
     pub(crate) fn count(&mut self, number: u32, places: usize) -> bool {
-        let is_back = self.count > 0 && self.first == number;
+        let is_back = self.count > 0 && (self.first == number || self.later == number);
         if self.count == 0 {
             self.first = number;
+            self.later = number;
+        } else if self.count.is_power_of_two() {
+            self.later = number;
         }
         self.count = self.count.saturating_add(1);
         let count = self.count as usize;

@@ -44,6 +44,9 @@ pub(crate) fn make_room(room: &mut Vec<u8>, len: usize, more: usize) -> Result<(
 /// How many bytes behind a text are made ready, so that it is copied fastest.
 const BEHIND: usize = 64;
 
+/// How many there are behind a text that is not empty at least.
+const LEAST_BEHIND: usize = 32;
+
 /// By how many bytes the room grows at least.
 const LEAST: usize = 128;
 
@@ -111,12 +114,17 @@ impl TextBuffer {
         make_room(&mut self.room, self.len, BEHIND)
     }
 
-    /// Gives back memory that the text does not need.
-    pub(crate) fn fit(&mut self)
+    /// Moves the text to memory of its own size, so that no gap is left behind it. Where there is none it stays.
+    pub(crate) fn fit(&mut self, alloc: Global)
         ensures items { self.new.items ≡ self.old.items }
     {
-        self.room.truncate(self.len.saturating_add(BEHIND));
-        self.room.shrink_to_fit();
+        self.room.truncate(self.len.saturating_add(LEAST_BEHIND));
+        let Ok(mut room) = Vec::with_capacity(alloc, self.room.len()) else {
+            return;
+        };
+        if room.extend_from_slice(self.room.as_slice()).is_ok() {
+            self.room = room;
+        }
     }
 
     /// Takes memory for `more` bytes behind the text. Fails where memory is short.

@@ -8,12 +8,12 @@ use std::alloc::{AllocError, Global};
 /// without where there is none. So nothing need be known of it.
 #[derive(Drop)]
 pub(crate) struct HashIndex {
-    /// A hash and a place, or `NONE`. As many as a power of two, or none at all.
-    entries: Vec<(u64, usize)>,
+    /// The end of a hash and a place, or `NONE`. As many as a power of two, or none at all.
+    entries: Vec<(u32, u32)>,
     count: usize,
 }
 
-const NONE: usize = usize::MAX;
+const NONE: u32 = u32::MAX;
 
 /// How many entries behind one another a place is looked for in.
 pub(crate) const STEPS: usize = 16;
@@ -33,6 +33,12 @@ pub(crate) fn hash_of(text: &[u8]) -> u64 {
         hash = (hash ^ u64::from(text[i])).wrapping_mul(0x100_0000_01b3);
     }
     hash_with(hash, 0)
+}
+
+/// The end of a hash.
+#[inline(always)]
+fn end_of(hash: u64) -> u32 {
+    (hash & 0xffff_ffff) as u32
 }
 
 /// Where in so many entries one stands at a step from a hash.
@@ -63,15 +69,15 @@ impl HashIndex {
         let (noted, place) = self.entries[entry_at(hash, step, len)];
         if place == NONE {
             None
-        } else if noted == hash {
-            Some(place)
+        } else if noted == end_of(hash) {
+            Some(place as usize)
         } else {
-            Some(NONE)
+            Some(usize::MAX)
         }
     }
 
     /// Notes a place. Where no entry is free it takes that of another, which is forgotten.
-    fn note(&mut self, hash: u64, place: usize) {
+    fn note(&mut self, hash: u64, place: u32) {
         let len = self.entries.len();
         if len == 0 {
             return;
@@ -79,11 +85,11 @@ impl HashIndex {
         for step in 0..STEPS {
             let at = entry_at(hash, step, len);
             if self.entries[at].1 == NONE {
-                self.entries[at] = (hash, place);
+                self.entries[at] = (end_of(hash), place);
                 return;
             }
         }
-        self.entries[entry_at(hash, 0, len)] = (hash, place);
+        self.entries[entry_at(hash, 0, len)] = (end_of(hash), place);
     }
 
     /// Doubles the entries. Fails where memory is short.
@@ -96,7 +102,7 @@ impl HashIndex {
         for i in 0..self.entries.len() {
             let (hash, place) = self.entries[i];
             if place != NONE {
-                wider.note(hash, place);
+                wider.note(u64::from(hash), place);
             }
         }
         wider.count = self.count;
@@ -109,7 +115,9 @@ impl HashIndex {
         if self.count >= self.entries.len() / 2 {
             self.widen(alloc)?;
         }
-        self.note(hash, place);
+        if place < NONE as usize {
+            self.note(hash, place as u32);
+        }
         self.count = self.count.saturating_add(1);
         Ok(())
     }

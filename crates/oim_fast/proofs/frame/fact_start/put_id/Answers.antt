@@ -12,8 +12,8 @@ pub returns-in-Some-clause-id : goal.returns-in-Some-clause-id
 returns-in-Some-clause-id c =
     let x = c.args.row.now in
     let place : id_place_of x.form ≡ Some c.in-Some.place = sym (c.id_place.ensures ∙ ap (λ (f : Reading). id_place_of f) c.form.ensures) ∙ c.in-Some.is in
-    subst (λ (t : List ℕ). OnOk c.put_escaped.result (c.put_escaped.new.out.items ≡ c.args.out.now.items ++ flat_map escaped_byte t))
-    (c.text_at.ensures ∙ sym (ap (λ (o : Option ℕ). row_id_text o x.number x.fields) place)) c.put_escaped.ensures.escaped
+    subst (λ (t : List ℕ). OnOk c.put_escaped_front.result (c.put_escaped_front.new.out.items ≡ c.args.out.now.items ++ flat_map escaped_byte t))
+    (c.bytes_at-len.ensures.bytes ∙ sym (ap (λ (o : Option ℕ). row_id_text o x.number x.fields) place)) c.put_escaped_front.ensures.escaped
 
 pub returns-in_ok-put-in-None-clause-id : goal.returns-in_ok-put-in-None-clause-id
 returns-in_ok-put-in-None-clause-id c =

@@ -10,6 +10,6 @@ returns-then-is_err c =
 pub returns : goal.returns
 returns c =
     let within : c.free-place.result < length c.args.answers.now.items = omega (arith, c.free-place.ensures, c.len-count.ensures) in
-    kept_more c.args.report.now c.args.purpose c.args.text.now c.free-place.result _ c.double.new.answers.items
+    kept_more c.args.report.now c.args.purpose c.args.text.now c.free-place.result _ c.widen.new.answers.items
     (kept_set c.args.report.now c.args.purpose c.args.text.now c.free-place.result c.args.answers.now.items c.read-read.new.self within c.requires.cached c.read-read.ensures.cached c.read-read.ensures.answer)
-    c.double.ensures
+    c.widen.ensures
