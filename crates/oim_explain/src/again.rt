@@ -143,27 +143,27 @@ fn of_entries<R: Read + Drop, F: Folder<R>>(
     }
 }
 
-/// The explanation of a fault of the parameters file with this name, of the metadata at this path.
-fn of_parameters_at<R: Read + Drop, F: Folder<R>>(
+/// The name of the parameters file in the metadata at this path. `None` if it has none, or cannot be read again.
+fn url_again<R: Read + Drop, F: Folder<R>>(
     alloc: Global,
     folder: &mut F,
     meta: &str,
-    url: &str,
-) -> Result<Explanation, AllocError> {
-    let path = path_in(alloc, folder_of(meta), url)?;
-    of_entries(alloc, folder, path.as_str(), &PARAMETERS)
+) -> Option<Text> {
+    match metadata_at(alloc, folder, meta) {
+        Ok(bytes) => url_in(alloc, bytes.as_slice()).unwrap_or(None),
+        Err(_) => None,
+    }
 }
 
-/// The explanation of a fault of the parameters file that a metadata of these bytes, which is at this path, names.
-fn of_parameters_in<R: Read + Drop, F: Folder<R>>(
+/// The path of the parameters file that the metadata at this path names. `None` if it names none, or cannot be read again.
+fn parameters_path<R: Read + Drop, F: Folder<R>>(
     alloc: Global,
     folder: &mut F,
     meta: &str,
-    bytes: &[u8],
-) -> Result<Explanation, AllocError> {
-    match url_in(alloc, bytes) {
-        Ok(Some(url)) => of_parameters_at(alloc, folder, meta, url.as_str()),
-        _ => changed(alloc, meta),
+) -> Result<Option<String>, AllocError> {
+    match url_again(alloc, folder, meta) {
+        Some(url) => Ok(Some(path_in(alloc, folder_of(meta), url.as_str())?)),
+        None => Ok(None),
     }
 }
 
@@ -173,38 +173,22 @@ fn of_parameters<R: Read + Drop, F: Folder<R>>(
     folder: &mut F,
     meta: &str,
 ) -> Result<Explanation, AllocError> {
-    match metadata_at(alloc, folder, meta) {
-        Ok(bytes) => of_parameters_in(alloc, folder, meta, bytes.as_slice()),
-        Err(_) => changed(alloc, meta),
+    match parameters_path(alloc, folder, meta)? {
+        Some(path) => of_entries(alloc, folder, path.as_str(), &PARAMETERS),
+        None => changed(alloc, meta),
     }
 }
 
-/// What is said of the parameters file that a metadata of these bytes, which is at this path, names; of the metadata where it names none.
-fn of_named_file(
-    alloc: Global,
-    meta: &str,
-    bytes: &[u8],
-    said: &'static str,
-) -> Result<Explanation, AllocError> {
-    match url_in(alloc, bytes) {
-        Ok(Some(url)) => {
-            let path = path_in(alloc, folder_of(meta), url.as_str())?;
-            of_file(alloc, path.as_str(), said)
-        }
-        _ => of_file(alloc, meta, said),
-    }
-}
-
-/// What is said of the parameters file of the metadata at this path; of the metadata where that cannot be read.
+/// What is said of the parameters file of the metadata at this path; of the metadata where that names none.
 fn of_parameters_file<R: Read + Drop, F: Folder<R>>(
     alloc: Global,
     folder: &mut F,
     meta: &str,
     said: &'static str,
 ) -> Result<Explanation, AllocError> {
-    match metadata_at(alloc, folder, meta) {
-        Ok(bytes) => of_named_file(alloc, meta, bytes.as_slice(), said),
-        Err(_) => of_file(alloc, meta, said),
+    match parameters_path(alloc, folder, meta)? {
+        Some(path) => of_file(alloc, path.as_str(), said),
+        None => of_file(alloc, meta, said),
     }
 }
 

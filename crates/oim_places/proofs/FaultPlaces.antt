@@ -14,55 +14,63 @@ use Rattle.oim_decode.specs.Blocks.{GivesBlock, ReadsRows}
 use Rattle.oim_rows.specs.Streams.{IsOutside, Stream, ending, stream_of}
 use Rattle.oim_rows.specs.declared.fault.TableFault.{TableFault}
 use Rattle.oim_places.specs.Reports.{IsReportOf}
-use Rattle.oim_places.specs.FaultPlaces.{FoundIn, HasRecordOf, HasRow, IsFaultOf, IsPlaceAt, IsRowAt, fault_in, field_in, is_of_file, row_at, unknown_place}
+use Rattle.oim_places.specs.FaultPlaces.{EndsStream, FoundIn, HasRecordOf, HasRow, IsFaultOf, IsPlaceAt, IsRowAt, fault_in, field_in, is_of_file, row_at, unknown_place}
 use Rattle.oim_places.specs.LineNumbers.{line_of_record}
 use Rattle.oim_places.specs.declared.fault_places.FaultPlace.{FaultPlace}
 use Rattle.oim_places.specs.declared.records.RowAgain.{RowAgain}
 
 -- ---- the fault
 
--- the stream that is left has the fault of the file, or one from outside the table
-abbrev pub IsFaultKept : ReportValue → ℕ → List ℕ → Option TableFault → Type 0
-IsFaultKept report table bytes fault = (fault ≡ fault_in report table bytes) ⊎ ((e : TableFault) × IsOutside table e × (fault ≡ Some e))
+-- the stream that is left has the fault of this one, or one from outside the table
+abbrev pub IsFaultKept : ℕ → Stream → Option TableFault → Type 0
+IsFaultKept table s fault = (fault ≡ s.fault) ⊎ ((e : TableFault) × IsOutside table e × (fault ≡ Some e))
 
-abbrev pub KeepsFault : ReportValue → ℕ → Option (List ℕ) → Option Stream → Type 0
-KeepsFault report table None left = ⊤
-KeepsFault report table (Some bytes) None = ⊥
-KeepsFault report table (Some bytes) (Some s) = IsFaultKept report table bytes s.fault
+abbrev pub KeepsFault : ℕ → Option Stream → Option Stream → Type 0
+KeepsFault table None left = ⊤
+KeepsFault table (Some s) None = ⊥
+KeepsFault table (Some s) (Some rest) = IsFaultKept table s rest.fault
 
-pub keeps_start : (report : ReportValue) (table limit : ℕ) (known : Option (List ℕ)) (left : Option Stream) → limit ≡ profile.rows
-    → IfSome known (λ bytes. left ≡ Some (stream_of report table limit (grid bytes))) → KeepsFault report table known left
-keeps_start report table limit None left same is = tt
-keeps_start report table limit (Some bytes) left same is =
-    subst (KeepsFault report table (Some bytes)) (sym is) (inl (ap (λ l. (stream_of report table l (grid bytes)).fault) same))
+pub keeps_start : (table : ℕ) (left : Option Stream) → KeepsFault table left left
+keeps_start table None = tt
+keeps_start table (Some s) = inl refl
 
-keeps_reads : (report : ReportValue) (table at : ℕ) (bytes : List ℕ) (s : Stream) (rows : List (List Fact)) (after : Option Stream) → at ≡ table
-    → IsFaultKept report table bytes s.fault → ReadsRows at s rows after → KeepsFault report table (Some bytes) after
-keeps_reads report table at bytes s rows None same kept reads = absurd reads
-keeps_reads report table at bytes s rows (Some rest) same kept (inl is) = subst (IsFaultKept report table bytes) is.1 kept
-keeps_reads report table at bytes s rows (Some rest) same kept (inr is) =
+keeps_reads : (table at : ℕ) (s rest : Stream) (rows : List (List Fact)) (after : Option Stream) → at ≡ table
+    → IsFaultKept table s rest.fault → ReadsRows at rest rows after → KeepsFault table (Some s) after
+keeps_reads table at s rest rows None same kept reads = absurd reads
+keeps_reads table at s rest rows (Some last) same kept (inl is) = subst (IsFaultKept table s) is.1 kept
+keeps_reads table at s rest rows (Some last) same kept (inr is) =
     inr (is.1, subst (λ t. IsOutside t is.1) same is.2, ap (λ (x : Stream). x.fault) is.3)
 
-pub keeps_next : (report : ReportValue) (table at : ℕ) (known : Option (List ℕ)) (left after : Option Stream) (before pending : List Fact) (answer : Result (Option (List Fact)) TableFault)
-    → at ≡ table → KeepsFault report table known left → IfSome left (λ s. GivesBlock at before s answer pending after) → KeepsFault report table known after
-keeps_next report table at None left after before pending answer same keeps gives = tt
-keeps_next report table at (Some bytes) None after before pending answer same keeps gives = absurd keeps
-keeps_next report table at (Some bytes) (Some s) after before pending answer same keeps gives = keeps_reads report table at bytes s gives.rows after same keeps gives.reads
+pub keeps_next : (table at : ℕ) (first left after : Option Stream) (before pending : List Fact) (answer : Result (Option (List Fact)) TableFault)
+    → at ≡ table → KeepsFault table first left → IfSome left (λ s. GivesBlock at before s answer pending after) → KeepsFault table first after
+keeps_next table at None left after before pending answer same keeps gives = tt
+keeps_next table at (Some s) None after before pending answer same keeps gives = absurd keeps
+keeps_next table at (Some s) (Some rest) after before pending answer same keeps gives = keeps_reads table at s rest gives.rows after same keeps gives.reads
 
-found_kept : (report : ReportValue) (table : ℕ) (bytes : List ℕ) (e : TableFault) → IsFaultKept report table bytes (Some e) → IsFaultOf report table bytes e
-found_kept report table bytes e (inl is) = inr (sym is)
-found_kept report table bytes e (inr is) = inl (subst (IsOutside table) (let one : is.0 ≡ e = cc in one) is.1)
+found_kept : (table : ℕ) (s : Stream) (e : TableFault) → IsFaultKept table s (Some e) → EndsStream table s e
+found_kept table s e (inl is) = inr (sym is)
+found_kept table s e (inr is) = inl (subst (IsOutside table) (let one : is.0 ≡ e = cc in one) is.1)
 
-found_after : (report : ReportValue) (table : ℕ) (bytes : List ℕ) (after : Option Stream) (e : TableFault) → after ≡ Some (ending (Some e))
-    → KeepsFault report table (Some bytes) after → IsFaultOf report table bytes e
-found_after report table bytes after e is keeps = found_kept report table bytes e (subst (KeepsFault report table (Some bytes)) is keeps)
+found_after : (table : ℕ) (s : Stream) (after : Option Stream) (e : TableFault) → after ≡ Some (ending (Some e))
+    → KeepsFault table (Some s) after → EndsStream table s e
+found_after table s after e is keeps = found_kept table s e (subst (KeepsFault table (Some s)) is keeps)
 
-pub keeps_found : (report : ReportValue) (table at : ℕ) (known : Option (List ℕ)) (left after : Option Stream) (before pending : List Fact) (e : TableFault) → at ≡ table
-    → KeepsFault report table known left → IfSome left (λ s. GivesBlock at before s (Err e) pending after) → IfSome known (λ bytes. IsFaultOf report table bytes e)
-keeps_found report table at None left after before pending e same keeps gives = tt
-keeps_found report table at (Some bytes) None after before pending e same keeps gives = absurd keeps
-keeps_found report table at (Some bytes) (Some s) after before pending e same keeps gives =
-    found_after report table bytes after e gives.answers.1 (keeps_reads report table at bytes s gives.rows after same keeps gives.reads)
+pub keeps_found : (table at : ℕ) (first left after : Option Stream) (before pending : List Fact) (e : TableFault) → at ≡ table
+    → KeepsFault table first left → IfSome left (λ s. GivesBlock at before s (Err e) pending after) → IfSome first (λ s. EndsStream table s e)
+keeps_found table at None left after before pending e same keeps gives = tt
+keeps_found table at (Some s) None after before pending e same keeps gives = absurd keeps
+keeps_found table at (Some s) (Some rest) after before pending e same keeps gives =
+    found_after table s after e gives.answers.1 (keeps_reads table at s rest gives.rows after same keeps gives.reads)
+
+-- the fault behind the blocks of a file that was opened
+pub found_behind : (report : ReportValue) (table at limit : ℕ) (known : Option (List ℕ)) (left : Option Stream) (o : Option TableFault) → at ≡ table → limit ≡ profile.rows
+    → IfSome known (λ bytes. left ≡ Some (stream_of report table limit (grid bytes))) → IfSome left (λ s. IfSome o (EndsStream at s))
+    → IfSome known (λ bytes. IfSome o (IsFaultOf report table bytes))
+found_behind report table at limit None left o same most is ends = tt
+found_behind report table at limit (Some bytes) left None same most is ends = tt
+found_behind report table at limit (Some bytes) left (Some e) same most is ends =
+    subst (λ l. EndsStream table (stream_of report table l (grid bytes)) e) most
+    (subst (λ t. EndsStream t (stream_of report table limit (grid bytes)) e) same (subst (λ o. IfSome o (λ s. EndsStream at s e)) is ends))
 
 refused : (report : ReportValue) (table limit : ℕ) (records : List Record) (e : TableFault) → file_header_fault report table records ≡ Some e
     → stream_of report table limit records ≡ ending (Some e)

@@ -3,7 +3,7 @@ use Rattle.std.specs.Prelude.{◌≡◌, ◌⊎◌, ◌+◌, ℕ, zero, suc, Boo
 use Rattle.csv.specs.Records.{field_at}
 use Rattle.oim_records.specs.Grids.{Field, Record, grid}
 use Rattle.oim_files.specs.Metadata.{profile}
-use Rattle.oim_rows.specs.Streams.{IsOutside, table_stream}
+use Rattle.oim_rows.specs.Streams.{IsOutside, Stream, table_stream}
 use Rattle.oim_rows.specs.declared.fault.TableFault.{TableFault}
 use Rattle.oim_rows.specs.declared.fault.TableKind.{TableKind}
 use Rattle.oim_rows.specs.declared.fault.TableKind.TheVariants as kind
@@ -89,7 +89,11 @@ unknown_place = record { line = None; header = []; cell = [] }
 abbrev pub fault_in : ReportValue → (table : ℕ) → List ℕ → Option TableFault
 fault_in report table bytes = (table_stream report table profile.rows (Some bytes)).fault
 
--- the same as it is found by reading: a reader may fail and memory may run out
+-- the fault of a table's stream as it is found by reading: a reader may fail and memory may run out
+abbrev pub EndsStream : (table : ℕ) → Stream → TableFault → Type 0
+EndsStream table s f = IsOutside table f ⊎ (s.fault ≡ Some f)
+
+-- the same of the table's file
 abbrev pub IsFaultOf : ReportValue → (table : ℕ) → List ℕ → TableFault → Type 0
 IsFaultOf report table bytes f = IsOutside table f ⊎ (fault_in report table bytes ≡ Some f)
 

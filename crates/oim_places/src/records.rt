@@ -4,7 +4,7 @@ ghost use Rattle.std.specs.Prelude.{◌≡◌, ◌<◌, [], IfOk, IfSome, length
 ghost use Rattle.csv.specs.Records.{fields_of};
 ghost use Rattle.oim_records.specs.Grids.{grid};
 ghost use Rattle.oim_records.specs.Reads.{TakesRecord};
-ghost use Rattle.oim_places.specs.FaultPlaces.{FileHasRow, HasRow, IsFaultOf, TakesNth};
+ghost use Rattle.oim_places.specs.FaultPlaces.{EndsStream, FileHasRow, HasRow, IsFaultOf, TakesNth};
 
 use csv::ByteRecord;
 use oim_decode::TableBlocks;
@@ -136,21 +136,13 @@ pub fn first_record_with<R: Read + Drop>(
     number_with(&mut records, &mut row, place, text)
 }
 
-/// The first fault of a table, whose file is read again. `None` if none is found; the clause speaks of a fault alone.
-pub(crate) fn fault_again<R: Read + Drop>(
+/// The fault behind the blocks of a table that are left. `None` if none is found; the clause speaks of a fault alone.
+fn fault_behind<R: Read + Drop>(
     alloc: Global,
-    report: &Report,
-    table: usize,
-    reader: R,
+    blocks: &mut TableBlocks<'_, R>,
 ) -> Option<TableFault>
-    requires { table < length report.now.tables }
-    ensures { IfSome (R.remaining reader) (λ bytes. IfSome result (IsFaultOf report.now table bytes)) }
+    ensures { IfSome blocks.old.left (λ s. IfSome result (EndsStream blocks.old.table s)) }
 {
-    let limits = Limits::profile();
-    let mut blocks = match TableBlocks::open(alloc, report, table, reader, limits) {
-        Ok(blocks) => blocks,
-        Err(fault) => return Some(fault),
-    };
     let mut room = Vec::new(alloc);
     // The bound is never reached: a table has fewer blocks.
     for _ in 0..u64::MAX {
@@ -161,4 +153,20 @@ pub(crate) fn fault_again<R: Read + Drop>(
         }
     }
     None
+}
+
+/// The first fault of a table, whose file is read again. `None` if none is found; the clause speaks of a fault alone.
+pub(crate) fn fault_again<R: Read + Drop>(
+    alloc: Global,
+    report: &Report,
+    table: usize,
+    reader: R,
+) -> Option<TableFault>
+    requires { table < length report.now.tables }
+    ensures { IfSome (R.remaining reader) (λ bytes. IfSome result (IsFaultOf report.now table bytes)) }
+{
+    match TableBlocks::open(alloc, report, table, reader, Limits::profile()) {
+        Ok(mut blocks) => fault_behind(alloc, &mut blocks),
+        Err(fault) => Some(fault),
+    }
 }

@@ -103,18 +103,15 @@ pub struct Disk<'a> {
     pub progress: Option<&'a Progress<'a>>,
 }
 
-/// Whether the system says that there is no such file: it was not found, or a part of its path is
-/// not a folder.
-fn is_missing(error: &io::Error) -> bool {
-    matches!(error.kind(), ErrorKind::NotFound | ErrorKind::NotADirectory)
-}
-
-/// The size of a file that is looked for, as far as it is known. `None` if there is none.
+/// The size of a file that is looked for, as far as it is known. `None` where the system says that there is no such file: it was
+/// not found, or a part of its path is not a folder.
 fn size_of(metadata: &io::Result<fs::Metadata>) -> Option<u64> {
     match metadata {
         Ok(metadata) => Some(metadata.len()),
-        Err(error) if is_missing(error) => None,
-        Err(_) => Some(0),
+        Err(error) => match error.kind() {
+            ErrorKind::NotFound | ErrorKind::NotADirectory => None,
+            _ => Some(0),
+        },
     }
 }
 

@@ -77,28 +77,27 @@ fn explain_again(
 fn explain_each(
     rt: &HostRuntime,
     alloc: Global,
-    meta: &str,
-    report: &Result<ReportAgain, EarlyFault>,
+    settings: &Settings,
     tables: &[(Text, TableFault)],
 ) {
+    let (meta, types) = (settings.meta.as_str(), settings.types.as_str());
+    let report = report_again(alloc, meta, types, &mut Ordinary { rt });
     for (place, (id, fault)) in tables.iter().enumerate() {
         print(rt, table_line(alloc, id.as_str(), fault));
         if place < MOST_TABLES {
-            explain_again(rt, alloc, meta, report, fault);
+            explain_again(rt, alloc, meta, &report, fault);
         }
     }
 }
 
-/// Prints the line of each refused table, and below each of the first 100 what there is to say of its fault.
+/// Prints what `explain_each` does, and how many more tables there are.
 pub fn explain_tables(
     rt: &HostRuntime,
     alloc: Global,
     settings: &Settings,
     tables: &[(Text, TableFault)],
 ) {
-    let (meta, types) = (settings.meta.as_str(), settings.types.as_str());
-    let report = report_again(alloc, meta, types, &mut Ordinary { rt });
-    explain_each(rt, alloc, meta, &report, tables);
+    explain_each(rt, alloc, settings, tables);
     if tables.len() > MOST_TABLES {
         let more = tables.len() - MOST_TABLES;
         let _ = eprint!(rt; "    (and {more} more)\n");

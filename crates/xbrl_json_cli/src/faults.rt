@@ -82,21 +82,7 @@ pub fn refused_before(rt: &HostRuntime, alloc: Global, request: &Request) -> Opt
     Some(cannot_write(alloc, path))
 }
 
-/// What stands at the place of a fault, if the report could be read again.
-fn place_of(
-    alloc: Global,
-    meta: &str,
-    folder: &mut Ordinary<'_>,
-    report: &Result<ReportAgain, EarlyFault>,
-    fault: &TableFault,
-) -> Result<FaultPlace, AllocError> {
-    match report {
-        Ok(report) => fault_place(alloc, meta, folder, report, fault),
-        Err(_) => FaultPlace::unknown(alloc),
-    }
-}
-
-/// The record of a refused table.
+/// The record of a refused table, with what stands at the place of its fault if the report could be read again.
 fn row_of(
     alloc: Global,
     meta: &str,
@@ -105,22 +91,11 @@ fn row_of(
     id: &str,
     fault: &TableFault,
 ) -> Result<Vec<u8>, AllocError> {
-    let place = place_of(alloc, meta, folder, report, fault)?;
+    let place = match report {
+        Ok(report) => fault_place(alloc, meta, folder, report, fault)?,
+        Err(_) => FaultPlace::unknown(alloc)?,
+    };
     fault_row(alloc, id, fault, &place)
-}
-
-/// Writes the record of a refused table.
-fn write_row<W: Write>(
-    alloc: Global,
-    meta: &str,
-    folder: &mut Ordinary<'_>,
-    report: &Result<ReportAgain, EarlyFault>,
-    table: &(Text, TableFault),
-    to: &mut W,
-) -> io::Result<()> {
-    let (id, fault) = table;
-    let row = row_of(alloc, meta, folder, report, id.as_str(), fault)?;
-    to.write_all(row.as_slice())
 }
 
 /// Writes the records of refused tables, whose report was read again.
@@ -132,8 +107,9 @@ fn write_each<W: Write>(
     tables: &[(Text, TableFault)],
     to: &mut W,
 ) -> io::Result<()> {
-    for table in tables {
-        write_row(alloc, meta, folder, report, table, to)?;
+    for (id, fault) in tables {
+        let row = row_of(alloc, meta, folder, report, id.as_str(), fault)?;
+        to.write_all(row.as_slice())?;
     }
     Ok(())
 }

@@ -1,7 +1,5 @@
 //! The progress of a run, shown on standard error while it works.
 
-use std::fmt;
-use std::fmt::{Display, Formatter};
 use std::sync::atomic::{AtomicU64, Ordering};
 use std::time::Instant;
 
@@ -11,16 +9,10 @@ const ON_A_TERMINAL: u64 = 200;
 /// How often a new line is written where standard error is not a terminal, in milliseconds.
 const ELSEWHERE: u64 = 10_000;
 
-/// A number of bytes, shown in megabytes (1,000,000 bytes) with one decimal place.
-#[derive(Drop)]
-struct Megabytes(u64);
-
-impl Display for Megabytes {
-    fn fmt<W: fmt::Write>(&self, f: &mut Formatter<W>) -> fmt::Result {
-        let whole = self.0 / 1_000_000;
-        let tenth = self.0 / 100_000 % 10;
-        write!(f, "{whole}.{tenth}")
-    }
+/// A count of bytes in megabytes (1,000,000 bytes), and the decimal place behind them.
+fn megabytes(bytes: &AtomicU64) -> (u64, u64) {
+    let bytes = bytes.load(Ordering::SeqCst);
+    (bytes / 1_000_000, bytes / 100_000 % 10)
 }
 
 /// The progress of a run: its tables, and the bytes of their files and of the document. The threads of
@@ -128,11 +120,11 @@ impl<'a> Progress<'a> {
         let begin = if self.terminal { "\r" } else { "" };
         let done = self.done.load(Ordering::SeqCst);
         let tables = self.tables.load(Ordering::SeqCst);
-        let read = Megabytes(self.read.load(Ordering::SeqCst));
-        let size = Megabytes(self.size.load(Ordering::SeqCst));
-        let written = Megabytes(self.written.load(Ordering::SeqCst));
+        let (read, read_tenth) = megabytes(&self.read);
+        let (size, size_tenth) = megabytes(&self.size);
+        let (written, written_tenth) = megabytes(&self.written);
         let _ = eprint!(self.rt;
-            "{begin}xbrl-json: {done} of {tables} tables, {read} of {size} MB read, {written} MB written{end}"
+            "{begin}xbrl-json: {done} of {tables} tables, {read}.{read_tenth} of {size}.{size_tenth} MB read, {written}.{written_tenth} MB written{end}"
         );
     }
 }
