@@ -85,7 +85,8 @@ impl WrittenRows {
         }
     }
 
-    /// No rows, with memory for as many texts as these have, that of `room` first. Fails where memory is short.
+    /// No rows, with memory for as many texts as these have, that of `room` first, so that the texts are not copied as they grow. Fails where
+    /// memory is short.
     pub(crate) fn like(&self, alloc: Global, room: Vec<u8>) -> Result<WrittenRows, AllocError>
         ensures { IfOk result (λ rows. rows ≡ []) }
     {

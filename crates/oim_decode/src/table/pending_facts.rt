@@ -86,7 +86,8 @@ impl PendingFacts {
         }
     }
 
-    /// No facts, with memory for as many texts as these have, and some more, that of `room` first. Fails where memory is short.
+    /// No facts, with memory for as many texts as these have, and some more, that of `room` first, so that the texts are not copied as they grow.
+    /// Fails where memory is short.
     pub(crate) fn like(&self, alloc: Global, room: Vec<u8>) -> Result<PendingFacts, AllocError>
         ensures { IfOk result (λ facts. facts ≡ []) }
     {
