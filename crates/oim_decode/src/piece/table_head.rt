@@ -156,6 +156,7 @@ impl TableHead {
         requires place { table < length report.now.tables }
         requires rows { limit ≤ 4294967294 }
         ensures decoder { IfOk result (λ decoder. decoder ≡ record { reading = reading_in report.now table limit self.now; left = [] }) }
+        ensures header { IfOk result (λ _. file_header_fault report.now table self.now ≡ None) }
         ensures fault { IfErr result (λ e. IsOutside table e ⊎ (file_header_fault report.now table self.now ≡ Some e)) }
     {
         let form = match self.form(alloc, report, table, limit) {
