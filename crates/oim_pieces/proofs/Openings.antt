@@ -1,6 +1,6 @@
 -- The stream of a table whose head was read.
 use Rattle.std.proofs.Common.{◌≡◌, ◌⊎◌, ◌++◌, ◌+◌, ◌-◌, ◌≤◌, ℕ, List, [], ◌∷◌, length, drop, Option, Some, None, IfSome, IsSome, OnSome, refl, sym, ap, subst, ◌∙◌, append-nil, append_assoc, arith, inl, inr}
-use Rattle.oim_records.specs.Grids.{Record, grid, records_left}
+use Rattle.oim_records.specs.Grids.{Field, Record, grid, records_left}
 use Rattle.csv.specs.declared.parser.State.TheVariants as state
 use Rattle.oim_records.specs.Reads.{StartsFile, left_known}
 use Rattle.oim_report.specs.ReportValue.{ReportValue}
@@ -9,11 +9,18 @@ use Rattle.oim_rows.specs.RowFacts.{Reading}
 use Rattle.oim_rows.specs.Streams.{IsOutside, Stream, reading_of, stream_from, stream_of}
 use Rattle.oim_rows.specs.declared.fault.TableFault.{TableFault}
 use Rattle.oim_decode.specs.Heads.{reading_in}
-use Rattle.oim_pieces.specs.Flights.{AreChained, FlightLeft, FlyingPiece, rows_left, stream_in}
+use Rattle.oim_pieces.specs.Flights.{AreChained, FlyingPiece, rows_left}
 
 good-header : (report : ReportValue) (table limit : ℕ) (header : Record) (rows : List Record) → header_fault report table header ≡ None
     → stream_of report table limit (header ∷ rows) ≡ stream_from (reading_of report table limit header) 1 [] rows
 good-header report table limit header rows none = rw none refl
+
+-- a piece is known by its parts
+pub piece_is : (f : FlyingPiece) (g : Reading) (n : ℕ) (rows : List Record) → f.reading ≡ g → f.first ≡ n → f.rows ≡ rows → f ≡ record { reading = g; first = n; rows = rows }
+piece_is f g n rows reads at same = ap (λ x. piece x f.first f.rows) reads ∙ ap (λ k. piece g k f.rows) at ∙ ap (λ l. piece g n l) same
+  where
+    piece : Reading → ℕ → List Record → FlyingPiece
+    piece x k l = record { reading = x; first = k; rows = l }
 
 module _ (report : ReportValue) (table limit : ℕ) where
   -- the rows of the head are under way
@@ -40,25 +47,20 @@ module _ (report : ReportValue) (table limit : ℕ) where
   chain_opened [] next some at = absurd (omega (arith, some))
   chain_opened (h ∷ rows) next some at = let more : 1 + length rows ≡ next = omega (arith, at) in (refl, more, tt)
 
-  pub behind_chain : (head : List Record) (items : List FlyingPiece) (f : FlyingPiece) (g : Reading) (next : ℕ) → items ≡ f ∷ [] → f.reading ≡ g → f.first ≡ 1
-      → f.rows ≡ drop 1 head → 1 ≤ length head → next ≡ 1 + (length head - 1) → AreChained g items next
-  behind_chain head items f g next is reads first rows some at =
-      let chain = chain_opened head next some at in
-      let more : f.first + length f.rows ≡ next = ap (λ k. k + length f.rows) first ∙ ap (λ (t : List Record). 1 + length t) rows ∙ chain.1 in
-      subst (λ l. AreChained g l next) (sym is) (reads, more, tt)
+  pub behind_chain : (head : List Record) (items : List FlyingPiece) (g : Reading) (next : ℕ) → items ≡ head_piece head ∷ [] → reading_in report table limit head ≡ g
+      → 1 ≤ length head → next ≡ 1 + (length head - 1) → AreChained g items next
+  behind_chain head items g next is reads some at =
+      subst (λ l. AreChained g l next) (sym is) (subst (λ (x : Reading). AreChained x (head_piece head ∷ []) next) reads (chain_opened head next some at))
 
-  pub behind_stream : (head : List Record) (bytes : Option (List ℕ)) (v : FlightLeft) (f : FlyingPiece) → v.reading ≡ reading_in report table limit head → v.ids ≡ []
-      → v.pieces ≡ f ∷ [] → f.first ≡ 1 → f.rows ≡ drop 1 head → v.cutter.left ≡ left_known [] bytes → 1 ≤ length head → file_header_fault report table head ≡ None
-      → IfSome (left_known head bytes) (λ records. stream_in v ≡ Some (stream_of report table limit records))
-  behind_stream head bytes v f reads ids is first rows left some none =
+  pub behind_stream : (head : List Record) (bytes : Option (List ℕ)) (g : Reading) (ids : List Field) (items : List FlyingPiece) (next : ℕ) (left : Option (List Record))
+      → g ≡ reading_in report table limit head → ids ≡ [] → items ≡ head_piece head ∷ [] → left ≡ left_known [] bytes → 1 ≤ length head → file_header_fault report table head ≡ None
+      → IfSome (left_known head bytes) (λ records. rows_left g ids items next left ≡ Some (stream_of report table limit records))
+  behind_stream head bytes g ids items next left reads none is known some good =
       let r = reading_in report table limit head in
-      let n = v.cutter.next in
-      let same : stream_in v ≡ rows_left r [] (head_piece head ∷ []) n (left_known [] bytes) =
-      ap (λ x. rows_left x v.ids v.pieces n v.cutter.left) reads ∙ ap (λ x. rows_left r x v.pieces n v.cutter.left) ids
-      ∙ ap (λ x. rows_left r [] x n v.cutter.left) is ∙ ap (λ x. rows_left r [] (f ∷ []) n x) left
-      ∙ ap (λ k. rows_left r [] (record { reading = r; first = k; rows = f.rows } ∷ []) n (left_known [] bytes)) first
-      ∙ ap (λ t. rows_left r [] (record { reading = r; first = 1; rows = t } ∷ []) n (left_known [] bytes)) rows in
-      subst (λ o. IfSome (left_known head bytes) (λ records. o ≡ Some (stream_of report table limit records))) (sym same) (stream_opened head bytes n some none)
+      let same : rows_left g ids items next left ≡ rows_left r [] (head_piece head ∷ []) next (left_known [] bytes) =
+      ap (λ x. rows_left x ids items next left) reads ∙ ap (λ x. rows_left r x items next left) none
+      ∙ ap (λ x. rows_left r [] x next left) is ∙ ap (λ x. rows_left r [] (head_piece head ∷ []) next x) known in
+      subst (λ o. IfSome (left_known head bytes) (λ records. o ≡ Some (stream_of report table limit records))) (sym same) (stream_opened head bytes next some good)
 
   -- the whole file has the header's fault of its head
   fault-before : (head rest : List Record) (e : TableFault) → 1 ≤ length head → file_header_fault report table head ≡ Some e → file_header_fault report table (head ++ rest) ≡ Some e

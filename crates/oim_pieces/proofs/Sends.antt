@@ -1,5 +1,5 @@
 -- What decodes a piece, and what it answers, may cross threads.
-use denote.Param.Send.{IsSend, IsSync, sendable}
+use denote.Param.Send.{IsSend, IsSync, sendable, view_send}
 use denote.Param.SendFields.{declared_send, variants_send}
 use denote.Ref.{NamedLft}
 use Rattle.std.proofs.Crossing.{crosses}
@@ -27,15 +27,16 @@ use Rattle.keyed.specs.contracts.ends.Giver as Giver
 use Rattle.oim_pieces.proofs.bins.Bin.TheSendSync as bin
 use Rattle.oim_pieces.specs.contracts.bins.Bin as Bin
 use Rattle.oim_pieces.specs.contracts.decoded.Asked as Asked
-use Rattle.oim_pieces.specs.contracts.sheet.How as How
 use Rattle.oim_pieces.specs.contracts.sheet.OfPiece as OfPiece
 use Rattle.oim_pieces.specs.contracts.sheet.OfPieceFitAskedSheet.TheImpl as of_piece
 use Rattle.oim_pieces.specs.contracts.sheet.OfTable as OfTable
-use Rattle.oim_pieces.specs.contracts.sheet.OfTableFitHowJob.TheImpl as of_table
+use Rattle.oim_pieces.specs.contracts.sheet.OfTableFitAskedJob.TheImpl as of_table
 use Rattle.oim_pieces.specs.contracts.sheet.Question as Question
 use Rattle.oim_pieces.specs.contracts.sheet.Reply as Reply
 use Rattle.oim_pieces.specs.contracts.sheet.Sheet as Sheet
+use Rattle.oim_pieces.specs.contracts.thread.Station as Station
 use Rattle.oim_pieces.specs.contracts.thread.Post as Post
+use Rattle.oim_pieces.specs.contracts.thread.Post.TheInside as Inside
 
 pub answer_send : IsSend Answer.the_row
 answer_send = answer.the_send
@@ -82,8 +83,11 @@ sheet_send a = variants_send (Sheet.enum a) ((question_send a, tt), ((reply_send
 job_send : (a : NamedLft) → IsSend (Giver.the_row (Sheet.the_row a) (Asked.the_row a) OfPiece.the_row of_piece.ghosts)
 job_send a = giver.the_send (Sheet.the_row a) (Asked.the_row a) OfPiece.the_row of_piece.ghosts (sheet_send a)
 
-pub post_send : (a : NamedLft) → IsSend (Post.the_row a)
-post_send a =
+station_send : (a : NamedLft) → IsSend (Station.the_row a)
+station_send a =
     let job = Giver.the_row (Sheet.the_row a) (Asked.the_row a) OfPiece.the_row of_piece.ghosts in
-    let share = taker.the_send job (How.the_row a) OfTable.the_row of_table.ghosts (job_send a) in
-    declared_send (Post.the_type a) (decoder_send a, (share, (bin_send, (search sendable, tt))))
+    let share = taker.the_send job (Asked.the_row a) OfTable.the_row of_table.ghosts (job_send a) in
+    declared_send (Station.the_type a) (share, (bin_send, (search sendable, tt)))
+
+pub post_send : (a : NamedLft) → IsSend (Post.the_row a)
+post_send a = view_send (Inside.the_row a) _ _ _ _ (declared_send (Inside.the_type a) (decoder_send a, (station_send a, tt)))

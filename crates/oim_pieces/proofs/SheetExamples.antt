@@ -1,8 +1,7 @@
 -- Worked cases of what lies in the channel of a piece, and in that of a table.
 use Rattle.std.proofs.Common.{◌≡◌, [], ◌∷◌, Some, None, refl}
 use Rattle.oim_rows.specs.RowFacts.{Reading}
-use Rattle.oim_pieces.specs.state.Sheets.{IsReadBy, asked_in}
-use Rattle.oim_pieces.specs.state.Lines.{IsHow, IsLine, how_in}
+use Rattle.oim_pieces.specs.state.Sheets.{IsLine, IsReadBy, asked_in}
 use Rattle.oim_pieces.specs.declared.decoded.Asked.{Asked}
 use Rattle.oim_pieces.specs.declared.sheet.Question.{Question}
 use Rattle.oim_pieces.specs.declared.sheet.Reply.{Reply}
@@ -19,6 +18,6 @@ asked_of_an_answer r = refl
 read_by : (a : Asked) → IsReadBy a.reading.value (Some a) × (IsReadBy a.reading.value None → ⊥)
 read_by a = (refl, λ h. h)
 
--- a piece says how the others of its table are read
-line_of : (a : Asked) → IsHow a.reading.value (how_in (Some a)) × IsLine a.reading.value None × (IsLine a.reading.value (Some None) → ⊥)
+-- a piece of a table's channel says how the others are read
+line_of : (a : Asked) → IsLine a.reading.value (Some (Some a)) × IsLine a.reading.value None × (IsLine a.reading.value (Some None) → ⊥)
 line_of a = (refl, tt, λ h. h)

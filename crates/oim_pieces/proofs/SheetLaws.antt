@@ -7,10 +7,8 @@ use Rattle.oim_decode.specs.Apart.{Apart}
 use Rattle.oim_decode.specs.PieceAnswers.{refused}
 use Rattle.oim_decode.proofs.HeadLaws.{refused_decoded}
 use Rattle.oim_pieces.specs.Flights.{IsAnswer}
-use Rattle.oim_pieces.specs.state.Lines.{IsHow, IsLine, how_in}
-use Rattle.oim_pieces.specs.state.Sheets.{FitsPiece, IsAnswerIn, IsOf, IsPiece, IsReadBy}
+use Rattle.oim_pieces.specs.state.Sheets.{FitsPiece, IsAnswerIn, IsLine, IsOf, IsPiece, IsReadBy}
 use Rattle.oim_pieces.specs.declared.decoded.Asked.{Asked}
-use Rattle.oim_pieces.specs.declared.sheet.How.{How}
 use Rattle.oim_pieces.specs.declared.sheet.Question.{Question}
 use Rattle.oim_pieces.specs.declared.sheet.Sheet.TheVariants.{Ask, Answer}
 use Rattle.oim_pieces.proofs.FlightLaws.{answer_same}
@@ -18,15 +16,15 @@ use Rattle.oim_pieces.proofs.FlightLaws.{answer_same}
 -- THE CHANNEL OF A PIECE
 
 -- the piece that lies there may be decoded
-pub may_decode : (g : Reading) (known : Option Asked) (q : Question) → IsReadBy g known → IfSome known (λ a. FitsPiece a (Ask q)) → q.first ≤ g.limit + 1
+pub may_decode : (g : Reading) (known : Option Asked) (q : Question) → IsReadBy g known → IfSome known (λ a. FitsPiece a (Ask q)) → q.asked.first ≤ g.limit + 1
 may_decode g None q reads fits = absurd reads
-may_decode g (Some a) q reads fits = subst (λ (x : Reading). q.first ≤ x.limit + 1) reads fits.may
+may_decode g (Some a) q reads fits = subst (λ (x : Reading). q.asked.first ≤ x.limit + 1) reads fits.may
 
 -- its answer is that of what was asked
 pub decoded_here : (g : Reading) (known : Option Asked) (q : Question) (answer : Apart) → IsReadBy g known → IfSome known (λ a. FitsPiece a (Ask q))
-    → IsAnswer g q.first (records_left state.StartRecord q.bytes.items) answer → IsAnswerIn known answer
+    → IsAnswer g q.asked.first (records_left state.StartRecord q.bytes.items) answer → IsAnswerIn known answer
 decoded_here g None q answer reads fits is = tt
-decoded_here g (Some a) q answer reads fits is = answer_same a.reading.value g a.first q.first a.rows.value (records_left state.StartRecord q.bytes.items) answer is (sym reads) fits.first fits.rows
+decoded_here g (Some a) q answer reads fits is = answer_same a.reading.value g a.first q.asked.first a.rows.value (records_left state.StartRecord q.bytes.items) answer is (sym reads) fits.first fits.rows
 
 -- none comes, and memory was refused
 pub refused_here : (g : Reading) (first : ℕ) (known : Option Asked) (answer : Apart) → IsReadBy g known → IfSome known (λ a. a.first ≡ first)
@@ -58,22 +56,22 @@ refused_answer g first rows a is may = record {
 
 -- THE CHANNEL TO THE THREADS
 
-pub job_known : (g : Reading) (job : Option Asked) → IsReadBy g job → IsSome (how_in job)
+pub job_known : (g : Reading) (job : Option Asked) → IsReadBy g job → IsSome job
 job_known g None reads = absurd reads
 job_known g (Some a) reads = refl
 
-pub job_fits : (g : Reading) (job : Option Asked) → IsReadBy g job → IfSome (how_in job) (λ how. IsReadBy how.reading.value job)
-job_fits g None reads = absurd reads
-job_fits g (Some a) reads = refl
+pub job_fits : (job : Option Asked) → IfSome job (λ a. IsReadBy a.reading.value job)
+job_fits None = tt
+job_fits (Some a) = refl
 
-pub line_opens : (g : Reading) (job : Option Asked) (line : Option How) → IsReadBy g job → line ≡ how_in job → IsHow g line
-line_opens g None line reads is = absurd reads
-line_opens g (Some a) line reads is = subst (IsHow g) (sym is) reads
+pub line_opens : (g : Reading) (line : Option (Option Asked)) (job : Option Asked) → IfSome line (λ first. first ≡ job) → IsReadBy g job → IsLine g line
+line_opens g None job same reads = tt
+line_opens g (Some first) job same reads = subst (IsReadBy g) (sym same) reads
 
-pub line_fits : (g : Reading) (line : Option How) (job : Option Asked) → IsHow g line → IsReadBy g job → IfSome line (λ how. IsReadBy how.reading.value job)
-line_fits g None job how reads = tt
-line_fits g (Some h) job how reads = subst (λ (x : Reading). IsReadBy x job) (sym how) reads
+pub line_fits : (g : Reading) (line job : Option Asked) → IsReadBy g line → IsReadBy g job → IfSome line (λ a. IsReadBy a.reading.value job)
+line_fits g None job known reads = absurd known
+line_fits g (Some a) job known reads = subst (λ (x : Reading). IsReadBy x job) (sym known) reads
 
-pub line_gives : (g : Reading) (line : Option How) (job : Option Asked) → IsHow g line → IfSome line (λ how. IsReadBy how.reading.value job) → IsReadBy g job
-line_gives g None job how fits = absurd how
-line_gives g (Some h) job how fits = subst (λ (x : Reading). IsReadBy x job) how fits
+pub line_gives : (g : Reading) (line job : Option Asked) → IsReadBy g line → IfSome line (λ a. IsReadBy a.reading.value job) → IsReadBy g job
+line_gives g None job known fits = absurd known
+line_gives g (Some a) job known fits = subst (λ (x : Reading). IsReadBy x job) known fits

@@ -2,7 +2,6 @@
 
 ghost use Rattle.std.specs.Prelude.{◌≡◌};
 
-use crate::decoders::Decoders;
 use crossbeam_queue::ArrayQueue;
 use oim_decode::PieceDecoder;
 use std::alloc::Global;
@@ -81,15 +80,13 @@ impl Bins {
         Some((Bin { rooms: theirs }, number))
     }
 
-    /// Gives the last thread so many of the vectors that are kept for texts.
-    pub(crate) fn stock<T: Wait>(&self, rt: &T, decoders: &mut Decoders<'_>, most: usize)
-        ensures { decoders.new ≡ decoders.old }
-    {
+    /// Gives the last thread so many of these vectors.
+    pub(crate) fn stock<T: Wait>(&self, rt: &T, rooms: &mut Vec<Vec<u8>>, most: usize) {
         let Some(bin) = self.bins.last() else {
             return;
         };
         for _ in 0..most {
-            match decoders.free_room() {
+            match rooms.pop() {
                 Some(room) => {
                     let _ = bin.rooms.push(rt, room);
                 }

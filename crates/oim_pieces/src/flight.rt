@@ -1,22 +1,19 @@
 //! The pieces of a table that are under way.
 
-ghost use Rattle.std.specs.Prelude.{◌≡◌, ◌⊎◌, ◌<◌, ◌≤◌, [], All, IfNone, IfOk, IfErr, IfSome, None, OnSome, Some, length, true};
+ghost use Rattle.std.specs.Prelude.{◌≡◌, ◌⊎◌, ◌-◌, ◌<◌, ◌≤◌, [], ◌∷◌, drop, IfNone, IfOk, IfErr, IfSome, None, OnSome, Some, length, true};
 ghost use Rattle.oim_decode.specs.Blocks.{ReadsRows};
 ghost use Rattle.oim_decode.specs.Heads.{reading_in};
 ghost use Rattle.oim_records.specs.PieceTaking.{bytes_left};
 ghost use Rattle.oim_records.specs.Reads.{left_behind};
 ghost use Rattle.oim_rows.specs.Header.{file_header_fault};
 ghost use Rattle.oim_rows.specs.Streams.{IsOutside, ending, stream_of};
-ghost use Rattle.oim_pieces.specs.state.Lines.{IsLine};
 ghost use Rattle.oim_pieces.specs.Flights.{EndsWith, FewerSteps, IsFront, KeepsStream, NoMoreSteps, behind, steps_in, stream_in};
 
 use crate::crew::Crew;
 use crate::cutter::Cutter;
-use crate::decoded::Asked;
-use crate::decoders::Decoders;
-use crate::flying::{Flying, launch};
+use crate::flying::Flying;
 use crate::helpers::Helpers;
-use oim_decode::{JoinedPiece, PieceDecoder, PieceJoin, TableHead};
+use oim_decode::{JoinedPiece, PieceJoin, TableHead};
 use oim_records::PieceReader;
 use oim_report::Report;
 use oim_rows::{TableFault, TableKind, whole_fault};
@@ -26,9 +23,6 @@ use std::io::Read;
 use std::marker::Model;
 use std::sync::Wait;
 use std::thread::{Scope, Threads};
-
-/// How many pieces of a table are under way at once where nobody waits for them yet. It is decoded here.
-const FEW_UNDER_WAY: usize = 1;
 
 /// More pieces than are cut at once.
 const MOST_CUT: usize = 256;
@@ -40,14 +34,10 @@ const MOST_TAKEN: usize = 256;
 /// the identifiers of the rows that were given, the pieces, and what is left to be cut.
 #[derive(Drop)]
 pub(crate) struct Flight<'a, R: Read + Drop> {
-    helpers: &'a Helpers,
     cutter: Cutter<R>,
-    // what decodes pieces here
-    mine: PieceDecoder<'a>,
-    decoders: Decoders<'a>,
+    crew: Crew<'a>,
     join: PieceJoin,
     flying: VecDeque<Flying<'a>>,
-    crew: Crew<'a>,
     // whether the rows of the head were given
     has_given: bool,
     // whether what is given is wanted at once
@@ -59,61 +49,60 @@ pub(crate) struct Flight<'a, R: Read + Drop> {
 impl<'a, R: Read + Drop> Model for Flight<'a, R> {
     ghost use Rattle.std.specs.Prelude.{◌≡◌};
     ghost use Rattle.oim_pieces.specs.Flights.{AreChained, FlightLeft};
-    ghost use Rattle.oim_pieces.specs.state.Lines.{IsLine};
 
     ghost Value = { FlightLeft };
 
-    ghost view = { λ a. record { reading = a.decoders; ids = a.join; pieces = a.flying.items; cutter = a.cutter } };
+    ghost view = { λ a. record { reading = a.crew; ids = a.join; pieces = a.flying.items; cutter = a.cutter } };
 
-    ghost invariant = { λ a. (a.mine.reading ≡ a.decoders) × (a.decoders.table ≡ a.cutter.table) × (a.decoders.limit ≡ a.cutter.limit)
-        × AreChained a.decoders a.flying.items a.cutter.next × IsLine a.decoders a.crew.line };
+    ghost invariant = { λ a. (a.crew.table ≡ a.cutter.table) × (a.crew.limit ≡ a.cutter.limit) × AreChained a.crew a.flying.items a.cutter.next };
 }
 
-/// A decoder of the table with this head.
-fn first_decoder<'a>(
+/// Who decodes the pieces of the table with this head, whose rows are the one piece under way.
+fn take_off<'a>(
     alloc: Global,
+    helpers: &'a Helpers,
     report: &'a Report,
     table: usize,
     limit: u32,
-    head: &TableHead,
-) -> Result<PieceDecoder<'a>, TableFault>
+    head: TableHead,
+) -> Result<(Crew<'a>, VecDeque<Flying<'a>>), TableFault>
     requires place { table < length report.now.tables }
     requires rows { limit ≤ 4294967294 }
-    ensures decoder { IfOk result (λ d. d.reading ≡ reading_in report.now table limit head.now) }
-    ensures header { IfOk result (λ _. file_header_fault report.now table head.now ≡ None) }
-    ensures fault { IfErr result (λ e. IsOutside table e ⊎ (file_header_fault report.now table head.now ≡ Some e)) }
+    ensures crew { IfOk result (λ off. off.0 ≡ reading_in report.now table limit head) }
+    ensures piece { IfOk result (λ off. off.1.items ≡ record { reading = reading_in report.now table limit head; first = 1; rows = drop 1 head } ∷ []) }
+    ensures rows { IfOk result (λ _. length head - 1 < 18446744073709551615) }
+    ensures header { IfOk result (λ _. file_header_fault report.now table head ≡ None) }
+    ensures fault { IfErr result (λ e. IsOutside table e ⊎ (file_header_fault report.now table head ≡ Some e)) }
 {
-    let form = match head.form(alloc, report, table, limit) {
-        Ok(form) => form,
-        Err(fault) => return Err(fault),
+    if head.rows() == u64::MAX {
+        return Err(whole_fault(table, TableKind::Memory));
+    }
+    let Ok(mut flying) = VecDeque::with_capacity(alloc, 1) else {
+        return Err(whole_fault(table, TableKind::Memory));
     };
-    match PieceDecoder::new(alloc, form) {
-        Ok(decoder) => Ok(decoder),
-        Err(_) => Err(whole_fault(table, TableKind::Memory)),
+    match Crew::open(alloc, helpers, report, table, limit, head) {
+        Ok((crew, front)) => {
+            flying.push_back_reserved(front);
+            Ok((crew, flying))
+        }
+        Err(fault) => Err(fault),
     }
 }
 
 /// Joins a piece, waiting for its answer.
 fn join_piece<'a, T: Wait>(
     rt: &T,
-    helpers: &Helpers,
     crew: &mut Crew<'a>,
-    decoders: &mut Decoders<'a>,
-    mine: &mut PieceDecoder<'a>,
     join: &mut PieceJoin,
     piece: Flying<'a>,
 ) -> JoinedPiece
-    requires reading { piece.reading ≡ decoders.old }
-    requires mine { mine.old.reading ≡ decoders.old }
-    requires line { IsLine decoders.old crew.old.line }
+    requires { piece.reading ≡ crew.old }
     ensures joined { IsFront piece.entry join.old result join.new }
-    ensures same { decoders.new ≡ decoders.old }
-    ensures mine { mine.new.reading ≡ mine.old.reading }
-    ensures line { IsLine decoders.old crew.new.line }
+    ensures same { crew.new ≡ crew.old }
 {
     let first = piece.first();
-    let answer = piece.settle(rt, helpers, crew, decoders, mine);
-    join.join(mine.form(), first, answer)
+    let answer = piece.settle(rt, crew);
+    join.join(crew.form(), first, answer)
 }
 
 impl<'a, R: Read + Drop> Flight<'a, R> {
@@ -135,44 +124,29 @@ impl<'a, R: Read + Drop> Flight<'a, R> {
         ensures stream { IfSome (left_behind head pieces) (λ records. IfOk result (λ t. stream_in t ≡ Some (stream_of report.now table limit records))) }
         ensures fault { IfErr result (λ e. IsOutside table e ⊎ (file_header_fault report.now table head ≡ Some e)) }
     {
-        let mut mine = match first_decoder(alloc, report, table, limit, &head) {
-            Ok(mine) => mine,
-            Err(fault) => return Err(fault),
-        };
-        let Ok(mut flying) = VecDeque::with_capacity(alloc, 1) else {
-            return Err(whole_fault(table, TableKind::Memory));
-        };
-        let asked = Asked::of_head(mine.form(), &head);
-        let answer = mine.decode_head(&head);
-        flying.push_back_reserved(Flying::here(asked, answer));
         let rows = head.rows();
-        if rows == u64::MAX {
-            return Err(whole_fault(table, TableKind::Memory));
+        match take_off(alloc, helpers, report, table, limit, head) {
+            Ok((crew, flying)) => Ok(Flight {
+                cutter: Cutter::new(pieces, table, limit, 1 + rows, helpers.size()),
+                crew,
+                join: PieceJoin::new(alloc),
+                flying,
+                has_given: false,
+                is_wanted: false,
+                are_own: false,
+            }),
+            Err(fault) => Err(fault),
         }
-        Ok(Flight {
-            helpers,
-            cutter: Cutter::new(pieces, table, limit, 1 + rows, helpers.size()),
-            mine,
-            decoders: Decoders::new(alloc, report, table, limit, head),
-            join: PieceJoin::new(alloc),
-            flying,
-            crew: Crew::new(alloc),
-            has_given: false,
-            is_wanted: false,
-            are_own: false,
-        })
     }
 
     /// Keeps the memory of a block that was written, for texts that are decoded later: for the thread that wrote it, if that is known.
     pub(crate) fn keep_room<T: Wait>(&mut self, rt: &T, room: Vec<u8>)
         ensures { self.new ≡ self.old }
     {
-        if !self.are_own {
-            self.decoders.keep_room(room);
-            return;
-        }
-        if let Some(room) = self.crew.bins.keep(rt, room) {
-            self.decoders.keep_room(room);
+        if self.are_own {
+            self.crew.memory.keep_own(rt, room);
+        } else {
+            self.crew.memory.keep_room(room);
         }
     }
 
@@ -180,15 +154,14 @@ impl<'a, R: Read + Drop> Flight<'a, R> {
     pub(crate) fn note_left(&mut self, left: usize)
         ensures { self.new ≡ self.old }
     {
-        self.crew.bins.forget(left);
+        self.crew.memory.note_left(left);
     }
 
     /// Notes how many vectors the texts of the piece took that was joined last.
     pub(crate) fn expect(&mut self, count: usize)
         ensures { self.new ≡ self.old }
     {
-        self.crew.bins.note(self.decoders.by(), count);
-        self.decoders.expect(count);
+        self.crew.memory.expect(count);
     }
 
     /// How many vectors more are to be taken for the texts of the next pieces: all that came back, once the table is written.
@@ -196,7 +169,7 @@ impl<'a, R: Read + Drop> Flight<'a, R> {
         if self.is_wanted {
             MOST_TAKEN
         } else {
-            self.decoders.wanted()
+            self.crew.memory.wanted()
         }
     }
 
@@ -204,9 +177,7 @@ impl<'a, R: Read + Drop> Flight<'a, R> {
     pub(crate) fn free_rooms<T: Wait>(&mut self, rt: &T) -> Vec<Vec<u8>>
         ensures { self.new ≡ self.old }
     {
-        let mut rooms = self.decoders.free_rooms();
-        self.crew.bins.empty(rt, &mut rooms);
-        rooms
+        self.crew.memory.free_rooms(rt)
     }
 
     /// Has the next pieces decoded, while there are places for threads, and the next one where no piece is under way.
@@ -235,15 +206,6 @@ impl<'a, R: Read + Drop> Flight<'a, R> {
         self.is_wanted = is_wanted;
     }
 
-    /// How many pieces may be under way at once.
-    fn window<T: Threads>(&self, rt: &T) -> usize {
-        if self.is_wanted {
-            self.helpers.window(rt)
-        } else {
-            FEW_UNDER_WAY
-        }
-    }
-
     /// Whether one more piece is to be cut. The rows of the head, and a short piece, as a slow reader gives it, wait for no others; behind a longer
     /// one others may be read before it is given. No contract says so.
     fn may_cut<T: Threads>(&self, rt: &T) -> bool {
@@ -251,8 +213,7 @@ impl<'a, R: Read + Drop> Flight<'a, R> {
             Some(_) => {
                 self.has_given
                     && !self.cutter.is_slow()
-                    && self.flying.len() < self.window(rt)
-                    && (self.crew.count() > 0 || self.helpers.are_idle())
+                    && self.crew.may_have(rt, self.flying.len(), self.is_wanted)
             }
             None => true,
         }
@@ -272,21 +233,13 @@ impl<'a, R: Read + Drop> Flight<'a, R> {
         if self.flying.reserve(1).is_err() {
             return false;
         }
-        if let Some(bytes) = self.decoders.free_bytes() {
+        if let Some(bytes) = self.crew.memory.free_bytes() {
             self.cutter.keep_room(bytes);
         }
         let Some(piece) = self.cutter.cut() else {
             return false;
         };
-        let flying = launch(
-            scope,
-            rt,
-            self.helpers,
-            &mut self.crew,
-            &mut self.decoders,
-            &mut self.mine,
-            piece.staying(!self.is_wanted),
-        );
+        let flying = self.crew.launch(scope, rt, piece.staying(!self.is_wanted));
         self.flying.push_back_reserved(flying);
         true
     }
@@ -302,16 +255,7 @@ impl<'a, R: Read + Drop> Flight<'a, R> {
     {
         let piece = self.flying.pop_front()?;
         self.has_given = true;
-        let joined = join_piece(
-            rt,
-            self.helpers,
-            &mut self.crew,
-            &mut self.decoders,
-            &mut self.mine,
-            &mut self.join,
-            piece,
-        );
-        Some(joined)
+        Some(join_piece(rt, &mut self.crew, &mut self.join, piece))
     }
 
     /// Drops the pieces that are under way, whose answers nobody needs. Those that no thread has drawn are drawn here, so that none decodes them.

@@ -44,6 +44,7 @@ mod decoders;
 mod flight;
 mod flying;
 mod helpers;
+mod memory;
 mod sheet;
 mod table_pieces;
 mod thread;

@@ -6,15 +6,12 @@ ghost use Rattle.oim_pieces.specs.state.Sheets.{IsPiece};
 use crate::decoded::Asked;
 use keyed::{Fit, Giver, Taker};
 use oim_decode::PieceAnswer;
-use oim_rows::RowForm;
-use std::snapshot::Snapshot;
 
-/// A piece that nobody has drawn yet: what is asked, its bytes, the number of its first row, and how many vectors are lent for its texts.
+/// A piece that nobody has drawn yet: which rows are asked for, its bytes, and how many vectors are lent for its texts.
 #[derive(Drop)]
 pub(crate) struct Question<'a> {
     pub(crate) asked: Asked<'a>,
     pub(crate) bytes: Vec<u8>,
-    pub(crate) first: u32,
     pub(crate) rooms: usize,
 }
 
@@ -50,26 +47,19 @@ pub(crate) type Job<'a> = Giver<Sheet<'a>, Asked<'a>, OfPiece>;
 /// The end of the channel of a piece to which its answer comes.
 pub(crate) type Pending<'a> = Taker<Sheet<'a>, Asked<'a>, OfPiece>;
 
-/// How the rows of a table are read, for contracts alone.
-#[derive(Drop)]
-pub(crate) struct How<'a> {
-    pub(crate) reading: Snapshot<RowForm<'a>>,
-}
-
-/// All who have an end of the channel to the threads of a table know how its rows are read.
+/// All who have an end of the channel to the threads of a table know one of its pieces, and so how the rows of all are read.
 pub(crate) struct OfTable;
 
-impl<'a> Fit<How<'a>, Job<'a>> for OfTable {
-    ghost use Rattle.oim_pieces.specs.state.Lines.{how_in};
+impl<'a> Fit<Asked<'a>, Job<'a>> for OfTable {
     ghost use Rattle.oim_pieces.specs.state.Sheets.{IsReadBy};
 
-    ghost key = { how_in };
+    ghost key = { λ job. job };
 
-    ghost fits = { λ how job. IsReadBy how.reading.value job };
+    ghost fits = { λ a job. IsReadBy a.reading.value job };
 }
 
 /// The end of a table's channel that sends its pieces to threads.
-pub(crate) type Line<'a> = Giver<Job<'a>, How<'a>, OfTable>;
+pub(crate) type Line<'a> = Giver<Job<'a>, Asked<'a>, OfTable>;
 
 /// The end of a table's channel by which a thread draws pieces.
-pub(crate) type Share<'a> = Taker<Job<'a>, How<'a>, OfTable>;
+pub(crate) type Share<'a> = Taker<Job<'a>, Asked<'a>, OfTable>;

@@ -12,9 +12,9 @@ use Rattle.oim_pieces.specs.declared.sheet.Sheet.TheVariants.{Ask, Answer}
 
 -- a piece is the one that was asked for
 pub record IsPiece (a : Asked) (q : Question) : Type 0 where
-  pub first : q.first ≡ a.first
+  pub first : q.asked.first ≡ a.first
   pub rows : records_left state.StartRecord q.bytes.items ≡ a.rows.value
-  pub may : q.first ≤ a.reading.value.limit + 1
+  pub may : q.asked.first ≤ a.reading.value.limit + 1
 
 -- which piece a channel is of
 abbrev pub asked_in : Sheet → Option Asked
@@ -39,3 +39,7 @@ IsAnswerIn known answer = IfSome known (λ a. IsAnswer a.reading.value a.first a
 abbrev pub IsOf : Asked → Option Asked → Type 0
 IsOf asked None = ⊥
 IsOf asked (Some a) = (a.reading.value ≡ asked.reading.value) × (a.first ≡ asked.first) × (a.rows.value ≡ asked.rows.value)
+
+-- the channel to threads that read rows in this way, once it is open: it is known which piece came first
+abbrev pub IsLine : Reading → Option (Option Asked) → Type 0
+IsLine g line = IfSome line (IsReadBy g)

@@ -11,7 +11,7 @@ use Rattle.std.proofs.Common.{[], ◌∷◌}
 use Rattle.oim_pieces.specs.contracts.helpers.Helpers as Helpers
 use Rattle.oim_pieces.specs.contracts.thread.Post as Post
 use Rattle.oim_pieces.proofs.Sends.{helpers_sync, post_send}
-use Rattle.oim_pieces.proofs.crew.Crew.start.Goals as goal
+use Rattle.oim_pieces.proofs.crew.start.Goals as goal
 
 pub spawn-requires-send-F : goal.spawn-requires-send-F
 spawn-requires-send-F g c κs within =
