@@ -148,6 +148,11 @@ impl<'a> Crew<'a> {
         self.mine.form()
     }
 
+    /// Whether no other can help.
+    pub(crate) fn is_alone(&self) -> bool {
+        self.helpers.is_alone()
+    }
+
     /// Whether one more piece may be under way beside so many. No contract says so.
     pub(crate) fn may_have<T: Threads>(&self, rt: &T, count: usize, is_wanted: bool) -> bool {
         let most = if is_wanted {

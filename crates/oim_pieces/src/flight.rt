@@ -198,10 +198,12 @@ impl<'a, R: Read + Drop> Flight<'a, R> {
         }
     }
 
-    /// Notes whether what is given is wanted at once. Vectors that came back before it was are those of other tables' blocks.
+    /// Notes whether what is given is wanted at once, which counts only where others can help. Vectors that came back before it was are those of
+    /// other tables' blocks.
     pub(crate) fn want(&mut self, is_wanted: bool)
         ensures { self.new ≡ self.old }
     {
+        let is_wanted = is_wanted && !self.crew.is_alone();
         self.are_own = self.is_wanted && is_wanted;
         self.is_wanted = is_wanted;
     }

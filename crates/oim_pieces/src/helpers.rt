@@ -40,7 +40,7 @@ impl Helpers {
     }
 
     /// Whether there is one worker alone, which no other can help.
-    pub fn is_alone(&self) -> bool {
+    pub(crate) fn is_alone(&self) -> bool {
         self.workers < 2
     }
 
