@@ -9,10 +9,16 @@ use std::marker::Model;
 use std::sync::Wait;
 
 /// An end that takes items. A contract sees what is known of them.
-#[derive(Drop)]
 pub struct Taker<T: Drop, K, F: Fit<K, T>> {
     from: RuledReceiver<T, Option<K>, Keyed<F>, Global>,
     pass: Pass<T, Option<K>>,
+}
+
+// By hand, so that who lets one go elsewhere makes one call.
+impl<T: Drop, K, F: Fit<K, T>> Drop for Taker<T, K, F> {
+    fn drop(self) {
+        let Self { from: _, pass: _ } = self;
+    }
 }
 
 impl<T: Drop, K, F: Fit<K, T>> Model for Taker<T, K, F> {
@@ -28,11 +34,21 @@ impl<T: Drop, K, F: Fit<K, T>> Model for Taker<T, K, F> {
 }
 
 /// An end that sends items and takes them. A contract sees what is known of them.
-#[derive(Drop)]
 pub struct Giver<T: Drop, K, F: Fit<K, T>> {
     to: RuledSender<T, Option<K>, Keyed<F>, Global>,
     from: RuledReceiver<T, Option<K>, Keyed<F>, Global>,
     pass: Pass<T, Option<K>>,
+}
+
+// By hand, so that who lets one go elsewhere makes one call.
+impl<T: Drop, K, F: Fit<K, T>> Drop for Giver<T, K, F> {
+    fn drop(self) {
+        let Self {
+            to: _,
+            from: _,
+            pass: _,
+        } = self;
+    }
 }
 
 impl<T: Drop, K, F: Fit<K, T>> Model for Giver<T, K, F> {

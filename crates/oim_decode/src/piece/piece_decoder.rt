@@ -19,7 +19,6 @@ use std::marker::Model;
 
 /// What decodes the pieces of one table, each by itself: from its bytes and the number of its first row alone. A contract sees how the
 /// table's rows are read, and the records that are left of the piece at hand.
-#[derive(Drop)]
 pub struct PieceDecoder<'a> {
     alloc: Global,
     form: RowForm<'a>,
@@ -29,6 +28,20 @@ pub struct PieceDecoder<'a> {
     rooms: Rooms,
     // the identifiers of other rows: none is known
     ids: RowIds,
+}
+
+// By hand, so that who lets one go elsewhere makes one call.
+impl Drop for PieceDecoder<'_> {
+    fn drop(self) {
+        let Self {
+            alloc: _,
+            form: _,
+            texts: _,
+            records: _,
+            rooms: _,
+            ids: _,
+        } = self;
+    }
 }
 
 impl<'a> Model for PieceDecoder<'a> {

@@ -23,13 +23,24 @@ pub(crate) const MOST: usize = 256;
 /// table's place, the limit, how many rows were read, the facts that are read and not given, the stream
 /// behind them and the records that are unread, where the reader tells its bytes, and what is answered
 /// again once the table is settled.
-#[derive(Drop)]
 pub struct TableBlocks<'a, R: Read + Drop> {
     alloc: Global,
     rows: TextRows<'a, R>,
     facts: PendingFacts,
     // the end or the fault that was found behind the facts that are read
     settled: Option<Option<TableFault>>,
+}
+
+// By hand, so that who lets one go elsewhere makes one call.
+impl<R: Read + Drop> Drop for TableBlocks<'_, R> {
+    fn drop(self) {
+        let Self {
+            alloc: _,
+            rows: _,
+            facts: _,
+            settled: _,
+        } = self;
+    }
 }
 
 impl<'a, R: Read + Drop> Model for TableBlocks<'a, R> {
