@@ -26,22 +26,12 @@ pub const PIECE_SIZE: usize = 32_768;
 /// The facts of one table that are left, piece by piece, as blocks of text. It borrows the table's report. A contract sees the table's
 /// place, what is answered again once the table is settled, how many pieces are under way, and, where the reader tells its bytes, the stream
 /// that is left and the bytes that are not cut yet.
+#[derive(Drop)]
 pub struct TablePieces<'a, R: Read + Drop> {
     alloc: Global,
     flight: Flight<'a, R>,
     // the end or the fault that was found behind all that was given
     settled: Option<Option<TableFault>>,
-}
-
-// By hand, so that who lets one go elsewhere makes one call.
-impl<R: Read + Drop> Drop for TablePieces<'_, R> {
-    fn drop(self) {
-        let Self {
-            alloc: _,
-            flight: _,
-            settled: _,
-        } = self;
-    }
 }
 
 impl<'a, R: Read + Drop> Model for TablePieces<'a, R> {
