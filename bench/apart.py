@@ -109,6 +109,9 @@ def main() -> None:
     parser.add_argument("--rounds", type=int, default=11)
     parser.add_argument("--real-time", action="store_true")
     options = parser.parse_args()
+    if options.real_time:
+        # Above the runs, or the first of four at once would keep this script from starting the others.
+        os.sched_setscheduler(0, os.SCHED_FIFO, os.sched_param(11))
     with tempfile.TemporaryDirectory() as name:
         lines = lines_of(options.program, options.plain, Path(name), options.megabytes)
         seen: Dict[str, List[Seen]] = {it: [] for it in lines}
