@@ -27,7 +27,8 @@ pub(crate) fn deal<V>(
     seats.push_reserved(Seat::of(token));
 }
 
-/// Makes the token stand for this seat too.
+/// Makes the token stand for this seat too. A seat that has drawn carries the slots that it emptied, so the whole of
+/// its view is split off once more before it is joined.
 pub(crate) fn gather<V>(steps: &Steps<V>, whole: &mut BoardSeat<V>, seat: Seat<V>)
     requires place { (whole.old.table_id ≡ steps.now.table_id) × (seat.claims.id ≡ steps.now.table_id) × (0 < steps.now.table_id.words) }
     requires share { 0 < whole.old.me.0.share }

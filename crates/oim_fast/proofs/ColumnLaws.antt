@@ -7,9 +7,9 @@ use Rattle.std.proofs.lemmas.Bool.Decides.{Decides-eqb}
 use Rattle.std.proofs.lemmas.List.{map-append, take_more}
 use Rattle.std.proofs.lemmas.Option.{slice_get-get_or, slice_get-map}
 use Rattle.oim_rows.specs.Header.{is_column}
-use Rattle.oim_report.specs.Readers.{no_column}
+use Rattle.oim_report.specs.Readers.{holds_facts, no_column}
 use Rattle.oim_report.specs.declared.data.Column.{Column}
-use Rattle.oim_rows.specs.RowFacts.{Reading, holds_facts, is_fact_column}
+use Rattle.oim_rows.specs.RowFacts.{Reading, is_fact_column}
 use Rattle.oim_fast.specs.state.Columns.{AreFactColumns, IsColumnAt, IsFactColumn, fact_column_at, fact_columns_in}
 use Rattle.oim_fast.specs.state.References.{Grows}
 use Rattle.oim_fast.specs.Rows.{columns_in}

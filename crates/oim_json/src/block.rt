@@ -16,13 +16,19 @@ use std::marker::Model;
 
 /// The texts of 1 to 256 facts, joined by commas. A contract sees the list of facts; the block itself
 /// keeps only their texts and where each ends.
-#[derive(Drop)]
 pub struct Block {
     // each text behind a comma
     bytes: Vec<u8>,
     // where each text ends
     ends: Vec<usize>,
     facts: GhostValue<Items<Fact>>,
+}
+
+// By hand, so that who lets one go elsewhere makes one call.
+impl Drop for Block {
+    fn drop(self) {
+        let Self { bytes: _, ends: _, facts: _ } = self;
+    }
 }
 
 impl Model for Block {
@@ -130,7 +136,8 @@ impl Block {
     pub fn into_room(self) -> Vec<u8>
         ensures { result.items ≡ behind_commas self }
     {
-        self.bytes
+        let Self { bytes, ends: _, facts: _ } = self;
+        bytes
     }
 }
 

@@ -9,6 +9,7 @@ use Rattle.std.proofs.lemmas.List.Elements.{All-from_recursion}
 use Rattle.std.proofs.lemmas.Map.Text.{is_eq-slice_cmp}
 use Rattle.serde_json.specs.Data.{Data, null, boolean, number, string, array, object, Items, no_items, item, Members, no_members, member}
 use Rattle.serde_json.specs.Find.{get, get_member, as_object, as_str}
+use Rattle.oim_report.specs.Readers.{holds_facts}
 use Rattle.oim_report.specs.declared.data.Column.{Column}
 use Rattle.oim_report.specs.declared.data.ColumnKind.{ColumnKind}
 use Rattle.oim_report.specs.declared.data.ColumnKind.TheVariants.{Fact, Groups, Comment, Plain}
@@ -17,7 +18,7 @@ use Rattle.oim_meta.specs.Order.{IsInOrder}
 use Rattle.oim_report.specs.Places.{HasColumns, IsReport}
 use Rattle.oim_meta.specs.Members.{section, items_at, text_at, any_member, any_item, map_members, map_items, if_there}
 use Rattle.oim_meta.specs.Faults.{template_name, lacks_template_of, has_unknown_template, has_bad_identifier}
-use Rattle.oim_meta.specs.UnknownColumn.{is_fact, is_groups, column_at, lacks_column, lacks_groups, has_unknown_row_id, is_unknown_source, has_unknown_source, lacks_named_column, has_unknown_column}
+use Rattle.oim_meta.specs.UnknownColumn.{is_groups, column_at, lacks_column, lacks_groups, has_unknown_row_id, is_unknown_source, has_unknown_source, lacks_named_column, has_unknown_column}
 use Rattle.oim_meta.specs.Value.{kind_of, add_place, sources_of, level_of, column_of, columns_of, template_of, place_of, table_of, tables_of, templates_of, named_text}
 use Rattle.oim_meta.proofs.Ordered.{parts_rise, have_identifiers, own_parameters_rise}
 
@@ -109,7 +110,7 @@ sources t n place seen (item d ds) all h =
     sources t n place (add_place (section (codes "columns") t) seen (as_str d)) ds (source t n place seen (as_str d) all (left (is_unknown_source t d) _ h)) (right (is_unknown_source t d) _ h)
 
 from_column : (t : Data) (n : ℕ) → ((name : List ℕ) → lacks_column t name ≡ false → place_of name (section (codes "columns") t) < n)
-    → (kind : ColumnKind) (c : Data) → (is_fact kind && any_item (is_unknown_source t) (items_at (codes "propertiesFrom") c)) ≡ false
+    → (kind : ColumnKind) (c : Data) → (holds_facts kind && any_item (is_unknown_source t) (items_at (codes "propertiesFrom") c)) ≡ false
     → AllByRecursion (IsBelow n) (sources_of (section (codes "columns") t) kind c)
 from_column t n place Fact c h = sources t n place [] (items_at (codes "propertiesFrom") c) tt h
 from_column t n place Groups c h = tt

@@ -3,16 +3,11 @@
 use Rattle.std.specs.Prelude.{ℕ, List, Bool, true, false, not, ◌||◌, ◌&&◌, Option, option_map, option_and_then, unwrap_or, is_none, codes}
 use Rattle.serde_json.specs.Data.{Data}
 use Rattle.serde_json.specs.Find.{get, as_str}
+use Rattle.oim_report.specs.Readers.{holds_facts}
 use Rattle.oim_report.specs.declared.data.ColumnKind.{ColumnKind}
 use Rattle.oim_report.specs.declared.data.ColumnKind.TheVariants.{Fact, Groups, Comment, Plain}
 use Rattle.oim_meta.specs.Members.{text_at, section, items_at, any_member, any_item, if_there}
 use Rattle.oim_meta.specs.Value.{kind_of}
-
-abbrev pub is_fact : ColumnKind → Bool
-is_fact Fact = true
-is_fact Groups = false
-is_fact Comment = false
-is_fact Plain = false
 
 abbrev pub is_groups : ColumnKind → Bool
 is_groups Fact = false
@@ -41,7 +36,7 @@ is_unknown_source t d = unwrap_or (option_map (lacks_groups t) (as_str d)) false
 
 -- propertiesFrom of a fact column has a text that names no property group column
 abbrev pub has_unknown_source : Data → Data → Bool
-has_unknown_source t c = is_fact (kind_of c) && any_item (is_unknown_source t) (items_at (codes "propertiesFrom") c)
+has_unknown_source t c = holds_facts (kind_of c) && any_item (is_unknown_source t) (items_at (codes "propertiesFrom") c)
 
 abbrev pub lacks_named_column : Data → Bool
 lacks_named_column t = has_unknown_row_id t || any_member (λ _ c. has_unknown_source t c) (section (codes "columns") t)

@@ -27,9 +27,15 @@ enum Body {
 }
 
 /// A text. Contracts see its bytes.
-#[derive(Drop)]
 pub struct Text {
     body: Body,
+}
+
+// By hand, so that who lets one go elsewhere makes one call.
+impl Drop for Text {
+    fn drop(self) {
+        let Self { body: _ } = self;
+    }
 }
 
 impl Model for Text {
@@ -62,7 +68,8 @@ impl Text {
     pub fn share(self) -> Result<Text, AllocError>
         ensures { IfOk result (λ t. t ≡ self) }
     {
-        match self.body {
+        let Self { body } = self;
+        match body {
             Body::Alone(string) => Ok(Text {
                 body: Body::Shared(ArcStr::from_string(string)?),
             }),
@@ -99,9 +106,16 @@ impl Clone for Text {
 }
 
 /// A list. Contracts see its items.
-#[derive(Clone, Drop)]
+#[derive(Clone)]
 pub struct Items<T> {
     items: Vec<T>,
+}
+
+// By hand, so that who lets one go elsewhere makes one call.
+impl<T: Drop> Drop for Items<T> {
+    fn drop(self) {
+        let Self { items: _ } = self;
+    }
 }
 
 impl<T> Model for Items<T> {
@@ -133,7 +147,8 @@ impl<T> Items<T> {
     pub fn into_vec(self) -> Vec<T>
         ensures { result.items ≡ self }
     {
-        self.items
+        let Self { items } = self;
+        items
     }
 
     /// Appends an item.

@@ -23,12 +23,18 @@ fn value_under<'v>(value: &'v Value, keys: &[&str]) -> Option<&'v Value> {
 }
 
 /// A report, and its metadata as it is written.
-#[derive(Drop)]
 pub struct ReportAgain {
     /// The report.
     pub report: Report,
     /// What its metadata file has; no clause says so.
     pub metadata: Value,
+}
+
+// By hand, so that who lets one go elsewhere makes one call.
+impl Drop for ReportAgain {
+    fn drop(self) {
+        let Self { report: _, metadata: _ } = self;
+    }
 }
 
 impl ReportAgain {

@@ -32,6 +32,7 @@ fn fault_of(kind: &ErrorKind) -> ReadFault
 #[derive(Drop)]
 pub struct Records<R: Read> {
     reader: Reader<R>,
+    // kept here, since `csv` does not say what follows the last record
     has_ended: bool,
 }
 

@@ -1,12 +1,13 @@
 -- What the readers of a report answer. Places that are out of range have empty parts.
-use Rattle.std.specs.Prelude.{ℕ, List, [], Option, None, false, slice_index_or}
+use Rattle.std.specs.Prelude.{ℕ, List, [], Bool, true, false, Option, None, slice_index_or}
 use Rattle.std.specs.Option.{option_or}
 use Rattle.oim_names.specs.Lookup.{value_at}
 use Rattle.oim_report.specs.Types.{kind_in}
 use Rattle.oim_report.specs.ReportValue.{ReportValue}
 use Rattle.oim_report.specs.declared.data.Level.{Level}
 use Rattle.oim_report.specs.declared.data.Column.{Column}
-use Rattle.oim_report.specs.declared.data.ColumnKind.TheVariants.{Plain}
+use Rattle.oim_report.specs.declared.data.ColumnKind.{ColumnKind}
+use Rattle.oim_report.specs.declared.data.ColumnKind.TheVariants.{Fact, Groups, Comment, Plain}
 use Rattle.oim_report.specs.declared.data.Table.{Table}
 use Rattle.oim_report.specs.declared.data.Template.{Template}
 use Rattle.oim_report.specs.declared.kind.Kind.{Kind}
@@ -43,3 +44,10 @@ parameter_of r i n = option_or (value_at n (table_of r i).parameters) (value_at 
 -- the kind of the concept or dimension of a URI and a local part
 abbrev pub kind_of : ReportValue → List ℕ → List ℕ → Option Kind
 kind_of r uri local = kind_in r.types uri local
+
+-- the cells of a column of this kind are facts
+abbrev pub holds_facts : ColumnKind → Bool
+holds_facts Fact = true
+holds_facts Groups = false
+holds_facts Comment = false
+holds_facts Plain = false

@@ -10,7 +10,6 @@ use oim_names::{Items, Namespaces, Text};
 use std::marker::Model;
 
 /// The metadata of a report, with its parameters and its types. A contract sees all its parts.
-#[derive(Drop)]
 pub struct Report {
     pub(crate) info: Info,
     pub(crate) namespaces: Namespaces,
@@ -22,6 +21,22 @@ pub struct Report {
     pub(crate) parameters: Items<(Text, Text)>,
     /// The parameters of the parameters file, in its order.
     pub(crate) given: Parameters,
+}
+
+// By hand, so that who lets one go elsewhere makes one call.
+impl Drop for Report {
+    fn drop(self) {
+        let Self {
+            info: _,
+            namespaces: _,
+            types: _,
+            level: _,
+            templates: _,
+            tables: _,
+            parameters: _,
+            given: _,
+        } = self;
+    }
 }
 
 impl Model for Report {

@@ -1,7 +1,7 @@
 -- The definitions, executed on worked cases.
 use Rattle.std.proofs.Common.{◌≡◌, ◌++◌, ◌∷◌, [], ap, arith, ℕ, List, Some, None, Ok, Err, Bool, true, false, codes, map, refl}
 use Rattle.std.proofs.lemmas.Fmt.{decimal_digit}
-use Rattle.oim_report.specs.Readers.{no_level}
+use Rattle.oim_report.specs.Readers.{holds_facts, no_level}
 use Rattle.oim_report.specs.ReportValue.{ReportValue}
 use Rattle.oim_report.specs.declared.data.Column.{Column}
 use Rattle.oim_report.specs.declared.data.ColumnKind.TheVariants as content
@@ -24,7 +24,7 @@ use Rattle.oim_records.specs.declared.read_fault.ReadFault.TheVariants as read
 use Rattle.oim_rows.specs.Header.{fault_at, file_fault, file_header_fault, header_fault, header_of, is_column, names_row_id}
 use Rattle.oim_rows.specs.Identifiers.{facts_of_tables}
 use Rattle.oim_rows.specs.state.Progressing.{left_of}
-use Rattle.oim_rows.specs.RowFacts.{Reading, cell_at, early_fact_at, fact_at, facts_from, holds_facts, id_kind, is_fact_column, row_fault, row_id_text, row_result, source_of_column}
+use Rattle.oim_rows.specs.RowFacts.{Reading, cell_at, early_fact_at, fact_at, facts_from, id_kind, is_fact_column, row_fault, row_id_text, row_result, source_of_column}
 use Rattle.oim_rows.specs.Streams.{answer_of, early_header_fault, early_row_answer, ending, facts_of, fault_of_read, kept_answer, row_answer, stream_from, stream_of, table_stream}
 use Rattle.oim_rows.specs.WholeTable.{ids_of, row_after, row_at}
 use Rattle.oim_rows.specs.declared.fault.TableKind.TheVariants as kind

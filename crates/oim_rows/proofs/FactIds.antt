@@ -18,7 +18,7 @@ use Rattle.oim_records.specs.Grids.{Field, Record, grid}
 use Rattle.oim_report.specs.InOrder.{PartsRise, TemplateRises, HaveIdentifiers}
 use Rattle.oim_report.specs.Rising.{IsRising}
 use Rattle.oim_report.proofs.Searches.{below-differs}
-use Rattle.oim_report.specs.Readers.{columns_of, no_column, no_table, no_template, table_of, template_of}
+use Rattle.oim_report.specs.Readers.{columns_of, holds_facts, no_column, no_table, no_template, table_of, template_of}
 use Rattle.oim_report.specs.ReportValue.{ReportValue}
 use Rattle.oim_report.specs.declared.data.Column.{Column}
 use Rattle.oim_report.specs.declared.data.Table.{Table}
@@ -31,7 +31,7 @@ use Rattle.oim_resolve.specs.declared.fact.Row.{Row}
 use Rattle.oim_rows.specs.Header.{Header, header_fault, header_of, is_column, is_empty, is_unknown, file_fault, names_row_id, or_else, repeat_from, repeats, fault_at}
 use Rattle.oim_resolve.proofs.FactFacts as resolved
 use Rattle.oim_rows.specs.Identifiers.{HaveOwnIds, facts_of_tables}
-use Rattle.oim_rows.specs.RowFacts.{Reading, at_place, checked, fact_at, facts_from, holds_facts, id_fault, id_kind, id_place_of}
+use Rattle.oim_rows.specs.RowFacts.{Reading, at_place, checked, fact_at, facts_from, id_fault, id_kind, id_place_of}
 use Rattle.oim_rows.specs.RowFacts.{ids_after, is_fact_column, limit_fault, ragged_fault, row_fault, row_id_text, text_fault, row_of, row_result}
 use Rattle.oim_rows.specs.Streams.{Stream, facts_of, reading_of, row_in_front, stream_from, stream_of, table_stream}
 use Rattle.oim_rows.specs.declared.fault.TableFault.{TableFault}

@@ -1,14 +1,14 @@
 -- The cells of which a row is resolved.
 use Rattle.std.proofs.Common.{◌≡◌, ◌<◌, ℕ, zero, suc, List, [], ◌∷◌, arith, length, refl, true}
 use Rattle.std.specs.Prelude.{slice_index_or}
-use Rattle.oim_report.specs.Readers.{columns_of, no_column}
+use Rattle.oim_report.specs.Readers.{columns_of, holds_facts, no_column}
 use Rattle.oim_report.specs.ReportValue.{ReportValue}
 use Rattle.oim_report.specs.declared.data.Column.{Column}
 use Rattle.oim_report.specs.declared.data.ColumnKind.{ColumnKind}
 use Rattle.oim_report.specs.declared.data.ColumnKind.TheVariants.{Fact, Groups, Comment, Plain}
 use Rattle.oim_resolve.specs.Cell.{IsCell, cell_of}
 use Rattle.oim_resolve.specs.declared.fact.Row.{Row}
-use Rattle.oim_rows.specs.RowFacts.{holds_facts, is_fact_column}
+use Rattle.oim_rows.specs.RowFacts.{is_fact_column}
 
 -- a column that holds facts is there, and of the kind of facts
 of_facts : (columns : List Column) (c : ℕ) → is_fact_column columns c ≡ true → (c < length columns) × ((slice_index_or columns c no_column).kind ≡ Fact)

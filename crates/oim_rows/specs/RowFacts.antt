@@ -8,11 +8,9 @@ use Rattle.std.specs.Str.{bytes_eq, is_utf8}
 use Rattle.csv.specs.Records.{field_at}
 use Rattle.oim_names.specs.Names.{is_row_identifier}
 use Rattle.oim_records.specs.Grids.{Field, Record}
-use Rattle.oim_report.specs.Readers.{columns_of, template_of}
+use Rattle.oim_report.specs.Readers.{columns_of, holds_facts, template_of}
 use Rattle.oim_report.specs.ReportValue.{ReportValue}
 use Rattle.oim_report.specs.declared.data.Column.{Column}
-use Rattle.oim_report.specs.declared.data.ColumnKind.{ColumnKind}
-use Rattle.oim_report.specs.declared.data.ColumnKind.TheVariants as content
 use Rattle.oim_resolve.specs.Cell.{cell_of}
 use Rattle.oim_resolve.specs.Facts.{cell_result, early_result}
 use Rattle.oim_resolve.specs.declared.fact.CellFault.{CellFault}
@@ -100,12 +98,6 @@ row_faults g n ids r = ragged_fault g n r ∷ text_fault g n r ∷ limit_fault g
 
 abbrev pub row_fault : Reading → ℕ → List Field → Record → Option TableFault
 row_fault g n ids r = first_of (row_faults g n ids r)
-
-abbrev pub holds_facts : ColumnKind → Bool
-holds_facts content.Fact = true
-holds_facts content.Groups = false
-holds_facts content.Comment = false
-holds_facts content.Plain = false
 
 -- the place is that of a column that holds facts
 abbrev pub is_fact_column : List Column → ℕ → Bool

@@ -4,7 +4,7 @@ ghost use Rattle.std.specs.Prelude.{◌≡◌, ◌<◌, Err, IfOk, IfSome, OnOk,
 ghost use Rattle.std.specs.List.{range_with_len};
 ghost use Rattle.std.specs.String.{string_bytes};
 ghost use Rattle.oim_report.specs.Readers.{columns_of};
-ghost use Rattle.oim_rows.specs.RowFacts.{IsTextRecord, early_fact_at, fact_at, facts_from, field_or_empty, holds_facts};
+ghost use Rattle.oim_rows.specs.RowFacts.{IsTextRecord, early_fact_at, fact_at, facts_from, field_or_empty};
 ghost use Rattle.oim_rows.specs.RowFacts.{id_place_of, is_fact_column, row_id_text, row_of, source_of_column};
 ghost use Rattle.oim_rows.specs.Streams.{OrNoMemory};
 
@@ -14,7 +14,7 @@ use crate::form::{RowForm, push_row_number};
 use crate::header::source_of;
 use oim_names::{Items, Text};
 use oim_records::Fields;
-use oim_report::{Column, ColumnKind};
+use oim_report::Column;
 use oim_resolve::{CellFault, Fact, Plan, Row, compile};
 use std::alloc::{AllocError, Global};
 use std::marker::Model;
@@ -72,21 +72,12 @@ fn cells_of(
     Ok(cells)
 }
 
-fn is_of_facts(kind: ColumnKind) -> bool
-    ensures { result ≡ holds_facts kind }
-{
-    match kind {
-        ColumnKind::Fact => true,
-        ColumnKind::Groups | ColumnKind::Comment | ColumnKind::Plain => false,
-    }
-}
-
 /// Whether the column at a place holds facts.
 fn is_fact(columns: &[Column], column: usize) -> bool
     ensures { result ≡ is_fact_column columns.now column }
 {
     match columns.get(column) {
-        Some(column) => is_of_facts(column.kind),
+        Some(column) => column.kind.holds_facts(),
         None => false,
     }
 }

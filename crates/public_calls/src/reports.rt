@@ -25,6 +25,7 @@ fn has_more(report: &Report) -> bool {
         && report.row_id_column(0).is_none()
         && report.parameter(0, "p").is_none()
         && report.place_of_column(0, b"note").is_some()
+        && report.column(0, 0).kind.holds_facts()
         && says_nothing(report.template_level(0))
 }
 

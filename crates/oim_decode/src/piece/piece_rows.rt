@@ -22,10 +22,16 @@ const FEW: usize = 16;
 
 /// The texts of the facts of a piece's rows, in stretches of whole rows that each have the facts of one block, where they fit. A
 /// contract sees the facts of each row.
-#[derive(Drop)]
 pub(crate) struct PieceRows {
     full: Vec<WrittenRows>,
     last: WrittenRows,
+}
+
+// By hand, so that who lets one go elsewhere makes one call.
+impl Drop for PieceRows {
+    fn drop(self) {
+        let Self { full: _, last: _ } = self;
+    }
 }
 
 impl Model for PieceRows {

@@ -4,7 +4,6 @@ ghost use Rattle.std.specs.Prelude.{◌≡◌, ◌<◌, ◌++◌, Some, IfOk, co
 ghost use Rattle.std.specs.List.{All, slice_get};
 ghost use Rattle.std.specs.Option.{option_map};
 ghost use Rattle.oim_json.specs.JsonText.{escaped_byte};
-ghost use Rattle.oim_rows.specs.RowFacts.{holds_facts};
 ghost use Rattle.oim_fast.specs.state.Columns.{AreFactColumns, IsColumnAt};
 ghost use Rattle.oim_fast.specs.state.KeptFrames.{kind_code};
 ghost use Rattle.oim_fast.specs.state.Frames.{is_known_choice};
@@ -18,7 +17,7 @@ use crate::text::buffer::TextBuffer;
 use crate::text::escape::put_escaped;
 use crate::text::hash_index::hash_with;
 use oim_cells::NumberKind;
-use oim_report::{Column, ColumnKind, Kind, Level};
+use oim_report::{Column, Kind, Level};
 use oim_rows::RowForm;
 use std::alloc::{AllocError, Global};
 
@@ -71,16 +70,6 @@ fn groups_of<'a>(
     Ok(groups)
 }
 
-/// Whether the cells of a column of a kind hold facts.
-fn holds_facts(kind: ColumnKind) -> bool
-    ensures { result ≡ holds_facts kind }
-{
-    match kind {
-        ColumnKind::Fact => true,
-        ColumnKind::Groups | ColumnKind::Comment | ColumnKind::Plain => false,
-    }
-}
-
 /// What is kept of the column that a place of the header names. None where it names none that holds facts. Fails where memory is
 /// short.
 fn fact_column<'a>(
@@ -102,7 +91,7 @@ fn fact_column<'a>(
         return Ok(None);
     }
     let column = form.report().column(form.table(), at);
-    if !holds_facts(column.kind) {
+    if !column.kind.holds_facts() {
         return Ok(None);
     }
     let Some(place) = place_in(form.header(), at) else {

@@ -13,10 +13,16 @@ use std::alloc::{AllocError, Global};
 use std::marker::Model;
 
 /// Writes the facts of a table's rows: all that is ready for it. A contract sees what its rows are read by.
-#[derive(Drop)]
 pub struct RowWriter<'a> {
     form: GhostValue<RowForm<'a>>,
     cells: CellWriter<'a>,
+}
+
+// By hand, so that who lets one go elsewhere makes one call.
+impl Drop for RowWriter<'_> {
+    fn drop(self) {
+        let Self { form: _, cells: _ } = self;
+    }
 }
 
 impl<'a> Model for RowWriter<'a> {

@@ -2,11 +2,11 @@ use Rattle.std.proofs.Common.{◌≡◌, ◌<◌, ◌++◌, ℕ, None, Some, cod
 use Rattle.std.specs.List.{All, position_from}
 use Rattle.std.proofs.lemmas.List.{get_or_default}
 use Rattle.oim_json.specs.JsonText.{escaped_byte}
-use Rattle.oim_report.specs.Readers.{column_of, columns_of}
+use Rattle.oim_report.specs.Readers.{column_of, columns_of, holds_facts}
 use Rattle.oim_report.specs.ReportValue.{ReportValue}
 use Rattle.oim_report.specs.declared.data.Column.{Column}
 use Rattle.oim_rows.specs.Header.{Header, is_column}
-use Rattle.oim_rows.specs.RowFacts.{holds_facts, is_fact_column}
+use Rattle.oim_rows.specs.RowFacts.{is_fact_column}
 use Rattle.oim_fast.specs.Rows.{column_in, columns_in}
 use Rattle.oim_fast.proofs.ColumnLaws.{kind_there, names_facts, names_it}
 use Rattle.oim_fast.proofs.frame.fact_column.fact_column.Goals as goal
