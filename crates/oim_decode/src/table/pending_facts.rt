@@ -53,6 +53,16 @@ impl Denotes<Items<Fact>> for RowNote<'_, '_, '_> {
     ghost denoted = { λ t. facts_in (facts_of_row t.row.now) };
 }
 
+/// How many bytes are made ready for texts of a length: none where there is memory for so many, else some more than these, so that they
+/// are seldom moved.
+fn more_than(capacity: usize, length: usize) -> usize {
+    if length <= capacity {
+        0
+    } else {
+        length.saturating_add(length / 16).saturating_add(AHEAD)
+    }
+}
+
 /// The empty text in the memory of `room`. It takes no memory.
 fn no_text(alloc: Global, room: Vec<u8>) -> TextBuffer
     ensures { result.items ≡ [] }
@@ -91,12 +101,7 @@ impl PendingFacts {
     pub(crate) fn like(&self, alloc: Global, room: Vec<u8>) -> Result<PendingFacts, AllocError>
         ensures { IfOk result (λ facts. facts ≡ []) }
     {
-        let length = self.bytes.len();
-        let more = if length <= room.capacity() {
-            0
-        } else {
-            length.saturating_add(length / 16).saturating_add(AHEAD)
-        };
+        let more = more_than(room.capacity(), self.bytes.len());
         Ok(PendingFacts {
             bytes: TextBuffer::within(room, more)?,
             ends: Vec::with_capacity(alloc, MOST)?,
@@ -175,7 +180,8 @@ impl PendingFacts {
         ensures { IfOk result (λ b. b ≡ drop count self.now) }
     {
         let start = self.ends[count - 1];
-        let mut bytes = TextBuffer::within(room, self.bytes.len())?;
+        let more = more_than(room.capacity(), self.bytes.len());
+        let mut bytes = TextBuffer::within(room, more)?;
         bytes.put(after(self.bytes.as_slice(), start))?;
         Ok(PendingFacts {
             bytes,
