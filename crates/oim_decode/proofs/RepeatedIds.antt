@@ -1,55 +1,66 @@
 -- One turn of the search for an identifier that came before.
-use Rattle.std.proofs.Common.{◌≡◌, ◌++◌, ◌+◌, ◌≤◌, ◌<◌, ℕ, zero, suc, List, [], ◌∷◌, true, false, length, take, drop, get_or, Some, None, refl, sym, ap, ◌∙◌, arith, append-nil, append_assoc}
-use Rattle.std.specs.Prelude.{if◌then◌else◌}
-use Rattle.std.specs.List.{list_any}
+use Rattle.std.proofs.Common.{◌≡◌, ◌++◌, ◌+◌, ◌≤◌, ◌<◌, ℕ, zero, suc, List, [], ◌∷◌, Bool, true, false, not, length, take, Option, Some, None, eqb, unwrap_or, refl, sym, ap, ◌∙◌, add-one, arith}
+use Rattle.std.specs.Prelude.{if◌then◌else◌, ◌||◌}
+use Rattle.std.specs.List.{list_any, position_from}
+use Rattle.std.specs.Option.{option_eq}
 use Rattle.std.specs.Str.{bytes_eq}
-use Rattle.std.proofs.Math.Seq.{drop-cons}
-use Rattle.std.proofs.lemmas.List.{take_more}
+use Rattle.std.proofs.lemmas.Bool.{eqb-true}
+use Rattle.std.proofs.lemmas.List.Folds.{list_any-append}
 use Rattle.oim_records.specs.Grids.{Field}
 use Rattle.oim_decode.specs.Apart.{repeated_from}
 
--- the identifiers before place i are passed, and have joined those before
-abbrev pub HasPassed : List Field → List Field → ℕ → List Field → Type 0
-HasPassed before ids i now = (repeated_from 0 before ids ≡ repeated_from i now (drop i ids)) × (now ≡ before ++ take i ids)
+-- an identifier is among others
+abbrev pub IsAmong : List Field → Field → Bool
+IsAmong before id = list_any (bytes_eq id) before
 
-pub none_passed : (before ids : List Field) → HasPassed before ids 0 before
-none_passed before ids = (refl, sym (append-nil before))
-
-at_place : (ids : List Field) (i : ℕ) (id : Field) → i < length ids → id ≡ get_or ids i id → drop i ids ≡ id ∷ drop (i + 1) ids
-at_place ids i id lt is =
-    let one : suc i ≡ i + 1 = omega arith in
-    drop-cons ids i id lt ∙ ap (λ (x : Field). x ∷ drop (suc i) ids) (sym is) ∙ ap (λ k. id ∷ drop k ids) one
-
-pub one_passed : (before ids : List Field) (i : ℕ) (now next : List Field) (id : Field) → HasPassed before ids i now → i < length ids → id ≡ get_or ids i id → list_any (bytes_eq id) now ≡ false
-    → next ≡ now ++ id ∷ [] → HasPassed before ids (i + 1) next
-one_passed before ids i now next id (place, same) lt is new more = (
-  place ∙ ap (repeated_from i now) (at_place ids i id lt is)
-      ∙ ap (λ b. if b then Some i else repeated_from (i + 1) (now ++ id ∷ []) (drop (i + 1) ids)) new
-      ∙ ap (λ t. repeated_from (i + 1) t (drop (i + 1) ids)) (sym more),
-  more ∙ ap (λ t. t ++ id ∷ []) same ∙ append_assoc before (take i ids) (id ∷ [])
-      ∙ ap (λ t. before ++ t) (ap (λ (x : Field). take i ids ++ x ∷ []) is ∙ sym (take_more ids i id lt)),
-)
-
--- whatever ends the search, the first of them have joined those before
-pub begun : (before ids : List Field) (i : ℕ) (now : List Field) → HasPassed before ids i now → (k : ℕ) × (now ≡ before ++ take k ids)
-begun before ids i now passed = (i, passed.1)
-
-pub one_found : (before ids : List Field) (i : ℕ) (now : List Field) (id : Field) → HasPassed before ids i now → i < length ids → id ≡ get_or ids i id → list_any (bytes_eq id) now ≡ true
-    → Some i ≡ repeated_from 0 before ids
-one_found before ids i now id (place, same) lt is old =
-    sym (place ∙ ap (repeated_from i now) (at_place ids i id lt is) ∙ ap (λ b. if b then Some i else repeated_from (i + 1) (now ++ id ∷ []) (drop (i + 1) ids)) old)
-
-pub all_passed : (before ids : List Field) (i : ℕ) (now : List Field) → HasPassed before ids i now → length ids ≤ i → (None ≡ repeated_from 0 before ids) × (now ≡ before ++ ids)
-all_passed before ids i now (place, same) past = (sym (place ∙ ap (repeated_from i now) (drop-all ids i past)), same ∙ ap (λ t. before ++ t) (take-all ids i past))
+-- the first place at which the test passes is not before the first place of all
+position_from-on : (t : Field → Bool) (i k : ℕ) (xs : List Field) → position_from t i xs ≡ Some k → i ≤ k
+position_from-on t i k [] e = absurd (cc e)
+position_from-on t i k (x ∷ xs) e = by (t x) refl (position_from-on t (i + 1) k xs)
   where
-    drop-all : (xs : List Field) (k : ℕ) → length xs ≤ k → drop k xs ≡ []
-    drop-all [] zero h = refl
-    drop-all [] (suc k) h = refl
-    drop-all (x ∷ xs) zero h = absurd (omega (arith, h))
-    drop-all (x ∷ xs) (suc k) h = drop-all xs k (omega (arith, h))
+    by : (b : Bool) → t x ≡ b → (position_from t (i + 1) xs ≡ Some k → i + 1 ≤ k) → i ≤ k
+    by true h more = let same : Some i ≡ Some k = rw h at e in omega (arith, ap (λ o. unwrap_or o 0) same)
+    by false h more = let next : position_from t (i + 1) xs ≡ Some k = rw h at e in omega (arith, more next)
 
-    take-all : (xs : List Field) (k : ℕ) → length xs ≤ k → take k xs ≡ xs
-    take-all [] zero h = refl
-    take-all [] (suc k) h = refl
-    take-all (x ∷ xs) zero h = absurd (omega (arith, h))
-    take-all (x ∷ xs) (suc k) h = ap (λ (t : List Field). x ∷ t) (take-all xs k (omega (arith, h)))
+-- what is among the first of some is among all
+among_more : (before more now : List Field) (id : Field) → now ≡ before ++ more → IsAmong before id ≡ true → IsAmong now id ≡ true
+among_more before more now id e h = rw (e, list_any-append (bytes_eq id) before more, h) refl
+
+-- an identifier at the place that was found came before
+pub found_again : (before more now : List Field) (k : ℕ) (id : Field) (ids : List Field) → now ≡ before ++ more → position_from (IsAmong before) k (id ∷ ids) ≡ Some k
+    → repeated_from k now (id ∷ ids) ≡ Some k
+found_again before more now k id ids e at = rw (among_more before more now id e (by (IsAmong before id) refl)) refl
+  where
+    by : (b : Bool) → IsAmong before id ≡ b → IsAmong before id ≡ true
+    by true h = h
+    by false h = let next : position_from (IsAmong before) (k + 1) ids ≡ Some k = rw h at at in absurd (omega (arith, position_from-on (IsAmong before) (k + 1) k ids next))
+
+-- an identifier that is new is passed
+pub new_passed : (now : List Field) (k : ℕ) (id : Field) (ids : List Field) → IsAmong now id ≡ false → repeated_from k now (id ∷ ids) ≡ repeated_from (k + 1) (now ++ id ∷ []) ids
+new_passed now k id ids new = rw new refl
+
+pub not_found : (before more now : List Field) (k : ℕ) (id : Field) (ids : List Field) → now ≡ before ++ more → IsAmong now id ≡ false
+    → position_from (IsAmong before) k (id ∷ ids) ≡ position_from (IsAmong before) (k + 1) ids
+not_found before more now k id ids e new = by (IsAmong before id) refl
+  where
+    by : (b : Bool) → IsAmong before id ≡ b → position_from (IsAmong before) k (id ∷ ids) ≡ position_from (IsAmong before) (k + 1) ids
+    by true h = let both : true ≡ false = sym (among_more before more now id e h) ∙ new in absurd (cc both)
+    by false h = rw h refl
+
+-- the same of what a loop knows
+pub some_is : (o : Option ℕ) (k : ℕ) → true ≡ option_eq eqb o (Some k) → o ≡ Some k
+some_is None k e = absurd (cc e)
+some_is (Some j) k e = ap (λ (i : ℕ). Some i) (eqb-true j k (sym e))
+
+pub is_new : (b added : Bool) → added ≡ not b → added ≡ true → b ≡ false
+is_new true added e h = cc (sym e ∙ h)
+is_new false added e h = refl
+
+-- one more item of a list of which some were taken
+one_more : (ids : List Field) (k : ℕ) (id : Field) (rest : List Field) → take k ids ++ id ∷ rest ≡ ids → k < length ids → take (suc k) ids ≡ take k ids ++ id ∷ []
+one_more [] k id rest e lt = absurd (omega (arith, lt))
+one_more (x ∷ xs) zero id rest e lt = cc e
+one_more (x ∷ xs) (suc k) id rest e lt = let inner : take k xs ++ id ∷ rest ≡ xs = cc e in ap (λ (t : List Field). x ∷ t) (one_more xs k id rest inner (omega (arith, lt)))
+
+pub one_taken : (ids : List Field) (k : ℕ) (id : Field) (rest : List Field) → take k ids ++ id ∷ rest ≡ ids → k < length ids → take (k + 1) ids ≡ take k ids ++ id ∷ []
+one_taken ids k id rest e lt = rw add-one (one_more ids k id rest e lt)

@@ -1,3 +1,4 @@
 pub mod KeptIds
 pub mod Decoding
 pub mod Progressing
+pub mod Hashes

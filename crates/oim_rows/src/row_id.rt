@@ -1,17 +1,17 @@
 //! The identifier of a row, as it is kept.
 
-ghost use Rattle.std.specs.Prelude.{◌≡◌, IfOk, nat_eq};
+ghost use Rattle.std.specs.Prelude.{◌≡◌, IfOk, List, ℕ, nat_eq};
 ghost use Rattle.std.specs.Cmp.{partial_equiv_from_equiv};
 ghost use Rattle.std.specs.Cmp.Lexicographic.{pointwise, bytes_decides, nat_list_eq_equiv};
-ghost use Rattle.std.specs.Cmp.Rules.{hashing};
 ghost use Rattle.std.specs.Hash as fed;
 ghost use Rattle.std.specs.Str.{bytes_eq};
-ghost use Rattle.std.proofs.Common.{ap, rules};
+ghost use Rattle.std.proofs.Common.{ap};
+ghost use Rattle.oim_rows.specs.state.Hashes.{hash_of as hash_in};
 
 use arrayvec::ArrayString;
 use indexmap::Equivalent;
 use std::alloc::{AllocError, Global};
-use std::hash::{Hash, Hasher};
+use std::hash::{FoldHasher, Hash, Hasher};
 use std::marker::Model;
 
 /// Where the text of an identifier stands.
@@ -21,20 +21,68 @@ enum Kept {
     Long(String),
 }
 
-/// The identifier of a row. One of up to 23 bytes stands in the value itself, so that it takes no memory of its own. A contract
+/// The identifier of a row, with its hash. One of up to 23 bytes stands in the value itself, so that it takes no memory of its own. A contract
 /// sees its bytes.
 #[derive(Drop)]
 pub struct RowId {
+    hash: u64,
     kept: Kept,
 }
 
 impl Model for RowId {
     ghost use Rattle.std.specs.Prelude.{List, ℕ};
+    ghost use Rattle.std.specs.Prelude.{◌≡◌};
+    ghost use Rattle.oim_rows.specs.state.Hashes.{hash_of as hash_in};
     ghost use Rattle.oim_rows.specs.state.KeptIds.{bytes_kept};
 
     ghost Value = { List ℕ };
 
     ghost view = { λ a. bytes_kept a.kept };
+
+    ghost invariant = { λ a. a.hash ≡ hash_in (bytes_kept a.kept) };
+}
+
+/// A text that is looked for among identifiers, with its hash. A contract sees its bytes.
+#[derive(Drop)]
+pub(crate) struct Sought<'a> {
+    hash: u64,
+    text: &'a str,
+}
+
+impl<'a> Model for Sought<'a> {
+    ghost use Rattle.std.specs.Prelude.{List, ℕ};
+    ghost use Rattle.std.specs.Prelude.{◌≡◌};
+    ghost use Rattle.oim_rows.specs.state.Hashes.{hash_of as hash_in};
+
+    ghost Value = { List ℕ };
+
+    ghost view = { λ a. a.text.now };
+
+    ghost invariant = { λ a. a.hash ≡ hash_in a.text.now };
+}
+
+/// The hash of a text.
+#[inline]
+#[tactic(auto, unfolding(crate::specs::state::Hashes::hash_of))]
+fn hash_of(text: &str) -> u64
+    ensures { result ≡ hash_in text.now }
+{
+    let mut state = FoldHasher::default();
+    state.write(text.as_bytes());
+    state.finish()
+}
+
+impl<'a> Sought<'a> {
+    /// This text.
+    #[inline]
+    pub(crate) fn new(text: &'a str) -> Sought<'a>
+        ensures { result ≡ text.now }
+    {
+        Sought {
+            hash: hash_of(text),
+            text,
+        }
+    }
 }
 
 impl RowId {
@@ -47,7 +95,10 @@ impl RowId {
             Ok(short) => Kept::Short(short),
             Err(_) => Kept::Long(String::from_str(alloc, text)?),
         };
-        Ok(RowId { kept })
+        Ok(RowId {
+            hash: hash_of(text),
+            kept,
+        })
     }
 
     /// The text.
@@ -77,23 +128,47 @@ impl Eq for RowId {
 }
 
 impl Hash for RowId {
-    ghost hash_input = { fed.str };
+    ghost hash_input = { λ id. fed.u64 (hash_in id) };
 
-    ghost respects_eq = { Prim.search (hashing, rules) };
+    ghost respects_eq = { λ x y h. ap (λ (b : List ℕ). fed.u64 (hash_in b)) ((bytes_decides x y).0 h) };
 
     fn hash<H: Hasher>(&self, state: &mut H) {
-        self.as_str().hash(state);
+        state.write_u64(self.hash);
     }
 }
 
-impl Equivalent<RowId> for &str {
+impl PartialEq for Sought<'_> {
+    ghost eq = { pointwise nat_eq };
+
+    ghost laws = { partial_equiv_from_equiv nat_list_eq_equiv };
+
+    fn eq(&self, other: &Self) -> bool {
+        self.text == other.text
+    }
+}
+
+impl Eq for Sought<'_> {
+    ghost laws = { nat_list_eq_equiv };
+}
+
+impl Hash for Sought<'_> {
+    ghost hash_input = { λ id. fed.u64 (hash_in id) };
+
+    ghost respects_eq = { λ x y h. ap (λ (b : List ℕ). fed.u64 (hash_in b)) ((bytes_decides x y).0 h) };
+
+    fn hash<H: Hasher>(&self, state: &mut H) {
+        state.write_u64(self.hash);
+    }
+}
+
+impl Equivalent<RowId> for &Sought<'_> {
     ghost equivalent = { λ q k. bytes_eq q.now k };
 
-    ghost respects_hash = { λ q k h. ap fed.str ((bytes_decides q.now k).0 h) };
+    ghost respects_hash = { λ q k h. ap (λ (b : List ℕ). fed.u64 (hash_in b)) ((bytes_decides q.now k).0 h) };
 
     ghost respects_eq = { λ q x y. nat_list_eq_equiv.congr q.now x y };
 
     fn equivalent(&self, key: &RowId) -> bool {
-        *self == key.as_str()
+        self.text == key.as_str()
     }
 }

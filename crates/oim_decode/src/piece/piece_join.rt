@@ -45,24 +45,23 @@ impl Model for JoinedPiece {
 }
 
 /// The place of the first identifier that came before, or None; then all of them join those before. Fails where memory is short. In each
-/// case the first of them join, and nothing else.
-#[tactic(auto, using(crate::proofs::RepeatedIds::begun, crate::proofs::RepeatedIds::none_passed, crate::proofs::RepeatedIds::one_passed, crate::proofs::RepeatedIds::one_found, crate::proofs::RepeatedIds::all_passed))]
-fn first_repeated(
-    alloc: Global,
-    before: &mut RowIds,
-    ids: &[RowId],
-) -> Result<Option<usize>, AllocError>
-    ensures place { IfOk result (λ place. place ≡ repeated_from 0 before.old ids.now) }
-    ensures within { IfOk result (λ place. IfSome place (λ k. k < length ids.now)) }
-    ensures ids { result ≡ Ok None → before.new ≡ before.old ++ ids.now }
-    ensures begun { (k : ℕ) × (before.new ≡ before.old ++ take k ids.now) }
+/// case the first of them join, and nothing else. All are looked for before one joins: memory that is far away is then asked for many at a time.
+fn first_repeated(before: &mut RowIds, ids: Vec<RowId>) -> Result<Option<usize>, AllocError>
+    ensures place { IfOk result (λ place. place ≡ repeated_from 0 before.old ids.items) }
+    ensures within { IfOk result (λ place. IfSome place (λ k. k < length ids.items)) }
+    ensures ids { result ≡ Ok None → before.new ≡ before.old ++ ids.items }
+    ensures begun { (k : ℕ) × (before.new ≡ before.old ++ take k ids.items) }
 {
-    for i in 0..ids.len() {
-        let id = ids[i].as_str();
-        if before.has(id) {
-            return Ok(Some(i));
+    let known = before.first_of(ids.as_slice());
+    let mut place = 0;
+    for id in ids {
+        if known == Some(place) {
+            return Ok(Some(place));
         }
-        before.push(alloc, id)?;
+        if !before.add(id)? {
+            return Ok(Some(place));
+        }
+        place += 1;
     }
     Ok(None)
 }
@@ -104,7 +103,7 @@ impl PieceJoin {
             ids,
             fault,
         } = answer;
-        match first_repeated(self.alloc, &mut self.ids, ids.as_slice()) {
+        match first_repeated(&mut self.ids, ids) {
             Ok(None) => JoinedPiece { rows, fault },
             Ok(Some(place)) => {
                 rows.cut(place);
