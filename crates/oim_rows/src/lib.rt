@@ -33,6 +33,7 @@ mod laws;
 mod row_id;
 mod row_plan;
 mod rows;
+mod short;
 
 pub use fault::{TableFault, TableKind, fault_at_place, fault_of_read, whole_fault};
 pub use form::{RowForm, push_row_number};

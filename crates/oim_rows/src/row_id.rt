@@ -8,7 +8,7 @@ ghost use Rattle.std.specs.Str.{bytes_eq};
 ghost use Rattle.std.proofs.Common.{ap};
 ghost use Rattle.oim_rows.specs.state.Hashes.{hash_of as hash_in};
 
-use arrayvec::ArrayString;
+use crate::short::ShortText;
 use indexmap::Equivalent;
 use std::alloc::{AllocError, Global};
 use std::hash::{FoldHasher, Hash, Hasher};
@@ -17,7 +17,7 @@ use std::marker::Model;
 /// Where the text of an identifier stands.
 #[derive(Drop)]
 enum Kept {
-    Short(ArrayString<23>),
+    Short(ShortText),
     Long(String),
 }
 
@@ -91,9 +91,9 @@ impl RowId {
     pub fn new(alloc: Global, text: &str) -> Result<RowId, AllocError>
         ensures { IfOk result (λ id. id ≡ text.now) }
     {
-        let kept = match ArrayString::from(text) {
-            Ok(short) => Kept::Short(short),
-            Err(_) => Kept::Long(String::from_str(alloc, text)?),
+        let kept = match ShortText::of(text) {
+            Some(short) => Kept::Short(short),
+            None => Kept::Long(String::from_str(alloc, text)?),
         };
         Ok(RowId {
             hash: hash_of(text),

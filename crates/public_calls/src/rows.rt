@@ -167,10 +167,19 @@ fn is_new(alloc: Global, number: u32) -> bool {
     push_row_number(&mut id, number).is_ok() && !ids.has(id.as_str())
 }
 
-/// Whether a copy of an identifier is that text.
+/// Whether a copy of an identifier is that text, and is added to none, and found there.
 fn is_kept(alloc: Global, text: &str) -> bool {
+    let mut ids = RowIds::new(alloc);
     match RowId::new(alloc, text) {
-        Ok(id) => id.as_str() == text,
+        Ok(id) => id.as_str() == text && matches!(ids.add(id), Ok(true)) && is_first(alloc, &ids, text),
+        Err(_) => false,
+    }
+}
+
+/// Whether the first of some identifiers, of which one is this text, is found among others.
+fn is_first(alloc: Global, ids: &RowIds, text: &str) -> bool {
+    match RowId::new(alloc, text) {
+        Ok(id) => ids.first_of(&[id]) == Some(0),
         Err(_) => false,
     }
 }
