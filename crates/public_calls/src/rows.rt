@@ -171,7 +171,9 @@ fn is_new(alloc: Global, number: u32) -> bool {
 fn is_kept(alloc: Global, text: &str) -> bool {
     let mut ids = RowIds::new(alloc);
     match RowId::new(alloc, text) {
-        Ok(id) => id.as_str() == text && matches!(ids.add(id), Ok(true)) && is_first(alloc, &ids, text),
+        Ok(id) => id.as_str() == text
+            && matches!(ids.add(id), Ok(true))
+            && is_first(alloc, &ids, text),
         Err(_) => false,
     }
 }

@@ -1,4 +1,4 @@
-use Rattle.std.proofs.Common.{◌≡◌, ◌∷◌, ◌++◌, ◌+◌, ◌∙◌, sym, ap, append_assoc, arith, length, Some, take, List, ℕ, [], false}
+use Rattle.std.proofs.Common.{◌≡◌, ◌∷◌, ◌++◌, ◌+◌, ◌∙◌, sym, ap, append_assoc, arith, length, Some, take, List, []}
 use Rattle.std.specs.List.{position_from}
 use Rattle.std.specs.Vec.Iter.{into_iter_items}
 use Rattle.oim_decode.specs.Apart.{repeated_from}
