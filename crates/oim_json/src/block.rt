@@ -27,7 +27,11 @@ pub struct Block {
 // By hand, so that who lets one go elsewhere makes one call.
 impl Drop for Block {
     fn drop(self) {
-        let Self { bytes: _, ends: _, facts: _ } = self;
+        let Self {
+            bytes: _,
+            ends: _,
+            facts: _,
+        } = self;
     }
 }
 
@@ -136,7 +140,11 @@ impl Block {
     pub fn into_room(self) -> Vec<u8>
         ensures { result.items ≡ behind_commas self }
     {
-        let Self { bytes, ends: _, facts: _ } = self;
+        let Self {
+            bytes,
+            ends: _,
+            facts: _,
+        } = self;
         bytes
     }
 }

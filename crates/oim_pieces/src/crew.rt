@@ -34,7 +34,6 @@ const FEW_UNDER_WAY: usize = 1;
 
 /// Who decodes the pieces of a table: the worker that drew it, and threads, which draw pieces from a line once there is one. Once it is dropped, the
 /// threads end. A contract sees how the table's rows are read.
-#[derive(Drop)]
 pub(crate) struct Crew<'a> {
     alloc: Global,
     helpers: &'a Helpers,
@@ -45,6 +44,20 @@ pub(crate) struct Crew<'a> {
     // where threads draw pieces
     line: Option<Line<'a>>,
     pub(crate) memory: Memory,
+}
+
+// By hand, so that who lets one go elsewhere makes one call.
+impl Drop for Crew<'_> {
+    fn drop(self) {
+        let Self {
+            alloc: _,
+            helpers: _,
+            mine: _,
+            decoders: _,
+            line: _,
+            memory: _,
+        } = self;
+    }
 }
 
 impl<'a> Model for Crew<'a> {

@@ -42,7 +42,6 @@ impl CutPiece {
 
 /// What cuts the file of a table. A contract sees the place of the table, its limit of rows, the number of the next row, the records that are left
 /// and the bytes that are not cut yet, where the reader tells its bytes, and, once no more is cut, the fault behind them, if there is one.
-#[derive(Drop)]
 pub(crate) struct Cutter<R: Read + Drop> {
     pieces: PieceReader<R>,
     table: usize,
@@ -53,6 +52,21 @@ pub(crate) struct Cutter<R: Read + Drop> {
     size: usize,
     // whether the last piece was short, or the last read, as at the end of a file and of a reader that gives few bytes at a time
     is_slow: bool,
+}
+
+// By hand, so that who lets one go elsewhere makes one call.
+impl<R: Read + Drop> Drop for Cutter<R> {
+    fn drop(self) {
+        let Self {
+            pieces: _,
+            table: _,
+            limit: _,
+            next: _,
+            over: _,
+            size: _,
+            is_slow: _,
+        } = self;
+    }
 }
 
 impl<R: Read + Drop> Model for Cutter<R> {

@@ -33,7 +33,10 @@ pub struct ReportAgain {
 // By hand, so that who lets one go elsewhere makes one call.
 impl Drop for ReportAgain {
     fn drop(self) {
-        let Self { report: _, metadata: _ } = self;
+        let Self {
+            report: _,
+            metadata: _,
+        } = self;
     }
 }
 

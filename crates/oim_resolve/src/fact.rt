@@ -43,7 +43,12 @@ pub struct Fact {
 // By hand, so that who lets one go elsewhere makes one call.
 impl Drop for Fact {
     fn drop(self) {
-        let Self { id: _, value: _, decimals: _, dimensions: _ } = self;
+        let Self {
+            id: _,
+            value: _,
+            decimals: _,
+            dimensions: _,
+        } = self;
     }
 }
 

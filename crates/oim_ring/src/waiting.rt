@@ -49,7 +49,6 @@ struct Parkers {
 }
 
 /// What a feed waits with, and what it wakes its drain with.
-#[derive(Drop)]
 pub(crate) struct FeedWaiting {
     parkers: Arc<Parkers>,
     /// How many facts are sent for each wake.
@@ -58,12 +57,32 @@ pub(crate) struct FeedWaiting {
     untold: usize,
 }
 
+// By hand, so that who lets one go elsewhere makes one call.
+impl Drop for FeedWaiting {
+    fn drop(self) {
+        let Self {
+            parkers: _,
+            stride: _,
+            untold: _,
+        } = self;
+    }
+}
+
 /// What a drain waits with, and what it wakes its feed with.
-#[derive(Drop)]
 pub(crate) struct DrainWaiting {
     parkers: Arc<Parkers>,
     /// How long the next sleep lasts at most, in milliseconds.
     limit: AtomicU64,
+}
+
+// By hand, so that who lets one go elsewhere makes one call.
+impl Drop for DrainWaiting {
+    fn drop(self) {
+        let Self {
+            parkers: _,
+            limit: _,
+        } = self;
+    }
 }
 
 /// The two ends' means of waiting for each other over a ring of `size` items. Fails if memory runs out.
