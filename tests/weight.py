@@ -9,12 +9,14 @@ processor time of each (user and system), with the crate that it is about and it
 of its tests, the tries of its wrong bodies, and the builds and the runs of a program. What the system says of the whole is the
 last row: what is more than the rows above is `rt` itself, and what ended between two looks. What `rt ci` takes from earlier runs
 costs nothing and is named under the table: for figures from nothing there must be no such crate (`rt ci --anew`). Processor times
-grow with the load, up to twice, so measure on a machine that does nothing else. Linux and Python 3.9 or later are needed.
+grow with the load, up to twice, so measure on a machine that does nothing else. Who ends this script by SIGTERM ends the command, and
+has the times so far. Linux and Python 3.9 or later are needed.
 """
 from __future__ import annotations
 
 import os
 import re
+import signal
 import subprocess
 import sys
 import time
@@ -116,10 +118,11 @@ class Watch:
 
 
 def measure(log: Path, words: list[str]) -> int:
-    """Runs a command, writes its output and its times into a log, and gives its status."""
+    """Runs a command, writes its output and its times into a log, and gives its status. A SIGTERM ends the command: the log has its times so far."""
     watch, begun = Watch(), time.time()
     with log.open("w") as out:
         ran = subprocess.Popen(words, stdin=subprocess.DEVNULL, stdout=out, stderr=subprocess.STDOUT)
+        signal.signal(signal.SIGTERM, lambda *_: ran.terminate())
         while True:
             watch.look(ran.pid)
             number, status, used = os.wait4(ran.pid, os.WNOHANG)
