@@ -1,6 +1,6 @@
 #!/usr/bin/env python3
-"""The libraries as a caller from outside sees them: each public name stands in one of the crates public_calls and
-conversion_tests, which compile and run, and each library's own page shows a call of it, word for word.
+"""The libraries as a caller from outside sees them: each public name stands in one of the crates public_calls,
+conversion_tests and run_tests, which compile and run, and each library's own page shows a call of it, word for word.
 
     tests/public_calls.py
 
@@ -13,8 +13,8 @@ from pathlib import Path
 
 TOP = Path(__file__).resolve().parent.parent
 GIVEN = re.compile(r"^pub use ([\w:]+::)?(\{[^}]*\}|\w+);", re.M)
-# The crates of calls: of the libraries below oim_pieces and oim_places, and of the others.
-CALLERS = "public_calls", "conversion_tests"
+# The crates of calls: of the libraries below oim_pieces and oim_places, of keyed, oim_pieces and oim_convert, and of the others.
+CALLERS = "public_calls", "conversion_tests", "run_tests"
 # Calls that need a scope of threads, which oim_convert makes.
 ELSEWHERE = {"start_crew", "join_crew"}
 

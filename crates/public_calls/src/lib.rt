@@ -1,6 +1,6 @@
 //! Each public name of the libraries below `oim_pieces` and `oim_places` in one call, in the form in which a caller from outside writes it.
-//! The first call of a file is the one that its library's own page shows (`tests/public_calls.py` compares them). The crate
-//! `conversion_tests` has the others.
+//! The first call of a file is the one that its library's own page shows (`tests/public_calls.py` compares them). The crates
+//! `conversion_tests` and `run_tests` have the others.
 #![tactic(auto)]
 
 #[cfg(test)]
