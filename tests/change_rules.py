@@ -27,6 +27,8 @@ one file of specs/ by its name, --name one definition, --every N each Nth change
 prints what came of each. RT names another command for `rt`. The copy stands in TMPDIR and goes at the end. The status is 0
 where every change that is a definition showed, else 1. Python 3.9 or later.
 """
+from __future__ import annotations
+
 import argparse
 import os
 import re
@@ -36,6 +38,7 @@ import subprocess
 import sys
 import tempfile
 from pathlib import Path
+from typing import List, Optional, Tuple
 
 TOP = Path(__file__).resolve().parent.parent
 PRELUDE = "Rattle.std.specs.Prelude"
@@ -47,24 +50,29 @@ OTHER = {
 }
 IMPORTS = {"||": "◌||◌", "&&": "◌&&◌", "+": "◌+◌", "-": "◌-◌", "*": "◌*◌", "/": "◌/◌"}
 FROM_LIST = {"list_any", "list_all"}
+# The errors of a change, each with its file, or None where the checker did not end.
+Errors = Optional[List[Tuple[str, str]]]
 
 
 class Definition:
     """A definition of a file: its name, whether it computes, and where the bodies of its cases begin and end."""
 
-    def __init__(self, name, type_text):
+    def __init__(self, name: str, type_text: str) -> None:
+        """A definition of this name and type, without bodies as yet."""
         self.name = name
         self.type = type_text
-        self.bodies = []
+        self.bodies: list[tuple[int, int]] = []
 
-    def computes(self):
+    def computes(self) -> bool:
+        """Whether it gives a value, and is no relation."""
         return not re.search(r"Type \d+\s*$", self.type)
 
-    def is_test(self):
+    def is_test(self) -> bool:
+        """Whether it answers with a truth value."""
         return bool(re.search(r"\bBool\s*$", self.type))
 
 
-def definitions(text):
+def definitions(text: str) -> list[Definition]:
     """The definitions of a text that compute, with the places of their bodies."""
     found, current, place, heads = [], None, 0, []
     for line in text.splitlines(True):
@@ -84,7 +92,7 @@ def definitions(text):
     return [it for it in found if it.computes() and it.bodies]
 
 
-def constructors(text):
+def constructors(text: str) -> dict[str, str]:
     """For each constructor that a text imports by name, the next one of its type."""
     following = {}
     for names in re.findall(r"\.TheVariants\.\{([^}]*)\}", text):
@@ -100,7 +108,7 @@ def constructors(text):
     return following
 
 
-def other_tokens(token, following):
+def other_tokens(token: str, following: dict[str, str]) -> list[str]:
     """The texts that take the place of a token, one at a time."""
     if token.startswith('"'):
         if len(token) > 2:
@@ -120,7 +128,7 @@ def other_tokens(token, following):
     return []
 
 
-def conditions(body):
+def conditions(body: str) -> list[tuple[int, int]]:
     """The places of the conditions of `if`."""
     places, begun = [], []
     for it in TOKEN.finditer(body):
@@ -131,11 +139,12 @@ def conditions(body):
     return places
 
 
-def is_balanced(line):
+def is_balanced(line: str) -> bool:
+    """Whether a line has as many opening brackets of each kind as closing ones."""
     return all(line.count(a) == line.count(b) for a, b in ("()", "{}", "[]"))
 
 
-def in_lines(body):
+def in_lines(body: str) -> list[tuple[str, str]]:
     """The bodies with one line of a list, a sum or a test left out, or in the place of the next."""
     lines, made = body.split("\n"), []
     starts = [re.match(r"\s*(\+\+|∷|&&|\|\||∙)\s", it) for it in lines]
@@ -150,7 +159,7 @@ def in_lines(body):
     return made
 
 
-def changed_bodies(body, definition, following):
+def changed_bodies(body: str, definition: Definition, following: dict[str, str]) -> list[tuple[str, str]]:
     """Each change of a body: what it is, and the changed body."""
     made = []
     for it in TOKEN.finditer(body):
@@ -167,7 +176,7 @@ def changed_bodies(body, definition, following):
     return made
 
 
-def with_imports(text):
+def with_imports(text: str) -> str:
     """The text with what changed bodies may name."""
     wanted = {"true", "false", "◌||◌", "◌&&◌", "nat_le", "nat_lt", "is_some", "is_none", "if◌then◌else◌", "take", "drop"} | set(IMPORTS.values())
     named = set(re.findall(r"[^\s{},]+", " ".join(re.findall(r"^use [\w.]+\.\{([^}]*)\}", text, re.M))))
@@ -183,15 +192,20 @@ def with_imports(text):
 class Change:
     """A change of one definition: the file, the definition, what it is, and the file's changed text."""
 
-    def __init__(self, file, name, what, text):
+    verdict: str | None
+    errors: Errors
+
+    def __init__(self, file: str, name: str, what: str, text: str) -> None:
+        """A change that has not been tried."""
         self.file, self.name, self.what, self.text = file, name, what, text
         self.verdict, self.errors = None, []
 
-    def __str__(self):
+    def __str__(self) -> str:
+        """The change as it is listed."""
         return f"{self.file}: {self.name}: {self.what}"
 
 
-def changes_of(file, text):
+def changes_of(file: str, text: str) -> list[Change]:
     """All changes of a file's text."""
     following, made, seen = constructors(text), [], {text}
     for it in definitions(text):
@@ -211,7 +225,8 @@ def changes_of(file, text):
 class Copies:
     """A copy of the repository, in which changed definitions stand beside the crate's own."""
 
-    def __init__(self, crate, folder, minutes):
+    def __init__(self, crate: str, folder: str, minutes: float) -> None:
+        """Reads the definitions and the worked cases of a crate, and makes the copy in a folder."""
         self.crate, self.folder, self.minutes = crate, Path(folder), minutes
         self.at = self.folder / "crates" / crate
         specs = TOP / "crates" / crate / "specs"
@@ -222,7 +237,8 @@ class Copies:
         self.root = "main" if (TOP / "crates" / crate / "src/main.rt").exists() else "lib"
         self.copy()
 
-    def copy(self):
+    def copy(self) -> None:
+        """Copies the crate and those below it, with their kept work."""
         lines = [it for it in (TOP / "crates.txt").read_text().splitlines() if it.split("#")[0].strip()]
         below = next(it.split(":")[1].split() for it in lines if it.split(":")[0].split()[0] == self.crate)
         kept = [it for it in lines if it.split(":")[0].split()[0] in below + [self.crate]]
@@ -234,7 +250,7 @@ class Copies:
             name = line.split(":")[0].split()[0]
             shutil.copytree(TOP / "crates" / name, self.folder / "crates" / name, symlinks=True)
 
-    def users(self, file):
+    def users(self, file: str) -> set[str]:
         """The files of specs/ that rest on a file, with it."""
         found, grows = {file}, True
         while grows:
@@ -243,7 +259,7 @@ class Copies:
             found |= more
         return found
 
-    def needed(self, cases, file):
+    def needed(self, cases: str, file: str) -> set[str]:
         """The files of specs/ that rest on a file and that some worked cases need; none where the cases do not need the file."""
         found, fresh = set(), {it for it in self.specs if self.names(self.cases[cases], it)}
         while fresh:
@@ -251,15 +267,17 @@ class Copies:
             fresh = {it for it in self.specs if any(self.names(self.specs[user], it) for user in fresh)} - found
         return self.users(file) & found
 
-    def names(self, text, file):
+    def names(self, text: str, file: str) -> re.Match[str] | None:
+        """Where a text names a file of specs/, or None."""
         return re.search(rf"\bRattle\.{self.crate}\.specs\.(?:state\.)?{file}\b", text)
 
-    def renamed(self, text, mark, files):
+    def renamed(self, text: str, mark: str, files: set[str]) -> str:
+        """A text that names the copies of these files, under a mark, in their place."""
         for it in files:
             text = re.sub(rf"\bRattle\.{self.crate}\.specs\.(?:state\.)?{it}\b", f"Rattle.{self.crate}.proofs.{mark}{it}", text)
         return text
 
-    def write(self, cases, changes):
+    def write(self, cases: str, changes: list[Change]) -> None:
         """Writes the copies for some changes and a file of worked cases. A function cites all of them, so that one check reads them."""
         proofs = self.at / "proofs"
         for it in proofs.glob("Change*.antt"):
@@ -286,7 +304,7 @@ class Copies:
         source = (TOP / "crates" / self.crate / f"src/{self.root}.rt").read_text()
         (self.at / f"src/{self.root}.rt").write_text(source.rstrip("\n") + "\n" + CITES)
 
-    def said(self, words):
+    def said(self, words: list[str]) -> str | None:
         """What a command prints, or None where it does not end in time: then it is killed, with all that it started."""
         with subprocess.Popen(words, cwd=self.at, stdout=subprocess.PIPE, stderr=subprocess.STDOUT, text=True, start_new_session=True) as run:
             try:
@@ -295,7 +313,7 @@ class Copies:
                 os.killpg(run.pid, signal.SIGKILL)
                 return None
 
-    def check(self, cases, changes):
+    def check(self, cases: str, changes: list[Change]) -> list[Errors]:
         """What the checker says of each change: the list of its errors, or None where it did not end."""
         self.write(cases, changes)
         words = os.environ.get("RT", "rt").split() + ["check", "--jobs", "1", "--only", "changes_of_rules"]
@@ -324,7 +342,7 @@ fn changes_of_rules(number: u8) -> u8 {
 """
 
 
-def judged(errors, cases):
+def judged(errors: Errors, cases: str) -> str:
     """What a change's errors say of it."""
     if errors is None:
         return "no end"
@@ -335,7 +353,7 @@ def judged(errors, cases):
     return "not well-formed" if errors else "not noticed"
 
 
-def one_round(copies, cases, changes, options):
+def one_round(copies: Copies, cases: str, changes: list[Change], options: argparse.Namespace) -> None:
     """Tries changes with one file of worked cases; notes at each what came of it."""
     some = [it for it in changes if copies.needed(cases, it.file)]
     unchanged = [Change(it, "", "no change", copies.specs[it]) for it in sorted({it.file for it in some})]
@@ -354,7 +372,8 @@ def one_round(copies, cases, changes, options):
         print(f"{copies.crate}, {cases}: {at + len(batch)} of {len(some)} tried", file=sys.stderr, flush=True)
 
 
-def run(options):
+def run(options: argparse.Namespace) -> int:
+    """Tries the changes that were asked for, or lists them, and gives the status."""
     folder = tempfile.mkdtemp()
     try:
         copies = Copies(options.crate, folder, options.minutes)
@@ -371,7 +390,7 @@ def run(options):
     return told(options, changes)
 
 
-def told(options, changes):
+def told(options: argparse.Namespace, changes: list[Change]) -> int:
     """Prints what came of the changes; 1 if a change did not show."""
     for it in changes:
         if it.verdict in (None, "not noticed", "no end"):
@@ -383,7 +402,8 @@ def told(options, changes):
     return 1 if counts["not noticed"] + counts["no end"] + counts[None] else 0
 
 
-def main():
+def main() -> None:
+    """Reads the command line, and ends with the status of the run."""
     parser = argparse.ArgumentParser(description=__doc__, formatter_class=argparse.RawDescriptionHelpFormatter)
     parser.add_argument("crate")
     parser.add_argument("--only", help="one file of specs/")

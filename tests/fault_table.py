@@ -8,6 +8,8 @@ that has its own name among those of a table is the one of that name.
 Reads each line `Type::Variant => 40,`, `Type::Variant => "BadNumber",` and `Type::Variant => "a sentence of words",` of
 crates/*/src, and each row `| 40 BadNumber |` of the table, which must stand in the order of the numbers within its section.
 """
+from __future__ import annotations
+
 import re
 import sys
 from pathlib import Path
@@ -27,7 +29,7 @@ SAME = re.compile(r"^\s*pub const (\w+): \w+ = \w+::Cell\(\w+::(\w+)\);$", re.M)
 OF_WHOLE_FILES = "MetaFault::Memory", "MetaFault::Read"
 
 
-def named_in_sources():
+def named_in_sources() -> tuple[set[tuple[int, str]], set[tuple[int, str]], set[tuple[int, str]]]:
     """The faults of the sources, those of them that no sentence explains, and what `--explain` says of a fault by how it explains itself, with its number."""
     numbers, names, explained = {}, {}, {}
     for file in sorted(TOP.glob("crates/*/src/**/*.rt")):
@@ -40,13 +42,14 @@ def named_in_sources():
     return set(faults.values()), {faults[it] for it in faults.keys() - explained.keys()}, themselves
 
 
-def sentences_in_sources():
+def sentences_in_sources() -> set[str]:
     """What `--explain` says is wrong at a place in the texts of several words of its own."""
     own = [file.read_text() for file in (TOP / "crates/oim_explain/src").glob("*.rt")]
     return {it for text in own for it in SENTENCE.findall(text) if "{" not in it}
 
 
-def main():
+def main() -> None:
+    """Prints what is not as it must be, and ends with status 1 where there is any."""
     sections = (TOP / "docs/FAULTS.md").read_text().split("\n## ")
     wrong = []
     rows = []

@@ -8,6 +8,8 @@ which they come again; property groups in two columns, also with more than a tho
 as a reference; decimals by reference and by suffix; a row of 300 facts; texts with a character to escape at each place of 41.
 Each is converted with several numbers of workers and sizes of the ring. The last line counts. Python 3.9 or later is needed.
 """
+from __future__ import annotations
+
 import csv
 import json
 import os
@@ -15,35 +17,40 @@ import subprocess
 import sys
 import tempfile
 from pathlib import Path
+from typing import Dict, Iterator, Optional, Tuple, Type, Union
 
 DIMENSIONS = {"entity": "eg:A1", "period": "2021-12-31T00:00:00"}
 NAMESPACES = {"eg": "http://example.com/eg", "iso4217": "http://www.xbrl.org/2003/iso4217"}
 TAXONOMY = ["http://example.com/eg.xsd"]
 TYPES = {"Amount": "decimal", "Note": "text", "Customer": "typed", "Line": "typed", "Kind": "typed", "Channel": "typed", "Region": "explicit"}
-KINDS = {"one": {"eg:Kind": "first \"kind\""}, "two": {"eg:Kind": "second"}, "none": {}}
+KINDS: dict[str, dict[str, str]] = {"one": {"eg:Kind": "first \"kind\""}, "two": {"eg:Kind": "second"}, "none": {}}
 CHANNELS = {"shop": {"eg:Channel": "shop"}, "net": {"eg:Channel": "n\u00e9t", "eg:Region": "eg:Nowhere"}}
 REFERENCES = {"eg:Customer": "customer", "eg:Region": "region", "unit": "currency", "period": "day"}
 TO_ESCAPE = '"\\\n\r\t\b\f\x01\x1f\x7f\u00e9\u2028\U0001f600'
 
+# A row: its cells by their columns. A fact: its column, decimals, dimensions and value.
+Row = Dict[str, str]
+Fact = Tuple[str, Optional[str], Dict[str, str], str]
 
-def text(value):
+
+def text(value: str) -> str:
     """A text as JSON."""
     return json.dumps(value, ensure_ascii=False)
 
 
-def member(identifier, decimals, dimensions, value):
+def member(identifier: str, decimals: str | None, dimensions: dict[str, str], value: str) -> str:
     """The text of a fact."""
     stated = "" if decimals is None else f'"decimals":{decimals},'
     inside = ",".join(f"{text(name)}:{text(dimensions[name])}" for name in sorted(dimensions))
     return f'{text(identifier)}:{{{stated}"dimensions":{{{inside}}},"value":{text(value)}}}'
 
 
-def reading(cell):
+def reading(cell: str) -> str | None:
     """What a cell says: nothing, or a text."""
     return None if cell in ("", "#none") else cell[1:] if cell.startswith("##") else cell
 
 
-def amount(cell):
+def amount(cell: str) -> tuple[str, str | None]:
     """The numeral of a cell, and the decimals of its suffix."""
     numeral, _, suffix = cell.partition("d")
     return numeral, suffix or None
@@ -70,7 +77,8 @@ class Sales:
     }
 
     @staticmethod
-    def rows():
+    def rows() -> Iterator[Row]:
+        """700 rows, whose texts come again in another order than they came first."""
         for i in range(700):
             customer = ["", "##1", "#none"][i % 3] if i % 11 == 0 else f"customer {i * 7 % 45}" + ' "x"' * (i % 4 == 1)
             yield {
@@ -85,7 +93,8 @@ class Sales:
             }
 
     @staticmethod
-    def facts(number, row):
+    def facts(number: int, row: Row) -> Iterator[Fact]:
+        """The facts of a row: one for each amount."""
         for k in range(3):
             if row[f"a{k}"]:
                 value, suffix = amount(row[f"a{k}"])
@@ -104,12 +113,14 @@ class Wide:
     template = {"dimensions": {"concept": "eg:Amount", "unit": "iso4217:EUR"}, "columns": {f"c{i}": {"dimensions": {"eg:Line": f"column {i}"}} for i in range(300)}}
 
     @staticmethod
-    def rows():
+    def rows() -> Iterator[Row]:
+        """Five rows of 300 numbers."""
         for i in range(5):
             yield {f"c{k}": str(i * k) for k in range(300)}
 
     @staticmethod
-    def facts(number, row):
+    def facts(number: int, row: Row) -> Iterator[Fact]:
+        """The facts of a row: one for each cell."""
         for name, value in row.items():
             yield name, None, {**DIMENSIONS, "concept": "eg:Amount", "unit": "iso4217:EUR", "eg:Line": f"column {name[1:]}"}, value
 
@@ -121,13 +132,15 @@ class Notes:
     template = {"columns": {"customer": {}, "note": {"dimensions": {"concept": "eg:Note", "eg:Customer": "$customer"}}}}
 
     @staticmethod
-    def rows():
+    def rows() -> Iterator[Row]:
+        """A row for each character to escape at each place, in a value and in a dimension."""
         for character in TO_ESCAPE:
             for place in range(41):
                 yield {"customer": "c" * place + character + "d" * (place % 7), "note": "a" * place + character + "b" * (40 - place)}
 
     @staticmethod
-    def facts(number, row):
+    def facts(number: int, row: Row) -> Iterator[Fact]:
+        """The one fact of a row."""
         yield "note", None, {**DIMENSIONS, "concept": "eg:Note", "eg:Customer": row["customer"]}, row["note"]
 
 
@@ -144,17 +157,22 @@ class Groups:
     }
 
     @staticmethod
-    def rows():
+    def rows() -> Iterator[Row]:
+        """A row for each choice of two groups."""
         for i in range(1600):
             yield {"kind": f"k{i // 40}", "channel": f"c{i % 40}", "a": str(i)}
 
     @staticmethod
-    def facts(number, row):
+    def facts(number: int, row: Row) -> Iterator[Fact]:
+        """The one fact of a row."""
         dimensions = {"eg:Kind": f"kind {row['kind'][1:]}", "eg:Channel": f"channel {row['channel'][1:]}"}
         yield "a", None, {**DIMENSIONS, "concept": "eg:Amount", **dimensions}, row["a"]
 
 
-def write(folder, tables):
+Table = Union[Type[Sales], Type[Wide], Type[Notes], Type[Groups]]
+
+
+def write(folder: Path, tables: list[Table]) -> None:
     """The report's files."""
     info = {"documentType": "https://xbrl.org/2021/xbrl-csv", "namespaces": NAMESPACES, "taxonomy": TAXONOMY}
     templates = {it.name: it.template for it in tables}
@@ -169,7 +187,7 @@ def write(folder, tables):
             writer.writerows(rows)
 
 
-def document(tables):
+def document(tables: list[Table]) -> str:
     """The document by this script's own reading."""
     info = {"documentType": "https://xbrl.org/2021/xbrl-json", "namespaces": NAMESPACES, "taxonomy": TAXONOMY}
     facts = [
@@ -181,7 +199,8 @@ def document(tables):
     return '{"documentInfo":' + json.dumps(info, separators=(",", ":")) + ',"facts":{' + ",".join(facts) + "}}\n"
 
 
-def main(program):
+def main(program: str) -> None:
+    """Converts each report in several ways, and ends with status 1 where a document is another one."""
     well = bad = 0
     for tables in ([Groups], [Sales], [Wide], [Notes], [Sales, Wide, Notes]):
         with tempfile.TemporaryDirectory() as name:

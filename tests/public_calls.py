@@ -7,6 +7,8 @@ conversion_tests and run_tests, which compile and run, and each library's own pa
 The libraries are those that the program stands on in crates.txt. Their names are those that `pub use` gives in their src/lib.rt. The
 call of a page is the lines between ``` in its first comment.
 """
+from __future__ import annotations
+
 import re
 import sys
 from pathlib import Path
@@ -19,7 +21,7 @@ CALLERS = "public_calls", "conversion_tests", "run_tests"
 ELSEWHERE = {"start_crew", "join_crew"}
 
 
-def libraries():
+def libraries() -> list[str]:
     """The libraries of this repository that the program stands on."""
     for line in (TOP / "crates.txt").read_text().splitlines():
         name, _, below = line.partition(":")
@@ -28,18 +30,19 @@ def libraries():
     return []
 
 
-def names_of(page):
+def names_of(page: str) -> set[str]:
     """The names that a page gives."""
     return {name for _, names in GIVEN.findall(page) for name in re.findall(r"\w+", names)}
 
 
-def calls_of(page):
+def calls_of(page: str) -> list[str]:
     """The calls that a page shows, each as its lines."""
     comment = "\n".join(line[4:] for line in page.splitlines() if line.startswith("//!"))
     return re.findall(r"^```\n(.*?\n)```$", comment, re.M | re.S)
 
 
-def main():
+def main() -> None:
+    """Prints each name and call that is missing, and ends with status 1 where there is any."""
     calls = "\n".join(file.read_text() for caller in CALLERS for file in sorted((TOP / "crates" / caller / "src").glob("*.rt")))
     words = set(re.findall(r"\w+", re.sub(r"//.*", "", calls)))
     right, wrong = 0, []

@@ -10,6 +10,8 @@ a refused table's line, or the run's own. With --whole the file has the whole do
 is also refused at many places over a table of seven pieces. The library that refuses counts, too: how many threads are started over many tables and over
 one, how many of them do work, and how often much memory is asked for. Each case that is not so has a line; the last line counts. Needs cc, Python 3.9 and Linux.
 """
+from __future__ import annotations
+
 import concurrent.futures
 import json
 import os
@@ -18,17 +20,21 @@ import subprocess
 import sys
 import tempfile
 from pathlib import Path
+from typing import Optional, Sequence, Tuple
 
 TOP = Path(__file__).resolve().parent.parent
 WORDS = ["meta.json", "--types", "types.csv"]
 TABLES = ["t1", "t2", "t3"]
 LINE = re.compile(r"xbrl-json: table (\w+), row 0, column 0: (\w+) \((\d+)\)")
 
-failed = []
+# The status of a run, or None where it does not end, its standard output and its lines.
+Seen = Tuple[Optional[int], bytes, str]
+
+failed: list[str] = []
 count = 0
 
 
-def case(name, why):
+def case(name: str, why: object) -> None:
     """Counts a case; it failed where there is a reason."""
     global count
     count += 1
@@ -37,7 +43,7 @@ def case(name, why):
         print(f"FAILED {name}: {why}"[:400], flush=True)
 
 
-def report(folder):
+def report(folder: Path) -> None:
     """Three tables of numbers, texts, references and property groups, over one parameters file."""
     columns = {
         "name": {},
@@ -67,7 +73,7 @@ def report(folder):
         (folder / f"{table}.csv").write_text("name,cash,note,kind,places\n" + rows)
 
 
-def copied(folder, name, files):
+def copied(folder: Path, name: str, files: dict[str, str]) -> Path:
     """A folder with the report over other tables, each given by its identifier and its file, which are still to be written."""
     other = folder / name
     other.mkdir()
@@ -79,12 +85,12 @@ def copied(folder, name, files):
     return other
 
 
-def called(counts):
+def called(counts: str | Path) -> dict[str, int]:
     """How many calls of each kind a run has written to its file of counts."""
     return {name: int(number) for name, number in map(str.split, Path(counts).read_text().splitlines())}
 
 
-def run(folder, refuse="", words=(), counts=None):
+def run(folder: Path, refuse: str = "", words: Sequence[str] = (), counts: str | None = None) -> Seen:
     """Status, standard output and lines of a run in which a call is refused."""
     told = {**os.environ, "LD_PRELOAD": SHIM, "REFUSE": refuse, "REFUSE_COUNT": counts or "/dev/null"}
     try:
@@ -97,14 +103,15 @@ def run(folder, refuse="", words=(), counts=None):
 class Document:
     """The whole document, and where the text of each fact of each table ends in it."""
 
-    def __init__(self, whole):
+    def __init__(self, whole: bytes) -> None:
+        """Finds the facts of the whole document."""
         self.whole = whole
         ends = [m.start() for m in re.finditer(rb'[,{]"t\d\.', whole)]
         self.starts = {table: [it for it in ends if whole.startswith(f"{table}.".encode(), it + 2)] for table in TABLES}
         self.head = self.starts[TABLES[0]][0] + 1
         self.tail = whole.rindex(b"}}")
 
-    def is_cut(self, out, table):
+    def is_cut(self, out: bytes, table: str) -> bool:
         """Whether a text is a beginning of the document that ends at a fact of a table, or before its first one."""
         first = TABLES.index(table)
         begin = self.starts[table]
@@ -112,7 +119,7 @@ class Document:
         return self.whole.startswith(out) and len(out) in [begin[0] if first else self.head, *begin[1:], after]
 
 
-def fault_of(seen, document, kind):
+def fault_of(seen: Seen, document: Document, kind: str) -> str | None:
     """What is wrong with a run in which calls of a kind were refused, or None."""
     status, out, err = seen
     lines = err.splitlines()
@@ -134,11 +141,11 @@ def fault_of(seen, document, kind):
     return f"status {status}, {err!r}, {out!r}"
 
 
-FAULTS = {"memory": {"Memory"}, "read": {"Read"}, "write": set(), "zero": set(), "open": {"Read"}, "stat": {"Read"}, "thread": {"NoThread"}}
+FAULTS: dict[str, set[str]] = {"memory": {"Memory"}, "read": {"Read"}, "write": set(), "zero": set(), "open": {"Read"}, "stat": {"Read"}, "thread": {"NoThread"}}
 FILES = ["meta.json", "types.csv", "parameters.csv"]
 CANNOT_READ = {f"xbrl-json: cannot read {it}\n" for it in FILES}
 FAILED_READ = {f"xbrl-json: {it}: Read (17)\n" for it in ["report", "types", "parameters"]}
-ENDS = {
+ENDS: dict[str, set[str]] = {
     "memory": {f"xbrl-json: {it}: Memory (16)\n" for it in ["report", "types", "parameters"]}
     | {"xbrl-json: run: Memory (53)\n", "error: out of memory\n"},
     "read": FAILED_READ,
@@ -151,10 +158,10 @@ ENDS = {
 SIZES = [("1", "1"), ("2", "1"), ("3", "4")]
 
 
-def each_call_refused(folder, document, pool):
+def each_call_refused(folder: Path, document: Document, pool: concurrent.futures.Executor) -> None:
     """Refuses each call of each kind, alone and with all after it, at one of three numbers of workers."""
     path = str(folder / "counts")
-    todo = []
+    todo: list[tuple[str, str, list[str]]] = []
     for workers, ring in SIZES:
         words = ["--workers", workers, "--ring", ring]
         run(folder, "", words, path)
@@ -167,7 +174,7 @@ def each_call_refused(folder, document, pool):
         case(f"{refuse}, {words}", fault_of(seen, document, kind))
 
 
-def wrong_words_without_memory(folder, document, pool):
+def wrong_words_without_memory(folder: Path, document: Document, pool: concurrent.futures.Executor) -> None:
     """Words that are refused are so, or memory ran out before that could be said."""
     path, words = str(folder / "counts"), ["--workers", "65"]
     wrong = run(folder, "", words, path)
@@ -181,7 +188,7 @@ def wrong_words_without_memory(folder, document, pool):
     case("wrong words without any memory", None if seen in short else seen)
 
 
-def some_threads_refused(folder, document, pool):
+def some_threads_refused(folder: Path, document: Document, pool: concurrent.futures.Executor) -> None:
     """Every choice of four workers whose threads are refused, over tables of more blocks than their rings take: the whole document, unless none could be started."""
     rows = 1300  # two facts each, and a block has at most 256
     large = copied(folder, "large", {it: it for it in TABLES})
@@ -199,7 +206,7 @@ def some_threads_refused(folder, document, pool):
         case(f"threads refused: {mask:04b}, ring {ring}", None if (status, out, err) == wanted else f"{status} {err} {len(out)} of {len(whole)} bytes")
 
 
-def pieces_without_threads(folder, document, pool):
+def pieces_without_threads(folder: Path, document: Document, pool: concurrent.futures.Executor) -> None:
     """A table of many pieces, whose threads are refused, one or all from one on: the worker decodes the pieces itself, and the document is whole."""
     rows = 40_000
     pieces = copied(folder, "pieces", {"t1": "t1"})
@@ -215,7 +222,7 @@ def pieces_without_threads(folder, document, pool):
         case(f"pieces, {refuse}", None if seen == (0, whole, "") else (seen[0], seen[2], len(seen[1])))
 
 
-def pieces_without_memory(folder, document, pool):
+def pieces_without_memory(folder: Path, document: Document, pool: concurrent.futures.Executor) -> None:
     """A table of seven pieces between two short ones, on four workers: memory is refused at many places, once or from there on."""
     large = copied(folder, "seven", {it: it for it in TABLES})
     for table, rows in zip(TABLES, (3, 7_000, 3)):
@@ -232,14 +239,14 @@ def pieces_without_memory(folder, document, pool):
         case(f"seven pieces, {refuse}", fault_of(seen, of_seven, "memory"))
 
 
-def threads_and_memory(folder, document, pool):
+def threads_and_memory(folder: Path, document: Document, pool: concurrent.futures.Executor) -> None:
     """Each of many tables has threads, however many came before it; the threads do work; and the memory that pieces took is used again."""
     counts, words = str(folder / "counts"), ["--workers", "4", "--ring", "4"]
     many = copied(folder, "tables", {f"t{i:02}": "t" for i in range(24)})
     long = copied(folder, "long", {"t1": "t1"})
     for path, rows in ((many / "t.csv", 6_000), (long / "t1.csv", 150_000)):
         path.write_text("name,cash,note\n" + "".join(f"r{i},{i},a note of some length\n" for i in range(rows)))
-    seen = {many: [], long: []}
+    seen: dict[Path, list[dict[str, int]]] = {many: [], long: []}
     for it in (many, long) * 3:
         status, _, err = run(it, "", words, counts)
         case(f"nothing refused, {it.name}", None if (status, err) == (0, "") else (status, err))
@@ -258,14 +265,14 @@ def threads_and_memory(folder, document, pool):
     case("memory is used again", None if min(large) <= 900 else f"32 KiB or more were asked for {large} times")
 
 
-def one_worker_without_threads(folder, document, pool):
+def one_worker_without_threads(folder: Path, document: Document, pool: concurrent.futures.Executor) -> None:
     """One worker works on the program's own thread."""
     for ring in ("1", "1024"):
         seen = run(folder, "thread:1+", ["--workers", "1", "--ring", ring])
         case(f"no threads, one worker, ring {ring}", None if seen == (0, document.whole, "") else seen)
 
 
-def cut_short(folder, document, pool):
+def cut_short(folder: Path, document: Document, pool: concurrent.futures.Executor) -> None:
     """Reads and writes of one byte each, and such that a signal stops, change nothing, in any file."""
     for refuse in ("read:short", "write:short", "read:again", "write:again"):
         for workers in ("1", "3"):
@@ -273,7 +280,7 @@ def cut_short(folder, document, pool):
             case(f"{refuse}, {workers} workers", None if seen == (0, document.whole, "") else seen)
 
 
-def each_open_refused_beside_an_output(folder, document, pool):
+def each_open_refused_beside_an_output(folder: Path, document: Document, pool: concurrent.futures.Executor) -> None:
     """With --out the file holds what standard output would, and a refused open of it is said before anything is read."""
     out = folder / "out.json"
     not_made = 0
@@ -294,7 +301,7 @@ FAILED_WRITE = (3, b"", "xbrl-json: output: Write (56)\n")
 NOT_WRITTEN = (3, b"", "xbrl-json: cannot write out.json\n")
 
 
-def an_output_that_cannot_be_emptied(folder, document, pool):
+def an_output_that_cannot_be_emptied(folder: Path, document: Document, pool: concurrent.futures.Executor) -> None:
     """What was in the file stays, and so does a file of which the system does not say which one it is once it is open. The look at its path before
     that may fail."""
     out = folder / "out.json"
@@ -309,7 +316,7 @@ def an_output_that_cannot_be_emptied(folder, document, pool):
     out.unlink()
 
 
-def a_whole_output_or_none(folder, document, pool):
+def a_whole_output_or_none(folder: Path, document: Document, pool: concurrent.futures.Executor) -> None:
     """With --whole each refused call leaves the old file, or none where there was none, and no other beside it; else the whole document."""
     out, path = folder / "out.json", str(folder / "counts")
     words = [*OUT, "--whole", "--workers", "1"]
@@ -341,7 +348,7 @@ FAULT = re.compile(r"xbrl-json: table (\w+), row (\d+), column (\d+): (\w+) \((\
 FAULT_HEADER = "table,row,column,number,name,line,header,cell"
 
 
-def says_as_the_lines(content, err):
+def says_as_the_lines(content: bytes | None, err: str) -> bool:
     """Whether a file of faults is whole and has what the lines say."""
     if content is None or not content.endswith(b"\n"):
         return False
@@ -350,7 +357,7 @@ def says_as_the_lines(content, err):
     return header == FAULT_HEADER and [",".join(it.split(",")[:5]) for it in rows] == said
 
 
-def a_file_of_faults_or_none(folder, document, pool):
+def a_file_of_faults_or_none(folder: Path, document: Document, pool: concurrent.futures.Executor) -> None:
     """With --faults each refused call leaves a whole file of faults at status 0 and 1, and the old one, or none, at 3, and no other file beside it."""
     bad = copied(folder, "bad", {"t1": "t1", "t2": "bad"})
     (bad / "t1.csv").write_bytes((folder / "t1.csv").read_bytes())
@@ -375,7 +382,7 @@ def a_file_of_faults_or_none(folder, document, pool):
             case(f"{kind}:{n}, --faults, {'an old file' if old else 'no file'}", None if right and left else (status, err, held, left))
 
 
-def a_first_write_that_fails(folder, document, pool):
+def a_first_write_that_fails(folder: Path, document: Document, pool: concurrent.futures.Executor) -> None:
     """Eight tables of 100 facts through rings of one block: a beginning of the document, none where no write succeeds, and an end."""
     many = copied(folder, "many", {f"t{i}": "t" for i in range(8)})
     (many / "t.csv").write_text("name,note\n" + "".join(f"r{i},text\n" for i in range(100)))
@@ -388,7 +395,8 @@ def a_first_write_that_fails(folder, document, pool):
             case(f"{refuse}, eight tables, {workers} workers", None if is_beginning and said else (status, err, out))
 
 
-def main():
+def main() -> None:
+    """Builds the library that refuses, and runs all parts over one report."""
     global SHIM
     with tempfile.TemporaryDirectory() as there, concurrent.futures.ThreadPoolExecutor(os.cpu_count()) as pool:
         SHIM = f"{there}/refuse.so"

@@ -8,6 +8,8 @@ a rule of one line; no run of the program makes it. Each report is converted wit
 in both layouts, and the whole document, standard error and the status are compared. Each case has a line where it fails. The last
 line counts. Python 3.9 or later is needed.
 """
+from __future__ import annotations
+
 import json
 import os
 import re
@@ -15,6 +17,7 @@ import subprocess
 import sys
 import tempfile
 from pathlib import Path
+from typing import Any, Iterable, Iterator, Mapping, Optional, Sequence, Tuple
 
 METADATA = """{"documentInfo":{"documentType":"https://xbrl.org/2021/xbrl-csv",
 "namespaces":{"eg":"http://example.com/eg",
@@ -48,16 +51,20 @@ HEAD = (
 )
 HELD = "t1.r_1.cash - Cash EUR 100; t1.r_1.note - Note - first; t1.r_2.cash - Cash EUR 200; t1.r_2.note - Note - second"
 
+# Numbers of workers with sizes of the rings, and texts with what replaces them.
+Ways = Sequence[Tuple[int, Optional[int]]]
+Edits = Iterable[Tuple[str, str]]
+
 # The settings of most runs: workers, and the size of the rings, where None is the default.
-WAYS = (1, 1), (1, None), (2, 1), (4, 1), (4, None)
+WAYS: Ways = (1, 1), (1, None), (2, 1), (4, 1), (4, None)
 LAYOUTS = "compact", "lines"
 WORDS = ("m.json", "--types", "t.csv")
 
-failed = []
+failed: list[str] = []
 count = 0
 
 
-def case(name, seen, wanted):
+def case(name: str, seen: tuple[Any, ...], wanted: tuple[Any, ...]) -> None:
     """Counts a case, which is what was seen of a run and what was wanted: tuples of a status, texts and the like."""
     global count
     count += 1
@@ -70,25 +77,25 @@ def case(name, seen, wanted):
                 print(f"  from place {at}, wanted {b[max(at - 60, 0) : at + 200] if at else b!r:.300}\n  found {a[max(at - 60, 0) : at + 200] if at else a!r:.300}")
 
 
-def bytes_of(text):
+def bytes_of(text: str | bytes) -> bytes:
     """The bytes of a file, where a lone \\udcNN stands for a byte that is not UTF-8."""
     return text if isinstance(text, bytes) else text.encode("utf-8", "surrogateescape")
 
 
-def write(folder, files):
+def write(folder: Path, files: Mapping[str, str | bytes]) -> None:
     """Writes files, given by their paths in a folder."""
     for path, text in files.items():
         (folder / path).parent.mkdir(parents=True, exist_ok=True)
         (folder / path).write_bytes(bytes_of(text))
 
 
-def run(folder, words):
+def run(folder: Path, words: Sequence[str]) -> tuple[int, bytes, str]:
     """Status, standard output and standard error of a run in a folder."""
     done = subprocess.run([PROGRAM, *words], cwd=folder, stdin=subprocess.DEVNULL, capture_output=True, timeout=100)
     return done.returncode, done.stdout, done.stderr.decode(errors="replace")
 
 
-def edited(edits, text=METADATA):
+def edited(edits: Edits, text: str = METADATA) -> str:
     """A text with other texts replaced, each of which it has."""
     for old, new in edits:
         assert old in text, old
@@ -96,13 +103,13 @@ def edited(edits, text=METADATA):
     return text
 
 
-def once(old, new):
+def once(old: str, new: str) -> str:
     """The metadata on one line where the first occurrence of a text is replaced."""
     assert old in ON_ONE_LINE, old
     return ON_ONE_LINE.replace(old, new, 1)
 
 
-def fact(text):
+def fact(text: str) -> str:
     """The member of a fact that is given as `ID DECIMALS CONCEPT UNIT VALUE`, where `-` stands for none, or as JSON, where `@` stands for the period."""
     if text.startswith('"'):
         return text.replace("@", PERIOD)
@@ -113,24 +120,24 @@ def fact(text):
     return f'"{identifier}":{{{decimals}"dimensions":{{"concept":"eg:{concept}","entity":"eg:A1","period":"{PERIOD}"{unit}}},"value":{value}}}'
 
 
-def members(facts):
+def members(facts: str | list[str]) -> list[str]:
     """The members of facts, which are in a list or have `; ` between them."""
     return [fact(it) for it in (facts.split("; ") if isinstance(facts, str) else facts) if it]
 
 
-def document(layout, facts, finished=True, head=HEAD):
+def document(layout: str, facts: list[str], finished: bool = True, head: str = HEAD) -> bytes:
     """A document with these members; it is finished where no table is refused."""
     if layout == "compact":
         return (head + ",".join(facts) + ("}}\n" if finished else "")).encode()
     return (head + "".join("," * (i > 0) + "\n" + it for i, it in enumerate(facts)) + ("\n}}\n" if finished else "")).encode()
 
 
-def lines(faults):
+def lines(faults: str) -> str:
     """The lines of faults of tables, which have `; ` between them."""
     return "".join(f"xbrl-json: table {it}\n" for it in faults.split("; ") if it)
 
 
-def converts(folder, name, facts, said="", ways=WAYS, words=WORDS, head=HEAD):
+def converts(folder: Path, name: str, facts: str | list[str], said: str = "", ways: Ways = WAYS, words: Sequence[str] = WORDS, head: str = HEAD) -> None:
     """A case for each way and layout: the document of these facts, and these lines, where there are any with status 1."""
     facts = members(facts)
     for layout in LAYOUTS:
@@ -140,7 +147,7 @@ def converts(folder, name, facts, said="", ways=WAYS, words=WORDS, head=HEAD):
             case(f"{name}, {workers} workers, ring {ring}, {layout}", seen, wanted)
 
 
-def stops(folder, name, said, status=1, words=WORDS, ways=((1, 1), (4, None))):
+def stops(folder: Path, name: str, said: str, status: int = 1, words: Sequence[str] = WORDS, ways: Ways = ((1, 1), (4, None))) -> None:
     """A case for each way: nothing is written, and this line is said."""
     for workers, ring in ways:
         seen = run(folder, [*words, "--workers", str(workers), *(["--ring", str(ring)] if ring else [])])
@@ -441,7 +448,8 @@ SEVERAL_TABLES = {
 }
 
 
-def one_table(folder):
+def one_table(folder: Path) -> None:
+    """The reports of ONE_TABLE, each with each of its files."""
     write(folder, {"t.csv": TYPES})
     for name, (edits, *cases) in ONE_TABLE.items():
         write(folder, {"m.json": edited(edits)})
@@ -451,14 +459,16 @@ def one_table(folder):
             converts(folder, f"{name}: {file!r}", facts, lines(faults))
 
 
-def whole_facts(folder):
+def whole_facts(folder: Path) -> None:
+    """The reports of WHOLE_FACTS."""
     write(folder, {"t.csv": TYPES})
     for name, (edits, file, *facts) in WHOLE_FACTS.items():
         write(folder, {"m.json": edited(edits), "t1.csv": file})
         converts(folder, name, facts)
 
 
-def several_tables(folder):
+def several_tables(folder: Path) -> None:
+    """The reports of SEVERAL_TABLES."""
     write(folder, {"t.csv": TYPES})
     for name, (edits, files, wanted) in SEVERAL_TABLES.items():
         facts, faults = wanted.split(" => ")
@@ -469,13 +479,14 @@ def several_tables(folder):
         converts(folder, name, facts, lines(faults))
 
 
-def every_number_of_workers(folder):
+def every_number_of_workers(folder: Path) -> None:
+    """Three tables, of which two are refused, on each number of workers."""
     write(folder, {"t.csv": TYPES, "m.json": edited(THREE), "t1.csv": "cash\n5\n", "t2.csv": "cash\n1\nx\n", "t3.csv": "nope\n1\n"})
     facts, faults = SEVERAL_TABLES["three tables, two refused"][2].split(" => ")
     converts(folder, "three tables, two refused", facts, lines(faults), [(workers, ring) for workers in range(1, 65) for ring in (1, 4)] + [(8, 65_536)])
 
 
-def an_address(folder):
+def an_address(folder: Path) -> None:
     """The address of a report, with a quote in it."""
     address = ('"documentType"', '"baseURL":"http://example.com/a\\"b","documentType"')
     write(folder, {"t.csv": TYPES, "m.json": edited([address]), "t1.csv": "cash\n"})
@@ -511,7 +522,7 @@ PASSED_OVER = [
 ]
 
 
-def metadata(folder):
+def metadata(folder: Path) -> None:
     """Faults of the metadata, and what is passed over."""
     write(folder, {"t.csv": TYPES, "t1.csv": "cash\n"})
     for old, new, fault in OF_METADATA:
@@ -527,7 +538,7 @@ def metadata(folder):
         converts(folder, f"{new} for {old}", "")
 
 
-def deep_metadata(folder):
+def deep_metadata(folder: Path) -> None:
     """JSON nested 127 levels deep, and one more, as an unknown member of the metadata, of its documentInfo and of a table."""
     write(folder, {"t.csv": TYPES, "t1.csv": "cash\n100\n"})
     for place, above in (('"tables"', 1), ('"taxonomy"', 2), ('"template"', 3)):
@@ -544,14 +555,15 @@ def deep_metadata(folder):
                     stops(folder, name, "report: Syntax (1)")
 
 
-def each_beginning_of_a_metadata(folder):
+def each_beginning_of_a_metadata(folder: Path) -> None:
+    """A metadata that is cut short at any byte is refused."""
     write(folder, {"t.csv": TYPES})
     for length in range(len(ON_ONE_LINE)):
         write(folder, {"m.json": ON_ONE_LINE[:length]})
         stops(folder, f"a metadata of {length} bytes", "report: Syntax (1)", ways=[(1, 1)])
 
 
-def limits_of_metadata(folder):
+def limits_of_metadata(folder: Path) -> None:
     """The most bytes, tables and columns, and one more of each."""
     write(folder, {"t.csv": TYPES, "t1.csv": "cash\n"})
     few = [(1, 1)]
@@ -574,7 +586,7 @@ FROM_BOTH = [BY_NAME, BY_FILE, ('"tables":', '"parameters":{"c":"eg:Mass"},"tabl
 BAD_PATH = [('"taxonomy":', '"taxonomies":'), ('"tables":', '"parameterURL":"/p.csv","tables":')]
 
 
-def paths_of_parameters(folder):
+def paths_of_parameters(folder: Path) -> None:
     """Runs over a report in a folder with a parameters file, which is there or not."""
     words = ("d/m.json", "--types", "t.csv")
     parameters = "name,value\nc,eg:Cash\n"
@@ -598,7 +610,7 @@ def paths_of_parameters(folder):
                 converts(Path(inner), name, "t1.r_1.cash - Cash EUR 5", words=words)
 
 
-def parameters(folder):
+def parameters(folder: Path) -> None:
     """Parameters files, read and refused. The parameters give decimals and a dimension."""
     edits = [BY_FILE, ('"dimensions":{"entity"', '"decimals":"$a","dimensions":{"eg:Branch":"$b","entity"')]
     write(folder, {"m.json": edited(edits), "t.csv": TYPES, "t1.csv": "cash\n5\n"})
@@ -616,7 +628,7 @@ def parameters(folder):
     stops(folder, "65,537 parameters", "parameters: TooLarge (15)", ways=few)
 
 
-def types(folder):
+def types(folder: Path) -> None:
     """Types tables, looked up and refused."""
     other = ('"eg":', '"e":"http://example.com/e","eg":')
     number = "t1, row 1, column 1: BadNumber (40)"
@@ -653,7 +665,7 @@ def types(folder):
     stops(folder, "1,048,577 types", "types: TooLarge (15)", ways=few)
 
 
-def wider_types(folder):
+def wider_types(folder: Path) -> None:
     """Cells of booleans, dates and names, which a types table has under `type2` alone. None of them has a unit."""
     for concept, cell, value in [
         ("Open", " true ", "true"),
@@ -678,7 +690,7 @@ def wider_types(folder):
     stops(folder, "a boolean under `type`", "types: BadTypes (14)")
 
 
-def identifiers_that_come_again(folder):
+def identifiers_that_come_again(folder: Path) -> None:
     """Identifiers of each length that is kept in another way, the second one between two that are the same."""
     write(folder, {"t.csv": TYPES, "m.json": edited(IDENTIFIED)})
     for length in (1, 2, 15, 16, 22, 23, 24, 25, 31, 32, 33, 300):
@@ -712,7 +724,7 @@ NO_PERIODS = """
 """
 
 
-def periods(folder):
+def periods(folder: Path) -> None:
     """Periods that a column gives, each in a row of one table, and each text that is none in a table of its own."""
     write(folder, {"t.csv": TYPES, "m.json": edited(TIMED)})
     rows = [it.split() for it in PERIODS.strip().splitlines()]
@@ -724,7 +736,7 @@ def periods(folder):
         converts(folder, f"the text {text}", "", lines("t1, row 1, column 1: BadPeriod (37)"), [(1, 1), (4, None)])
 
 
-def words_and_paths(folder):
+def words_and_paths(folder: Path) -> None:
     """The held report by other words and at other paths."""
     plain = document("compact", members(HELD))
     lined = document("lines", members(HELD))
@@ -749,7 +761,8 @@ def words_and_paths(folder):
         case(f"a report at {path!r}", run(folder, [path, "--types", "t.csv"]), said)
 
 
-def words_refused(folder):
+def words_refused(folder: Path) -> None:
+    """Words that are wrong, and those of --help."""
     write(folder, {"t.csv": TYPES, "m.json": METADATA, "t1.csv": TABLE})
     for more in ("--workers 65", "--workers 0", "--ring 65537", "--ring 0", "more"):
         status, out, err = run(folder, [*WORDS, *more.split()])
@@ -762,7 +775,7 @@ def words_refused(folder):
     case("words with --help", (status, defaults, err), (0, [True] * 4, ""))
 
 
-def early_ends(folder):
+def early_ends(folder: Path) -> None:
     """Runs that end before the tables are read: files that are not there, and faults of several files, of which the first is said."""
     named, elsewhere = (('"tables":', f'"parameterURL":"{path}","tables":') for path in ("p.csv", "x.csv"))
     extended = ('"taxonomy":', '"extends":["a.json"],"taxonomy":')
@@ -780,15 +793,17 @@ def early_ends(folder):
         stops(folder, f"{words} with {edits}", said, status, words, WAYS)
 
 
-def cash(identifier, value):
+def cash(identifier: str, value: int | str) -> str:
+    """A fact of the concept Cash, as `fact` takes it."""
     return f"{identifier}.cash - Cash EUR {value}"
 
 
-def many_rows(folder):
+def many_rows(folder: Path) -> None:
     """Tables of many rows, over rings of several sizes. A full block has 256 facts."""
     write(folder, {"t.csv": TYPES, "m.json": METADATA})
 
-    def rows(number, ways, rest="", faults=""):
+    def rows(number: int, ways: Ways, rest: str = "", faults: str = "") -> None:
+        """Converts a table of so many rows, and then what else it has."""
         write(folder, {"t1.csv": "cash\n" + "".join(f"{i}\n" for i in range(1, number + 1)) + rest})
         converts(folder, f"{number} rows and {rest!r}", [cash(f"t1.r_{i}", i) for i in range(1, number + 1)], lines(faults), ways)
 
@@ -805,7 +820,7 @@ def many_rows(folder):
         converts(folder, f"{number} rows of two facts before half a row", facts, lines(f"t1, row {number + 1}, column 2: UnknownSpecial (31)"))
 
 
-def beginnings(file):
+def beginnings(file: bytes) -> Iterator[tuple[bytes, list[str], str]]:
     """Each beginning of a table of one row, whose second cell is quoted, with its facts and faults."""
     start = b'cash,note\n1,"'
     for length in range(len(file) + 1):
@@ -829,14 +844,15 @@ def beginnings(file):
             yield head, [cash("t1.r_1", 1)], ""
 
 
-def each_beginning_of_a_table(folder):
+def each_beginning_of_a_table(folder: Path) -> None:
+    """A table that is cut short at any byte, with the facts that it still has."""
     write(folder, {"t.csv": TYPES, "m.json": METADATA})
     for file, facts, faults in beginnings('cash,note\n1,"say ""hi"" \\\n\u00e9\u0001"\n'.encode()):
         write(folder, {"t1.csv": file})
         converts(folder, f"the table {file!r}", facts, lines(faults), [(1, 1), (2, 1)])
 
 
-def long_cells(folder):
+def long_cells(folder: Path) -> None:
     """Cells of more bytes than a block has, and than a piece and a read of the file have."""
     write(folder, {"t.csv": TYPES, "m.json": METADATA})
     for length in (4_096, 4_097, 100_000, 300_000):
@@ -845,7 +861,7 @@ def long_cells(folder):
         converts(folder, f"a cell of {length} bytes", f"t1.r_1.note - Note - first; t1.r_2.note - Note - {long}; t1.r_3.note - Note - last")
 
 
-def wide_rows(folder):
+def wide_rows(folder: Path) -> None:
     """Rows of a block of facts, and of more."""
     for number in (256, 300):
         columns = ",".join(f'"c{i}":{{"dimensions":{{"concept":"eg:Cash"}}}}' for i in range(1, number + 1))
@@ -859,7 +875,7 @@ def wide_rows(folder):
 ORDER = sorted(map(str, range(1, 65)))
 
 
-def sixty_four_tables(folder):
+def sixty_four_tables(folder: Path) -> None:
     """Tables that share a file, tables of a row of which one is refused, and tables of a thousand rows."""
     shared, own = (",".join(f'"t{i}":{{"url":"{path.format(i)}","template":"p"}}' for i in range(1, 65)) for path in ("t1.csv", "t{}.csv"))
     table = '"t1":{"url":"t1.csv","template":"p"}'
@@ -903,7 +919,8 @@ PARTS = (
 )
 
 
-def main():
+def main() -> None:
+    """Runs all parts, each in a folder of its own, and ends with status 1 where a case failed."""
     for part in PARTS:
         with tempfile.TemporaryDirectory() as folder:
             part(Path(folder))

@@ -7,6 +7,8 @@ Runs the examples and compares documents, lines and statuses, and then the edge:
 folders or pipes, outputs that are full, closed, replaced or misnamed, few descriptors. Each case has a line where it fails.
 The last line counts. Python 3.9 or later and Linux are needed.
 """
+from __future__ import annotations
+
 import concurrent.futures
 import hashlib
 import json
@@ -23,6 +25,7 @@ import tempfile
 import threading
 import time
 from pathlib import Path
+from typing import Any, Iterable, Tuple
 
 TOP = Path(__file__).resolve().parent.parent
 EXAMPLES = TOP / "examples"
@@ -30,11 +33,15 @@ NOBODY = 65534
 UMASK = os.umask(0)
 os.umask(UMASK)
 
-failed = []
+# The status of a run, its standard output (bytes, or None where it goes elsewhere) and its lines.
+Seen = Tuple[int, Any, str]
+
+failed: list[str] = []
 count = 0
 
 
-def case(name, holds, *seen):
+def case(name: str, holds: object, *seen: object) -> None:
+    """Counts a case, with what was seen where it does not hold."""
     global count
     count += 1
     if not holds:
@@ -42,17 +49,18 @@ def case(name, holds, *seen):
         print(f"FAILED {name}: {' | '.join(map(str, seen))}"[:1000])
 
 
-def run(words, folder, **more):
+def run(words: Iterable[str | bytes], folder: Path, **more: Any) -> Seen:
     """Status, standard output and standard error of a run in a folder."""
     done = subprocess.run([PROGRAM, *words], cwd=folder, stdin=subprocess.DEVNULL, timeout=100, **{"capture_output": True, **more})
     return done.returncode, done.stdout, (done.stderr or b"").decode(errors="replace")
 
 
-def text_of(path, default=""):
+def text_of(path: Path, default: str = "") -> str:
+    """The text of a file, or another one where there is none."""
     return path.read_text() if path.is_file() else default
 
 
-def in_lines(document):
+def in_lines(document: bytes) -> bytes:
     """A document with a line for each fact, from the same document on one line."""
     head, facts = document.decode().split('"facts":{', 1)
     lines, at, decoder = [head + '"facts":{'], 0, json.JSONDecoder()
@@ -65,7 +73,7 @@ def in_lines(document):
     return "\n".join(lines + [facts[at:]] * (facts[at:] != "")).encode()
 
 
-def examples():
+def examples() -> None:
     """Each example's document, lines and status, with several numbers of workers and ring sizes, in both layouts."""
     for folder in sorted(it for it in EXAMPLES.iterdir() if (it / "words").is_file()):
         words = (folder / "words").read_text().split()
@@ -81,7 +89,7 @@ def examples():
     case("no words: the held report", seen == (0, (EXAMPLES / "held/expected.json").read_bytes(), ""), seen)
 
 
-def report(folder, tables, template=None):
+def report(folder: Path, tables: dict[str, dict[str, Any]], template: dict[str, Any] | None = None) -> None:
     """A report of tables, each given by its identifier and its members, over one template."""
     columns = template or {"cash": {"dimensions": {"concept": "eg:Cash"}}}
     (folder / "meta.json").write_text(
@@ -105,11 +113,13 @@ WORDS = ["meta.json", "--types", "types.csv"]
 TABLE_FAULT = "xbrl-json: table {}, row {}, column {}: {} ({})\n"
 
 
-def facts(document):
+def facts(document: bytes) -> dict[str, Any]:
+    """The facts of a document, by their identifiers."""
     return json.loads(document)["facts"]
 
 
-def words_of_the_command_line(folder):
+def words_of_the_command_line(folder: Path) -> None:
+    """Words that are right, wrong, and not UTF-8."""
     report(folder, {"t1": {}})
     (folder / "t1.csv").write_text("cash\n1\n")
     status, out, err = run(["--help"], folder)
@@ -129,7 +139,7 @@ def words_of_the_command_line(folder):
     case("a whole run", status == 0 and len(facts(out)) == 1 and err == "", status, out, err)
 
 
-def bad_rows(folder):
+def bad_rows(folder: Path) -> None:
     """Each fault of a row at the first row and far down: it is told as what it is, behind the facts of the rows before it."""
     report(folder, {"t1": {}})
     for row, column, kind, number in ((b"1,2", 0, "Ragged", 26), (b"\xff", 1, "NotUtf8", 27), (b"x", 1, "BadNumber", 40), (b"#x", 1, "UnknownSpecial", 31)):
@@ -141,7 +151,7 @@ def bad_rows(folder):
                 case(f"{kind} behind {before} rows, {workers} workers", (status, err) == (1, line) and out.count(b'"t1.r_') == before, status, err)
 
 
-def layouts(folder):
+def layouts(folder: Path) -> None:
     """Documents without facts, in lines."""
     for name, tables, file, ends in [
         ("no table", {}, "", b"\n}}\n"),
@@ -156,7 +166,8 @@ def layouts(folder):
         case(f"{name}, in lines", head.endswith(b'"facts":{') and lined == (whole[0], head + ends, whole[2]), whole, lined)
 
 
-def files_that_are_not_read(folder):
+def files_that_are_not_read(folder: Path) -> None:
+    """Each file of a report that is missing, or a folder, and a path that leads through a file."""
     report(folder, {"t1": {}})
     meta, types, table = folder / "meta.json", folder / "types.csv", folder / "t1.csv"
     head = run([*WORDS], folder)
@@ -194,7 +205,8 @@ def files_that_are_not_read(folder):
     case("a missing types table", run(WORDS, folder) == (3, b"", "xbrl-json: cannot read types.csv\n"))
 
 
-def a_table_that_may_not_be_read(folder):
+def a_table_that_may_not_be_read(folder: Path) -> None:
+    """A table without permission is refused, even where it is optional."""
     report(folder, {"t1": {"optional": True}})
     (folder / "t1.csv").write_text("cash\n1\n")
     (folder / "t1.csv").chmod(0)
@@ -204,20 +216,23 @@ def a_table_that_may_not_be_read(folder):
     case("an optional table without permission", (status, err) == (1, TABLE_FAULT.format("t1", 0, 0, "Read", 21)), status, err)
 
 
-def few_descriptors(folder):
+def few_descriptors(folder: Path) -> None:
+    """Many tables where few files may be open at once."""
     tables = {f"t{i:04}": {"optional": True} for i in range(4096)}
     report(folder, tables)
     for name in tables:
         (folder / f"{name}.csv").write_text("cash\n1\n")
 
-    def limited():
+    def limited() -> None:
+        """Limits the run to 32 open files."""
         resource.setrlimit(resource.RLIMIT_NOFILE, (32, 32))
 
     status, out, err = run([*WORDS, "--workers", "8"], folder, preexec_fn=limited)
     case("4,096 tables with 32 descriptors and 8 workers", status == 0 and len(facts(out)) == 4096, status, len(out), err)
 
 
-def a_named_pipe(folder):
+def a_named_pipe(folder: Path) -> None:
+    """A table that comes through a named pipe."""
     report(folder, {"t1": {}})
     os.mkfifo(folder / "t1.csv")
     writer = threading.Thread(target=lambda: (folder / "t1.csv").write_text("cash\n1\n2\n"), daemon=True)
@@ -226,7 +241,7 @@ def a_named_pipe(folder):
     case("a named pipe as a table", status == 0 and len(facts(out)) == 2, status, err)
 
 
-def short_tables(folder, rows):
+def short_tables(folder: Path, rows: list[int]) -> bytes:
     """A report of tables of so many rows each, and its document as one worker writes it."""
     names = [f"t{at:04}" for at in range(len(rows))]
     report(folder, {name: {} for name in names})
@@ -235,7 +250,7 @@ def short_tables(folder, rows):
     return run([*WORDS, "--workers", "1"], folder)[1]
 
 
-def switches_of(words, folder):
+def switches_of(words: Iterable[str | bytes], folder: Path) -> tuple[int, bytes]:
     """How often the threads of a run gave their processor up to wait, and the document."""
     with tempfile.TemporaryFile() as out:
         with subprocess.Popen([PROGRAM, *words], cwd=folder, stdin=subprocess.DEVNULL, stdout=out) as running:
@@ -245,7 +260,7 @@ def switches_of(words, folder):
         return usage.ru_nvcsw, out.read()
 
 
-def few_switches(folder):
+def few_switches(folder: Path) -> None:
     """Threads that cannot go on are not woken: what is counted is how often they sleep, and no time."""
     for rows, most in [([1] * 1024, 4), ([300] * 256, 16)]:
         document = short_tables(folder, rows)
@@ -255,7 +270,7 @@ def few_switches(folder):
             case(name, seen == document and count <= most * len(rows), count, len(seen))
 
 
-def late_tables(folder):
+def late_tables(folder: Path) -> None:
     """Tables that come late, by named pipes, while all rings are full: the run ends, and its document is the same."""
     rows = [600] * 12
     document = short_tables(folder, rows)
@@ -269,7 +284,8 @@ def late_tables(folder):
         case(f"late tables, {workers} workers, ring {ring}", seen == (0, document, ""), seen[0], len(seen[1]), seen[2])
 
 
-def outputs(folder):
+def outputs(folder: Path) -> None:
+    """--out and standard output, over an old file, to a full disk and to a closed pipe."""
     report(folder, {"t1": {}, "t2": {}})
     (folder / "t1.csv").write_text("cash\n1\n")
     (folder / "t2.csv").write_text("cash\n2\n")
@@ -304,12 +320,13 @@ def outputs(folder):
     case("a refused table", (status, err) == (1, TABLE_FAULT.format("t2", 1, 1, "BadNumber", 40)) and document.startswith(seen) and b"t1.r_1" in seen, status, seen, err)
 
 
-def endless_files(folder):
+def endless_files(folder: Path) -> None:
     """A metadata without end is too large. A record without end, which has no limit of its own, takes the memory that the system gives."""
     report(folder, {"t1": {}})
     os.symlink("/dev/zero", folder / "t1.csv")
 
-    def limited():
+    def limited() -> None:
+        """Limits the run to 256 MiB of memory."""
         resource.setrlimit(resource.RLIMIT_AS, (1 << 28, 1 << 28))
 
     for words, said in [
@@ -325,7 +342,7 @@ def endless_files(folder):
     case("a short table in as little memory", (status, err) == (0, "") and len(facts(out)) == 1, status, err)
 
 
-def full_report(folder):
+def full_report(folder: Path) -> None:
     """A report with a parameters file and two tables, one of them optional, each file beside its names: `hard.`, `soft.` and `folder/`."""
     for it in folder.rglob("*"):
         if not it.is_dir():
@@ -345,12 +362,12 @@ def full_report(folder):
 INPUTS = ["meta.json", "types.csv", "parameters.csv", "t1.csv", "t2.csv"]
 
 
-def held(folder):
+def held(folder: Path) -> dict[str, str | bytes]:
     """What each file of a folder holds."""
     return {it.name: os.readlink(it) if it.is_symlink() else it.read_bytes() for it in folder.iterdir() if it.is_symlink() or it.is_file()}
 
 
-def outputs_over_inputs(folder):
+def outputs_over_inputs(folder: Path) -> None:
     """--out that leads to a file of the report, by whatever path: it cannot be written, and nothing is touched."""
     full_report(folder)
     before = held(folder)
@@ -374,7 +391,7 @@ def outputs_over_inputs(folder):
         full_report(folder)
 
 
-def outputs_of_runs_that_end_early(folder):
+def outputs_of_runs_that_end_early(folder: Path) -> None:
     """Where the metadata has a fault, --out is emptied as ever, unless it is a file that the run reads."""
     full_report(folder)
     (folder / "meta.json").write_text("{")
@@ -387,7 +404,7 @@ def outputs_of_runs_that_end_early(folder):
     case("--out that is the types table, bad metadata", seen == (3, b"", "xbrl-json: cannot write hard.types.csv\n") and text_of(folder / "types.csv") != "", seen)
 
 
-def whole_outputs(folder):
+def whole_outputs(folder: Path) -> None:
     """--whole: the file has the whole document at status 0, and is else as it was; no other file is left."""
     report(folder, {"t1": {}, "t2": {}})
     for table in ("t1", "t2"):
@@ -396,7 +413,8 @@ def whole_outputs(folder):
     names = sorted(it.name for it in folder.iterdir())
     whole = [*WORDS, "--whole", "--out"]
 
-    def stands(name, seen, wanted, path, text, *more):
+    def stands(name: str, seen: Seen, wanted: Seen, path: Path, text: bytes, *more: str) -> None:
+        """A case: a run ends so, a file has this text, and no file is left but those of the report and these."""
         case(f"--whole: {name}", seen == wanted and path.read_bytes() == text and sorted(it.name for it in folder.iterdir()) == sorted([*names, *more]), seen, held(folder))
 
     stands("a new file", run([*whole, "out.json"], folder), (0, b"", ""), out, document, "out.json")
@@ -440,13 +458,13 @@ def whole_outputs(folder):
     case("--whole: a file that may not be so long", seen == (3, b"", "xbrl-json: output: Write (56)\n") and sorted(it.name for it in folder.iterdir()) == names, seen)
 
 
-def limited_files(most):
+def limited_files(most: int) -> None:
     """Limits the size of files to so many bytes, with the signal of that ignored."""
     signal.signal(signal.SIGXFSZ, signal.SIG_IGN)
     resource.setrlimit(resource.RLIMIT_FSIZE, (most, most))
 
 
-def files_that_may_not_be_so_long(folder):
+def files_that_may_not_be_so_long(folder: Path) -> None:
     """The limit on a file's size is a failed write: where the signal is ignored, and through ./xbrl-json, which ignores it."""
     report(folder, {"t1": {}})
     (folder / "t1.csv").write_text("cash\n" + "1\n" * 2000)
@@ -459,7 +477,8 @@ def files_that_may_not_be_so_long(folder):
     with tempfile.TemporaryDirectory() as there:
         top = launched(Path(there))
 
-        def limited():
+        def limited() -> None:
+            """Limits the size of files, and lets the signal of that end a program."""
             signal.signal(signal.SIGXFSZ, signal.SIG_DFL)
             resource.setrlimit(resource.RLIMIT_FSIZE, (5000, 5000))
 
@@ -467,7 +486,7 @@ def files_that_may_not_be_so_long(folder):
         case("./xbrl-json, a file that may not be so long", (done.returncode, done.stdout, done.stderr.decode()) == failed_write, done.returncode, done.stderr)
 
 
-def launched(top):
+def launched(top: Path) -> Path:
     """A checkout whose ./xbrl-json runs the program that is tested: as the shipped one, of other sources."""
     shutil.copy(TOP / "xbrl-json", top / "xbrl-json")
     (top / "dist").mkdir()
@@ -480,7 +499,7 @@ def launched(top):
     return top
 
 
-def help_that_cannot_be_printed(folder):
+def help_that_cannot_be_printed(folder: Path) -> None:
     """--help and --version to a full or closed standard output end with status 3 and a line."""
     said = (3, "xbrl-json: output: Write (56)\n")
     for word in ("--help", "-h", "--version", "-V"):
@@ -496,7 +515,7 @@ def help_that_cannot_be_printed(folder):
         case(f"{word} to a closed pipe", (status, err) == said, status, err)
 
 
-def lines_on_a_terminal(folder):
+def lines_on_a_terminal(folder: Path) -> None:
     """A terminal gets no control character of a path or a word; to a pipe the lines are as they are."""
     forged = "a\nxbrl-json: \x1b[31mb\x7f\u009bc\tdé"
     plain = "a\\x0axbrl-json: \\x1b[31mb\\x7f\\x9bc\\x09dé"
@@ -513,7 +532,7 @@ def lines_on_a_terminal(folder):
     case("wrong words to a pipe", seen[0] == 2 and "a\x1b[31m\tb" in seen[2], seen)
 
 
-def closed_descriptors(folder):
+def closed_descriptors(folder: Path) -> None:
     """Without standard input, output or error the files get their numbers, and still nothing goes into a file but the document."""
     report(folder, {"t1": {}, "t2": {}})
     (folder / "t1.csv").write_text("cash\n1\n")
@@ -536,10 +555,11 @@ def closed_descriptors(folder):
 PROGRESS = "xbrl-json: {} of {} tables, {:.1f} of {:.1f} MB read, {:.1f} MB written\n"
 
 
-def written_late(pipe, pauses):
+def written_late(pipe: Path, pauses: list[float]) -> None:
     """Writes a table to a named pipe: a row, then after each pause one more."""
 
-    def write():
+    def write() -> None:
+        """Writes the first row at once, and each other one after its pause."""
         with open(pipe, "w") as out:
             out.write("cash\n1\n")
             out.flush()
@@ -551,7 +571,7 @@ def written_late(pipe, pauses):
     threading.Thread(target=write, daemon=True).start()
 
 
-def on_a_terminal(words, folder):
+def on_a_terminal(words: Iterable[str | bytes], folder: Path) -> str:
     """What standard error gets of a run where it is a terminal."""
     ours, theirs = pty.openpty()
     with subprocess.Popen([PROGRAM, *words], cwd=folder, stdin=subprocess.DEVNULL, stdout=subprocess.DEVNULL, stderr=theirs):
@@ -569,7 +589,8 @@ def on_a_terminal(words, folder):
     return seen.decode()
 
 
-def progress(folder):
+def progress(folder: Path) -> None:
+    """The lines of --progress: one at the end, one each ten seconds, and many on a terminal."""
     report(folder, {"t1": {}, "t2": {"optional": True}, "t3": {}})
     (folder / "t1.csv").write_text("cash\n" + "1\n" * 150_000)
     (folder / "t3.csv").write_text("cash\n2\n")
@@ -598,7 +619,7 @@ def progress(folder):
         without_an_error.result()
 
 
-def progress_without_an_error(folder):
+def progress_without_an_error(folder: Path) -> None:
     """Without standard error a line of progress does not go into the document, which is the first file that is opened."""
     folder.mkdir()
     report(folder, {"t1": {}})
@@ -618,7 +639,7 @@ HEAD = (
 )
 
 
-def member(table, row, value):
+def member(table: str, row: int, value: int) -> str:
     """The text of a fact of the report."""
     return (
         f'"{table}.r_{row}.cash":{{"dimensions":{{"concept":"eg:Cash","entity":"eg:A1",'
@@ -626,7 +647,7 @@ def member(table, row, value):
     )
 
 
-def a_fact_a_line(folder):
+def a_fact_a_line(folder: Path) -> None:
     """Reports in lines, whole and unfinished, at several numbers of workers and ring sizes."""
     cases = {
         "two rows": ({"t1": "1\n2\n"}, HEAD + "\n" + member("t1", 1, 1) + ",\n" + member("t1", 2, 2) + "\n}}\n", ""),
@@ -649,7 +670,8 @@ def a_fact_a_line(folder):
                 case(f"{name}, {workers} workers, ring {ring}", seen == wanted, seen)
 
 
-def main():
+def main() -> None:
+    """Runs all parts, each in a folder of its own, and ends with status 1 where a case failed."""
     examples()
     parts = words_of_the_command_line, layouts, bad_rows, files_that_are_not_read, a_table_that_may_not_be_read, few_descriptors, a_named_pipe, few_switches, late_tables, endless_files, a_fact_a_line, outputs, outputs_over_inputs, outputs_of_runs_that_end_early
     parts += whole_outputs, files_that_may_not_be_so_long, help_that_cannot_be_printed, lines_on_a_terminal, closed_descriptors, progress
