@@ -7,6 +7,8 @@ PROGRAM is the built xbrl-json. Packages are written as folders and as ZIPs, goo
 compared with what the rules say, and the example's document with the one written by hand. Each case has a line where it
 fails. The last line counts. Python 3.9 or later and Linux are needed.
 """
+from __future__ import annotations
+
 import contextlib
 import errno
 import io
@@ -25,6 +27,8 @@ import time
 import warnings
 import zipfile
 from pathlib import Path
+from types import FrameType
+from typing import Any, Callable, Iterable, Iterator, Mapping, NoReturn, Sequence, Union
 
 TOP = Path(__file__).resolve().parent.parent
 EXAMPLE = TOP / "examples/filing"
@@ -39,11 +43,15 @@ EG = "http://reg.example/eg"
 XS = "http://www.w3.org/2001/XMLSchema"
 XBRLI = "http://www.xbrl.org/2003/instance"
 
-failed = []
+# What a file holds, and files by their paths in a folder.
+Text = Union[str, bytes]
+Files = Mapping[str, Text]
+
+failed: list[str] = []
 count = 0
 
 
-def case(name, seen, wanted):
+def case(name: str, seen: object, wanted: object) -> None:
     """Counts a case, which is what was seen and what was wanted."""
     global count
     count += 1
@@ -55,20 +63,22 @@ def case(name, seen, wanted):
 # What packages are made of.
 
 
-def meta(info=None, **parts):
+def meta(info: dict[str, Any] | None = None, **parts: Any) -> str:
     """The text of a metadata file."""
     return json.dumps({"documentInfo": {"documentType": CSV, **(info or {})}, **parts})
 
 
-def catalog(entries, attributes=""):
+def catalog(entries: str, attributes: str = "") -> str:
+    """The text of a catalog."""
     return f'<catalog xmlns="urn:oasis:names:tc:entity:xmlns:xml:catalog" {attributes}>{entries}</catalog>'
 
 
-def rewrite(start=HOST, prefix="../reg/"):
+def rewrite(start: str = HOST, prefix: str = "../reg/") -> str:
+    """An entry of a catalog for all URLs that begin so."""
     return f'<rewriteURI uriStartString="{start}" rewritePrefix="{prefix}"/>'
 
 
-def schema(body="", namespace=EG, attributes=""):
+def schema(body: str = "", namespace: str = EG, attributes: str = "") -> str:
     """A schema with the usual prefixes."""
     return (
         f'<xs:schema xmlns:xs="{XS}" xmlns:xbrli="{XBRLI}" xmlns:xbrldt="http://xbrl.org/2005/xbrldt" xmlns:xlink="http://www.w3.org/1999/xlink"'
@@ -78,19 +88,23 @@ def schema(body="", namespace=EG, attributes=""):
     )
 
 
-def item(name, kind="xbrli:stringItemType", more=""):
+def item(name: str, kind: str = "xbrli:stringItemType", more: str = "") -> str:
+    """The element of a concept."""
     return f'<xs:element name="{name}" type="{kind}" substitutionGroup="xbrli:item" {more}/>'
 
 
-def linkbase(body, attributes=""):
+def linkbase(body: str, attributes: str = "") -> str:
+    """The text of a linkbase."""
     return f'<link:linkbase xmlns:link="http://www.xbrl.org/2003/linkbase" xmlns:xlink="http://www.w3.org/1999/xlink" {attributes}>{body}</link:linkbase>'
 
 
-def loc(href, kind="loc"):
+def loc(href: str, kind: str = "loc") -> str:
+    """An element of a linkbase that refers to a place."""
     return f'<link:{kind} xlink:href="{href}"/>'
 
 
-def include(place, kind="import"):
+def include(place: str, kind: str = "import") -> str:
+    """An element of a schema that refers to another one."""
     return f'<xs:{kind} schemaLocation="{place}"/>'
 
 
@@ -110,7 +124,7 @@ MERGED = {
 }
 
 
-def write(folder, files):
+def write(folder: Path, files: Files) -> None:
     """Writes files, given by their paths in a folder."""
     for path, text in files.items():
         at = folder / path
@@ -118,11 +132,12 @@ def write(folder, files):
         at.write_bytes(as_bytes(text))
 
 
-def as_bytes(text):
+def as_bytes(text: Text) -> bytes:
+    """The bytes of a file that is given by its text or by them."""
     return text if isinstance(text, bytes) else text.encode()
 
 
-def pack(path, files, top="", method=zipfile.ZIP_DEFLATED):
+def pack(path: Path, files: Files | Iterable[tuple[str | zipfile.ZipInfo, Text]], top: str = "", method: int = zipfile.ZIP_DEFLATED) -> None:
     """Writes files as a ZIP."""
     with warnings.catch_warnings(), zipfile.ZipFile(path, "w", method) as archive:
         warnings.simplefilter("ignore")
@@ -133,7 +148,7 @@ def pack(path, files, top="", method=zipfile.ZIP_DEFLATED):
 # Runs.
 
 
-def run(words, folder):
+def run(words: Iterable[object], folder: Path) -> tuple[int, str]:
     """Status and standard error of a run in this process, which is much faster than one of its own. It must not reach xbrl-json."""
     before, err = os.getcwd(), io.StringIO()
     os.chdir(folder)
@@ -145,7 +160,7 @@ def run(words, folder):
     return status, err.getvalue()
 
 
-def start(words, folder, **more):
+def start(words: Iterable[object], folder: Path, **more: Any) -> tuple[int, bytes, str]:
     """Status, standard output and standard error of a run of its own, with xbrl-json behind it."""
     env = {**os.environ, "XBRL_JSON": PROGRAM, **more.pop("env", {})}
     done = subprocess.run([FILING, *map(str, words)], cwd=folder, env=env, stdin=subprocess.DEVNULL, capture_output=True, **{"timeout": 120, **more})
@@ -156,7 +171,7 @@ def start(words, folder, **more):
 AT_ONCE = "import sys; sys.path.insert(0, {!r}); from filing import command, progress; progress.EVERY = 0; sys.exit(command.main(sys.argv[2:], {!r}))"
 
 
-def on_a_terminal(words, folder, program=None, at_once=False):
+def on_a_terminal(words: Sequence[str], folder: Path, program: str | None = None, at_once: bool = False) -> tuple[int, bytes]:
     """Status of a run whose standard error is a terminal, and what that shows; with `at_once` each step of its progress."""
     controller, terminal = pty.openpty()
     start = [sys.executable, "-c", AT_ONCE.format(str(TOP), program or PROGRAM)] if at_once else []
@@ -172,17 +187,24 @@ def on_a_terminal(words, folder, program=None, at_once=False):
     return done.returncode, shown
 
 
-def worked():
+def worked() -> float:
     """Seconds of processor time that this process and those that it ran have taken, which no other load makes more."""
     return sum(os.times()[:4])
 
 
-def listing(folder):
+def listing(folder: Path) -> dict[str, bytes]:
     """All files of a folder with their bytes."""
     return {str(it.relative_to(folder)): it.read_bytes() for it in sorted(folder.rglob("*")) if it.is_file()}
 
 
-def prepared(folder, report=REPORT, taxonomies=(TAXONOMY,), words=(), name="reports/report.json", form="folder"):
+def prepared(
+    folder: Path,
+    report: Files = REPORT,
+    taxonomies: Sequence[Files] = (TAXONOMY,),
+    words: Sequence[str] = (),
+    name: str = "reports/report.json",
+    form: str = "folder",
+) -> tuple[int, str, dict[str, bytes]]:
     """What a run with --prepare says, and the files that it makes. Inputs must stay as they are, and nothing else may be left. The table of
     REPORT is there where a metadata file names it: without that the report would be refused."""
     if not any(b"t.csv" in as_bytes(text) for files in (report, *taxonomies) for name, text in files.items() if not name.endswith(".csv")):
@@ -207,7 +229,9 @@ def prepared(folder, report=REPORT, taxonomies=(TAXONOMY,), words=(), name="repo
     return status, err, made
 
 
-def makes(folder, name, merged=None, types=None, parts=None, **inputs):
+def makes(
+    folder: Path, name: str, merged: dict[str, Any] | None = None, types: str | None = None, parts: dict[str, Any] | None = None, **inputs: Any
+) -> dict[str, bytes]:
     """A case: the run is good and silent, and makes this metadata (or these parts of it) and this types table."""
     status, err, made = prepared(folder, **inputs)
     value = json.loads(made["meta.json"]) if "meta.json" in made else None
@@ -221,27 +245,28 @@ def makes(folder, name, merged=None, types=None, parts=None, **inputs):
     return made
 
 
-def at(value, path):
+def at(value: Any, path: str) -> Any:
     """A part of a JSON value, by the names on the way to it, or None."""
     for name in path.split("/"):
         value = value.get(name) if isinstance(value, dict) else None
     return value
 
 
-def stops(folder, name, line, status=1, **inputs):
+def stops(folder: Path, name: str, line: str, status: int = 1, **inputs: Any) -> None:
     """A case: the run ends with this line and status, and has made nothing."""
     seen = prepared(folder, **inputs)
     case(name, seen[:2], (status, f"xbrl-filing: {line}\n"))
 
 
-def records(*lines, namespace=EG):
+def records(*lines: str, namespace: str = EG) -> str:
+    """A types table of these records of a namespace, each given without it."""
     return "namespace,name,type2\n" + "".join(f"{namespace},{it}\n" for it in lines)
 
 
 # The parts.
 
 
-def the_example(folder):
+def the_example(folder: Path) -> None:
     """The example in every form of package gives the document that was written by hand."""
     document = (EXAMPLE / "expected.json").read_bytes()
     report, taxonomy = (
@@ -273,13 +298,14 @@ def the_example(folder):
     case("the example by a link to the program", (done.returncode, done.stdout), (0, document))
 
 
-def current_umask():
+def current_umask() -> int:
+    """The permissions that new files do not get."""
     mask = os.umask(0o022)
     os.umask(mask)
     return mask
 
 
-def forms_of_reports(folder):
+def forms_of_reports(folder: Path) -> None:
     """Where the report stands in a package, and what its package may say of itself."""
     for form in ("folder", "zip", "top", "file"):
         makes(folder, f"a report as {form}", MERGED, TYPES, form=form)
@@ -350,13 +376,14 @@ def forms_of_reports(folder):
     case("a package that is not there", seen, (3, "xbrl-filing: no.zip: cannot read (No such file or directory)\n"))
 
 
-def catalogs(folder):
+def catalogs(folder: Path) -> None:
     """Which file stands for a URL."""
     info = {**INFO, "namespaces": {"eg": EG, "two": "http://two.example/"}}
     other = {"other/mod.json": meta(info, tables=MERGED["tables"]), "other/mod.xsd": schema(ELEMENTS)}
     two = "documentInfo/namespaces/two"
 
-    def by(name, entries, taken, more=None, attributes=""):
+    def by(name: str, entries: str, taken: str, more: Files | None = None, attributes: str = "") -> None:
+        """A case: by a catalog with these entries the module is the one in the folder that is taken."""
         files = {**TAXONOMY, **other, "META-INF/catalog.xml": catalog(entries, attributes), **(more or {})}
         made = makes(folder, name, types=TYPES, taxonomies=[files])
         value = json.loads(made.get("meta.json", "{}"))
@@ -403,7 +430,7 @@ def catalogs(folder):
     makes(folder, "percent signs", MERGED, report={**REPORT, "reports/report.json": percent}, taxonomies=[{**TAXONOMY, "reg/a é.json": MODULE}])
 
 
-def catalogs_refused(folder):
+def catalogs_refused(folder: Path) -> None:
     """Catalogs and URLs that lead outside, and URLs that no package has."""
     fetching = [it.name for it in (TOP / "filing").glob("*.py") if any(word in it.read_text() for word in ("socket", "urllib.request", "http.client"))]
     case("no module can fetch anything", fetching, [])
@@ -457,7 +484,7 @@ def catalogs_refused(folder):
     stops(folder, "a catalog with a document type", "t0/META-INF/catalog.xml: has a document type, which is refused (line 1)", taxonomies=[doctype])
 
 
-def places(folder):
+def places(folder: Path) -> None:
     """References: relative ones against the published URL, and those of the report beside it."""
     split = [
         {
@@ -518,7 +545,7 @@ FIRST, SECOND = "r/reports/report.json", "t0/reg/mod.json"
 TWO_TEMPLATES = {"p": {"columns": {"x": {}}}, "q": {"columns": {}}}
 
 
-def both(report, module, info=None, module_info=None):
+def both(report: dict[str, Any], module: dict[str, Any], info: dict[str, Any] | None = None, module_info: dict[str, Any] | None = None) -> dict[str, Any]:
     """A report and the module that it extends, by what they say."""
     return {
         "report": {**REPORT, "reports/report.json": meta({"extends": [HOST + "mod.json"], **(info or {})}, **report)},
@@ -526,7 +553,7 @@ def both(report, module, info=None, module_info=None):
     }
 
 
-def joining(folder):
+def joining(folder: Path) -> None:
     """Parts of the metadata that are joined by key, or that have one value."""
     first, second, templates = FIRST, SECOND, TWO_TEMPLATES
     tables = {"a": {"url": "a.csv", "template": "p"}, "b": {"url": "b.csv", "template": "q"}}
@@ -583,7 +610,7 @@ def joining(folder):
     stops(folder, "a prefix of two namespaces", line, **both({}, {}, {"namespaces": {"eg": "http://x/"}}))
 
 
-def joining_tables(folder):
+def joining_tables(folder: Path) -> None:
     """Tables are joined member by member: what one file leaves open another may give."""
     first, second, templates = FIRST, SECOND, TWO_TEMPLATES
     open_table = both(
@@ -612,7 +639,7 @@ def joining_tables(folder):
     )
 
 
-def leaving_out(folder):
+def leaving_out(folder: Path) -> None:
     """What is left out, and links, which are refused."""
     first, second = FIRST, SECOND
     unused = both(
@@ -639,7 +666,7 @@ def leaving_out(folder):
         stops(folder, f"links of the report {links}", f"{first}: has 'links', which cannot be carried over", **both({"links": links}, {}))
 
 
-def shapes_that_are_left(folder):
+def shapes_that_are_left(folder: Path) -> None:
     """What has a wrong shape inside of a part goes into the merged file as it is, and is left to the converter."""
     column = lambda **more: {"t": {"columns": {"c": more}}}
     for number, wrong_part in enumerate((
@@ -664,7 +691,7 @@ def shapes_that_are_left(folder):
             case(f"the shape of {wrong_part}", (seen, {it: value.get(it) for it in wrong_part}), ((0, ""), wrong_part))
 
 
-def entry_points(folder):
+def entry_points(folder: Path) -> None:
     """The taxonomy's URLs and their base, and parts of a wrong shape."""
     second = SECOND
     base = both(
@@ -700,12 +727,13 @@ def entry_points(folder):
     stops(folder, "baseURL that is none", f"{second}: 'documentInfo.baseURL' is not a text", **both({}, {}, {}, {"baseURL": None}))
 
 
-def chains(folder):
+def chains(folder: Path) -> None:
     """Files that extend files: their order, diamonds, rings, and what is no metadata file."""
     info = lambda *extends, **more: {"extends": [HOST + it for it in extends], **more}
     report = {"reports/report.json": meta(info("a.json", "b.json"), parameters={"r": "1"})}
 
-    def level(name, *extends, **more):
+    def level(name: str, *extends: str, **more: Any) -> dict[str, str]:
+        """A metadata file that extends others, with a schema of its own."""
         return {
             f"reg/{name}.json": meta(info(*extends, taxonomy=[name + ".xsd"], namespaces={name: f"http://{name}/"}), **more),
             f"reg/{name}.xsd": schema(item("C"), f"http://{name}/"),
@@ -768,7 +796,7 @@ def chains(folder):
     stops(folder, "a report that extends itself", "r/reports/report.json: extends itself", report=own, taxonomies=[])
 
 
-def what_is_no_metadata(folder):
+def what_is_no_metadata(folder: Path) -> None:
     """Files that are no metadata files, and JSON that is none for the converter."""
     for name, text, what in (
         (
@@ -818,7 +846,7 @@ def what_is_no_metadata(folder):
     case("numbers as they are written", (b'"decimals":-0.0' in made["meta.json"], b'"a":12345678901234567890123,"b":1.0' in made["meta.json"]), (True, True))
 
 
-def final_parts(folder):
+def final_parts(folder: Path) -> None:
     """What a file declares final: files that extend it add nothing to it."""
     top, low = "r/reports/report.json", "t0/reg/mod.json"
     values = {
@@ -828,7 +856,7 @@ def final_parts(folder):
         "parameters": ({"a": "1"}, {"b": "1"}, "b"),
     }
 
-    def chain(part, above, below, final, info=None):
+    def chain(part: str, above: Any, below: Any, final: dict[str, Any], info: dict[str, Any] | None = None) -> dict[str, Any]:
         """A report over a middle file over a module, which declares the part final."""
         files = {
             "reg/middle.json": meta({"extends": ["mod.json"]}),
@@ -900,17 +928,18 @@ def final_parts(folder):
     stops(folder, "final that is no truth", f"{low}: 'documentInfo.final.tables' is neither true nor false", **chain("x:y", None, None, {"tables": "yes"}))
 
 
-def two_prefixes(**parts):
+def two_prefixes(**parts: Any) -> dict[str, str]:
     """A taxonomy whose module has the prefixes `m` and `g`, where the report has `n` and `eg`."""
     return {**TAXONOMY, "reg/mod.json": meta({"namespaces": {"m": "http://mem/", "g": EG}, "taxonomy": ["mod.xsd"]}, **parts)}
 
 
-def named_report(**parts):
+def named_report(**parts: Any) -> dict[str, str]:
+    """A report that has the prefixes `n` and `eg`."""
     info = {"extends": [HOST + "mod.json"], "namespaces": {"eg": EG, "n": "http://mem/"}}
     return {**REPORT, "reports/report.json": meta(info, **parts)}
 
 
-def prefixes(folder):
+def prefixes(folder: Path) -> None:
     """Two prefixes of one namespace: the first stands, and the other is replaced wherever it is a prefix."""
     mem = "http://mem/"
     shown = {
@@ -959,7 +988,7 @@ def prefixes(folder):
         makes(folder, f"the unit {unit}", parts={"dimensions/unit": wanted_unit}, report=report, taxonomies=[one])
 
 
-def keys_that_become_one(folder):
+def keys_that_become_one(folder: Path) -> None:
     """Keys and templates that are one once a prefix is replaced, and prefixes that are left."""
     mem, report = "http://mem/", named_report(dimensions={"eg:Region": "n:x"})
     two_values = two_prefixes(dimensions={"g:Region": "m:y"})
@@ -1015,7 +1044,7 @@ def keys_that_become_one(folder):
     makes(folder, "three prefixes in three files", parts={"documentInfo/namespaces": {"m": mem}, "dimensions/entity": "m:1"}, taxonomies=[third])
 
 
-def lost_prefixes(folder):
+def lost_prefixes(folder: Path) -> None:
     """Parameters whose texts need a prefix that the merged metadata does not have."""
     module = two_prefixes()
     lost = "r/reports/{}: the parameter '{}' has the prefix 'm', whose namespace has the prefix 'n' here: write 'n' ({})"
@@ -1037,23 +1066,25 @@ def lost_prefixes(folder):
     makes(folder, "parameters without it", parts={"parameters": kept}, report=named_report(parameters=kept), taxonomies=[module])
 
 
-def noted(body, attributes=""):
+def noted(body: str, attributes: str = "") -> str:
+    """An annotation of a schema that has this text."""
     return f"<xs:annotation {attributes}><xs:appinfo>{body}</xs:appinfo></xs:annotation>"
 
 
 ONE, LEAF = records("A,text"), {"reg/d/leaf.xsd": schema(item("A"))}
 
 
-def reads(folder, name, files, types):
+def reads(folder: Path, name: str, files: Files, types: str) -> None:
     """A case: a taxonomy with these files gives this types table."""
     makes(folder, name, types=types, taxonomies=[{**TAXONOMY, **files}])
 
 
-def refuses(folder, name, files, line):
+def refuses(folder: Path, name: str, files: Files, line: str) -> None:
+    """A case: a taxonomy with these files is refused by this line."""
     stops(folder, name, line, taxonomies=[{**TAXONOMY, **files}])
 
 
-def reading_schemas(folder):
+def reading_schemas(folder: Path) -> None:
     """Which schemas and linkbases are read, and by which names and prefixes."""
     one, leaf = ONE, LEAF
     for name, body in {
@@ -1077,7 +1108,7 @@ def reading_schemas(folder):
     reads(folder, "the base of a schema", {**leaf, "reg/mod.xsd": schema(include("leaf.xsd"), attributes=f'xml:base="{HOST}d/"')}, one)
 
 
-def reading_linkbases(folder):
+def reading_linkbases(folder: Path) -> None:
     """What linkbases lead to, which of them are read, and their bases."""
     one, leaf = ONE, LEAF
     for kind in ("loc", "linkbaseRef", "roleRef", "arcroleRef"):
@@ -1132,7 +1163,7 @@ def reading_linkbases(folder):
     refuses(folder, "presentation linkbases are not", {"reg/mod.xsd": schema(role)}, f"t0/reg/mod.xsd: no package has {HOST}none.xml (linkbaseRef, line 1)")
 
 
-def reading_once(folder):
+def reading_once(folder: Path) -> None:
     """Rings, schemas by two URLs, and schemas that no package has."""
     one, leaf = ONE, LEAF
     reads(
@@ -1185,7 +1216,7 @@ def reading_once(folder):
     makes(folder, "the standard's own schemas where a package has them", types=one, taxonomies=[own])
 
 
-def including(folder):
+def including(folder: Path) -> None:
     """A schema without a namespace takes that of the schema that includes it, for its names and for unprefixed ones."""
     plain = schema(
         '<xs:complexType name="T"><xs:simpleContent><xs:restriction base="xbrli:dateItemType"/></xs:simpleContent></xs:complexType>' + item("A", "T"), ""
@@ -1215,7 +1246,7 @@ def including(folder):
         )
 
 
-def names_in_schemas(folder):
+def names_in_schemas(folder: Path) -> None:
     """Prefixes are those in scope where the name stands; only global elements count."""
     inside = f'<xs:element xmlns:i="{XBRLI}" name="A" type="i:dateItemType" substitutionGroup="i:item"/>'
     inside += f'<xs:element xmlns:i="{XBRLI}/other" name="B" type="i:dateItemType" substitutionGroup="i:item"/>'
@@ -1245,7 +1276,7 @@ def names_in_schemas(folder):
     reads(folder, "elements inside of a type are not global", {"reg/mod.xsd": schema(local)}, records("B,text"))
 
 
-def encodings(folder):
+def encodings(folder: Path) -> None:
     """Schemas in any encoding, and those that are refused."""
     umlaut = schema(item("Größe"))
     for encoding in ("utf-8", "utf-16", "iso-8859-1", "windows-1252", "iso-8859-15", "utf-32", "cp037", "utf-16-le"):
@@ -1312,24 +1343,24 @@ KNOWN = [
 ]
 
 
-def derived(name, base, how="restriction", content="simpleContent"):
+def derived(name: str, base: str, how: str = "restriction", content: str = "simpleContent") -> str:
     """A type that is derived from another."""
     attribute = '<xs:attribute name="a"><xs:simpleType><xs:restriction base="xs:string"/></xs:simpleType></xs:attribute>'
     return f'<xs:complexType name="{name}"><xs:{content}><xs:{how} base="{base}">{attribute}</xs:{how}></xs:{content}></xs:complexType>'
 
 
-def headed(*names, more=""):
+def headed(*names: str, more: str = "") -> str:
     """Elements of a substitution group, each given as `NAME HEAD`."""
     return "".join('<xs:element name="{}" substitutionGroup="{}" {}/>'.format(*it.split(), more) for it in names)
 
 
-def kinds_are(folder, name, body, *lines, **files):
+def kinds_are(folder: Path, name: str, body: str, *lines: str, **files: Text) -> None:
     """A case: a schema with these elements gives these records."""
     taxonomy = {**TAXONOMY, "reg/mod.json": meta(INFO), "reg/mod.xsd": schema(body), **files}
     makes(folder, name, types=records(*sorted(lines)), taxonomies=[taxonomy])
 
 
-def kinds(folder):
+def kinds(folder: Path) -> None:
     """What each element is: every base type, directly and behind four derivations, and what no fact can have."""
     types = [(name, word) for word, names in ITEM_TYPES.items() for name in names.split()]
     kinds_are(folder, "each base type", "".join(item(f"I_{it}", f"xbrli:{it}ItemType") for it, _ in types), *(f"I_{it},{word}" for it, word in types))
@@ -1369,7 +1400,7 @@ def kinds(folder):
 DIMENSIONS = ("X,explicit", "Y,explicit", "Z,explicit", "T,typed", "U,typed")
 
 
-def kinds_of_elements(folder):
+def kinds_of_elements(folder: Path) -> None:
     """Types inside of an element, the type of its head, abstract items and dimensions."""
     inner = '<xs:complexType><xs:simpleContent><xs:{} base="{}"><xs:enumeration value="a"/></xs:{}></xs:simpleContent></xs:complexType>'
     inline = '<xs:element name="{}" substitutionGroup="xbrli:item">' + inner + "</xs:element>"
@@ -1415,7 +1446,7 @@ def kinds_of_elements(folder):
     kinds_are(folder, "a typed reference without its namespace", headed("X xbrldt:dimensionItem", more='typedDomainRef="#x"'), "X,explicit")
 
 
-def what_no_fact_can_have(folder):
+def what_no_fact_can_have(folder: Path) -> None:
     """Elements that are not in the types table, and the concepts among them that the metadata must not name."""
     nothing = headed("A xbrldt:hypercubeItem", "B eg:A") + '<xs:element name="C" type="xs:string"/>'
     nothing += headed("D eg:None", more='type="xbrli:dateItemType"')
@@ -1475,7 +1506,7 @@ def what_no_fact_can_have(folder):
         case(f"{name} is left to the converter", made[:2], (0, ""))
 
 
-def types_tables(folder):
+def types_tables(folder: Path) -> None:
     """The order and the quotes of a types table, and 20,000 concepts."""
     quoting = {
         **TAXONOMY,
@@ -1502,7 +1533,7 @@ def types_tables(folder):
     case("20,000 concepts take seconds", worked() - begun < 20, True)
 
 
-def entry(name, mode=0):
+def entry(name: str, mode: int = 0) -> zipfile.ZipInfo:
     """An entry of a ZIP under any name."""
     made = zipfile.ZipInfo("x", (2025, 1, 1, 0, 0, 0))
     made.filename = name
@@ -1511,7 +1542,7 @@ def entry(name, mode=0):
     return made
 
 
-def patched(path, changes):
+def patched(path: Path, changes: Iterable[tuple[bytes, bytes]]) -> None:
     """A file in which bytes are replaced by others of the same length, wherever they stand."""
     data = path.read_bytes()
     for old, new in changes:
@@ -1520,7 +1551,7 @@ def patched(path, changes):
     path.write_bytes(data)
 
 
-def with_header(path, name, offset_local, offset_central, form, value):
+def with_header(path: Path, name: str, offset_local: int, offset_central: int, form: str, value: int) -> None:
     """Changes one field of an entry's two headers."""
     data = bytearray(path.read_bytes())
     for mark, at_name, offset in ((b"PK\3\4", 30, offset_local), (b"PK\1\2", 46, offset_central)):
@@ -1531,7 +1562,7 @@ def with_header(path, name, offset_local, offset_central, form, value):
     path.write_bytes(bytes(data))
 
 
-def with_end(path, offset, more):
+def with_end(path: Path, offset: int, more: int) -> None:
     """Adds to one field of the record that ends a ZIP."""
     data = bytearray(path.read_bytes())
     at = data.rindex(b"PK\5\6") + offset
@@ -1542,7 +1573,14 @@ def with_end(path, offset, more):
 GOOD = list({**TAXONOMY, **REPORT}.items())
 
 
-def refused_zip(folder, name, line, entries, change=None, words=()):
+def refused_zip(
+    folder: Path,
+    name: str,
+    line: str,
+    entries: list[tuple[zipfile.ZipInfo, Text]],
+    change: Callable[[Path], None] | None = None,
+    words: Sequence[str] = (),
+) -> None:
     """Cases: a ZIP with these entries is refused by this line, as a report and as a taxonomy, and nothing is written."""
     for role in ("report", "taxonomy"):
         work = folder / "z"
@@ -1580,7 +1618,7 @@ HOSTILE_NAMES = {
 }
 
 
-def hostile_zips(folder):
+def hostile_zips(folder: Path) -> None:
     """ZIPs that are refused by the name of an entry, used or not."""
     for name, what in HOSTILE_NAMES.items():
         refused_zip(folder, f"an entry '{name}'", f"the entry '{name}' {what}", [(entry(name), "x")])
@@ -1607,7 +1645,7 @@ def hostile_zips(folder):
         refused_zip(folder, f"an encrypted entry, bit {bit}", "the entry 'a' is encrypted", [(entry("a"), "x")], encrypted)
 
 
-def bombs(folder):
+def bombs(folder: Path) -> None:
     """ZIPs that unpack to too much, as one entry or as all together."""
     size, many = (16 << 20) + 1, 140 << 17
     pack(folder / "small.zip", [(entry("a"), b"\0" * size)])
@@ -1625,14 +1663,14 @@ def bombs(folder):
         case(f"what is large and no bomb, limit {limit}", seen[0], status)
 
 
-def packed(path, name, length):
+def packed(path: Path, name: str, length: int) -> bytes:
     """The first bytes of a packed entry, where they stand alone in the file."""
     data = path.read_bytes()
     at = data.find(name.encode()) + len(name)
     return data[at : at + length]
 
 
-def damaged_zips(folder):
+def damaged_zips(folder: Path) -> None:
     """ZIPs that are cut, changed or packed in an unknown way: one line, and nothing is made."""
     name, damaged = "reg/mod.json", "is damaged, or packed in a way that Python does not know ("
     for what, front, change in (
@@ -1673,7 +1711,7 @@ def damaged_zips(folder):
         case(f"damaged, by method {method}", (status, err.count("\n"), starts), (1, 1, True))
 
 
-def damaged_tables(folder):
+def damaged_tables(folder: Path) -> None:
     """No table is converted where one of them is damaged, the first or the last."""
     temporary = folder / "tmp"
     temporary.mkdir()
@@ -1687,7 +1725,7 @@ def damaged_tables(folder):
         case(f"a wrong check sum of {table}", (seen, (folder / "doc.json").exists(), os.listdir(temporary)), ((1, b"", line), False, []))
 
 
-def unpacked_packages(folder):
+def unpacked_packages(folder: Path) -> None:
     """Folders: a link that leads out of one is refused, and one that stays inside is taken."""
     write(folder / "outside", {"mod.json": MODULE, "secret.csv": "cash\n9\n"})
     write(folder / "t0side", {"mod.json": MODULE})
@@ -1740,7 +1778,7 @@ def unpacked_packages(folder):
     )
 
 
-def tables(folder):
+def tables(folder: Path) -> None:
     """Where tables lie, by which names they are prepared, and what is never looked at."""
     urls = {"a": "sub/a.csv", "b": "meta.json", "c": "types.csv", "d": "meta.json/d.csv", "e": "filed-types.csv", "f": "none.csv"}
     names = {**urls, "b": "filed-meta.json", "c": "filed-filed-types.csv", "d": "filed-meta.json/d.csv"}
@@ -1815,7 +1853,7 @@ def tables(folder):
     case("tables lie beside the report's own file", makes(folder, "a deep report", MERGED, report=deep).get("t.csv"), b"cash\n1\n")
 
 
-def tables_that_are_none(folder):
+def tables_that_are_none(folder: Path) -> None:
     """A table's file that is a folder or is not there is the converter's to tell. No link is ever made in an input."""
     write(folder / "t", TAXONOMY)
     apart = {"reports/report.json": REPORT["reports/report.json"]}
@@ -1843,7 +1881,7 @@ def tables_that_are_none(folder):
         case(f"no link in an input: {report}", [it for it in (folder / "a folder").rglob("*") if it.is_symlink()], [])
 
 
-def files_that_nothing_names(folder):
+def files_that_nothing_names(folder: Path) -> None:
     """A CSV file of the report that no table names is refused, as its facts would be missing in silence; what is no file of the report is passed over."""
     optional = {"t": {"url": "t.csv", "optional": True}, "u": {"url": "sub/u.csv", "template": "t", "optional": True}}
     inputs = {"taxonomies": [{**TAXONOMY, "reg/mod.json": meta(INFO, tableTemplates={"t": TEMPLATE}, tables=optional, parameterURL="p.csv")}]}
@@ -1892,19 +1930,21 @@ def files_that_nothing_names(folder):
         case(f"nothing is converted then: {words}", seen, ((1, b"", f"xbrl-filing: zipped.zip/reports/T.csv: {said}\n"), "kept"))
 
 
-def links_to_files_that_nothing_names(folder):
+def links_to_files_that_nothing_names(folder: Path) -> None:
     """In an unpacked package a file is known by more than its name, and what is no file is none that was forgotten."""
     said = "is not read: no table of the joined metadata has this url (names are compared exactly)"
     place = folder / "r/reports"
 
-    def seen(make):
+    def seen(make: Callable[[], object]) -> tuple[int, str]:
+        """Status and standard error of a run over packages to which this was done."""
         subprocess.run(["rm", "-rf", "r", "t", "o"], cwd=folder, check=True)  # folders that are too deep for shutil
         write(folder / "r", REPORT)
         write(folder / "t", TAXONOMY)
         make()
         return run(["r", "--taxonomy", "t", "--prepare", "o"], folder)
 
-    def deep():
+    def deep() -> None:
+        """Makes 1,500 folders, each in the one before."""
         before = os.getcwd()
         os.chdir(place)
         for _ in range(1500):
@@ -1912,10 +1952,12 @@ def links_to_files_that_nothing_names(folder):
             os.chdir("d")
         os.chdir(before)
 
-    def linked(name, target):
+    def linked(name: str, target: str) -> Callable[[], None]:
+        """What makes a link in the folder of the reports."""
         return lambda: (place / name).symlink_to(target)
 
-    def of_a_linked_folder():
+    def of_a_linked_folder() -> None:
+        """Puts a link to another folder in the place of that of the reports."""
         write(folder, {"r/data/t.csv": "cash\n2\n", "r/data/report.json": REPORT["reports/report.json"]})
         shutil.rmtree(place)
         place.symlink_to("data")
@@ -1946,23 +1988,27 @@ def links_to_files_that_nothing_names(folder):
     case("a file outside, which no table names", seen(linked("T.csv", "../../u.csv")), (1, outside))
 
 
-def parameters_in_other_letters(folder):
+def parameters_in_other_letters(folder: Path) -> None:
     """A parameter to which nothing refers is refused where one is missing that differs in capitals alone; nothing else that is missing is."""
     end = "which is no parameter and no column of it (names are compared exactly)"
     level = {"columns": {"cash": {"dimensions": {"concept": "eg:Cash"}}, "Region": {}}}
     tables = {"t": {"url": "t.csv"}}
 
-    def filed(name, value="1", **parts):
+    def filed(name: str, value: str = "1", **parts: Any) -> dict[str, Any]:
+        """A filing whose parameters file has this parameter, and a module with these parts."""
         file = meta(INFO, **{"tableTemplates": {"t": level}, "tables": tables, "parameterURL": "p.csv", **parts})
         return {"report": {**REPORT, "reports/p.csv": f"name,value\nother,1\n{name},{value}\n"}, "taxonomies": [{**TAXONOMY, "reg/mod.json": file}]}
 
-    def told(given, wanted, file="r/reports/p.csv"):
+    def told(given: str, wanted: str, file: str = "r/reports/p.csv") -> str:
+        """The line by which a parameter is refused where another one is wanted."""
         return f"{file}: nothing refers to the parameter '{given}', and the template 't' refers to '${wanted}', {end}"
 
-    def at_column(**column):
+    def at_column(**column: Any) -> dict[str, Any]:
+        """The part of a module that says more of a column."""
         return {"tableTemplates": {"t": {"columns": {"cash": {"dimensions": {"concept": "eg:Cash"}, **column}}}}}
 
-    def in_group(**group):
+    def in_group(**group: Any) -> dict[str, Any]:
+        """The part of a module that has a property group."""
         cash = {"dimensions": {"concept": "eg:Cash"}, "propertiesFrom": ["k"]}
         return {"tableTemplates": {"t": {"columns": {"k": {"propertyGroups": {"g": group}}, "cash": cash}}}}
 
@@ -2007,13 +2053,13 @@ def parameters_in_other_letters(folder):
     makes(folder, "a parameters file that is the converter's fault", parts=unit, **broken)
 
 
-def heeding():
+def heeding() -> None:
     """A program that runs in the background may ignore some signals; one that is tested here does not."""
     for it in (signal.SIGTERM, signal.SIGINT, signal.SIGHUP):
         signal.signal(it, signal.SIG_DFL)
 
 
-def with_fake(folder):
+def with_fake(folder: Path) -> tuple[Path, Path, dict[str, str]]:
     """A folder with a report, a taxonomy, an empty TMPDIR, and a program in the place of xbrl-json."""
     temporary, fake = folder / "tmp", folder / "fake"
     temporary.mkdir()
@@ -2023,7 +2069,7 @@ def with_fake(folder):
     return temporary, fake, {"XBRL_JSON": str(fake), "TMPDIR": str(temporary)}
 
 
-def temporary_files(folder):
+def temporary_files(folder: Path) -> None:
     """The temporary folder: under TMPDIR, with links and not copies, gone at every end."""
     temporary, fake, settings = with_fake(folder)
     pack(folder / "r.zip", REPORT)
@@ -2069,7 +2115,7 @@ def temporary_files(folder):
     case("xbrl-json that is not there", (seen, os.listdir(temporary)), ((3, b"", "xbrl-filing: /nonexistent/x: cannot run (No such file or directory)\n"), []))
 
 
-def signals(folder):
+def signals(folder: Path) -> None:
     """Signals, while xbrl-json runs and while the report is read: nothing is left, and xbrl-json is told."""
     temporary, fake, settings = with_fake(folder)
     fake.write_text('#!/bin/sh\ntrap "echo stopped; exit 9" TERM INT HUP\necho ready\nwhile :; do sleep 0.02; done\n')
@@ -2118,12 +2164,13 @@ def signals(folder):
     case("a signal that the caller ignores", (done.returncode, os.listdir(temporary)), (7, []))
 
 
-def a_full_disk(folder):
+def a_full_disk(folder: Path) -> None:
     """Tables that cannot be unpacked: xbrl-json is not run, and the output is not touched."""
     temporary, _, _ = with_fake(folder)
     pack(folder / "big.zip", {"reports/report.json": REPORT["reports/report.json"], "reports/t.csv": b"x" * 200_000})
 
-    def limited():
+    def limited() -> None:
+        """Limits the size of files to 100,000 bytes, with the signal of that ignored."""
         signal.signal(signal.SIGXFSZ, signal.SIG_IGN)
         resource.setrlimit(resource.RLIMIT_FSIZE, (100_000, 100_000))
 
@@ -2140,7 +2187,7 @@ def a_full_disk(folder):
     case("a full disk: nothing is left", (os.listdir(temporary), (folder / "doc.json").exists()), ([], False))
 
 
-def what_cannot_be_read(folder):
+def what_cannot_be_read(folder: Path) -> None:
     """Files that the system refuses, files that are too large, and a fault of the program: one line each."""
     write(folder, {**{f"r/{it}": text for it, text in REPORT.items()}, **{f"t/{it}": text for it, text in TAXONOMY.items()}})
     folder.chmod(0o755)
@@ -2172,18 +2219,24 @@ def what_cannot_be_read(folder):
         packages.LARGEST_TEXT, command.find_report = kept
 
 
-def a_signal_between_two_steps(folder):
+def a_signal_between_two_steps(folder: Path) -> None:
     """A signal that comes while xbrl-json is being started is told to it, and one that comes while a folder is removed waits for that."""
-    seen = []
+    seen: list[subprocess.Popen[bytes]] = []
 
     class Started(subprocess.Popen):
-        def __init__(self, given, **more):
+        """A program that is started while a signal comes."""
+
+        def __init__(self, given: list[str], **more: Any) -> None:
+            """Starts it, and signals this process before anything else."""
             super().__init__(given, **more)
             seen.append(self)
             os.kill(os.getpid(), signal.SIGTERM)
 
     class Removing:
-        def rmtree(self, path, ignore_errors):
+        """What removes folders while a signal comes, in the place of `shutil`."""
+
+        def rmtree(self, path: str, ignore_errors: bool) -> None:
+            """Signals this process, and removes a folder."""
             os.kill(os.getpid(), signal.SIGTERM)
             shutil.rmtree(path, ignore_errors=ignore_errors)
 
@@ -2208,21 +2261,22 @@ def a_signal_between_two_steps(folder):
         heeding()
 
 
-def heeded():
+def heeded() -> stopping.Stopping:
     """What takes signals from now on."""
     made = stopping.Stopping()
     made.heed()
     return made
 
 
-def a_signal_at_each_step(folder):
+def a_signal_at_each_step(folder: Path) -> None:
     """A signal at each line of what starts, waits and removes: it ends the run, and nothing is left."""
     temporary, fake, _ = with_fake(folder)
     fake.write_text("#!/bin/sh\n")
     files = {module.__file__ for module in (command, stopping, contextlib)}
     ended, wrong, number, steps = [], [], 0, 0
 
-    def step(frame, *_):
+    def step(frame: FrameType, *_: Any) -> Callable[..., Any] | None:
+        """Counts a line of the files that are looked at, and signals this process at one of them."""
         nonlocal steps
         if frame.f_code.co_filename not in files:
             return None
@@ -2231,7 +2285,7 @@ def a_signal_at_each_step(folder):
             os.kill(os.getpid(), signal.SIGTERM)
         return step
 
-    def stepped():
+    def stepped() -> int:
         """The status of a run whose steps are counted; at one of them it is signalled."""
         nonlocal steps
         steps = 0
@@ -2264,7 +2318,7 @@ def a_signal_at_each_step(folder):
         heeding()
 
 
-def joined_of(folder, report, taxonomies=(TAXONOMY,)):
+def joined_of(folder: Path, report: Files, taxonomies: Sequence[Files] = (TAXONOMY,)) -> tuple[command.Origins, command.Files]:
     """Where the merged metadata of a filing comes from, and the filing's files."""
     labels = ["r"] + [f"t{number}" for number in range(len(taxonomies))]
     for label, files in zip(labels, [report, *taxonomies]):
@@ -2279,7 +2333,7 @@ def joined_of(folder, report, taxonomies=(TAXONOMY,)):
     return origins, files
 
 
-def filed_in_parts():
+def filed_in_parts() -> tuple[dict[str, str], list[dict[str, str]]]:
     """A report, a module and a file below it, each with parts of the merged metadata; the module has other prefixes than the report."""
     columns = {"cash": {"dimensions": {"g:Region": "m:x", "concept": "g:Cash"}}, "g": {"propertyGroups": {"a/b~c": {"dimensions": {"g:Branch": "y"}}}}}
     module = {
@@ -2329,7 +2383,7 @@ ORIGINS = {
 }
 
 
-def where_metadata_came_from(folder):
+def where_metadata_came_from(folder: Path) -> None:
     """A place of the merged metadata is told in the file that it came from, by what that file calls it."""
     origins, _ = joined_of(folder, *filed_in_parts())
     for pointer, wanted in ORIGINS.items():
@@ -2337,7 +2391,9 @@ def where_metadata_came_from(folder):
     case("the files in their order", origins.labels(), ["r/reports/report.json", "t0/reg/mod.json", "t0/reg/low.json"])
 
 
-def with_words(folder, said, words=(), status=1, report=None):
+def with_words(
+    folder: Path, said: str, words: Sequence[str] = (), status: int = 1, report: tuple[Files, Sequence[Files]] | None = None
+) -> tuple[int, str]:
     """Status and standard error of a run whose xbrl-json says this; `HOME` is the folder that it was given."""
     fake = folder / "fake"
     fake.write_text('#!/bin/sh\nHOME=$(dirname "$1")\ncat >&2 <<END\n' + said + f"END\nexit {status}\n")
@@ -2348,7 +2404,7 @@ def with_words(folder, said, words=(), status=1, report=None):
     return seen[0], seen[2]
 
 
-def lines_of_the_converter(folder):
+def lines_of_the_converter(folder: Path) -> None:
     """The lines of xbrl-json come through, with places and files by their names in the filing."""
     place, other = "/tableTemplates/t/columns/cash/dimensions/eg:Region", "t0/reg/mod.json: /tableTemplates/t/columns/cash/dimensions/g:Region"
     fault, why = "xbrl-json: report: BadDimension (11)\n", "no explicit or typed dimension of this name is in the types table\n"
@@ -2389,7 +2445,7 @@ def lines_of_the_converter(folder):
         case(f"byte for byte: {said[:30]!r}", (done.returncode, done.stderr), (0, said))
 
 
-def hearing_the_converter(folder):
+def hearing_the_converter(folder: Path) -> None:
     """Lines come as soon as they are said; many of them, and those of a program that is signalled or stays behind, keep nothing waiting."""
     report, taxonomies = filed_in_parts()
     joined_of(folder, report, taxonomies)
@@ -2397,7 +2453,8 @@ def hearing_the_converter(folder):
     settings = {**os.environ, "XBRL_JSON": str(fake)}
     fake.touch(0o755)
 
-    def begun():
+    def begun() -> subprocess.Popen[bytes]:
+        """A run that has been started, whose standard error is read here."""
         return subprocess.Popen([FILING, "r", "--taxonomy", "t0"], cwd=folder, env=settings, stderr=subprocess.PIPE, preexec_fn=heeding)
 
     fake.write_text("#!/bin/sh\necho ready >&2\nsleep 60\n")
@@ -2435,14 +2492,18 @@ def hearing_the_converter(folder):
     fake.write_text("#!/bin/sh\ntest -t 2 && printf '\\rhow far\\r\\033[K' >&2\n")
     status, shown = on_a_terminal(["r", "--taxonomy", "t0", "--progress"], folder, str(fake))
     case("progress on a terminal is the program's own", (status, shown.endswith(b"\rhow far\r\x1b[K")), (0, True))
-    seen = []
+    seen: list[subprocess.Popen[bytes]] = []
 
     class Heard(subprocess.Popen):
-        def __init__(self, *given, **more):
+        """A program that is kept where the case sees it."""
+
+        def __init__(self, *given: Any, **more: Any) -> None:
+            """Starts it, and keeps it."""
             super().__init__(*given, **more)
             seen.append(self)
 
-    def fails(_):
+    def fails(_: bytes) -> NoReturn:
+        """Hears what is said, and fails."""
         raise KeyError("a fault")
 
     kept = stopping.subprocess.Popen
@@ -2455,7 +2516,7 @@ def hearing_the_converter(folder):
         stopping.subprocess.Popen = kept
 
 
-def words(folder):
+def words(folder: Path) -> None:
     """The words, the help, and outputs that are inputs."""
     write(folder, {**{f"r/{it}": text for it, text in REPORT.items()}, **{f"t/{it}": text for it, text in TAXONOMY.items()}})
     pack(folder / "r.zip", REPORT)
@@ -2502,7 +2563,7 @@ def words(folder):
     case("an output that xbrl-json cannot make", seen, (3, b"", "xbrl-json: cannot write no/doc.json\n"))
 
 
-def several_packages(folder):
+def several_packages(folder: Path) -> None:
     """Several packages, progress on a terminal, names that are no text, and the same bytes for the same inputs."""
     write(folder, {**{f"r/{it}": text for it, text in REPORT.items()}, **{f"t/{it}": text for it, text in TAXONOMY.items()}})
     pack(folder / "r.zip", REPORT)
@@ -2537,7 +2598,7 @@ def several_packages(folder):
     case("give the same bytes too", listing(folder / "turned"), listing(folder / "same0"))
 
 
-def outputs_that_are_inputs(folder):
+def outputs_that_are_inputs(folder: Path) -> None:
     """--out, --prepare and --cache must not be what the run reads."""
     write(folder, {**{f"r/{it}": text for it, text in REPORT.items()}, **{f"t/{it}": text for it, text in TAXONOMY.items()}})
     pack(folder / "r.zip", REPORT)
@@ -2605,7 +2666,7 @@ def outputs_that_are_inputs(folder):
         case(f"a cache in the prepared folder, {cache}", (seen, (folder / "o").exists()), ((3, line), False))
 
 
-def folders_to_prepare(folder):
+def folders_to_prepare(folder: Path) -> None:
     """--prepare takes a new or an empty folder."""
     write(folder, {**{f"r/{it}": text for it, text in REPORT.items()}, **{f"t/{it}": text for it, text in TAXONOMY.items()}})
     (folder / "full").mkdir()
@@ -2640,7 +2701,8 @@ def folders_to_prepare(folder):
     (folder / "half").mkdir()
     kept, renamed = os.rename, []
 
-    def once(*given):
+    def once(*given: Any) -> None:
+        """Renames the first file, and finds the disk full at the second."""
         if renamed:
             raise OSError(errno.ENOSPC, os.strerror(errno.ENOSPC))
         renamed.append(given)
@@ -2656,7 +2718,8 @@ def folders_to_prepare(folder):
     (folder / "late").mkdir()
     kept = command.write_files
 
-    def and_meanwhile(*given, **more):
+    def and_meanwhile(*given: Any, **more: Any) -> None:
+        """Lets another one fill the folder, and writes the files then."""
         write(folder, {"late/meta.json": "of another"})
         kept(*given, **more)
 
@@ -2669,24 +2732,26 @@ def folders_to_prepare(folder):
     case("a folder that is filled meanwhile", (seen, listing(folder / "late")), ((3, line), {"meta.json": b"of another"}))
 
 
-def cached_runs(folder):
+def cached_runs(folder: Path) -> tuple[Callable[..., tuple[tuple[int, str], str | None]], Callable[[], list[str]]]:
     """A report and a taxonomy; what runs them with a cache, and what lists the cache."""
     write(folder / "t", TAXONOMY)
     write(folder / "r", REPORT)
     pack(folder / "t.zip", TAXONOMY)
 
-    def made(taxonomy="t", report="r", *more):
+    def made(taxonomy: str = "t", report: str = "r", *more: str) -> tuple[tuple[int, str], str | None]:
+        """Status and standard error of a run with the cache, and its types table where it is good."""
         shutil.rmtree(folder / "o", ignore_errors=True)
         seen = run([report, "--taxonomy", taxonomy, *more, "--cache", "c", "--prepare", "o"], folder)
         return seen, (folder / "o/types.csv").read_text() if seen[0] == 0 else None
 
-    def entries():
+    def entries() -> list[str]:
+        """The names of what the cache holds."""
         return sorted(it.name for it in (folder / "c").iterdir())
 
     return made, entries
 
 
-def caching(folder):
+def caching(folder: Path) -> None:
     """A cache is known by contents alone, and never changes what is made."""
     made, entries = cached_runs(folder)
     case("the first run", made(), ((0, ""), TYPES))
@@ -2717,7 +2782,7 @@ def caching(folder):
         case(f"a damaged entry {damage[:20]!r}", made(), ((0, ""), TYPES))
 
 
-def refusals_of_the_cache(folder):
+def refusals_of_the_cache(folder: Path) -> None:
     """What is refused by what the schemas say is refused from the cache too."""
     write(folder / "t", {**TAXONOMY, "reg/mod.json": meta(INFO, dimensions={"concept": "eg:T"}), "reg/mod.xsd": schema(headed("T xbrli:tuple"))})
     write(folder / "r", REPORT)
@@ -2727,7 +2792,7 @@ def refusals_of_the_cache(folder):
         case(f"a tuple, {turn} run", (seen, len(os.listdir(folder / "c"))), ((1, line), 1))
 
 
-def keys_of_the_cache(folder):
+def keys_of_the_cache(folder: Path) -> None:
     """What the cache is known by: contents, entry points, the order of packages and the program's own text."""
     made, entries = cached_runs(folder)
     made()
@@ -2759,18 +2824,20 @@ def keys_of_the_cache(folder):
     case("the order of packages counts", [made("t", "r", "t3")[1], made("t3", "r", "t")[1]], [records("Two,text"), records("Three,text")])
 
 
-def what_changes_meanwhile(folder):
+def what_changes_meanwhile(folder: Path) -> None:
     """Packages that are changed while they are read: what is kept of them is never taken for what they hold then."""
     made, entries = cached_runs(folder)
     reader, key_of = command.read_schemas, command.key_of
     other = {**TAXONOMY, "reg/mod.xsd": schema(ELEMENTS.replace("Note", "Nope"))}
 
-    def and_then_changed(*given):
+    def and_then_changed(*given: Any) -> Any:
+        """Reads the schemas, and changes the folder."""
         declared = reader(*given)
         write(folder / "t", other)
         return declared
 
-    def changed_first(*given):
+    def changed_first(*given: Any) -> Any:
+        """Replaces the ZIP, and gives the key."""
         pack(folder / "new.zip", other)
         os.replace(folder / "new.zip", folder / "t.zip")
         return key_of(*given)
@@ -2822,7 +2889,7 @@ def what_changes_meanwhile(folder):
     case("no name runs into the next", len({packages.FolderPackage(str(folder / it)).digest() for it in "pq"}), 2)
 
 
-def digests_of_contents(folder):
+def digests_of_contents(folder: Path) -> None:
     """The digest of a file is that of the digests of its blocks, on any number of threads."""
     texts = [b"", b"a", b"abcdef", b"abcdefg", b"abcdefgh", b"abcdefgabcdefg", b"abcdefgabcdefgh", b"x" * 70]
     write(folder, {str(number): text for number, text in enumerate(texts)})
@@ -2830,9 +2897,9 @@ def digests_of_contents(folder):
     own = digests.digest_of
     wanted = [own(b"".join(own(text[at : at + 7]) for at in range(0, len(text) or 1, 7))) for text in texts]
     kept = digests.BLOCK, digests.processors, digests.Thread, digests.Blocks.digest
-    workers = set()
+    workers: set[int] = set()
 
-    def together(blocks, *place):
+    def together(blocks: digests.Blocks, *place: Any) -> bytes:
         """The first block of each thread waits for those of all others."""
         if threading.get_ident() not in workers:
             workers.add(threading.get_ident())
@@ -2840,7 +2907,10 @@ def digests_of_contents(folder):
         return kept[3](blocks, *place)
 
     class NoThread(threading.Thread):
-        def start(self):
+        """A thread that does not start."""
+
+        def start(self) -> None:
+            """Fails as a system does that gives no threads."""
             raise RuntimeError("can't start new thread")
 
     try:
@@ -2867,13 +2937,14 @@ def digests_of_contents(folder):
     case("a file that has grown a little counts as it is", digests.digests_of([files[3]._replace(size=1)]), digests.digests_of(files[3:4]))
 
 
-def digests_that_fail(folder):
+def digests_that_fail(folder: Path) -> None:
     """Of several failures the first is told, in the order of the files; a signal ends the work of all threads."""
     names = ["a", "b", "c", "d"]
     write(folder, {"a": "1", "c": "1"})
     files = [digests.contents_of_disk(str(folder / it), 1, it) for it in names] * 20
 
-    def seen(number):
+    def seen(number: int) -> list[bytes] | tuple[int, str] | type[BaseException]:
+        """The digests on so many processors, or the failure that is told."""
         digests.processors = lambda: number
         try:
             return digests.digests_of(files)
@@ -2885,7 +2956,8 @@ def digests_that_fail(folder):
     kept, digest = digests.processors, digests.Blocks.digest
     main_thread = threading.get_ident()
 
-    def signalled(blocks, *place):
+    def signalled(blocks: digests.Blocks, *place: Any) -> bytes:
+        """Counts a block; one of the main thread signals this process."""
         if threading.get_ident() == main_thread:
             os.kill(os.getpid(), signal.SIGTERM)
         done.append(place)
@@ -2905,7 +2977,7 @@ def digests_that_fail(folder):
         heeding()
 
 
-def what_is_not_kept(folder):
+def what_is_not_kept(folder: Path) -> None:
     """The report's own schemas are not kept, nor a taxonomy that is refused."""
     made, entries = cached_runs(folder)
     made()
@@ -2928,7 +3000,7 @@ def what_is_not_kept(folder):
     case("a cache that is a file", (seen, (folder / "o").exists()), ((3, "xbrl-filing: file: cannot write (File exists)\n"), False))
 
 
-def caches_of_several_runs(folder):
+def caches_of_several_runs(folder: Path) -> None:
     """Several runs at once, another program, and prefixes that are replaced by what was kept."""
     made, entries = cached_runs(folder)
     runs = [
@@ -2958,7 +3030,7 @@ def caches_of_several_runs(folder):
         )
 
 
-def a_large_taxonomy(folder):
+def a_large_taxonomy(folder: Path) -> None:
     """20,000 concepts behind a linkbase, in seconds, and at once from the cache."""
     body = "".join(item(f"C{it:05}", "eg:T", 'id="x" nillable="true"') for it in range(20_000))
     files = {**TAXONOMY, "reg/mod.xsd": schema(loc("l.xml", "linkbaseRef")), "reg/d.xsd": schema(body + derived("T", "xbrli:monetaryItemType"))}
@@ -2977,7 +3049,7 @@ def a_large_taxonomy(folder):
     case("20,000 concepts on a terminal", (status, b"xbrl-filing: reading the taxonomy: 3 files, " in shown, shown.endswith(b"\r\x1b[K")), (0, True, True))
 
 
-def long_chains(length):
+def long_chains(length: int) -> Iterator[tuple[str, str, str]]:
     """Schemas in which each of many elements or types rests on the next, to the last; and the kind that all of them have."""
     dated = 'type="xbrli:dateItemType"'
     yield "H", "".join(headed(f"H{it} {f'eg:H{it + 1}' if it < length - 1 else 'xbrli:item'}", more=dated) for it in range(length)), "date"
@@ -2987,7 +3059,7 @@ def long_chains(length):
     yield "N", "".join(headed(f"N{it} eg:N{it + 1}") for it in range(length - 1)) + item(f"N{length - 1}", "xbrli:dateItemType"), "date"
 
 
-def endless_schemas(folder):
+def endless_schemas(folder: Path) -> None:
     """What would take all memory or all time: names, bases and tags that grow, many start strings. One line each, and soon."""
     deep, long = 100_000, "y" * (17 << 20)
     grows = '<a xml:base="aaaaaaaaa/">' * deep + "</a>" * deep
@@ -3047,7 +3119,7 @@ def endless_schemas(folder):
     case("many start strings and many files: soon", worked() - begun < 20, True)
 
 
-def a_long_schema(folder):
+def a_long_schema(folder: Path) -> None:
     """A schema of 64 MB is read as a stream, out of a ZIP and out of a folder."""
     comment = "<!--" + "x" * (1 << 16) + "-->"
     files = {**TAXONOMY, "reg/mod.xsd": schema(ELEMENTS + comment * 1024)}
@@ -3129,7 +3201,8 @@ PARTS = (
 )
 
 
-def main():
+def main() -> None:
+    """Runs all parts, each in a folder of its own, and ends with status 1 where a case failed."""
     for part in PARTS:
         with tempfile.TemporaryDirectory() as folder:
             part(Path(folder).resolve())
