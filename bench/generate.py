@@ -26,9 +26,12 @@ the report; each row has a typed key, and one column has all values.
 
 The shape `wide` has the template of 200 columns of `mixed` alone.
 """
+from __future__ import annotations
+
 import argparse
 import json
 from pathlib import Path
+from typing import Any, Callable, Tuple
 
 NAMESPACE = "https://example.org/bench"
 TYPES = """namespace,name,type
@@ -50,15 +53,22 @@ REMARKS = ["", "settled", "awaiting the broker's reply", "\"urgent\", see page 3
 class Numbers:
     """A linear congruential generator of 64 bits, so that no version of Python changes the bytes."""
 
-    def __init__(self, seed):
+    def __init__(self, seed: int) -> None:
+        """Numbers that follow from a seed."""
         self.state = seed
 
-    def below(self, n):
+    def below(self, n: int) -> int:
+        """The next number, which is less than n."""
         self.state = (self.state * 6364136223846793005 + 1442695040888963407) % 2**64
         return (self.state >> 33) % n
 
 
-def metadata(tables, row_ids):
+# What makes the line of a row from its number, and counts its facts.
+RowOf = Callable[[Numbers, int], Tuple[str, int]]
+
+
+def metadata(tables: list[str], row_ids: bool) -> dict[str, Any]:
+    """The metadata of the shape `positions`."""
     group = lambda unit, decimals: {"dimensions": {"unit": unit}, "decimals": decimals}
     columns = {
         "period": {},
@@ -111,7 +121,7 @@ https://example.org/bench,Line,explicit
 """
 
 
-def mixed_metadata(tables, is_wide=False):
+def mixed_metadata(tables: list[str], is_wide: bool = False) -> dict[str, Any]:
     """The metadata of the shape `mixed`, or `wide`."""
     group = lambda unit, decimals: {"dimensions": {"unit": unit}, "decimals": decimals}
     groups = {"gross": group("iso4217:EUR", 2), "net": group("iso4217:DKK", 0), "ceded": group("iso4217:SEK", -3)}
@@ -140,7 +150,8 @@ def mixed_metadata(tables, is_wide=False):
     return report
 
 
-def description(numbers):
+def description(numbers: Numbers) -> str:
+    """A text of some 10 to 80 characters, with quotes now and then."""
     text = WORDS[numbers.below(len(WORDS))]
     length = 10 + numbers.below(71)
     while len(text) < length:
@@ -148,13 +159,14 @@ def description(numbers):
     return text[:length].rstrip() or "none"
 
 
-def now_and_then(numbers, text):
+def now_and_then(numbers: Numbers, text: str) -> str:
     """The text, and now and then nil or nothing."""
     chance = numbers.below(20)
     return "#nil" if chance == 0 else "" if chance == 1 else text
 
 
-def lines_row(numbers, n):
+def lines_row(numbers: Numbers, n: int) -> tuple[str, int]:
+    """A row's line of the shape `mixed`, and how many facts it has."""
     amount = numbers.below(10**9)
     cells = [
         f"{n:x}-{numbers.below(10**6)}",
@@ -172,7 +184,8 @@ def lines_row(numbers, n):
     return ",".join(map(cell, cells)) + "\n", facts
 
 
-def wide_row(numbers, n):
+def wide_row(numbers: Numbers, n: int) -> tuple[str, int]:
+    """A row's line of the template of 200 columns, and how many facts it has."""
     counts = [now_and_then(numbers, str(numbers.below(10**5))) for _ in range(WIDE)]
     cells = [f"{n:x}-{numbers.below(10**6)}", "b:" + REGIONS[numbers.below(len(REGIONS))], *counts]
     return ",".join(cells) + "\n", sum(1 for c in counts if c != "")
@@ -190,7 +203,8 @@ https://example.org/bench,Author,typed
 """
 
 
-def texts_metadata(tables):
+def texts_metadata(tables: list[str]) -> dict[str, Any]:
+    """The metadata of the shape `texts`."""
     report = metadata(tables, False)
     group = lambda unit, decimals: {"dimensions": {"unit": unit}, "decimals": decimals}
     columns = {
@@ -213,7 +227,7 @@ def texts_metadata(tables):
     return report
 
 
-def said(numbers, least, most):
+def said(numbers: Numbers, least: int, most: int) -> str:
     """A text of so many characters, with commas and quotes now and then."""
     words, length, wanted = [], 0, least + numbers.below(most - least + 1)
     while length < wanted:
@@ -224,7 +238,8 @@ def said(numbers, least, most):
     return " ".join(words)
 
 
-def texts_row(numbers, n):
+def texts_row(numbers: Numbers, n: int) -> tuple[str, int]:
+    """A row's line of the shape `texts`, and how many facts it has."""
     amount = numbers.below(10**9)
     cells = [
         f"Ü{n:x}-{numbers.below(10**6)}",
@@ -260,14 +275,15 @@ POINT_CONCEPTS = [
 ]
 
 
-def data_point(n):
+def data_point(n: int) -> dict[str, Any]:
     """The property group of the data point n."""
     concept, unit, decimals = POINT_CONCEPTS[n % 3]
     members = {"b:Base": f"b:x{n % BASES}", "b:Region": f"b:r{n // BASES}"}
     return {"dimensions": {"concept": concept, **members, "unit": unit}, "decimals": decimals}
 
 
-def datapoints_metadata(tables):
+def datapoints_metadata(tables: list[str]) -> dict[str, Any]:
+    """The metadata of the shape `datapoints`."""
     report = metadata(tables, False)
     report["parameters"] = {
         "entityID": "e:BANK-1",
@@ -289,18 +305,20 @@ def datapoints_metadata(tables):
     return report
 
 
-def datapoint_row(numbers, n):
+def datapoint_row(numbers: Numbers, n: int) -> tuple[str, int]:
+    """A row's line of the shape `datapoints`, and how many facts it has."""
     point = n * STRIDE % POINTS
     amount = numbers.below(10**9)
     value = [f"{amount // 100}.{amount % 100:02}", str(amount // 1000), f"0.{amount % 10**6:06}"][point % 3]
     return f"dp{point:06},K{numbers.below(50000):05},{value}\n", 1
 
 
-def cell(text):
+def cell(text: str) -> str:
+    """A text as a cell, in quotes where it needs them."""
     return '"' + text.replace('"', '""') + '"' if any(c in text for c in '",\n') else text
 
 
-def row(numbers, n, row_ids):
+def row(numbers: Numbers, n: int, row_ids: bool) -> tuple[str, int]:
     """A row's line, and how many facts it has."""
     amount = numbers.below(10**11)
     price = numbers.below(10**6)
@@ -322,7 +340,8 @@ def row(numbers, n, row_ids):
     return ",".join(map(cell, cells)) + "\n", 4 if remark == "" else 5
 
 
-def write_table(path, numbers, size, header, row_of):
+def write_table(path: Path, numbers: Numbers, size: float, header: str, row_of: RowOf) -> dict[str, int]:
+    """Writes a table of at least so many bytes, and gives its bytes, rows and facts."""
     written, rows, facts = len(header), 0, 0
     with open(path, "wb") as file:
         file.write(header.encode())
@@ -334,7 +353,7 @@ def write_table(path, numbers, size, header, row_of):
     return {"bytes": written, "rows": rows, "facts": facts}
 
 
-def forms(options, tables):
+def forms(options: argparse.Namespace, tables: list[str]) -> tuple[dict[str, Any], str, list[tuple[str, RowOf]]]:
     """The metadata, the types table, and for each table its header and its rows."""
     if options.shape in ("mixed", "wide"):
         report = mixed_metadata(tables, options.shape == "wide")
@@ -352,7 +371,7 @@ def forms(options, tables):
     return metadata(tables, options.row_ids), TYPES, [(header, lambda numbers, n: row(numbers, n, options.row_ids))] * len(tables)
 
 
-def shares_of(options):
+def shares_of(options: argparse.Namespace) -> list[float]:
     """How many bytes each table has."""
     whole = options.megabytes * 1e6
     if options.largest is None:
@@ -363,7 +382,8 @@ def shares_of(options):
     return shares
 
 
-def main():
+def main() -> None:
+    """Writes the report that the command line asks for, and prints its size."""
     parser = argparse.ArgumentParser(description=__doc__, formatter_class=argparse.RawDescriptionHelpFormatter)
     parser.add_argument("folder", type=Path)
     parser.add_argument("--shape", choices=["positions", "mixed", "texts", "datapoints", "wide"], default="positions")

@@ -8,11 +8,14 @@ The taxonomy is made as supervisors make theirs: a dictionary of concepts, dimen
 elements each, which the module's schema reaches through the definition linkbases of its tables alone. Tables are added until
 there are as many megabytes (of 1,000,000 bytes) as asked for; some two thirds of them are linkbases, and the rest is schemas.
 """
+from __future__ import annotations
+
 import argparse
 import json
 import os
 import zipfile
 from pathlib import Path
+from typing import Any
 
 HOST = "https://bench.example/"
 XML = '<?xml version="1.0" encoding="UTF-8"?>\n'
@@ -27,7 +30,7 @@ DATES = 'model:creationDate="2015-07-31" model:fromDate="2014-12-31" nillable="t
 BLOCK = 2000
 
 
-def element(kind, number):
+def element(kind: str, number: int) -> str:
     """The element of a concept, a dimension or a member."""
     front = f'  <xs:element name="{kind}{number}" id="bench_{kind}{number}" '
     if kind == "dim":
@@ -37,12 +40,13 @@ def element(kind, number):
     return front + f'type="{TYPES[number % len(TYPES)]}" substitutionGroup="xbrli:item" xbrli:periodType="instant" {DATES}/>\n'
 
 
-def schema(kind, first, last):
+def schema(kind: str, first: int, last: int) -> str:
+    """The schema of the elements of a kind from one number up to another, which is left out."""
     elements = "".join(element(kind, it) for it in range(first, last))
     return f'{XML}<xs:schema {NAMESPACES} targetNamespace="{HOST}dict/{kind}" elementFormDefault="qualified">\n{INSTANCE}{elements}</xs:schema>\n'
 
 
-def linkbase(table, counts):
+def linkbase(table: int, counts: dict[str, int]) -> str:
     """A table's definition linkbase: it names 400 elements of the dictionary, and ties each to the one before."""
     out = [f'{XML}<link:linkbase xmlns:link="http://www.xbrl.org/2003/linkbase" xmlns:xlink="http://www.w3.org/1999/xlink">\n']
     out.append('  <link:definitionLink xlink:type="extended" xlink:role="http://www.xbrl.org/2003/role/link">\n')
@@ -57,7 +61,7 @@ def linkbase(table, counts):
     return "".join(out + ["  </link:definitionLink>\n</link:linkbase>\n"])
 
 
-def module(tables):
+def module(tables: int) -> str:
     """The module's schema, which has the linkbases of all tables and no concept."""
     role = "http://www.xbrl.org/2003/role/definitionLinkbaseRef"
     refs = "".join(f'      <link:linkbaseRef xlink:type="simple" xlink:href="tab/t{it}-def.xml" xlink:role="{role}"/>\n' for it in range(tables))
@@ -65,7 +69,8 @@ def module(tables):
     return f"{front}  <xs:annotation>\n    <xs:appinfo>\n{refs}    </xs:appinfo>\n  </xs:annotation>\n{INSTANCE}</xs:schema>\n"
 
 
-def metadata():
+def metadata() -> dict[str, Any]:
+    """The metadata that the reports extend: one table, whose property groups are 2,000 data points."""
     groups = {f"dp{it}": {"dimensions": {"concept": f"met:met{it * 5}", "dim:dim1": f"mem:mem{it}", "unit": "$currency"}, "decimals": 0} for it in range(2000)}
     return {
         "documentInfo": {
@@ -79,7 +84,8 @@ def metadata():
     }
 
 
-def report(folder, first):
+def report(folder: Path, first: int) -> None:
+    """Writes a report whose table begins with the data point of this number."""
     (folder / "reports").mkdir(parents=True)
     info = {"documentType": "https://xbrl.org/2021/xbrl-csv", "extends": [f"{HOST}mod/mod.json"]}
     parameters = {"currency": "iso4217:EUR", "period": "2025"}
@@ -87,11 +93,12 @@ def report(folder, first):
     (folder / "reports/t.csv").write_text("datapoint,factValue\n" + "".join(f"dp{it},{it * first}\n" for it in range(first, 1000)))
 
 
-def taxonomy(folder, bytes_wanted, concepts):
+def taxonomy(folder: Path, bytes_wanted: int, concepts: int) -> tuple[int, int]:
     """Writes the taxonomy, and answers how many files and bytes it has."""
     written = files = 0
 
-    def put(path, text):
+    def put(path: str, text: str) -> None:
+        """Writes a file of the taxonomy, and counts it."""
         nonlocal written, files
         (folder / path).parent.mkdir(parents=True, exist_ok=True)
         written += (folder / path).write_bytes(text.encode())
@@ -111,7 +118,8 @@ def taxonomy(folder, bytes_wanted, concepts):
     return files, written
 
 
-def main():
+def main() -> None:
+    """Writes what the command line asks for, and prints its size."""
     parser = argparse.ArgumentParser(description=__doc__, formatter_class=argparse.RawDescriptionHelpFormatter)
     parser.add_argument("folder", type=Path)
     parser.add_argument("--megabytes", type=int, default=200)

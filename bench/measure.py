@@ -15,6 +15,8 @@ largest resident memory that the system saw for the process in any round. With -
 fact (and of them those of the thread that writes) with valgrind, on the small report in the folder SMALL, since counting is
 slow. Needs Linux and GNU time (/usr/bin/time), and valgrind to count.
 """
+from __future__ import annotations
+
 import argparse
 import glob
 import hashlib
@@ -32,7 +34,7 @@ from pathlib import Path
 MARK = "plain Rust"
 
 
-def timed(command, sink):
+def timed(command: list[str], sink: str) -> tuple[float, float, int]:
     """Clock seconds, processor seconds and the largest resident KiB of one run.
 
     GNU time starts the run, since a process that Python itself starts is charged with Python's memory.
@@ -48,7 +50,7 @@ def timed(command, sink):
     return seconds, float(user) + float(system), int(peak)
 
 
-def document(command):
+def document(command: list[str]) -> tuple[str, int]:
     """The hash and the length of what a run writes."""
     digest, length = hashlib.sha256(), 0
     with subprocess.Popen(command, stdin=subprocess.DEVNULL, stdout=subprocess.PIPE) as process:
@@ -60,14 +62,16 @@ def document(command):
     return digest.hexdigest(), length
 
 
-def processor():
+def processor() -> str:
+    """The name of the machine's processor."""
     for line in Path("/proc/cpuinfo").read_text().splitlines():
         if line.startswith("model name"):
             return line.split(":", 1)[1].strip()
     return platform.machine()
 
 
-def words():
+def words() -> argparse.Namespace:
+    """What the command line asks for."""
     parser = argparse.ArgumentParser(description=__doc__, formatter_class=argparse.RawDescriptionHelpFormatter)
     parser.add_argument("program")
     parser.add_argument("folder", type=Path)
@@ -80,11 +84,11 @@ def words():
     return parser.parse_args()
 
 
-def commands(options, folder):
+def commands(options: argparse.Namespace, folder: Path) -> dict[str, list[str]]:
     """The converters to measure, by the name of their line."""
     report = [str(folder / "meta.json"), "--types", str(folder / "types.csv")]
     ring = ["--ring", options.ring] if options.ring else []
-    runs = {}
+    runs: dict[str, list[str]] = {}
     for workers in options.workers.split(","):
         runs[f"{workers} worker{'s' if workers != '1' else ''}"] = [os.path.abspath(options.program), *report, "--workers", workers, *ring]
     if options.mark:
@@ -92,7 +96,7 @@ def commands(options, folder):
     return runs
 
 
-def same_document(runs):
+def same_document(runs: dict[str, list[str]]) -> int:
     """The length of the document, which every run must write alike."""
     documents = {name: document(command) for name, command in runs.items()}
     if len(set(documents.values())) != 1:
@@ -100,19 +104,19 @@ def same_document(runs):
     return next(iter(documents.values()))[1]
 
 
-def counted(command, facts):
+def counted(command: list[str], facts: int) -> float:
     """Instructions a fact, by callgrind: of all threads together."""
     with tempfile.TemporaryDirectory() as folder:
         named = f"--callgrind-out-file={folder}/out"
         subprocess.run(["valgrind", "--tool=callgrind", "--quiet", "--separate-threads=yes", named, *command], stdin=subprocess.DEVNULL, stdout=subprocess.DEVNULL, check=True)
-        totals = []
+        totals: list[int] = []
         for file in glob.glob(f"{folder}/out*"):
             lines = [line for line in Path(file).read_text(errors="replace").splitlines() if line.startswith(("totals:", "summary:"))]
             totals += [int(line.split()[1]) for line in lines[-1:]]
     return sum(totals) / facts
 
 
-def instructions(options):
+def instructions(options: argparse.Namespace) -> None:
     """A table of instructions a fact on the small report, with one worker."""
     sizes = json.loads((options.count / "sizes.json").read_text())
     runs = {name: command for name, command in commands(options, options.count).items() if name in ("1 worker", MARK)}
@@ -122,14 +126,15 @@ def instructions(options):
         print(f"| {name} | {each:,.0f} | {each / seen[MARK]:.2f} |" if MARK in seen else f"| {name} | {each:,.0f} | |")
 
 
-def main():
+def main() -> None:
+    """Measures the runs that the command line asks for, and prints the table."""
     options = words()
     sizes = json.loads((options.folder / "sizes.json").read_text())
     tables = [str(options.folder / f"t{i:02}.csv") for i in range(1, sizes["tables"] + 1)]
     runs = commands(options, options.folder)
     length = same_document(runs)
     runs = {"`cat` of the tables": ["cat", *tables], **runs}
-    rounds = {name: [] for name in runs}
+    rounds: dict[str, list[tuple[float, float, int]]] = {name: [] for name in runs}
     for _ in range(options.rounds):
         for name, command in runs.items():
             rounds[name].append(timed(command, options.out))

@@ -11,6 +11,8 @@ run in its case.json, where that run is to end with status 0.
 Prints a line for each report: its rows that went the plain way, and its name. The status is 1 where there is such a row. PROGRAM must have
 the names of its functions, as a program that was built here has and dist/xbrl-json has not. Needs Linux and valgrind.
 """
+from __future__ import annotations
+
 import argparse
 import json
 import re
@@ -18,13 +20,14 @@ import subprocess
 import sys
 import tempfile
 from pathlib import Path
+from typing import Iterator
 
 HERE = Path(__file__).resolve().parent
 PLAIN_WAY = "oim_decode::table::plain_rows::PlainRows::put_row"
-SHAPES = {"positions": [], "positions with identifiers": ["--row-ids"], "mixed": [], "texts": [], "datapoints": []}
+SHAPES: dict[str, list[str]] = {"positions": [], "positions with identifiers": ["--row-ids"], "mixed": [], "texts": [], "datapoints": []}
 
 
-def plain_rows(program, folder, words):
+def plain_rows(program: Path, folder: Path, words: list[str]) -> int | None:
     """The rows of a report that went the plain way, or None where the run failed."""
     with tempfile.TemporaryDirectory() as out:
         counts = Path(out) / "counts"
@@ -33,7 +36,7 @@ def plain_rows(program, folder, words):
         return calls(counts.read_text(errors="replace")) if done.returncode == 0 else None
 
 
-def calls(counts):
+def calls(counts: str) -> int:
     """How often a file of counts says that the plain way was called."""
     names, called, total = {}, "", 0
     for line in counts.splitlines():
@@ -47,7 +50,7 @@ def calls(counts):
     return total
 
 
-def words_of(folder):
+def words_of(folder: Path) -> list[str] | None:
     """The words that convert a report, or None where it has a fault."""
     case = folder / "case.json"
     if not case.exists():
@@ -56,7 +59,7 @@ def words_of(folder):
     return told["runs"][0] if told["status"] == 0 else None
 
 
-def generated(folder):
+def generated(folder: str) -> Iterator[tuple[str, Path]]:
     """A small report of each shape: its name and its folder."""
     for i, (name, more) in enumerate(SHAPES.items()):
         made = Path(folder) / str(i)
@@ -65,13 +68,15 @@ def generated(folder):
         yield name, made
 
 
-def reports(options, folder):
+def reports(options: argparse.Namespace, folder: str) -> Iterator[tuple[str, Path]]:
+    """The reports to look at: those of the shapes, and those of the command line."""
     yield from generated(folder)
     for each in options.folders:
         yield str(each), each
 
 
-def main():
+def main() -> None:
+    """Prints a line for each report, and ends with status 1 where a row went the plain way."""
     parser = argparse.ArgumentParser(description=__doc__, formatter_class=argparse.RawDescriptionHelpFormatter)
     parser.add_argument("program", type=Path)
     parser.add_argument("folders", nargs="*", type=Path, metavar="FOLDER")
