@@ -27,6 +27,7 @@ class Package(ABC):
     """Files by their names, which are relative to the package's root and have slashes between their segments."""
 
     def __init__(self, label: str) -> None:
+        """A package that lines call by this label, whose root is its top until another one is found."""
         self.label = label
         self.root = ""
 
@@ -88,6 +89,7 @@ class ZipPackage(Package):
     """A package that is a ZIP file."""
 
     def __init__(self, label: str, limit: int) -> None:
+        """Opens a ZIP and checks its entries; one that unpacks to more bytes than the limit is refused."""
         super().__init__(label)
         with damage_told(label):
             self.file = open(label, "rb")
@@ -97,9 +99,11 @@ class ZipPackage(Package):
         self.find_root()
 
     def has(self, name: str) -> bool:
+        """Whether the ZIP has an entry of this name that is a file. None leads outside: such entries were refused."""
         return self.root + name in self.files
 
     def pieces(self, name: str) -> Iterator[bytes]:
+        """The unpacked bytes of an entry, piece by piece; damage is told in one line."""
         entry = self.files[self.root + name]
         read = 0
         with damage_told(self.shown(name)):
@@ -111,9 +115,11 @@ class ZipPackage(Package):
                 raise zipfile.BadZipFile("it ends too early")
 
     def children(self, folder: str) -> Tuple[List[str], List[str]]:
+        """The names of the files and of the folders in a folder of the ZIP, in order."""
         return self.listing.children((self.root + folder).rstrip("/"))
 
     def files_below(self, folder: str) -> Iterator[str]:
+        """The names of the entries below a folder, but for the folders, in order."""
         return (it[len(self.root) :] for it in self.listing.below(self.root + folder))
 
     def digest(self) -> bytes:
@@ -126,21 +132,26 @@ class FolderPackage(Package):
     """A package that is unpacked. No name leads out of its folder, by `..` or by a link."""
 
     def __init__(self, label: str) -> None:
+        """A folder by its path, which lines call it by too."""
         super().__init__(label)
         self.top = os.path.realpath(label)
         self.find_root()
 
     def has(self, name: str) -> bool:
+        """Whether an ordinary file has this name, or a link that leads to one."""
         return stat.S_ISREG(mode_of(self.disk(name), self.shown(name)) or 0)
 
     def pieces(self, name: str) -> Iterator[bytes]:
+        """The bytes of a file of the folder, piece by piece."""
         return pieces_of_disk(self.path_on_disk(name), self.shown(name))
 
     def children(self, folder: str) -> Tuple[List[str], List[str]]:
+        """The names of what is no folder and of the folders in a folder, in order; a link to a folder is one."""
         found = entries_of(self.disk(folder), self.shown(folder))
         return [it.name for it in found if not it.is_dir()], [it.name for it in found if it.is_dir()]
 
     def files_below(self, folder: str) -> Iterator[str]:
+        """The names of what stands below a folder, but for the folders, in order. Links are not followed."""
         return (name[len(self.root) :] for name, _ in self.all_entries(self.root + folder))
 
     def identity(self, name: str) -> object:
@@ -200,34 +211,43 @@ class Beside(Package):
     """The files beside a metadata file that stands by itself."""
 
     def __init__(self, label: str) -> None:
+        """The files of the folder in which this metadata file stands; none has been read."""
         super().__init__(label)
         self.folder = os.path.dirname(label)
         self.read: Dict[str, None] = {}
 
     def has(self, name: str) -> bool:
+        """Whether anything but a folder has this name."""
         mode = mode_of(self.shown(name), self.shown(name))
         return mode is not None and not stat.S_ISDIR(mode)
 
     def pieces(self, name: str) -> Iterator[bytes]:
+        """The bytes of a file, piece by piece. From now on it is one that was read."""
         self.read[name] = None
         return pieces_of_disk(self.shown(name), self.shown(name))
 
     def names_read(self) -> Iterable[str]:
+        """The names of the files that have been read, in that order."""
         return self.read
 
     def children(self, folder: str) -> Tuple[List[str], List[str]]:
+        """Nothing: what stands beside a metadata file is found by its name alone."""
         return [], []
 
     def files_below(self, folder: str) -> Iterator[str]:
+        """Nothing, as with `children`."""
         return iter(())
 
     def digest(self) -> bytes:
+        """There is none: what stands beside a metadata file is not all its own."""
         raise NotImplementedError
 
     def shown(self, name: str) -> str:
+        """The path of a file, as the metadata file was given."""
         return os.path.join(self.folder, name)
 
     def path_on_disk(self, name: str) -> Optional[str]:
+        """The whole path of a file, whatever folder the program is in later."""
         return os.path.abspath(self.shown(name))
 
 
