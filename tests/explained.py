@@ -37,6 +37,7 @@ CASH = ("tableTemplates", "p", "columns", "cash")
 AT_CASH = "/tableTemplates/p/columns/cash"
 LONG = "x" * 81
 UNKNOWN = "no explicit or typed dimension of this name is in the types table"
+NO_PATH = "is not a plain relative path: parts between slashes, none of them empty, . or .., and no % : ? # or backslash"
 NO_REFERENCE = "this is no reference: behind $ stands the name of a column or parameter"
 
 # Of the metadata: the keys of a place, what is put there (None: it is taken out), the fault, and the three lines.
@@ -52,7 +53,7 @@ METADATA: List[Tuple[Place, Any, str, str, str, str]] = [
         "http://example.com/eg",
         "BadNamespaces (3)",
         "/documentInfo/namespaces",
-        "(an object of 3)",
+        '"eg" and "eh": "http://example.com/eg"',
         "two of the prefixes have one URI",
     ),
     (("documentInfo", "taxonomy"), None, "BadTaxonomy (4)", "/documentInfo/taxonomy", "(nothing)", "taxonomy is missing"),
@@ -84,7 +85,7 @@ METADATA: List[Tuple[Place, Any, str, str, str, str]] = [
         "this name is not an identifier (a name without colon and point)",
     ),
     (("tables", "t1", "url"), None, "BadTemplate (7)", "/tables/t1/url", "(nothing)", "url is missing"),
-    (("tables", "t1", "url"), "../t1.csv", "BadTemplate (7)", "/tables/t1/url", '"../t1.csv"', "url is not a plain relative path"),
+    (("tables", "t1", "url"), "../t1.csv", "BadTemplate (7)", "/tables/t1/url", '"../t1.csv"', f"url {NO_PATH}"),
     (("tables", "t1", "template"), 7, "BadTemplate (7)", "/tables/t1/template", "7", "this is not a text"),
     (("tables", "t1", "optional"), "yes", "BadTemplate (7)", "/tables/t1/optional", '"yes"', "this is neither true nor false"),
     (("tables",), [], "BadTemplate (7)", "/tables", "(a list of 0)", "this is not an object"),
@@ -147,7 +148,7 @@ METADATA: List[Tuple[Place, Any, str, str, str, str]] = [
     (("parameters",), [], "BadParameter (13)", "/parameters", "(a list of 0)", "parameters is not an object"),
     (("parameters",), {"1a": "x"}, "BadParameter (13)", "/parameters/1a", '"x"', "the name of a parameter is not an identifier"),
     (("tables", "t1", "parameters"), {"a": 1}, "BadParameter (13)", "/tables/t1/parameters/a", "1", "the value of a parameter is not a text"),
-    (("parameterURL",), "a//b", "BadParameter (13)", "/parameterURL", '"a//b"', "parameterURL is not a plain relative path"),
+    (("parameterURL",), "a//b", "BadParameter (13)", "/parameterURL", '"a//b"', f"parameterURL {NO_PATH}"),
     (
         ("tables",),
         {f"t{i}": {"url": "t1.csv", "template": "p"} for i in range(4097)},
@@ -227,7 +228,7 @@ def two_files(folder: Path) -> None:
     both = {"r/m.json": report, "r/p.csv": "name,value\na,2\n"}
     says(folder, "a name twice", both, "report: BadParameter (13)", "/parameters/a", '"1"', "the parameters file has this name too")
     both["r/m.json"] = {**report, "parameterURL": "/p.csv", "decimals": "no"}
-    says(folder, "the name of a file before all else", both, "report: BadParameter (13)", "/parameterURL", '"/p.csv"', "parameterURL is not a plain relative path")
+    says(folder, "the name of a file before all else", both, "report: BadParameter (13)", "/parameterURL", '"/p.csv"', f"parameterURL {NO_PATH}")
 
 
 URI = "http://example.com/eg"
@@ -289,9 +290,9 @@ TABLES: List[Tuple[Any, ...]] = [
     ({}, "cash,no\x7fpe\n", "0, 2 UnknownHeader (23)", "r/t1.csv, line 1, cell 2", '"no\\x7fpe"', "a header cell does not name a column of the template"),
     ({}, "\r\n\ncash,note,cash\n", "0, 3 RepeatedHeader (24)", "r/t1.csv, line 3, cell 3", '"cash"', "a column stands twice in the header"),
     (IDENTIFIED, "cash,note\n", "0, 0 NoRowIdColumn (25)", "r/t1.csv, line 1", "k", "the column of row identifiers is not in the header"),
-    ({}, 'cash,note\n1,"a\nb"\n1,b,c\n', "2, 0 Ragged (26)", "r/t1.csv, line 4", "(a record of 3)", "a record has another length than the header"),
+    ({}, 'cash,note\n1,"a\nb"\n1,b,c\n', "2, 0 Ragged (26)", "r/t1.csv, line 4", "(a record of 3); the header has 2", "a record has another length than the header"),
     ({}, b"cash,note\n1,a\xe9\n", "1, 2 NotUtf8 (27)", "r/t1.csv, line 2, cell 2", '"a\\xe9" in note (eg:Note) of row r_1', "a cell is not UTF-8"),
-    (IDENTIFIED, "cash,k\n1,\n", "1, 2 MissingRowId (28)", "r/t1.csv, line 2, cell 2", '"" in k of row ', "the cell of the row identifier is empty"),
+    (IDENTIFIED, "cash,k\n1,\n", "1, 2 MissingRowId (28)", "r/t1.csv, line 2, cell 2", '"" in k', "the cell of the row identifier is empty"),
     (
         IDENTIFIED,
         "cash,k\n1,a.b\n",
@@ -332,6 +333,35 @@ TABLES: List[Tuple[Any, ...]] = [
         "r/t1.csv, line 2, cell 1",
         '"100" in cash of row r_1',
         "no concept is given",
+        f"{AT_CASH}/dimensions/concept: (nothing)",
+    ),
+    (
+        {**GROUPS, (*CASH, "dimensions"): {}},
+        "cash,g\n1,net\n2,\n",
+        "1, 1 NoConcept (33)",
+        "r/t1.csv, line 2, cell 1",
+        '"1" in cash of row r_1',
+        "no concept is given",
+        f"{AT_CASH}/dimensions/concept: (nothing)",
+    ),
+    (
+        {**GROUPS, (*CASH, "dimensions"): {}},
+        "cash,g\n2,\n",
+        "1, 1 NoConcept (33)",
+        "r/t1.csv, line 2, cell 1",
+        '"2" in cash of row r_1',
+        "no concept is given",
+        'r/t1.csv, line 2, cell 2: ""',
+        f"{AT_CASH}/dimensions/concept: (nothing)",
+    ),
+    (
+        {**GROUPS, (*CASH, "dimensions"): {}},
+        "cash\n2\n",
+        "1, 1 NoConcept (33)",
+        "r/t1.csv, line 2, cell 1",
+        '"2" in cash of row r_1',
+        "no concept is given",
+        'r/t1.csv, line 2: the header has no column "g"',
         f"{AT_CASH}/dimensions/concept: (nothing)",
     ),
     (

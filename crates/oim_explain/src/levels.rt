@@ -155,7 +155,7 @@ impl<'r> RowOfFault<'r> {
     }
 
     /// The places of the columns from which the fact's column takes property groups.
-    fn from(&self) -> &'r [usize] {
+    pub(crate) fn from(&self) -> &'r [usize] {
         match self.columns.get(self.column) {
             Some(column) => column.from.as_slice(),
             None => &[],
@@ -257,6 +257,11 @@ impl<'r> RowOfFault<'r> {
             },
             _ => false,
         }
+    }
+
+    /// Whether the row's cell in the column of property groups at a place names none, or there is no such cell.
+    pub(crate) fn names_no_group(&self, place: usize) -> bool {
+        meaning(self.cell_of(self.column_id(place))) == CellMeaning::Absent
     }
 
     /// The place of the first column from which the fact takes property groups whose cell has this fault.

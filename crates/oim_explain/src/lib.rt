@@ -34,6 +34,7 @@ mod explanation;
 mod files;
 mod levels;
 mod metadata;
+mod namespaces;
 mod sources;
 mod tables;
 

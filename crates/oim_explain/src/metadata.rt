@@ -13,6 +13,7 @@ ghost use Rattle.oim_explain.specs.Explanations.{ExplainsMetadata, HasBadUrl, Ha
 
 use crate::causes::cause;
 use crate::explanation::Explanation;
+use crate::namespaces::with_one_uri;
 use oim_meta::{Finding, Limits, MetaFault, Metadata, Parameters, Refusal, Types};
 use oim_names::{Items, Text};
 use oim_places::{part_at, pointer, shown, standing};
@@ -30,6 +31,20 @@ fn place(alloc: Global, path: &str, keys: &[Text]) -> Result<Text, AllocError>
     }
 }
 
+/// What stands at the place of a fault: of namespaces that share a URI, the two prefixes.
+fn found_there(
+    alloc: Global,
+    there: Option<&Value>,
+    fault: MetaFault,
+) -> Result<String, AllocError> {
+    if fault == MetaFault::BadNamespaces {
+        if let Some(found) = with_one_uri(alloc, there)? {
+            return Ok(found);
+        }
+    }
+    standing(alloc, there)
+}
+
 /// What stands at a place of a metadata that is JSON, and what is wrong with it.
 fn in_value(
     alloc: Global,
@@ -37,7 +52,8 @@ fn in_value(
     finding: &Finding,
 ) -> Result<(String, &'static str), AllocError> {
     let keys = finding.place.as_slice();
-    Ok((standing(alloc, there)?, cause(finding.fault, keys, there)))
+    let found = found_there(alloc, there, finding.fault)?;
+    Ok((found, cause(finding.fault, keys, there)))
 }
 
 /// Where a metadata stops being JSON.

@@ -117,6 +117,29 @@ impl<'r, 's> Lines<'r, 's> {
         self.put(place, found)
     }
 
+    /// The same, or that the header has no such column.
+    fn put_cell_or_none(&mut self, column: &str) -> Result<(), AllocError> {
+        if self.row.place_in_file(column).is_some() {
+            return self.put_cell(column);
+        }
+        let name = quoted(self.alloc, column)?;
+        let name = name.as_str();
+        let found = format!(in self.alloc; "the header has no column {name}")?;
+        let place = place_in_file(self.alloc, self.row.path, self.row.line, None)?;
+        self.put(place, found)
+    }
+
+    /// The cells of the row that could name a property group and name none: such a group may write what is not there.
+    fn put_cells_without_group(&mut self) -> Result<(), AllocError> {
+        let row = self.row;
+        for place in row.from() {
+            if row.names_no_group(*place) {
+                self.put_cell_or_none(row.column_id(*place))?;
+            }
+        }
+        Ok(())
+    }
+
     /// A property of the metadata.
     fn put_written(&mut self, keys: &[&str]) -> Result<(), AllocError> {
         let found = standing(self.alloc, self.row.again.written_at(keys))?;
@@ -209,13 +232,14 @@ fn put_referred<R: Read + Drop, F: Folder<R>>(
     lines.put_cell(name)
 }
 
-/// Puts the places of a dimension's value.
+/// Puts the places of a dimension's value. Where nothing writes it, the first are the cells that name no property group.
 fn put_dimension<R: Read + Drop, F: Folder<R>>(
     lines: &mut Lines<'_, '_>,
     folder: &mut F,
     name: &str,
 ) -> Result<(), AllocError> {
     let Some((writer, written)) = lines.row.written(name) else {
+        lines.put_cells_without_group()?;
         return lines.put_property(Writer::Column, &["dimensions", name]);
     };
     lines.put_property(writer, &["dimensions", name])?;

@@ -95,7 +95,7 @@ fn column_named(
     }
 }
 
-/// A cell of a row, with its column and its row.
+/// A cell of a row, with its column and its row, if that has an identifier.
 fn cell_of_row(
     alloc: Global,
     report: &Report,
@@ -110,7 +110,18 @@ fn cell_of_row(
     let column = column_named(alloc, report, fault.table, name)?;
     let id = row_id(alloc, report, fault.table, again, fault.row)?;
     let (cell, column, id) = (cell.as_str(), column.as_str(), id.as_str());
+    if id.is_empty() {
+        return format!(in alloc; "{cell} in {column}");
+    }
     format!(in alloc; "{cell} in {column} of row {id}")
+}
+
+/// A record of another length than the header, and that of the header.
+fn lengths(alloc: Global, again: &RowAgain) -> Result<String, AllocError> {
+    let record = record_shown(alloc, &again.row)?;
+    let record = record.as_str();
+    let count = again.header.len();
+    format!(in alloc; "{record}; the header has {count}")
 }
 
 /// What stands at the place of a fault.
@@ -125,6 +136,7 @@ fn found_in(
     match place_in_record(fault) {
         Some(place) if fault.row > 0 => cell_of_row(alloc, report, fault, again, place),
         Some(place) => cell_shown(alloc, &again.header, place),
+        None if fault.kind == TableKind::Ragged => lengths(alloc, again),
         None if fault.row > 0 => record_shown(alloc, &again.row),
         None => excerpt(alloc, id_column(report, fault.table).unwrap_or("?")),
     }
