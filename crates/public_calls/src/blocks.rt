@@ -153,24 +153,35 @@ impl Write for Moody {
 /// Its answers to the first four calls.
 const ANSWERS: &[Option<usize>] = &[None, Some(0), Some(2), Some(5)];
 
-/// Whether a sink over that writer hands on each of its answers, and asks it for no bytes never.
-fn hands_on(writer: &mut Moody) -> bool {
+/// The writer behind a sink over it, where the sink handed on each of its answers, and asked it for no bytes never.
+fn handed_on(writer: Moody) -> Option<Moody> {
     let mut sink = Marked::new(writer);
     for wanted in ANSWERS {
         if sink.write_some(b"abcde").ok() != *wanted {
-            return false;
+            return None;
         }
     }
-    write_all_of(&mut sink, b"").is_ok() && write_all_of(&mut sink, b"abc").is_ok()
+    if write_all_of(&mut sink, b"").is_ok() && write_all_of(&mut sink, b"abc").is_ok() {
+        return Some(sink.into_writer());
+    }
+    None
+}
+
+/// Whether the writer was asked once for each answer, and for all the bytes.
+fn is_asked_once() -> bool {
+    let writer = Moody {
+        calls: 0,
+        offered: 0,
+    };
+    match handed_on(writer) {
+        Some(writer) => writer.calls == 5 && writer.offered == 23,
+        None => false,
+    }
 }
 
 #[test]
 fn a_sink_asks_its_writer_once(rt: HostRuntime) {
-    let mut writer = Moody {
-        calls: 0,
-        offered: 0,
-    };
-    assert!(rt; hands_on(&mut writer) && writer.calls == 5 && writer.offered == 23);
+    assert!(rt; is_asked_once());
 }
 
 /// Adds the fact without a value 200 times.
