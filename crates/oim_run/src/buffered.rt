@@ -47,7 +47,8 @@ pub(crate) fn after_flush(outcome: Outcome, is_flushed: bool) -> Outcome
 ///
 /// Where the writer tells what it holds, it holds all that the run wrote, behind what it held: with `Done`
 /// the whole document, with `Tables` the unfinished one, and nothing more if the report has a fault. If the
-/// last flush failed, or a write before it, it holds a beginning of that.
+/// last flush failed, or a write before it, it holds a beginning of that. Where memory ran out for the buffer, there was
+/// no run: the answer is Memory, and the writer holds what it held.
 pub fn run_to<R: Read + Drop + Send, F: Folder<R>, T: Threads + Wait + Sync, W: Write>(
     rt: &T,
     alloc: Global,

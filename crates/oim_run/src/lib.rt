@@ -12,8 +12,10 @@
 //!   in the order in which the files are read, and writes nothing (`specs/Early.antt`). Otherwise it
 //!   ends as the conversion of the report does: with the whole document in the given layout, or with
 //!   every refused table in table order, each by its identifier with its first fault, and the unfinished
-//!   document up to and including the first of them (`specs/Outcomes.antt`). This holds for every number
-//!   of workers, ring size and schedule of the threads;
+//!   document up to and including the first of them, or with a failed write and a beginning of the document
+//!   (`specs/Outcomes.antt`). Where memory ran out it may end with Memory and nothing written. After Lost, a fault
+//!   of the program itself, nothing is said of the bytes but that they are those of some facts. This holds for
+//!   every number of workers, ring size and schedule of the threads;
 //! - `convert_report` says the same of a report whose tables are given by readers;
 //! - `run_to` says how a run through a buffer ended, and what the writer behind it holds, where that tells it: all
 //!   that the run wrote, or a beginning of it where the last flush failed, which after a document, whole or
