@@ -2,6 +2,7 @@ mod CellTexts
 mod CutTexts
 mod ExamplesPlaces
 mod ExamplesFaultRows
+mod ExamplesFilePlaces
 mod LineCounts
 mod LineLaws
 mod Rereads
