@@ -818,6 +818,44 @@ def what_is_no_metadata(folder):
     case("numbers as they are written", (b'"decimals":-0.0' in made["meta.json"], b'"a":12345678901234567890123,"b":1.0' in made["meta.json"]), (True, True))
 
 
+def repeated_keys(folder):
+    """A key that one object has more than once is refused in each JSON file that is read, and is in no way passed over."""
+
+    def told(file, key):
+        return f"{file}: has the key '{key}' more than once in one object, and only the last of them would be read"
+
+    own = REPORT["reports/report.json"]
+    twice = {
+        "parameters": own[:-1] + ', "parameters": {"a": "1"}, "parameters": {"b": "2"}}',
+        "tables": own[:-1] + ', "tables": {}, "tables": {}, "tables": {}}',
+        "documentInfo": own[:-1] + ', "documentInfo": {}}',
+        "documentType": own.replace("{", '{"documentInfo": {"documentType": "x", "documentType": "x"},', 1),
+        "d": own[:-1] + ', "parameters": {"c": [{"d": 1, "e": 2, "d": 1}], "f": 1, "f": 2}}',
+        "decimals": own[:-1] + ', "decimals": 1, "\\u0064ecimals": 1}',
+        "": own[:-1] + ', "": 1, "": 1}',
+        "a'b": own[:-1] + """, "a'b": 1, "a'b": 1}""",
+    }
+    for key, text in twice.items():
+        for form in ("folder", "zip", "top", "file"):
+            named = {**REPORT, "reports/report.json": text}
+            stops(folder, f"a report with two of '{key}', {form}", told(f"r/{'top/' if form == 'top' else ''}reports/report.json", key), report=named, form=form)
+    for key in ("tables", "t", "columns", "eg"):
+        again = MODULE.replace(f'"{key}"', f'"{key}": {{}}, "{key}"', 1)
+        stops(folder, f"a module with two of '{key}'", told("t0/reg/mod.json", key), taxonomies=[{**TAXONOMY, "reg/mod.json": again}])
+    deep = {"reports/q/report.json": own, "reports/q/t.csv": REPORT["reports/t.csv"]}
+    for key, text in (("a", '{"a": 1, "a": 2}'), ("documentInfo", twice["documentInfo"])):
+        stops(folder, f"another file with two of '{key}'", told("r/reports/a.json", key), report={**REPORT, "reports/a.json": text})
+        stops(folder, f"another file with two of '{key}', one folder higher", told("r/reports/a.json", key), report={**deep, "reports/a.json": text})
+    kind = '{"documentInfo": {"documentType": "https://xbrl.org/report-package/2023"}, "a": 1, "a": 1}'
+    stops(folder, "a package file with a repeated key", told("r/META-INF/reportPackage.json", "a"), report={**REPORT, "META-INF/reportPackage.json": kind})
+    broken = own[:-1] + ', "a": 1, "a": 1'
+    stops(folder, "what is no JSON has no keys", f"r/reports/report.json: is not JSON: Expecting ',' delimiter (line 1, column {len(broken) + 1})", report={**REPORT, "reports/report.json": broken})
+    once = {"parameters": {"a": "1", "A": "1", "b": "a"}, "dimensions": {"a": "1", "unit": "eg:a"}}
+    makes(folder, "one key in several objects", parts=once, report={**REPORT, "reports/report.json": own[:-1] + ", " + json.dumps(once)[1:]})
+    write(folder, {"j.zip": twice["tables"]})
+    case("a metadata file that is called as a package", run(["j.zip", "--prepare", "o"], folder), (1, f"xbrl-filing: {told('j.zip', 'tables')}\n"))
+
+
 def final_parts(folder):
     """What a file declares final: files that extend it add nothing to it."""
     top, low = "r/reports/report.json", "t0/reg/mod.json"
@@ -3078,6 +3116,7 @@ PARTS = (
     entry_points,
     chains,
     what_is_no_metadata,
+    repeated_keys,
     final_parts,
     prefixes,
     keys_that_become_one,
