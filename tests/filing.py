@@ -1849,7 +1849,7 @@ def tables(folder):
         module = {**TAXONOMY, "reg/mod.json": MODULE.replace('"tables"', '"parameterURL": "p.csv", "tables"')}
         line = "r/reports/p.csv: cannot read (there is no such file; 'parameterURL' of t0/reg/mod.json names it)"
         stops(folder, f"a parameters file that is not there, {form}", line, 3, taxonomies=[module], form=form)
-    deep = {**{it.replace("reports/", "reports/q/"): text for it, text in REPORT.items()}, "reports/t.csv": "cash\n9\n"}
+    deep = {**{it.replace("reports/", "reports/q/"): text for it, text in REPORT.items()}, "reports/r/t.csv": "cash\n9\n"}
     case("tables lie beside the report's own file", makes(folder, "a deep report", MERGED, report=deep).get("t.csv"), b"cash\n1\n")
 
 
@@ -1898,7 +1898,7 @@ def files_that_nothing_names(folder):
         many = {f"reports/{it}.csv": rows for it in ("t", "sub/u", "z", "b/a", "sub/v")}
         stops(folder, f"the first of several, {form}", f"r/reports/b/a.csv: {said}", report={**bare, **many}, form=form, **inputs)
         passed = ["t.csv", "sub/u.csv", "t.txt", "T.csv.bak", "csv", "._T.csv", ".x/T.csv", "a/.x/T.csv", "__MACOSX/T.csv"]
-        passed += ["../T.csv", "../META-INF/T.csv", "../other/T.csv"]
+        passed += ["../META-INF/T.csv", "../other/T.csv"]
         named = {f"reports/{it}".replace("reports/../", ""): rows for it in passed}
         made = makes(folder, f"what is none of the report, {form}", parts={"tables": optional}, report={**bare, **named}, form=form, **inputs)
         case(f"what is none of the report is not prepared, {form}", sorted(made), ["meta.json", "p.csv", "sub/u.csv", "t.csv", "types.csv"])
@@ -1908,7 +1908,7 @@ def files_that_nothing_names(folder):
             other = {**bare, f"reports/{name}": text, "reports/q/T.csv": rows}
             stops(folder, f"files beside {name}, {form}", f"r/reports/q/T.csv: {said}", report=other, form=form, **inputs)
         moved = {it.replace("reports/", "reports/q/"): text for it, text in bare.items()}
-        around = {"reports/T.csv": rows, "reports/r/T.csv": rows, "reports/q2/T.csv": rows}
+        around = {"reports/r/T.csv": rows, "reports/q2/T.csv": rows, "META-INF/T.csv": rows, "other/T.csv": rows, "reports/T.txt": rows}
         makes(folder, f"files beside the report's folder, {form}", parts={"tables": optional}, report={**moved, **around}, form=form, **inputs)
         inside = {**moved, "reports/q/a/report.json": meta(), "reports/q/a/T.csv": rows}
         stops(folder, f"no report stands so deep, {form}", f"r/reports/q/a/T.csv: {said}", report=inside, form=form, **inputs)
@@ -1928,6 +1928,47 @@ def files_that_nothing_names(folder):
         write(folder, {"kept.json": "kept"})
         seen = start(["zipped.zip", "--taxonomy", "z", *words], folder), (folder / "kept.json").read_text()
         case(f"nothing is converted then: {words}", seen, ((1, b"", f"xbrl-filing: zipped.zip/reports/T.csv: {said}\n"), "kept"))
+
+
+def files_above_the_report(folder):
+    """A CSV file directly in a folder between the package's root and the report's folder is refused too; above and beside these nothing is looked at."""
+    optional = {"t": {"url": "t.csv", "optional": True}}
+    inputs = {"taxonomies": [{**TAXONOMY, "reg/mod.json": meta(INFO, tableTemplates={"t": TEMPLATE}, tables=optional)}]}
+    bare = {"reports/report.json": REPORT["reports/report.json"]}
+    lower = {"reports/q/report.json": REPORT["reports/report.json"]}
+    kind = {"META-INF/reportPackage.json": '{"documentInfo": {"documentType": "https://xbrl.org/report-package/2023"}}'}
+
+    def said(file, place):
+        return f"{file}: is not read: it stands above '{place}', the folder of the report, in which tables are looked for"
+
+    for form in ("folder", "zip", "top"):
+        top = "r/top" if form == "top" else "r"
+        for name in ("t.csv", "T.CSV", "other.csv"):
+            stops(folder, f"{name} above the report, {form}", said(f"{top}/{name}", "reports"), report={**bare, name: "cash\n1\n"}, form=form, **inputs)
+            for place in ("", "reports/"):
+                file = place + name
+                stops(folder, f"{file} above a deeper report, {form}", said(f"{top}/{file}", "reports/q"), report={**lower, file: "x"}, form=form, **inputs)
+        stops(folder, f"a table that stands in both places, {form}", said(f"{top}/t.csv", "reports"), report={**REPORT, "t.csv": "x"}, form=form, **inputs)
+        both_places = {**bare, "a.csv": "x", "reports/b.csv": "x"}
+        line = f"{top}/reports/b.csv: is not read: no table of the joined metadata has this url (names are compared exactly)"
+        stops(folder, f"what stands in the report's folder comes first, {form}", line, report=both_places, form=form, **inputs)
+        passed = {"._t.csv": "x", ".t.csv": "x", "t.txt": "x", "t.csv.bak": "x", "data/t.csv": "x", "META-INF/t.csv": "x", "t.csv.d/x": "x"}
+        for files in (REPORT, {it.replace("reports/", "reports/q/"): text for it, text in REPORT.items()}):
+            makes(folder, f"what is no table above the report, {form}", parts={"tables": optional}, report={**kind, **files, **passed}, form=form, **inputs)
+        wrong_url = [{**TAXONOMY, "reg/mod.json": meta(INFO, tables={"t": {"url": "../t.csv"}})}]
+        makes(folder, f"a URL that leads there, {form}", parts={"tables/t/url": "../t.csv"}, report={**bare, "t.csv": "x"}, taxonomies=wrong_url, form=form)
+    makes(folder, "beside the one folder at the top", MERGED, report={"t.csv": "x", **{f"one/{it}": text for it, text in REPORT.items()}})
+    makes(folder, "above a lone metadata file", MERGED, report={**REPORT, "t.csv": "x"}, form="file")
+    write(folder, {**{f"l/{it}": text for it, text in REPORT.items()}, **{f"t/{it}": text for it, text in TAXONOMY.items()}, "out.csv": "x"})
+    (folder / "l/reports/t.csv").rename(folder / "l/data.csv")
+    (folder / "l/reports/t.csv").symlink_to("../data.csv")
+    case("a table by a link to a file above", run(["l", "--taxonomy", "t", "--prepare", "o1"], folder), (0, ""))
+    (folder / "l/a.csv").symlink_to("none.csv")
+    (folder / "l/b.csv").mkdir()
+    case("what is no file above", run(["l", "--taxonomy", "t", "--prepare", "o2"], folder), (0, ""))
+    (folder / "l/c.csv").symlink_to("../out.csv")
+    outside = "xbrl-filing: l/c.csv: is a link that leads outside of l\n"
+    case("a link above that leads outside", run(["l", "--taxonomy", "t", "--prepare", "o3"], folder), (1, outside))
 
 
 def links_to_files_that_nothing_names(folder):
@@ -3139,6 +3180,7 @@ PARTS = (
     tables,
     tables_that_are_none,
     files_that_nothing_names,
+    files_above_the_report,
     links_to_files_that_nothing_names,
     parameters_in_other_letters,
     temporary_files,
