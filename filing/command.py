@@ -18,7 +18,7 @@ from .metadata import check_parts, merge
 from .origins import Origins
 from .outputs import refuse_outputs
 from .packages import Package, open_package
-from .parameters import check_parameters, check_references
+from .parameters import check_parameters, check_references, require_parameters
 from .prefixes import Renaming, lost_prefixes
 from .prepared import META, TYPES, Files, move_into, write_files
 from .progress import Progress
@@ -151,6 +151,7 @@ def join(report: Found, packages: List[Package], settings: Settings, progress: P
     files.refuse_unread()
     check_parameters(merged, renaming, files)
     check_references(merged, files)
+    require_parameters(merged, files)
     return origins, files, types_table(kinds, namespaces.values())
 
 

@@ -36,6 +36,7 @@ class Files:
 
     def __init__(self, report: Found, merged: Merged) -> None:
         self.package: Package = report.package
+        self.report = report.label
         self.folder = report.name[: report.name.rfind("/") + 1]
         self.merged = merged
         tables = merged.value.get("tables", {}).values()

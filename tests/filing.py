@@ -849,7 +849,8 @@ def repeated_keys(folder):
     kind = '{"documentInfo": {"documentType": "https://xbrl.org/report-package/2023"}, "a": 1, "a": 1}'
     stops(folder, "a package file with a repeated key", told("r/META-INF/reportPackage.json", "a"), report={**REPORT, "META-INF/reportPackage.json": kind})
     broken = own[:-1] + ', "a": 1, "a": 1'
-    stops(folder, "what is no JSON has no keys", f"r/reports/report.json: is not JSON: Expecting ',' delimiter (line 1, column {len(broken) + 1})", report={**REPORT, "reports/report.json": broken})
+    line = f"r/reports/report.json: is not JSON: Expecting ',' delimiter (line 1, column {len(broken) + 1})"
+    stops(folder, "what is no JSON has no keys", line, report={**REPORT, "reports/report.json": broken})
     once = {"parameters": {"a": "1", "A": "1", "b": "a"}, "dimensions": {"a": "1", "unit": "eg:a"}}
     makes(folder, "one key in several objects", parts=once, report={**REPORT, "reports/report.json": own[:-1] + ", " + json.dumps(once)[1:]})
     write(folder, {"j.zip": twice["tables"]})
@@ -2086,6 +2087,95 @@ def parameters_in_other_letters(folder):
     makes(folder, "a parameters file that is the converter's fault", parts=unit, **broken)
 
 
+def filed_with(filed, report=REPORT, **parts):
+    """A filing with a parameters file, and what its module says beside the table of REPORT."""
+    module = meta(INFO, **{"tableTemplates": {"t": TEMPLATE}, "tables": {"t": {"url": "t.csv"}}, "parameterURL": "p.csv", **parts})
+    return {"report": {**report, "reports/p.csv": filed}, "taxonomies": [{**TAXONOMY, "reg/mod.json": module}]}
+
+
+def parameters_of_each_fact(folder):
+    """A parameter from which the report's own level takes the entity or the period of facts is refused where nothing gives it."""
+    header, both_given = "name,value\n", "name,value\nentityID,lei:x\nrefPeriod,2025Q3\n"
+
+    def told(key, name, file="r/reports/p.csv", table="t"):
+        asker = f"'dimensions.{key}' of t0/reg/mod.json"
+        return f"{file}: has no value for the parameter '{name}', to which {asker} refers: facts of the table '{table}' would have no {key}"
+
+    for form in ("folder", "zip", "file"):
+        for period in ("$refPeriod", "$refPeriod@start", "$refPeriod@end"):
+            of_all = {"dimensions": {"entity": "$entityID", "period": period, "unit": "$unit"}, "decimals": "$places"}
+            makes(folder, f"entity and period are given {period}, {form}", parts=of_all, form=form, **filed_with(both_given, **of_all))
+            for key, name, other in (("entity", "entityID", "entityId2"), ("period", "refPeriod", "refPeriot")):
+                less = "".join(it for it in both_given.splitlines(True) if not it.startswith(name))
+                line = told(key, name)
+                stops(folder, f"no parameter for {key} {period}, {form}", line, form=form, **filed_with(less, **of_all))
+                stops(folder, f"another name for {key} {period}, {form}", line, form=form, **filed_with(both_given.replace(name, other), **of_all))
+                stops(folder, f"an empty parameter for {key} {period}, {form}", line, form=form, **filed_with(f"{less}{name},\n", **of_all))
+                makes(folder, f"a parameter for {key} that says none {period}, {form}", parts=of_all, form=form, **filed_with(f"{less}{name},#none\n", **of_all))
+        own = {"parameters": {"refPeriod": "2025"}}
+        for where, more in (("the metadata", own), ("the table", {"tables": {"t": {"url": "t.csv", **own}}})):
+            makes(folder, f"{where} gives the period, {form}", parts=more, form=form, **filed_with(header, dimensions={"period": "$refPeriod"}, **more))
+    period = {"dimensions": {"period": "$refPeriod"}}
+    stops(folder, "an empty parameters file", told("period", "refPeriod"), **filed_with(header, **period))
+    stops(folder, "a parameter of the metadata that is empty", told("period", "refPeriod"), **filed_with(header, parameters={"refPeriod": ""}, **period))
+    module = [{**TAXONOMY, "reg/mod.json": MODULE.replace('"tables"', '"dimensions": {"entity": "$entityID"}, "tables"')}]
+    stops(folder, "no parameters file", told("entity", "entityID", "r/reports/report.json"), taxonomies=module)
+    two = {"t": {"url": "t.csv", "parameters": {"refPeriod": "2025"}}, "u": {"url": "u.csv", "template": "t"}}
+    there = {**REPORT, "reports/u.csv": "cash\n1\n"}
+    stops(folder, "the parameter of another table", told("period", "refPeriod", table="u"), **filed_with(header, there, tables=two, **period))
+    two["u"]["optional"] = True
+    makes(folder, "a table that is not filed", parts={"tables": two}, **filed_with(header, tables=two, **period))
+
+
+def facts_that_do_without_a_parameter(folder):
+    """The report's own entity or period matters where a fact has none of its own, and only there."""
+    cash, own = {"concept": "eg:Cash"}, {"concept": "eg:Cash", "period": "2025"}
+    said = "to which 'dimensions.period' of t0/reg/mod.json refers: facts of the table 't' would have no period"
+    line = f"r/reports/p.csv: has no value for the parameter 'refPeriod', {said}"
+    given, left, bare = {"dimensions": {"period": "2025"}}, {"dimensions": {"unit": "eg:a"}}, {}
+
+    def grouped(*groups, **column):
+        return {"columns": {"k": {"propertyGroups": dict(zip("abc", groups))}, "cash": {"dimensions": cash, "propertiesFrom": ["k"], **column}}}
+
+    for name, template, refused in (
+        ("the template has it", {**TEMPLATE, **given}, False),
+        ("the template has another", {**TEMPLATE, **left}, True),
+        ("the column has it", {"columns": {"cash": {"dimensions": own}}}, False),
+        ("one of two columns has it", {"columns": {"cash": {"dimensions": own}, "b": {"dimensions": cash}}}, True),
+        ("columns without facts", {"columns": {"cash": {"dimensions": own}, "b": {}, "c": {"comment": True}}}, False),
+        ("no column with facts", {"columns": {"cash": {}}}, False),
+        ("a column of the name", {"columns": {"cash": {"dimensions": cash}, "refPeriod": {}}}, False),
+        ("each group has it", grouped(given, given), False),
+        ("one of two groups has it", grouped(given, left), True),
+        ("no group has it", grouped(left, bare), True),
+        ("no groups", grouped(), True),
+        ("groups that nothing takes", grouped(given, propertiesFrom=[]), True),
+        ("groups beside a column's own", grouped(bare, dimensions=own), False),
+        ("a template that is not there", None, False),
+    ):
+        parts = {"tableTemplates": {"t": template} if template else {"u": TEMPLATE}, "dimensions": {"period": "$refPeriod"}}
+        if refused:
+            stops(folder, name, line, **filed_with("name,value\n", **parts))
+        else:
+            makes(folder, name, parts={"dimensions": parts["dimensions"]}, **filed_with("name,value\n", **parts))
+    for text in ("2025", "$$refPeriod", "$rowNumber", "#none", 7, None):
+        makes(folder, f"a period that is {text}", parts={"dimensions": {"period": text}}, **filed_with("name,value\n", dimensions={"period": text}))
+    other = {"unit": "$unit", "eg:Region": "$region", "concept": "$what", "language": "$language"}
+    makes(folder, "references of other dimensions", parts={"dimensions": other}, **filed_with("name,value\n", dimensions=other, decimals="$places"))
+    template = {"columns": {"cash": {"dimensions": {**cash, "entity": "$entityID"}}}, "dimensions": {"period": "$refPeriod"}}
+    makes(folder, "references that are not the report's", parts={"parameterURL": "p.csv"}, **filed_with("name,value\n", tableTemplates={"t": template}))
+    for table in ({"url": ["t.csv"]}, 7, {"url": "t.csv", "template": ["t"]}, {"url": "none.csv", "optional": True}):
+        made = filed_with("name,value\n", tables={"t": table}, dimensions={"period": "$refPeriod"})
+        if "t.csv" not in json.dumps(table):
+            made["report"].pop("reports/t.csv")
+        makes(folder, f"a table without facts: {table}", parts={"tables/t": table}, **made)
+    for text in ("", "name;value\n", "Name,value\n", "refPeriod,2025\n", "name,value\nrefPeriod;2025\n", "name,value\na,b,c\n", 'name,value\n"xxx'):
+        faulty = filed_with(text, dimensions={"period": "$refPeriod"})
+        makes(folder, f"a parameters file that is the converter's fault: {text}", parts={"parameterURL": "p.csv"}, **faulty)
+    marked = b"\xef\xbb\xbfname,value\r\n\r\nrefPeriod,2025\r\n"
+    makes(folder, "a byte-order mark and lines without a character", parts={"parameterURL": "p.csv"}, **filed_with(marked, dimensions={"period": "$refPeriod"}))
+
+
 def heeding():
     """A program that runs in the background may ignore some signals; one that is tested here does not."""
     for it in (signal.SIGTERM, signal.SIGINT, signal.SIGHUP):
@@ -3183,6 +3273,8 @@ PARTS = (
     files_above_the_report,
     links_to_files_that_nothing_names,
     parameters_in_other_letters,
+    parameters_of_each_fact,
+    facts_that_do_without_a_parameter,
     temporary_files,
     signals,
     a_signal_between_two_steps,
