@@ -2657,7 +2657,21 @@ def words(folder):
     version = subprocess.run([PROGRAM, "--version"], capture_output=True, timeout=60).stdout
     case("--version", start(["--version"], folder), (0, version, ""))
     case("-h is --help", start(["-h"], folder), start(["--help"], folder))
-    case("-h is no word beside others", start(["r", "-h"], folder)[0], 2)
+    help_text = start(["--help"], folder)[1]
+    for before, after in ((["r"], []), ([], ["r"]), (["r", "--taxonomy", "t"], []), (["r", "--taxonomy"], ["t"]), (["r", "r2"], ["--out", "x"])):
+        for word in ("-V", "--version"):
+            case(f"{word} after {before} and before {after}", start([*before, word, *after], folder), (0, version, ""))
+        for word in ("-h", "--help"):
+            case(f"{word} after {before} and before {after}", start([*before, word, *after], folder), (0, help_text, ""))
+    for given, wanted in ((["-V", "-h"], version), (["-h", "--version"], help_text), (["--out", "x", "-V"], version), (["--whole", "-h"], help_text)):
+        case(f"the first of several words: {given}", start(given, folder), (0, wanted, ""))
+    for option in ("--prepare", "--cache", "--unpacked-limit"):
+        for word in ("-V", "-h", "--help", "--version"):
+            case(f"{word} is no value of {option}", run(["r", option, word], folder), (2, f"xbrl-filing: {option} needs a value{usage}"))
+    for option in ("--out", "--workers"):
+        status, out, err = start(["r", "--taxonomy", "t", option, "-V"], folder)
+        case(f"-V is no value of {option}, says xbrl-json", (status, out, err.startswith("error: a value is required")), (2, b"", True))
+    case("the help names all four words", [it in help_text.decode() for it in ("\n-h, --help ", "\n-V, --version ")], [True, True])
     status, out, err = start(["r", "--help"], folder)
     case("--help", (status, b"--taxonomy PACKAGE.." in out, b"It is not proved" in out, err), (0, True, True, ""))
     with open("/dev/full", "wb") as full:
