@@ -22,8 +22,8 @@ REPORT                  a report package (a ZIP or an unpacked folder), or a met
 --prepare FOLDER        only makes FOLDER, which is new or empty: meta.json, types.csv, and the report's tables and parameters
 --cache FOLDER          keeps there what the schemas say, so that the next filing of the same taxonomy starts at once
 --unpacked-limit BYTES  how much one ZIP may unpack to ({DEFAULT_LIMIT})
--h, --help              this text
--V, --version           the version of xbrl-json
+-h, --help              prints help
+-V, --version           prints the version of xbrl-json
 
 All other words go to xbrl-json: --out FILE, --workers N, --ring K, --layout L, --progress .. (`xbrl-json --help` tells of them).
 Nothing is ever fetched: a URL that no package has is an error. Inputs are not changed.
