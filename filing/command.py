@@ -18,7 +18,7 @@ from .metadata import check_parts, merge
 from .origins import Origins
 from .outputs import refuse_outputs
 from .packages import Package, open_package
-from .parameters import check_parameters, check_references
+from .parameters import check_parameters, check_references, require_parameters
 from .prefixes import Renaming, lost_prefixes
 from .prepared import META, TYPES, Files, move_into, write_files
 from .progress import Progress
@@ -27,7 +27,7 @@ from .report import find_report, report_by_itself
 from .schemas import Reference, read_schemas
 from .stopping import Stopped, Stopping, end_by_signal, run_program, temporary_folder
 from .types_table import types_table
-from .words import HELP, Settings, read_words
+from .words import HELP, Settings, asked, read_words
 
 NAME = "xbrl-filing"
 
@@ -53,10 +53,11 @@ def main(words: List[str], program: str) -> int:
 def attempt(words: List[str], program: str, progress: Progress, stopping: Stopping) -> Tuple[int, str]:
     """The status of a run, and the line that says why it ended early, where it did."""
     try:
-        if "--help" in words or words == ["-h"]:
+        wanted = asked(words)
+        if wanted == "--help":
             return help_told(), ""
-        if words == ["--version"]:
-            return run_program([program, *words], stopping), ""
+        if wanted is not None:
+            return run_program([program, wanted], stopping), ""
         return run(read_words(words), program, progress, stopping), ""
     except Refusal as refusal:
         return refusal.status, refusal.line
@@ -151,6 +152,7 @@ def join(report: Found, packages: List[Package], settings: Settings, progress: P
     files.refuse_unread()
     check_parameters(merged, renaming, files)
     check_references(merged, files)
+    require_parameters(merged, files)
     return origins, files, types_table(kinds, namespaces.values())
 
 

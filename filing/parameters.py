@@ -1,4 +1,5 @@
-"""Parameters that would be lost in silence: texts that need a prefix which the merged metadata does not have, and names in other letters."""
+"""Parameters that would be lost in silence: texts that need a prefix which the merged metadata does not have, names in other letters, and those that
+all facts take their entity or period from."""
 
 from __future__ import annotations
 
@@ -6,16 +7,17 @@ import csv
 import io
 import re
 from itertools import islice
-from typing import Iterator, Optional, Tuple
+from typing import Iterator, List, Optional, Tuple
 
 from .metadata import Merged, levels, objects
 from .packages import LARGEST_TEXT
 from .prefixes import Renaming
 from .prepared import Files
 from .refusals import wrong
-from .strict_json import Object
+from .strict_json import Json, Object
 
 SIDE = re.compile(r"@(?:start|end)\Z")
+OF_EACH_FACT = ("entity", "period")  # what no fact of a filing does without
 ROW_NUMBER = "rowNumber"  # a reference that needs no parameter
 MOST_RECORDS = 65536  # of a parameters file that xbrl-json takes
 
@@ -48,6 +50,54 @@ def check_references(merged: Merged, files: Files) -> None:
             raise wrong(given[other], f"{what} and no column of it (names are compared exactly)")
 
 
+def require_parameters(merged: Merged, files: Files) -> None:
+    """Refuses a parameter without a value to which the report's own `entity` or `period` refers, where a fact would then have none."""
+    dimensions, parameters = merged.value.get("dimensions", {}), merged.value.get("parameters", {})
+    if is_faulty(files):
+        return
+    given = {name for name, text in parameters.items() if text != ""} | {name for name, text, _ in parameters_of_file(files) if text}
+    for key in OF_EACH_FACT:
+        name = reference(key, dimensions.get(key))
+        table = None if name is None or name in given or name == ROW_NUMBER else table_without(key, name, merged, files)
+        if table is not None:
+            label = files.report if files.parameters is None else files.package.shown(files.name(files.parameters))
+            asker = f"'dimensions.{key}' of {merged.origin(('dimensions', key))}"
+            raise wrong(label, f"has no value for the parameter '{name}', to which {asker} refers: facts of the table '{table}' would have no {key}")
+
+
+def table_without(key: str, name: str, merged: Merged, files: Files) -> Optional[str]:
+    """The first table whose file is there and of which a fact takes a dimension from the report's own level, where nothing of it gives the parameter."""
+    templates = dict(objects(merged.value, "tableTemplates"))
+    for table_name, table in objects(merged.value, "tables"):
+        url, used = table.get("url"), table.get("template", table_name)
+        template = templates.get(used, {}) if isinstance(used, str) else {}
+        there = isinstance(url, str) and url in files.tables and files.package.has(files.name(url))
+        if there and name not in columns_of(template) and not member(table, "parameters", name) and takes_from_report(template, key):
+            return table_name
+    return None
+
+
+def takes_from_report(template: Object, key: str) -> bool:
+    """Whether a fact column of a template has a dimension from the report's own level: neither it, nor its property groups, nor the template has it."""
+    columns = dict(objects(template, "columns"))
+    facts = [it for it in columns.values() if "dimensions" in it and member(it, "dimensions", key) is None]
+    return member(template, "dimensions", key) is None and not all(groups_give(it, columns, key) for it in facts)
+
+
+def groups_give(column: Object, columns: Object, key: str) -> bool:
+    """Whether a column takes property groups from one that gives a dimension in each of its groups."""
+    places = column.get("propertiesFrom")
+    givers = [columns.get(it, {}) for it in places if isinstance(it, str)] if isinstance(places, list) else []
+    groups = [[member(group, "dimensions", key) for _, group in objects(it, "propertyGroups")] for it in givers]
+    return any(it and None not in it for it in groups)
+
+
+def member(owner: Object, part: str, name: str) -> Json:
+    """A member of an object's object, or None."""
+    inner = owner.get(part)
+    return inner.get(name) if isinstance(inner, dict) else None
+
+
 def columns_of(template: Object) -> Object:
     columns = template.get("columns")
     return columns if isinstance(columns, dict) else {}
@@ -64,8 +114,16 @@ def names_in(level: Object) -> Iterator[str]:
     """The names of columns and parameters to which the `dimensions` and `decimals` of an object refer."""
     dimensions = level.get("dimensions")
     for key, text in (*(dimensions.items() if isinstance(dimensions, dict) else ()), ("decimals", level.get("decimals"))):
-        if isinstance(text, str) and text.startswith("$") and not text.startswith("$$"):
-            yield SIDE.sub("", text[1:]) if key == "period" else text[1:]
+        name = reference(key, text)
+        if name is not None:
+            yield name
+
+
+def reference(key: str, text: Json) -> Optional[str]:
+    """The name of the column or parameter to which a dimension's text refers, if it does."""
+    if not isinstance(text, str) or not text.startswith("$") or text.startswith("$$"):
+        return None
+    return SIDE.sub("", text[1:]) if key == "period" else text[1:]
 
 
 def parameters_of_metadata(merged: Merged) -> Iterator[Tuple[str, str, str]]:
@@ -80,15 +138,25 @@ def parameters_of_metadata(merged: Merged) -> Iterator[Tuple[str, str, str]]:
 
 def parameters_of_file(files: Files) -> Iterator[Tuple[str, str, str]]:
     """The same of the parameters file, behind its header. What is wrong with it is left to xbrl-json."""
+    for record in islice(records_of_file(files), 1, None):
+        if len(record) == 2:
+            yield record[0], record[1], files.package.shown(files.name(files.parameters or ""))
+
+
+def is_faulty(files: Files) -> bool:
+    """Whether there is a parameters file that has another header, or a record of another length, than xbrl-json takes."""
+    records = list(records_of_file(files))
+    return files.parameters is not None and (records[:1] != [["name", "value"]] or any(len(it) != 2 for it in records))
+
+
+def records_of_file(files: Files) -> Iterator[List[str]]:
+    """The records of the parameters file, its header first. An empty one stands for what is no CSV."""
     data = files.parameter_text()
     if data is None:
         return
-    label = files.package.shown(files.name(files.parameters or ""))
     csv.field_size_limit(LARGEST_TEXT)
     try:
-        lines = io.TextIOWrapper(io.BytesIO(data), "utf-8", "replace", newline="")
-        for record in islice((it for it in csv.reader(lines) if it), 1, MOST_RECORDS + 1):
-            if len(record) == 2:
-                yield record[0], record[1], label
+        lines = io.TextIOWrapper(io.BytesIO(data), "utf-8-sig", "replace", newline="")
+        yield from islice((it for it in csv.reader(lines) if it), MOST_RECORDS + 1)
     except csv.Error:
-        return
+        yield []

@@ -36,6 +36,7 @@ class Files:
 
     def __init__(self, report: Found, merged: Merged) -> None:
         self.package: Package = report.package
+        self.report = report.label
         self.folder = report.name[: report.name.rfind("/") + 1]
         self.merged = merged
         tables = merged.value.get("tables", {}).values()
@@ -60,23 +61,34 @@ class Files:
             raise Refusal(FILES, self.package.shown(name), f"cannot read (there is no such file; 'parameterURL' of {asker} names it)")
 
     def refuse_unread(self) -> None:
-        """Refuses a CSV file of the report that nothing names: its facts would be missing in silence. A URL that is not plain, or a folder in the
-        place of a table, is left to xbrl-json."""
+        """Refuses a CSV file of the report that nothing names, or that stands too high: its facts would be missing in silence. A URL that is not
+        plain, or a folder in the place of a table, is left to xbrl-json."""
         tables = self.merged.value.get("tables", {}).values()
         urls = [it.get("url") if isinstance(it, dict) else None for it in tables]
         if not all(map(is_plain, urls)) or (self.parameters is None and "parameterURL" in self.merged.value):
             return
         name = next(self.unread(), None)
-        if name is not None and not any(self.package.children(self.name(it)) != ([], []) for it in self.all()):
+        if name is None or any(self.package.children(self.name(it)) != ([], []) for it in self.all()):
+            return
+        if name.startswith(self.folder):
             raise wrong(self.package.shown(name), "is not read: no table of the joined metadata has this url (names are compared exactly)")
+        raise wrong(self.package.shown(name), f"is not read: it stands above '{self.folder[:-1]}', the folder of the report, in which tables are looked for")
 
     def unread(self) -> Iterator[str]:
-        """The CSV files in the report's folder, and in those inside of it, that are neither a table nor the parameters file."""
+        """The CSV files that are neither a table nor the parameters file: those in the report's folder and in those inside of it, then those above."""
         read = {self.package.identity(self.name(it)) for it in self.all()}
         found = (it for it in self.package.files_below(self.folder) if is_csv(it[len(self.folder) :]) and self.package.has(it))
         for folder, names in groupby((it for it in found if self.package.identity(it) not in read), self.part):
             if not self.is_of_another_report(folder):
                 yield from names
+        yield from (it for it in self.files_above() if is_csv(it) and self.package.has(it) and self.package.identity(it) not in read)
+
+    def files_above(self) -> Iterator[str]:
+        """The files that stand directly in one of the folders from the package's root down to the one that holds the report's."""
+        folder = ""
+        for below in self.folder.split("/")[:-1]:
+            yield from (folder + it for it in self.package.children(folder.rstrip("/"))[0])
+            folder += below + "/"
 
     def part(self, name: str) -> str:
         """The report's folder, or the one in it where a file stands in or below that."""

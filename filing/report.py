@@ -10,7 +10,7 @@ from .chain import DOCUMENT_TYPE
 from .finding import Found
 from .packages import Beside, Package
 from .refusals import WRONG, Refusal, wrong
-from .strict_json import Json, read_json
+from .strict_json import Json, RepeatedKey, read_json
 from .urls import Place
 
 REPORTS = "reports/"
@@ -37,6 +37,8 @@ def report_by_itself(label: str) -> Found:
         data = found.package.text(found.name)
         try:
             read_json(data, label)
+        except RepeatedKey:
+            raise
         except Refusal:
             raise wrong(label, "is neither a ZIP nor JSON") from None
     return found
@@ -71,7 +73,8 @@ def check_package_file(package: Package) -> None:
 
 
 def reports_in(package: Package, folder: str, passed: List[Tuple[str, object]]) -> List[str]:
-    """The names of the xBRL-CSV reports in a folder. Other JSON is passed over, and what is no JSON: it is told if there is no report."""
+    """The names of the xBRL-CSV reports in a folder. Other JSON is passed over, and what is no JSON: it is told if there is no report. JSON with a
+    repeated key is not, since the one that is read may be another than the one that says that it is a report."""
     found: List[str] = []
     for file in package.children(folder.rstrip("/"))[0]:
         if not file.lower().endswith(".json"):
@@ -80,7 +83,7 @@ def reports_in(package: Package, folder: str, passed: List[Tuple[str, object]]) 
         try:
             kind = document_type(read_json(package.text(name), package.shown(name)))
         except Refusal as refusal:
-            if refusal.status != WRONG:
+            if refusal.status != WRONG or isinstance(refusal, RepeatedKey):
                 raise
             kind = refusal
         if kind == DOCUMENT_TYPE:

@@ -1,13 +1,14 @@
-"""JSON as xbrl-json reads it: what is no JSON for the converter is refused here too."""
+"""JSON as xbrl-json reads it: what is no JSON for the converter is refused here too, and so is a key that one object has twice."""
 
 from __future__ import annotations
 
 import json
 import math
 import re
-from typing import Any, Dict, List, NoReturn, Union
+from collections import Counter
+from typing import Any, Dict, List, NoReturn, Tuple, Union
 
-from .refusals import wrong
+from .refusals import WRONG, Refusal, wrong
 
 Json = Any
 Object = Dict[str, Any]
@@ -15,13 +16,21 @@ DEEPEST = 127
 SURROGATE = re.compile(rb"\\u[dD][89a-fA-F]")
 
 
+class RepeatedKey(Refusal):
+    """JSON of which one object has a key more than once, so that only one of its values could be read."""
+
+    def __init__(self, file: str, key: str) -> None:
+        super().__init__(WRONG, file, f"has the key '{key}' more than once in one object, and only the last of them would be read")
+
+
 def read_json(data: bytes, label: str) -> Json:
     """The value of a JSON text in UTF-8; one byte-order mark is passed over (RFC 8259)."""
+    repeated: List[str] = []
     try:
         text = data[3:].decode() if data.startswith(b"\xef\xbb\xbf") else data.decode()
         if text.startswith("\ufeff"):
             raise ValueError("it begins with two byte-order marks")
-        value = json.loads(text, parse_constant=no_constant, parse_float=number, parse_int=whole)
+        value = json.loads(text, parse_constant=no_constant, parse_float=number, parse_int=whole, object_pairs_hook=lambda it: object_of(it, repeated))
         if SURROGATE.search(data):
             json.dumps(value, ensure_ascii=False).encode()
     except UnicodeDecodeError as error:
@@ -36,6 +45,17 @@ def read_json(data: bytes, label: str) -> Json:
         raise wrong(label, f"is not JSON: {error}") from None
     if depth(value) > DEEPEST:
         raise wrong(label, f"is nested more than {DEEPEST} levels deep")
+    if repeated:
+        raise RepeatedKey(label, repeated[0])
+    return value
+
+
+def object_of(members: List[Tuple[str, Json]], repeated: List[str]) -> Object:
+    """An object of its members. A key that it has more than once is noted: xBRL-CSV 1.0 has none in a metadata file."""
+    value = dict(members)
+    if len(value) < len(members):
+        times = Counter(key for key, _ in members)
+        repeated.append(next(key for key in times if times[key] > 1))
     return value
 
 

@@ -22,7 +22,8 @@ REPORT                  a report package (a ZIP or an unpacked folder), or a met
 --prepare FOLDER        only makes FOLDER, which is new or empty: meta.json, types.csv, and the report's tables and parameters
 --cache FOLDER          keeps there what the schemas say, so that the next filing of the same taxonomy starts at once
 --unpacked-limit BYTES  how much one ZIP may unpack to ({DEFAULT_LIMIT})
---help                  this text
+-h, --help              prints help
+-V, --version           prints the version of xbrl-json
 
 All other words go to xbrl-json: --out FILE, --workers N, --ring K, --layout L, --progress .. (`xbrl-json --help` tells of them).
 Nothing is ever fetched: a URL that no package has is an error. Inputs are not changed.
@@ -33,7 +34,10 @@ command line. 3: a file is not there, or cannot be read or written. The variable
 # The words of xbrl-json, also those that it is to have.
 OUTPUTS = ("--out", "--faults")
 WITH_VALUE = (*OUTPUTS, "--workers", "--ring", "--layout")
-WITHOUT_VALUE = ("--progress", "--version", "--explain", "--whole")
+WITHOUT_VALUE = ("--progress", "--explain", "--whole")
+OWN_WITH_VALUE = ("--prepare", "--cache", "--unpacked-limit")
+# The words that ask for something in the place of a run, and what.
+ASKING = {"-h": "--help", "--help": "--help", "-V": "--version", "--version": "--version"}
 
 
 class Settings:
@@ -60,6 +64,17 @@ def misuse(what: str) -> Refusal:
     return Refusal(WORDS, "", f"{what}; the words are: {USAGE}")
 
 
+def asked(words: List[str]) -> Optional[str]:
+    """Which of `--help` and `--version` the words ask for, if they do: the first such word that is no option's value, wherever it stands."""
+    left = iter(words)
+    for word in left:
+        if word in ASKING:
+            return ASKING[word]
+        if word in WITH_VALUE or word in OWN_WITH_VALUE:
+            next(left, None)
+    return None
+
+
 def read_words(words: List[str]) -> Settings:
     """The settings that the words give; wrong words are refused with status 2."""
     settings = Settings()
@@ -75,9 +90,9 @@ def read_words(words: List[str]) -> Settings:
             if "" in packages or not packages:
                 raise misuse("--taxonomy names no package")
             settings.taxonomy += packages
-        elif name in ("--prepare", "--cache", "--unpacked-limit"):
+        elif name in OWN_WITH_VALUE:
             if not equals:
-                value = words[at] if at < len(words) and not words[at].startswith("--") else ""
+                value = words[at] if at < len(words) and not words[at].startswith("--") and words[at] not in ASKING else ""
                 at += 1
             take_own(settings, name, value)
         elif name.startswith("--"):

@@ -846,6 +846,46 @@ def what_is_no_metadata(folder: Path) -> None:
     case("numbers as they are written", (b'"decimals":-0.0' in made["meta.json"], b'"a":12345678901234567890123,"b":1.0' in made["meta.json"]), (True, True))
 
 
+def repeated_keys(folder: Path) -> None:
+    """A key that one object has more than once is refused in each JSON file that is read, and is in no way passed over."""
+
+    def told(file: str, key: str) -> str:
+        """The line of a repeated key."""
+        return f"{file}: has the key '{key}' more than once in one object, and only the last of them would be read"
+
+    own = REPORT["reports/report.json"]
+    twice = {
+        "parameters": own[:-1] + ', "parameters": {"a": "1"}, "parameters": {"b": "2"}}',
+        "tables": own[:-1] + ', "tables": {}, "tables": {}, "tables": {}}',
+        "documentInfo": own[:-1] + ', "documentInfo": {}}',
+        "documentType": own.replace("{", '{"documentInfo": {"documentType": "x", "documentType": "x"},', 1),
+        "d": own[:-1] + ', "parameters": {"c": [{"d": 1, "e": 2, "d": 1}], "f": 1, "f": 2}}',
+        "decimals": own[:-1] + ', "decimals": 1, "\\u0064ecimals": 1}',
+        "": own[:-1] + ', "": 1, "": 1}',
+        "a'b": own[:-1] + """, "a'b": 1, "a'b": 1}""",
+    }
+    for key, text in twice.items():
+        for form in ("folder", "zip", "top", "file"):
+            named = {**REPORT, "reports/report.json": text}
+            stops(folder, f"a report with two of '{key}', {form}", told(f"r/{'top/' if form == 'top' else ''}reports/report.json", key), report=named, form=form)
+    for key in ("tables", "t", "columns", "eg"):
+        again = MODULE.replace(f'"{key}"', f'"{key}": {{}}, "{key}"', 1)
+        stops(folder, f"a module with two of '{key}'", told("t0/reg/mod.json", key), taxonomies=[{**TAXONOMY, "reg/mod.json": again}])
+    deep = {"reports/q/report.json": own, "reports/q/t.csv": REPORT["reports/t.csv"]}
+    for key, text in (("a", '{"a": 1, "a": 2}'), ("documentInfo", twice["documentInfo"])):
+        stops(folder, f"another file with two of '{key}'", told("r/reports/a.json", key), report={**REPORT, "reports/a.json": text})
+        stops(folder, f"another file with two of '{key}', one folder higher", told("r/reports/a.json", key), report={**deep, "reports/a.json": text})
+    kind = '{"documentInfo": {"documentType": "https://xbrl.org/report-package/2023"}, "a": 1, "a": 1}'
+    stops(folder, "a package file with a repeated key", told("r/META-INF/reportPackage.json", "a"), report={**REPORT, "META-INF/reportPackage.json": kind})
+    broken = own[:-1] + ', "a": 1, "a": 1'
+    line = f"r/reports/report.json: is not JSON: Expecting ',' delimiter (line 1, column {len(broken) + 1})"
+    stops(folder, "what is no JSON has no keys", line, report={**REPORT, "reports/report.json": broken})
+    once = {"parameters": {"a": "1", "A": "1", "b": "a"}, "dimensions": {"a": "1", "unit": "eg:a"}}
+    makes(folder, "one key in several objects", parts=once, report={**REPORT, "reports/report.json": own[:-1] + ", " + json.dumps(once)[1:]})
+    write(folder, {"j.zip": twice["tables"]})
+    case("a metadata file that is called as a package", run(["j.zip", "--prepare", "o"], folder), (1, f"xbrl-filing: {told('j.zip', 'tables')}\n"))
+
+
 def final_parts(folder: Path) -> None:
     """What a file declares final: files that extend it add nothing to it."""
     top, low = "r/reports/report.json", "t0/reg/mod.json"
@@ -1849,7 +1889,7 @@ def tables(folder: Path) -> None:
         module = {**TAXONOMY, "reg/mod.json": MODULE.replace('"tables"', '"parameterURL": "p.csv", "tables"')}
         line = "r/reports/p.csv: cannot read (there is no such file; 'parameterURL' of t0/reg/mod.json names it)"
         stops(folder, f"a parameters file that is not there, {form}", line, 3, taxonomies=[module], form=form)
-    deep = {**{it.replace("reports/", "reports/q/"): text for it, text in REPORT.items()}, "reports/t.csv": "cash\n9\n"}
+    deep = {**{it.replace("reports/", "reports/q/"): text for it, text in REPORT.items()}, "reports/r/t.csv": "cash\n9\n"}
     case("tables lie beside the report's own file", makes(folder, "a deep report", MERGED, report=deep).get("t.csv"), b"cash\n1\n")
 
 
@@ -1898,7 +1938,7 @@ def files_that_nothing_names(folder: Path) -> None:
         many = {f"reports/{it}.csv": rows for it in ("t", "sub/u", "z", "b/a", "sub/v")}
         stops(folder, f"the first of several, {form}", f"r/reports/b/a.csv: {said}", report={**bare, **many}, form=form, **inputs)
         passed = ["t.csv", "sub/u.csv", "t.txt", "T.csv.bak", "csv", "._T.csv", ".x/T.csv", "a/.x/T.csv", "__MACOSX/T.csv"]
-        passed += ["../T.csv", "../META-INF/T.csv", "../other/T.csv"]
+        passed += ["../META-INF/T.csv", "../other/T.csv"]
         named = {f"reports/{it}".replace("reports/../", ""): rows for it in passed}
         made = makes(folder, f"what is none of the report, {form}", parts={"tables": optional}, report={**bare, **named}, form=form, **inputs)
         case(f"what is none of the report is not prepared, {form}", sorted(made), ["meta.json", "p.csv", "sub/u.csv", "t.csv", "types.csv"])
@@ -1908,7 +1948,7 @@ def files_that_nothing_names(folder: Path) -> None:
             other = {**bare, f"reports/{name}": text, "reports/q/T.csv": rows}
             stops(folder, f"files beside {name}, {form}", f"r/reports/q/T.csv: {said}", report=other, form=form, **inputs)
         moved = {it.replace("reports/", "reports/q/"): text for it, text in bare.items()}
-        around = {"reports/T.csv": rows, "reports/r/T.csv": rows, "reports/q2/T.csv": rows}
+        around = {"reports/r/T.csv": rows, "reports/q2/T.csv": rows, "META-INF/T.csv": rows, "other/T.csv": rows, "reports/T.txt": rows}
         makes(folder, f"files beside the report's folder, {form}", parts={"tables": optional}, report={**moved, **around}, form=form, **inputs)
         inside = {**moved, "reports/q/a/report.json": meta(), "reports/q/a/T.csv": rows}
         stops(folder, f"no report stands so deep, {form}", f"r/reports/q/a/T.csv: {said}", report=inside, form=form, **inputs)
@@ -1928,6 +1968,47 @@ def files_that_nothing_names(folder: Path) -> None:
         write(folder, {"kept.json": "kept"})
         seen = start(["zipped.zip", "--taxonomy", "z", *words], folder), (folder / "kept.json").read_text()
         case(f"nothing is converted then: {words}", seen, ((1, b"", f"xbrl-filing: zipped.zip/reports/T.csv: {said}\n"), "kept"))
+
+
+def files_above_the_report(folder: Path) -> None:
+    """A CSV file directly in a folder between the package's root and the report's folder is refused too; above and beside these nothing is looked at."""
+    optional = {"t": {"url": "t.csv", "optional": True}}
+    inputs = {"taxonomies": [{**TAXONOMY, "reg/mod.json": meta(INFO, tableTemplates={"t": TEMPLATE}, tables=optional)}]}
+    bare = {"reports/report.json": REPORT["reports/report.json"]}
+    lower = {"reports/q/report.json": REPORT["reports/report.json"]}
+    kind = {"META-INF/reportPackage.json": '{"documentInfo": {"documentType": "https://xbrl.org/report-package/2023"}}'}
+
+    def said(file: str, place: str) -> str:
+        return f"{file}: is not read: it stands above '{place}', the folder of the report, in which tables are looked for"
+
+    for form in ("folder", "zip", "top"):
+        top = "r/top" if form == "top" else "r"
+        for name in ("t.csv", "T.CSV", "other.csv"):
+            stops(folder, f"{name} above the report, {form}", said(f"{top}/{name}", "reports"), report={**bare, name: "cash\n1\n"}, form=form, **inputs)
+            for place in ("", "reports/"):
+                file = place + name
+                stops(folder, f"{file} above a deeper report, {form}", said(f"{top}/{file}", "reports/q"), report={**lower, file: "x"}, form=form, **inputs)
+        stops(folder, f"a table that stands in both places, {form}", said(f"{top}/t.csv", "reports"), report={**REPORT, "t.csv": "x"}, form=form, **inputs)
+        both_places = {**bare, "a.csv": "x", "reports/b.csv": "x"}
+        line = f"{top}/reports/b.csv: is not read: no table of the joined metadata has this url (names are compared exactly)"
+        stops(folder, f"what stands in the report's folder comes first, {form}", line, report=both_places, form=form, **inputs)
+        passed = {"._t.csv": "x", ".t.csv": "x", "t.txt": "x", "t.csv.bak": "x", "data/t.csv": "x", "META-INF/t.csv": "x", "t.csv.d/x": "x"}
+        for files in (REPORT, {it.replace("reports/", "reports/q/"): text for it, text in REPORT.items()}):
+            makes(folder, f"what is no table above the report, {form}", parts={"tables": optional}, report={**kind, **files, **passed}, form=form, **inputs)
+        wrong_url = [{**TAXONOMY, "reg/mod.json": meta(INFO, tables={"t": {"url": "../t.csv"}})}]
+        makes(folder, f"a URL that leads there, {form}", parts={"tables/t/url": "../t.csv"}, report={**bare, "t.csv": "x"}, taxonomies=wrong_url, form=form)
+    makes(folder, "beside the one folder at the top", MERGED, report={"t.csv": "x", **{f"one/{it}": text for it, text in REPORT.items()}})
+    makes(folder, "above a lone metadata file", MERGED, report={**REPORT, "t.csv": "x"}, form="file")
+    write(folder, {**{f"l/{it}": text for it, text in REPORT.items()}, **{f"t/{it}": text for it, text in TAXONOMY.items()}, "out.csv": "x"})
+    (folder / "l/reports/t.csv").rename(folder / "l/data.csv")
+    (folder / "l/reports/t.csv").symlink_to("../data.csv")
+    case("a table by a link to a file above", run(["l", "--taxonomy", "t", "--prepare", "o1"], folder), (0, ""))
+    (folder / "l/a.csv").symlink_to("none.csv")
+    (folder / "l/b.csv").mkdir()
+    case("what is no file above", run(["l", "--taxonomy", "t", "--prepare", "o2"], folder), (0, ""))
+    (folder / "l/c.csv").symlink_to("../out.csv")
+    outside = "xbrl-filing: l/c.csv: is a link that leads outside of l\n"
+    case("a link above that leads outside", run(["l", "--taxonomy", "t", "--prepare", "o3"], folder), (1, outside))
 
 
 def links_to_files_that_nothing_names(folder: Path) -> None:
@@ -2051,6 +2132,97 @@ def parameters_in_other_letters(folder: Path) -> None:
     broken = filed("Unit", **unit)
     broken["report"]["reports/p.csv"] = b"name,value\n\n\xff\xfe,\nUnit\nunit,1,2\n" + b'"'
     makes(folder, "a parameters file that is the converter's fault", parts=unit, **broken)
+
+
+def filed_with(filed: str, report: Files = REPORT, **parts: Any) -> dict[str, Any]:
+    """A filing with a parameters file, and what its module says beside the table of REPORT."""
+    module = meta(INFO, **{"tableTemplates": {"t": TEMPLATE}, "tables": {"t": {"url": "t.csv"}}, "parameterURL": "p.csv", **parts})
+    return {"report": {**report, "reports/p.csv": filed}, "taxonomies": [{**TAXONOMY, "reg/mod.json": module}]}
+
+
+def parameters_of_each_fact(folder: Path) -> None:
+    """A parameter from which the report's own level takes the entity or the period of facts is refused where nothing gives it."""
+    header, both_given = "name,value\n", "name,value\nentityID,lei:x\nrefPeriod,2025Q3\n"
+
+    def told(key: str, name: str, file: str = "r/reports/p.csv", table: str = "t") -> str:
+        """The line of a parameter without a value."""
+        asker = f"'dimensions.{key}' of t0/reg/mod.json"
+        return f"{file}: has no value for the parameter '{name}', to which {asker} refers: facts of the table '{table}' would have no {key}"
+
+    for form in ("folder", "zip", "file"):
+        for period in ("$refPeriod", "$refPeriod@start", "$refPeriod@end"):
+            of_all = {"dimensions": {"entity": "$entityID", "period": period, "unit": "$unit"}, "decimals": "$places"}
+            makes(folder, f"entity and period are given {period}, {form}", parts=of_all, form=form, **filed_with(both_given, **of_all))
+            for key, name, other in (("entity", "entityID", "entityId2"), ("period", "refPeriod", "refPeriot")):
+                less = "".join(it for it in both_given.splitlines(True) if not it.startswith(name))
+                line = told(key, name)
+                stops(folder, f"no parameter for {key} {period}, {form}", line, form=form, **filed_with(less, **of_all))
+                stops(folder, f"another name for {key} {period}, {form}", line, form=form, **filed_with(both_given.replace(name, other), **of_all))
+                stops(folder, f"an empty parameter for {key} {period}, {form}", line, form=form, **filed_with(f"{less}{name},\n", **of_all))
+                makes(folder, f"a parameter for {key} that says none {period}, {form}", parts=of_all, form=form, **filed_with(f"{less}{name},#none\n", **of_all))
+        own = {"parameters": {"refPeriod": "2025"}}
+        for where, more in (("the metadata", own), ("the table", {"tables": {"t": {"url": "t.csv", **own}}})):
+            makes(folder, f"{where} gives the period, {form}", parts=more, form=form, **filed_with(header, dimensions={"period": "$refPeriod"}, **more))
+    period = {"dimensions": {"period": "$refPeriod"}}
+    stops(folder, "an empty parameters file", told("period", "refPeriod"), **filed_with(header, **period))
+    stops(folder, "a parameter of the metadata that is empty", told("period", "refPeriod"), **filed_with(header, parameters={"refPeriod": ""}, **period))
+    module = [{**TAXONOMY, "reg/mod.json": MODULE.replace('"tables"', '"dimensions": {"entity": "$entityID"}, "tables"')}]
+    stops(folder, "no parameters file", told("entity", "entityID", "r/reports/report.json"), taxonomies=module)
+    two = {"t": {"url": "t.csv", "parameters": {"refPeriod": "2025"}}, "u": {"url": "u.csv", "template": "t"}}
+    there = {**REPORT, "reports/u.csv": "cash\n1\n"}
+    stops(folder, "the parameter of another table", told("period", "refPeriod", table="u"), **filed_with(header, there, tables=two, **period))
+    two["u"]["optional"] = True
+    makes(folder, "a table that is not filed", parts={"tables": two}, **filed_with(header, tables=two, **period))
+
+
+def facts_that_do_without_a_parameter(folder: Path) -> None:
+    """The report's own entity or period matters where a fact has none of its own, and only there."""
+    cash, own = {"concept": "eg:Cash"}, {"concept": "eg:Cash", "period": "2025"}
+    said = "to which 'dimensions.period' of t0/reg/mod.json refers: facts of the table 't' would have no period"
+    line = f"r/reports/p.csv: has no value for the parameter 'refPeriod', {said}"
+    given, left, bare = {"dimensions": {"period": "2025"}}, {"dimensions": {"unit": "eg:a"}}, {}
+
+    def grouped(*groups: Any, **column: Any) -> dict[str, Any]:
+        """A template whose column of facts takes these property groups."""
+        return {"columns": {"k": {"propertyGroups": dict(zip("abc", groups))}, "cash": {"dimensions": cash, "propertiesFrom": ["k"], **column}}}
+
+    for name, template, refused in (
+        ("the template has it", {**TEMPLATE, **given}, False),
+        ("the template has another", {**TEMPLATE, **left}, True),
+        ("the column has it", {"columns": {"cash": {"dimensions": own}}}, False),
+        ("one of two columns has it", {"columns": {"cash": {"dimensions": own}, "b": {"dimensions": cash}}}, True),
+        ("columns without facts", {"columns": {"cash": {"dimensions": own}, "b": {}, "c": {"comment": True}}}, False),
+        ("no column with facts", {"columns": {"cash": {}}}, False),
+        ("a column of the name", {"columns": {"cash": {"dimensions": cash}, "refPeriod": {}}}, False),
+        ("each group has it", grouped(given, given), False),
+        ("one of two groups has it", grouped(given, left), True),
+        ("no group has it", grouped(left, bare), True),
+        ("no groups", grouped(), True),
+        ("groups that nothing takes", grouped(given, propertiesFrom=[]), True),
+        ("groups beside a column's own", grouped(bare, dimensions=own), False),
+        ("a template that is not there", None, False),
+    ):
+        parts = {"tableTemplates": {"t": template} if template else {"u": TEMPLATE}, "dimensions": {"period": "$refPeriod"}}
+        if refused:
+            stops(folder, name, line, **filed_with("name,value\n", **parts))
+        else:
+            makes(folder, name, parts={"dimensions": parts["dimensions"]}, **filed_with("name,value\n", **parts))
+    for text in ("2025", "$$refPeriod", "$rowNumber", "#none", 7, None):
+        makes(folder, f"a period that is {text}", parts={"dimensions": {"period": text}}, **filed_with("name,value\n", dimensions={"period": text}))
+    other = {"unit": "$unit", "eg:Region": "$region", "concept": "$what", "language": "$language"}
+    makes(folder, "references of other dimensions", parts={"dimensions": other}, **filed_with("name,value\n", dimensions=other, decimals="$places"))
+    template = {"columns": {"cash": {"dimensions": {**cash, "entity": "$entityID"}}}, "dimensions": {"period": "$refPeriod"}}
+    makes(folder, "references that are not the report's", parts={"parameterURL": "p.csv"}, **filed_with("name,value\n", tableTemplates={"t": template}))
+    for table in ({"url": ["t.csv"]}, 7, {"url": "t.csv", "template": ["t"]}, {"url": "none.csv", "optional": True}):
+        made = filed_with("name,value\n", tables={"t": table}, dimensions={"period": "$refPeriod"})
+        if "t.csv" not in json.dumps(table):
+            made["report"].pop("reports/t.csv")
+        makes(folder, f"a table without facts: {table}", parts={"tables/t": table}, **made)
+    for text in ("", "name;value\n", "Name,value\n", "refPeriod,2025\n", "name,value\nrefPeriod;2025\n", "name,value\na,b,c\n", 'name,value\n"xxx'):
+        faulty = filed_with(text, dimensions={"period": "$refPeriod"})
+        makes(folder, f"a parameters file that is the converter's fault: {text}", parts={"parameterURL": "p.csv"}, **faulty)
+    marked = b"\xef\xbb\xbfname,value\r\n\r\nrefPeriod,2025\r\n"
+    makes(folder, "a byte-order mark and lines without a character", parts={"parameterURL": "p.csv"}, **filed_with(marked, dimensions={"period": "$refPeriod"}))
 
 
 def heeding() -> None:
@@ -2549,7 +2721,21 @@ def words(folder: Path) -> None:
     version = subprocess.run([PROGRAM, "--version"], capture_output=True, timeout=60).stdout
     case("--version", start(["--version"], folder), (0, version, ""))
     case("-h is --help", start(["-h"], folder), start(["--help"], folder))
-    case("-h is no word beside others", start(["r", "-h"], folder)[0], 2)
+    help_text = start(["--help"], folder)[1]
+    for before, after in ((["r"], []), ([], ["r"]), (["r", "--taxonomy", "t"], []), (["r", "--taxonomy"], ["t"]), (["r", "r2"], ["--out", "x"])):
+        for word in ("-V", "--version"):
+            case(f"{word} after {before} and before {after}", start([*before, word, *after], folder), (0, version, ""))
+        for word in ("-h", "--help"):
+            case(f"{word} after {before} and before {after}", start([*before, word, *after], folder), (0, help_text, ""))
+    for given, wanted in ((["-V", "-h"], version), (["-h", "--version"], help_text), (["--out", "x", "-V"], version), (["--whole", "-h"], help_text)):
+        case(f"the first of several words: {given}", start(given, folder), (0, wanted, ""))
+    for option in ("--prepare", "--cache", "--unpacked-limit"):
+        for word in ("-V", "-h", "--help", "--version"):
+            case(f"{word} is no value of {option}", run(["r", option, word], folder), (2, f"xbrl-filing: {option} needs a value{usage}"))
+    for option in ("--out", "--workers"):
+        status, out, err = start(["r", "--taxonomy", "t", option, "-V"], folder)
+        case(f"-V is no value of {option}, says xbrl-json", (status, out, err.startswith("error: a value is required")), (2, b"", True))
+    case("the help names all four words", [it in help_text.decode() for it in ("\n-h, --help ", "\n-V, --version ")], [True, True])
     status, out, err = start(["r", "--help"], folder)
     case("--help", (status, b"--taxonomy PACKAGE.." in out, b"It is not proved" in out, err), (0, True, True, ""))
     with open("/dev/full", "wb") as full:
@@ -3150,6 +3336,7 @@ PARTS = (
     entry_points,
     chains,
     what_is_no_metadata,
+    repeated_keys,
     final_parts,
     prefixes,
     keys_that_become_one,
@@ -3172,8 +3359,11 @@ PARTS = (
     tables,
     tables_that_are_none,
     files_that_nothing_names,
+    files_above_the_report,
     links_to_files_that_nothing_names,
     parameters_in_other_letters,
+    parameters_of_each_fact,
+    facts_that_do_without_a_parameter,
     temporary_files,
     signals,
     a_signal_between_two_steps,

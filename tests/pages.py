@@ -1,12 +1,12 @@
 #!/usr/bin/env python3
-"""What describes the program's words, against its own `--help` and `--version`: the man page, the completions, the list of changes.
+"""What describes the program's words, against its own `--help` and `--version`: the man pages, the completions, the list of changes.
 
     tests/pages.py PROGRAM
 
 The man page must have each argument, option and status that `--help` has, with its text, its value's name, its default and its possible
-values, and no other. The completions for bash, zsh and fish must offer the same options, the possible values where there are some, and files
-where a file is wanted; each is run in its shell, zsh and fish where they are installed. Each case that is not as it must be has a line; the
-last line counts. Python 3.9 or later and bash are needed.
+values, and no other; so must the page of `xbrl-filing`, of its own `--help`. The completions for bash, zsh and fish must offer the same options,
+the possible values where there are some, and files where a file is wanted; each is run in its shell, zsh and fish where they are installed. Each
+case that is not as it must be has a line; the last line counts. Python 3.9 or later and bash are needed.
 """
 import os
 import pty
@@ -72,27 +72,38 @@ def help_in(text: str) -> Help:
     return Help(parts["Usage"].strip(), option_in(lines["Arguments"][0]), [option_in(it) for it in lines["Options"]], statuses)
 
 
+def help_of_filings(text: str) -> Help:
+    """What the --help of xbrl-filing says: lines `-h, --help  text`, `REPORT  text`, and the statuses in one sentence each."""
+    usage = "\n".join(re.findall(r"^ +(xbrl-filing .*)", text, re.M))
+    lines = re.findall(r"^(?:(-\w), )?(--[\w-]+)?(?: ?\b([A-Z]+(?:\.\.)?))?  +(\S.*)", text, re.M)
+    found = [Option(short, name, value, words[0].upper() + words[1:].replace("`", ""), "", []) for short, name, value, words in lines if name or value]
+    said = " ".join(text[text.index("\nStatus 0: ") :].split())
+    return Help(usage, found[0], found[1:], dict(re.findall(r"(\d): (.*?)\.(?= |$)", said)))
+
+
 def plain(text: str) -> str:
     """A text of a man page without its marks."""
     return re.sub(r"\\f[BIR]", "", text).replace("\\-", "-")
 
 
-def the_man_page(said: Help, version: str) -> None:
-    """docs/xbrl-json.1."""
-    page = (TOP / "docs/xbrl-json.1").read_text()
+def the_man_page(program: str, other: str, said: Help, version: str) -> None:
+    """The page of a program in docs/, which names the other program."""
+    page = (TOP / f"docs/{program}.1").read_text()
     sections = {name: plain(part) for name, part in re.findall(r"^\.SH (.*)\n((?:(?!\.SH).*\n)*)", page, re.M)}
-    case("man page: the version", re.findall(r'^\.TH XBRL\\-JSON 1 "[^"]*" "xbrl\\-json ([\d.]+)"', page, re.M) == [version], version)
-    case("man page: the usage", sections["SYNOPSIS"].strip() == re.sub("[<>]", "", said.usage), sections["SYNOPSIS"], said.usage)
+    head = re.findall(r'^\.TH (\S+) 1 "[^"]*" "xbrl\\-json ([\d.]+)"', page, re.M)
+    case(f"{program}.1: the version", head == [(program.upper().replace("-", "\\-"), version)], head, version)
+    case(f"{program}.1: the usage", sections["SYNOPSIS"].replace("\n.br", "").strip() == re.sub("[<>]", "", said.usage), sections["SYNOPSIS"], said.usage)
     entries = dict(re.findall(r"^\.TP\n(.*)\n((?:[^.].*\n)*)", sections["OPTIONS"], re.M))
     wanted = {" ".join(filter(None, (", ".join(it.words()), it.value))): it for it in [said.meta, *said.options]}
-    case("man page: the options", list(entries) == list(wanted), list(entries), list(wanted))
+    case(f"{program}.1: the options", list(entries) == list(wanted), list(entries), list(wanted))
     for name in wanted.keys() & entries.keys():
         it, text = wanted[name], entries[name].replace("\n", " ")
-        case(f"man page: {name}", text.startswith(f"{it.text}. "), text, it.text)
-        case(f"man page: {name}: default and values", not it.default or f"default is {it.default}." in text, text)
-        case(f"man page: {name}: values", all(value in text.split(".")[1] for value in it.values), text)
+        case(f"{program}.1: {name}", text.startswith(f"{it.text}. "), text, it.text)
+        case(f"{program}.1: {name}: default and values", not it.default or f"default is {it.default}." in text, text)
+        case(f"{program}.1: {name}: values", all(value in text.split(".")[1] for value in it.values), text)
     statuses = re.findall(r"^\.TP\n(\d+)\n(.*)\n", sections["EXIT STATUS"], re.M)
-    case("man page: the statuses", dict(statuses) == said.statuses, statuses, said.statuses)
+    case(f"{program}.1: the statuses", dict(statuses) == said.statuses, statuses, said.statuses)
+    case(f"{program}.1: the other program", f"{other}(1), " in sections.get("SEE ALSO", ""), sections.get("SEE ALSO"))
 
 
 def by_bash(folder: Path, *words: str) -> List[str]:
@@ -211,7 +222,9 @@ def main(program: str) -> int:
     version = found.group(1) if found else printed[1].split()[1]
     changes = re.findall(r"^## ([\d.]+)", (TOP / "CHANGELOG.md").read_text(), re.M)
     case("CHANGELOG.md begins with this version", changes[:1] == [version], changes, version)
-    the_man_page(said, version)
+    the_man_page("xbrl-json", "xbrl-filing", said, version)
+    of_filings = subprocess.run([TOP / "xbrl-filing", "--help"], capture_output=True, text=True, stdin=subprocess.DEVNULL).stdout
+    the_man_page("xbrl-filing", "xbrl-json", help_of_filings(of_filings), version)
     with tempfile.TemporaryDirectory() as name:
         folder = Path(name)
         (folder / "sub").mkdir()
