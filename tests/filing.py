@@ -2207,6 +2207,11 @@ def facts_that_do_without_a_parameter(folder: Path) -> None:
             stops(folder, name, line, **filed_with("name,value\n", **parts))
         else:
             makes(folder, name, parts={"dimensions": parts["dimensions"]}, **filed_with("name,value\n", **parts))
+
+
+def parameters_that_are_no_loss(folder):
+    """Texts that refer to no parameter, references that are not those of all facts, and what is the converter's fault."""
+    cash = {"concept": "eg:Cash"}
     for text in ("2025", "$$refPeriod", "$rowNumber", "#none", 7, None):
         makes(folder, f"a period that is {text}", parts={"dimensions": {"period": text}}, **filed_with("name,value\n", dimensions={"period": text}))
     other = {"unit": "$unit", "eg:Region": "$region", "concept": "$what", "language": "$language"}
@@ -3364,6 +3369,7 @@ PARTS = (
     parameters_in_other_letters,
     parameters_of_each_fact,
     facts_that_do_without_a_parameter,
+    parameters_that_are_no_loss,
     temporary_files,
     signals,
     a_signal_between_two_steps,
