@@ -2209,7 +2209,7 @@ def facts_that_do_without_a_parameter(folder: Path) -> None:
             makes(folder, name, parts={"dimensions": parts["dimensions"]}, **filed_with("name,value\n", **parts))
 
 
-def parameters_that_are_no_loss(folder):
+def parameters_that_are_no_loss(folder: Path) -> None:
     """Texts that refer to no parameter, references that are not those of all facts, and what is the converter's fault."""
     cash = {"concept": "eg:Cash"}
     for text in ("2025", "$$refPeriod", "$rowNumber", "#none", 7, None):
