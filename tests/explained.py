@@ -37,7 +37,7 @@ CASH = ("tableTemplates", "p", "columns", "cash")
 AT_CASH = "/tableTemplates/p/columns/cash"
 LONG = "x" * 81
 UNKNOWN = "no explicit or typed dimension of this name is in the types table"
-NO_PATH = "is not a plain relative path: parts between slashes, none of them empty, . or .., and no % : ? # or backslash"
+NO_PATH = "is not a plain relative path: no empty part, no . or .., no % : ? # or backslash"
 NO_REFERENCE = "this is no reference: behind $ stands the name of a column or parameter"
 
 # Of the metadata: the keys of a place, what is put there (None: it is taken out), the fault, and the three lines.

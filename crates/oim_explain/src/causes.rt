@@ -58,7 +58,7 @@ fn of_property(name: &str, value: Option<&Value>) -> &'static str {
     match name {
         "url" => match value {
             Some(_) =>
-                "url is not a plain relative path: parts between slashes, none of them empty, . or .., and no % : ? # or backslash",
+                "url is not a plain relative path: no empty part, no . or .., no % : ? # or backslash",
             None => "url is missing",
         },
         "columns" => match value {
@@ -140,7 +140,7 @@ fn of_dimension(keys: &[Text], value: Option<&Value>) -> &'static str {
 fn of_parameter(keys: &[Text], value: Option<&Value>) -> &'static str {
     let name = key_from_end(keys, 0);
     if name == "parameterURL" && keys.len() == 1 {
-        return "parameterURL is not a plain relative path: parts between slashes, none of them empty, . or .., and no % : ? # or backslash";
+        return "parameterURL is not a plain relative path: no empty part, no . or .., no % : ? # or backslash";
     }
     if keys.len() % 2 == 1 {
         return "parameters is not an object";
