@@ -14,9 +14,9 @@ use Rattle.oim_resolve.specs.declared.fact.CellFault.{CellFault}
 use Rattle.oim_resolve.specs.FactParts.{FactParts as Fact}
 use Rattle.oim_resolve.specs.declared.fact.Row.{Row}
 use Rattle.oim_rows.specs.Header.{Header, fault_at, file_fault, header_fault, header_of, is_empty, is_unknown, names_row_id, or_else, repeat_from}
-use Rattle.oim_rows.specs.RowFacts.{Reading, at_place, checked, fact_at, facts_from, id_fault, id_kind, id_place_of, ids_after, in_front}
+use Rattle.oim_rows.specs.RowFacts.{TableHeaderValue, at_place, checked, fact_at, facts_from, id_fault, id_kind, id_place_of, ids_after, in_front}
 use Rattle.oim_rows.specs.RowFacts.{is_fact_column, is_not_text, limit_fault, ragged_fault, row_fault, row_of, row_result, text_fault}
-use Rattle.oim_rows.specs.Streams.{Stream, reading_of, row_in_front, stream_from, stream_of, table_stream}
+use Rattle.oim_rows.specs.Streams.{Stream, table_header_of, row_in_front, stream_from, stream_of, table_stream}
 use Rattle.oim_rows.specs.declared.fault.TableFault.{TableFault}
 use Rattle.oim_rows.specs.declared.fault.TableKind.{TableKind}
 use Rattle.oim_rows.specs.declared.fault.TableKind.TheVariants as kind
@@ -87,13 +87,13 @@ own_id_kind : (ids : List Field) (f : Field) → IsOwnKind (id_kind ids f)
 own_id_kind ids f =
     kind_if (is_empty f) kind.MissingRowId _ refl (kind_if (not (is_row_identifier f)) kind.BadRowId _ refl (kind_if (list_any (bytes_eq f) ids) kind.RepeatedRowId None refl tt))
 
-own_id : (g : Reading) (o : Option ℕ) (n : ℕ) (ids : List Field) (r : Record) → IsOwn g.table (id_fault g o n ids r)
+own_id : (g : TableHeaderValue) (o : Option ℕ) (n : ℕ) (ids : List Field) (r : Record) → IsOwn g.table (id_fault g o n ids r)
 own_id g None n ids r = tt
 own_id g (Some p) n ids r = own_kind g.table n (p + 1) (id_kind ids (unwrap_or (field_at r p) [])) (own_id_kind ids (unwrap_or (field_at r p) []))
 
-own_row : (g : Reading) (n : ℕ) (ids : List Field) (r : Record) → IsOwn g.table (row_fault g n ids r)
+own_row : (g : TableHeaderValue) (n : ℕ) (ids : List Field) (r : Record) → IsOwn g.table (row_fault g n ids r)
 own_row g n ids r =
-    own_or g.table (ragged_fault g n r) _ (own_if (not (length r == length g.header)) g.table n kind.Ragged None refl tt)
+    own_or g.table (ragged_fault g n r) _ (own_if (not (length r == length g.columns)) g.table n kind.Ragged None refl tt)
     (own_or g.table (text_fault g n r) _ (own_place g.table n kind.NotUtf8 (position_from is_not_text 0 r) refl)
     (own_or g.table (limit_fault g n) _ (own_if (nat_lt g.limit n) g.table n kind.TooManyRows None refl tt)
     (own_id g (id_place_of g) n ids r)))
@@ -126,26 +126,26 @@ own_checked : (table : ℕ) (o : Option TableFault) (x : Result (List Fact) Tabl
 own_checked table None x p q = q
 own_checked table (Some e) x p q = p
 
-own_result : (g : Reading) (n : ℕ) (ids : List Field) (r : Record) → IsOwnErr g.table (row_result g n ids r)
-own_result g n ids r = own_checked g.table (row_fault g n ids r) (facts_from g.report g.table (row_of g n r) 0 g.header) (own_row g n ids r) (own_facts g.report g.table (row_of g n r) 0 g.header)
+own_result : (g : TableHeaderValue) (n : ℕ) (ids : List Field) (r : Record) → IsOwnErr g.table (row_result g n ids r)
+own_result g n ids r = own_checked g.table (row_fault g n ids r) (facts_from g.report g.table (row_of g n r) 0 g.columns) (own_row g n ids r) (own_facts g.report g.table (row_of g n r) 0 g.columns)
 
 own_in_front : (table : ℕ) (x : Result (List Fact) TableFault) (s : Stream) → IsOwnErr table x → IsOwn table s.fault → IsOwn table (row_in_front x s).fault
 own_in_front table (Err e) s p q = p
 own_in_front table (Ok fs) s p q = q
 
-own_from : (g : Reading) (n : ℕ) (ids : List Field) (rows : List Record) → IsOwn g.table (stream_from g n ids rows).fault
+own_from : (g : TableHeaderValue) (n : ℕ) (ids : List Field) (rows : List Record) → IsOwn g.table (stream_from g n ids rows).fault
 unfolding stream_from
 own_from g n ids [] = tt
 own_from g n ids (r ∷ rows) =
     own_in_front g.table (row_result g n ids r) (stream_from g (n + 1) (ids_after (id_place_of g) ids r) rows) (own_result g n ids r) (own_from g (n + 1) (ids_after (id_place_of g) ids r) rows)
 
 good_header : (report : ReportValue) (table limit : ℕ) (r : Record) (rs : List Record) → header_fault report table r ≡ None
-    → stream_of report table limit (r ∷ rs) ≡ stream_from (reading_of report table limit r) 1 [] rs
+    → stream_of report table limit (r ∷ rs) ≡ stream_from (table_header_of report table limit r) 1 [] rs
 good_header report table limit r rs is = rw is refl
 
 own_under : (report : ReportValue) (table limit : ℕ) (r : Record) (rs : List Record) (o : Option TableFault) → header_fault report table r ≡ o
     → IsOwn table (stream_of report table limit (r ∷ rs)).fault
-own_under report table limit r rs None is = subst (λ (s : Stream). IsOwn table s.fault) (sym (good_header report table limit r rs is)) (own_from (reading_of report table limit r) 1 [] rs)
+own_under report table limit r rs None is = subst (λ (s : Stream). IsOwn table s.fault) (sym (good_header report table limit r rs is)) (own_from (table_header_of report table limit r) 1 [] rs)
 own_under report table limit r rs (Some e) is =
     subst (λ (s : Stream). IsOwn table s.fault) (sym (refused_header report table limit (r ∷ rs) e is)) (subst (λ (o : Option TableFault). IsOwn table o) is (own_header report table r))
 

@@ -11,7 +11,7 @@ use Rattle.oim_resolve.specs.FactParts.{FactParts as Fact}
 use Rattle.oim_decode.specs.Apart.{Apart, apart_from, apart_row, cut_at, id_in, joined, repeated_from, repeated_id}
 use Rattle.oim_rows.specs.Header.{fault_at, is_empty, or_else}
 use Rattle.oim_decode.specs.Pieces.{PieceThenRest, RowsInPieces, behind, pieces_from, records_of, stream_then}
-use Rattle.oim_rows.specs.RowFacts.{Reading, checked, facts_from, id_fault, id_place_of, ids_after, limit_fault, ragged_fault, row_fault, row_of, row_result, text_fault}
+use Rattle.oim_rows.specs.RowFacts.{TableHeaderValue, checked, facts_from, id_fault, id_place_of, ids_after, limit_fault, ragged_fault, row_fault, row_of, row_result, text_fault}
 use Rattle.oim_rows.specs.Streams.{Stream, ending, row_in_front, stream_from}
 use Rattle.oim_rows.specs.WholeTable.{ids_of}
 use Rattle.oim_rows.specs.declared.fault.TableFault.{TableFault}
@@ -24,7 +24,7 @@ abbrev repeats_at : ℕ → Option ℕ → ℕ → List Field → Record → Opt
 repeats_at table None n before r = None
 repeats_at table (Some p) n before r = if list_any (bytes_eq (unwrap_or (field_at r p) [])) before then Some (fault_at table n (p + 1) kind.RepeatedRowId) else None
 
-id_fault-apart : (g : Reading) (o : Option ℕ) (n : ℕ) (before : List Field) (r : Record) → id_fault g o n before r ≡ or_else (id_fault g o n [] r) (repeats_at g.table o n before r)
+id_fault-apart : (g : TableHeaderValue) (o : Option ℕ) (n : ℕ) (before : List Field) (r : Record) → id_fault g o n before r ≡ or_else (id_fault g o n [] r) (repeats_at g.table o n before r)
 id_fault-apart g None n before r = refl
 id_fault-apart g (Some p) n before r = by (is_empty f) (is_row_identifier f) (list_any (bytes_eq f) before)
   where
@@ -41,7 +41,7 @@ id_fault-apart g (Some p) n before r = by (is_empty f) (is_row_identifier f) (li
     by false false a = refl
 
 -- the fault of a row apart from its cells: what it has by itself, and then an identifier that came before
-row_fault-apart : (g : Reading) (n : ℕ) (before : List Field) (r : Record) → row_fault g n before r ≡ or_else (row_fault g n [] r) (repeats_at g.table (id_place_of g) n before r)
+row_fault-apart : (g : TableHeaderValue) (n : ℕ) (before : List Field) (r : Record) → row_fault g n before r ≡ or_else (row_fault g n [] r) (repeats_at g.table (id_place_of g) n before r)
 row_fault-apart g n before r =
     by (ragged_fault g n r) (text_fault g n r) (limit_fault g n) (id_fault g (id_place_of g) n [] r) (id_fault g (id_place_of g) n before r)
     (repeats_at g.table (id_place_of g) n before r) (id_fault-apart g (id_place_of g) n before r)
@@ -68,7 +68,7 @@ repeated_shifts k before (id ∷ ids) = by (list_any (bytes_eq id) before) (repe
     by false more = let one : suc k + 1 ≡ suc (k + 1) = omega arith in ap (λ i. repeated_from i (before ++ id ∷ []) ids) one ∙ more
 
 -- a row in front of a piece that is cut
-cut_later : (g : Reading) (n : ℕ) (facts : List Fact) (ids : List Field) (rest : Apart) (o : Option ℕ)
+cut_later : (g : TableHeaderValue) (n : ℕ) (facts : List Fact) (ids : List Field) (rest : Apart) (o : Option ℕ)
     → cut_at g n (option_map suc o) (record { rows = facts ∷ rest.rows; ids = ids; fault = rest.fault }) ≡ row_in_front (Ok facts) (cut_at g (n + 1) o rest)
 cut_later g n facts ids rest None = refl
 cut_later g n facts ids rest (Some k) =
@@ -76,11 +76,11 @@ cut_later g n facts ids rest (Some k) =
     ap (λ m. record { rows = facts ∷ take k rest.rows; fault = Some (repeated_id g m) }) one
 
 -- a piece that is cut at its first row
-cut_first : (g : Reading) (n : ℕ) (a : Apart) → cut_at g n (Some 0) a ≡ ending (Some (repeated_id g n))
+cut_first : (g : TableHeaderValue) (n : ℕ) (a : Apart) → cut_at g n (Some 0) a ≡ ending (Some (repeated_id g n))
 cut_first g n a = ap (λ m. ending (Some (repeated_id g m))) (add-zero n)
 
 -- a row with an identifier in front
-joined_id : (g : Reading) (n : ℕ) (before : List Field) (own : Option TableFault) (facts : Result (List Fact) TableFault) (f : Field) (rest : Apart)
+joined_id : (g : TableHeaderValue) (n : ℕ) (before : List Field) (own : Option TableFault) (facts : Result (List Fact) TableFault) (f : Field) (rest : Apart)
     → joined g n before (apart_row own facts (f ∷ []) rest)
     ≡ row_in_front (checked (or_else own (if list_any (bytes_eq f) before then Some (repeated_id g n) else None)) facts) (joined g (n + 1) (before ++ f ∷ []) rest)
 joined_id g n before (Some e) facts f rest = refl
@@ -101,23 +101,23 @@ joined_id g n before None (Ok facts) f rest = by (list_any (bytes_eq f) before)
     by false = ap (λ o. cut_at g n o whole) (repeated_shifts 0 (before ++ f ∷ []) rest.ids) ∙ cut_later g n facts (f ∷ rest.ids) rest (repeated_from 0 (before ++ f ∷ []) rest.ids)
 
 -- a row in front where the table has no identifiers
-joined_plain : (g : Reading) (n : ℕ) (before : List Field) (own : Option TableFault) (facts : Result (List Fact) TableFault) (rest : Apart) → rest.ids ≡ []
+joined_plain : (g : TableHeaderValue) (n : ℕ) (before : List Field) (own : Option TableFault) (facts : Result (List Fact) TableFault) (rest : Apart) → rest.ids ≡ []
     → joined g n before (apart_row own facts [] rest) ≡ row_in_front (checked own facts) (joined g (n + 1) before rest)
 joined_plain g n before (Some e) facts rest none = refl
 joined_plain g n before None (Err e) rest none = refl
 joined_plain g n before None (Ok facts) rest none = rw none refl
 
-no_ids : (g : Reading) (n : ℕ) (rows : List Record) → id_place_of g ≡ None → (apart_from g n rows).ids ≡ []
+no_ids : (g : TableHeaderValue) (n : ℕ) (rows : List Record) → id_place_of g ≡ None → (apart_from g n rows).ids ≡ []
 unfolding apart_from
 no_ids g n [] is = refl
-no_ids g n (r ∷ rows) is = by (row_fault g n [] r) (facts_from g.report g.table (row_of g n r) 0 g.header) (no_ids g (n + 1) rows is)
+no_ids g n (r ∷ rows) is = by (row_fault g n [] r) (facts_from g.report g.table (row_of g n r) 0 g.columns) (no_ids g (n + 1) rows is)
   where
     by : (own : Option TableFault) (facts : Result (List Fact) TableFault) → (apart_from g (n + 1) rows).ids ≡ [] → (apart_row own facts (id_in (id_place_of g) r) (apart_from g (n + 1) rows)).ids ≡ []
     by (Some e) facts more = refl
     by None (Err e) more = ap (λ o. id_in o r) is
     by None (Ok facts) more = ap (λ o. id_in o r ++ (apart_from g (n + 1) rows).ids) is ∙ more
 
-joined_row : (g : Reading) (n : ℕ) (before : List Field) (own : Option TableFault) (facts : Result (List Fact) TableFault) (r : Record) (rest : Apart) (o : Option ℕ) → id_place_of g ≡ o
+joined_row : (g : TableHeaderValue) (n : ℕ) (before : List Field) (own : Option TableFault) (facts : Result (List Fact) TableFault) (r : Record) (rest : Apart) (o : Option ℕ) → id_place_of g ≡ o
     → (id_place_of g ≡ None → rest.ids ≡ [])
     → joined g n before (apart_row own facts (id_in o r) rest) ≡ row_in_front (checked (or_else own (repeats_at g.table o n before r)) facts) (joined g (n + 1) (before ++ id_in o r) rest)
 joined_row g n before own facts r rest None is none =
@@ -133,11 +133,11 @@ joined_row g n before own facts r rest (Some p) is none =
     (joined g (n + 1) (before ++ unwrap_or (field_at r p) [] ∷ []) rest)) is
 
 -- A stream is the join of its rows, decoded apart
-pub stream_joined : (g : Reading) (n : ℕ) (ids : List Field) (rows : List Record) → stream_from g n ids rows ≡ joined g n ids (apart_from g n rows)
+pub stream_joined : (g : TableHeaderValue) (n : ℕ) (ids : List Field) (rows : List Record) → stream_from g n ids rows ≡ joined g n ids (apart_from g n rows)
 unfolding stream_from apart_from
 stream_joined g n ids [] = refl
 stream_joined g n ids (r ∷ rows) =
-    let facts = facts_from g.report g.table (row_of g n r) 0 g.header in
+    let facts = facts_from g.report g.table (row_of g n r) 0 g.columns in
     let rest = apart_from g (n + 1) rows in
     ap (λ o. row_in_front (checked o facts) (stream_from g (n + 1) (ids_after (id_place_of g) ids r) rows)) (row_fault-apart g n ids r)
     ∙ ap (row_in_front (checked (or_else (row_fault g n [] r) (repeats_at g.table (id_place_of g) n ids r)) facts))
@@ -162,7 +162,7 @@ in_front_of_both (Ok facts) s t = by s.fault refl
     by None e = rw e refl
     by (Some x) e = rw e refl
 
-pub stream_append : (g : Reading) (n : ℕ) (ids : List Field) (xs ys : List Record)
+pub stream_append : (g : TableHeaderValue) (n : ℕ) (ids : List Field) (xs ys : List Record)
     → stream_from g n ids (xs ++ ys) ≡ stream_then (stream_from g n ids xs) (stream_from g (n + length xs) (ids ++ ids_of (id_place_of g) xs) ys)
 unfolding stream_from
 stream_append g n ids [] ys =
@@ -177,10 +177,10 @@ stream_append g n ids (r ∷ xs) ys =
     ∙ in_front_of_both (row_result g n ids r) (stream_from g (n + 1) next xs) (stream_from g (n + length (r ∷ xs)) (ids ++ ids_of (id_place_of g) (r ∷ xs)) ys)
 
 -- a piece without a fault has the identifiers of all its records
-pub whole_ids : (g : Reading) (n : ℕ) (rows : List Record) → (apart_from g n rows).fault ≡ None → (apart_from g n rows).ids ≡ ids_of (id_place_of g) rows
+pub whole_ids : (g : TableHeaderValue) (n : ℕ) (rows : List Record) → (apart_from g n rows).fault ≡ None → (apart_from g n rows).ids ≡ ids_of (id_place_of g) rows
 unfolding apart_from
 whole_ids g n [] none = sym (no_rows_ids (id_place_of g))
-whole_ids g n (r ∷ rows) none = by (row_fault g n [] r) (facts_from g.report g.table (row_of g n r) 0 g.header) none (whole_ids g (n + 1) rows)
+whole_ids g n (r ∷ rows) none = by (row_fault g n [] r) (facts_from g.report g.table (row_of g n r) 0 g.columns) none (whole_ids g (n + 1) rows)
   where
     more : (o : Option ℕ) → id_in o r ++ ids_of o rows ≡ ids_of o (r ∷ rows)
     more None = refl
@@ -194,7 +194,7 @@ whole_ids g n (r ∷ rows) none = by (row_fault g n [] r) (facts_from g.report g
     by None (Ok facts) none ids = ap (λ t. id_in (id_place_of g) r ++ t) (ids none) ∙ more (id_place_of g)
 
 -- a piece with a fault has one where it is joined
-joined_ends : (g : Reading) (n : ℕ) (before : List Field) (a : Apart) (e : TableFault) → a.fault ≡ Some e → (x : TableFault) × ((joined g n before a).fault ≡ Some x)
+joined_ends : (g : TableHeaderValue) (n : ℕ) (before : List Field) (a : Apart) (e : TableFault) → a.fault ≡ Some e → (x : TableFault) × ((joined g n before a).fault ≡ Some x)
 joined_ends g n before a e is = by (repeated_from 0 before a.ids)
   where
     by : (o : Option ℕ) → (x : TableFault) × ((cut_at g n o a).fault ≡ Some x)
@@ -205,7 +205,7 @@ then_ends : (s t u : Stream) (e : TableFault) → s.fault ≡ Some e → stream_
 then_ends s t u e is = rw is refl
 
 -- behind a piece, what comes next is read with the identifiers of the piece
-pub piece_then : (g : Reading) (n : ℕ) (ids : List Field) (p : List Record) (next : List Field → Stream)
+pub piece_then : (g : TableHeaderValue) (n : ℕ) (ids : List Field) (p : List Record) (next : List Field → Stream)
     → stream_then (joined g n ids (apart_from g n p)) (next (ids ++ ids_of (id_place_of g) p)) ≡ stream_then (joined g n ids (apart_from g n p)) (next (ids ++ (apart_from g n p).ids))
 piece_then g n ids p next = by (apart_from g n p).fault refl
   where

@@ -15,7 +15,7 @@ use Rattle.oim_rows.specs.declared.fault.TableFault.{TableFault}
 use Rattle.oim_rows.specs.declared.fault.TableKind.TheVariants as kind
 use Rattle.oim_decode.specs.RowTexts.{AddsFacts, facts_in}
 use Rattle.oim_decode.specs.Blocks.{AddsNone, AnswersFacts, CountsRow, GivesFound, IsBehind, LeavesNone, ReadsRows, TakesOne, has_row, left_of, turns_left}
-use Rattle.oim_decode.specs.Heads.{header_in, mark, reading_in}
+use Rattle.oim_decode.specs.Heads.{header_in, mark, table_header_in}
 
 abbrev a : Fact
 a = record { id = codes "a"; value = None; decimals = None; dimensions = [] }
@@ -182,8 +182,8 @@ report = record {
 }
 
 -- rows are read by the columns that the first record names, in its order, of the table's own template; an empty cell names none
-rows_under_the_header : reading_in report 0 9 ((codes "k" ∷ [] ∷ codes "cash" ∷ []) ∷ cash_record ∷ []) ≡ record { report = report; table = 0; limit = 9; header = Some 1 ∷ None ∷ Some 0 ∷ [] }
+rows_under_the_header : table_header_in report 0 9 ((codes "k" ∷ [] ∷ codes "cash" ∷ []) ∷ cash_record ∷ []) ≡ record { report = report; table = 0; limit = 9; columns = Some 1 ∷ None ∷ Some 0 ∷ [] }
 rows_under_the_header = refl
 
-rows_of_the_second_table : reading_in report 1 7 ((codes "k" ∷ []) ∷ []) ≡ record { report = report; table = 1; limit = 7; header = Some 0 ∷ [] }
+rows_of_the_second_table : table_header_in report 1 7 ((codes "k" ∷ []) ∷ []) ≡ record { report = report; table = 1; limit = 7; columns = Some 0 ∷ [] }
 rows_of_the_second_table = refl

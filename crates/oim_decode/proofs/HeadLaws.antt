@@ -11,11 +11,11 @@ use Rattle.oim_records.proofs.PieceReads.{no-record}
 use Rattle.std.specs.Io.KnownBytes.{IsAtEnd}
 use Rattle.oim_report.specs.ReportValue.{ReportValue}
 use Rattle.oim_rows.specs.Header.{Header, file_header_fault}
-use Rattle.oim_rows.specs.RowFacts.{Reading}
+use Rattle.oim_rows.specs.RowFacts.{TableHeaderValue}
 use Rattle.oim_rows.specs.Streams.{IsOutside, TakesHeader}
 use Rattle.oim_rows.specs.declared.fault.TableFault.{TableFault}
 use Rattle.oim_decode.specs.Apart.{Apart, apart_from}
-use Rattle.oim_decode.specs.Heads.{mark, reading_in}
+use Rattle.oim_decode.specs.Heads.{mark, table_header_in}
 use Rattle.oim_decode.specs.PieceAnswers.{IsDecoded, refused}
 
 -- BYTES
@@ -39,14 +39,14 @@ marked_more marked piece is = let rest : drop 3 marked ≡ piece = ap (drop 3) i
 -- HEADERS
 
 module _ (report : ReportValue) (table limit : ℕ) where
-  pub head_form : (rs : List Record) (left after : Option (List Record)) (h : Header) (form : Reading) → left ≡ Some rs → TakesHeader report table left h after
-      → form ≡ record { report = report; table = table; limit = limit; header = h } → form ≡ reading_in report table limit rs
-  head_form rs left after h form is takes same = by rs (subst (λ o. TakesHeader report table o h after) is takes)
+  pub head_form : (rs : List Record) (left after : Option (List Record)) (h : Header) (header : TableHeaderValue) → left ≡ Some rs → TakesHeader report table left h after
+      → header ≡ record { report = report; table = table; limit = limit; columns = h } → header ≡ table_header_in report table limit rs
+  head_form rs left after h header is takes same = by rs (subst (λ o. TakesHeader report table o h after) is takes)
     where
-      with-header : Header → Reading
-      with-header x = record { report = report; table = table; limit = limit; header = x }
+      with-header : Header → TableHeaderValue
+      with-header x = record { report = report; table = table; limit = limit; columns = x }
 
-      by : (rs : List Record) → TakesHeader report table (Some rs) h after → form ≡ reading_in report table limit rs
+      by : (rs : List Record) → TakesHeader report table (Some rs) h after → header ≡ table_header_in report table limit rs
       by [] t = absurd t
       by (r ∷ rows) t = same ∙ ap with-header t.1
 
@@ -63,17 +63,17 @@ module _ (report : ReportValue) (table limit : ℕ) where
   head_fault rs left e is (inr bad) = inr (subst (λ o. IfSome o (λ all. file_header_fault report table all ≡ Some e)) is bad)
 
   -- the same of an answer
-  pub head_forms : (rs : List Record) (left after : Option (List Record)) (r : Result Reading TableFault) → left ≡ Some rs → IfOk r (λ f. TakesHeader report table left f.header after)
-      → IfOk r (λ f. f ≡ record { report = report; table = table; limit = limit; header = f.header }) → IfOk r (λ f. f ≡ reading_in report table limit rs)
+  pub head_forms : (rs : List Record) (left after : Option (List Record)) (r : Result TableHeaderValue TableFault) → left ≡ Some rs → IfOk r (λ f. TakesHeader report table left f.columns after)
+      → IfOk r (λ f. f ≡ record { report = report; table = table; limit = limit; columns = f.columns }) → IfOk r (λ f. f ≡ table_header_in report table limit rs)
   head_forms rs left after (Err e) is takes same = tt
-  head_forms rs left after (Ok f) is takes same = head_form rs left after f.header f is takes same
+  head_forms rs left after (Ok f) is takes same = head_form rs left after f.columns f is takes same
 
-  pub head_fines : (rs : List Record) (left after : Option (List Record)) (r : Result Reading TableFault) → left ≡ Some rs → IfOk r (λ f. TakesHeader report table left f.header after)
+  pub head_fines : (rs : List Record) (left after : Option (List Record)) (r : Result TableHeaderValue TableFault) → left ≡ Some rs → IfOk r (λ f. TakesHeader report table left f.columns after)
       → IfOk r (λ f. file_header_fault report table rs ≡ None)
   head_fines rs left after (Err e) is takes = tt
-  head_fines rs left after (Ok f) is takes = head_fine rs left after f.header is takes
+  head_fines rs left after (Ok f) is takes = head_fine rs left after f.columns is takes
 
-  pub head_faults : (rs : List Record) (left : Option (List Record)) (r : Result Reading TableFault) → left ≡ Some rs
+  pub head_faults : (rs : List Record) (left : Option (List Record)) (r : Result TableHeaderValue TableFault) → left ≡ Some rs
       → IfErr r (λ e. IsOutside table e ⊎ IfSome left (λ all. file_header_fault report table all ≡ Some e)) → IfErr r (λ e. IsOutside table e ⊎ (file_header_fault report table rs ≡ Some e))
   head_faults rs left (Ok f) is bad = tt
   head_faults rs left (Err e) is bad = head_fault rs left e is bad
@@ -122,6 +122,6 @@ one_read old false new takes = takes.1 ∙ sym (ap (drop 1) takes.0)
 -- MEMORY
 
 -- no row, since memory was refused
-pub refused_decoded : (g : Reading) (n : ℕ) (rs : List Record) (a : Apart) → a ≡ refused g.table → IsDecoded g n rs a
+pub refused_decoded : (g : TableHeaderValue) (n : ℕ) (rs : List Record) (a : Apart) → a ≡ refused g.table → IsDecoded g n rs a
 unfolding apart_from
 refused_decoded g n rs a is = inr (record { front = []; rest = rs; split = refl; good = refl; is = is })

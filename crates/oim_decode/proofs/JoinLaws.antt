@@ -2,7 +2,7 @@
 use Rattle.std.proofs.Common.{◌≡◌, ◌++◌, ◌+◌, ℕ, List, length, Option, Some, None, refl, sym, ap, subst, ◌∙◌, inl, inr, append-nil, append_assoc}
 use Rattle.oim_records.specs.Grids.{Record}
 use Rattle.oim_rows.specs.Header.{file_fault}
-use Rattle.oim_rows.specs.RowFacts.{Reading}
+use Rattle.oim_rows.specs.RowFacts.{TableHeaderValue}
 use Rattle.oim_rows.specs.Streams.{Stream, ending, stream_from}
 use Rattle.oim_rows.specs.declared.fault.TableFault.{TableFault}
 use Rattle.oim_rows.specs.declared.fault.TableKind.TheVariants as kind
@@ -30,7 +30,7 @@ read_none table t s u is =
     subst (λ (x : Stream). ReadsRows table t x.rows (Some (left_behind x.fault u))) (sym is) (inr ((t.rows, refl), file_fault table kind.Memory, inr refl, refl))
 
 -- memory was refused for the rows behind a front
-read_front : (g : Reading) (n : ℕ) (a : Apart) (o : Option ℕ) (t u v : Stream) → a.fault ≡ None → t ≡ stream_then (cut_at g n o a) u
+read_front : (g : TableHeaderValue) (n : ℕ) (a : Apart) (o : Option ℕ) (t u v : Stream) → a.fault ≡ None → t ≡ stream_then (cut_at g n o a) u
     → ReadsRows g.table t (cut_at g n o (record a { fault = Some (file_fault g.table kind.Memory) })).rows
     (Some (left_behind (cut_at g n o (record a { fault = Some (file_fault g.table kind.Memory) })).fault v))
 read_front g n a None t u v good is =

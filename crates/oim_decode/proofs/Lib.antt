@@ -13,5 +13,5 @@ pub mod RepeatedIds
 pub mod BlockLists
 pub mod HeadLaws
 pub mod JoinLaws
-mod PieceExamples
+mod ExamplesPieces
 mod Examples

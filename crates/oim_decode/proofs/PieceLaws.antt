@@ -8,7 +8,7 @@ use Rattle.oim_records.proofs.RecordLaws.{cut-records}
 use Rattle.oim_report.specs.ReportValue.{ReportValue}
 use Rattle.oim_rows.specs.Header.{header_fault}
 use Rattle.oim_decode.specs.Pieces.{AreCut, FileInPieces, records_of}
-use Rattle.oim_rows.specs.Streams.{reading_of, stream_from, stream_of}
+use Rattle.oim_rows.specs.Streams.{table_header_of, stream_from, stream_of}
 use Rattle.oim_decode.proofs.ApartLaws.{rows_in_pieces}
 
 -- the records of pieces that are cut, piece after piece
@@ -20,7 +20,7 @@ cut_pieces (p ∷ q ∷ ps) cut =
     cut-records state.StartRecord p (flat_map (λ r. r) (q ∷ ps)) cut.0 ∙ ap (λ t. records_left state.StartRecord p ++ t) (cut_pieces (q ∷ ps) cut.1)
 
 good_header : (report : ReportValue) (table limit : ℕ) (header : Record) (rows : List Record) → header_fault report table header ≡ None
-    → stream_of report table limit (header ∷ rows) ≡ stream_from (reading_of report table limit header) 1 [] rows
+    → stream_of report table limit (header ∷ rows) ≡ stream_from (table_header_of report table limit header) 1 [] rows
 good_header report table limit header rows none = rw none refl
 
 pub file_in_pieces : FileInPieces
@@ -29,4 +29,4 @@ file_in_pieces report table limit file first pieces header rows bytes cut head n
     let all : grid file ≡ header ∷ (rows ++ more) =
     ap (records_left state.StartRecord) bytes ∙ cut_pieces (first ∷ pieces) cut ∙ ap (λ t. t ++ more) head in
     ap (stream_of report table limit) all ∙ good_header report table limit header (rows ++ more) none
-    ∙ rows_in_pieces (reading_of report table limit header) 1 [] (rows ∷ map (records_left state.StartRecord) pieces)
+    ∙ rows_in_pieces (table_header_of report table limit header) 1 [] (rows ∷ map (records_left state.StartRecord) pieces)

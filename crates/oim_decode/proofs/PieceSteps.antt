@@ -7,7 +7,7 @@ use Rattle.oim_resolve.specs.FactParts.{FactParts as Fact}
 use Rattle.oim_fast.specs.Rows.{RowValue}
 use Rattle.std.specs.Prelude.{if◌then◌else◌}
 use Rattle.oim_rows.specs.Header.{fault_at, file_fault, or_else}
-use Rattle.oim_rows.specs.RowFacts.{Reading, facts_from, id_fault, id_place_of, ragged_fault, row_fault, row_of, text_fault}
+use Rattle.oim_rows.specs.RowFacts.{TableHeaderValue, facts_from, id_fault, id_place_of, ragged_fault, row_fault, row_of, text_fault}
 use Rattle.oim_rows.specs.declared.fault.TableFault.{TableFault}
 use Rattle.oim_rows.specs.declared.fault.TableKind.TheVariants as kind
 use Rattle.oim_decode.specs.Apart.{Apart, apart_from, apart_row, id_in}
@@ -19,19 +19,19 @@ answer rows ids fault = record { rows = rows; ids = ids; fault = fault }
 -- ONE ROW
 
 -- a row with a fault apart from its cells ends the piece
-pub own_ends : (g : Reading) (n : ℕ) (r : Record) (rest : List Record) (e : TableFault) → row_fault g n [] r ≡ Some e → apart_from g n (r ∷ rest) ≡ answer [] [] (Some e)
+pub own_ends : (g : TableHeaderValue) (n : ℕ) (r : Record) (rest : List Record) (e : TableFault) → row_fault g n [] r ≡ Some e → apart_from g n (r ∷ rest) ≡ answer [] [] (Some e)
 unfolding apart_from
-own_ends g n r rest e is = ap (λ o. apart_row o (facts_from g.report g.table (row_of g n r) 0 g.header) (id_in (id_place_of g) r) (apart_from g (n + 1) rest)) is
+own_ends g n r rest e is = ap (λ o. apart_row o (facts_from g.report g.table (row_of g n r) 0 g.columns) (id_in (id_place_of g) r) (apart_from g (n + 1) rest)) is
 
 -- a row without one is what its cells give
-pub cells_only : (g : Reading) (n : ℕ) (r : Record) → row_fault g n [] r ≡ None → apart_from g n (r ∷ []) ≡ cells_apart (record { form = g; number = n; fields = r })
+pub cells_only : (g : TableHeaderValue) (n : ℕ) (r : Record) → row_fault g n [] r ≡ None → apart_from g n (r ∷ []) ≡ cells_apart (record { header = g; number = n; fields = r })
 unfolding apart_from
-cells_only g n r none = ap (λ o. apart_row o (facts_from g.report g.table (row_of g n r) 0 g.header) (id_in (id_place_of g) r) no_rows) none
+cells_only g n r none = ap (λ o. apart_row o (facts_from g.report g.table (row_of g n r) 0 g.columns) (id_in (id_place_of g) r) no_rows) none
 
 -- what comes behind a bad row counts nothing
-pub bad_ends : (g : Reading) (n : ℕ) (r : Record) (rest : List Record) (e : TableFault) → (apart_from g n (r ∷ [])).fault ≡ Some e → apart_from g n (r ∷ rest) ≡ apart_from g n (r ∷ [])
+pub bad_ends : (g : TableHeaderValue) (n : ℕ) (r : Record) (rest : List Record) (e : TableFault) → (apart_from g n (r ∷ [])).fault ≡ Some e → apart_from g n (r ∷ rest) ≡ apart_from g n (r ∷ [])
 unfolding apart_from
-bad_ends g n r rest e is = by (row_fault g n [] r) (facts_from g.report g.table (row_of g n r) 0 g.header) is
+bad_ends g n r rest e is = by (row_fault g n [] r) (facts_from g.report g.table (row_of g n r) 0 g.columns) is
   where
     by : (own : Option TableFault) (facts : Result (List Fact) TableFault) → (apart_row own facts (id_in (id_place_of g) r) no_rows).fault ≡ Some e
         → apart_row own facts (id_in (id_place_of g) r) (apart_from g (n + 1) rest) ≡ apart_row own facts (id_in (id_place_of g) r) no_rows
@@ -50,10 +50,10 @@ then_none a none = by a.rows a.ids a.fault none
 pub then_fault : (a : Apart) (e : TableFault) → apart_then a (answer [] [] (Some e)) ≡ answer a.rows a.ids (Some e)
 then_fault a e = rw (append-nil a.rows, append-nil a.ids) refl
 
-pub apart_append : (g : Reading) (n : ℕ) (xs ys : List Record) → (apart_from g n xs).fault ≡ None → apart_from g n (xs ++ ys) ≡ apart_then (apart_from g n xs) (apart_from g (n + length xs) ys)
+pub apart_append : (g : TableHeaderValue) (n : ℕ) (xs ys : List Record) → (apart_from g n xs).fault ≡ None → apart_from g n (xs ++ ys) ≡ apart_then (apart_from g n xs) (apart_from g (n + length xs) ys)
 unfolding apart_from
 apart_append g n [] ys none = ap (λ m. apart_from g m ys) (sym (add-zero n))
-apart_append g n (r ∷ xs) ys none = by (row_fault g n [] r) (facts_from g.report g.table (row_of g n r) 0 g.header) none (apart_append g (n + 1) xs ys)
+apart_append g n (r ∷ xs) ys none = by (row_fault g n [] r) (facts_from g.report g.table (row_of g n r) 0 g.columns) none (apart_append g (n + 1) xs ys)
   where
     id : List Field
     id = id_in (id_place_of g) r
@@ -72,14 +72,14 @@ apart_append g n (r ∷ xs) ys none = by (row_fault g n [] r) (facts_from g.repo
 -- DECODING
 
 -- these rows of the piece are decoded, and none of them has a fault
-abbrev pub HasDecoded : Reading → ℕ → List Record → ℕ → List Record → Apart → Type 0
+abbrev pub HasDecoded : TableHeaderValue → ℕ → List Record → ℕ → List Record → Apart → Type 0
 HasDecoded g first rs n left a = (done : List Record) × (rs ≡ done ++ left) × (a ≡ apart_from g first done) × (n ≡ first + length done) × (a.fault ≡ None)
 
-pub none_decoded : (g : Reading) (first : ℕ) (rs : List Record) (a : Apart) → a ≡ no_rows → HasDecoded g first rs first rs a
+pub none_decoded : (g : TableHeaderValue) (first : ℕ) (rs : List Record) (a : Apart) → a ≡ no_rows → HasDecoded g first rs first rs a
 unfolding apart_from
 none_decoded g first rs a is = ([], refl, is, sym (add-zero first), ap (λ (b : Apart). b.fault) is)
 
-pub one_decoded : (g : Reading) (first : ℕ) (rs : List Record) (n : ℕ) (old new : List Record) (before after : Apart) → HasDecoded g first rs n old before → TakesRow g n old before new after
+pub one_decoded : (g : TableHeaderValue) (first : ℕ) (rs : List Record) (n : ℕ) (old new : List Record) (before after : Apart) → HasDecoded g first rs n old before → TakesRow g n old before new after
     → HasDecoded g first rs (n + 1) new after
 one_decoded g first rs n [] new before after h takes = absurd takes
 one_decoded g first rs n (r ∷ rest) new before after (done, split, is, number, good) (left, adds, none, within) =
@@ -100,7 +100,7 @@ one_decoded g first rs n (r ∷ rest) new before after (done, split, is, number,
     one : length (done ++ r ∷ []) ≡ length done + 1 → n + 1 ≡ first + length (done ++ r ∷ [])
     one more = omega (arith, more, number)
 
-pub all_decoded : (g : Reading) (first : ℕ) (rs : List Record) (n : ℕ) (old : List Record) (before after : Apart) → HasDecoded g first rs n old before → EndsRows g n old before after
+pub all_decoded : (g : TableHeaderValue) (first : ℕ) (rs : List Record) (n : ℕ) (old : List Record) (before after : Apart) → HasDecoded g first rs n old before → EndsRows g n old before after
     → IsDecoded g first rs after
 all_decoded g first rs n old before after (done, split, is, number, good) ends = by ends
   where
@@ -116,7 +116,7 @@ all_decoded g first rs n old before after (done, split, is, number, good) ends =
 -- NUMBERS
 
 -- a row that has no fault apart from its cells is within the limit
-pub within_limit : (g : Reading) (n : ℕ) (ids : List Field) (r : Record) → row_fault g n ids r ≡ None → n ≤ g.limit
+pub within_limit : (g : TableHeaderValue) (n : ℕ) (ids : List Field) (r : Record) → row_fault g n ids r ≡ None → n ≤ g.limit
 within_limit g n ids r none = by (ragged_fault g n r) (text_fault g n r) (nat_lt g.limit n) refl (id_fault g (id_place_of g) n ids r) none
   where
     by : (a b : Option TableFault) (c : Bool) → nat_lt g.limit n ≡ c → (d : Option TableFault)
@@ -131,10 +131,10 @@ one_id None r = omega arith
 one_id (Some p) r = omega arith
 
 -- a piece has no more identifiers than rows within the limit, and one
-pub ids_within : (g : Reading) (n : ℕ) (rows : List Record) → n ≤ g.limit + 1 → n + length (apart_from g n rows).ids ≤ g.limit + 2
+pub ids_within : (g : TableHeaderValue) (n : ℕ) (rows : List Record) → n ≤ g.limit + 1 → n + length (apart_from g n rows).ids ≤ g.limit + 2
 unfolding apart_from
 ids_within g n [] small = omega (arith, small)
-ids_within g n (r ∷ rows) small = by (row_fault g n [] r) refl (facts_from g.report g.table (row_of g n r) 0 g.header) (ids_within g (n + 1) rows)
+ids_within g n (r ∷ rows) small = by (row_fault g n [] r) refl (facts_from g.report g.table (row_of g n r) 0 g.columns) (ids_within g (n + 1) rows)
   where
     by : (own : Option TableFault) → row_fault g n [] r ≡ own → (facts : Result (List Fact) TableFault) → (n + 1 ≤ g.limit + 1 → (n + 1) + length (apart_from g (n + 1) rows).ids ≤ g.limit + 2)
         → n + length (apart_row own facts (id_in (id_place_of g) r) (apart_from g (n + 1) rows)).ids ≤ g.limit + 2
@@ -143,7 +143,7 @@ ids_within g n (r ∷ rows) small = by (row_fault g n [] r) refl (facts_from g.r
     by None is (Ok facts) more =
         omega (arith, more (omega (arith, within_limit g n [] r is)), one_id (id_place_of g) r, length-append (id_in (id_place_of g) r) (apart_from g (n + 1) rows).ids)
 
-pub decoded_within : (g : Reading) (n : ℕ) (rs : List Record) (a : Apart) → n ≤ g.limit + 1 → IsDecoded g n rs a → n + length a.ids ≤ g.limit + 2
+pub decoded_within : (g : TableHeaderValue) (n : ℕ) (rs : List Record) (a : Apart) → n ≤ g.limit + 1 → IsDecoded g n rs a → n + length a.ids ≤ g.limit + 2
 decoded_within g n rs a small (inl is) = subst (λ (b : Apart). n + length b.ids ≤ g.limit + 2) (sym is) (ids_within g n rs small)
 decoded_within g n rs a small (inr h) =
     let same : length a.ids ≡ length (apart_from g n h.front).ids = ap (λ (b : Apart). length b.ids) (h.is ∙ then_fault (apart_from g n h.front) (file_fault g.table kind.Memory)) in
@@ -152,16 +152,16 @@ decoded_within g n rs a small (inr h) =
 -- ONE STEP
 
 -- what is left of a piece at hand
-abbrev pub piece_left : Reading → List Record → PieceLeft
-piece_left g rs = record { reading = g; left = rs }
+abbrev pub piece_left : TableHeaderValue → List Record → PieceLeft
+piece_left g rs = record { header = g; left = rs }
 
 -- no record is left
-pub ends_none : (g : Reading) (n : ℕ) (rs : List Record) (before : Apart) → rs ≡ [] → before.fault ≡ None → EndsRows g n rs before before
+pub ends_none : (g : TableHeaderValue) (n : ℕ) (rs : List Record) (before : Apart) → rs ≡ [] → before.fault ≡ None → EndsRows g n rs before before
 unfolding apart_from
 ends_none g n rs before none good = inl (sym (then_none before good) ∙ ap (λ t. apart_then before (apart_from g n t)) (sym none))
 
 -- the next row has a fault apart from its cells
-pub ends_own : (g : Reading) (n : ℕ) (ids : List Field) (rs left : List Record) (r fields : Record) (before after : Apart) (e : TableFault) → rs ≡ r ∷ left → fields ≡ r → ids ≡ []
+pub ends_own : (g : TableHeaderValue) (n : ℕ) (ids : List Field) (rs left : List Record) (r fields : Record) (before after : Apart) (e : TableFault) → rs ≡ r ∷ left → fields ≡ r → ids ≡ []
     → row_fault g n ids fields ≡ Some e → after ≡ answer before.rows before.ids (Some e) → EndsRows g n rs before after
 ends_own g n ids rs left r fields before after e split same none is ends =
     let own : row_fault g n [] r ≡ Some e = sym (ap (λ i. row_fault g n i fields) none ∙ ap (row_fault g n []) same) ∙ is in
@@ -175,7 +175,7 @@ has_some : (o : Option TableFault) → false ≡ is_none o → (e : TableFault) 
 has_some None is = cc is
 has_some (Some e) is = (e, refl)
 
-steps : (g : Reading) (n : ℕ) (left : List Record) (r : Record) (before after : Apart) (b : Bool) → row_fault g n [] r ≡ None → AddsApart g.table before (apart_from g n (r ∷ [])) after
+steps : (g : TableHeaderValue) (n : ℕ) (left : List Record) (r : Record) (before after : Apart) (b : Bool) → row_fault g n [] r ≡ None → AddsApart g.table before (apart_from g n (r ∷ [])) after
     → b ≡ is_none after.fault → StepsRow g n (r ∷ left) before b left after
 steps g n left r before after true none (inl adds) is = (refl, adds, has_none after.fault is, within_limit g n [] r none)
 steps g n left r before after true none (inr short) is =
@@ -187,21 +187,21 @@ steps g n left r before after false none (inl adds) is =
 steps g n left r before after false none (inr short) is = inr short
 
 -- a row without a fault apart from its cells was added, or ended the piece
-pub row_steps : (x : RowValue) (g : Reading) (n : ℕ) (ids : List Field) (rs left : List Record) (r fields texts : Record) (before after : Apart) (b : Bool) → rs ≡ r ∷ left → fields ≡ r → ids ≡ []
-    → row_fault g n ids fields ≡ None → x ≡ record { form = g; number = n; fields = texts } → texts ≡ r → AddsApart x.form.table before (cells_apart x) after → b ≡ is_none after.fault
+pub row_steps : (x : RowValue) (g : TableHeaderValue) (n : ℕ) (ids : List Field) (rs left : List Record) (r fields texts : Record) (before after : Apart) (b : Bool) → rs ≡ r ∷ left → fields ≡ r → ids ≡ []
+    → row_fault g n ids fields ≡ None → x ≡ record { header = g; number = n; fields = texts } → texts ≡ r → AddsApart x.header.table before (cells_apart x) after → b ≡ is_none after.fault
     → StepsRow g n rs before b left after
 row_steps x g n ids rs left r fields texts before after b split same none own is text adds added =
     let good : row_fault g n [] r ≡ None = sym (ap (λ i. row_fault g n i fields) none ∙ ap (row_fault g n []) same) ∙ own in
-    let row : x ≡ record { form = g; number = n; fields = r } = is ∙ ap (λ (t : Record). record { form = g; number = n; fields = t }) text in
-    let there = subst (λ (y : RowValue). AddsApart y.form.table before (cells_apart y) after) row adds in
+    let row : x ≡ record { header = g; number = n; fields = r } = is ∙ ap (λ (t : Record). record { header = g; number = n; fields = t }) text in
+    let there = subst (λ (y : RowValue). AddsApart y.header.table before (cells_apart y) after) row adds in
     let here = subst (λ (a : Apart). AddsApart g.table before a after) (sym (cells_only g n r good)) there in
     subst (λ t. StepsRow g n t before b left after) (sym split) (steps g n left r before after b good here added)
 
 -- a row that was taken is within the limit
-pub taken_within : (g : Reading) (n : ℕ) (rs : List Record) (before : Apart) (left : List Record) (after : Apart) → TakesRow g n rs before left after → n ≤ g.limit
+pub taken_within : (g : TableHeaderValue) (n : ℕ) (rs : List Record) (before : Apart) (left : List Record) (after : Apart) → TakesRow g n rs before left after → n ≤ g.limit
 taken_within g n [] before left after takes = absurd takes
 taken_within g n (r ∷ rest) before left after takes = takes.3
 
 -- and so are those that were decoded
-pub front_within : (g : Reading) (first : ℕ) (rs : List Record) (n : ℕ) (left : List Record) (a : Apart) → first ≤ g.limit + 1 → HasDecoded g first rs n left a → first + length a.ids ≤ g.limit + 2
+pub front_within : (g : TableHeaderValue) (first : ℕ) (rs : List Record) (n : ℕ) (left : List Record) (a : Apart) → first ≤ g.limit + 1 → HasDecoded g first rs n left a → first + length a.ids ≤ g.limit + 2
 front_within g first rs n left a small h = subst (λ (b : Apart). first + length b.ids ≤ g.limit + 2) (sym h.2) (ids_within g first h.0 small)

@@ -8,7 +8,7 @@ use Rattle.oim_json.proofs.Blocks.{texts_push, ends_push}
 use Rattle.oim_records.specs.Grids.{Record}
 use Rattle.oim_fast.specs.Facts.{facts_of_row}
 use Rattle.oim_fast.specs.Rows.{RowValue}
-use Rattle.oim_rows.specs.RowFacts.{Reading, facts_from, row_of}
+use Rattle.oim_rows.specs.RowFacts.{TableHeaderValue, facts_from, row_of}
 use Rattle.oim_rows.specs.Streams.{OrNoMemory}
 use Rattle.oim_rows.specs.declared.fault.TableFault.{TableFault}
 
@@ -37,12 +37,12 @@ one_noted fs i end f old next noted ns ms h is text at so then =
     ∙ ap (λ t. noted ++ t) (sym (ends_push (length old) (take i fs) f) ∙ ap (ends_from (length old)) (sym more))
 
 -- the answer for the cells of a row is its answer
-pub plan_answer : (x : RowValue) (p : Reading) (n : ℕ) (r : Record) (result : Result (List Fact) TableFault) → p ≡ x.form → n ≡ x.number → r ≡ x.fields
-    → OrNoMemory p.table result (facts_from p.report p.table (row_of p n r) 0 p.header) → OrNoMemory x.form.table result (facts_of_row x)
-plan_answer x p n r result form number fields given =
-    subst (λ (q : Reading). OrNoMemory q.table result (facts_from q.report q.table (row_of q x.number x.fields) 0 q.header)) form
-    (subst (λ (m : ℕ). OrNoMemory p.table result (facts_from p.report p.table (row_of p m x.fields) 0 p.header)) number
-    (subst (λ (s : Record). OrNoMemory p.table result (facts_from p.report p.table (row_of p n s) 0 p.header)) fields given))
+pub plan_answer : (x : RowValue) (p : TableHeaderValue) (n : ℕ) (r : Record) (result : Result (List Fact) TableFault) → p ≡ x.header → n ≡ x.number → r ≡ x.fields
+    → OrNoMemory p.table result (facts_from p.report p.table (row_of p n r) 0 p.columns) → OrNoMemory x.header.table result (facts_of_row x)
+plan_answer x p n r result header number fields given =
+    subst (λ (q : TableHeaderValue). OrNoMemory q.table result (facts_from q.report q.table (row_of q x.number x.fields) 0 q.columns)) header
+    (subst (λ (m : ℕ). OrNoMemory p.table result (facts_from p.report p.table (row_of p m x.fields) 0 p.columns)) number
+    (subst (λ (s : Record). OrNoMemory p.table result (facts_from p.report p.table (row_of p n s) 0 p.columns)) fields given))
 
 -- facts that are answered are the row's
 pub facts_are : (table : ℕ) (answer : Result (List Fact) TableFault) (fs : List Fact) → OrNoMemory table (Ok fs) answer → answer ≡ Ok fs

@@ -65,20 +65,20 @@ adds_behind table answer front before after (Err e) (same, or) = (ap (λ t. fron
 
 -- a good row
 pub adds_good : (x : RowValue) (before : Apart) (rows : List (List Fact)) (ids : List Field) → facts_of_row x ≡ Ok (facts_in (facts_of_row x))
-    → rows ≡ before.rows ++ facts_in (facts_of_row x) ∷ [] → ids ≡ before.ids ++ id_in (id_place_of x.form) x.fields
+    → rows ≡ before.rows ++ facts_in (facts_of_row x) ∷ [] → ids ≡ before.ids ++ id_in (id_place_of x.header) x.fields
     → answer rows ids None ≡ apart_then before (cells_apart x)
 adds_good x before rows ids good more kept =
-    let id = id_in (id_place_of x.form) x.fields in
+    let id = id_in (id_place_of x.header) x.fields in
     let facts = facts_in (facts_of_row x) in
     ap (λ (r : List (List Fact)). answer r ids None) more
     ∙ ap (λ (i : List Field). answer (before.rows ++ facts ∷ []) i None) (kept ∙ ap (λ t. before.ids ++ t) (sym (append-nil id)))
     ∙ ap (λ a. apart_then before (apart_row None a id no_rows)) (sym good)
 
 -- a row whose cells have a fault
-pub adds_bad : (x : RowValue) (before : Apart) (ids : List Field) (e : TableFault) → facts_of_row x ≡ Err e → ids ≡ before.ids ++ id_in (id_place_of x.form) x.fields
+pub adds_bad : (x : RowValue) (before : Apart) (ids : List Field) (e : TableFault) → facts_of_row x ≡ Err e → ids ≡ before.ids ++ id_in (id_place_of x.header) x.fields
     → answer before.rows ids (Some e) ≡ apart_then before (cells_apart x)
 adds_bad x before ids e bad kept =
-    let id = id_in (id_place_of x.form) x.fields in
+    let id = id_in (id_place_of x.header) x.fields in
     ap (λ (r : List (List Fact)). answer r ids (Some e)) (sym (append-nil before.rows))
     ∙ ap (λ (i : List Field). answer (before.rows ++ []) i (Some e)) kept
     ∙ ap (λ a. apart_then before (apart_row None a id no_rows)) (sym bad)

@@ -6,7 +6,7 @@ use Rattle.oim_records.specs.declared.read_fault.ReadFault.{ReadFault}
 use Rattle.oim_resolve.specs.FactParts.{FactParts as Fact}
 use Rattle.oim_fast.specs.Facts.{facts_of_row}
 use Rattle.oim_fast.specs.Rows.{RowValue}
-use Rattle.oim_rows.specs.RowFacts.{IsNewId, IsTextRecord, field_or_empty, Reading, checked, facts_from, id_fault, id_place_of, ids_after, is_not_text, limit_fault, ragged_fault, row_fault, row_of, row_result, text_fault}
+use Rattle.oim_rows.specs.RowFacts.{IsNewId, IsTextRecord, field_or_empty, TableHeaderValue, checked, facts_from, id_fault, id_place_of, ids_after, is_not_text, limit_fault, ragged_fault, row_fault, row_of, row_result, text_fault}
 use Rattle.oim_rows.specs.Header.{fault_at, or_else}
 use Rattle.oim_rows.specs.declared.fault.TableKind.TheVariants as kind
 use Rattle.std.specs.List.{list_any, position_from}
@@ -22,10 +22,10 @@ known None = tt
 known (Some x) = tt
 
 -- apart from its cells a row has no fault
-pub adds_answer : (x : RowValue) (ids : List Field) (before after : List Fact) (result : Result (Unit {0}) TableFault) → row_fault x.form x.number ids x.fields ≡ None
-    → AddsFacts x.form.table (facts_of_row x) before after result → AddsFacts x.form.table (row_result x.form x.number ids x.fields) before after result
+pub adds_answer : (x : RowValue) (ids : List Field) (before after : List Fact) (result : Result (Unit {0}) TableFault) → row_fault x.header x.number ids x.fields ≡ None
+    → AddsFacts x.header.table (facts_of_row x) before after result → AddsFacts x.header.table (row_result x.header x.number ids x.fields) before after result
 adds_answer x ids before after result none adds =
-    subst (λ (a : Result (List Fact) TableFault). AddsFacts x.form.table a before after result) (sym (ap (λ o. checked o (facts_of_row x)) none)) adds
+    subst (λ (a : Result (List Fact) TableFault). AddsFacts x.header.table a before after result) (sym (ap (λ o. checked o (facts_of_row x)) none)) adds
 
 -- a row without a fault of its own is text
 second_none : (a b c : Option TableFault) → or_else a (or_else b c) ≡ None → b ≡ None
@@ -33,7 +33,7 @@ second_none None None c none = refl
 second_none None (Some x) c none = cc none
 second_none (Some x) b c none = cc none
 
-pub text_row : (g : Reading) (n : ℕ) (ids : List Field) (r : Record) → row_fault g n ids r ≡ None → IsTextRecord r
+pub text_row : (g : TableHeaderValue) (n : ℕ) (ids : List Field) (r : Record) → row_fault g n ids r ≡ None → IsTextRecord r
 text_row g n ids r none =
     by (position_from is_not_text 0 r) (second_none (ragged_fault g n r) (text_fault g n r) (or_else (limit_fault g n) (id_fault g (id_place_of g) n ids r)) none)
   where
@@ -56,22 +56,22 @@ pub is_given : (answer : Result (List Fact) TableFault) (facts : List Fact) → 
 is_given answer facts is = is ∙ ap (λ a. Ok (facts_in a)) (sym is)
 
 -- what a read record adds
-pub adds_end : (table n : ℕ) (g : Reading) (ids : List Field) (before : List Fact) (old new : Option (List Record)) (r : Record) (after : Option Stream) → TakesRecord old false r new
+pub adds_end : (table n : ℕ) (g : TableHeaderValue) (ids : List Field) (before : List Fact) (old new : Option (List Record)) (r : Record) (after : Option Stream) → TakesRecord old false r new
     → IfSome (option_map (stream_from g n ids) old) (λ s. AddsRow table s before before (Ok false) after)
 adds_end table n g ids before None new r after took = tt
 adds_end table n g ids before (Some rs) new r after took = (refl, gives_end table n g ids (Some rs) new r after took)
 
-pub adds_fault : (n : ℕ) (g : Reading) (ids : List Field) (before now : List Fact) (old new : Option (List Record)) (r : Record) (e : TableFault) (after : Option Stream) → TakesRecord old true r new
+pub adds_fault : (n : ℕ) (g : TableHeaderValue) (ids : List Field) (before now : List Fact) (old new : Option (List Record)) (r : Record) (e : TableFault) (after : Option Stream) → TakesRecord old true r new
     → now ≡ before → OrNoMemory g.table (Err e) (row_result g n ids r) → IfSome (option_map (stream_from g n ids) old) (λ s. AddsRow g.table s before now (Err e) after)
 adds_fault n g ids before now None new r e after took same why = tt
 adds_fault n g ids before now (Some rs) new r e after took same why = (same, gives_fault n g ids (Some rs) new r e after took why)
 
-pub adds_outside : (n : ℕ) (g : Reading) (ids : List Field) (before : List Fact) (old : Option (List Record)) (e : TableFault) (after : Option Stream) → IsOutside g.table e
+pub adds_outside : (n : ℕ) (g : TableHeaderValue) (ids : List Field) (before : List Fact) (old : Option (List Record)) (e : TableFault) (after : Option Stream) → IsOutside g.table e
     → IfSome (option_map (stream_from g n ids) old) (λ s. AddsRow g.table s before before (Err e) after)
 adds_outside n g ids before None e after outside = tt
 adds_outside n g ids before (Some rs) e after outside = (refl, inl outside)
 
-pub adds_row : (n : ℕ) (g : Reading) (ids ids2 : List Field) (before now : List Fact) (old new : Option (List Record)) (r : Record) → TakesRecord old true r new
+pub adds_row : (n : ℕ) (g : TableHeaderValue) (ids ids2 : List Field) (before now : List Fact) (old new : Option (List Record)) (r : Record) → TakesRecord old true r new
     → (row_result g n ids r ≡ Ok (facts_in (row_result g n ids r))) × (now ≡ before ++ facts_in (row_result g n ids r)) → ids2 ≡ ids_after (id_place_of g) ids r
     → IfSome (option_map (stream_from g n ids) old) (λ s. AddsRow g.table s before now (Ok true) (option_map (stream_from g (n + 1) ids2) new))
 adds_row n g ids ids2 before now None new r took added kept = tt
@@ -79,8 +79,8 @@ adds_row n g ids ids2 before now (Some rs) new r took added kept =
     (facts_in (row_result g n ids r), added.1, gives_row n g ids ids2 (Some rs) new r (facts_in (row_result g n ids r)) took (inr (sym added.0)) kept)
 
 -- a row's own fault is its answer
-pub own_fault : (g : Reading) (n : ℕ) (ids : List Field) (r : Record) (e : TableFault) → row_fault g n ids r ≡ Some e → OrNoMemory g.table (Err e) (row_result g n ids r)
-own_fault g n ids r e is = inr (sym (ap (λ o. checked o (facts_from g.report g.table (row_of g n r) 0 g.header)) is))
+pub own_fault : (g : TableHeaderValue) (n : ℕ) (ids : List Field) (r : Record) (e : TableFault) → row_fault g n ids r ≡ Some e → OrNoMemory g.table (Err e) (row_result g n ids r)
+own_fault g n ids r e is = inr (sym (ap (λ o. checked o (facts_from g.report g.table (row_of g n r) 0 g.columns)) is))
 
 -- the record that was read is the first of those left
 pub one_taken : (rs : List Record) (r : Record) (new : Option (List Record)) → TakesRecord (Some rs) true r new → new ≡ Some (drop 1 rs)
@@ -100,7 +100,7 @@ bad_row_taken table None new r e took = tt
 bad_row_taken table (Some rs) new r e took = inl (one_taken rs r new took)
 
 -- an answer that a row has before its cells are read: the reader's fault, the end, or a fault of the row itself
-module _ (n : ℕ) (g : Reading) (ids : List Field) (r : Record) (answer : Result Bool TableFault) where
+module _ (n : ℕ) (g : TableHeaderValue) (ids : List Field) (r : Record) (answer : Result Bool TableFault) where
   pub adds_early : (found : Result Bool ReadFault) (before : List Fact) (old new : Option (List Record)) (after : Option Stream) → IfOk found (λ b. TakesRecord old b r new)
       → Some answer ≡ option_map has_row (early_row_answer g n ids found r)
       → IfSome (option_map (stream_from g n ids) old) (λ s. AddsRow g.table s before before answer after)
@@ -157,7 +157,7 @@ module _ (n : ℕ) (g : Reading) (ids : List Field) (r : Record) (answer : Resul
           subst (λ a. TakesOne g.table rs a new) (sym same) (inl (one_taken rs r new took))
 
 -- a row without such an answer was read, and has no fault of its own
-pub not_early : (n : ℕ) (g : Reading) (ids : List Field) (r : Record) (found : Result Bool ReadFault) → option_map has_row (early_row_answer g n ids found r) ≡ None
+pub not_early : (n : ℕ) (g : TableHeaderValue) (ids : List Field) (r : Record) (found : Result Bool ReadFault) → option_map has_row (early_row_answer g n ids found r) ≡ None
     → (found ≡ Ok true) × (row_fault g n ids r ≡ None)
 not_early n g ids r (Err f) is = absurd (cc is)
 not_early n g ids r (Ok false) is = absurd (cc is)
@@ -168,21 +168,21 @@ not_early n g ids r (Ok true) is = (refl, by (row_fault g n ids r) is)
     by (Some e) is = absurd (cc is)
 
 -- the facts of the row that was read are added, or none of them
-pub row_adds : (x : RowValue) (g : Reading) (n : ℕ) (ids ids2 : List Field) (t r : Record) (before now : List Fact) (old new : Option (List Record))
-    → x ≡ record { form = g; number = n; fields = t } → t ≡ r → TakesRecord old true r new
-    → AddsFacts x.form.table (row_result x.form x.number ids x.fields) before now (Ok tt) → ids2 ≡ ids_after (id_place_of x.form) ids x.fields
+pub row_adds : (x : RowValue) (g : TableHeaderValue) (n : ℕ) (ids ids2 : List Field) (t r : Record) (before now : List Fact) (old new : Option (List Record))
+    → x ≡ record { header = g; number = n; fields = t } → t ≡ r → TakesRecord old true r new
+    → AddsFacts x.header.table (row_result x.header x.number ids x.fields) before now (Ok tt) → ids2 ≡ ids_after (id_place_of x.header) ids x.fields
     → IfSome (option_map (stream_from g n ids) old) (λ s. AddsRow g.table s before now (Ok true) (option_map (stream_from g (n + 1) ids2) new))
 row_adds x g n ids ids2 t r before now old new is same took adds kept =
-    let row : x ≡ record { form = g; number = n; fields = r } = is ∙ ap (λ (s : Record). record { form = g; number = n; fields = s }) same in
+    let row : x ≡ record { header = g; number = n; fields = r } = is ∙ ap (λ (s : Record). record { header = g; number = n; fields = s }) same in
     adds_row n g ids ids2 before now old new r took
-    (subst (λ (y : RowValue). AddsFacts y.form.table (row_result y.form y.number ids y.fields) before now (Ok tt)) row adds)
-    (subst (λ (y : RowValue). ids2 ≡ ids_after (id_place_of y.form) ids y.fields) row kept)
+    (subst (λ (y : RowValue). AddsFacts y.header.table (row_result y.header y.number ids y.fields) before now (Ok tt)) row adds)
+    (subst (λ (y : RowValue). ids2 ≡ ids_after (id_place_of y.header) ids y.fields) row kept)
 
-pub row_fails : (x : RowValue) (g : Reading) (n : ℕ) (ids : List Field) (t r : Record) (before now : List Fact) (old new : Option (List Record)) (e : TableFault) (after : Option Stream)
-    → x ≡ record { form = g; number = n; fields = t } → t ≡ r → TakesRecord old true r new
-    → AddsFacts x.form.table (row_result x.form x.number ids x.fields) before now (Err e)
+pub row_fails : (x : RowValue) (g : TableHeaderValue) (n : ℕ) (ids : List Field) (t r : Record) (before now : List Fact) (old new : Option (List Record)) (e : TableFault) (after : Option Stream)
+    → x ≡ record { header = g; number = n; fields = t } → t ≡ r → TakesRecord old true r new
+    → AddsFacts x.header.table (row_result x.header x.number ids x.fields) before now (Err e)
     → IfSome (option_map (stream_from g n ids) old) (λ s. AddsRow g.table s before now (Err e) after)
 row_fails x g n ids t r before now old new e after is same took adds =
-    let row : x ≡ record { form = g; number = n; fields = r } = is ∙ ap (λ (s : Record). record { form = g; number = n; fields = s }) same in
-    let there = subst (λ (y : RowValue). AddsFacts y.form.table (row_result y.form y.number ids y.fields) before now (Err e)) row adds in
+    let row : x ≡ record { header = g; number = n; fields = r } = is ∙ ap (λ (s : Record). record { header = g; number = n; fields = s }) same in
+    let there = subst (λ (y : RowValue). AddsFacts y.header.table (row_result y.header y.number ids y.fields) before now (Err e)) row adds in
     adds_fault n g ids before now old new r e after took there.0 there.1

@@ -7,7 +7,7 @@ use Rattle.csv.specs.Records.{field_at}
 use Rattle.oim_records.specs.Grids.{Field, Record}
 use Rattle.oim_resolve.specs.FactParts.{FactParts as Fact}
 use Rattle.oim_rows.specs.Header.{fault_at}
-use Rattle.oim_rows.specs.RowFacts.{Reading, facts_from, id_place_of, row_fault, row_of}
+use Rattle.oim_rows.specs.RowFacts.{TableHeaderValue, facts_from, id_place_of, row_fault, row_of}
 use Rattle.oim_rows.specs.Streams.{Stream}
 use Rattle.oim_rows.specs.declared.fault.TableFault.{TableFault}
 use Rattle.oim_rows.specs.declared.fault.TableKind.TheVariants as kind
@@ -32,9 +32,9 @@ apart_row None (Err e) id rest = record { rows = []; ids = id; fault = Some e }
 apart_row None (Ok facts) id rest = record { rows = facts ∷ rest.rows; ids = id ++ rest.ids; fault = rest.fault }
 
 -- rows from number n on, with no row before them known
-unfoldable pub apart_from : Reading → ℕ → List Record → Apart
+unfoldable pub apart_from : TableHeaderValue → ℕ → List Record → Apart
 apart_from g n [] = record { rows = []; ids = []; fault = None }
-apart_from g n (r ∷ rows) = apart_row (row_fault g n [] r) (facts_from g.report g.table (row_of g n r) 0 g.header) (id_in (id_place_of g) r) (apart_from g (n + 1) rows)
+apart_from g n (r ∷ rows) = apart_row (row_fault g n [] r) (facts_from g.report g.table (row_of g n r) 0 g.columns) (id_in (id_place_of g) r) (apart_from g (n + 1) rows)
 
 -- the first place, from k on, of an identifier that came before
 abbrev pub repeated_from : ℕ → List Field → List Field → Option ℕ
@@ -42,14 +42,14 @@ repeated_from k before [] = None
 repeated_from k before (id ∷ ids) = if list_any (bytes_eq id) before then Some k else repeated_from (k + 1) (before ++ id ∷ []) ids
 
 -- the fault of row n whose identifier came before
-abbrev pub repeated_id : Reading → ℕ → TableFault
+abbrev pub repeated_id : TableHeaderValue → ℕ → TableFault
 repeated_id g n = fault_at g.table n (unwrap_or (id_place_of g) 0 + 1) kind.RepeatedRowId
 
 -- a piece from row n on up to its row at a place, whose identifier came before, or all of it
-abbrev pub cut_at : Reading → ℕ → Option ℕ → Apart → Stream
+abbrev pub cut_at : TableHeaderValue → ℕ → Option ℕ → Apart → Stream
 cut_at g n None a = record { rows = a.rows; fault = a.fault }
 cut_at g n (Some k) a = record { rows = take k a.rows; fault = Some (repeated_id g (n + k)) }
 
 -- what a piece from row n on gives where the rows before it have these identifiers
-abbrev pub joined : Reading → ℕ → List Field → Apart → Stream
+abbrev pub joined : TableHeaderValue → ℕ → List Field → Apart → Stream
 joined g n before a = cut_at g n (repeated_from 0 before a.ids) a

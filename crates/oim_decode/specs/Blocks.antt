@@ -5,15 +5,15 @@ use mathlib.Core.List.{IsPrefix}
 use Rattle.oim_records.specs.Grids.{Record}
 use Rattle.oim_resolve.specs.FactParts.{FactParts as Fact}
 use Rattle.oim_rows.specs.Header.{file_fault}
-use Rattle.oim_rows.specs.RowFacts.{Reading}
+use Rattle.oim_rows.specs.RowFacts.{TableHeaderValue}
 use Rattle.oim_rows.specs.Streams.{GivesNext, IsOutside, Stream, ending, facts_of_rows}
 use Rattle.oim_rows.specs.declared.fault.TableFault.{TableFault}
 use Rattle.oim_rows.specs.declared.fault.TableKind.TheVariants as kind
 
--- how a table is read, how many of its rows are read, and, where the reader tells its bytes, the stream of the others and the records
+-- a table's header, how many of its rows are read, and, where the reader tells its bytes, the stream of the others and the records
 -- that are not read yet
 pub record RowsUnread : Type 0 where
-  pub reading : Reading
+  pub header : TableHeaderValue
   pub given : ℕ
   pub left : Option Stream
   pub unread : Option (List Record)
@@ -38,8 +38,8 @@ left_of (Some end) s = Some (ending end)
 -- what is left of a table whose rows are read so far, whose facts are pending so, and whose end or fault was found so far
 abbrev pub blocks_left : RowsUnread → List Fact → Option (Option TableFault) → BlocksLeft
 blocks_left rows facts settled = record {
-  table = rows.reading.table;
-  limit = rows.reading.limit;
+  table = rows.header.table;
+  limit = rows.header.limit;
   given = rows.given;
   pending = facts;
   answered = settled;

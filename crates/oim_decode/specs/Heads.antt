@@ -4,8 +4,8 @@ use Rattle.csv.specs.declared.parser.State.TheVariants as state
 use Rattle.oim_records.specs.Grids.{Record, grid, records_left}
 use Rattle.oim_report.specs.ReportValue.{ReportValue}
 use Rattle.oim_rows.specs.Header.{file_header_fault}
-use Rattle.oim_rows.specs.RowFacts.{Reading}
-use Rattle.oim_rows.specs.Streams.{IsOutside, reading_of}
+use Rattle.oim_rows.specs.RowFacts.{TableHeaderValue}
+use Rattle.oim_rows.specs.Streams.{IsOutside, table_header_of}
 use Rattle.oim_rows.specs.declared.fault.TableFault.{TableFault}
 
 -- the bytes of a byte-order mark
@@ -25,6 +25,6 @@ header_in (r ∷ rows) = r
 abbrev pub IsHeaderFault : ReportValue → ℕ → List ℕ → TableFault → Type 0
 IsHeaderFault report table bytes e = IsOutside table e ⊎ (file_header_fault report table (grid bytes) ≡ Some e)
 
--- how the rows of a table are read whose file begins with these records
-abbrev pub reading_in : ReportValue → ℕ → ℕ → List Record → Reading
-reading_in report table limit records = reading_of report table limit (header_in records)
+-- the header of a table whose file begins with these records
+abbrev pub table_header_in : ReportValue → ℕ → ℕ → List Record → TableHeaderValue
+table_header_in report table limit records = table_header_of report table limit (header_in records)

@@ -8,8 +8,8 @@ use Rattle.oim_records.specs.Grids.{Field, Record, records_left}
 use Rattle.oim_report.specs.ReportValue.{ReportValue}
 use Rattle.oim_decode.specs.Apart.{apart_from, joined}
 use Rattle.oim_rows.specs.Header.{header_fault}
-use Rattle.oim_rows.specs.RowFacts.{Reading}
-use Rattle.oim_rows.specs.Streams.{Stream, ending, reading_of, stream_from, table_stream}
+use Rattle.oim_rows.specs.RowFacts.{TableHeaderValue}
+use Rattle.oim_rows.specs.Streams.{Stream, ending, table_header_of, stream_from, table_stream}
 use Rattle.oim_rows.specs.declared.fault.TableFault.{TableFault}
 
 abbrev pub behind : Option TableFault → Stream → Stream → Stream
@@ -21,7 +21,7 @@ abbrev pub stream_then : Stream → Stream → Stream
 stream_then s t = behind s.fault s t
 
 -- the pieces from row n on, where the rows before them have these identifiers
-unfoldable pub pieces_from : Reading → ℕ → List Field → List (List Record) → Stream
+unfoldable pub pieces_from : TableHeaderValue → ℕ → List Field → List (List Record) → Stream
 pieces_from g n ids [] = ending None
 pieces_from g n ids (p ∷ ps) = stream_then (joined g n ids (apart_from g n p)) (pieces_from g (n + length p) (ids ++ (apart_from g n p).ids) ps)
 
@@ -31,12 +31,12 @@ records_of pieces = flat_map (λ piece. piece) pieces
 
 -- however records are cut into pieces, these give the stream of the records
 abbrev pub RowsInPieces : Type 0
-RowsInPieces = (g : Reading) (n : ℕ) (ids : List Field) (pieces : List (List Record)) → stream_from g n ids (records_of pieces) ≡ pieces_from g n ids pieces
+RowsInPieces = (g : TableHeaderValue) (n : ℕ) (ids : List Field) (pieces : List (List Record)) → stream_from g n ids (records_of pieces) ≡ pieces_from g n ids pieces
 
 -- a piece first, and then what comes behind it
 abbrev pub PieceThenRest : Type 0
 PieceThenRest =
-    (g : Reading) (n : ℕ) (ids : List Field) (piece rest : List Record)
+    (g : TableHeaderValue) (n : ℕ) (ids : List Field) (piece rest : List Record)
     → stream_from g n ids (piece ++ rest)
     ≡ stream_then (joined g n ids (apart_from g n piece)) (stream_from g (n + length piece) (ids ++ (apart_from g n piece).ids) rest)
 
@@ -59,4 +59,4 @@ FileInPieces =
     → AreCut (first ∷ pieces)
     → records_left state.StartRecord first ≡ header ∷ rows
     → header_fault report table header ≡ None
-    → table_stream report table limit (Some file) ≡ pieces_from (reading_of report table limit header) 1 [] (rows ∷ map (records_left state.StartRecord) pieces)
+    → table_stream report table limit (Some file) ≡ pieces_from (table_header_of report table limit header) 1 [] (rows ∷ map (records_left state.StartRecord) pieces)

@@ -37,8 +37,8 @@ mod piece;
 mod table;
 
 pub use laws::{file_in_pieces, joined_pieces_are_read, rows_in_pieces, settled_tables_stay};
+pub use piece::first_records::{FirstRecords, open_pieces};
 pub use piece::piece_answer::PieceAnswer;
 pub use piece::piece_decoder::PieceDecoder;
 pub use piece::piece_join::{JoinedPiece, PieceJoin};
-pub use piece::table_head::{TableHead, open_pieces};
 pub use table::table_blocks::TableBlocks;

@@ -1,10 +1,10 @@
 //! Pieces to facts, each by itself, and their join.
 
+pub(crate) mod first_records;
 pub(crate) mod piece_answer;
 mod piece_blocks;
 pub(crate) mod piece_decoder;
 pub(crate) mod piece_join;
 mod piece_rows;
 mod rooms;
-pub(crate) mod table_head;
 mod written_rows;

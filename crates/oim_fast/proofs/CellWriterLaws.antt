@@ -13,7 +13,7 @@ use Rattle.oim_report.specs.declared.kind.Kind.{Kind}
 use Rattle.oim_resolve.specs.FactValues.{text_in}
 use Rattle.oim_resolve.specs.Facts.{cell_result, fact_meaning, fact_of, is_absent, is_dropped, is_numeric}
 use Rattle.oim_resolve.specs.Written.{levels}
-use Rattle.oim_rows.specs.RowFacts.{Reading, field_or_empty}
+use Rattle.oim_rows.specs.RowFacts.{TableHeaderValue, field_or_empty}
 use Rattle.oim_fast.specs.state.CellValues.{IsValue}
 use Rattle.oim_fast.specs.state.CellWriters.{IsCellWriter, IsInRow, PutsCell, PutsSaid, column_at}
 use Rattle.oim_fast.specs.state.Columns.{AreFactColumns, IsFactColumn}
@@ -47,7 +47,7 @@ use Rattle.oim_fast.proofs.SoundLaws.{chosen_sound}
 
 -- THE REFERENCES OF A FRAME
 
-module _ (f : Reading) (rs : List ReferenceValue) where
+module _ (f : TableHeaderValue) (rs : List ReferenceValue) where
   abbrev HasReference : Segment → Type 0
   HasReference s = s.reference < length rs
 
@@ -93,23 +93,23 @@ value_is_plain r k m v h number = subst (λ (o : Option (List ℕ)). IfSome o (�
 -- A CELL
 
 -- what a cell of a column means
-pub cell_meaning : (x : RowValue) (cells : List GroupCell) (c : FactColumn) → IsFactColumn x.form cells c → meaning_of (field_or_empty x.fields (Some c.place)) ≡ fact_meaning (cell_in x c.column)
+pub cell_meaning : (x : RowValue) (cells : List GroupCell) (c : FactColumn) → IsFactColumn x.header cells c → meaning_of (field_or_empty x.fields (Some c.place)) ≡ fact_meaning (cell_in x c.column)
 cell_meaning x cells c h = ap meaning_of (ap (field_or_empty x.fields) (sym h.there) ∙ sym (text_is x c.column c.column h.range))
 
 pub nothing_written : (x : RowValue) (c : ℕ) (text : List ℕ) → is_absent (fact_meaning (cell_in x c)) ≡ true → WritesFact (cell_result (cell_in x c)) text text
 nothing_written x c text e = record { fact = None; is = absent_given (cell_in x c) e; text = sym (append-nil text) }
 
 module _ (x : RowValue) (cells : List GroupCell) (c : FactColumn) (rs : List ReferenceValue) (t : FrameValue) (v : Value) (start old new : List ℕ)
-    (few : x.number < 2 ^ 32) (column : IsFactColumn x.form cells c) (fresh : All (IsFresh x) rs) (text : IsTextFor x (map key_of rs) c.column t)
-    (value : IsValue x.form.report t.kind (fact_meaning (cell_in x c.column)) v) (begins : start ≡ start_text x) where
+    (few : x.number < 2 ^ 32) (column : IsFactColumn x.header cells c) (fresh : All (IsFresh x) rs) (text : IsTextFor x (map key_of rs) c.column t)
+    (value : IsValue x.header.report t.kind (fact_meaning (cell_in x c.column)) v) (begins : start ≡ start_text x) where
   adds_fact : AddsFact rs t v start old new → WritesFact (cell_result (cell_in x c.column)) old new
   adds_fact adds =
       let here = cell_in x c.column in
-      let levels_is : IsTextOf x.form (map key_of rs) (levels here) (Rattle.oim_fast.specs.Facts.column_lead x.form c.column) t =
-      subst (λ (ls : List Level). IsTextOf x.form (map key_of rs) ls (Rattle.oim_fast.specs.Facts.column_lead x.form c.column) t) (sym (levels_are x c.column text.choices column.from text.chosen)) text.text in
+      let levels_is : IsTextOf x.header (map key_of rs) (levels here) (Rattle.oim_fast.specs.Facts.column_lead x.header c.column) t =
+      subst (λ (ls : List Level). IsTextOf x.header (map key_of rs) ls (Rattle.oim_fast.specs.Facts.column_lead x.header c.column) t) (sym (levels_are x c.column text.choices column.from text.chosen)) text.text in
       record {
         fact = Some (fact_of here);
-        is = fact_given x c.column few rs fresh t v levels_is text.concept value adds.dimensions adds.decimals value.known (chosen_sound x c.column (column_in x.form c.column).from text.choices column.from text.chosen);
+        is = fact_given x c.column few rs fresh t v levels_is text.concept value adds.dimensions adds.decimals value.known (chosen_sound x c.column (column_in x.header c.column).from text.choices column.from text.chosen);
         text = adds.text ∙ ap (λ q. old ++ (q ++ object_text rs t v)) begins ∙ ap (λ q. old ++ q) (text_given x c.column few rs fresh t v levels_is text.concept value adds.dimensions adds.decimals);
       }
 
@@ -119,7 +119,7 @@ module _ (x : RowValue) (cells : List GroupCell) (c : FactColumn) (rs : List Ref
   puts_fact (Err e) h = h
 
 -- what is put of a value is put of a cell that says it
-pub value_said : {E : Type 0} (x : RowValue) (rs : List ReferenceValue) (t : FrameValue) (v : Value) (start cell old new : List ℕ) → IsValue x.form.report t.kind (meaning_of cell) v
+pub value_said : {E : Type 0} (x : RowValue) (rs : List ReferenceValue) (t : FrameValue) (v : Value) (start cell old new : List ℕ) → IsValue x.header.report t.kind (meaning_of cell) v
     → (r : Result Bool E) → PutsFact rs t v start old new r → PutsSaid x rs t start cell old new r
 value_said x rs t v start cell old new value (Ok true) h = inr (v, value, h)
 value_said x rs t v start cell old new value (Ok false) h = h
@@ -127,14 +127,14 @@ value_said x rs t v start cell old new value (Err e) h = h
 
 -- and what is put of what a cell says is put of the cell
 module _ (x : RowValue) (cells : List GroupCell) (c : FactColumn) (rs : List ReferenceValue) (t : FrameValue) (start old new : List ℕ)
-    (few : x.number < 2 ^ 32) (column : IsFactColumn x.form cells c) (fresh : All (IsFresh x) rs) (text : IsTextFor x (map key_of rs) c.column t) (begins : start ≡ start_text x) where
+    (few : x.number < 2 ^ 32) (column : IsFactColumn x.header cells c) (fresh : All (IsFresh x) rs) (text : IsTextFor x (map key_of rs) c.column t) (begins : start ≡ start_text x) where
   abbrev said : Meaning
   said = meaning_of (field_or_empty x.fields (Some c.place))
 
-  said_fact : ((is_absent said ≡ true) × (new ≡ old)) ⊎ ((v : Value) × IsValue x.form.report t.kind said v × AddsFact rs t v start old new) → WritesFact (cell_result (cell_in x c.column)) old new
+  said_fact : ((is_absent said ≡ true) × (new ≡ old)) ⊎ ((v : Value) × IsValue x.header.report t.kind said v × AddsFact rs t v start old new) → WritesFact (cell_result (cell_in x c.column)) old new
   said_fact (inl h) = subst (λ (q : List ℕ). WritesFact (cell_result (cell_in x c.column)) old q) (sym h.1) (nothing_written x c.column old (ap is_absent (sym (cell_meaning x cells c column)) ∙ h.0))
   said_fact (inr h) =
-      let value : IsValue x.form.report t.kind (fact_meaning (cell_in x c.column)) h.0 = subst (λ (m : Meaning). IsValue x.form.report t.kind m h.0) (cell_meaning x cells c column) h.1 in
+      let value : IsValue x.header.report t.kind (fact_meaning (cell_in x c.column)) h.0 = subst (λ (m : Meaning). IsValue x.header.report t.kind m h.0) (cell_meaning x cells c column) h.1 in
       adds_fact x cells c rs t h.0 start old new few column fresh text value begins h.2
 
   pub puts_said : {E : Type 0} (r : Result Bool E) → PutsSaid x rs t start (field_or_empty x.fields (Some c.place)) old new r → PutsCell x c.column old new r
@@ -144,23 +144,23 @@ module _ (x : RowValue) (cells : List GroupCell) (c : FactColumn) (rs : List Ref
 
 -- THE COLUMNS
 
-pub column_there : (f : Reading) (cells : List GroupCell) (cs : List FactColumn) (i : ℕ) (c : FactColumn) → AreFactColumns f cells cs → i < length cs → c ≡ get_or cs i c → c.column ≡ column_at f i
+pub column_there : (f : TableHeaderValue) (cells : List GroupCell) (cs : List FactColumn) (i : ℕ) (c : FactColumn) → AreFactColumns f cells cs → i < length cs → c ≡ get_or cs i c → c.column ≡ column_at f i
 column_there f cells cs i c h lt is =
     ap (λ (k : FactColumn). k.column) is ∙ sym (get_or-map (λ (k : FactColumn). k.column) cs i c 0 lt) ∙ ap (λ ys. get_or ys i 0) h.columns
 
-pub columns_length : (f : Reading) (cells : List GroupCell) (cs : List FactColumn) → AreFactColumns f cells cs → length cs ≡ length (Rattle.oim_fast.specs.state.Columns.fact_columns_in f f.header)
+pub columns_length : (f : TableHeaderValue) (cells : List GroupCell) (cs : List FactColumn) → AreFactColumns f cells cs → length cs ≡ length (Rattle.oim_fast.specs.state.Columns.fact_columns_in f f.columns)
 columns_length f cells cs h = sym (length-map cs (λ (k : FactColumn). k.column)) ∙ ap length h.columns
 
 -- a column was looked up
-pub column_set : (f : Reading) (cells later : List GroupCell) (cs : List FactColumn) (i : ℕ) (c new : FactColumn) → AreFactColumns f cells cs → i < length cs → c ≡ get_or cs i c
+pub column_set : (f : TableHeaderValue) (cells later : List GroupCell) (cs : List FactColumn) (i : ℕ) (c new : FactColumn) → AreFactColumns f cells cs → i < length cs → c ≡ get_or cs i c
     → later ≡ cells → new.column ≡ c.column → IsFactColumn f later new → AreFactColumns f later (set cs i new)
 column_set f cells later cs i c new h lt is kept same column = record {
   columns = set_map (λ (k : FactColumn). k.column) cs i c new lt is same ∙ h.columns;
   are = set_all (IsFactColumn f later) cs i new (subst (λ (gs : List GroupCell). All (IsFactColumn f gs) cs) (sym kept) h.are) column;
 }
 
--- what is ready in a row is ready for the rows of its form
-pub again : (x : RowValue) (w : CellWriter) → IsInRow x w → IsCellWriter x.form w
+-- what is ready in a row is ready for the rows under its header
+pub again : (x : RowValue) (w : CellWriter) → IsInRow x w → IsCellWriter x.header w
 again x w h = record { columns = h.columns; maker = ready_again x w.maker h.maker; frames = h.frames; lead = h.lead }
 
 -- a cell was done, or was left

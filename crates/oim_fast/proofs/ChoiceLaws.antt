@@ -14,7 +14,7 @@ use Rattle.oim_report.specs.declared.data.Level.{Level}
 use Rattle.oim_report.proofs.GroupOrder.{column_rises}
 use Rattle.oim_resolve.specs.ProgramCell.{held}
 use Rattle.oim_resolve.proofs.LevelOrder.{column_level_rises, report_rises, template_rises}
-use Rattle.oim_rows.specs.RowFacts.{Reading, field_or_empty, source_of_column}
+use Rattle.oim_rows.specs.RowFacts.{TableHeaderValue, field_or_empty, source_of_column}
 use Rattle.oim_fast.specs.state.Columns.{IsFactColumn}
 use Rattle.oim_fast.specs.state.Frames.{Chooses, groups_chosen, is_known_choice, levels_chosen}
 use Rattle.oim_fast.specs.state.Groups.{IsGroupCell, IsSaid, Says, choice_in, choices_in, group_at, level_at, level_chosen, levels_at}
@@ -39,7 +39,7 @@ places_within cells (p ∷ ps) [] e k d lt = absurd (cc)
 places_within cells (p ∷ ps) (x ∷ xs) e zero d lt = let one : column_at cells p ≡ Some x = cc in there_within cells p (slice_get cells p) x refl one
 places_within cells (p ∷ ps) (x ∷ xs) e (suc k) d lt = let rest : map (column_at cells) ps ≡ map Some xs = cc in places_within cells ps xs rest k d (omega arith)
 
-pub groups_within : (f : Reading) (cells : List GroupCell) (c : FactColumn) → IsFactColumn f cells c → All (λ p. p < length cells) c.groups.items
+pub groups_within : (f : TableHeaderValue) (cells : List GroupCell) (c : FactColumn) → IsFactColumn f cells c → All (λ p. p < length cells) c.groups.items
 groups_within f cells c is = places_within cells c.groups.items (column_in f c.column).from is.groups
 
 -- LEVELS
@@ -64,7 +64,7 @@ reversed : (a t r : Level) (gs : List Level) → reverse (levels_from a gs t r) 
 reversed a t r gs =
     reverse-append ((a ∷ gs) ++ t ∷ []) (r ∷ []) ∙ ap (λ ls. r ∷ ls) (reverse-append (a ∷ gs) (t ∷ []) ∙ ap (λ ls. t ∷ ls) (reverse-append (a ∷ []) gs))
 
-module _ (f : Reading) (cells : List GroupCell) (are : All (IsGroupCell f) cells) where
+module _ (f : TableHeaderValue) (cells : List GroupCell) (are : All (IsGroupCell f) cells) where
   by_cell : (p x : ℕ) (o : Option GroupCell) → slice_get cells p ≡ o → option_map (λ (g : GroupCell). g.column) o ≡ Some x
       → option_and_then level_chosen o ≡ group_at (column_in f x).groups (option_map_or (λ (g : GroupCell). g.choice) o choice.Unknown)
   by_cell p x None e h = absurd (cc)
@@ -153,16 +153,16 @@ all_held {X = X} P xs all k d lt = subst P (get_or-map (λ x. x.now) xs k d d.no
 known_first : (o : Choice) (os : List Choice) → All (λ q. is_known_choice q ≡ true) (o ∷ os) → is_known_choice o ≡ true
 known_first o os all = all 0 o (omega arith)
 
-module _ (x : RowValue) (cells : List GroupCell) (are : All (IsGroupCell x.form) cells) (said : All (IsSaid x) cells) where
+module _ (x : RowValue) (cells : List GroupCell) (are : All (IsGroupCell x.header) cells) (said : All (IsSaid x) cells) where
   said_at : (p g : ℕ) (o : Option GroupCell) → slice_get cells p ≡ o → option_map (λ (c : GroupCell). c.column) o ≡ Some g
-      → Says (column_in x.form g) (meaning_of (field_or_empty x.fields (source_of_column x.form.header g))) (option_map_or (λ (c : GroupCell). c.choice) o choice.Unknown)
+      → Says (column_in x.header g) (meaning_of (field_or_empty x.fields (source_of_column x.header.columns g))) (option_map_or (λ (c : GroupCell). c.choice) o choice.Unknown)
   said_at p g None e h = absurd (cc)
   said_at p g (Some c) e h =
-      let is : IsGroupCell x.form c = all_at (IsGroupCell x.form) cells p c are e in
+      let is : IsGroupCell x.header c = all_at (IsGroupCell x.header) cells p c are e in
       let so : IsSaid x c = all_at (IsSaid x) cells p c said e in
       let same : c.column ≡ g = cc in
-      subst (λ y. Says (column_in x.form y) (meaning_of (field_or_empty x.fields (source_of_column x.form.header y))) c.choice) same
-      (subst (λ q. Says (column_in x.form c.column) (meaning_of (field_or_empty x.fields q)) c.choice) is.place so)
+      subst (λ y. Says (column_in x.header y) (meaning_of (field_or_empty x.fields (source_of_column x.header.columns y))) c.choice) same
+      (subst (λ q. Says (column_in x.header c.column) (meaning_of (field_or_empty x.fields q)) c.choice) is.place so)
 
   -- what columns of groups say is what a row chooses
   pub chooses : (ps gs : List ℕ) → map (column_at cells) ps ≡ map Some gs → All (λ o. is_known_choice o ≡ true) (choices_in cells ps) → Chooses x gs (choices_in cells ps)

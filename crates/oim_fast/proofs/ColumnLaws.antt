@@ -9,7 +9,7 @@ use Rattle.std.proofs.lemmas.Option.{slice_get-get_or, slice_get-map}
 use Rattle.oim_rows.specs.Header.{is_column}
 use Rattle.oim_report.specs.Readers.{holds_facts, no_column}
 use Rattle.oim_report.specs.declared.data.Column.{Column}
-use Rattle.oim_rows.specs.RowFacts.{Reading, is_fact_column}
+use Rattle.oim_rows.specs.RowFacts.{TableHeaderValue, is_fact_column}
 use Rattle.oim_fast.specs.state.Columns.{AreFactColumns, IsColumnAt, IsFactColumn, fact_column_at, fact_columns_in}
 use Rattle.oim_fast.specs.state.References.{Grows}
 use Rattle.oim_fast.specs.Rows.{columns_in}
@@ -38,7 +38,7 @@ by_kind : (b : Bool) (c : ℕ) (xs ys : List ℕ) → (if b then c ∷ (xs ++ ys
 by_kind true c xs ys = refl
 by_kind false c xs ys = refl
 
-pub fact_columns-append : (f : Reading) (a b : List (Option ℕ)) → fact_columns_in f (a ++ b) ≡ fact_columns_in f a ++ fact_columns_in f b
+pub fact_columns-append : (f : TableHeaderValue) (a b : List (Option ℕ)) → fact_columns_in f (a ++ b) ≡ fact_columns_in f a ++ fact_columns_in f b
 fact_columns-append f [] b = refl
 fact_columns-append f (None ∷ a) b = fact_columns-append f a b
 fact_columns-append f (Some c ∷ a) b =
@@ -46,8 +46,8 @@ fact_columns-append f (Some c ∷ a) b =
     ∙ by_kind (is_fact_column (columns_in f) c) c (fact_columns_in f a) (fact_columns_in f b)
 
 -- one header cell more
-pub fact_columns_more : (f : Reading) (i : ℕ) → i < length f.header → fact_columns_in f (take (i + 1) f.header) ≡ fact_columns_in f (take i f.header) ++ fact_column_at f i
-fact_columns_more f i lt = ap (fact_columns_in f) (take_more f.header i None lt) ∙ fact_columns-append f (take i f.header) (get_or f.header i None ∷ [])
+pub fact_columns_more : (f : TableHeaderValue) (i : ℕ) → i < length f.columns → fact_columns_in f (take (i + 1) f.columns) ≡ fact_columns_in f (take i f.columns) ++ fact_column_at f i
+fact_columns_more f i lt = ap (fact_columns_in f) (take_more f.columns i None lt) ∙ fact_columns-append f (take i f.columns) (get_or f.columns i None ∷ [])
 
 by_test : (b : Bool) (c : ℕ) → b ≡ false → (if b then c ∷ [] else []) ≡ []
 by_test true c e = absurd (cc)
@@ -58,13 +58,13 @@ by_true true c e = refl
 by_true false c e = absurd (cc)
 
 -- a place of the header that names none
-pub names_no_column : (f : Reading) (i : ℕ) → get_or f.header i None ≡ None → fact_column_at f i ≡ []
+pub names_no_column : (f : TableHeaderValue) (i : ℕ) → get_or f.columns i None ≡ None → fact_column_at f i ≡ []
 names_no_column f i e = ap (λ o. fact_columns_in f (o ∷ [])) e
 
-pub names_no_facts : (f : Reading) (i c : ℕ) → get_or f.header i None ≡ Some c → is_fact_column (columns_in f) c ≡ false → fact_column_at f i ≡ []
+pub names_no_facts : (f : TableHeaderValue) (i c : ℕ) → get_or f.columns i None ≡ Some c → is_fact_column (columns_in f) c ≡ false → fact_column_at f i ≡ []
 names_no_facts f i c e test = ap (λ o. fact_columns_in f (o ∷ [])) e ∙ by_test (is_fact_column (columns_in f) c) c test
 
-pub names_facts : (f : Reading) (i c : ℕ) → get_or f.header i None ≡ Some c → is_fact_column (columns_in f) c ≡ true → fact_column_at f i ≡ c ∷ []
+pub names_facts : (f : TableHeaderValue) (i c : ℕ) → get_or f.columns i None ≡ Some c → is_fact_column (columns_in f) c ≡ true → fact_column_at f i ≡ c ∷ []
 names_facts f i c e test = ap (λ o. fact_columns_in f (o ∷ [])) e ∙ by_true (is_fact_column (columns_in f) c) c test
 
 -- where a column stands in the template, its kind says whether it holds facts
@@ -116,10 +116,10 @@ place_more cells ps xs i p x d lt is before here =
 
 -- COLUMNS OF FACTS
 
-pub column_grows : (f : Reading) (cells later : List GroupCell) (c : FactColumn) → Grows cells later → IsFactColumn f cells c → IsFactColumn f later c
+pub column_grows : (f : TableHeaderValue) (cells later : List GroupCell) (c : FactColumn) → Grows cells later → IsFactColumn f cells c → IsFactColumn f later c
 column_grows f cells later c g is = record { range = is.range; there = is.there; level = is.level; lead = is.lead; from = is.from; groups = places_grow cells later c.groups.items _ g is.groups }
 
-pub columns_grow : (f : Reading) (cells later : List GroupCell) (cs : List FactColumn) → Grows cells later → All (IsFactColumn f cells) cs → All (IsFactColumn f later) cs
+pub columns_grow : (f : TableHeaderValue) (cells later : List GroupCell) (cs : List FactColumn) → Grows cells later → All (IsFactColumn f cells) cs → All (IsFactColumn f later) cs
 columns_grow f cells later cs g all k d lt = column_grows f cells later (get_or cs k d) g (all k d lt)
 
 by_columns : (cells later : List GroupCell) (p : ℕ) → map column_of later ≡ map column_of cells → column_at later p ≡ column_at cells p
@@ -130,11 +130,11 @@ places_same cells later [] same = refl
 places_same cells later (p ∷ ps) same = ap (λ o. o ∷ map (column_at later) ps) (by_columns cells later p same) ∙ ap (λ os. column_at cells p ∷ os) (places_same cells later ps same)
 
 -- what is kept of a column says nothing of what rows choose
-pub column_kept : (f : Reading) (cells later : List GroupCell) (c : FactColumn) → map column_of later ≡ map column_of cells → IsFactColumn f cells c → IsFactColumn f later c
+pub column_kept : (f : TableHeaderValue) (cells later : List GroupCell) (c : FactColumn) → map column_of later ≡ map column_of cells → IsFactColumn f cells c → IsFactColumn f later c
 column_kept f cells later c same is =
     record { range = is.range; there = is.there; level = is.level; lead = is.lead; from = is.from; groups = places_same cells later c.groups.items same ∙ is.groups }
 
-pub all_columns_kept : (f : Reading) (cells later : List GroupCell) (cs : List FactColumn) → map column_of later ≡ map column_of cells → AreFactColumns f cells cs → AreFactColumns f later cs
+pub all_columns_kept : (f : TableHeaderValue) (cells later : List GroupCell) (cs : List FactColumn) → map column_of later ≡ map column_of cells → AreFactColumns f cells cs → AreFactColumns f later cs
 all_columns_kept f cells later cs same are = record { columns = are.columns; are = λ k d lt. column_kept f cells later (get_or cs k d) same (are.are k d lt) }
 
 -- a place of the header more
@@ -142,21 +142,21 @@ abbrev with_column : List FactColumn → Option FactColumn → List FactColumn
 with_column cs None = cs
 with_column cs (Some c) = cs ++ c ∷ []
 
-pub one_more : (f : Reading) (cells later : List GroupCell) (cs : List FactColumn) (i : ℕ) (o : Option FactColumn) → i < length f.header → Grows cells later
-    → map (λ (c : FactColumn). c.column) cs ≡ fact_columns_in f (take i f.header) → All (IsFactColumn f cells) cs → IsColumnAt f later i o
-    → (map (λ (c : FactColumn). c.column) (with_column cs o) ≡ fact_columns_in f (take (i + 1) f.header)) × All (IsFactColumn f later) (with_column cs o)
+pub one_more : (f : TableHeaderValue) (cells later : List GroupCell) (cs : List FactColumn) (i : ℕ) (o : Option FactColumn) → i < length f.columns → Grows cells later
+    → map (λ (c : FactColumn). c.column) cs ≡ fact_columns_in f (take i f.columns) → All (IsFactColumn f cells) cs → IsColumnAt f later i o
+    → (map (λ (c : FactColumn). c.column) (with_column cs o) ≡ fact_columns_in f (take (i + 1) f.columns)) × All (IsFactColumn f later) (with_column cs o)
 one_more f cells later cs i None lt g same are none =
-    (same ∙ sym (fact_columns_more f i lt ∙ ap (λ xs. fact_columns_in f (take i f.header) ++ xs) none ∙ append-nil _), columns_grow f cells later cs g are)
+    (same ∙ sym (fact_columns_more f i lt ∙ ap (λ xs. fact_columns_in f (take i f.columns) ++ xs) none ∙ append-nil _), columns_grow f cells later cs g are)
 one_more f cells later cs i (Some c) lt g same are some = (
-  map-append (λ (k : FactColumn). k.column) cs (c ∷ []) ∙ ap (λ xs. xs ++ c.column ∷ []) same ∙ sym (fact_columns_more f i lt ∙ ap (λ xs. fact_columns_in f (take i f.header) ++ xs) some.0),
+  map-append (λ (k : FactColumn). k.column) cs (c ∷ []) ∙ ap (λ xs. xs ++ c.column ∷ []) same ∙ sym (fact_columns_more f i lt ∙ ap (λ xs. fact_columns_in f (take i f.columns) ++ xs) some.0),
   all_push (IsFactColumn f later) cs c (columns_grow f cells later cs g are) some.1,
 )
 
 -- where its frames may stand does not matter
-pub guessed : (f : Reading) (cells : List GroupCell) (c later : FactColumn) → later ≡ record c { last = later.last } → IsFactColumn f cells c → IsFactColumn f cells later
+pub guessed : (f : TableHeaderValue) (cells : List GroupCell) (c later : FactColumn) → later ≡ record c { last = later.last } → IsFactColumn f cells c → IsFactColumn f cells later
 guessed f cells c later e is = subst (IsFactColumn f cells) (sym e) (record { range = is.range; there = is.there; level = is.level; lead = is.lead; from = is.from; groups = is.groups })
 
-pub guessed_kind : (f : Reading) (cells : List GroupCell) (c later : FactColumn) → later ≡ record c { last_of_kind = later.last_of_kind } → IsFactColumn f cells c → IsFactColumn f cells later
+pub guessed_kind : (f : TableHeaderValue) (cells : List GroupCell) (c later : FactColumn) → later ≡ record c { last_of_kind = later.last_of_kind } → IsFactColumn f cells c → IsFactColumn f cells later
 guessed_kind f cells c later e is = subst (IsFactColumn f cells) (sym e) (record { range = is.range; there = is.there; level = is.level; lead = is.lead; from = is.from; groups = is.groups })
 
 pub same_one : (c later : FactColumn) → later ≡ record c { last = later.last } → later ≡ record c { last = later.last; last_of_kind = later.last_of_kind }

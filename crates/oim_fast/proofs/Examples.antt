@@ -8,7 +8,7 @@ use Rattle.oim_report.specs.Readers.{no_column, no_level}
 use Rattle.oim_report.specs.declared.data.Column.{Column as AColumn}
 use Rattle.oim_report.specs.declared.data.Level.{Level}
 use Rattle.oim_report.specs.declared.kind.Kind.TheVariants as kind
-use Rattle.oim_rows.specs.RowFacts.{Reading}
+use Rattle.oim_rows.specs.RowFacts.{TableHeaderValue}
 use Rattle.oim_fast.specs.state.Answers.{dimension_json}
 use Rattle.oim_fast.specs.state.Escapes.{is_escaped}
 use Rattle.oim_fast.specs.state.FrameTexts.{FrameValue, frame_dimensions}
@@ -21,25 +21,25 @@ use Rattle.oim_fast.specs.declared.row.group_cells.Choice.TheVariants as choice
 
 -- SOURCES
 
-abbrev row : Reading → List (List ℕ) → RowValue
-row f fields = record { form = f; number = 7; fields = fields }
+abbrev row : TableHeaderValue → List (List ℕ) → RowValue
+row f fields = record { header = f; number = 7; fields = fields }
 
 -- the cell stands over the parameter
-cell_first : (f : Reading) → source_text (row f (codes "r" ∷ codes "eg:B" ∷ [])) (Column 1 (codes "eg:A")) ≡ codes "eg:B"
+cell_first : (f : TableHeaderValue) → source_text (row f (codes "r" ∷ codes "eg:B" ∷ [])) (Column 1 (codes "eg:A")) ≡ codes "eg:B"
 unfolding field_at
 cell_first f = refl
 
 -- an empty cell gives way to it, and so does a cell that is not there
-empty_cell : (f : Reading) → source_text (row f (codes "r" ∷ [] ∷ [])) (Column 1 (codes "eg:A")) ≡ codes "eg:A"
+empty_cell : (f : TableHeaderValue) → source_text (row f (codes "r" ∷ [] ∷ [])) (Column 1 (codes "eg:A")) ≡ codes "eg:A"
 unfolding field_at
 empty_cell f = refl
 
 -- `#none` is no empty cell
-none_is_a_text : (f : Reading) → source_text (row f (codes "#none" ∷ [])) (Column 0 (codes "eg:A")) ≡ codes "#none"
+none_is_a_text : (f : TableHeaderValue) → source_text (row f (codes "#none" ∷ [])) (Column 0 (codes "eg:A")) ≡ codes "#none"
 unfolding field_at
 none_is_a_text f = refl
 
-number_of_the_row : (f : Reading) → source_text (row f []) RowNumber ≡ codes "7"
+number_of_the_row : (f : TableHeaderValue) → source_text (row f []) RowNumber ≡ codes "7"
 number_of_the_row f = decimal_digit 7 (omega arith)
 
 -- JSON

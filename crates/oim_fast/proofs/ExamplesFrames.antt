@@ -3,7 +3,7 @@ use Rattle.std.proofs.Common.{◌≡◌, ℕ, [], ◌∷◌, ◌++◌, Some, Non
 use Rattle.std.specs.Option.{option_to_list}
 use Rattle.oim_cells.specs.declared.cells.NumberKind.TheVariants.{Decimal}
 use Rattle.oim_report.specs.declared.kind.Kind.TheVariants as kind
-use Rattle.oim_rows.specs.RowFacts.{Reading}
+use Rattle.oim_rows.specs.RowFacts.{TableHeaderValue}
 use Rattle.oim_fast.specs.state.Columns.{fact_columns_in}
 use Rattle.oim_fast.specs.state.Frames.{groups_chosen}
 use Rattle.oim_fast.specs.state.Groups.{choice_in, group_at}
@@ -13,15 +13,15 @@ use Rattle.oim_fast.specs.declared.frame.frame.Body.TheVariants as body
 use Rattle.oim_fast.specs.declared.row.group_cells.Choice.TheVariants as choice
 
 -- a header cell that is empty names no column
-empty_cell : (f : Reading) → fact_columns_in f (None ∷ []) ≡ []
+empty_cell : (f : TableHeaderValue) → fact_columns_in f (None ∷ []) ≡ []
 empty_cell f = refl
 
 -- a cell of groups that says nothing adds no level
-no_group : (f : Reading) (g : ℕ) → groups_chosen f (g ∷ []) (choice.Nothing ∷ []) ≡ []
+no_group : (f : TableHeaderValue) (g : ℕ) → groups_chosen f (g ∷ []) (choice.Nothing ∷ []) ≡ []
 no_group f g = refl
 
 -- the groups stand from the most specific to the most general in `propertiesFrom`, and the other way round among the levels
-two_groups : (f : Reading) (g h a b : ℕ)
+two_groups : (f : TableHeaderValue) (g h a b : ℕ)
     → groups_chosen f (g ∷ h ∷ []) (choice.Group a ∷ choice.Group b ∷ [])
     ≡ option_to_list (group_at (column_in f g).groups (choice.Group a)) ++ (option_to_list (group_at (column_in f h).groups (choice.Group b)) ++ [])
 two_groups f g h a b = refl

@@ -93,13 +93,13 @@ module _ (x : RowValue) (c : ℕ) where
 
   member_found : (decimals dimensions value : List ℕ) → decimals ≡ decimals_text (fact_of cell).decimals → dimensions ≡ joined (map dimension_text (fact_of cell).dimensions)
       → value ≡ value_text (fact_of cell).value
-      → start_text x ++ (column_lead x.form c ++ decimals ++ dimensions_start ++ dimensions ++ codes "},\"value\":" ++ value ++ codes "}") ≡ fact_text (Some (fact_of cell))
+      → start_text x ++ (column_lead x.header c ++ decimals ++ dimensions_start ++ dimensions ++ codes "},\"value\":" ++ value ++ codes "}") ≡ fact_text (Some (fact_of cell))
   unfolding member_text fact_of
   member_found decimals dimensions value ed es ev =
-      let table = (table_of x.form.report x.form.table).id ++ codes "." ++ (row_in x).id in
-      let name = flat_map escaped_byte (codes "." ++ (column_in x.form c).id) in
+      let table = (table_of x.header.report x.header.table).id ++ codes "." ++ (row_in x).id in
+      let name = flat_map escaped_byte (codes "." ++ (column_in x.header c).id) in
       in_pieces (codes ",") (codes "\"") (codes ":{") (flat_map escaped_byte table) name decimals dimensions_start dimensions (codes "},\"value\":") value (codes "}")
-      ∙ ap (λ q. codes "," ++ (q ++ codes ":{" ++ decimals ++ dimensions_start ++ dimensions ++ codes "},\"value\":" ++ value ++ codes "}")) (sym (id_text table (column_in x.form c).id))
+      ∙ ap (λ q. codes "," ++ (q ++ codes ":{" ++ decimals ++ dimensions_start ++ dimensions ++ codes "},\"value\":" ++ value ++ codes "}")) (sym (id_text table (column_in x.header c).id))
       ∙ ap (λ q. codes "," ++ (quoted (fact_of cell).id ++ codes ":{" ++ q ++ dimensions_start ++ dimensions ++ codes "},\"value\":" ++ value ++ codes "}")) ed
       ∙ ap (λ q. codes "," ++ (quoted (fact_of cell).id ++ codes ":{" ++ decimals_text (fact_of cell).decimals ++ dimensions_start ++ q ++ codes "},\"value\":" ++ value ++ codes "}")) es
       ∙ ap (λ q. codes "," ++ (quoted (fact_of cell).id ++ codes ":{" ++ decimals_text (fact_of cell).decimals ++ dimensions_start ++ joined (map dimension_text (fact_of cell).dimensions) ++ codes "},\"value\":" ++ q ++ codes "}")) ev
@@ -107,9 +107,9 @@ module _ (x : RowValue) (c : ℕ) where
 -- THE FACT
 
 module _ (x : RowValue) (c : ℕ) (few : x.number < 2 ^ 32) (rs : List ReferenceValue) (fresh : All (IsFresh x) rs) (t : FrameValue) (v : Value)
-    (text : IsTextOf x.form (map key_of rs) (levels (cell_in x c)) (column_lead x.form c) t)
-    (concept : concept_read x.form.report (given (cell_in x c) (codes "concept")) ≡ Ok t.kind)
-    (value : IsValue x.form.report t.kind (fact_meaning (cell_in x c)) v)
+    (text : IsTextOf x.header (map key_of rs) (levels (cell_in x c)) (column_lead x.header c) t)
+    (concept : concept_read x.header.report (given (cell_in x c) (codes "concept")) ≡ Ok t.kind)
+    (value : IsValue x.header.report t.kind (fact_meaning (cell_in x c)) v)
     (dimensions : All (λ (s : Segment). is_sound_by rs s.reference ≡ true) t.segments)
     (decimals : are_sound_decimals rs t v ≡ true) where
   abbrev here : Cell

@@ -13,7 +13,7 @@ use Rattle.oim_resolve.specs.Cell.{meaning_at}
 use Rattle.oim_resolve.specs.Facts.{is_dropped}
 use Rattle.oim_resolve.specs.Values.{side_of, value}
 use Rattle.oim_resolve.specs.Written.{group_named, levels}
-use Rattle.oim_rows.specs.RowFacts.{Reading}
+use Rattle.oim_rows.specs.RowFacts.{TableHeaderValue}
 use Rattle.oim_fast.specs.state.Answers.{dimension_json}
 use Rattle.oim_fast.specs.state.FrameTexts.{FrameValue, Segment, frame_dimensions, with_part, with_value}
 use Rattle.oim_fast.specs.state.Frames.{Chooses, IsTextOf, are_ready, entry_of, groups_chosen, is_known_choice, levels_chosen, no_dimensions, with_parts}
@@ -50,13 +50,13 @@ kind_kept t p = by (is_dropped t.kind p.role)
 -- ALL PARTS
 
 module _ (x : RowValue) (c : ℕ) (few : x.number < 2 ^ 32) (rs : List ReferenceValue) (fresh : All (IsFresh x) rs) where
-  pub parts_added : (t : FrameValue) (ps : List Part) → All (IsPart x.form (map key_of rs)) ps → are_ready t ps
+  pub parts_added : (t : FrameValue) (ps : List Part) → All (IsPart x.header (map key_of rs)) ps → are_ready t ps
       → frame_dimensions (given_by rs) (with_parts t ps) ≡ frame_dimensions (given_by rs) t ++ written_pieces (cell_in x c) t.kind (map entry_of ps)
   parts_added t [] are ready = sym (append-nil (frame_dimensions (given_by rs) t))
   parts_added t (p ∷ ps) are ready =
-      let one : IsPart x.form (map key_of rs) p = are 0 p (omega arith) in
+      let one : IsPart x.header (map key_of rs) p = are 0 p (omega arith) in
       let before = frame_dimensions (given_by rs) t in
-      let piece = dimension_piece x.form.report t.kind p.name.now (side_of p.written.now) (value (cell_in x c) p.written.now) in
+      let piece = dimension_piece x.header.report t.kind p.name.now (side_of p.written.now) (value (cell_in x c) p.written.now) in
       parts_added (with_part t p) ps (λ k d lt. are (suc k) d (omega arith)) ready.1
       ∙ ap (λ q. q ++ written_pieces (cell_in x c) (with_part t p).kind (map entry_of ps)) (part_added x c few rs fresh t p one ready.0)
       ∙ ap (λ (k : Kind). (before ++ piece) ++ written_pieces (cell_in x c) k (map entry_of ps)) (kind_kept t p)
@@ -65,7 +65,7 @@ module _ (x : RowValue) (c : ℕ) (few : x.number < 2 ^ 32) (rs : List Reference
 -- THE LEVELS
 
 module _ (x : RowValue) (c : ℕ) where
-  said : (col : ℕ) (v : Meaning) (o : Choice) → Says (column_in x.form col) v o → ((o ≡ choice.Unknown) → ⊥) → group_named (column_in x.form col) v ≡ group_at (column_in x.form col).groups o
+  said : (col : ℕ) (v : Meaning) (o : Choice) → Says (column_in x.header col) v o → ((o ≡ choice.Unknown) → ⊥) → group_named (column_in x.header col) v ≡ group_at (column_in x.header col).groups o
   said col v choice.Nothing h known = h.group
   said col v (choice.Group g) h known = h.group
   said col v choice.Unknown h known = absurd (known refl)
@@ -74,21 +74,21 @@ module _ (x : RowValue) (c : ℕ) where
   known o e is = absurd (cc (ap is_known_choice (sym is) ∙ e))
 
   -- the groups that a row's cells name are those that are chosen
-  groups_are : (gs : List ℕ) (os : List Choice) → All (λ g. g < length (columns_in x.form)) gs → Chooses x gs os
-      → flat_map (λ g. option_to_list (group_named (column_in x.form g) (meaning_at (cell_in x c) g))) gs ≡ groups_chosen x.form gs os
+  groups_are : (gs : List ℕ) (os : List Choice) → All (λ g. g < length (columns_in x.header)) gs → Chooses x gs os
+      → flat_map (λ g. option_to_list (group_named (column_in x.header g) (meaning_at (cell_in x c) g))) gs ≡ groups_chosen x.header gs os
   groups_are [] [] within h = refl
   groups_are [] (o ∷ os) within h = absurd h
   groups_are (g ∷ gs) [] within h = absurd h
   groups_are (g ∷ gs) (o ∷ os) within h =
       let text = text_is x c g (within 0 g (omega arith)) in
-      let one = ap (λ t. group_named (column_in x.form g) (meaning_of t)) text ∙ said g _ o h.1 (known o h.0) in
-      ap (λ q. option_to_list q ++ flat_map (λ k. option_to_list (group_named (column_in x.form k) (meaning_at (cell_in x c) k))) gs) one
-      ∙ ap (λ q. option_to_list (group_at (column_in x.form g).groups o) ++ q) (groups_are gs os (λ k d lt. within (suc k) d (omega arith)) h.2)
+      let one = ap (λ t. group_named (column_in x.header g) (meaning_of t)) text ∙ said g _ o h.1 (known o h.0) in
+      ap (λ q. option_to_list q ++ flat_map (λ k. option_to_list (group_named (column_in x.header k) (meaning_at (cell_in x c) k))) gs) one
+      ∙ ap (λ q. option_to_list (group_at (column_in x.header g).groups o) ++ q) (groups_are gs os (λ k d lt. within (suc k) d (omega arith)) h.2)
 
-  pub levels_are : (os : List Choice) → All (λ g. g < length (columns_in x.form)) (column_in x.form c).from → Chooses x (column_in x.form c).from os
-      → levels (cell_in x c) ≡ levels_chosen x.form c os
+  pub levels_are : (os : List Choice) → All (λ g. g < length (columns_in x.header)) (column_in x.header c).from → Chooses x (column_in x.header c).from os
+      → levels (cell_in x c) ≡ levels_chosen x.header c os
   levels_are os within h =
-      ap (λ gs. x.form.report.level ∷ (template_of x.form.report x.form.table).level ∷ (reverse gs ++ (column_in x.form c).level ∷ [])) (groups_are (column_in x.form c).from os within h)
+      ap (λ gs. x.header.report.level ∷ (template_of x.header.report x.header.table).level ∷ (reverse gs ++ (column_in x.header c).level ∷ [])) (groups_are (column_in x.header c).from os within h)
 
 -- ONE PIECE
 
@@ -100,7 +100,7 @@ piece_text n (Some t) = sym (append_assoc (name_text n) (quoted t) (codes ","))
 
 -- THE REFERENCES OF A FRAME
 
-module _ (f : Reading) (keys : List Key) where
+module _ (f : TableHeaderValue) (keys : List Key) where
   abbrev within : Segment → Type 0
   within s = s.reference < length keys
 

@@ -5,7 +5,7 @@ use Rattle.std.specs.List.{All}
 use Rattle.std.proofs.lemmas.List.{map-append}
 use Rattle.oim_report.specs.declared.data.Written.{Written}
 use Rattle.oim_report.specs.declared.data.WrittenDecimals.{WrittenDecimals}
-use Rattle.oim_rows.specs.RowFacts.{Reading}
+use Rattle.oim_rows.specs.RowFacts.{TableHeaderValue}
 use Rattle.oim_report.specs.declared.data.Level.{Level}
 use Rattle.oim_report.specs.declared.kind.Kind.{Kind}
 use Rattle.oim_resolve.specs.Written.{written_decimals}
@@ -25,7 +25,7 @@ use Rattle.oim_fast.specs.declared.frame.part.PartValue.TheVariants as part
 use Rattle.oim_fast.specs.declared.row.group_cells.Choice.{Choice}
 use Rattle.oim_fast.proofs.Growth.{slice_get-append}
 
-module _ (f : Reading) (keys more : List Key) where
+module _ (f : TableHeaderValue) (keys more : List Key) where
   pub referred_more : (n : List ℕ) (w : Written) (i : ℕ) → IsReferred f keys n w i → IsReferred f (keys ++ more) n w i
   referred_more n w i h = record { source = h.source; written = h.written; there = slice_get-append keys more i _ h.there }
 
@@ -51,7 +51,7 @@ module _ (f : Reading) (keys more : List Key) where
 pub keys_more : (rs later : List ReferenceValue) → (g : Grows rs later) → map key_of later ≡ map key_of rs ++ map key_of g.more
 keys_more rs later g = ap (map key_of) g.is ∙ map-append key_of rs g.more
 
-module _ (f : Reading) (rs later : List ReferenceValue) (g : Grows rs later) where
+module _ (f : TableHeaderValue) (rs later : List ReferenceValue) (g : Grows rs later) where
   pub part_grows : (p : Part) → IsPart f (map key_of rs) p → IsPart f (map key_of later) p
   part_grows p h = subst (λ (ks : List Key). IsPart f ks p) (sym (keys_more rs later g)) (part_more f (map key_of rs) (map key_of g.more) p h)
 

@@ -29,18 +29,18 @@ joined_front None fs = refl
 joined_front (Some f) fs = refl
 
 -- what the columns of facts of a header give is what the header gives
-facts_found : (x : RowValue) (p : ℕ) (h : Header) (fs : List Fact) → GiveFacts x (fact_columns_in x.form h) fs → facts_from x.form.report x.form.table (row_in x) p h ≡ Ok fs
+facts_found : (x : RowValue) (p : ℕ) (h : Header) (fs : List Fact) → GiveFacts x (fact_columns_in x.header h) fs → facts_from x.header.report x.header.table (row_in x) p h ≡ Ok fs
 facts_found x p [] fs g = ap (λ (q : List Fact). Ok q) (sym g)
 facts_found x p (None ∷ h) fs g = facts_found x (p + 1) h fs g
-facts_found x p (Some c ∷ h) fs g = by (λ gs k. facts_found x (p + 1) h gs k) (is_fact_column (columns_in x.form) c) g
+facts_found x p (Some c ∷ h) fs g = by (λ gs k. facts_found x (p + 1) h gs k) (is_fact_column (columns_in x.header) c) g
   where
     later : Result (List Fact) TableFault
-    later = facts_from x.form.report x.form.table (row_in x) (p + 1) h
+    later = facts_from x.header.report x.header.table (row_in x) (p + 1) h
 
-    by : ((gs : List Fact) → GiveFacts x (fact_columns_in x.form h) gs → later ≡ Ok gs) → (b : Bool) → GiveFacts x (if b then c ∷ fact_columns_in x.form h else fact_columns_in x.form h) fs
-        → in_front (if b then at_place x.form.table (row_in x).number (p + 1) (cell_result (cell_of x.form.report x.form.table (row_in x) c)) else Ok None) later ≡ Ok fs
+    by : ((gs : List Fact) → GiveFacts x (fact_columns_in x.header h) gs → later ≡ Ok gs) → (b : Bool) → GiveFacts x (if b then c ∷ fact_columns_in x.header h else fact_columns_in x.header h) fs
+        → in_front (if b then at_place x.header.table (row_in x).number (p + 1) (cell_result (cell_of x.header.report x.header.table (row_in x) c)) else Ok None) later ≡ Ok fs
     by found true (o, more, is, same, rest) =
-        ap (λ a. in_front (at_place x.form.table (row_in x).number (p + 1) a) later) is
+        ap (λ a. in_front (at_place x.header.table (row_in x).number (p + 1) a) later) is
         ∙ ap (in_front (Ok o)) (found more rest) ∙ joined_front o more ∙ ap (λ (q : List Fact). Ok q) (sym same)
     by found false rest = found fs rest
 
@@ -70,16 +70,16 @@ nothing_yet old noted = (sym (append-nil old), sym (append-nil noted))
 
 module _ (x : RowValue) where
   abbrev columns : List ℕ
-  columns = fact_columns_in x.form x.form.header
+  columns = fact_columns_in x.header x.header.columns
 
   pub none_yet : (old noted : List ℕ) → HasFacts x 0 old old noted noted
   none_yet old noted = record { facts = []; are = refl; text = (nothing_yet old noted).0; ends = (nothing_yet old noted).1 }
 
-  pub one_more : (i : ℕ) (old now next noted ns ms : List ℕ) → i < length columns → HasFacts x i old now noted ns → WritesFact (cell_result (cell_in x (column_at x.form i))) now next
+  pub one_more : (i : ℕ) (old now next noted ns ms : List ℕ) → i < length columns → HasFacts x i old now noted ns → WritesFact (cell_result (cell_in x (column_at x.header i))) now next
       → (length now < length next → ms ≡ ns ++ length next ∷ []) → (length next ≤ length now → ms ≡ ns) → HasFacts x (i + 1) old next noted ms
   one_more i old now next noted ns ms lt p g more none = record {
     facts = p.facts ++ option_to_list g.fact;
-    are = subst (λ (cs : List ℕ). GiveFacts x cs (p.facts ++ option_to_list g.fact)) (sym (take_more columns i 0 lt)) (give_more x (take i columns) (column_at x.form i) p.facts g.fact p.are g.is);
+    are = subst (λ (cs : List ℕ). GiveFacts x cs (p.facts ++ option_to_list g.fact)) (sym (take_more columns i 0 lt)) (give_more x (take i columns) (column_at x.header i) p.facts g.fact p.are g.is);
     text = g.text ∙ ap (λ q. q ++ fact_text g.fact) p.text ∙ append_assoc old (behind_commas p.facts) (fact_text g.fact)
         ∙ ap (λ q. old ++ q) (ap (λ q. behind_commas p.facts ++ q) (sym (text_step g.fact)) ∙ sym (texts_append p.facts (option_to_list g.fact)));
     ends = noted_more old now next noted ns ms p.facts g.fact p.text g.text p.ends more none;
@@ -88,7 +88,7 @@ module _ (x : RowValue) where
   pub all_given : (i : ℕ) (old new noted ns : List ℕ) → length columns ≤ i → HasFacts x i old new noted ns → WritesFacts x old new noted ns
   all_given i old new noted ns le p = record {
     facts = p.facts;
-    are = facts_found x 0 x.form.header p.facts (subst (λ (cs : List ℕ). GiveFacts x cs p.facts) (take_all i columns le) p.are);
+    are = facts_found x 0 x.header.columns p.facts (subst (λ (cs : List ℕ). GiveFacts x cs p.facts) (take_all i columns le) p.are);
     text = p.text;
     ends = p.ends;
   }

@@ -14,7 +14,7 @@ use Rattle.oim_report.specs.declared.kind.Kind.{Kind}
 use Rattle.oim_resolve.specs.Facts.{concept_read, is_dropped}
 use Rattle.oim_resolve.specs.ProgramCell.{held}
 use Rattle.oim_resolve.specs.Written.{written}
-use Rattle.oim_rows.specs.RowFacts.{Reading}
+use Rattle.oim_rows.specs.RowFacts.{TableHeaderValue}
 use Rattle.oim_fast.specs.state.FrameTexts.{FrameValue, is_ready, with_part, with_value}
 use Rattle.oim_fast.specs.state.Frames.{AreKindDecimals, HasConstantKind, HasReferredKind, IsTextOf, are_ready, entry_of, levels_chosen, no_dimensions, with_parts}
 use Rattle.oim_fast.specs.Facts.{column_lead}
@@ -60,7 +60,7 @@ there_in f [] i y e = absurd (cc)
 there_in f (x ∷ xs) zero y e = omega arith
 there_in f (x ∷ xs) (suc i) y e = let more = there_in f xs i y e in omega (arith, more)
 
-module _ (f : Reading) where
+module _ (f : TableHeaderValue) where
   pub adds_none : (keys : List Key) (t : FrameValue) → AddsEntries f keys [] t t
   adds_none keys t = record { parts = []; entries = refl; are = λ k d lt. absurd (omega arith); ready = tt; text = refl }
 
@@ -126,7 +126,7 @@ heads_kept t [] = refl
 heads_kept t (p ∷ ps) = heads_kept (with_part t p) ps ∙ head_kept t p
 
 -- with the parts of all that levels write a frame is their text
-pub text_made : (f : Reading) (rs later : List ReferenceValue) (ls : List Level) (k : Kind) (lead : List ℕ) (old new : FrameValue) → Grows rs later → IsOpening f (map key_of rs) ls k lead old
+pub text_made : (f : TableHeaderValue) (rs later : List ReferenceValue) (ls : List Level) (k : Kind) (lead : List ℕ) (old new : FrameValue) → Grows rs later → IsOpening f (map key_of rs) ls k lead old
     → AddsEntries f (map key_of later) (written_entries ls) old new → (new.kind ≡ k) × IsTextOf f (map key_of later) ls lead new
 text_made f rs later ls k lead old new g start adds =
     let head : head_of new ≡ old =
@@ -147,15 +147,15 @@ text_made f rs later ls k lead old new g start adds =
     )
 
 -- where the concept's kind was given, or is the same in each row, it is the text's
-pub kind_made : (f : Reading) (ls : List Level) (n : ℕ) (k c : Kind) → k ≡ c → (n ≡ kind_code (Some c)) ⊎ HasConstantKind f ls c → (n ≡ kind_code (Some k)) ⊎ HasConstantKind f ls k
+pub kind_made : (f : TableHeaderValue) (ls : List Level) (n : ℕ) (k c : Kind) → k ≡ c → (n ≡ kind_code (Some c)) ⊎ HasConstantKind f ls c → (n ≡ kind_code (Some k)) ⊎ HasConstantKind f ls k
 kind_made f ls n k c e h = subst (λ (q : Kind). (n ≡ kind_code (Some q)) ⊎ HasConstantKind f ls q) (sym e) h
 
 -- THE CONCEPT
 
-pub part_there : (f : Reading) (keys : List Key) (xs : List Part) (i : ℕ) (p : Part) → All (IsPart f keys) xs → i < length xs → p ≡ get_or xs i p → IsPart f keys p
+pub part_there : (f : TableHeaderValue) (keys : List Key) (xs : List Part) (i : ℕ) (p : Part) → All (IsPart f keys) xs → i < length xs → p ≡ get_or xs i p → IsPart f keys p
 part_there f keys xs i p all lt is = subst (IsPart f keys) (sym is) (all i p lt)
 
-pub referred_made : (f : Reading) (keys : List Key) (ls : List Level) (p : Part) (w : Written) (i : ℕ) → entry_of p ≡ (codes "concept", w) → IsPart f keys p → p.value ≡ part.Reference i
+pub referred_made : (f : TableHeaderValue) (keys : List Key) (ls : List Level) (p : Part) (w : Written) (i : ℕ) → entry_of p ≡ (codes "concept", w) → IsPart f keys p → p.value ≡ part.Reference i
     → written ls (codes "concept") ≡ Some w → HasReferredKind f keys ls i
 referred_made f keys ls p w i e is v there =
     let value : IsPartValue f keys p.name.now p.written.now p.text.items (part.Reference i) = subst (IsPartValue f keys p.name.now p.written.now p.text.items) v is.value in
@@ -163,7 +163,7 @@ referred_made f keys ls p w i e is v there =
     let same : p.written.now ≡ w = ap (λ (q : List ℕ × Written). q.1) e in
     record { concept = w; written = there; referred = subst (λ (n : List ℕ). IsReferred f keys n w i) name (subst (λ (q : Written). IsReferred f keys p.name.now q i) same value.0) }
 
-pub constant_made : (f : Reading) (keys : List Key) (ls : List Level) (p : Part) (w : Written) (k : Kind) (n : List ℕ) → entry_of p ≡ (n, w) → IsPart f keys p → p.kind ≡ Some k
+pub constant_made : (f : TableHeaderValue) (keys : List Key) (ls : List Level) (p : Part) (w : Written) (k : Kind) (n : List ℕ) → entry_of p ≡ (n, w) → IsPart f keys p → p.kind ≡ Some k
     → written ls (codes "concept") ≡ Some w → HasConstantKind f ls k
 constant_made f keys ls p w k n e is v there =
     let written_same : p.written.now ≡ w = ap (λ (q : List ℕ × Written). q.1) e in
@@ -176,7 +176,7 @@ constant_made f keys ls p w k n e is v there =
       kind = ap (λ (q : Written). concept_read f.report (constant_meaning f q)) (sym written_same) ∙ kind;
     }
 
-pub concept_made : (f : Reading) (keys : List Key) (ls : List Level) (p : Part) (w : Written) (n : ℕ) (v : Concept) → entry_of p ≡ (codes "concept", w) → IsPart f keys p → SaysConcept p v
+pub concept_made : (f : TableHeaderValue) (keys : List Key) (ls : List Level) (p : Part) (w : Written) (n : ℕ) (v : Concept) → entry_of p ≡ (codes "concept", w) → IsPart f keys p → SaysConcept p v
     → written ls (codes "concept") ≡ Some w → IsConcept f keys ls n v
 concept_made f keys ls p w n (concept.Constant k) e is says there = inr (constant_made f keys ls p w k (codes "concept") e is says there)
 concept_made f keys ls p w n (concept.Reference i) e is says there = referred_made f keys ls p w i e is says there
@@ -184,7 +184,7 @@ concept_made f keys ls p w n concept.Unknown e is says there = tt
 
 -- THE BODY
 
-pub body_made : (f : Reading) (keys : List Key) (c : ℕ) (os : List Choice) (n : ℕ) (k : Kind) (o : Option FrameValue) (b : Body) → IfSome o (λ t. (t.kind ≡ k) × IsTextOf f keys (levels_chosen f c os) (column_lead f c) t)
+pub body_made : (f : TableHeaderValue) (keys : List Key) (c : ℕ) (os : List Choice) (n : ℕ) (k : Kind) (o : Option FrameValue) (b : Body) → IfSome o (λ t. (t.kind ≡ k) × IsTextOf f keys (levels_chosen f c os) (column_lead f c) t)
     → (n ≡ kind_code (Some k)) ⊎ HasConstantKind f (levels_chosen f c os) k → IsBodyOf o b → IsBody f keys c os n b
 body_made f keys c os n k None b h by is = subst (IsBody f keys c os n) (sym is) tt
 body_made f keys c os n k (Some t) b h by is = subst (IsBody f keys c os n) (sym is) (h.1, kind_made f (levels_chosen f c os) n t.kind k h.0 by)

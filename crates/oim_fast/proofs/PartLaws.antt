@@ -8,7 +8,7 @@ use Rattle.oim_cells.specs.Cells as m
 use Rattle.oim_json.specs.JsonText.{decimals_text}
 use Rattle.oim_report.specs.declared.data.Written.{Written}
 use Rattle.oim_resolve.specs.Values.{Read}
-use Rattle.oim_rows.specs.RowFacts.{Reading}
+use Rattle.oim_rows.specs.RowFacts.{TableHeaderValue}
 use Rattle.oim_fast.specs.state.Answers.{IsAnswer}
 use Rattle.oim_fast.specs.state.Parts.{IsPartValue, IsStated, PutsAnswer, purpose_of}
 use Rattle.oim_fast.specs.state.Pieces.{behind, constant_meaning, name_text}
@@ -20,7 +20,7 @@ use Rattle.oim_fast.specs.declared.frame.part.PartValue.TheVariants as part
 use Rattle.oim_fast.specs.declared.row.answer.Answer.{Answer}
 
 -- a dimension that means the same in each row
-pub constant_value : (f : Reading) (keys : List Key) (n : List ℕ) (w : Written) (a : Answer) (old new : List ℕ) (v : PartValue) → source_written f w ≡ None
+pub constant_value : (f : TableHeaderValue) (keys : List Key) (n : List ℕ) (w : Written) (a : Answer) (old new : List ℕ) (v : PartValue) → source_written f w ≡ None
     → IsAnswer f.report (purpose_of f n w) (constant_meaning f w) a → old ≡ name_text n → PutsAnswer a old new v → IsPartValue f keys n w new v
 constant_value f keys n w a old new part.Nothing same said e put = (record { same = same; sound = said.sound put.0 }, sym (said.json put.0) ∙ put.1)
 constant_value f keys n w a old new part.Text same said e put =

@@ -32,24 +32,24 @@ all_at P xs i x p e = subst P (get_or_from_slice_get xs i x x e) (p i x (slice_g
 
 module _ (x : RowValue) (c : ℕ) (few : x.number < 2 ^ 32) (rs : List ReferenceValue) (fresh : All (IsFresh x) rs) where
   -- what a reference gives in the row
-  pub given_at : (i : ℕ) (key : Key) → slice_get (map key_of rs) i ≡ Some key → given_by rs i ≡ json_for x.form.report key.purpose (meaning_of (source_text x key.source))
+  pub given_at : (i : ℕ) (key : Key) → slice_get (map key_of rs) i ≡ Some key → given_by rs i ≡ json_for x.header.report key.purpose (meaning_of (source_text x key.source))
   given_at i key e =
       let at = found key_of rs i key e in
       let r = at.0 in
       let so = all_at (IsFresh x) rs i r fresh at.1 in
       ap (λ o. option_map_or (λ (q : ReferenceValue). json_for q.report q.key.purpose (meaning_at_hand q)) o []) at.1
       ∙ ap (λ (q : ReportValue). json_for q r.key.purpose (meaning_of r.text)) so.report
-      ∙ ap (λ (t : List ℕ). json_for x.form.report r.key.purpose (meaning_of t)) so.text
-      ∙ ap (λ (k : Key). json_for x.form.report k.purpose (meaning_of (source_text x k.source))) at.2
+      ∙ ap (λ (t : List ℕ). json_for x.header.report r.key.purpose (meaning_of t)) so.text
+      ∙ ap (λ (k : Key). json_for x.header.report k.purpose (meaning_of (source_text x k.source))) at.2
 
   -- what a written value gives a dimension's text
   abbrev given : List ℕ → Written → List ℕ
-  given n w = dimension_json (entry_given x.form.report (role_of x.form.report n) (side_of w) (value (cell_in x c) w))
+  given n w = dimension_json (entry_given x.header.report (role_of x.header.report n) (side_of w) (value (cell_in x c) w))
 
-  by_meaning : (n : List ℕ) (w : Written) (v : Meaning) → value (cell_in x c) w ≡ v → given n w ≡ dimension_json (entry_given x.form.report (role_of x.form.report n) (side_of w) v)
-  by_meaning n w v e = ap (λ (q : Meaning). dimension_json (entry_given x.form.report (role_of x.form.report n) (side_of w) q)) e
+  by_meaning : (n : List ℕ) (w : Written) (v : Meaning) → value (cell_in x c) w ≡ v → given n w ≡ dimension_json (entry_given x.header.report (role_of x.header.report n) (side_of w) v)
+  by_meaning n w v e = ap (λ (q : Meaning). dimension_json (entry_given x.header.report (role_of x.header.report n) (side_of w) q)) e
 
-  value_added : (t : FrameValue) (n text : List ℕ) (w : Written) (v : PartValue) → is_known v ≡ true → IsPartValue x.form (map key_of rs) n w text v
+  value_added : (t : FrameValue) (n text : List ℕ) (w : Written) (v : PartValue) → is_known v ≡ true → IsPartValue x.header (map key_of rs) n w text v
       → frame_dimensions (given_by rs) (with_value t text v) ≡ frame_dimensions (given_by rs) t ++ behind (name_text n) (given n w)
   value_added t n text w part.Nothing k (same, none) =
       sym (append-nil (frame_dimensions (given_by rs) t))
@@ -69,17 +69,17 @@ module _ (x : RowValue) (c : ℕ) (few : x.number < 2 ^ 32) (rs : List Reference
   value_added t n text w part.Unknown k is = absurd (cc k)
 
   -- a part that is added gives the piece of its dimension
-  pub part_added : (t : FrameValue) (p : Part) → IsPart x.form (map key_of rs) p → is_ready t p ≡ true
-      → frame_dimensions (given_by rs) (with_part t p) ≡ frame_dimensions (given_by rs) t ++ dimension_piece x.form.report t.kind p.name.now (side_of p.written.now) (value (cell_in x c) p.written.now)
+  pub part_added : (t : FrameValue) (p : Part) → IsPart x.header (map key_of rs) p → is_ready t p ≡ true
+      → frame_dimensions (given_by rs) (with_part t p) ≡ frame_dimensions (given_by rs) t ++ dimension_piece x.header.report t.kind p.name.now (side_of p.written.now) (value (cell_in x c) p.written.now)
   part_added t p is ready = by (is_dropped t.kind p.role) refl
     where
       piece : Bool → List ℕ
       piece b = if b then [] else behind (name_text p.name.now) (given p.name.now p.written.now)
 
-      role : is_dropped t.kind (role_of x.form.report p.name.now) ≡ is_dropped t.kind p.role
+      role : is_dropped t.kind (role_of x.header.report p.name.now) ≡ is_dropped t.kind p.role
       role = ap (is_dropped t.kind) (sym is.role)
 
-      by : (b : Bool) → is_dropped t.kind p.role ≡ b → frame_dimensions (given_by rs) (with_part t p) ≡ frame_dimensions (given_by rs) t ++ piece (is_dropped t.kind (role_of x.form.report p.name.now))
+      by : (b : Bool) → is_dropped t.kind p.role ≡ b → frame_dimensions (given_by rs) (with_part t p) ≡ frame_dimensions (given_by rs) t ++ piece (is_dropped t.kind (role_of x.header.report p.name.now))
       by true e = rw (role, e) (sym (append-nil (frame_dimensions (given_by rs) t)))
       by false e =
           let known : is_known p.value ≡ true = sym (ap (λ b. b || is_known p.value) e) ∙ ready in

@@ -40,29 +40,29 @@ module _ (x : RowValue) (c : ℕ) where
   cell = cell_in x c
 
   abbrev parameter : List ℕ → Option (List ℕ)
-  parameter n = parameter_of x.form.report x.form.table n
+  parameter n = parameter_of x.header.report x.header.table n
 
   -- the text of a cell in range
-  pub text_is : (i : ℕ) → i < length (columns_in x.form) → text_at cell i ≡ field_or_empty x.fields (source_of_column x.form.header i)
-  text_is i b = get_or-map-range_with_len (cell_at x.form.header x.fields) 0 (length (columns_in x.form)) i i [] b (zero-add i)
+  pub text_is : (i : ℕ) → i < length (columns_in x.header) → text_at cell i ≡ field_or_empty x.fields (source_of_column x.header.columns i)
+  text_is i b = get_or-map-range_with_len (cell_at x.header.columns x.fields) 0 (length (columns_in x.header)) i i [] b (zero-add i)
 
-  named_text : (n : List ℕ) (o : Option ℕ) → position (λ (k : AColumn). bytes_eq k.id n) (columns_in x.form) ≡ o
-      → not_empty (field_or_empty x.fields (option_and_then (source_of_column x.form.header) o)) ≡ option_and_then (λ i. not_empty (text_at cell i)) o
+  named_text : (n : List ℕ) (o : Option ℕ) → position (λ (k : AColumn). bytes_eq k.id n) (columns_in x.header) ≡ o
+      → not_empty (field_or_empty x.fields (option_and_then (source_of_column x.header.columns) o)) ≡ option_and_then (λ i. not_empty (text_at cell i)) o
   named_text n None e = refl
-  named_text n (Some i) e = ap not_empty (sym (text_is i (position-Some (λ (k : AColumn). bytes_eq k.id n) (columns_in x.form) i no_column e).0))
+  named_text n (Some i) e = ap not_empty (sym (text_is i (position-Some (λ (k : AColumn). bytes_eq k.id n) (columns_in x.header) i no_column e).0))
 
   -- what a name refers to, by its place in the header
-  referred_at : (n : List ℕ) (o : Option ℕ) → place_named x.form n ≡ o → referred cell n ≡ option_map_or meaning_of (option_or (not_empty (field_or_empty x.fields o)) (parameter n)) m.Absent
+  referred_at : (n : List ℕ) (o : Option ℕ) → place_named x.header n ≡ o → referred cell n ≡ option_map_or meaning_of (option_or (not_empty (field_or_empty x.fields o)) (parameter n)) m.Absent
   referred_at n o e =
       sym (ap (λ t. option_map_or meaning_of (option_or t (parameter n)) m.Absent)
-      (ap (λ p. not_empty (field_or_empty x.fields p)) (sym e) ∙ named_text n (position (λ (k : AColumn). bytes_eq k.id n) (columns_in x.form)) refl))
+      (ap (λ p. not_empty (field_or_empty x.fields p)) (sym e) ∙ named_text n (position (λ (k : AColumn). bytes_eq k.id n) (columns_in x.header)) refl))
 
-  named_constant : (n : List ℕ) → place_named x.form n ≡ None → referred cell n ≡ option_map_or meaning_of (parameter n) m.Absent
+  named_constant : (n : List ℕ) → place_named x.header n ≡ None → referred cell n ≡ option_map_or meaning_of (parameter n) m.Absent
   named_constant n e = referred_at n None e
 
-  named_source : (n : List ℕ) (s : SourceValue) → option_map (λ place. Column place (unwrap_or (parameter n) [])) (place_named x.form n) ≡ Some s → referred cell n ≡ meaning_of (source_text x s)
+  named_source : (n : List ℕ) (s : SourceValue) → option_map (λ place. Column place (unwrap_or (parameter n) [])) (place_named x.header n) ≡ Some s → referred cell n ≡ meaning_of (source_text x s)
   named_source n s e =
-      let at = some_of (λ place. Column place (unwrap_or (parameter n) [])) (place_named x.form n) s e in
+      let at = some_of (λ place. Column place (unwrap_or (parameter n) [])) (place_named x.header n) s e in
       referred_at n (Some at.0) at.1 ∙ by_text (field_or_empty x.fields (Some at.0)) (parameter n) ∙ ap (λ q. meaning_of (source_text x q)) (sym at.2)
 
   numbered : (s : SourceValue) → x.number < 2 ^ 32 → Some RowNumber ≡ Some s → m.Text (decimal x.number) ≡ meaning_of (source_text x s)
@@ -71,15 +71,15 @@ module _ (x : RowValue) (c : ℕ) where
       sym (number_meaning x.number (omega arith)) ∙ ap (λ q. meaning_of (source_text x q)) same
 
   -- dimensions
-  pub value_constant : (e : Written) → source_written x.form e ≡ None → value cell e ≡ constant_meaning x.form e
+  pub value_constant : (e : Written) → source_written x.header e ≡ None → value cell e ≡ constant_meaning x.header e
   value_constant w.Absent h = refl
   value_constant w.Nil h = refl
   value_constant w.Empty h = refl
   value_constant (w.Text t) h = refl
   value_constant (w.RowNumber s) h = absurd (cc h)
-  value_constant (w.Named n s) h = named_constant n (none_of _ (place_named x.form n) h)
+  value_constant (w.Named n s) h = named_constant n (none_of _ (place_named x.header n) h)
 
-  pub value_referred : (e : Written) (s : SourceValue) → x.number < 2 ^ 32 → source_written x.form e ≡ Some s → value cell e ≡ meaning_of (source_text x s)
+  pub value_referred : (e : Written) (s : SourceValue) → x.number < 2 ^ 32 → source_written x.header e ≡ Some s → value cell e ≡ meaning_of (source_text x s)
   value_referred w.Absent s few h = absurd (cc h)
   value_referred w.Nil s few h = absurd (cc h)
   value_referred w.Empty s few h = absurd (cc h)
@@ -88,13 +88,13 @@ module _ (x : RowValue) (c : ℕ) where
   value_referred (w.Named n side) s few h = named_source n s h
 
   -- decimals
-  pub stated_constant : (e : WrittenDecimals) → source_decimals x.form e ≡ None → decimals_value cell e ≡ constant_stated x.form e
+  pub stated_constant : (e : WrittenDecimals) → source_decimals x.header e ≡ None → decimals_value cell e ≡ constant_stated x.header e
   stated_constant d.Absent h = refl
   stated_constant (d.Fixed a) h = refl
   stated_constant d.RowNumber h = absurd (cc h)
-  stated_constant (d.Named n) h = ap Read (named_constant n (none_of _ (place_named x.form n) h))
+  stated_constant (d.Named n) h = ap Read (named_constant n (none_of _ (place_named x.header n) h))
 
-  pub stated_referred : (e : WrittenDecimals) (s : SourceValue) → x.number < 2 ^ 32 → source_decimals x.form e ≡ Some s → decimals_value cell e ≡ Read (meaning_of (source_text x s))
+  pub stated_referred : (e : WrittenDecimals) (s : SourceValue) → x.number < 2 ^ 32 → source_decimals x.header e ≡ Some s → decimals_value cell e ≡ Read (meaning_of (source_text x s))
   stated_referred d.Absent s few h = absurd (cc h)
   stated_referred (d.Fixed a) s few h = absurd (cc h)
   stated_referred d.RowNumber s few h = ap Read (numbered s few h)

@@ -70,12 +70,12 @@ module _ (x : RowValue) (c : ℕ) where
   given_is ls w e is =
       ap (λ (q : List Level). option_map_or (value (cell_in x c)) (written q (codes "concept")) m.Absent) e ∙ ap (λ o. option_map_or (value (cell_in x c)) o m.Absent) is
 
-  constant_read : (ls : List Level) (k : Kind) → levels (cell_in x c) ≡ ls → HasConstantKind x.form ls k → concept_read x.form.report (given (cell_in x c) (codes "concept")) ≡ Ok k
-  constant_read ls k e h = ap (concept_read x.form.report) (given_is ls h.concept e h.written ∙ value_constant x c h.concept h.same) ∙ h.kind
+  constant_read : (ls : List Level) (k : Kind) → levels (cell_in x c) ≡ ls → HasConstantKind x.header ls k → concept_read x.header.report (given (cell_in x c) (codes "concept")) ≡ Ok k
+  constant_read ls k e h = ap (concept_read x.header.report) (given_is ls h.concept e h.written ∙ value_constant x c h.concept h.same) ∙ h.kind
 
   -- the kind that a reference answers is that of the concept
-  pub referred_read : (rs : List ReferenceValue) (i : ℕ) (a : Answer) (k : Kind) → x.number < 2 ^ 32 → All (IsFresh x) rs → HasReferredKind x.form (map key_of rs) (levels (cell_in x c)) i
-      → IfSome (slice_get rs i) (λ r. IsAnswer r.report r.key.purpose (meaning_at_hand r) a) → a.kind ≡ Some k → concept_read x.form.report (given (cell_in x c) (codes "concept")) ≡ Ok k
+  pub referred_read : (rs : List ReferenceValue) (i : ℕ) (a : Answer) (k : Kind) → x.number < 2 ^ 32 → All (IsFresh x) rs → HasReferredKind x.header (map key_of rs) (levels (cell_in x c)) i
+      → IfSome (slice_get rs i) (λ r. IsAnswer r.report r.key.purpose (meaning_at_hand r) a) → a.kind ≡ Some k → concept_read x.header.report (given (cell_in x c) (codes "concept")) ≡ Ok k
   referred_read rs i a k few fresh h answer e =
       let at = found key_of rs i _ h.referred.there in
       let r : ReferenceValue = at.0 in
@@ -83,69 +83,69 @@ module _ (x : RowValue) (c : ℕ) where
       let said : IsAnswer r.report r.key.purpose (meaning_at_hand r) a = subst (λ (o : Option ReferenceValue). IfSome o (λ q. IsAnswer q.report q.key.purpose (meaning_at_hand q) a)) at.1 answer in
       let read : concept_read r.report (meaning_of r.text) ≡ Ok k = subst (λ (o : Option Kind). IfSome o (λ q. concept_read r.report (meaning_of r.text) ≡ Ok q)) e said.concept in
       let text : r.text ≡ source_text x h.referred.source = so.text ∙ ap (λ (q : Key). source_text x q.source) at.2 in
-      ap (concept_read x.form.report) (given_is (levels (cell_in x c)) h.concept refl h.written ∙ value_referred x c h.concept h.referred.source few h.referred.written)
+      ap (concept_read x.header.report) (given_is (levels (cell_in x c)) h.concept refl h.written ∙ value_referred x c h.concept h.referred.source few h.referred.written)
       ∙ ap (λ (q : ReportValue). concept_read q (meaning_of (source_text x h.referred.source))) (sym so.report)
       ∙ ap (λ (t : List ℕ). concept_read r.report (meaning_of t)) (sym text)
       ∙ read
 
   -- THE TEXT
 
-  pub served_body : (keys : List Key) (os : List Choice) (n : ℕ) (b : Body) → levels (cell_in x c) ≡ levels_chosen x.form c os → Chooses x (column_in x.form c).from os → IsBody x.form keys c os n b
-      → ((k : Kind) → n ≡ kind_code (Some k) → concept_read x.form.report (given (cell_in x c) (codes "concept")) ≡ Ok k) → IfSome (text_of b) (IsTextFor x keys c)
+  pub served_body : (keys : List Key) (os : List Choice) (n : ℕ) (b : Body) → levels (cell_in x c) ≡ levels_chosen x.header c os → Chooses x (column_in x.header c).from os → IsBody x.header keys c os n b
+      → ((k : Kind) → n ≡ kind_code (Some k) → concept_read x.header.report (given (cell_in x c) (codes "concept")) ≡ Ok k) → IfSome (text_of b) (IsTextFor x keys c)
   served_body keys os n (body.Text t) is chosen h by = record {
     choices = os;
     chosen = chosen;
     text = h.0;
-    concept = elim h.1 [ inl e ↦ by t.kind e | inr same ↦ constant_read (levels_chosen x.form c os) t.kind is same ];
+    concept = elim h.1 [ inl e ↦ by t.kind e | inr same ↦ constant_read (levels_chosen x.header c os) t.kind is same ];
   }
   served_body keys os n (body.ByConcept i) is chosen h by = tt
   served_body keys os n body.Unknown is chosen h by = tt
 
-module _ (x : RowValue) (cells : List GroupCell) (c : FactColumn) (column : IsFactColumn x.form cells c) where
+module _ (x : RowValue) (cells : List GroupCell) (c : FactColumn) (column : IsFactColumn x.header cells c) where
   -- what is known of a column's choices
   pub known_choices : (k : Option Kind) (v : Frame) → IsKnownFor cells c k v → All (λ o. is_known_choice o ≡ true) (choices_in cells c.groups.items)
   known_choices k v h = subst (All (λ o. is_known_choice o ≡ true)) h.is.choices h.known
 
-  module _ (are : All (IsGroupCell x.form) cells) (said : All (IsSaid x) cells) (known : All (λ o. is_known_choice o ≡ true) (choices_in cells c.groups.items)) where
-    chosen : Chooses x (column_in x.form c.column).from (choices_in cells c.groups.items)
-    chosen = chooses x cells are said c.groups.items (column_in x.form c.column).from column.groups known
+  module _ (are : All (IsGroupCell x.header) cells) (said : All (IsSaid x) cells) (known : All (λ o. is_known_choice o ≡ true) (choices_in cells c.groups.items)) where
+    chosen : Chooses x (column_in x.header c.column).from (choices_in cells c.groups.items)
+    chosen = chooses x cells are said c.groups.items (column_in x.header c.column).from column.groups known
 
-    pub levels_found : levels (cell_in x c.column) ≡ levels_chosen x.form c.column (choices_in cells c.groups.items)
+    pub levels_found : levels (cell_in x c.column) ≡ levels_chosen x.header c.column (choices_in cells c.groups.items)
     levels_found = levels_are x c.column (choices_in cells c.groups.items) column.from chosen
 
     -- the reference that a frame says its concept is
-    pub concept_found : (keys : List Key) (k : Option Kind) (v : Frame) (i : ℕ) → IsFor cells c k v → IsFrame x.form keys v → v.body ≡ body.ByConcept i → HasReferredKind x.form keys (levels (cell_in x c.column)) i
+    pub concept_found : (keys : List Key) (k : Option Kind) (v : Frame) (i : ℕ) → IsFor cells c k v → IsFrame x.header keys v → v.body ≡ body.ByConcept i → HasReferredKind x.header keys (levels (cell_in x c.column)) i
     concept_found keys k v i is frame e =
-        let here : HasReferredKind x.form keys (levels_chosen x.form v.column v.choices.items) i = subst (IsBody x.form keys v.column v.choices.items v.kind) e frame in
-        subst (λ (ls : List Level). HasReferredKind x.form keys ls i) (sym levels_found)
-        (subst (λ (os : List Choice). HasReferredKind x.form keys (levels_chosen x.form c.column os) i) is.choices
-        (subst (λ (q : ℕ). HasReferredKind x.form keys (levels_chosen x.form q v.choices.items) i) is.column here))
+        let here : HasReferredKind x.header keys (levels_chosen x.header v.column v.choices.items) i = subst (IsBody x.header keys v.column v.choices.items v.kind) e frame in
+        subst (λ (ls : List Level). HasReferredKind x.header keys ls i) (sym levels_found)
+        (subst (λ (os : List Choice). HasReferredKind x.header keys (levels_chosen x.header c.column os) i) is.choices
+        (subst (λ (q : ℕ). HasReferredKind x.header keys (levels_chosen x.header q v.choices.items) i) is.column here))
 
-    served_one : (keys : List Key) (k : Option Kind) (v : Frame) → IsFor cells c k v → IsFrame x.form keys v
-        → ((q : Kind) → kind_code k ≡ kind_code (Some q) → concept_read x.form.report (given (cell_in x c.column) (codes "concept")) ≡ Ok q) → IfSome (text_of v.body) (IsTextFor x keys c.column)
+    served_one : (keys : List Key) (k : Option Kind) (v : Frame) → IsFor cells c k v → IsFrame x.header keys v
+        → ((q : Kind) → kind_code k ≡ kind_code (Some q) → concept_read x.header.report (given (cell_in x c.column) (codes "concept")) ≡ Ok q) → IfSome (text_of v.body) (IsTextFor x keys c.column)
     served_one keys k v is frame by =
-        let here : IsBody x.form keys c.column (choices_in cells c.groups.items) (kind_code k) v.body =
-        subst (λ (n : ℕ). IsBody x.form keys c.column (choices_in cells c.groups.items) n v.body) is.kind
-        (subst (λ (os : List Choice). IsBody x.form keys c.column os v.kind v.body) is.choices
-        (subst (λ (q : ℕ). IsBody x.form keys q v.choices.items v.kind v.body) is.column frame)) in
+        let here : IsBody x.header keys c.column (choices_in cells c.groups.items) (kind_code k) v.body =
+        subst (λ (n : ℕ). IsBody x.header keys c.column (choices_in cells c.groups.items) n v.body) is.kind
+        (subst (λ (os : List Choice). IsBody x.header keys c.column os v.kind v.body) is.choices
+        (subst (λ (q : ℕ). IsBody x.header keys q v.choices.items v.kind v.body) is.column frame)) in
         served_body x c.column keys (choices_in cells c.groups.items) (kind_code k) v.body levels_found chosen here by
 
     -- a frame whose concept is the same in each row
-    pub served_first : (keys : List Key) (vs : List Frame) (place : ℕ) (v : Frame) → slice_get vs place ≡ Some v → IsFor cells c None v → All (IsFrame x.form keys) vs
+    pub served_first : (keys : List Key) (vs : List Frame) (place : ℕ) (v : Frame) → slice_get vs place ≡ Some v → IsFor cells c None v → All (IsFrame x.header keys) vs
         → IfSome (option_and_then (λ (q : Frame). text_of q.body) (slice_get vs place)) (IsTextFor x keys c.column)
     served_first keys vs place v e is frames =
         subst (λ (o : Option Frame). IfSome (option_and_then (λ (q : Frame). text_of q.body) o) (IsTextFor x keys c.column)) (sym e)
-        (served_one keys None v is (all_at (IsFrame x.form keys) vs place v frames e) (λ q same. let no : None ≡ Some q = same_kind None (Some q) same in absurd (cc)))
+        (served_one keys None v is (all_at (IsFrame x.header keys) vs place v frames e) (λ q same. let no : None ≡ Some q = same_kind None (Some q) same in absurd (cc)))
 
     -- and one that was made for the kind of the row's concept
-    served_kind : (keys : List Key) (vs : List Frame) (place : ℕ) (o : Option Frame) → slice_get vs place ≡ o → IsSomeAnd o (IsOfConcept x cells c) → All (IsFrame x.form keys) vs
+    served_kind : (keys : List Key) (vs : List Frame) (place : ℕ) (o : Option Frame) → slice_get vs place ≡ o → IsSomeAnd o (IsOfConcept x cells c) → All (IsFrame x.header keys) vs
         → IfSome (option_and_then (λ (q : Frame). text_of q.body) o) (IsTextFor x keys c.column)
     served_kind keys vs place None e h frames = absurd h
     served_kind keys vs place (Some v) e h frames =
-        served_one keys (Some h.kind) v h.is (all_at (IsFrame x.form keys) vs place v frames e)
+        served_one keys (Some h.kind) v h.is (all_at (IsFrame x.header keys) vs place v frames e)
         (λ q same. let kinds_same : Some h.kind ≡ Some q = same_kind (Some h.kind) (Some q) same in let it : h.kind ≡ q = cc in h.concept ∙ ap Ok it)
 
-    pub served_concept : (keys : List Key) (vs : List Frame) (place : ℕ) → IsSomeAnd (slice_get vs place) (IsOfConcept x cells c) → All (IsFrame x.form keys) vs
+    pub served_concept : (keys : List Key) (vs : List Frame) (place : ℕ) → IsSomeAnd (slice_get vs place) (IsOfConcept x cells c) → All (IsFrame x.header keys) vs
         → IfSome (option_and_then (λ (q : Frame). text_of q.body) (slice_get vs place)) (IsTextFor x keys c.column)
     served_concept keys vs place h frames = served_kind keys vs place (slice_get vs place) refl h frames
 
@@ -178,8 +178,8 @@ known_for cells c k v is known = record { is = is; known = subst (All (λ o. is_
 -- THE ROW'S FRAME
 
 -- a frame that was found for a column, its concept apart
-module _ (x : RowValue) (cells : List GroupCell) (c : FactColumn) (column : IsFactColumn x.form cells c) (are : All (IsGroupCell x.form) cells) (said : All (IsSaid x) cells)
-    (keys : List Key) (vs : List Frame) (frames : All (IsFrame x.form keys) vs) (place : ℕ) (v : Frame) (lt : place < length vs) (is : v ≡ get_or vs place v) (found_for : IsSomeAnd (slice_get vs place) (IsKnownFor cells c None)) where
+module _ (x : RowValue) (cells : List GroupCell) (c : FactColumn) (column : IsFactColumn x.header cells c) (are : All (IsGroupCell x.header) cells) (said : All (IsSaid x) cells)
+    (keys : List Key) (vs : List Frame) (frames : All (IsFrame x.header keys) vs) (place : ℕ) (v : Frame) (lt : place < length vs) (is : v ≡ get_or vs place v) (found_for : IsSomeAnd (slice_get vs place) (IsKnownFor cells c None)) where
   here : IsKnownFor cells c None v
   here = it_is (IsKnownFor cells c None) vs place v lt is found_for
 
@@ -192,12 +192,12 @@ module _ (x : RowValue) (cells : List GroupCell) (c : FactColumn) (column : IsFa
   pub text_here : IfSome (option_and_then (λ (q : Frame). text_of q.body) (slice_get vs place)) (IsTextFor x keys c.column)
   text_here = served_first x cells c column are said known_here keys vs place v stands here.is frames
 
-  pub concept_here : (i : ℕ) → v.body ≡ body.ByConcept i → HasReferredKind x.form keys (levels (cell_in x c.column)) i
-  concept_here i e = concept_found x cells c column are said known_here keys None v i here.is (all_at (IsFrame x.form keys) vs place v frames stands) e
+  pub concept_here : (i : ℕ) → v.body ≡ body.ByConcept i → HasReferredKind x.header keys (levels (cell_in x c.column)) i
+  concept_here i e = concept_found x cells c column are said known_here keys None v i here.is (all_at (IsFrame x.header keys) vs place v frames stands) e
 
 -- and one for the kind of its concept
-pub served_places : (x : RowValue) (cells : List GroupCell) (c : FactColumn) → IsFactColumn x.form cells c → All (IsGroupCell x.form) cells → All (IsSaid x) cells
-    → All (λ o. is_known_choice o ≡ true) (choices_in cells c.groups.items) → (keys : List Key) (vs : List Frame) → All (IsFrame x.form keys) vs → (o : Option ℕ)
+pub served_places : (x : RowValue) (cells : List GroupCell) (c : FactColumn) → IsFactColumn x.header cells c → All (IsGroupCell x.header) cells → All (IsSaid x) cells
+    → All (λ o. is_known_choice o ≡ true) (choices_in cells c.groups.items) → (keys : List Key) (vs : List Frame) → All (IsFrame x.header keys) vs → (o : Option ℕ)
     → IfSome o (λ place. IsSomeAnd (slice_get vs place) (IsOfConcept x cells c)) → IfSome o (λ place. IfSome (option_and_then (λ (q : Frame). text_of q.body) (slice_get vs place)) (IsTextFor x keys c.column))
 served_places x cells c column are said known keys vs frames None h = tt
 served_places x cells c column are said known keys vs frames (Some place) h = served_concept x cells c column are said known keys vs place h frames

@@ -77,15 +77,15 @@ pub record AreNamed (c : Cell) (gs : List ℕ) : Type 0 where
   pub known : list_any (λ i. is_unknown (meaning_at c i)) gs ≡ false
   pub named : list_any (names_no_group c) gs ≡ false
 
-pub chosen_sound : (x : RowValue) (c : ℕ) (gs : List ℕ) (os : List Choice) → All (λ g. g < length (columns_in x.form)) gs → Chooses x gs os → AreNamed (cell_in x c) gs
+pub chosen_sound : (x : RowValue) (c : ℕ) (gs : List ℕ) (os : List Choice) → All (λ g. g < length (columns_in x.header)) gs → Chooses x gs os → AreNamed (cell_in x c) gs
 chosen_sound x c [] [] within h = record { known = refl; named = refl }
 chosen_sound x c [] (o ∷ os) within h = absurd h
 chosen_sound x c (g ∷ gs) [] within h = absurd h
 chosen_sound x c (g ∷ gs) (o ∷ os) within h =
     let more = chosen_sound x c gs os (λ k d lt. within (suc k) d (omega arith)) h.2 in
     let text = text_is x c g (within 0 g (omega arith)) in
-    let one : Names (column_in x.form g) (meaning_at (cell_in x c) g) o =
-    subst (λ t. Names (column_in x.form g) (meaning_of t) o) (sym text) (named_by (column_in x.form g) (meaning_of (field_or_empty x.fields (source_of_column x.form.header g))) o h.0 h.1) in
+    let one : Names (column_in x.header g) (meaning_at (cell_in x c) g) o =
+    subst (λ t. Names (column_in x.header g) (meaning_of t) o) (sym text) (named_by (column_in x.header g) (meaning_of (field_or_empty x.fields (source_of_column x.header.columns g))) o h.0 h.1) in
     record {
       known = neither (is_unknown (meaning_at (cell_in x c) g)) (list_any (λ i. is_unknown (meaning_at (cell_in x c) i)) gs) one.known more.known;
       named = neither (names_no_group (cell_in x c) g) (list_any (names_no_group (cell_in x c)) gs) one.named more.named;
@@ -172,20 +172,20 @@ module _ (x : RowValue) (c : ℕ) (few : x.number < 2 ^ 32) (rs : List Reference
   parts_kept t (p ∷ ps) h = part_kept t p (parts_kept (with_part t p) ps h)
 
   -- whether a reference has a fault in the row
-  pub sound_at : (i : ℕ) (key : Key) → slice_get (map key_of rs) i ≡ Some key → is_sound_by rs i ≡ is_sound_for x.form.report key.purpose (meaning_of (source_text x key.source))
+  pub sound_at : (i : ℕ) (key : Key) → slice_get (map key_of rs) i ≡ Some key → is_sound_by rs i ≡ is_sound_for x.header.report key.purpose (meaning_of (source_text x key.source))
   sound_at i key e =
       let at = found key_of rs i key e in
       let r = at.0 in
       let so = all_at (IsFresh x) rs i r fresh at.1 in
       ap (λ o. option_map_or (λ (q : ReferenceValue). is_sound_for q.report q.key.purpose (meaning_at_hand q)) o false) at.1
       ∙ ap (λ (q : ReportValue). is_sound_for q r.key.purpose (meaning_of r.text)) so.report
-      ∙ ap (λ (t : List ℕ). is_sound_for x.form.report r.key.purpose (meaning_of t)) so.text
-      ∙ ap (λ (k : Key). is_sound_for x.form.report k.purpose (meaning_of (source_text x k.source))) at.2
+      ∙ ap (λ (t : List ℕ). is_sound_for x.header.report r.key.purpose (meaning_of t)) so.text
+      ∙ ap (λ (k : Key). is_sound_for x.header.report k.purpose (meaning_of (source_text x k.source))) at.2
 
   abbrev value_sound : List ℕ → Written → Meaning → Bool
-  value_sound n w v = is_ok (value_read x.form.report (role_of x.form.report n) (side_of w) v)
+  value_sound n w v = is_ok (value_read x.header.report (role_of x.header.report n) (side_of w) v)
 
-  known_sound : (t : FrameValue) (n text : List ℕ) (w : Written) (v : PartValue) → is_known v ≡ true → IsPartValue x.form (map key_of rs) n w text v
+  known_sound : (t : FrameValue) (n text : List ℕ) (w : Written) (v : PartValue) → is_known v ≡ true → IsPartValue x.header (map key_of rs) n w text v
       → All IsSoundSegment (with_value t text v).segments → value_sound n w (value (cell_in x c) w) ≡ true
   known_sound t n text w part.Nothing k (same, none) h = ap (value_sound n w) (value_constant x c w same.same) ∙ same.sound
   known_sound t n text w part.Text k (same, is) h = ap (value_sound n w) (value_constant x c w same.same) ∙ same.sound
@@ -193,20 +193,20 @@ module _ (x : RowValue) (c : ℕ) (few : x.number < 2 ^ 32) (rs : List Reference
       ap (value_sound n w) (value_referred x c w to.source few to.written) ∙ sym (sound_at i _ to.there) ∙ last_of IsSoundSegment t.segments (record { alone = t.rest; name = text; reference = i }) h
   known_sound t n text w part.Unknown k is h = absurd (cc k)
 
-  part_sound : (t : FrameValue) (p : Part) → IsPart x.form (map key_of rs) p → is_ready t p ≡ true → All IsSoundSegment (with_part t p).segments
-      → is_sound_dimension x.form.report t.kind p.name.now (side_of p.written.now) (value (cell_in x c) p.written.now) ≡ true
-  part_sound t p is ready h = sound_either (is_dropped t.kind (role_of x.form.report p.name.now)) (value_sound p.name.now p.written.now (value (cell_in x c) p.written.now)) kept
+  part_sound : (t : FrameValue) (p : Part) → IsPart x.header (map key_of rs) p → is_ready t p ≡ true → All IsSoundSegment (with_part t p).segments
+      → is_sound_dimension x.header.report t.kind p.name.now (side_of p.written.now) (value (cell_in x c) p.written.now) ≡ true
+  part_sound t p is ready h = sound_either (is_dropped t.kind (role_of x.header.report p.name.now)) (value_sound p.name.now p.written.now (value (cell_in x c) p.written.now)) kept
     where
       by : (b : Bool) → b ≡ false → (b || is_known p.value) ≡ true → All IsSoundSegment (if b then t else with_value t p.text.items p.value).segments
           → value_sound p.name.now p.written.now (value (cell_in x c) p.written.now) ≡ true
       by true e ready h = absurd (cc e)
       by false e ready h = known_sound t p.name.now p.text.items p.written.now p.value ready is.value h
 
-      kept : is_dropped t.kind (role_of x.form.report p.name.now) ≡ false → value_sound p.name.now p.written.now (value (cell_in x c) p.written.now) ≡ true
+      kept : is_dropped t.kind (role_of x.header.report p.name.now) ≡ false → value_sound p.name.now p.written.now (value (cell_in x c) p.written.now) ≡ true
       kept e = by (is_dropped t.kind p.role) (ap (is_dropped t.kind) is.role ∙ e) ready h
 
   -- what was added of known parts has no fault
-  pub parts_sound : (t : FrameValue) (ps : List Part) → All (IsPart x.form (map key_of rs)) ps → are_ready t ps → All IsSoundSegment (with_parts t ps).segments → AreSound (cell_in x c) t.kind (map entry_of ps)
+  pub parts_sound : (t : FrameValue) (ps : List Part) → All (IsPart x.header (map key_of rs)) ps → are_ready t ps → All IsSoundSegment (with_parts t ps).segments → AreSound (cell_in x c) t.kind (map entry_of ps)
   parts_sound t [] are ready h i d lt = absurd (omega arith)
   parts_sound t (p ∷ ps) are ready h zero d lt = part_sound t p (are 0 p (omega arith)) ready.0 (parts_kept (with_part t p) ps h)
   parts_sound t (p ∷ ps) are ready h (suc i) d lt =
@@ -228,12 +228,12 @@ module _ (x : RowValue) (c : ℕ) (few : x.number < 2 ^ 32) (rs : List Reference
     is = is ∙ ap (λ q. decimals_text (option_and_then places (stated_accuracy q))) (sym e);
   }
 
-  pub decimals_sound : (t : FrameValue) (o : Option WrittenDecimals) (d : FrameDecimals) → AreFrameDecimals x.form (map key_of rs) o t.settled d → has_decimals rs d ≡ true → AreStated o (frame_decimals rs t d)
+  pub decimals_sound : (t : FrameValue) (o : Option WrittenDecimals) (d : FrameDecimals) → AreFrameDecimals x.header (map key_of rs) o t.settled d → has_decimals rs d ≡ true → AreStated o (frame_decimals rs t d)
   unfolding decimals_text
   decimals_sound t None decimals.Settled h k = record { sound = refl; is = h.0 }
   decimals_sound t None (decimals.Reference i) h k = absurd (cc (h.1))
   decimals_sound t None decimals.Unknown h k = absurd (cc k)
-  decimals_sound t (Some w) decimals.Settled h k = stated_same w (constant_stated x.form w) t.settled (stated_constant x c w h.0) h.1.0 h.1.1
+  decimals_sound t (Some w) decimals.Settled h k = stated_same w (constant_stated x.header w) t.settled (stated_constant x c w h.0) h.1.0 h.1.1
   decimals_sound t (Some w) (decimals.Reference i) (none, source, is, at) k =
       stated_same w (Read (meaning_of (source_text x source))) (given_by rs i) (stated_referred x c w source few is) (sym (sound_at i _ at) ∙ k) (given_at x c few rs fresh i _ at)
   decimals_sound t (Some w) decimals.Unknown h k = absurd (cc k)

@@ -4,24 +4,24 @@ use Rattle.oim_json.specs.Blocks.{behind_commas, ends_from}
 use Rattle.oim_json.specs.JsonText.{escaped_byte, member_text}
 use Rattle.oim_report.specs.Readers.{table_of}
 use Rattle.oim_resolve.specs.FactParts.{FactParts as Fact}
-use Rattle.oim_rows.specs.RowFacts.{Reading, facts_from}
+use Rattle.oim_rows.specs.RowFacts.{TableHeaderValue, facts_from}
 use Rattle.oim_rows.specs.declared.fault.TableFault.{TableFault}
 use Rattle.oim_fast.specs.Rows.{RowValue, column_in, row_in}
 
 -- the text of a fact up to the row's identifier, and with it
-abbrev pub lead_text : Reading → List ℕ
+abbrev pub lead_text : TableHeaderValue → List ℕ
 lead_text f = codes ",\"" ++ flat_map escaped_byte ((table_of f.report f.table).id ++ codes ".")
 
 abbrev pub start_text : RowValue → List ℕ
-start_text x = codes ",\"" ++ flat_map escaped_byte ((table_of x.form.report x.form.table).id ++ codes "." ++ (row_in x).id)
+start_text x = codes ",\"" ++ flat_map escaped_byte ((table_of x.header.report x.header.table).id ++ codes "." ++ (row_in x).id)
 
 -- from the dot behind the row's identifier up to the brace of the object
-abbrev pub column_lead : Reading → ℕ → List ℕ
+abbrev pub column_lead : TableHeaderValue → ℕ → List ℕ
 column_lead f c = flat_map escaped_byte (codes "." ++ (column_in f c).id) ++ codes "\":{"
 
 -- the facts of a row in header order, or the fault of its first cell that has one
 abbrev pub facts_of_row : RowValue → Result (List Fact) TableFault
-facts_of_row x = facts_from x.form.report x.form.table (row_in x) 0 x.form.header
+facts_of_row x = facts_from x.header.report x.header.table (row_in x) 0 x.header.columns
 
 -- the text that a cell gives, behind a comma
 abbrev pub fact_text : Option Fact → List ℕ

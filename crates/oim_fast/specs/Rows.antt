@@ -5,25 +5,25 @@ use Rattle.oim_report.specs.Readers.{column_of, columns_of}
 use Rattle.oim_report.specs.declared.data.Column.{Column}
 use Rattle.oim_resolve.specs.Cell.{Cell, cell_of}
 use Rattle.oim_resolve.specs.declared.fact.Row.{Row}
-use Rattle.oim_rows.specs.RowFacts.{Reading, row_of}
+use Rattle.oim_rows.specs.RowFacts.{TableHeaderValue, row_of}
 
--- a row of a table: what its table's rows are read by, its number, and its fields under the header
+-- a row of a table: its table's header, its number, and its fields under the header
 pub record RowValue : Type 0 where
-  pub form : Reading
+  pub header : TableHeaderValue
   pub number : ℕ
   pub fields : Record
 
 -- the row with a cell for each column of the template
 abbrev pub row_in : RowValue → Row
-row_in x = row_of x.form x.number x.fields
+row_in x = row_of x.header x.number x.fields
 
 -- the cell of a column in it
 abbrev pub cell_in : RowValue → ℕ → Cell
-cell_in x c = cell_of x.form.report x.form.table (row_in x) c
+cell_in x c = cell_of x.header.report x.header.table (row_in x) c
 
 -- the columns of the table's template
-abbrev pub columns_in : Reading → List Column
+abbrev pub columns_in : TableHeaderValue → List Column
 columns_in f = columns_of f.report f.table
 
-abbrev pub column_in : Reading → ℕ → Column
+abbrev pub column_in : TableHeaderValue → ℕ → Column
 column_in f c = column_of f.report f.table c

@@ -16,11 +16,11 @@
 //! /// The texts of the facts of a table's first row, each behind a comma, or none where that row goes the plain way.
 //! fn first_texts(
 //!     alloc: Global,
-//!     form: &RowForm<'_>,
+//!     header: &TableHeader<'_>,
 //!     fields: &TextFields<'_>,
 //! ) -> Result<Option<TextBuffer>, AllocError> {
-//!     let mut writer = RowWriter::new(alloc, form)?;
-//!     let row = TableRow::new(form, 1, "1", fields);
+//!     let mut writer = RowWriter::new(alloc, header)?;
+//!     let row = TableRow::new(header, 1, "1", fields);
 //!     let mut texts = TextBuffer::new(alloc);
 //!     let mut ends = Vec::new(alloc);
 //!     if writer.put_row(alloc, &row, &mut texts, &mut ends)? {

@@ -8,7 +8,7 @@ use Rattle.oim_report.specs.Readers.{no_level}
 use Rattle.oim_report.specs.ReportValue.{ReportValue}
 use Rattle.oim_report.specs.declared.data.ColumnKind.TheVariants as content
 use Rattle.oim_rows.specs.Header.{fault_at, file_fault}
-use Rattle.oim_rows.specs.RowFacts.{Reading}
+use Rattle.oim_rows.specs.RowFacts.{TableHeaderValue}
 use Rattle.oim_rows.specs.Streams.{Stream, ending, stream_from}
 use Rattle.oim_rows.specs.declared.fault.TableFault.{TableFault}
 use Rattle.oim_rows.specs.declared.fault.TableKind.TheVariants as kind
@@ -31,11 +31,11 @@ report = record {
   parameters = [];
 }
 
-abbrev limited : ℕ → Reading
-limited limit = record { report = report; table = 0; limit = limit; header = Some 0 ∷ [] }
+abbrev limited : ℕ → TableHeaderValue
+limited limit = record { report = report; table = 0; limit = limit; columns = Some 0 ∷ [] }
 
-abbrev reading : Reading
-reading = limited 9
+abbrev header : TableHeaderValue
+header = limited 9
 
 abbrev a : Record
 a = codes "k" ∷ []
@@ -68,37 +68,37 @@ abbrev ids_of : List (List ℕ) → Apart
 ids_of [] = record { rows = []; ids = []; fault = None }
 ids_of (k ∷ ks) = record { rows = [] ∷ (ids_of ks).rows; ids = k ∷ (ids_of ks).ids; fault = None }
 
-answer_of_a_piece : IsAnswer reading 4 (a ∷ b ∷ []) (ids_of (codes "k" ∷ codes "kk" ∷ []))
+answer_of_a_piece : IsAnswer header 4 (a ∷ b ∷ []) (ids_of (codes "k" ∷ codes "kk" ∷ []))
 unfolding apart_from chars is_row_identifier is_plain_char is_ncname is_name_char is_name_start field_at is_utf8 lib.Utf8.encode
 answer_of_a_piece = record { decoded = inl refl; few = omega arith }
 
-too_many : IsAnswer reading 4294967295 (a ∷ b ∷ []) (ids_of (codes "k" ∷ codes "kk" ∷ [])) → ⊥
+too_many : IsAnswer header 4294967295 (a ∷ b ∷ []) (ids_of (codes "k" ∷ codes "kk" ∷ [])) → ⊥
 too_many h = let few : 4294967295 + 2 ≤ 4294967296 = h.few in absurd (omega (arith, few))
 
 -- PIECES: rows 4 and 5, then row 6, and what is cut next begins with row 7
 abbrev front : FlyingPiece
-front = record { reading = reading; first = 4; rows = a ∷ b ∷ [] }
+front = record { header = header; first = 4; rows = a ∷ b ∷ [] }
 
 abbrev second : FlyingPiece
-second = record { reading = reading; first = 6; rows = c ∷ [] }
+second = record { header = header; first = 6; rows = c ∷ [] }
 
-chained : AreChained reading (front ∷ second ∷ []) 7
+chained : AreChained header (front ∷ second ∷ []) 7
 chained = (refl, refl, (refl, refl, tt))
 
-not_chained : (AreChained reading (front ∷ second ∷ []) 8 → ⊥) × (AreChained reading (second ∷ front ∷ []) 7 → ⊥) × (AreChained (limited 8) (front ∷ []) 6 → ⊥)
-not_chained = (λ h. absurd (omega (arith, h.2.1)), λ h. absurd (omega (arith, h.1)), λ h. let limits : 9 ≡ 8 = ap (λ (g : Reading). g.limit) h.0 in absurd (omega (arith, limits)))
+not_chained : (AreChained header (front ∷ second ∷ []) 8 → ⊥) × (AreChained header (second ∷ front ∷ []) 7 → ⊥) × (AreChained (limited 8) (front ∷ []) 6 → ⊥)
+not_chained = (λ h. absurd (omega (arith, h.2.1)), λ h. absurd (omega (arith, h.1)), λ h. let limits : 9 ≡ 8 = ap (λ (g : TableHeaderValue). g.limit) h.0 in absurd (omega (arith, limits)))
 
 in_order : (first_of (front ∷ second ∷ []) 7 ≡ 4) × (first_of [] 7 ≡ 7) × (rows_in (front ∷ second ∷ []) ≡ a ∷ b ∷ c ∷ [])
 in_order = (refl, refl, refl)
 
 -- the rows of the pieces and then those behind them: a comes again as row 7, a row before them was c
-whole_stream : (rows_left reading [] (front ∷ second ∷ []) 7 (Some (a ∷ [])) ≡ Some (record { rows = [] ∷ [] ∷ [] ∷ []; fault = Some (fault_at 0 7 1 kind.RepeatedRowId) }))
-    × (rows_left reading (codes "kkk" ∷ []) (front ∷ second ∷ []) 7 (Some []) ≡ Some (record { rows = [] ∷ [] ∷ []; fault = Some (fault_at 0 6 1 kind.RepeatedRowId) }))
-    × (rows_left reading [] (front ∷ []) 6 None ≡ None)
+whole_stream : (rows_left header [] (front ∷ second ∷ []) 7 (Some (a ∷ [])) ≡ Some (record { rows = [] ∷ [] ∷ [] ∷ []; fault = Some (fault_at 0 7 1 kind.RepeatedRowId) }))
+    × (rows_left header (codes "kkk" ∷ []) (front ∷ second ∷ []) 7 (Some []) ≡ Some (record { rows = [] ∷ [] ∷ []; fault = Some (fault_at 0 6 1 kind.RepeatedRowId) }))
+    × (rows_left header [] (front ∷ []) 6 None ≡ None)
 unfolding stream_from chars is_row_identifier is_plain_char is_ncname is_name_char is_name_start field_at is_utf8 lib.Utf8.encode
 whole_stream = (refl, refl, refl)
 
-stream_of_the_cutter : stream_in (record { reading = limited 6; ids = []; pieces = []; cutter = record { table = 0; limit = 6; next = 6; left = Some (a ∷ b ∷ []); over = None; unread = None } })
+stream_of_the_cutter : stream_in (record { header = limited 6; ids = []; pieces = []; cutter = record { table = 0; limit = 6; next = 6; left = Some (a ∷ b ∷ []); over = None; unread = None } })
     ≡ Some (record { rows = [] ∷ []; fault = Some (fault_at 0 7 0 kind.TooManyRows) })
 unfolding stream_from chars is_row_identifier is_plain_char is_ncname is_name_char is_name_start field_at is_utf8 lib.Utf8.encode
 stream_of_the_cutter = refl
@@ -134,7 +134,7 @@ end_kept = (refl, refl, tt, λ h. absurd (cc h), λ h. absurd (cc h))
 
 -- STEPS: three bytes that are not cut, and pieces under way
 three_and_two : (steps_for 2 (Some (codes "kkk")) ≡ Some 5) × (steps_for 2 None ≡ None)
-    × (steps_in (record { reading = reading; ids = []; pieces = front ∷ []; cutter = record { table = 0; limit = 6; next = 6; left = None; over = None; unread = Some (codes "kkk") } }) ≡ Some 4)
+    × (steps_in (record { header = header; ids = []; pieces = front ∷ []; cutter = record { table = 0; limit = 6; next = 6; left = None; over = None; unread = Some (codes "kkk") } }) ≡ Some 4)
 three_and_two = (refl, refl, refl)
 
 no_more : NoMoreSteps (Some 3) (Some 3) × NoMoreSteps None (Some 3) × (NoMoreSteps (Some 3) (Some 4) → ⊥) × (NoMoreSteps (Some 3) None → ⊥)
@@ -154,7 +154,7 @@ ids_behind = record { answer = ids_of (codes "kkk" ∷ []); decoded = inl refl; 
 
 -- COMING: an answer that is here is for what was asked; one that a thread gives comes through the channel of just that piece
 abbrev asked : Asked → List Record → Asked
-asked any rows = record any { reading = record any.reading { value = reading }; first = 6; rows = record any.rows { value = rows } }
+asked any rows = record any { header = record any.header { value = header }; first = 6; rows = record any.rows { value = rows } }
 
 comes_here : (any : Asked) → Comes (asked any (c ∷ [])) (Here (ids_of (codes "kkk" ∷ [])))
 unfolding apart_from chars is_row_identifier is_plain_char is_ncname is_name_char is_name_start field_at is_utf8 lib.Utf8.encode

@@ -9,7 +9,7 @@ use Rattle.oim_records.specs.Cuts.{ended, state_after}
 use Rattle.oim_records.specs.Grids.{Field, Record, records_left}
 use Rattle.oim_records.specs.Reads.{KeepsLeft}
 use Rattle.oim_records.proofs.RecordLaws.{left-count}
-use Rattle.oim_rows.specs.RowFacts.{Reading}
+use Rattle.oim_rows.specs.RowFacts.{TableHeaderValue}
 use Rattle.oim_rows.specs.Streams.{Stream, ending, stream_from}
 use Rattle.oim_rows.specs.declared.fault.TableFault.{TableFault}
 use Rattle.oim_decode.specs.Apart.{Apart}
@@ -44,7 +44,7 @@ first-more : (fs : List FlyingPiece) (f : FlyingPiece) (next next' : ℕ) → f.
 first-more [] f next next' at = at
 first-more (x ∷ fs) f next next' at = refl
 
-pub chained_more : (g : Reading) (fs : List FlyingPiece) (f : FlyingPiece) (next next' : ℕ) → AreChained g fs next → f.reading ≡ g → f.first ≡ next
+pub chained_more : (g : TableHeaderValue) (fs : List FlyingPiece) (f : FlyingPiece) (next next' : ℕ) → AreChained g fs next → f.header ≡ g → f.first ≡ next
     → f.first + length f.rows ≡ next' → AreChained g (fs ++ f ∷ []) next'
 chained_more g [] f next next' chain reads at more = (reads, more, tt)
 chained_more g (x ∷ fs) f next next' chain reads at more = (chain.0, chain.1 ∙ sym (first-more fs f next next' at), chained_more g fs f next next' chain.2 reads at more)
@@ -52,7 +52,7 @@ chained_more g (x ∷ fs) f next next' chain reads at more = (chain.0, chain.1 �
 rows-more : (fs : List FlyingPiece) (f : FlyingPiece) → rows_in (fs ++ f ∷ []) ≡ rows_in fs ++ f.rows
 rows-more fs f = flat_map-append (λ (x : FlyingPiece). x.rows) fs (f ∷ []) ∙ ap (λ t. rows_in fs ++ t) (append-nil f.rows)
 
-module _ (g : Reading) (ids : List Field) (fs : List FlyingPiece) where
+module _ (g : TableHeaderValue) (ids : List Field) (fs : List FlyingPiece) where
   pub stream_more : (f : FlyingPiece) (next next' : ℕ) (left left' : Option (List Record)) → f.first ≡ next → TakesRows left f.rows left'
       → KeepsStream (rows_left g ids fs next left) (rows_left g ids (fs ++ f ∷ []) next' left')
   stream_more f next next' None left' at takes = tt
@@ -83,7 +83,7 @@ stream_then (Some s) b c ab bc = subst (λ o. KeepsStream o c) ab bc
 
 -- THE FIRST PIECE
 
-next-behind : (g : Reading) (ids ids' : List Field) (n m : ℕ) (o : Option TableFault) (rest : List Record) → n ≡ m → (o ≡ None → ids ≡ ids')
+next-behind : (g : TableHeaderValue) (ids ids' : List Field) (n m : ℕ) (o : Option TableFault) (rest : List Record) → n ≡ m → (o ≡ None → ids ≡ ids')
     → Some (left_behind o (stream_from g n ids rest)) ≡ behind o (Some (stream_from g m ids' rest))
 next-behind g ids ids' n m None rest at same = ap (λ k. some (stream_from g k ids rest)) at ∙ ap (λ l. some (stream_from g m l rest)) (same refl)
   where
@@ -91,14 +91,14 @@ next-behind g ids ids' n m None rest at same = ap (λ k. some (stream_from g k i
     some s = Some s
 next-behind g ids ids' n m (Some e) rest at same = refl
 
-pub front_read : (g : Reading) (ids ids' : List Field) (f : FlyingPiece) (fs : List FlyingPiece) (next : ℕ) (left : Option (List Record)) (s : Stream)
+pub front_read : (g : TableHeaderValue) (ids ids' : List Field) (f : FlyingPiece) (fs : List FlyingPiece) (next : ℕ) (left : Option (List Record)) (s : Stream)
     → AreChained g (f ∷ fs) next → IsFront f ids s ids'
     → IfSome (rows_left g ids (f ∷ fs) next left) (λ whole. ReadsRows g.table whole s.rows (behind s.fault (rows_left g ids' fs next left)))
 front_read g ids ids' f fs next None s chain front = tt
 front_read g ids ids' f fs next (Some rest) s chain front =
     let a = front.answer in
-    let decoded : IsDecoded g f.first f.rows a = subst (λ (x : Reading). IsDecoded x f.first f.rows a) chain.0 front.decoded in
-    let joined : IsJoined g f.first ids a s = subst (λ (x : Reading). IsJoined x f.first ids a s) chain.0 front.joined in
+    let decoded : IsDecoded g f.first f.rows a = subst (λ (x : TableHeaderValue). IsDecoded x f.first f.rows a) chain.0 front.decoded in
+    let joined : IsJoined g f.first ids a s = subst (λ (x : TableHeaderValue). IsJoined x f.first ids a s) chain.0 front.joined in
     let read = piece_is_read g f.first ids f.rows (rows_in fs ++ rest) a s decoded joined in
     let left = next-behind g (ids ++ a.ids) ids' (f.first + length f.rows) (first_of fs next) s.fault (rows_in fs ++ rest) chain.1 (λ none. sym (front.behind none)) in
     subst (λ (t : List Record). ReadsRows g.table (stream_from g f.first ids t) s.rows (behind s.fault (Some (stream_from g (first_of fs next) ids' (rows_in fs ++ rest)))))
@@ -106,31 +106,31 @@ front_read g ids ids' f fs next (Some rest) s chain front =
     (subst (λ o. ReadsRows g.table (stream_from g f.first ids (f.rows ++ (rows_in fs ++ rest))) s.rows o) left read)
 
 -- no row is left
-pub none_left : (g : Reading) (n : ℕ) (ids : List Field) → stream_from g n ids [] ≡ ending None
+pub none_left : (g : TableHeaderValue) (n : ℕ) (ids : List Field) → stream_from g n ids [] ≡ ending None
 unfolding stream_from
 none_left g n ids = refl
 
 -- no piece is under way, and no more is cut
-pub end_found : (table : ℕ) (g : Reading) (ids : List Field) (next : ℕ) (left : Option (List Record)) (o : Option TableFault) → IsOver table left o
+pub end_found : (table : ℕ) (g : TableHeaderValue) (ids : List Field) (next : ℕ) (left : Option (List Record)) (o : Option TableFault) → IsOver table left o
     → EndsWith table (rows_left g ids [] next left) o
 end_found table g ids next None None over = tt
 end_found table g ids next (Some records) None over = ap (stream_from g next ids) over ∙ none_left g next ids
 end_found table g ids next left (Some e) over = over
 
 -- what was asked for is what was promised
-pub answer_same : (g g' : Reading) (first first' : ℕ) (rows rows' : List Record) (a : Apart) → IsAnswer g' first' rows' a → g' ≡ g → first' ≡ first → rows' ≡ rows → IsAnswer g first rows a
-answer_same g g' first first' rows rows' a is reading at same =
-    subst (λ r. IsAnswer g first r a) same (subst (λ n. IsAnswer g n rows' a) at (subst (λ (x : Reading). IsAnswer x first' rows' a) reading is))
+pub answer_same : (g g' : TableHeaderValue) (first first' : ℕ) (rows rows' : List Record) (a : Apart) → IsAnswer g' first' rows' a → g' ≡ g → first' ≡ first → rows' ≡ rows → IsAnswer g first rows a
+answer_same g g' first first' rows rows' a is header at same =
+    subst (λ r. IsAnswer g first r a) same (subst (λ n. IsAnswer g n rows' a) at (subst (λ (x : TableHeaderValue). IsAnswer x first' rows' a) header is))
 
 -- the first of the pieces under way was joined, and the others stay
-pub joined_front : (old : FlightLeft) (g g' : Reading) (ids ids' : List Field) (f : FlyingPiece) (all fs : List FlyingPiece) (cutter : CutterLeft) (s : Stream)
-    → record { reading = g; ids = ids; pieces = all; cutter = cutter } ≡ old → all ≡ f ∷ fs → g.table ≡ cutter.table → AreChained g all cutter.next → IsFront f ids s ids'
-    → g' ≡ g → IfSome (stream_in old) (λ whole. ReadsRows old.cutter.table whole s.rows (behind s.fault (stream_in (record { reading = g'; ids = ids'; pieces = fs; cutter = cutter }))))
+pub joined_front : (old : FlightLeft) (g g' : TableHeaderValue) (ids ids' : List Field) (f : FlyingPiece) (all fs : List FlyingPiece) (cutter : CutterLeft) (s : Stream)
+    → record { header = g; ids = ids; pieces = all; cutter = cutter } ≡ old → all ≡ f ∷ fs → g.table ≡ cutter.table → AreChained g all cutter.next → IsFront f ids s ids'
+    → g' ≡ g → IfSome (stream_in old) (λ whole. ReadsRows old.cutter.table whole s.rows (behind s.fault (stream_in (record { header = g'; ids = ids'; pieces = fs; cutter = cutter }))))
 joined_front old g g' ids ids' f all fs cutter s view is table chain front same =
     let next = cutter.next in
     let left = cutter.left in
     let read = front_read g ids ids' f fs next left s (subst (λ l. AreChained g l next) is chain) front in
     let placed = subst (λ t. IfSome (rows_left g ids (f ∷ fs) next left) (λ whole. ReadsRows t whole s.rows (behind s.fault (rows_left g ids' fs next left)))) table read in
     let whole = subst (λ l. IfSome (rows_left g ids l next left) (λ whole. ReadsRows cutter.table whole s.rows (behind s.fault (rows_left g ids' fs next left)))) (sym is) placed in
-    let new = subst (λ (h : Reading). IfSome (rows_left g ids all next left) (λ whole. ReadsRows cutter.table whole s.rows (behind s.fault (rows_left h ids' fs next left)))) (sym same) whole in
+    let new = subst (λ (h : TableHeaderValue). IfSome (rows_left g ids all next left) (λ whole. ReadsRows cutter.table whole s.rows (behind s.fault (rows_left h ids' fs next left)))) (sym same) whole in
     subst (λ (v : FlightLeft). IfSome (stream_in v) (λ whole. ReadsRows v.cutter.table whole s.rows (behind s.fault (rows_left g' ids' fs next left)))) view new

@@ -6,4 +6,4 @@ pub mod CutLaws
 pub mod StepLaws
 pub mod SheetLaws
 pub mod Examples
-pub mod SheetExamples
+pub mod ExamplesSheets

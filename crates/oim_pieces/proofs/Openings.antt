@@ -5,37 +5,37 @@ use Rattle.csv.specs.declared.parser.State.TheVariants as state
 use Rattle.oim_records.specs.Reads.{StartsFile, left_known}
 use Rattle.oim_report.specs.ReportValue.{ReportValue}
 use Rattle.oim_rows.specs.Header.{file_header_fault, header_fault}
-use Rattle.oim_rows.specs.RowFacts.{Reading}
-use Rattle.oim_rows.specs.Streams.{IsOutside, Stream, reading_of, stream_from, stream_of}
+use Rattle.oim_rows.specs.RowFacts.{TableHeaderValue}
+use Rattle.oim_rows.specs.Streams.{IsOutside, Stream, table_header_of, stream_from, stream_of}
 use Rattle.oim_rows.specs.declared.fault.TableFault.{TableFault}
-use Rattle.oim_decode.specs.Heads.{reading_in}
+use Rattle.oim_decode.specs.Heads.{table_header_in}
 use Rattle.oim_pieces.specs.Flights.{AreChained, FlyingPiece, rows_left}
 
 good-header : (report : ReportValue) (table limit : ℕ) (header : Record) (rows : List Record) → header_fault report table header ≡ None
-    → stream_of report table limit (header ∷ rows) ≡ stream_from (reading_of report table limit header) 1 [] rows
+    → stream_of report table limit (header ∷ rows) ≡ stream_from (table_header_of report table limit header) 1 [] rows
 good-header report table limit header rows none = rw none refl
 
 -- a piece is known by its parts
-pub piece_is : (f : FlyingPiece) (g : Reading) (n : ℕ) (rows : List Record) → f.reading ≡ g → f.first ≡ n → f.rows ≡ rows → f ≡ record { reading = g; first = n; rows = rows }
+pub piece_is : (f : FlyingPiece) (g : TableHeaderValue) (n : ℕ) (rows : List Record) → f.header ≡ g → f.first ≡ n → f.rows ≡ rows → f ≡ record { header = g; first = n; rows = rows }
 piece_is f g n rows reads at same = ap (λ x. piece x f.first f.rows) reads ∙ ap (λ k. piece g k f.rows) at ∙ ap (λ l. piece g n l) same
   where
-    piece : Reading → ℕ → List Record → FlyingPiece
-    piece x k l = record { reading = x; first = k; rows = l }
+    piece : TableHeaderValue → ℕ → List Record → FlyingPiece
+    piece x k l = record { header = x; first = k; rows = l }
 
 module _ (report : ReportValue) (table limit : ℕ) where
   -- the rows of the head are under way
   abbrev pub head_piece : List Record → FlyingPiece
-  head_piece head = record { reading = reading_in report table limit head; first = 1; rows = drop 1 head }
+  head_piece head = record { header = table_header_in report table limit head; first = 1; rows = drop 1 head }
 
   stream-behind : (head rest : List Record) → 1 ≤ length head → file_header_fault report table head ≡ None
-      → stream_from (reading_in report table limit head) 1 [] ((drop 1 head ++ []) ++ rest) ≡ stream_of report table limit (head ++ rest)
+      → stream_from (table_header_in report table limit head) 1 [] ((drop 1 head ++ []) ++ rest) ≡ stream_of report table limit (head ++ rest)
   stream-behind [] rest some none = absurd (omega (arith, some))
   stream-behind (h ∷ rows) rest some none =
-      ap (λ t. stream_from (reading_of report table limit h) 1 [] (t ++ rest)) (append-nil rows) ∙ sym (good-header report table limit h (rows ++ rest) none)
+      ap (λ t. stream_from (table_header_of report table limit h) 1 [] (t ++ rest)) (append-nil rows) ∙ sym (good-header report table limit h (rows ++ rest) none)
 
   pub stream_opened : (head : List Record) (bytes : Option (List ℕ)) (next : ℕ) → 1 ≤ length head → file_header_fault report table head ≡ None
       → IfSome (left_known head bytes) (λ records.
-      rows_left (reading_in report table limit head) [] (head_piece head ∷ []) next (left_known [] bytes) ≡ Some (stream_of report table limit records))
+      rows_left (table_header_in report table limit head) [] (head_piece head ∷ []) next (left_known [] bytes) ≡ Some (stream_of report table limit records))
   stream_opened head None next some none = tt
   stream_opened head (Some xs) next some none = ap (λ s. one s) (stream-behind head (records_left state.StartRecord xs) some none)
     where
@@ -43,20 +43,20 @@ module _ (report : ReportValue) (table limit : ℕ) where
       one s = Some s
 
   pub chain_opened : (head : List Record) (next : ℕ) → 1 ≤ length head → next ≡ 1 + (length head - 1)
-      → AreChained (reading_in report table limit head) (head_piece head ∷ []) next
+      → AreChained (table_header_in report table limit head) (head_piece head ∷ []) next
   chain_opened [] next some at = absurd (omega (arith, some))
   chain_opened (h ∷ rows) next some at = let more : 1 + length rows ≡ next = omega (arith, at) in (refl, more, tt)
 
-  pub behind_chain : (head : List Record) (items : List FlyingPiece) (g : Reading) (next : ℕ) → items ≡ head_piece head ∷ [] → reading_in report table limit head ≡ g
+  pub behind_chain : (head : List Record) (items : List FlyingPiece) (g : TableHeaderValue) (next : ℕ) → items ≡ head_piece head ∷ [] → table_header_in report table limit head ≡ g
       → 1 ≤ length head → next ≡ 1 + (length head - 1) → AreChained g items next
   behind_chain head items g next is reads some at =
-      subst (λ l. AreChained g l next) (sym is) (subst (λ (x : Reading). AreChained x (head_piece head ∷ []) next) reads (chain_opened head next some at))
+      subst (λ l. AreChained g l next) (sym is) (subst (λ (x : TableHeaderValue). AreChained x (head_piece head ∷ []) next) reads (chain_opened head next some at))
 
-  pub behind_stream : (head : List Record) (bytes : Option (List ℕ)) (g : Reading) (ids : List Field) (items : List FlyingPiece) (next : ℕ) (left : Option (List Record))
-      → g ≡ reading_in report table limit head → ids ≡ [] → items ≡ head_piece head ∷ [] → left ≡ left_known [] bytes → 1 ≤ length head → file_header_fault report table head ≡ None
+  pub behind_stream : (head : List Record) (bytes : Option (List ℕ)) (g : TableHeaderValue) (ids : List Field) (items : List FlyingPiece) (next : ℕ) (left : Option (List Record))
+      → g ≡ table_header_in report table limit head → ids ≡ [] → items ≡ head_piece head ∷ [] → left ≡ left_known [] bytes → 1 ≤ length head → file_header_fault report table head ≡ None
       → IfSome (left_known head bytes) (λ records. rows_left g ids items next left ≡ Some (stream_of report table limit records))
   behind_stream head bytes g ids items next left reads none is known some good =
-      let r = reading_in report table limit head in
+      let r = table_header_in report table limit head in
       let same : rows_left g ids items next left ≡ rows_left r [] (head_piece head ∷ []) next (left_known [] bytes) =
       ap (λ x. rows_left x ids items next left) reads ∙ ap (λ x. rows_left r x items next left) none
       ∙ ap (λ x. rows_left r [] x next left) is ∙ ap (λ x. rows_left r [] (head_piece head ∷ []) next x) known in

@@ -13,9 +13,9 @@ use Rattle.oim_resolve.proofs.plan.Plan.TheSendSync as plan
 use Rattle.oim_resolve.specs.contracts.plan.Plan as Plan
 use Rattle.oim_pieces.proofs.helpers.Helpers.TheSendSync as helpers
 use Rattle.oim_pieces.specs.contracts.helpers.Helpers as Helpers
-use Rattle.oim_rows.proofs.form.RowForm.TheSendSync as form
+use Rattle.oim_rows.proofs.table_header.TableHeader.TheSendSync as header
 use Rattle.oim_rows.proofs.ids.RowIds.TheSendSync as ids
-use Rattle.oim_rows.specs.contracts.form.RowForm as Form
+use Rattle.oim_rows.specs.contracts.table_header.TableHeader as Header
 use Rattle.oim_rows.specs.contracts.ids.RowIds as Ids
 use Rattle.oim_rows.specs.contracts.row_plan.RowPlan as RowPlan
 use Rattle.oim_decode.proofs.piece.piece_answer.PieceAnswer.TheSendSync as answer
@@ -50,8 +50,8 @@ plan_send a = plan.the_send a
 row_plan_send : (a : NamedLft) → IsSend (RowPlan.the_row a)
 row_plan_send a = search (sendable, crosses, plan_send, column_sync) depth 20
 
-form_send : (a : NamedLft) → IsSend (Form.the_row a)
-form_send a = form.the_send a
+header_send : (a : NamedLft) → IsSend (Header.the_row a)
+header_send a = header.the_send a
 
 writer_send : (a : NamedLft) → IsSend (Writer.the_row a)
 writer_send a = writer.the_send a
@@ -66,7 +66,7 @@ ids_send : IsSend Ids.the_row
 ids_send = ids.the_send
 
 pub decoder_send : (a : NamedLft) → IsSend (Decoder.the_row a)
-decoder_send a = search (sendable, crosses, row_plan_send, form_send, writer_send, records_send, ids_send) depth 20
+decoder_send a = search (sendable, crosses, row_plan_send, header_send, writer_send, records_send, ids_send) depth 20
 
 bin_send : IsSend Bin.the_row
 bin_send = bin.the_send

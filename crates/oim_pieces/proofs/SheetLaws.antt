@@ -2,7 +2,7 @@
 use Rattle.std.proofs.Common.{◌≡◌, ◌+◌, ◌≤◌, ◌<◌, ℕ, List, length, Option, Some, None, IfSome, IsSome, refl, sym, ap, subst, ◌∙◌, arith}
 use Rattle.csv.specs.declared.parser.State.TheVariants as state
 use Rattle.oim_records.specs.Grids.{Record, records_left}
-use Rattle.oim_rows.specs.RowFacts.{Reading}
+use Rattle.oim_rows.specs.RowFacts.{TableHeaderValue}
 use Rattle.oim_decode.specs.Apart.{Apart}
 use Rattle.oim_decode.specs.PieceAnswers.{refused}
 use Rattle.oim_decode.proofs.HeadLaws.{refused_decoded}
@@ -16,30 +16,30 @@ use Rattle.oim_pieces.proofs.FlightLaws.{answer_same}
 -- THE CHANNEL OF A PIECE
 
 -- the piece that lies there may be decoded
-pub may_decode : (g : Reading) (known : Option Asked) (q : Question) → IsReadBy g known → IfSome known (λ a. FitsPiece a (Ask q)) → q.asked.first ≤ g.limit + 1
+pub may_decode : (g : TableHeaderValue) (known : Option Asked) (q : Question) → IsReadBy g known → IfSome known (λ a. FitsPiece a (Ask q)) → q.asked.first ≤ g.limit + 1
 may_decode g None q reads fits = absurd reads
-may_decode g (Some a) q reads fits = subst (λ (x : Reading). q.asked.first ≤ x.limit + 1) reads fits.may
+may_decode g (Some a) q reads fits = subst (λ (x : TableHeaderValue). q.asked.first ≤ x.limit + 1) reads fits.may
 
 -- its answer is that of what was asked
-pub decoded_here : (g : Reading) (known : Option Asked) (q : Question) (answer : Apart) → IsReadBy g known → IfSome known (λ a. FitsPiece a (Ask q))
+pub decoded_here : (g : TableHeaderValue) (known : Option Asked) (q : Question) (answer : Apart) → IsReadBy g known → IfSome known (λ a. FitsPiece a (Ask q))
     → IsAnswer g q.asked.first (records_left state.StartRecord q.bytes.items) answer → IsAnswerIn known answer
 decoded_here g None q answer reads fits is = tt
-decoded_here g (Some a) q answer reads fits is = answer_same a.reading.value g a.first q.asked.first a.rows.value (records_left state.StartRecord q.bytes.items) answer is (sym reads) fits.first fits.rows
+decoded_here g (Some a) q answer reads fits is = answer_same a.header.value g a.first q.asked.first a.rows.value (records_left state.StartRecord q.bytes.items) answer is (sym reads) fits.first fits.rows
 
 -- none comes, and memory was refused
-pub refused_here : (g : Reading) (first : ℕ) (known : Option Asked) (answer : Apart) → IsReadBy g known → IfSome known (λ a. a.first ≡ first)
+pub refused_here : (g : TableHeaderValue) (first : ℕ) (known : Option Asked) (answer : Apart) → IsReadBy g known → IfSome known (λ a. a.first ≡ first)
     → ((rows : List Record) → IsAnswer g first rows answer) → IsAnswerIn known answer
 refused_here g first None answer reads at is = tt
-refused_here g first (Some a) answer reads at is = answer_same a.reading.value g a.first first a.rows.value a.rows.value answer (is a.rows.value) (sym reads) (sym at) refl
+refused_here g first (Some a) answer reads at is = answer_same a.header.value g a.first first a.rows.value a.rows.value answer (is a.rows.value) (sym reads) (sym at) refl
 
 -- an answer came through the channel of the piece that was asked for
 pub of_asked : (asked : Asked) (known : Option Asked) (answer : Apart) → IsOf asked known → IsAnswerIn known answer
-    → IsAnswer asked.reading.value asked.first asked.rows.value answer
+    → IsAnswer asked.header.value asked.first asked.rows.value answer
 of_asked asked None answer same is = absurd same
 of_asked asked (Some a) answer same is =
-    answer_same asked.reading.value a.reading.value asked.first a.first asked.rows.value a.rows.value answer is same.0 same.1 same.2
+    answer_same asked.header.value a.header.value asked.first a.first asked.rows.value a.rows.value answer is same.0 same.1 same.2
 
-pub of_reads : (g : Reading) (asked : Asked) (known : Option Asked) → IsOf asked known → asked.reading.value ≡ g → IsReadBy g known
+pub of_reads : (g : TableHeaderValue) (asked : Asked) (known : Option Asked) → IsOf asked known → asked.header.value ≡ g → IsReadBy g known
 of_reads g asked None same reads = absurd same
 of_reads g asked (Some a) same reads = same.0 ∙ reads
 
@@ -48,7 +48,7 @@ of_first asked None same = tt
 of_first asked (Some a) same = same.1
 
 -- memory was refused for a piece
-pub refused_answer : (g : Reading) (first : ℕ) (rows : List Record) (a : Apart) → a ≡ refused g.table → first ≤ 4294967296 → IsAnswer g first rows a
+pub refused_answer : (g : TableHeaderValue) (first : ℕ) (rows : List Record) (a : Apart) → a ≡ refused g.table → first ≤ 4294967296 → IsAnswer g first rows a
 refused_answer g first rows a is may = record {
   decoded = refused_decoded g first rows a is;
   few = let none : length a.ids ≡ 0 = ap (λ (x : Apart). length x.ids) is in omega (arith, none, may);
@@ -56,22 +56,22 @@ refused_answer g first rows a is may = record {
 
 -- THE CHANNEL TO THE THREADS
 
-pub job_known : (g : Reading) (job : Option Asked) → IsReadBy g job → IsSome job
+pub job_known : (g : TableHeaderValue) (job : Option Asked) → IsReadBy g job → IsSome job
 job_known g None reads = absurd reads
 job_known g (Some a) reads = refl
 
-pub job_fits : (job : Option Asked) → IfSome job (λ a. IsReadBy a.reading.value job)
+pub job_fits : (job : Option Asked) → IfSome job (λ a. IsReadBy a.header.value job)
 job_fits None = tt
 job_fits (Some a) = refl
 
-pub line_opens : (g : Reading) (line : Option (Option Asked)) (job : Option Asked) → IfSome line (λ first. first ≡ job) → IsReadBy g job → IsLine g line
+pub line_opens : (g : TableHeaderValue) (line : Option (Option Asked)) (job : Option Asked) → IfSome line (λ first. first ≡ job) → IsReadBy g job → IsLine g line
 line_opens g None job same reads = tt
 line_opens g (Some first) job same reads = subst (IsReadBy g) (sym same) reads
 
-pub line_fits : (g : Reading) (line job : Option Asked) → IsReadBy g line → IsReadBy g job → IfSome line (λ a. IsReadBy a.reading.value job)
+pub line_fits : (g : TableHeaderValue) (line job : Option Asked) → IsReadBy g line → IsReadBy g job → IfSome line (λ a. IsReadBy a.header.value job)
 line_fits g None job known reads = absurd known
-line_fits g (Some a) job known reads = subst (λ (x : Reading). IsReadBy x job) (sym known) reads
+line_fits g (Some a) job known reads = subst (λ (x : TableHeaderValue). IsReadBy x job) (sym known) reads
 
-pub line_gives : (g : Reading) (line job : Option Asked) → IsReadBy g line → IfSome line (λ a. IsReadBy a.reading.value job) → IsReadBy g job
+pub line_gives : (g : TableHeaderValue) (line job : Option Asked) → IsReadBy g line → IfSome line (λ a. IsReadBy a.header.value job) → IsReadBy g job
 line_gives g None job known fits = absurd known
-line_gives g (Some a) job known fits = subst (λ (x : Reading). IsReadBy x job) known fits
+line_gives g (Some a) job known fits = subst (λ (x : TableHeaderValue). IsReadBy x job) known fits

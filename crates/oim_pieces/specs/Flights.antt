@@ -2,21 +2,21 @@
 use Rattle.std.specs.Prelude.{◌≡◌, ◌++◌, ◌+◌, ◌≤◌, ◌<◌, ⊤, ℕ, List, [], ◌∷◌, length, Option, Some, None, IfSome, option_map, Result, Ok, Err}
 use Rattle.std.specs.List.{flat_map}
 use Rattle.oim_records.specs.Grids.{Field, Record}
-use Rattle.oim_rows.specs.RowFacts.{Reading}
+use Rattle.oim_rows.specs.RowFacts.{TableHeaderValue}
 use Rattle.oim_rows.specs.Streams.{IsOutside, Stream, ending, stream_from}
 use Rattle.oim_rows.specs.declared.fault.TableFault.{TableFault}
 use Rattle.oim_decode.specs.Apart.{Apart}
 use Rattle.oim_decode.specs.PieceAnswers.{IsDecoded, IsJoined}
 use Rattle.oim_pieces.specs.Cutting.{CutterLeft}
 
--- a piece: how its rows are read, the number of the first, and the rows
+-- a piece: its table's header, the number of the first, and the rows
 pub record FlyingPiece : Type 0 where
-  pub reading : Reading
+  pub header : TableHeaderValue
   pub first : ℕ
   pub rows : List Record
 
 -- the answer for a piece, none of whose identifiers is that of a row past 4,294,967,295
-pub record IsAnswer (g : Reading) (first : ℕ) (rows : List Record) (a : Apart) : Type 0 where
+pub record IsAnswer (g : TableHeaderValue) (first : ℕ) (rows : List Record) (a : Apart) : Type 0 where
   pub decoded : IsDecoded g first rows a
   pub few : first + length a.ids ≤ 4294967296
 
@@ -26,27 +26,27 @@ first_of [] next = next
 first_of (f ∷ fs) next = f.first
 
 -- the rows of pieces are numbered one after another, and all are read in one way
-abbrev pub AreChained : Reading → List FlyingPiece → ℕ → Type 0
+abbrev pub AreChained : TableHeaderValue → List FlyingPiece → ℕ → Type 0
 AreChained g [] next = ⊤
-AreChained g (f ∷ fs) next = (f.reading ≡ g) × (f.first + length f.rows ≡ first_of fs next) × AreChained g fs next
+AreChained g (f ∷ fs) next = (f.header ≡ g) × (f.first + length f.rows ≡ first_of fs next) × AreChained g fs next
 
 -- the rows of pieces, piece after piece
 abbrev pub rows_in : List FlyingPiece → List Record
 rows_in fs = flat_map (λ (f : FlyingPiece). f.rows) fs
 
--- the pieces of a table that are under way: how its rows are read, the identifiers of the rows that were given, the pieces, and what is left to be cut
+-- the pieces of a table that are under way: its header, the identifiers of the rows that were given, the pieces, and what is left to be cut
 pub record FlightLeft : Type 0 where
-  pub reading : Reading
+  pub header : TableHeaderValue
   pub ids : List Field
   pub pieces : List FlyingPiece
   pub cutter : CutterLeft
 
 -- the stream of the rows of pieces and of the records behind them, if these are known, where the rows before have these identifiers
-abbrev pub rows_left : Reading → List Field → List FlyingPiece → ℕ → Option (List Record) → Option Stream
+abbrev pub rows_left : TableHeaderValue → List Field → List FlyingPiece → ℕ → Option (List Record) → Option Stream
 rows_left g ids fs next left = option_map (λ records. stream_from g (first_of fs next) ids (rows_in fs ++ records)) left
 
 abbrev pub stream_in : FlightLeft → Option Stream
-stream_in f = rows_left f.reading f.ids f.pieces f.cutter.next f.cutter.left
+stream_in f = rows_left f.header f.ids f.pieces f.cutter.next f.cutter.left
 
 -- a stream stays, if it was known
 abbrev pub KeepsStream : Option Stream → Option Stream → Type 0
@@ -105,6 +105,6 @@ FewerSteps (Some n) (Some m) = m < n
 -- the first of pieces under way was joined to rows with these identifiers
 pub record IsFront (piece : FlyingPiece) (ids : List Field) (s : Stream) (ids' : List Field) : Type 0 where
   pub answer : Apart
-  pub decoded : IsDecoded piece.reading piece.first piece.rows answer
-  pub joined : IsJoined piece.reading piece.first ids answer s
+  pub decoded : IsDecoded piece.header piece.first piece.rows answer
+  pub joined : IsJoined piece.header piece.first ids answer s
   pub behind : s.fault ≡ None → ids' ≡ ids ++ answer.ids

@@ -2,7 +2,7 @@
 
 ghost use Rattle.std.specs.Prelude.{◌≡◌, ◌⊎◌, ◌≤◌, ◌<◌, ◌+◌, drop, IfErr, IfOk, IfSome, IsSome, None, Some, length};
 ghost use Rattle.csv.specs.declared.parser.State.TheVariants as state;
-ghost use Rattle.oim_decode.specs.Heads.{reading_in};
+ghost use Rattle.oim_decode.specs.Heads.{table_header_in};
 ghost use Rattle.oim_records.specs.Grids.{records_left};
 ghost use Rattle.oim_rows.specs.Header.{file_header_fault};
 ghost use Rattle.oim_rows.specs.Streams.{IsOutside};
@@ -18,9 +18,9 @@ use crate::memory::Memory;
 use crate::sheet::{Job, Line, OfPiece, OfTable, Pending, Question, Reply, Share, Sheet};
 use crate::thread::{Post, Station, piece_of, serve};
 use keyed::Giver;
-use oim_decode::{PieceAnswer, PieceDecoder, TableHead};
+use oim_decode::{FirstRecords, PieceAnswer, PieceDecoder};
 use oim_report::Report;
-use oim_rows::{RowForm, TableFault};
+use oim_rows::{TableFault, TableHeader};
 use std::alloc::Global;
 use std::marker::Model;
 use std::sync::Wait;
@@ -33,7 +33,7 @@ const MOST_JOBS: usize = 64;
 const FEW_UNDER_WAY: usize = 1;
 
 /// Who decodes the pieces of a table: the worker that drew it, and threads, which draw pieces from a line once there is one. Once it is dropped, the
-/// threads end. A contract sees how the table's rows are read.
+/// threads end. A contract sees the table's header.
 pub(crate) struct Crew<'a> {
     alloc: Global,
     helpers: &'a Helpers,
@@ -62,14 +62,14 @@ impl Drop for Crew<'_> {
 
 impl<'a> Model for Crew<'a> {
     ghost use Rattle.std.specs.Prelude.{◌≡◌};
-    ghost use Rattle.oim_rows.specs.RowFacts.{Reading};
+    ghost use Rattle.oim_rows.specs.RowFacts.{TableHeaderValue};
     ghost use Rattle.oim_pieces.specs.state.Sheets.{IsLine};
 
-    ghost Value = { Reading };
+    ghost Value = { TableHeaderValue };
 
     ghost view = { λ a. a.decoders };
 
-    ghost invariant = { λ a. (a.mine.reading ≡ a.decoders) × IsLine a.decoders a.line };
+    ghost invariant = { λ a. (a.mine.header ≡ a.decoders) × IsLine a.decoders a.line };
 }
 
 /// Both ends of the channel of a piece, which lies there. Gives the piece back where memory is short.
@@ -90,11 +90,11 @@ fn open_piece<'a, T: Wait>(
 }
 
 /// The rows of the head of a table, decoded.
-fn first_piece<'a>(decoder: &mut PieceDecoder<'a>, head: &TableHead) -> Flying<'a>
-    ensures piece { result ≡ record { reading = decoder.old.reading; first = 1; rows = drop 1 head.now } }
-    ensures decoder { decoder.new.reading ≡ decoder.old.reading }
+fn first_piece<'a>(decoder: &mut PieceDecoder<'a>, head: &FirstRecords) -> Flying<'a>
+    ensures piece { result ≡ record { header = decoder.old.header; first = 1; rows = drop 1 head.now } }
+    ensures decoder { decoder.new.header ≡ decoder.old.header }
 {
-    let asked = Asked::of_head(decoder.form(), head);
+    let asked = Asked::of_head(decoder.header(), head);
     let answer = decoder.decode_head(head);
     Flying::here(asked, answer)
 }
@@ -129,12 +129,12 @@ impl<'a> Crew<'a> {
         report: &'a Report,
         table: usize,
         limit: u32,
-        head: TableHead,
+        head: FirstRecords,
     ) -> Result<(Crew<'a>, Flying<'a>), TableFault>
         requires place { table < length report.now.tables }
         requires rows { limit ≤ 4294967294 }
-        ensures crew { IfOk result (λ opened. opened.0 ≡ reading_in report.now table limit head) }
-        ensures piece { IfOk result (λ opened. opened.1 ≡ record { reading = reading_in report.now table limit head; first = 1; rows = drop 1 head }) }
+        ensures crew { IfOk result (λ opened. opened.0 ≡ table_header_in report.now table limit head) }
+        ensures piece { IfOk result (λ opened. opened.1 ≡ record { header = table_header_in report.now table limit head; first = 1; rows = drop 1 head }) }
         ensures header { IfOk result (λ _. file_header_fault report.now table head ≡ None) }
         ensures fault { IfErr result (λ e. IsOutside table e ⊎ (file_header_fault report.now table head ≡ Some e)) }
     {
@@ -155,10 +155,10 @@ impl<'a> Crew<'a> {
     }
 
     /// How the rows of the table are read.
-    pub(crate) fn form(&self) -> &RowForm<'a>
+    pub(crate) fn header(&self) -> &TableHeader<'a>
         ensures { result.now ≡ self.now }
     {
-        self.mine.form()
+        self.mine.header()
     }
 
     /// Whether no other can help.
@@ -184,7 +184,7 @@ impl<'a> Crew<'a> {
         piece: CutPiece,
     ) -> Flying<'a>
         requires { piece.first ≤ self.old.limit + 1 }
-        ensures piece { (result.reading ≡ self.old) × (result.first ≡ piece.first) × (result.rows ≡ records_left state.StartRecord piece.bytes.items) }
+        ensures piece { (result.header ≡ self.old) × (result.first ≡ piece.first) × (result.rows ≡ records_left state.StartRecord piece.bytes.items) }
         ensures same { self.new ≡ self.old }
     {
         let CutPiece {
@@ -192,9 +192,9 @@ impl<'a> Crew<'a> {
             first,
             stays,
         } = piece;
-        let asked = Asked::of(self.form(), &bytes, first);
+        let asked = Asked::of(self.header(), &bytes, first);
         let question = Question {
-            asked: Asked::of(self.form(), &bytes, first),
+            asked: Asked::of(self.header(), &bytes, first),
             bytes,
             rooms: self.memory.usual(),
         };
@@ -210,9 +210,9 @@ impl<'a> Crew<'a> {
     /// Has the threads of the table asked for the answer of a piece. Where memory is short, decodes it here.
     fn put_up<T: Wait>(&mut self, rt: &T, asked: Asked<'a>, question: Question<'a>) -> Flying<'a>
         requires piece { IsPiece question.asked question }
-        requires reading { question.asked.reading.value ≡ self.old }
+        requires header { question.asked.header.value ≡ self.old }
         requires asked { IsOf asked (Some question.asked) }
-        ensures piece { (result.reading ≡ asked.entry.reading.value) × (result.first ≡ asked.entry.first) × (result.rows ≡ asked.entry.rows.value) }
+        ensures piece { (result.header ≡ asked.entry.header.value) × (result.first ≡ asked.entry.first) × (result.rows ≡ asked.entry.rows.value) }
         ensures same { self.new ≡ self.old }
     {
         match self.ask(rt, question) {
@@ -227,7 +227,7 @@ impl<'a> Crew<'a> {
     /// Asks the threads of the table for the answer of a piece. Gives the piece back where memory is short.
     fn ask<T: Wait>(&mut self, rt: &T, question: Question<'a>) -> Result<Pending<'a>, Question<'a>>
         requires piece { IsPiece question.asked question }
-        requires reading { question.asked.reading.value ≡ self.old }
+        requires header { question.asked.header.value ≡ self.old }
         ensures pending { IfOk result (λ p. p ≡ Some question.entry.asked) }
         ensures back { IfErr result (λ back. back ≡ question.entry) }
         ensures same { self.new ≡ self.old }
@@ -281,7 +281,7 @@ impl<'a> Crew<'a> {
         pending: Pending<'a>,
         first: u32,
     ) -> PieceAnswer
-        requires reading { IsReadBy self.old pending }
+        requires header { IsReadBy self.old pending }
         requires first { IfSome pending (λ a. a.first ≡ first) }
         ensures answer { IsAnswerIn pending.entry result }
         ensures same { self.new ≡ self.old }

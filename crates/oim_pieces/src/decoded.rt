@@ -5,16 +5,16 @@ ghost use Rattle.csv.specs.declared.parser.State.TheVariants as state;
 ghost use Rattle.oim_records.specs.Grids.{records_left};
 
 use ghost_value::{Denotes, GhostValue};
-use oim_decode::TableHead;
-use oim_rows::RowForm;
+use oim_decode::FirstRecords;
+use oim_rows::TableHeader;
 use std::snapshot::Snapshot;
 
 /// Which rows are asked for: how they are read, the number of the first, and, for contracts alone, the rows.
 #[derive(Drop)]
 pub(crate) struct Asked<'a> {
-    pub(crate) reading: Snapshot<RowForm<'a>>,
+    pub(crate) header: Snapshot<TableHeader<'a>>,
     pub(crate) first: u32,
-    pub(crate) rows: GhostValue<TableHead>,
+    pub(crate) rows: GhostValue<FirstRecords>,
 }
 
 /// Denotes the records of a piece.
@@ -23,7 +23,7 @@ struct RecordsOf<'a> {
     bytes: &'a Vec<u8>,
 }
 
-impl Denotes<TableHead> for RecordsOf<'_> {
+impl Denotes<FirstRecords> for RecordsOf<'_> {
     ghost use Rattle.csv.specs.declared.parser.State.TheVariants as state;
     ghost use Rattle.oim_records.specs.Grids.{records_left};
 
@@ -33,10 +33,10 @@ impl Denotes<TableHead> for RecordsOf<'_> {
 /// Denotes the records behind the header of a head.
 #[derive(Drop)]
 struct RowsBehind<'a> {
-    head: &'a TableHead,
+    head: &'a FirstRecords,
 }
 
-impl Denotes<TableHead> for RowsBehind<'_> {
+impl Denotes<FirstRecords> for RowsBehind<'_> {
     ghost use Rattle.std.specs.Prelude.{drop};
 
     ghost denoted = { λ a. drop 1 a.head.now };
@@ -44,22 +44,22 @@ impl Denotes<TableHead> for RowsBehind<'_> {
 
 impl<'a> Asked<'a> {
     /// The rows of a piece, from this number on.
-    pub(crate) fn of(form: &RowForm<'a>, bytes: &Vec<u8>, first: u32) -> Asked<'a>
-        ensures { (result.reading.value ≡ form.now) × (result.first ≡ first) × (result.rows.value ≡ records_left state.StartRecord bytes.now.items) }
+    pub(crate) fn of(header: &TableHeader<'a>, bytes: &Vec<u8>, first: u32) -> Asked<'a>
+        ensures { (result.header.value ≡ header.now) × (result.first ≡ first) × (result.rows.value ≡ records_left state.StartRecord bytes.now.items) }
     {
         Asked {
-            reading: Snapshot::of(form),
+            header: Snapshot::of(header),
             first,
             rows: GhostValue::of(&RecordsOf { bytes }),
         }
     }
 
     /// The rows behind the header of a head.
-    pub(crate) fn of_head(form: &RowForm<'a>, head: &TableHead) -> Asked<'a>
-        ensures { (result.reading.value ≡ form.now) × (result.first ≡ 1) × (result.rows.value ≡ drop 1 head.now) }
+    pub(crate) fn of_head(header: &TableHeader<'a>, head: &FirstRecords) -> Asked<'a>
+        ensures { (result.header.value ≡ header.now) × (result.first ≡ 1) × (result.rows.value ≡ drop 1 head.now) }
     {
         Asked {
-            reading: Snapshot::of(form),
+            header: Snapshot::of(header),
             first: 1,
             rows: GhostValue::of(&RowsBehind { head }),
         }

@@ -1,33 +1,33 @@
 //! The decoders that threads are given.
 
 ghost use Rattle.std.specs.Prelude.{◌≡◌, ◌≤◌, ◌<◌, List, IfSome, length};
-ghost use Rattle.oim_decode.specs.Heads.{reading_in};
+ghost use Rattle.oim_decode.specs.Heads.{table_header_in};
 ghost use Rattle.oim_records.specs.Grids.{Record};
 ghost use Rattle.oim_pieces.specs.Flights.{IsAnswer};
 
-use oim_decode::{PieceAnswer, PieceDecoder, TableHead};
+use oim_decode::{FirstRecords, PieceAnswer, PieceDecoder};
 use oim_report::Report;
 use std::alloc::Global;
 use std::marker::Model;
 
-/// The head of a table, which gives decoders of its pieces. A contract sees how the table's rows are read.
+/// The head of a table, which gives decoders of its pieces. A contract sees the table's header.
 #[derive(Drop)]
 pub(crate) struct Decoders<'a> {
     alloc: Global,
     report: &'a Report,
     table: usize,
     limit: u32,
-    head: TableHead,
+    head: FirstRecords,
 }
 
 impl<'a> Model for Decoders<'a> {
     ghost use Rattle.std.specs.Prelude.{◌≡◌, ◌≤◌, ◌<◌, length};
-    ghost use Rattle.oim_decode.specs.Heads.{reading_in};
-    ghost use Rattle.oim_rows.specs.RowFacts.{Reading};
+    ghost use Rattle.oim_decode.specs.Heads.{table_header_in};
+    ghost use Rattle.oim_rows.specs.RowFacts.{TableHeaderValue};
 
-    ghost Value = { Reading };
+    ghost Value = { TableHeaderValue };
 
-    ghost view = { λ a. reading_in a.report.now a.table a.limit a.head };
+    ghost view = { λ a. table_header_in a.report.now a.table a.limit a.head };
 
     ghost invariant = { λ a. (a.table < length a.report.now.tables) × (a.limit ≤ 4294967294) };
 }
@@ -39,11 +39,11 @@ impl<'a> Decoders<'a> {
         report: &'a Report,
         table: usize,
         limit: u32,
-        head: TableHead,
+        head: FirstRecords,
     ) -> Decoders<'a>
         requires place { table < length report.now.tables }
         requires rows { limit ≤ 4294967294 }
-        ensures { result ≡ reading_in report.now table limit head }
+        ensures { result ≡ table_header_in report.now table limit head }
     {
         Decoders {
             alloc,
@@ -56,7 +56,7 @@ impl<'a> Decoders<'a> {
 
     /// A new decoder. `None` where memory is short.
     pub(crate) fn take(&self) -> Option<PieceDecoder<'a>>
-        ensures { IfSome result (λ d. d.reading ≡ self.now) }
+        ensures { IfSome result (λ d. d.header ≡ self.now) }
     {
         match self
             .head

@@ -2,7 +2,7 @@
 
 ghost use Rattle.std.specs.Prelude.{◌≡◌, ◌⊎◌, ◌-◌, ◌<◌, ◌≤◌, [], ◌∷◌, drop, IfNone, IfOk, IfErr, IfSome, None, OnSome, Some, length, true};
 ghost use Rattle.oim_decode.specs.Blocks.{ReadsRows};
-ghost use Rattle.oim_decode.specs.Heads.{reading_in};
+ghost use Rattle.oim_decode.specs.Heads.{table_header_in};
 ghost use Rattle.oim_records.specs.PieceTaking.{bytes_left};
 ghost use Rattle.oim_records.specs.Reads.{left_behind};
 ghost use Rattle.oim_rows.specs.Header.{file_header_fault};
@@ -13,7 +13,7 @@ use crate::crew::Crew;
 use crate::cutter::Cutter;
 use crate::flying::Flying;
 use crate::helpers::Helpers;
-use oim_decode::{JoinedPiece, PieceJoin, TableHead};
+use oim_decode::{FirstRecords, JoinedPiece, PieceJoin};
 use oim_records::PieceReader;
 use oim_report::Report;
 use oim_rows::{TableFault, TableKind, whole_fault};
@@ -30,7 +30,7 @@ const MOST_CUT: usize = 256;
 /// More vectors than come back at once. All are taken once the table is written, since most are of threads, which use them again.
 const MOST_TAKEN: usize = 256;
 
-/// The pieces of a table that are under way, in their order, and what cuts, decodes and joins them. A contract sees how the rows are read,
+/// The pieces of a table that are under way, in their order, and what cuts, decodes and joins them. A contract sees the table's header,
 /// the identifiers of the rows that were given, the pieces, and what is left to be cut.
 #[derive(Drop)]
 pub(crate) struct Flight<'a, R: Read + Drop> {
@@ -52,7 +52,7 @@ impl<'a, R: Read + Drop> Model for Flight<'a, R> {
 
     ghost Value = { FlightLeft };
 
-    ghost view = { λ a. record { reading = a.crew; ids = a.join; pieces = a.flying.items; cutter = a.cutter } };
+    ghost view = { λ a. record { header = a.crew; ids = a.join; pieces = a.flying.items; cutter = a.cutter } };
 
     ghost invariant = { λ a. (a.crew.table ≡ a.cutter.table) × (a.crew.limit ≡ a.cutter.limit) × AreChained a.crew a.flying.items a.cutter.next };
 }
@@ -64,12 +64,12 @@ fn take_off<'a>(
     report: &'a Report,
     table: usize,
     limit: u32,
-    head: TableHead,
+    head: FirstRecords,
 ) -> Result<(Crew<'a>, VecDeque<Flying<'a>>), TableFault>
     requires place { table < length report.now.tables }
     requires rows { limit ≤ 4294967294 }
-    ensures crew { IfOk result (λ off. off.0 ≡ reading_in report.now table limit head) }
-    ensures piece { IfOk result (λ off. off.1.items ≡ record { reading = reading_in report.now table limit head; first = 1; rows = drop 1 head } ∷ []) }
+    ensures crew { IfOk result (λ off. off.0 ≡ table_header_in report.now table limit head) }
+    ensures piece { IfOk result (λ off. off.1.items ≡ record { header = table_header_in report.now table limit head; first = 1; rows = drop 1 head } ∷ []) }
     ensures rows { IfOk result (λ _. length head - 1 < 18446744073709551615) }
     ensures header { IfOk result (λ _. file_header_fault report.now table head ≡ None) }
     ensures fault { IfErr result (λ e. IsOutside table e ⊎ (file_header_fault report.now table head ≡ Some e)) }
@@ -96,13 +96,13 @@ fn join_piece<'a, T: Wait>(
     join: &mut PieceJoin,
     piece: Flying<'a>,
 ) -> JoinedPiece
-    requires { piece.reading ≡ crew.old }
+    requires { piece.header ≡ crew.old }
     ensures joined { IsFront piece.entry join.old result join.new }
     ensures same { crew.new ≡ crew.old }
 {
     let first = piece.first();
     let answer = piece.settle(rt, crew);
-    join.join(crew.form(), first, answer)
+    join.join(crew.header(), first, answer)
 }
 
 impl<'a, R: Read + Drop> Flight<'a, R> {
@@ -113,7 +113,7 @@ impl<'a, R: Read + Drop> Flight<'a, R> {
         report: &'a Report,
         table: usize,
         limit: u32,
-        head: TableHead,
+        head: FirstRecords,
         pieces: PieceReader<R>,
     ) -> Result<Flight<'a, R>, TableFault>
         requires place { table < length report.now.tables }

@@ -18,7 +18,7 @@ pub(crate) enum Coming<'a> {
     Here(PieceAnswer),
 }
 
-/// A piece that is under way. A contract sees how its rows are read, the number of the first, and the rows.
+/// A piece that is under way. A contract sees its table's header, the number of the first, and the rows.
 pub(crate) struct Flying<'a> {
     asked: Asked<'a>,
     coming: Coming<'a>,
@@ -40,7 +40,7 @@ impl<'a> Model for Flying<'a> {
 
     ghost Value = { FlyingPiece };
 
-    ghost view = { λ a. record { reading = a.asked.reading.value; first = a.asked.first; rows = a.asked.rows.value } };
+    ghost view = { λ a. record { header = a.asked.header.value; first = a.asked.first; rows = a.asked.rows.value } };
 
     ghost invariant = { λ a. Comes a.asked a.coming };
 }
@@ -48,8 +48,8 @@ impl<'a> Model for Flying<'a> {
 impl<'a> Flying<'a> {
     /// The piece that was asked for, whose answer is here.
     pub(crate) fn here(asked: Asked<'a>, answer: PieceAnswer) -> Flying<'a>
-        requires { IsAnswer asked.reading.value asked.first asked.rows.value answer }
-        ensures { (result.reading ≡ asked.entry.reading.value) × (result.first ≡ asked.entry.first) × (result.rows ≡ asked.entry.rows.value) }
+        requires { IsAnswer asked.header.value asked.first asked.rows.value answer }
+        ensures { (result.header ≡ asked.entry.header.value) × (result.first ≡ asked.entry.first) × (result.rows ≡ asked.entry.rows.value) }
     {
         Flying {
             asked,
@@ -60,7 +60,7 @@ impl<'a> Flying<'a> {
     /// The piece that was asked for, whose answer comes through its channel.
     pub(crate) fn awaited(asked: Asked<'a>, pending: Pending<'a>) -> Flying<'a>
         requires { IsOf asked pending }
-        ensures { (result.reading ≡ asked.entry.reading.value) × (result.first ≡ asked.entry.first) × (result.rows ≡ asked.entry.rows.value) }
+        ensures { (result.header ≡ asked.entry.header.value) × (result.first ≡ asked.entry.first) × (result.rows ≡ asked.entry.rows.value) }
     {
         Flying {
             asked,
@@ -86,8 +86,8 @@ impl<'a> Flying<'a> {
     /// The answer for the piece, waiting for it while no other piece can be decoded here.
     #[tactic(auto, using(crate::proofs::SheetLaws::of_asked, crate::proofs::SheetLaws::of_reads, crate::proofs::SheetLaws::of_first))]
     pub(crate) fn settle<T: Wait>(self, rt: &T, crew: &mut Crew<'a>) -> PieceAnswer
-        requires { self.reading ≡ crew.old }
-        ensures answer { IsAnswer self.entry.reading self.entry.first self.entry.rows result }
+        requires { self.header ≡ crew.old }
+        ensures answer { IsAnswer self.entry.header self.entry.first self.entry.rows result }
         ensures same { crew.new ≡ crew.old }
     {
         let Flying { asked, coming } = self;

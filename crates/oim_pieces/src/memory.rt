@@ -122,7 +122,7 @@ impl Memory {
 
     /// Takes back the memory that a decoder keeps, of the piece that it decoded and for texts that it did not use.
     pub(crate) fn take_back(&mut self, decoder: &mut PieceDecoder<'_>)
-        ensures { decoder.new.reading ≡ decoder.old.reading }
+        ensures { decoder.new.header ≡ decoder.old.header }
     {
         self.take_rooms(decoder);
         self.keep_bytes(decoder.take_room());

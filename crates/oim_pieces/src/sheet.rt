@@ -55,7 +55,7 @@ impl<'a> Fit<Asked<'a>, Job<'a>> for OfTable {
 
     ghost key = { λ job. job };
 
-    ghost fits = { λ a job. IsReadBy a.reading.value job };
+    ghost fits = { λ a job. IsReadBy a.header.value job };
 }
 
 /// The end of a table's channel that sends its pieces to threads.

@@ -22,7 +22,7 @@ pub(crate) struct Station<'a> {
     pub(crate) number: usize,
 }
 
-/// What a thread is given: a decoder and a station, where pieces of its table lie. A contract sees how the table's rows are read.
+/// What a thread is given: a decoder and a station, where pieces of its table lie. A contract sees the table's header.
 #[derive(Drop)]
 pub(crate) struct Post<'a> {
     decoder: PieceDecoder<'a>,
@@ -30,14 +30,14 @@ pub(crate) struct Post<'a> {
 }
 
 impl<'a> Model for Post<'a> {
-    ghost use Rattle.oim_rows.specs.RowFacts.{Reading};
+    ghost use Rattle.oim_rows.specs.RowFacts.{TableHeaderValue};
     ghost use Rattle.oim_pieces.specs.state.Sheets.{IsReadBy};
 
-    ghost Value = { Reading };
+    ghost Value = { TableHeaderValue };
 
-    ghost view = { λ a. a.decoder.reading };
+    ghost view = { λ a. a.decoder.header };
 
-    ghost invariant = { λ a. IsReadBy a.decoder.reading a.station.share };
+    ghost invariant = { λ a. IsReadBy a.decoder.header a.station.share };
 }
 
 /// The piece of a job, if nobody has drawn it.
@@ -60,7 +60,7 @@ pub(crate) fn serve<'a, T: Wait>(rt: &T, helpers: &Helpers, post: Post<'a>) {
 impl<'a> Post<'a> {
     /// A post with this decoder.
     pub(crate) fn new(decoder: PieceDecoder<'a>, station: Station<'a>) -> Post<'a>
-        requires { IsReadBy decoder.reading station.share }
+        requires { IsReadBy decoder.header station.share }
     {
         Post { decoder, station }
     }
@@ -126,7 +126,7 @@ impl<'a> Post<'a> {
 /// then the place was given back.
 fn next_of<'a, T: Wait>(rt: &T, helpers: &Helpers, share: &mut Share<'a>) -> Option<Job<'a>>
     ensures same { share.new ≡ share.old }
-    ensures job { IfSome result (λ job. IfSome share.old (λ a. IsReadBy a.reading.value job)) }
+    ensures job { IfSome result (λ job. IfSome share.old (λ a. IsReadBy a.header.value job)) }
 {
     match share.look(rt) {
         Ok(job) => return Some(job),

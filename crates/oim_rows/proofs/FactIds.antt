@@ -31,9 +31,9 @@ use Rattle.oim_resolve.specs.declared.fact.Row.{Row}
 use Rattle.oim_rows.specs.Header.{Header, header_fault, header_of, is_column, is_empty, is_unknown, file_fault, names_row_id, or_else, repeat_from, repeats, fault_at}
 use Rattle.oim_resolve.proofs.FactFacts as resolved
 use Rattle.oim_rows.specs.Identifiers.{HaveOwnIds, facts_of_tables}
-use Rattle.oim_rows.specs.RowFacts.{Reading, at_place, checked, fact_at, facts_from, id_fault, id_kind, id_place_of}
+use Rattle.oim_rows.specs.RowFacts.{TableHeaderValue, at_place, checked, fact_at, facts_from, id_fault, id_kind, id_place_of}
 use Rattle.oim_rows.specs.RowFacts.{ids_after, is_fact_column, limit_fault, ragged_fault, row_fault, row_id_text, text_fault, row_of, row_result}
-use Rattle.oim_rows.specs.Streams.{Stream, facts_of, reading_of, row_in_front, stream_from, stream_of, table_stream}
+use Rattle.oim_rows.specs.Streams.{Stream, facts_of, table_header_of, row_in_front, stream_from, stream_of, table_stream}
 use Rattle.oim_rows.specs.declared.fault.TableFault.{TableFault}
 use Rattle.oim_rows.specs.declared.fault.TableKind.TheVariants as kind
 use Rattle.oim_rows.proofs.DotFacts.{HasDistinctColumns, HasNoDot, fact_id, all_append, all_mapped, all_weaker, any_front, any_grown}
@@ -195,13 +195,13 @@ id_kind_ok ids f e =
 small_number : (n limit : ℕ) → n ≤ limit → limit < 2 ^ 32 → n < 2 ^ 64
 small_number n limit a b = omega arith
 
-id_ok : (g : Reading) (o : Option ℕ) (n : ℕ) (ids : List Field) (r : Record) → n ≤ g.limit → g.limit < 2 ^ 32 → id_fault g o n ids r ≡ None
+id_ok : (g : TableHeaderValue) (o : Option ℕ) (n : ℕ) (ids : List Field) (r : Record) → n ≤ g.limit → g.limit < 2 ^ 32 → id_fault g o n ids r ≡ None
     → HasNoDot (row_id_text o n r) × IsLaterId o g.limit n ids (row_id_text o n r)
 id_ok g None n ids r within small e = (numbered-no_dot n (small_number n g.limit within small), (n, le_refl n, within, refl))
 id_ok g (Some p) n ids r within small e =
     id_kind_ok ids (unwrap_or (field_at r p) []) (mapped_none (fault_at g.table n (p + 1)) (id_kind ids (unwrap_or (field_at r p) [])) e)
 
-row_ok : (g : Reading) (n : ℕ) (ids : List Field) (r : Record) → row_fault g n ids r ≡ None → (n ≤ g.limit) × (id_fault g (id_place_of g) n ids r ≡ None)
+row_ok : (g : TableHeaderValue) (n : ℕ) (ids : List Field) (r : Record) → row_fault g n ids r ≡ None → (n ≤ g.limit) × (id_fault g (id_place_of g) n ids r ≡ None)
 row_ok g n ids r e =
     let id = id_fault g (id_place_of g) n ids r in
     let long = first_none (ragged_fault g n r) (or_else (text_fault g n r) (or_else (limit_fault g n) id)) e in
@@ -222,20 +222,20 @@ joined P Q h (f ∷ fs) gs a b c d = (
 )
 
 -- a fact of a row from number n on, where the rows before it have these identifiers
-abbrev IsLaterFact : Reading → ℕ → List Field → Fact → Type 0
+abbrev IsLaterFact : TableHeaderValue → ℕ → List Field → Fact → Type 0
 IsLaterFact g n ids f = (t : Field) × (k : List ℕ) × HasNoDot t × IsLaterId (id_place_of g) g.limit n ids t × (f.id ≡ fact_id (table_of g.report g.table).id t k)
 
-step : (g : Reading) → g.limit < 2 ^ 32 → HasDistinctColumns (columns_of g.report g.table) → repeat_from 0 [] g.header ≡ None
+step : (g : TableHeaderValue) → g.limit < 2 ^ 32 → HasDistinctColumns (columns_of g.report g.table) → repeat_from 0 [] g.columns ≡ None
     → (n : ℕ) (ids : List Field) (r : Record) (a : Result (List Fact) TableFault) (s : Stream) → row_result g n ids r ≡ a
     → AllByRecursion (IsLaterFact g (n + 1) (ids_after (id_place_of g) ids r)) (facts_of s) → HaveOwnIds (facts_of s)
     → AllByRecursion (IsLaterFact g n ids) (facts_of (row_in_front a s)) × HaveOwnIds (facts_of (row_in_front a s))
 unfolding IsDistinct
 step g small distinct none n ids r (Err x) s e all apart = (tt, tt)
 step g small distinct none n ids r (Ok fs) s e all apart =
-    let both = checked_ok (row_fault g n ids r) (facts_from g.report g.table (row_of g n r) 0 g.header) fs e in
+    let both = checked_ok (row_fault g n ids r) (facts_from g.report g.table (row_of g n r) 0 g.columns) fs e in
     let ok = row_ok g n ids r both.0 in
     let id = id_ok g (id_place_of g) n ids r ok.0 small ok.1 in
-    let row = row_facts g.report g.table distinct (row_of g n r) id.0 0 0 [] g.header none fs both.1 in (
+    let row = row_facts g.report g.table distinct (row_of g n r) id.0 0 0 [] g.columns none fs both.1 in (
       all_append (IsLaterFact g n ids) fs (facts_of s) (all_weaker Under (IsLaterFact g n ids) (here id.0 id.1) fs row.0) (all_weaker Later (IsLaterFact g n ids) later (facts_of s) all),
       joined Under Later (differ id.0 ok.0) fs (facts_of s) row.0 all row.1 apart,
     )
@@ -247,7 +247,7 @@ step g small distinct none n ids r (Ok fs) s e all apart =
     row_id = row_id_text (id_place_of g) n r
 
     Under : Fact → Type 0
-    Under = IsFactUnder table_id row_id (columns_of g.report g.table) g.header
+    Under = IsFactUnder table_id row_id (columns_of g.report g.table) g.columns
 
     Later : Fact → Type 0
     Later = IsLaterFact g (n + 1) (ids_after (id_place_of g) ids r)
@@ -262,7 +262,7 @@ step g small distinct none n ids r (Ok fs) s e all apart =
     differ dotless within f h (c, x, there, at, is) (t, k, plain2, fresh, is2) = bytes_apart f.id h.id (λ same.
         later_apart (id_place_of g) g.limit n ids r t small within fresh (ids_apart table_id row_id x.id t k dotless plain2 (sym is ∙ same ∙ is2)).0)
 
-table_facts : (g : Reading) → g.limit < 2 ^ 32 → HasDistinctColumns (columns_of g.report g.table) → repeat_from 0 [] g.header ≡ None
+table_facts : (g : TableHeaderValue) → g.limit < 2 ^ 32 → HasDistinctColumns (columns_of g.report g.table) → repeat_from 0 [] g.columns ≡ None
     → (n : ℕ) (ids : List Field) (rows : List Record)
     → AllByRecursion (IsLaterFact g n ids) (facts_of (stream_from g n ids rows)) × HaveOwnIds (facts_of (stream_from g n ids rows))
 unfolding stream_from IsDistinct
@@ -288,7 +288,7 @@ fact_ids_differ report table limit (r ∷ rows) small distinct = by (header_faul
   where
     by : (o : Option TableFault) → header_fault report table r ≡ o → HaveOwnIds (facts_of (stream_of report table limit (r ∷ rows)))
     by (Some x) e = rw e tt
-    by None e = rw e ((table_facts (reading_of report table limit r) small distinct (header_ok report table r e) 1 [] rows).1)
+    by None e = rw e ((table_facts (table_header_of report table limit r) small distinct (header_ok report table r e) 1 [] rows).1)
 
 -- a fact with an identifier of this table
 abbrev IsFactOf : List ℕ → Fact → Type 0
@@ -299,13 +299,13 @@ facts_of_table : (report : ReportValue) (table limit : ℕ) (records : List Reco
 facts_of_table report table limit [] small distinct = tt
 facts_of_table report table limit (r ∷ rows) small distinct = by (header_fault report table r) refl
   where
-    known : (f : Fact) → IsLaterFact (reading_of report table limit r) 1 [] f → IsFactOf (table_of report table).id f
+    known : (f : Fact) → IsLaterFact (table_header_of report table limit r) 1 [] f → IsFactOf (table_of report table).id f
     known f (t, k, dotless, fresh, is) = (t, k, is)
 
     by : (o : Option TableFault) → header_fault report table r ≡ o → AllByRecursion (IsFactOf (table_of report table).id) (facts_of (stream_of report table limit (r ∷ rows)))
     by (Some x) e = rw e tt
-    by None e = rw e (all_weaker (IsLaterFact (reading_of report table limit r) 1 []) (IsFactOf (table_of report table).id) known (facts_of (stream_from (reading_of report table limit r) 1 [] rows))
-        (table_facts (reading_of report table limit r) small distinct (header_ok report table r e) 1 [] rows).0)
+    by None e = rw e (all_weaker (IsLaterFact (table_header_of report table limit r) 1 []) (IsFactOf (table_of report table).id) known (facts_of (stream_from (table_header_of report table limit r) 1 [] rows))
+        (table_facts (table_header_of report table limit r) small distinct (header_ok report table r e) 1 [] rows).0)
 
 -- THE FACTS OF A REPORT
 

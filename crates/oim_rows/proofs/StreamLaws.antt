@@ -9,11 +9,11 @@ use Rattle.oim_records.specs.declared.read_fault.ReadFault.{ReadFault}
 use Rattle.oim_records.specs.declared.read_fault.ReadFault.TheVariants as read
 use Rattle.oim_rows.specs.Header.{Header, file_fault, file_header_fault, header_fault, header_of}
 use Rattle.oim_rows.specs.declared.fault.TableKind.TheVariants as kind
-use Rattle.oim_rows.specs.RowFacts.{Reading, checked, facts_from, id_place_of, ids_after, row_fault, row_of, row_result}
+use Rattle.oim_rows.specs.RowFacts.{TableHeaderValue, checked, facts_from, id_place_of, ids_after, row_fault, row_of, row_result}
 use Rattle.oim_rows.specs.Streams.{GivesNext, IsOutside, OrNoMemory, Stream, early_header_fault, early_row_answer, fault_of_read, row_answer, TakesHeader, stream_from, stream_of}
 use Rattle.oim_rows.specs.declared.fault.TableFault.{TableFault}
 
-pub gives_end : (table n : ℕ) (g : Reading) (ids : List Field) (old new : Option (List Record)) (r : Record) (after : Option Stream) → TakesRecord old false r new
+pub gives_end : (table n : ℕ) (g : TableHeaderValue) (ids : List Field) (old new : Option (List Record)) (r : Record) (after : Option Stream) → TakesRecord old false r new
     → IfSome old (λ rs. GivesNext table (stream_from g n ids rs) (Ok None) after)
 unfolding stream_from
 gives_end table n g ids None new r after h = tt
@@ -24,7 +24,7 @@ ok_result : (table : ℕ) (facts : List Fact) (answer : Result (List Fact) Table
 ok_result table facts answer (inl h) = cc h
 ok_result table facts answer (inr h) = sym h
 
-pub gives_row : (n : ℕ) (g : Reading) (ids ids2 : List Field) (old new : Option (List Record)) (r : Record) (facts : List Fact) → TakesRecord old true r new
+pub gives_row : (n : ℕ) (g : TableHeaderValue) (ids ids2 : List Field) (old new : Option (List Record)) (r : Record) (facts : List Fact) → TakesRecord old true r new
     → OrNoMemory g.table (Ok facts) (row_result g n ids r) → ids2 ≡ ids_after (id_place_of g) ids r
     → IfSome old (λ rs. GivesNext g.table (stream_from g n ids rs) (Ok (Some facts)) (option_map (stream_from g (n + 1) ids2) new))
 unfolding stream_from
@@ -32,7 +32,7 @@ gives_row n g ids ids2 None new r facts h o e = tt
 gives_row n g ids ids2 (Some []) new r facts h o e = cc h.0
 gives_row n g ids ids2 (Some (x ∷ rs)) new r facts h o e = rw (h.2, e, ← h.1, ok_result g.table facts _ o) refl
 
-pub gives_fault : (n : ℕ) (g : Reading) (ids : List Field) (old new : Option (List Record)) (r : Record) (x : TableFault) (after : Option Stream) → TakesRecord old true r new
+pub gives_fault : (n : ℕ) (g : TableHeaderValue) (ids : List Field) (old new : Option (List Record)) (r : Record) (x : TableFault) (after : Option Stream) → TakesRecord old true r new
     → OrNoMemory g.table (Err x) (row_result g n ids r)
     → IfSome old (λ rs. GivesNext g.table (stream_from g n ids rs) (Err x) after)
 unfolding stream_from
@@ -46,11 +46,11 @@ outside table read.Read = inl refl
 outside table read.Memory = inr refl
 
 -- the answer for the cells of a row that has no other fault is the answer for the row
-pub cells_answer : (g p : Reading) (n : ℕ) (ids : List Field) (r : Record) (result : Result (List Fact) TableFault) → row_fault g n ids r ≡ None → p ≡ g
-    → OrNoMemory p.table result (facts_from p.report p.table (row_of p n r) 0 p.header) → OrNoMemory g.table result (row_result g n ids r)
+pub cells_answer : (g p : TableHeaderValue) (n : ℕ) (ids : List Field) (r : Record) (result : Result (List Fact) TableFault) → row_fault g n ids r ≡ None → p ≡ g
+    → OrNoMemory p.table result (facts_from p.report p.table (row_of p n r) 0 p.columns) → OrNoMemory g.table result (row_result g n ids r)
 cells_answer g p n ids r result none same given =
-    subst (λ o. OrNoMemory g.table result (checked o (facts_from g.report g.table (row_of g n r) 0 g.header))) (sym none)
-    (subst (λ (q : Reading). OrNoMemory q.table result (facts_from q.report q.table (row_of q n r) 0 q.header)) same given)
+    subst (λ o. OrNoMemory g.table result (checked o (facts_from g.report g.table (row_of g n r) 0 g.columns))) (sym none)
+    (subst (λ (q : TableHeaderValue). OrNoMemory q.table result (facts_from q.report q.table (row_of q n r) 0 q.columns)) same given)
 
 known_or_not : {A : Type 0} (o : Option A) (P : A → Type 0) → ((a : A) → P a) → IfSome o P
 known_or_not None P h = tt
@@ -63,7 +63,7 @@ early_fault None x h = tt
 early_fault (Some f) x h = ap row_answer h
 
 -- the reader's answer for a row, and what is made of it
-pub gives_answer : (n : ℕ) (g : Reading) (ids ids2 : List Field) (old new : Option (List Record)) (r : Record) (found : Result Bool ReadFault) (result : Result (Option (List Fact)) TableFault)
+pub gives_answer : (n : ℕ) (g : TableHeaderValue) (ids ids2 : List Field) (old new : Option (List Record)) (r : Record) (found : Result Bool ReadFault) (result : Result (Option (List Fact)) TableFault)
     → IfOk found (λ b. TakesRecord old b r new) → IfSome (early_row_answer g n ids found r) (λ a. result ≡ a)
     → (found ≡ Ok true → OrNoMemory g.table result (row_answer (row_result g n ids r))) → IfOk result (λ o. OnSome o (ids2 ≡ ids_after (id_place_of g) ids r))
     → IfSome old (λ rs. GivesNext g.table (stream_from g n ids rs) result (option_map (stream_from g (n + 1) ids2) new))
@@ -142,13 +142,13 @@ IfSome-mapped f None P h = tt
 IfSome-mapped f (Some x) P h = h
 
 opened_at : (report : ReportValue) (table limit : ℕ) (rs : List Record) (new : Option (List Record)) (h : Header) → TakesHeader report table (Some rs) h new
-    → (option_map (stream_from (record { report = report; table = table; limit = limit; header = h }) 1 []) new ≡ Some (stream_of report table limit rs)) × (file_header_fault report table rs ≡ None)
+    → (option_map (stream_from (record { report = report; table = table; limit = limit; columns = h }) 1 []) new ≡ Some (stream_of report table limit rs)) × (file_header_fault report table rs ≡ None)
 opened_at report table limit [] new h took = absurd took
 opened_at report table limit (r ∷ rows) new h took = (rw (took.2, took.1, took.0) refl, took.0)
 
 -- the rows under a header with no fault are those of the table's stream
-pub opened_stream : (report : ReportValue) (table limit : ℕ) (known : Option (List ℕ)) (old new : Option (List Record)) (h : Header) (g : Reading) (ids : List Field) → StartsFile known old
-    → TakesHeader report table old h new → g ≡ record { report = report; table = table; limit = limit; header = h } → ids ≡ []
+pub opened_stream : (report : ReportValue) (table limit : ℕ) (known : Option (List ℕ)) (old new : Option (List Record)) (h : Header) (g : TableHeaderValue) (ids : List Field) → StartsFile known old
+    → TakesHeader report table old h new → g ≡ record { report = report; table = table; limit = limit; columns = h } → ids ≡ []
     → IfSome known (λ bytes. (option_map (stream_from g 1 ids) new ≡ Some (stream_of report table limit (grid bytes))) × (file_header_fault report table (grid bytes) ≡ None))
 opened_stream report table limit None old new h g ids e took reading none = tt
 opened_stream report table limit (Some bytes) old new h g ids e took reading none = rw (reading, none) (opened_at report table limit (grid bytes) new h (rw e at took))

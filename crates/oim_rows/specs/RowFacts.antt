@@ -21,12 +21,12 @@ use Rattle.oim_rows.specs.declared.fault.TableFault.{TableFault}
 use Rattle.oim_rows.specs.declared.fault.TableKind.{TableKind}
 use Rattle.oim_rows.specs.declared.fault.TableKind.TheVariants as kind
 
--- what the rows of a table are read by: its report and its place there, the most rows that it may have, and its header
-pub record Reading : Type 0 where
+-- the header of a table as it was read: the report and the table's place there, the most rows that it may have, and the column of each cell of the header
+pub record TableHeaderValue : Type 0 where
   pub report : ReportValue
   pub table : ℕ
   pub limit : ℕ
-  pub header : Header
+  pub columns : Header
 
 -- the place in the header of a column of the template
 abbrev pub source_of_column : Header → ℕ → Option ℕ
@@ -53,8 +53,8 @@ row_id_place None h = None
 row_id_place (Some c) h = source_of_column h c
 
 -- the place in the header of a table's row identifier
-abbrev pub id_place_of : Reading → Option ℕ
-id_place_of g = row_id_place (template_of g.report g.table).row_id_column g.header
+abbrev pub id_place_of : TableHeaderValue → Option ℕ
+id_place_of g = row_id_place (template_of g.report g.table).row_id_column g.columns
 
 -- the identifier of row n: the text at its place, or `r_` and the row number where the table has no column for it
 abbrev pub row_id_text : Option ℕ → ℕ → Record → Field
@@ -62,11 +62,11 @@ row_id_text None n r = codes "r_" ++ decimal n
 row_id_text (Some p) n r = unwrap_or (field_at r p) []
 
 -- row n as the resolution of cells takes it: a cell for each column of the template, in the template's order
-abbrev pub row_of : Reading → ℕ → Record → Row
+abbrev pub row_of : TableHeaderValue → ℕ → Record → Row
 row_of g n r = record {
   number = n;
   id = row_id_text (id_place_of g) n r;
-  cells = map (cell_at g.header r) (range_with_len 0 (length (columns_of g.report g.table)));
+  cells = map (cell_at g.columns r) (range_with_len 0 (length (columns_of g.report g.table)));
 }
 
 -- what is wrong with a row identifier, where the earlier rows have these
@@ -76,27 +76,27 @@ id_kind ids f =
     else if not (is_row_identifier f) then Some kind.BadRowId
     else if list_any (bytes_eq f) ids then Some kind.RepeatedRowId else None
 
-abbrev pub id_fault : Reading → Option ℕ → ℕ → List Field → Record → Option TableFault
+abbrev pub id_fault : TableHeaderValue → Option ℕ → ℕ → List Field → Record → Option TableFault
 id_fault g None n ids r = None
 id_fault g (Some p) n ids r = option_map (fault_at g.table n (p + 1)) (id_kind ids (unwrap_or (field_at r p) []))
 
 -- another length than the header's
-abbrev pub ragged_fault : Reading → ℕ → Record → Option TableFault
-ragged_fault g n r = if not (length r == length g.header) then Some (fault_at g.table n 0 kind.Ragged) else None
+abbrev pub ragged_fault : TableHeaderValue → ℕ → Record → Option TableFault
+ragged_fault g n r = if not (length r == length g.columns) then Some (fault_at g.table n 0 kind.Ragged) else None
 
 -- a cell that is not UTF-8
-abbrev pub text_fault : Reading → ℕ → Record → Option TableFault
+abbrev pub text_fault : TableHeaderValue → ℕ → Record → Option TableFault
 text_fault g n r = option_map (λ p. fault_at g.table n (p + 1) kind.NotUtf8) (position_from is_not_text 0 r)
 
 -- more rows than the limit
-abbrev pub limit_fault : Reading → ℕ → Option TableFault
+abbrev pub limit_fault : TableHeaderValue → ℕ → Option TableFault
 limit_fault g n = if nat_lt g.limit n then Some (fault_at g.table n 0 kind.TooManyRows) else None
 
 -- the faults of row n apart from those of its cells, in the order in which they count
-abbrev pub row_faults : Reading → ℕ → List Field → Record → List (Option TableFault)
+abbrev pub row_faults : TableHeaderValue → ℕ → List Field → Record → List (Option TableFault)
 row_faults g n ids r = ragged_fault g n r ∷ text_fault g n r ∷ limit_fault g n ∷ id_fault g (id_place_of g) n ids r ∷ []
 
-abbrev pub row_fault : Reading → ℕ → List Field → Record → Option TableFault
+abbrev pub row_fault : TableHeaderValue → ℕ → List Field → Record → Option TableFault
 row_fault g n ids r = first_of (row_faults g n ids r)
 
 -- the place is that of a column that holds facts
@@ -139,8 +139,8 @@ checked (Some e) r = Err e
 checked None r = r
 
 -- row n, where the rows before it have these row identifiers: its facts, or its first fault
-abbrev pub row_result : Reading → ℕ → List Field → Record → Result (List Fact) TableFault
-row_result g n ids r = checked (row_fault g n ids r) (facts_from g.report g.table (row_of g n r) 0 g.header)
+abbrev pub row_result : TableHeaderValue → ℕ → List Field → Record → Result (List Fact) TableFault
+row_result g n ids r = checked (row_fault g n ids r) (facts_from g.report g.table (row_of g n r) 0 g.columns)
 
 -- the row identifiers after row r, where the table has a column for them
 abbrev pub ids_after : Option ℕ → List Field → Record → List Field

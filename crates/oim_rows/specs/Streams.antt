@@ -9,7 +9,7 @@ use Rattle.oim_records.specs.declared.read_fault.ReadFault.{ReadFault}
 use Rattle.oim_records.specs.declared.read_fault.ReadFault.TheVariants as read
 use Rattle.oim_resolve.specs.FactParts.{FactParts as Fact}
 use Rattle.oim_rows.specs.Header.{Header, file_fault, header_fault, header_of, unknown_fault}
-use Rattle.oim_rows.specs.RowFacts.{Reading, id_place_of, ids_after, row_fault, row_result}
+use Rattle.oim_rows.specs.RowFacts.{TableHeaderValue, id_place_of, ids_after, row_fault, row_result}
 use Rattle.oim_rows.specs.declared.fault.TableFault.{TableFault}
 use Rattle.oim_rows.specs.declared.fault.TableKind.TheVariants as kind
 
@@ -34,13 +34,13 @@ row_in_front (Err e) s = ending (Some e)
 row_in_front (Ok facts) s = record { rows = facts ∷ s.rows; fault = s.fault }
 
 -- the rows from number n on, where the rows before them have these row identifiers
-unfoldable pub stream_from : Reading → ℕ → List Field → List Record → Stream
+unfoldable pub stream_from : TableHeaderValue → ℕ → List Field → List Record → Stream
 stream_from g n ids [] = ending None
 stream_from g n ids (r ∷ rows) = row_in_front (row_result g n ids r) (stream_from g (n + 1) (ids_after (id_place_of g) ids r) rows)
 
 -- how the rows under this header record are read
-abbrev pub reading_of : ReportValue → ℕ → ℕ → Record → Reading
-reading_of report table limit r = record { report = report; table = table; limit = limit; header = header_of (columns_of report table) r }
+abbrev pub table_header_of : ReportValue → ℕ → ℕ → Record → TableHeaderValue
+table_header_of report table limit r = record { report = report; table = table; limit = limit; columns = header_of (columns_of report table) r }
 
 -- the stream of a table whose file has these records, with a limit of rows
 abbrev pub stream_of : ReportValue → ℕ → ℕ → List Record → Stream
@@ -49,7 +49,7 @@ stream_of report table limit (r ∷ rows) = under (header_fault report table r)
   where
     under : Option TableFault → Stream
     under (Some e) = ending (Some e)
-    under None = stream_from (reading_of report table limit r) 1 [] rows
+    under None = stream_from (table_header_of report table limit r) 1 [] rows
 
 -- the stream of a table that has no file: it is empty, and a fault unless the table is optional
 abbrev pub no_file : ReportValue → ℕ → Stream
@@ -76,7 +76,7 @@ early_header_fault report table (Ok false) r = Some (file_fault table kind.NoHea
 early_header_fault report table (Ok true) r = unknown_fault report table r
 
 -- what the reader's answer for row n gives without memory: its own fault, the end, or a fault of the row itself
-abbrev pub early_row_answer : Reading → ℕ → List Field → Result Bool ReadFault → Record → Option (Result (Option (List Fact)) TableFault)
+abbrev pub early_row_answer : TableHeaderValue → ℕ → List Field → Result Bool ReadFault → Record → Option (Result (Option (List Fact)) TableFault)
 early_row_answer g n ids (Err f) r = Some (Err (fault_of_read g.table f))
 early_row_answer g n ids (Ok false) r = Some (Ok None)
 early_row_answer g n ids (Ok true) r = option_map Err (row_fault g n ids r)
@@ -99,7 +99,7 @@ GivesNext table s (Ok None) after = s ≡ ending None
 GivesNext table s (Err e) after = IsOutside table e ⊎ (s ≡ ending (Some e))
 
 -- row n is read: the identifiers before and after it, the records from it on and behind it
-abbrev pub GivesRow : Reading → ℕ → (before after : List Field) → List Record → Result (Option (List Fact)) TableFault → Option (List Record) → Type 0
+abbrev pub GivesRow : TableHeaderValue → ℕ → (before after : List Field) → List Record → Result (Option (List Fact)) TableFault → Option (List Record) → Type 0
 GivesRow g n before after rs result left = GivesNext g.table (stream_from g n before rs) result (option_map (stream_from g (n + 1) after) left)
 
 -- what is answered again after an answer

@@ -6,8 +6,8 @@ use Rattle.oim_records.specs.Grids.{Field, Record, grid}
 use Rattle.oim_report.specs.ReportValue.{ReportValue}
 use Rattle.oim_resolve.specs.FactParts.{FactParts as Fact}
 use Rattle.oim_rows.specs.Header.{file_fault, header_fault}
-use Rattle.oim_rows.specs.RowFacts.{Reading, id_place_of, row_result}
-use Rattle.oim_rows.specs.Streams.{Stream, ending, no_file, reading_of}
+use Rattle.oim_rows.specs.RowFacts.{TableHeaderValue, id_place_of, row_result}
+use Rattle.oim_rows.specs.Streams.{Stream, ending, no_file, table_header_of}
 use Rattle.oim_rows.specs.declared.fault.TableFault.{TableFault}
 use Rattle.oim_rows.specs.declared.fault.TableKind.TheVariants as kind
 
@@ -23,22 +23,22 @@ ids_of None rows = []
 ids_of (Some p) rows = map (λ r. unwrap_or (field_at r p) []) rows
 
 -- what a row gives after the earlier rows of its table
-abbrev pub row_after : Reading → List Record → Record → Result (List Fact) TableFault
+abbrev pub row_after : TableHeaderValue → List Record → Record → Result (List Fact) TableFault
 row_after g earlier r = row_result g (length earlier + 1) (ids_of (id_place_of g) earlier) r
 
 -- what the row at a place gives, if there is one
-abbrev pub Gives : Reading → List Record → List Record → ℕ → Result (List Fact) TableFault → Type 0
+abbrev pub Gives : TableHeaderValue → List Record → List Record → ℕ → Result (List Fact) TableFault → Type 0
 Gives g earlier rows m answer = (r : Record) × (row_at rows m ≡ Some r) × (row_after g (earlier ++ take m rows) r ≡ answer)
 
 -- each of the stream's rows is given by the row at its place, and the row after them has the stream's fault, or there is none
-pub record IsStreamOf (g : Reading) (earlier rows : List Record) (s : Stream) : Type 0 where
+pub record IsStreamOf (g : TableHeaderValue) (earlier rows : List Record) (s : Stream) : Type 0 where
   pub good : (m : ℕ) (facts : List Fact) → row_at s.rows m ≡ Some facts → Gives g earlier rows m (Ok facts)
   pub end : MatchOption s.fault (length s.rows ≡ length rows) (λ e. Gives g earlier rows (length s.rows) (Err e))
 
 -- the stream of a table whose file has these records: only the fault of its header, or that of its rows
 abbrev pub IsFileStream : ReportValue → ℕ → ℕ → List Record → Stream → Type 0
 IsFileStream report table limit [] s = s ≡ ending (Some (file_fault table kind.NoHeader))
-IsFileStream report table limit (r ∷ rows) s = MatchOption (header_fault report table r) (IsStreamOf (reading_of report table limit r) [] rows s) (λ e. s ≡ ending (Some e))
+IsFileStream report table limit (r ∷ rows) s = MatchOption (header_fault report table r) (IsStreamOf (table_header_of report table limit r) [] rows s) (λ e. s ≡ ending (Some e))
 
 -- the stream of a table whose file has these bytes, or that has no file
 abbrev pub IsTableStream : ReportValue → ℕ → ℕ → Option (List ℕ) → Stream → Type 0

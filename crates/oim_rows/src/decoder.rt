@@ -6,41 +6,41 @@ ghost use Rattle.oim_rows.specs.Streams.{OrNoMemory};
 
 use crate::cells::text_at;
 use crate::fault::{TableFault, TableKind, whole_fault};
-use crate::form::RowForm;
 use crate::ids::RowIds;
 use crate::row_plan::RowPlan;
+use crate::table_header::TableHeader;
 use oim_names::Items;
 use oim_records::Fields;
 use oim_resolve::Fact;
 use std::alloc::{AllocError, Global};
 use std::marker::Model;
 
-/// How the records of one table become the facts of its rows: the form of its rows, and how their cells become facts. A contract
+/// How the records of one table become the facts of its rows: its header, and how the cells under it become facts. A contract
 /// sees the report, the table, the limit and the header.
 #[derive(Drop)]
 pub(crate) struct Decoder<'a> {
-    form: RowForm<'a>,
+    header: TableHeader<'a>,
     plan: RowPlan<'a>,
 }
 
 impl<'a> Model for Decoder<'a> {
     ghost use Rattle.std.specs.Prelude.{◌≡◌};
-    ghost use Rattle.oim_rows.specs.RowFacts.{Reading};
+    ghost use Rattle.oim_rows.specs.RowFacts.{TableHeaderValue};
 
-    ghost Value = { Reading };
+    ghost Value = { TableHeaderValue };
 
-    ghost view = { λ a. a.form };
+    ghost view = { λ a. a.header };
 
-    ghost invariant = { λ a. a.plan ≡ a.form };
+    ghost invariant = { λ a. a.plan ≡ a.header };
 }
 
 impl<'a> Decoder<'a> {
-    /// How the rows of this form are read. Fails where memory is short.
-    pub(crate) fn new(alloc: Global, form: RowForm<'a>) -> Result<Decoder<'a>, AllocError>
-        ensures { IfOk result (λ p. p ≡ form.entry) }
+    /// How the rows under this header become facts. Fails where memory is short.
+    pub(crate) fn new(alloc: Global, header: TableHeader<'a>) -> Result<Decoder<'a>, AllocError>
+        ensures { IfOk result (λ p. p ≡ header.entry) }
     {
-        let plan = RowPlan::new(alloc, &form)?;
-        Ok(Decoder { form, plan })
+        let plan = RowPlan::new(alloc, &header)?;
+        Ok(Decoder { header, plan })
     }
 }
 
@@ -49,7 +49,7 @@ impl Decoder<'_> {
     pub(crate) fn table(&self) -> usize
         ensures { result ≡ (self.now).table }
     {
-        self.form.table()
+        self.header.table()
     }
 
     /// Adds the identifier of a row to those before it. Where memory is short nothing is added.
@@ -59,7 +59,7 @@ impl Decoder<'_> {
         ensures added { OnOk result (ids.new ≡ ids_after (id_place_of self.now) ids.old row.now) }
         ensures same { OnErr result (ids.new ≡ ids.old) }
     {
-        if let Some(place) = self.form.id_place() {
+        if let Some(place) = self.header.id_place() {
             ids.push(alloc, text_at(row, Some(place)))?;
         }
         Ok(())
@@ -79,10 +79,10 @@ impl Decoder<'_> {
         ensures same { OnErr result (ids.new ≡ ids.old) }
         ensures within { OnOk result (number ≤ (self.now).limit) }
     {
-        if let Some(fault) = self.form.fault_of_row(number, ids, row) {
+        if let Some(fault) = self.header.fault_of_row(number, ids, row) {
             return Err(fault);
         }
-        match self.plan.facts(alloc, &self.form, number, row) {
+        match self.plan.facts(alloc, &self.header, number, row) {
             Ok(facts) => {
                 if self.add_id(alloc, ids, row).is_err() {
                     return Err(whole_fault(self.table(), TableKind::Memory));

@@ -4,7 +4,7 @@ ghost use Rattle.std.specs.Prelude.{◌≡◌, ◌↔◌, List, ℕ, Option, []}
 ghost use Rattle.oim_records.specs.Grids.{Record};
 ghost use Rattle.oim_report.specs.ReportValue.{ReportValue};
 ghost use Rattle.oim_rows.specs.Identifiers.{FactIdsDiffer};
-ghost use Rattle.oim_rows.specs.RowFacts.{Reading};
+ghost use Rattle.oim_rows.specs.RowFacts.{TableHeaderValue};
 ghost use Rattle.oim_rows.specs.Streams.{Stream, stream_from, table_stream};
 ghost use Rattle.oim_rows.specs.WholeTable.{IsStreamOf, IsTableStream};
 
@@ -13,7 +13,7 @@ use oim_report::Report;
 /// The stream of a table's rows, said of all of them at once: it has the facts of each row before
 /// the first bad one, and that row's fault.
 pub fn stream_is_of_all_rows()
-    ensures { (g : Reading) (rows : List Record) → IsStreamOf g [] rows (stream_from g 1 [] rows) }
+    ensures { (g : TableHeaderValue) (rows : List Record) → IsStreamOf g [] rows (stream_from g 1 [] rows) }
 {}
 
 /// The stream of a table is the one stream that says this of its file: the fault of its header, or the

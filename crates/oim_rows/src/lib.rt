@@ -26,7 +26,6 @@
 mod cells;
 mod decoder;
 mod fault;
-mod form;
 mod header;
 mod ids;
 mod laws;
@@ -34,11 +33,12 @@ mod row_id;
 mod row_plan;
 mod rows;
 mod short;
+mod table_header;
 
 pub use fault::{TableFault, TableKind, fault_at_place, fault_of_read, whole_fault};
-pub use form::{RowForm, push_row_number};
 pub use ids::RowIds;
 pub use laws::{fact_identifiers_differ, stream_is_of_all_rows, table_stream_is_of_all_rows};
 pub use row_id::RowId;
 pub use row_plan::RowPlan;
 pub use rows::{RowFacts, Rows};
+pub use table_header::{TableHeader, push_row_number};

@@ -10,8 +10,8 @@ ghost use Rattle.oim_rows.specs.Streams.{OrNoMemory};
 
 use crate::cells::text_at;
 use crate::fault::{TableFault, TableKind, fault_at_place, whole_fault};
-use crate::form::{RowForm, push_row_number};
 use crate::header::source_of;
+use crate::table_header::{TableHeader, push_row_number};
 use oim_names::{Items, Text};
 use oim_records::Fields;
 use oim_report::Column;
@@ -20,26 +20,26 @@ use std::alloc::{AllocError, Global};
 use std::marker::Model;
 use std::snapshot::Snapshot;
 
-/// How the cells of a table's rows become their facts: the plan of the table's template under a header. A contract sees what the
-/// rows are read by.
+/// How the cells of a table's rows become their facts: the plan of the table's template under a header. A contract sees the
+/// header.
 #[derive(Drop)]
 pub struct RowPlan<'a> {
     plan: Plan<'a>,
     columns: &'a [Column],
     // the place in the header of each column of the template
     sources: Vec<Option<usize>>,
-    form: Snapshot<RowForm<'a>>,
+    header: Snapshot<TableHeader<'a>>,
 }
 
 impl<'a> Model for RowPlan<'a> {
-    ghost use Rattle.oim_rows.specs.RowFacts.{Reading};
+    ghost use Rattle.oim_rows.specs.RowFacts.{TableHeaderValue};
     ghost use Rattle.oim_rows.specs.state.Decoding.{IsOfTable};
 
-    ghost Value = { Reading };
+    ghost Value = { TableHeaderValue };
 
-    ghost view = { λ a. a.form.value };
+    ghost view = { λ a. a.header.value };
 
-    ghost invariant = { λ a. IsOfTable a.form.value a.plan a.columns.now a.sources.items };
+    ghost invariant = { λ a. IsOfTable a.header.value a.plan a.columns.now a.sources.items };
 }
 
 fn sources_of(
@@ -85,14 +85,14 @@ fn is_fact(columns: &[Column], column: usize) -> bool
 /// The identifier of row `number`.
 fn id_text(
     alloc: Global,
-    form: &RowForm<'_>,
+    header: &TableHeader<'_>,
     number: u32,
     row: &Fields<'_>,
 ) -> Result<String, AllocError>
     requires { IsTextRecord row.now }
-    ensures { IfOk result (λ id. string_bytes id ≡ row_id_text (id_place_of form.now) number row.now) }
+    ensures { IfOk result (λ id. string_bytes id ≡ row_id_text (id_place_of header.now) number row.now) }
 {
-    match form.id_place() {
+    match header.id_place() {
         Some(place) => String::from_str(alloc, text_at(row, Some(place))),
         None => {
             let mut id = String::new(alloc);
@@ -103,18 +103,18 @@ fn id_text(
 }
 
 impl<'a> RowPlan<'a> {
-    /// How the cells of this form's rows become facts. Fails where memory is short.
-    pub fn new(alloc: Global, form: &RowForm<'a>) -> Result<RowPlan<'a>, AllocError>
-        ensures { IfOk result (λ p. p ≡ form.now) }
+    /// How the cells of the rows under this header become facts. Fails where memory is short.
+    pub fn new(alloc: Global, header: &TableHeader<'a>) -> Result<RowPlan<'a>, AllocError>
+        ensures { IfOk result (λ p. p ≡ header.now) }
     {
-        let plan = compile(alloc, form.report(), form.table())?;
-        let columns = form.report().template_columns(form.table());
-        let sources = sources_of(alloc, form.header(), columns.len())?;
+        let plan = compile(alloc, header.report(), header.table())?;
+        let columns = header.report().template_columns(header.table());
+        let sources = sources_of(alloc, header.columns(), columns.len())?;
         Ok(RowPlan {
             plan,
             columns,
             sources,
-            form: Snapshot::of(form),
+            header: Snapshot::of(header),
         })
     }
 }
@@ -124,15 +124,15 @@ impl RowPlan<'_> {
     fn row(
         &self,
         alloc: Global,
-        form: &RowForm<'_>,
+        header: &TableHeader<'_>,
         number: u32,
         row: &Fields<'_>,
     ) -> Result<Row, AllocError>
-        requires form { form.now ≡ self.now }
+        requires header { header.now ≡ self.now }
         requires texts { IsTextRecord row.now }
         ensures { IfOk result (λ r. r ≡ row_of self.now number row.now) }
     {
-        let id = id_text(alloc, form, number, row)?;
+        let id = id_text(alloc, header, number, row)?;
         let cells = cells_of(alloc, self.sources.as_slice(), row)?;
         Ok(Row::new(number, Text::new(id), cells))
     }
@@ -199,17 +199,17 @@ impl RowPlan<'_> {
     pub fn facts(
         &self,
         alloc: Global,
-        form: &RowForm<'_>,
+        header: &TableHeader<'_>,
         number: u32,
         row: &Fields<'_>,
     ) -> Result<Items<Fact>, TableFault>
-        requires form { form.now ≡ self.now }
+        requires header { header.now ≡ self.now }
         requires texts { IsTextRecord row.now }
-        ensures { OrNoMemory (self.now).table result (facts_from (self.now).report (self.now).table (row_of self.now number row.now) 0 (self.now).header) }
+        ensures { OrNoMemory (self.now).table result (facts_from (self.now).report (self.now).table (row_of self.now number row.now) 0 (self.now).columns) }
     {
-        let Ok(cells) = self.row(alloc, form, number, row) else {
-            return Err(whole_fault(form.table(), TableKind::Memory));
+        let Ok(cells) = self.row(alloc, header, number, row) else {
+            return Err(whole_fault(header.table(), TableKind::Memory));
         };
-        self.facts_of_row(alloc, form.table(), &cells, form.header())
+        self.facts_of_row(alloc, header.table(), &cells, header.columns())
     }
 }

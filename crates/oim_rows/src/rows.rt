@@ -9,8 +9,8 @@ ghost use Rattle.oim_rows.specs.WholeTable.{IsTableStream};
 
 use crate::decoder::Decoder;
 use crate::fault::{TableFault, TableKind, fault_of_read, whole_fault};
-use crate::form::RowForm;
 use crate::ids::RowIds;
+use crate::table_header::TableHeader;
 use oim_names::Items;
 use oim_records::{Fields, ReadFault, RecordReader};
 use oim_report::{Limits, Report};
@@ -129,11 +129,11 @@ impl<'a, R: Read + Drop> Rows<'a, R> {
             Ok(records) => records,
             Err(fault) => return Err(fault_of_read(table, fault)),
         };
-        let form = match RowForm::read(alloc, report, table, limits.rows, &mut records) {
-            Ok(form) => form,
+        let header = match TableHeader::read(alloc, report, table, limits.rows, &mut records) {
+            Ok(header) => header,
             Err(fault) => return Err(fault),
         };
-        let Ok(decoder) = Decoder::new(alloc, form) else {
+        let Ok(decoder) = Decoder::new(alloc, header) else {
             return Err(whole_fault(table, TableKind::Memory));
         };
         Ok(Rows {

@@ -4,17 +4,17 @@ use crate::held::{Over, holds};
 use oim_fast::{RowWriter, TableRow, TextBuffer};
 use oim_meta::Report;
 use oim_records::{RecordReader, TextFields};
-use oim_rows::RowForm;
+use oim_rows::TableHeader;
 use std::alloc::{AllocError, Global};
 
 /// The texts of the facts of a table's first row, each behind a comma, or none where that row goes the plain way.
 fn first_texts(
     alloc: Global,
-    form: &RowForm<'_>,
+    header: &TableHeader<'_>,
     fields: &TextFields<'_>,
 ) -> Result<Option<TextBuffer>, AllocError> {
-    let mut writer = RowWriter::new(alloc, form)?;
-    let row = TableRow::new(form, 1, "1", fields);
+    let mut writer = RowWriter::new(alloc, header)?;
+    let row = TableRow::new(header, 1, "1", fields);
     let mut texts = TextBuffer::new(alloc);
     let mut ends = Vec::new(alloc);
     if writer.put_row(alloc, &row, &mut texts, &mut ends)? {
@@ -24,13 +24,17 @@ fn first_texts(
     }
 }
 
-/// Whether the facts of the next record of a table with this form are written.
-fn writes_a_row(alloc: Global, form: &RowForm<'_>, records: &mut RecordReader<&[u8]>) -> bool {
+/// Whether the facts of the next record of a table with this header are written.
+fn writes_a_row(
+    alloc: Global,
+    header: &TableHeader<'_>,
+    records: &mut RecordReader<&[u8]>,
+) -> bool {
     if records.read().is_err() {
         return false;
     }
     match records.text_fields() {
-        Some(fields) => matches!(first_texts(alloc, form, &fields), Ok(Some(_))),
+        Some(fields) => matches!(first_texts(alloc, header, &fields), Ok(Some(_))),
         None => false,
     }
 }
@@ -40,8 +44,8 @@ fn writes(alloc: Global, report: &Report, records: &mut RecordReader<&[u8]>) -> 
     if report.tables() == 0 {
         return false;
     }
-    match RowForm::read(alloc, report, 0, 10, records) {
-        Ok(form) => writes_a_row(alloc, &form, records),
+    match TableHeader::read(alloc, report, 0, 10, records) {
+        Ok(header) => writes_a_row(alloc, &header, records),
         Err(_) => false,
     }
 }

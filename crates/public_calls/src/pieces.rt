@@ -4,12 +4,12 @@ ghost use Rattle.std.specs.Prelude.{◌≤◌, ◌+◌};
 
 use crate::held::{Over, holds};
 use oim_decode::{
-    JoinedPiece, PieceAnswer, PieceDecoder, PieceJoin, TableHead, file_in_pieces,
+    FirstRecords, JoinedPiece, PieceAnswer, PieceDecoder, PieceJoin, file_in_pieces,
     joined_pieces_are_read, open_pieces, rows_in_pieces,
 };
 use oim_meta::Report;
 use oim_records::RecordReader;
-use oim_rows::{RowForm, TableFault, TableKind, whole_fault};
+use oim_rows::{TableFault, TableHeader, TableKind, whole_fault};
 use std::alloc::Global;
 
 /// A piece of a table, decoded and joined, whose first row has this number.
@@ -20,14 +20,14 @@ fn next_piece(
     piece: &[u8],
     first: u32,
 ) -> Result<JoinedPiece, TableFault>
-    requires { first ≤ decoder.old.reading.limit + 1 }
+    requires { first ≤ decoder.old.header.limit + 1 }
 {
     let mut bytes = Vec::new(alloc);
     if bytes.extend_from_slice(piece).is_err() {
-        return Err(whole_fault(decoder.form().table(), TableKind::Memory));
+        return Err(whole_fault(decoder.header().table(), TableKind::Memory));
     }
     let answer: PieceAnswer = decoder.decode(bytes, first);
-    Ok(join.join(decoder.form(), first, answer))
+    Ok(join.join(decoder.header(), first, answer))
 }
 
 /// Whether the first piece of a table has no fault, and its vector is given back.
@@ -43,11 +43,11 @@ fn joins(alloc: Global, decoder: &mut PieceDecoder<'_>, piece: &[u8]) -> bool {
     }
 }
 
-/// The same of a table with this form, which has no more rows than can be numbered.
-fn decodes(alloc: Global, form: RowForm<'_>, piece: &[u8]) -> bool
-    requires { form.limit ≤ 4294967294 }
+/// The same of a table with this header, which has no more rows than can be numbered.
+fn decodes(alloc: Global, header: TableHeader<'_>, piece: &[u8]) -> bool
+    requires { header.limit ≤ 4294967294 }
 {
-    match PieceDecoder::new(alloc, form) {
+    match PieceDecoder::new(alloc, header) {
         Ok(mut decoder) => joins(alloc, &mut decoder, piece),
         Err(_) => false,
     }
@@ -63,8 +63,8 @@ fn reads_a_piece(
     if report.tables() == 0 {
         return false;
     }
-    match RowForm::read(alloc, report, 0, 10, records) {
-        Ok(form) => decodes(alloc, form, piece),
+    match TableHeader::read(alloc, report, 0, 10, records) {
+        Ok(header) => decodes(alloc, header, piece),
         Err(_) => false,
     }
 }
@@ -91,7 +91,7 @@ fn calls_of_pieces(rt: HostRuntime) {
 }
 
 /// Whether what decodes pieces of a report's first table is made of its file's head.
-fn makes_a_decoder(alloc: Global, report: &Report, head: &TableHead) -> bool {
+fn makes_a_decoder(alloc: Global, report: &Report, head: &FirstRecords) -> bool {
     if report.tables() == 0 {
         return false;
     }

@@ -4,7 +4,7 @@ use crate::held::{Over, holds};
 use oim_meta::{Limits, ReadFault, Report};
 use oim_records::{Fields, RecordReader};
 use oim_rows::{
-    RowFacts, RowForm, RowId, RowIds, RowPlan, Rows, TableFault, TableKind,
+    RowFacts, RowId, RowIds, RowPlan, Rows, TableFault, TableHeader, TableKind,
     fact_identifiers_differ, fault_at_place, fault_of_read, push_row_number, stream_is_of_all_rows,
     table_stream_is_of_all_rows, whole_fault,
 };
@@ -31,23 +31,27 @@ fn reads_rows(alloc: Global, report: &Report, file: &[u8]) -> bool {
 }
 
 /// Whether the plan of a table, which many rows can ask, gives the facts of its first row.
-fn plans(alloc: Global, form: &RowForm<'_>, row: &Fields<'_>) -> bool {
-    let Ok(plan) = RowPlan::new(alloc, form) else {
+fn plans(alloc: Global, header: &TableHeader<'_>, row: &Fields<'_>) -> bool {
+    let Ok(plan) = RowPlan::new(alloc, header) else {
         return false;
     };
     match row.first_not_text() {
         Some(_) => false,
-        None => plan.facts(alloc, form, 1, row).is_ok() && form.header().len() == 1,
+        None => plan.facts(alloc, header, 1, row).is_ok() && header.columns().len() == 1,
     }
 }
 
 /// Whether the next record is a row without a fault, and the plan gives its facts.
-fn reads_a_record(alloc: Global, form: &RowForm<'_>, records: &mut RecordReader<&[u8]>) -> bool {
+fn reads_a_record(
+    alloc: Global,
+    header: &TableHeader<'_>,
+    records: &mut RecordReader<&[u8]>,
+) -> bool {
     let is_read = matches!(records.read(), Ok(true));
-    let is_row = form
+    let is_row = header
         .fault_of_record(1, &RowIds::new(alloc), records)
         .is_none();
-    is_read && is_row && plans(alloc, form, &records.fields())
+    is_read && is_row && plans(alloc, header, &records.fields())
 }
 
 /// The same of a report's first table, whose file these are the records of.
@@ -55,8 +59,8 @@ fn reads_a_table(alloc: Global, report: &Report, records: &mut RecordReader<&[u8
     if report.tables() == 0 {
         return false;
     }
-    match RowForm::read(alloc, report, 0, 10, records) {
-        Ok(form) => reads_a_record(alloc, &form, records),
+    match TableHeader::read(alloc, report, 0, 10, records) {
+        Ok(header) => reads_a_record(alloc, &header, records),
         Err(_) => false,
     }
 }

@@ -40,11 +40,11 @@ fn id_of(
     row: &TableRow<'_, '_>,
     ids: &mut Vec<RowId>,
 ) -> Result<Option<RowId>, AllocError>
-    ensures id { IfOk result (λ o. id_in (id_place_of row.now.form) row.now.fields ≡ option_to_list o) }
+    ensures id { IfOk result (λ o. id_in (id_place_of row.now.header) row.now.fields ≡ option_to_list o) }
     ensures room { IfOk result (λ o. IfSome o (λ _. vec_len ids.new < vec_capacity ids.new)) }
     ensures same { ids.new.items ≡ ids.old.items }
 {
-    match row.form().id_place() {
+    match row.header().id_place() {
         Some(place) => {
             ids.reserve(1)?;
             Ok(Some(RowId::new(alloc, row.text_at(Some(place)))?))
@@ -102,11 +102,11 @@ impl PieceAnswer {
         fields: &Fields<'_>,
         rooms: &mut Rooms,
     ) -> bool
-        requires form { row.now.form ≡ texts.old }
+        requires header { row.now.header ≡ texts.old }
         requires fields { fields.now ≡ row.now.fields }
         requires texts { IsTextRecord fields.now }
         requires good { self.old.fault ≡ None }
-        ensures row { AddsApart row.now.form.table self.old (cells_apart row.now) self.new }
+        ensures row { AddsApart row.now.header.table self.old (cells_apart row.now) self.new }
         ensures added { result ≡ is_none self.new.fault }
         ensures same { texts.new ≡ texts.old }
     {

@@ -6,22 +6,22 @@ ghost use Rattle.oim_records.specs.Grids.{records_left};
 ghost use Rattle.oim_decode.specs.PieceAnswers.{IsDecoded, StepsRow, no_rows};
 ghost use Rattle.oim_rows.specs.RowFacts.{row_fault};
 
+use crate::piece::first_records::FirstRecords;
 use crate::piece::piece_answer::PieceAnswer;
 use crate::piece::rooms::Rooms;
-use crate::piece::table_head::TableHead;
 use crate::table::row_texts::RowTexts;
 use itoa::Buffer;
 use oim_fast::TableRow;
 use oim_records::{Fields, PieceRecords, TextFields};
-use oim_rows::{RowForm, RowIds, TableFault, TableKind, whole_fault};
+use oim_rows::{RowIds, TableFault, TableHeader, TableKind, whole_fault};
 use std::alloc::{AllocError, Global};
 use std::marker::Model;
 
-/// What decodes the pieces of one table, each by itself: from its bytes and the number of its first row alone. A contract sees how the
-/// table's rows are read, and the records that are left of the piece at hand.
+/// What decodes the pieces of one table, each by itself: from its bytes and the number of its first row alone. A contract sees the
+/// table's header, and the records that are left of the piece at hand.
 pub struct PieceDecoder<'a> {
     alloc: Global,
-    form: RowForm<'a>,
+    header: TableHeader<'a>,
     texts: RowTexts<'a>,
     records: PieceRecords,
     // memory for texts
@@ -35,7 +35,7 @@ impl Drop for PieceDecoder<'_> {
     fn drop(self) {
         let Self {
             alloc: _,
-            form: _,
+            header: _,
             texts: _,
             records: _,
             rooms: _,
@@ -50,38 +50,38 @@ impl<'a> Model for PieceDecoder<'a> {
 
     ghost Value = { PieceLeft };
 
-    ghost view = { λ a. record { reading = a.form; left = a.records.left } };
+    ghost view = { λ a. record { header = a.header; left = a.records.left } };
 
-    ghost invariant = { λ a. (a.texts ≡ a.form) × (a.ids ≡ []) × (a.form.limit < 2 ^ 32 - 1) };
+    ghost invariant = { λ a. (a.texts ≡ a.header) × (a.ids ≡ []) × (a.header.limit < 2 ^ 32 - 1) };
 }
 
 /// The first fault of row `number` apart from those of its cells, where `texts` is the row as text if it is that. Then no field is tested again.
 fn fault_of(
-    form: &RowForm<'_>,
+    header: &TableHeader<'_>,
     number: u32,
     ids: &RowIds,
     row: &Fields<'_>,
     texts: &Option<TextFields<'_>>,
 ) -> Option<TableFault>
     requires { IfSome texts.now (λ t. t ≡ row.now) }
-    ensures { result ≡ row_fault form.now number ids.now row.now }
+    ensures { result ≡ row_fault header.now number ids.now row.now }
 {
     match texts {
-        Some(texts) => form.fault_of_texts(number, ids, texts),
-        None => form.fault_of_row(number, ids, row),
+        Some(texts) => header.fault_of_texts(number, ids, texts),
+        None => header.fault_of_row(number, ids, row),
     }
 }
 
 impl<'a> PieceDecoder<'a> {
-    /// What decodes pieces of the table of this form, whose rows are at most 4,294,967,294. Fails where memory is short.
-    pub fn new(alloc: Global, form: RowForm<'a>) -> Result<PieceDecoder<'a>, AllocError>
-        requires { form.limit ≤ 4294967294 }
-        ensures { IfOk result (λ decoder. decoder ≡ record { reading = form.entry; left = [] }) }
+    /// What decodes pieces of the table with this header, whose rows are at most 4,294,967,294. Fails where memory is short.
+    pub fn new(alloc: Global, header: TableHeader<'a>) -> Result<PieceDecoder<'a>, AllocError>
+        requires { header.limit ≤ 4294967294 }
+        ensures { IfOk result (λ decoder. decoder ≡ record { header = header.entry; left = [] }) }
     {
-        let texts = RowTexts::new(alloc, &form)?;
+        let texts = RowTexts::new(alloc, &header)?;
         Ok(PieceDecoder {
             alloc,
-            form,
+            header,
             texts,
             records: PieceRecords::new(alloc, Vec::new(alloc)),
             rooms: Rooms::new(alloc),
@@ -91,11 +91,11 @@ impl<'a> PieceDecoder<'a> {
 }
 
 impl<'a> PieceDecoder<'a> {
-    /// What the rows of its table are told by.
-    pub fn form(&self) -> &RowForm<'a>
-        ensures { result.now ≡ self.now.reading }
+    /// The header of its table.
+    pub fn header(&self) -> &TableHeader<'a>
+        ensures { result.now ≡ self.now.header }
     {
-        &self.form
+        &self.header
     }
 }
 
@@ -104,10 +104,10 @@ impl PieceDecoder<'_> {
     /// end ends a record. The answer has the piece's first fault: Ragged, NotUtf8, TooManyRows, MissingRowId, BadRowId or one of a cell; or
     /// Memory where memory is short.
     pub fn decode(&mut self, piece: Vec<u8>, first: u32) -> PieceAnswer
-        requires { first ≤ self.old.reading.limit + 1 }
-        ensures answer { IsDecoded self.old.reading first (records_left state.StartRecord piece.items) result }
+        requires { first ≤ self.old.header.limit + 1 }
+        ensures answer { IsDecoded self.old.header first (records_left state.StartRecord piece.items) result }
         ensures numbers { first + length result.ids ≤ 4294967296 }
-        ensures reading { self.new.reading ≡ self.old.reading }
+        ensures header { self.new.header ≡ self.old.header }
     {
         self.records.load(piece);
         self.decode_left(first)
@@ -115,7 +115,7 @@ impl PieceDecoder<'_> {
 
     /// Gives back the vector of the last piece, with whatever bytes, so that a later piece can be read to it. No record is left then.
     pub fn take_room(&mut self) -> Vec<u8>
-        ensures reading { self.new.reading ≡ self.old.reading }
+        ensures header { self.new.header ≡ self.old.header }
         ensures left { self.new.left ≡ [] }
     {
         self.records.take_room(self.alloc)
@@ -136,18 +136,18 @@ impl PieceDecoder<'_> {
     }
 
     /// Decodes the rows behind the header in the head of the table. The answer is as that of `decode`.
-    pub fn decode_head(&mut self, head: &TableHead) -> PieceAnswer
-        ensures answer { IsDecoded self.old.reading 1 (drop 1 head.now) result }
+    pub fn decode_head(&mut self, head: &FirstRecords) -> PieceAnswer
+        ensures answer { IsDecoded self.old.header 1 (drop 1 head.now) result }
         ensures numbers { 1 + length result.ids ≤ 4294967296 }
-        ensures reading { self.new.reading ≡ self.old.reading }
+        ensures header { self.new.header ≡ self.old.header }
     {
         let Ok(piece) = head.piece(self.alloc) else {
-            return PieceAnswer::refused(self.alloc, self.form.table());
+            return PieceAnswer::refused(self.alloc, self.header.table());
         };
         self.records.load(piece);
         match self.records.read() {
             Ok(_) => self.decode_left(1),
-            Err(_) => PieceAnswer::refused(self.alloc, self.form.table()),
+            Err(_) => PieceAnswer::refused(self.alloc, self.header.table()),
         }
     }
 
@@ -161,12 +161,12 @@ impl PieceDecoder<'_> {
 
     /// Decodes the records that are left of the piece at hand.
     fn decode_left(&mut self, first: u32) -> PieceAnswer
-        requires { first ≤ self.old.reading.limit + 1 }
-        ensures answer { IsDecoded self.old.reading first self.old.left result }
+        requires { first ≤ self.old.header.limit + 1 }
+        ensures answer { IsDecoded self.old.header first self.old.left result }
         ensures numbers { first + length result.ids ≤ 4294967296 }
-        ensures reading { self.new.reading ≡ self.old.reading }
+        ensures header { self.new.header ≡ self.old.header }
     {
-        let table = self.form.table();
+        let table = self.header.table();
         let mut answer = self.begin();
         let mut number = first;
         for _ in 0..u64::MAX {
@@ -182,26 +182,26 @@ impl PieceDecoder<'_> {
     /// Adds row `number`, the next record, to the rows of an answer, or ends it. Says whether it was added.
     fn next_row(&mut self, number: u32, answer: &mut PieceAnswer) -> bool
         requires { answer.old.fault ≡ None }
-        ensures row { StepsRow self.old.reading number self.old.left answer.old result self.new.left answer.new }
-        ensures reading { self.new.reading ≡ self.old.reading }
+        ensures row { StepsRow self.old.header number self.old.left answer.old result self.new.left answer.new }
+        ensures header { self.new.header ≡ self.old.header }
     {
         match self.records.read() {
             Ok(true) => {}
             Ok(false) => return false,
             Err(_) => {
-                answer.end(whole_fault(self.form.table(), TableKind::Memory));
+                answer.end(whole_fault(self.header.table(), TableKind::Memory));
                 return false;
             }
         }
         let fields = self.records.fields();
         let texts = self.records.text_fields();
-        if let Some(fault) = fault_of(&self.form, number, &self.ids, &fields, &texts) {
+        if let Some(fault) = fault_of(&self.header, number, &self.ids, &fields, &texts) {
             answer.end(fault);
             return false;
         }
         let Some(texts) = texts else { unreachable!() };
         let mut buffer = Buffer::new();
-        let row = TableRow::new(&self.form, number, buffer.format(number), &texts);
+        let row = TableRow::new(&self.header, number, buffer.format(number), &texts);
         answer.push_row(self.alloc, &mut self.texts, &row, &fields, &mut self.rooms)
     }
 }

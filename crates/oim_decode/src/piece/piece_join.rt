@@ -9,7 +9,7 @@ use crate::piece::piece_answer::PieceAnswer;
 use crate::piece::piece_blocks::blocks_of;
 use crate::piece::piece_rows::PieceRows;
 use oim_json::Block;
-use oim_rows::{RowForm, RowId, RowIds, TableFault, TableKind, fault_at_place, whole_fault};
+use oim_rows::{RowId, RowIds, TableFault, TableHeader, TableKind, fault_at_place, whole_fault};
 use std::alloc::{AllocError, Global};
 use std::marker::Model;
 
@@ -67,14 +67,14 @@ fn first_repeated(before: &mut RowIds, ids: Vec<RowId>) -> Result<Option<usize>,
 }
 
 /// The fault of row `number` where an earlier row has its identifier.
-fn fault_of_repeated_id(form: &RowForm<'_>, number: u32) -> TableFault
-    ensures { result ≡ repeated_id form.now number }
+fn fault_of_repeated_id(header: &TableHeader<'_>, number: u32) -> TableFault
+    ensures { result ≡ repeated_id header.now number }
 {
-    let place = match form.id_place() {
+    let place = match header.id_place() {
         Some(place) => place,
         None => 0,
     };
-    fault_at_place(form.table(), number, place, TableKind::RepeatedRowId)
+    fault_at_place(header.table(), number, place, TableKind::RepeatedRowId)
 }
 
 impl PieceJoin {
@@ -88,13 +88,13 @@ impl PieceJoin {
         }
     }
 
-    /// Joins the answer for the next piece of the table of this form, whose first row has this number: its rows up to the first whose identifier came
+    /// Joins the answer for the next piece of the table with this header, whose first row has this number: its rows up to the first whose identifier came
     /// before, which is RepeatedRowId there, or all of them and the piece's own fault. With Memory, and no row, where memory is short. The
     /// identifiers of its first rows join those of the rows before, those of all its rows where there is no fault. The rows of the
     /// answer's identifiers have numbers up to 4,294,967,295, as those of `decode` do.
-    pub fn join(&mut self, form: &RowForm<'_>, first: u32, answer: PieceAnswer) -> JoinedPiece
+    pub fn join(&mut self, header: &TableHeader<'_>, first: u32, answer: PieceAnswer) -> JoinedPiece
         requires { first + length answer.ids ≤ 4294967296 }
-        ensures stream { IsJoined form.now first self.old answer result }
+        ensures stream { IsJoined header.now first self.old answer result }
         ensures ids { result.fault ≡ None → self.new ≡ self.old ++ answer.ids }
         ensures begun { (k : ℕ) × (self.new ≡ self.old ++ take k answer.ids) }
     {
@@ -107,7 +107,7 @@ impl PieceJoin {
             Ok(None) => JoinedPiece { rows, fault },
             Ok(Some(place)) => {
                 rows.cut(place);
-                let fault = fault_of_repeated_id(form, first + place as u32);
+                let fault = fault_of_repeated_id(header, first + place as u32);
                 JoinedPiece {
                     rows,
                     fault: Some(fault),
@@ -115,7 +115,7 @@ impl PieceJoin {
             }
             Err(_) => JoinedPiece {
                 rows: PieceRows::within(self.alloc, Vec::new(self.alloc)),
-                fault: Some(whole_fault(form.table(), TableKind::Memory)),
+                fault: Some(whole_fault(header.table(), TableKind::Memory)),
             },
         }
     }

@@ -124,13 +124,13 @@ impl PieceRows {
         fields: &Fields<'_>,
         rooms: &mut Rooms,
     ) -> Result<(), TableFault>
-        requires form { row.now.form ≡ texts.old }
+        requires header { row.now.header ≡ texts.old }
         requires fields { fields.now ≡ row.now.fields }
         requires texts { IsTextRecord fields.now }
-        ensures facts { AddsRowFacts row.now.form.table (facts_of_row row.now) self.old self.new result }
+        ensures facts { AddsRowFacts row.now.header.table (facts_of_row row.now) self.old self.new result }
         ensures same { texts.new ≡ texts.old }
     {
-        let is_full = !has_room(self.last.count(), row.form().header().len());
+        let is_full = !has_room(self.last.count(), row.header().columns().len());
         if is_full && self.close(alloc, rooms.take(alloc)).is_err() {
             return Err(whole_fault(row.table(), TableKind::Memory));
         }

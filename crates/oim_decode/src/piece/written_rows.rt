@@ -146,10 +146,10 @@ impl WrittenRows {
         row: &TableRow<'a, '_>,
         fields: &Fields<'_>,
     ) -> Result<(), TableFault>
-        requires form { row.now.form ≡ texts.old }
+        requires header { row.now.header ≡ texts.old }
         requires fields { fields.now ≡ row.now.fields }
         requires texts { IsTextRecord fields.now }
-        ensures facts { AddsRowFacts row.now.form.table (facts_of_row row.now) self.old self.new result }
+        ensures facts { AddsRowFacts row.now.header.table (facts_of_row row.now) self.old self.new result }
         ensures same { texts.new ≡ texts.old }
     {
         if self.ends.reserve(room_for(self.ends.len())).is_err() {

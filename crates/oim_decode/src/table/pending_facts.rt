@@ -126,10 +126,10 @@ impl PendingFacts {
         row: &TableRow<'a, '_>,
         fields: &Fields<'_>,
     ) -> Result<(), TableFault>
-        requires form { row.now.form ≡ texts.old }
+        requires header { row.now.header ≡ texts.old }
         requires fields { fields.now ≡ row.now.fields }
         requires texts { IsTextRecord fields.now }
-        ensures facts { AddsFacts row.now.form.table (facts_of_row row.now) self.old self.new result }
+        ensures facts { AddsFacts row.now.header.table (facts_of_row row.now) self.old self.new result }
         ensures same { texts.new ≡ texts.old }
     {
         let facts = then(&self.facts, &RowNote { row });

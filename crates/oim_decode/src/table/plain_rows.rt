@@ -12,27 +12,27 @@ use oim_json::member_of;
 use oim_names::Items;
 use oim_records::Fields;
 use oim_resolve::Fact;
-use oim_rows::{RowForm, RowPlan, TableFault, TableKind, whole_fault};
+use oim_rows::{RowPlan, TableFault, TableHeader, TableKind, whole_fault};
 use std::alloc::{AllocError, Global};
 use std::marker::Model;
 use std::snapshot::Snapshot;
 
-/// The rows of a table by the plain way, whose plan is made for the first of them. A contract sees what the rows are read by.
+/// The rows of a table by the plain way, whose plan is made for the first of them. A contract sees the table's header.
 #[derive(Drop)]
 pub(crate) struct PlainRows<'a> {
     plan: Option<RowPlan<'a>>,
-    form: Snapshot<RowForm<'a>>,
+    header: Snapshot<TableHeader<'a>>,
 }
 
 impl<'a> Model for PlainRows<'a> {
     ghost use Rattle.std.specs.Prelude.{◌≡◌, IfSome};
-    ghost use Rattle.oim_rows.specs.RowFacts.{Reading};
+    ghost use Rattle.oim_rows.specs.RowFacts.{TableHeaderValue};
 
-    ghost Value = { Reading };
+    ghost Value = { TableHeaderValue };
 
-    ghost view = { λ a. a.form.value };
+    ghost view = { λ a. a.header.value };
 
-    ghost invariant = { λ a. IfSome a.plan (λ plan. plan ≡ a.form.value) };
+    ghost invariant = { λ a. IfSome a.plan (λ plan. plan ≡ a.header.value) };
 }
 
 /// Appends the text of each fact behind a comma, and notes where each of them ends.
@@ -56,13 +56,13 @@ fn put_facts(
 }
 
 impl<'a> PlainRows<'a> {
-    /// The rows of a form. It takes no memory.
-    pub(crate) fn new(form: &RowForm<'a>) -> PlainRows<'a>
-        ensures { result ≡ form.now }
+    /// The rows under a header. It takes no memory.
+    pub(crate) fn new(header: &TableHeader<'a>) -> PlainRows<'a>
+        ensures { result ≡ header.now }
     {
         PlainRows {
             plan: None,
-            form: Snapshot::of(form),
+            header: Snapshot::of(header),
         }
     }
 
@@ -73,19 +73,19 @@ impl<'a> PlainRows<'a> {
         row: &TableRow<'a, '_>,
         fields: &Fields<'_>,
     ) -> Result<Items<Fact>, TableFault>
-        requires form { row.now.form ≡ self.old }
+        requires header { row.now.header ≡ self.old }
         requires fields { fields.now ≡ row.now.fields }
         requires texts { IsTextRecord fields.now }
-        ensures facts { OrNoMemory row.now.form.table result (facts_of_row row.now) }
+        ensures facts { OrNoMemory row.now.header.table result (facts_of_row row.now) }
         ensures same { self.new ≡ self.old }
     {
         if let Some(plan) = &self.plan {
-            return plan.facts(alloc, row.form(), row.number(), fields);
+            return plan.facts(alloc, row.header(), row.number(), fields);
         }
-        let Ok(plan) = RowPlan::new(alloc, row.form()) else {
+        let Ok(plan) = RowPlan::new(alloc, row.header()) else {
             return Err(whole_fault(row.table(), TableKind::Memory));
         };
-        let facts = plan.facts(alloc, row.form(), row.number(), fields);
+        let facts = plan.facts(alloc, row.header(), row.number(), fields);
         self.plan = Some(plan);
         facts
     }
@@ -103,11 +103,11 @@ impl<'a> PlainRows<'a> {
         out: &mut TextBuffer,
         ends: &mut Vec<usize>,
     ) -> Result<(), TableFault>
-        requires form { row.now.form ≡ self.old }
+        requires header { row.now.header ≡ self.old }
         requires fields { fields.now ≡ row.now.fields }
         requires texts { IsTextRecord fields.now }
         ensures facts { IfOk result (λ _. WritesFacts row.now out.old.items out.new.items ends.old.items ends.new.items) }
-        ensures fault { IfErr result (λ e. OrNoMemory row.now.form.table (Err e) (facts_of_row row.now)) }
+        ensures fault { IfErr result (λ e. OrNoMemory row.now.header.table (Err e) (facts_of_row row.now)) }
         ensures front { IsPrefix out.old.items out.new.items × IsPrefix ends.old.items ends.new.items }
         ensures same { self.new ≡ self.old }
     {

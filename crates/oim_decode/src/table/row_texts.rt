@@ -9,11 +9,11 @@ ghost use Rattle.oim_rows.specs.Streams.{OrNoMemory};
 use crate::table::plain_rows::PlainRows;
 use oim_fast::{RowWriter, TableRow, TextBuffer};
 use oim_records::Fields;
-use oim_rows::{RowForm, TableFault, TableKind, whole_fault};
+use oim_rows::{TableFault, TableHeader, TableKind, whole_fault};
 use std::alloc::{AllocError, Global};
 use std::marker::Model;
 
-/// How the rows of a table become the texts of their facts. A contract sees what the rows are read by.
+/// How the rows of a table become the texts of their facts. A contract sees the table's header.
 #[derive(Drop)]
 pub(crate) struct RowTexts<'a> {
     fast: RowWriter<'a>,
@@ -22,9 +22,9 @@ pub(crate) struct RowTexts<'a> {
 
 impl<'a> Model for RowTexts<'a> {
     ghost use Rattle.std.specs.Prelude.{◌≡◌};
-    ghost use Rattle.oim_rows.specs.RowFacts.{Reading};
+    ghost use Rattle.oim_rows.specs.RowFacts.{TableHeaderValue};
 
-    ghost Value = { Reading };
+    ghost Value = { TableHeaderValue };
 
     ghost view = { λ a. a.fast };
 
@@ -32,13 +32,13 @@ impl<'a> Model for RowTexts<'a> {
 }
 
 impl<'a> RowTexts<'a> {
-    /// The rows of a form. Fails where memory is short.
-    pub(crate) fn new(alloc: Global, form: &RowForm<'a>) -> Result<RowTexts<'a>, AllocError>
-        ensures { IfOk result (λ texts. texts ≡ form.now) }
+    /// The rows under a header. Fails where memory is short.
+    pub(crate) fn new(alloc: Global, header: &TableHeader<'a>) -> Result<RowTexts<'a>, AllocError>
+        ensures { IfOk result (λ texts. texts ≡ header.now) }
     {
         Ok(RowTexts {
-            fast: RowWriter::new(alloc, form)?,
-            plain: PlainRows::new(form),
+            fast: RowWriter::new(alloc, header)?,
+            plain: PlainRows::new(header),
         })
     }
 
@@ -54,11 +54,11 @@ impl<'a> RowTexts<'a> {
         out: &mut TextBuffer,
         ends: &mut Vec<usize>,
     ) -> Result<(), TableFault>
-        requires form { row.now.form ≡ self.old }
+        requires header { row.now.header ≡ self.old }
         requires fields { fields.now ≡ row.now.fields }
         requires texts { IsTextRecord fields.now }
         ensures facts { IfOk result (λ _. WritesFacts row.now out.old.items out.new.items ends.old.items ends.new.items) }
-        ensures fault { IfErr result (λ e. OrNoMemory row.now.form.table (Err e) (facts_of_row row.now)) }
+        ensures fault { IfErr result (λ e. OrNoMemory row.now.header.table (Err e) (facts_of_row row.now)) }
         ensures front { IsPrefix out.old.items out.new.items × IsPrefix ends.old.items ends.new.items }
         ensures same { self.new ≡ self.old }
     {

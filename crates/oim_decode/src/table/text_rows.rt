@@ -15,7 +15,7 @@ use itoa::Buffer;
 use oim_fast::TableRow;
 use oim_records::{Fields, ReadFault, RecordReader};
 use oim_report::Report;
-use oim_rows::{RowForm, RowIds, TableFault, TableKind, fault_of_read, whole_fault};
+use oim_rows::{RowIds, TableFault, TableHeader, TableKind, fault_of_read, whole_fault};
 use std::alloc::{AllocError, Global};
 use std::io::Read;
 use std::marker::Model;
@@ -25,7 +25,7 @@ use std::marker::Model;
 #[derive(Drop)]
 pub(crate) struct TextRows<'a, R: Read + Drop> {
     alloc: Global,
-    form: RowForm<'a>,
+    header: TableHeader<'a>,
     texts: RowTexts<'a>,
     records: RecordReader<R>,
     ids: RowIds,
@@ -40,13 +40,13 @@ impl<'a, R: Read + Drop> Model for TextRows<'a, R> {
     ghost Value = { RowsUnread };
 
     ghost view = { λ a. record {
-      reading = a.form;
+      header = a.header;
       given = a.given;
-      left = option_map (stream_from a.form (a.given + 1) a.ids) a.records.left;
+      left = option_map (stream_from a.header (a.given + 1) a.ids) a.records.left;
       unread = a.records.left;
     } };
 
-    ghost invariant = { λ a. (a.texts ≡ a.form) × (a.given ≤ a.form.limit) × (a.form.limit < 2 ^ 32 - 1) };
+    ghost invariant = { λ a. (a.texts ≡ a.header) × (a.given ≤ a.header.limit) × (a.header.limit < 2 ^ 32 - 1) };
 }
 
 impl<'a, R: Read + Drop> TextRows<'a, R> {
@@ -63,7 +63,7 @@ impl<'a, R: Read + Drop> TextRows<'a, R> {
     ) -> Result<TextRows<'a, R>, TableFault>
         requires place { table < length report.now.tables }
         requires rows { limit ≤ 4294967294 }
-        ensures start { IfOk result (λ rows. (rows.reading.table ≡ table) × (rows.reading.limit ≡ limit) × (rows.given ≡ 0)) }
+        ensures start { IfOk result (λ rows. (rows.header.table ≡ table) × (rows.header.limit ≡ limit) × (rows.given ≡ 0)) }
         ensures stream { IfSome (R.remaining reader) (λ bytes. IfOk result (λ rows. rows.left ≡ Some (stream_of report.now table limit (grid bytes)))) }
         ensures header { IfSome (R.remaining reader) (λ bytes. IfOk result (λ _. file_header_fault report.now table (grid bytes) ≡ None)) }
         ensures fault { IfSome (R.remaining reader) (λ bytes. IfErr result (IsHeaderFault report.now table bytes)) }
@@ -72,16 +72,16 @@ impl<'a, R: Read + Drop> TextRows<'a, R> {
             Ok(records) => records,
             Err(fault) => return Err(fault_of_read(table, fault)),
         };
-        let form = match RowForm::read(alloc, report, table, limit, &mut records) {
-            Ok(form) => form,
+        let header = match TableHeader::read(alloc, report, table, limit, &mut records) {
+            Ok(header) => header,
             Err(fault) => return Err(fault),
         };
-        let Ok(texts) = RowTexts::new(alloc, &form) else {
+        let Ok(texts) = RowTexts::new(alloc, &header) else {
             return Err(whole_fault(table, TableKind::Memory));
         };
         Ok(TextRows {
             alloc,
-            form,
+            header,
             texts,
             records,
             ids: RowIds::new(alloc),
@@ -93,17 +93,17 @@ impl<'a, R: Read + Drop> TextRows<'a, R> {
 impl<R: Read + Drop> TextRows<'_, R> {
     /// How many cells a row has, and so at most how many facts.
     pub(crate) fn width(&self) -> usize
-        ensures value { result ≡ length (self.now).reading.header }
-        ensures within { (self.now).given ≤ (self.now).reading.limit }
+        ensures value { result ≡ length (self.now).header.columns }
+        ensures within { (self.now).given ≤ (self.now).header.limit }
     {
-        self.form.header().len()
+        self.header.columns().len()
     }
 
     /// The place of the table in its report.
     pub(crate) fn table(&self) -> usize
-        ensures { result ≡ (self.now).reading.table }
+        ensures { result ≡ (self.now).header.table }
     {
-        self.form.table()
+        self.header.table()
     }
 
     /// Adds the facts of the next row to others. False at the end: then nothing is added.
@@ -111,15 +111,15 @@ impl<R: Read + Drop> TextRows<'_, R> {
     /// Fails with the row's first fault, with Read where the reader failed, and with Memory where
     /// memory is short, and then nothing is added.
     pub(crate) fn next_row(&mut self, facts: &mut PendingFacts) -> Result<bool, TableFault>
-        ensures next { IfSome self.old.left (λ s. AddsRow self.old.reading.table s facts.old facts.new result self.new.left) }
-        ensures reading { self.new.reading ≡ self.old.reading }
-        ensures counts { CountsRow self.old.reading.limit result self.old.given self.new.given }
+        ensures next { IfSome self.old.left (λ s. AddsRow self.old.header.table s facts.old facts.new result self.new.left) }
+        ensures header { self.new.header ≡ self.old.header }
+        ensures counts { CountsRow self.old.header.limit result self.old.given self.new.given }
         ensures none { AddsNone result facts.old facts.new }
-        ensures unread { IfSome self.old.unread (λ rs. TakesOne self.old.reading.table rs result self.new.unread) }
+        ensures unread { IfSome self.old.unread (λ rs. TakesOne self.old.header.table rs result self.new.unread) }
     {
         let found = self.records.read();
         let number = self.given + 1;
-        if let Some(answer) = early_answer(&self.form, number, &self.ids, found, &self.records) {
+        if let Some(answer) = early_answer(&self.header, number, &self.ids, found, &self.records) {
             return answer;
         }
         let fields = self.records.fields();
@@ -127,7 +127,7 @@ impl<R: Read + Drop> TextRows<'_, R> {
             unreachable!()
         };
         let mut buffer = Buffer::new();
-        let row = TableRow::new(&self.form, number, buffer.format(number), &texts);
+        let row = TableRow::new(&self.header, number, buffer.format(number), &texts);
         match add_row(
             self.alloc,
             &mut self.texts,
@@ -148,32 +148,32 @@ impl<R: Read + Drop> TextRows<'_, R> {
 /// What the reader's answer for row `number` gives without memory: the reader's own fault, the end, or a
 /// fault of the row itself. None where the row's cells are to be read.
 fn early_answer<R: Read + Drop>(
-    form: &RowForm<'_>,
+    header: &TableHeader<'_>,
     number: u32,
     ids: &RowIds,
     found: Result<bool, ReadFault>,
     records: &RecordReader<R>,
 ) -> Option<Result<bool, TableFault>>
-    ensures { result ≡ option_map has_row (early_row_answer form.now number ids.now found records.now.fields) }
+    ensures { result ≡ option_map has_row (early_row_answer header.now number ids.now found records.now.fields) }
 {
     match found {
         Ok(true) => {
-            let fault = form.fault_of_record(number, ids, records)?;
+            let fault = header.fault_of_record(number, ids, records)?;
             Some(Err(fault))
         }
         Ok(false) => Some(Ok(false)),
-        Err(fault) => Some(Err(fault_of_read(form.table(), fault))),
+        Err(fault) => Some(Err(fault_of_read(header.table(), fault))),
     }
 }
 
 /// Adds the identifier of a row to those before it, where its table has a column for them. Fails where memory is short, and then
 /// nothing is added.
 fn keep_id(alloc: Global, row: &TableRow<'_, '_>, ids: &mut RowIds) -> Result<(), AllocError>
-    requires { IsNewId (id_place_of row.now.form) ids.old row.now.fields }
-    ensures added { OnOk result (ids.new ≡ ids_after (id_place_of row.now.form) ids.old row.now.fields) }
+    requires { IsNewId (id_place_of row.now.header) ids.old row.now.fields }
+    ensures added { OnOk result (ids.new ≡ ids_after (id_place_of row.now.header) ids.old row.now.fields) }
     ensures same { OnErr result (ids.new ≡ ids.old) }
 {
-    if let Some(place) = row.form().id_place() {
+    if let Some(place) = row.header().id_place() {
         ids.push(alloc, row.text_at(Some(place)))?;
     }
     Ok(())
@@ -189,12 +189,12 @@ fn add_row<'a>(
     fields: &Fields<'_>,
     facts: &mut PendingFacts,
 ) -> Result<(), TableFault>
-    requires form { row.now.form ≡ texts.old }
+    requires header { row.now.header ≡ texts.old }
     requires fields { fields.now ≡ row.now.fields }
-    requires row { row_fault row.now.form row.now.number ids.old row.now.fields ≡ None }
-    ensures facts { AddsFacts row.now.form.table (row_result row.now.form row.now.number ids.old row.now.fields) facts.old facts.new result }
-    ensures ids { OnOk result (ids.new ≡ ids_after (id_place_of row.now.form) ids.old row.now.fields) }
-    ensures refused { OnErr result ((ids.new ≡ ids.old) ⊎ (ids.new ≡ ids_after (id_place_of row.now.form) ids.old row.now.fields)) }
+    requires row { row_fault row.now.header row.now.number ids.old row.now.fields ≡ None }
+    ensures facts { AddsFacts row.now.header.table (row_result row.now.header row.now.number ids.old row.now.fields) facts.old facts.new result }
+    ensures ids { OnOk result (ids.new ≡ ids_after (id_place_of row.now.header) ids.old row.now.fields) }
+    ensures refused { OnErr result ((ids.new ≡ ids.old) ⊎ (ids.new ≡ ids_after (id_place_of row.now.header) ids.old row.now.fields)) }
     ensures same { texts.new ≡ texts.old }
 {
     if keep_id(alloc, row, ids).is_err() {

@@ -6,7 +6,7 @@ use Rattle.oim_cells.specs.Cells.{meaning_of}
 use Rattle.oim_json.specs.Blocks.{behind_commas, ends_from}
 use Rattle.oim_resolve.specs.FactParts.{FactParts as Fact}
 use Rattle.oim_resolve.specs.Facts.{cell_result, is_absent}
-use Rattle.oim_rows.specs.RowFacts.{Reading}
+use Rattle.oim_rows.specs.RowFacts.{TableHeaderValue}
 use Rattle.oim_fast.specs.state.CellValues.{IsValue}
 use Rattle.oim_fast.specs.state.Columns.{AreFactColumns, fact_columns_in}
 use Rattle.oim_fast.specs.state.FactTexts.{AddsFact}
@@ -20,13 +20,13 @@ use Rattle.oim_fast.specs.declared.frame.fact_start.FactStart.{FactStart}
 use Rattle.oim_fast.specs.declared.frame.value.Value.{Value}
 use Rattle.oim_fast.specs.declared.table.cell_writer.CellWriter.{CellWriter}
 
--- a text begins with that of a fact of a form up to the row's identifier
-pub record IsStartOf (f : Reading) (s : FactStart) : Type 0 where
+-- a text begins with that of a fact under a header up to the row's identifier
+pub record IsStartOf (f : TableHeaderValue) (s : FactStart) : Type 0 where
   pub text : take s.lead s.start.items ≡ lead_text f
   pub size : s.lead ≡ length (lead_text f)
 
--- it is ready for the rows of a form
-pub record IsCellWriter (f : Reading) (w : CellWriter) : Type 0 where
+-- it is ready for the rows under a header
+pub record IsCellWriter (f : TableHeaderValue) (w : CellWriter) : Type 0 where
   pub columns : AreFactColumns f w.maker.cells.list.items w.columns.items
   pub maker : IsReadyMaker f w.maker
   pub frames : All (IsFrame f (map key_of w.maker.references)) w.frames.list.items
@@ -34,16 +34,16 @@ pub record IsCellWriter (f : Reading) (w : CellWriter) : Type 0 where
 
 -- it has gone on to a row
 pub record IsInRow (x : RowValue) (w : CellWriter) : Type 0 where
-  pub columns : AreFactColumns x.form w.maker.cells.list.items w.columns.items
+  pub columns : AreFactColumns x.header w.maker.cells.list.items w.columns.items
   pub maker : IsMaker x w.maker
-  pub frames : All (IsFrame x.form (map key_of w.maker.references)) w.frames.list.items
-  pub lead : IsStartOf x.form w.start
+  pub frames : All (IsFrame x.header (map key_of w.maker.references)) w.frames.list.items
+  pub lead : IsStartOf x.header w.start
   pub start : w.start.start.items ≡ start_text x
   pub number : x.number < 2 ^ 32
 
 -- the column of facts at a place among those of a header
-abbrev pub column_at : Reading → ℕ → ℕ
-column_at f i = slice_index_or (fact_columns_in f f.header) i 0
+abbrev pub column_at : TableHeaderValue → ℕ → ℕ
+column_at f i = slice_index_or (fact_columns_in f f.columns) i 0
 
 -- a cell's fact was appended, or that it has none was seen. Else nothing was appended
 abbrev pub PutsCell : {E : Type 0} → RowValue → ℕ → List ℕ → List ℕ → Result Bool E → Type 0
@@ -53,7 +53,7 @@ PutsCell x c old new r = new ≡ old
 -- the same of a frame, and of what a cell under it says
 abbrev pub PutsSaid : {E : Type 0} → RowValue → List ReferenceValue → FrameValue → List ℕ → List ℕ → List ℕ → List ℕ → Result Bool E → Type 0
 PutsSaid x rs t start cell old new (Ok true) =
-    ((is_absent (meaning_of cell) ≡ true) × (new ≡ old)) ⊎ ((v : Value) × IsValue x.form.report t.kind (meaning_of cell) v × AddsFact rs t v start old new)
+    ((is_absent (meaning_of cell) ≡ true) × (new ≡ old)) ⊎ ((v : Value) × IsValue x.header.report t.kind (meaning_of cell) v × AddsFact rs t v start old new)
 PutsSaid x rs t start cell old new r = new ≡ old
 
 -- these columns give a row these facts
@@ -64,6 +64,6 @@ GiveFacts x (c ∷ cs) fs = (o : Option Fact) × (more : List Fact) × (cell_res
 -- the facts of the first i columns were appended, each behind a comma, and where each ends was noted
 pub record HasFacts (x : RowValue) (i : ℕ) (old new noted notes : List ℕ) : Type 0 where
   pub facts : List Fact
-  pub are : GiveFacts x (take i (fact_columns_in x.form x.form.header)) facts
+  pub are : GiveFacts x (take i (fact_columns_in x.header x.header.columns)) facts
   pub text : new ≡ old ++ behind_commas facts
   pub ends : notes ≡ noted ++ ends_from (length old) facts

@@ -2,7 +2,7 @@
 use Rattle.std.specs.Prelude.{◌≡◌, ◌<◌, ℕ, List, [], ◌∷◌, Option, Some, None, map, length, slice_index_or, if◌then◌else◌}
 use Rattle.std.specs.List.{All, slice_get}
 use Rattle.std.specs.Option.{option_map}
-use Rattle.oim_rows.specs.RowFacts.{Reading, is_fact_column, source_of_column}
+use Rattle.oim_rows.specs.RowFacts.{TableHeaderValue, is_fact_column, source_of_column}
 use Rattle.oim_fast.specs.Facts.{column_lead}
 use Rattle.oim_fast.specs.state.Groups.{choices_in}
 use Rattle.oim_fast.specs.Rows.{column_in, columns_in}
@@ -11,9 +11,9 @@ use Rattle.oim_fast.specs.declared.row.group_cells.Choice.{Choice}
 use Rattle.oim_fast.specs.declared.row.group_cells.GroupCell.{GroupCell}
 
 -- what is kept of a column of facts. `place` is that of its cell in the header
-pub record IsFactColumn (f : Reading) (cells : List GroupCell) (c : FactColumn) : Type 0 where
+pub record IsFactColumn (f : TableHeaderValue) (cells : List GroupCell) (c : FactColumn) : Type 0 where
   pub range : c.column < length (columns_in f)
-  pub there : source_of_column f.header c.column ≡ Some c.place
+  pub there : source_of_column f.columns c.column ≡ Some c.place
   pub level : c.level.now ≡ (column_in f c.column).level
   pub lead : c.lead.items ≡ column_lead f c.column
   pub from : All (λ g. g < length (columns_in f)) (column_in f c.column).from
@@ -24,21 +24,21 @@ abbrev pub column_choices : List GroupCell → FactColumn → List Choice
 column_choices cells c = choices_in cells c.groups.items
 
 -- the columns of a header that hold facts, in its order
-abbrev pub fact_columns_in : Reading → List (Option ℕ) → List ℕ
+abbrev pub fact_columns_in : TableHeaderValue → List (Option ℕ) → List ℕ
 fact_columns_in f [] = []
 fact_columns_in f (None ∷ h) = fact_columns_in f h
 fact_columns_in f (Some c ∷ h) = if is_fact_column (columns_in f) c then c ∷ fact_columns_in f h else fact_columns_in f h
 
 -- the column of facts that a place of the header names, where it names one
-abbrev pub fact_column_at : Reading → ℕ → List ℕ
-fact_column_at f i = fact_columns_in f (slice_index_or f.header i None ∷ [])
+abbrev pub fact_column_at : TableHeaderValue → ℕ → List ℕ
+fact_column_at f i = fact_columns_in f (slice_index_or f.columns i None ∷ [])
 
 -- what is kept of it
-abbrev pub IsColumnAt : Reading → List GroupCell → ℕ → Option FactColumn → Type 0
+abbrev pub IsColumnAt : TableHeaderValue → List GroupCell → ℕ → Option FactColumn → Type 0
 IsColumnAt f cells i None = fact_column_at f i ≡ []
 IsColumnAt f cells i (Some c) = (fact_column_at f i ≡ c.column ∷ []) × IsFactColumn f cells c
 
 -- what is kept of all of them
-pub record AreFactColumns (f : Reading) (cells : List GroupCell) (cs : List FactColumn) : Type 0 where
-  pub columns : map (λ (c : FactColumn). c.column) cs ≡ fact_columns_in f f.header
+pub record AreFactColumns (f : TableHeaderValue) (cells : List GroupCell) (cs : List FactColumn) : Type 0 where
+  pub columns : map (λ (c : FactColumn). c.column) cs ≡ fact_columns_in f f.columns
   pub are : All (IsFactColumn f cells) cs

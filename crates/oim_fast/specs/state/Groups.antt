@@ -10,7 +10,7 @@ use Rattle.oim_report.specs.declared.data.Column.{Column}
 use Rattle.oim_report.specs.declared.data.Level.{Level}
 use Rattle.oim_resolve.specs.Facts.{is_nil_or_empty, is_text, is_unknown}
 use Rattle.oim_resolve.specs.Written.{group_named}
-use Rattle.oim_rows.specs.RowFacts.{Reading, field_or_empty, source_of_column}
+use Rattle.oim_rows.specs.RowFacts.{TableHeaderValue, field_or_empty, source_of_column}
 use Rattle.oim_fast.specs.Rows.{RowValue, column_in, columns_in}
 use Rattle.oim_fast.specs.declared.row.group_cells.Choice.{Choice}
 use Rattle.oim_fast.specs.declared.row.group_cells.Choice.TheVariants as choice
@@ -43,15 +43,15 @@ Says c v (choice.Group g) = Names c v (choice.Group g)
 Says c v choice.Unknown = ⊤
 
 -- what is kept of a column of groups
-pub record IsGroupCell (f : Reading) (g : GroupCell) : Type 0 where
+pub record IsGroupCell (f : TableHeaderValue) (g : GroupCell) : Type 0 where
   pub range : g.column < length (columns_in f)
-  pub place : g.place ≡ source_of_column f.header g.column
+  pub place : g.place ≡ source_of_column f.columns g.column
   pub groups : g.groups.now ≡ (column_in f g.column).groups
   pub rising : IsRising (keys_of g.groups.now)
 
 -- its choice is what a row says
 abbrev pub IsSaid : RowValue → GroupCell → Type 0
-IsSaid x g = Says (column_in x.form g.column) (meaning_of (field_or_empty x.fields g.place)) g.choice
+IsSaid x g = Says (column_in x.header g.column) (meaning_of (field_or_empty x.fields g.place)) g.choice
 
 -- the levels that the columns of groups at some places choose
 abbrev pub level_at : List GroupCell → ℕ → Option Level

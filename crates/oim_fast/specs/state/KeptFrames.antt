@@ -6,7 +6,7 @@ use Rattle.oim_cells.specs.declared.cells.NumberKind.TheVariants as number
 use Rattle.oim_report.specs.declared.kind.Kind.{Kind}
 use Rattle.oim_report.specs.declared.kind.Kind.TheVariants as kind
 use Rattle.oim_resolve.specs.Facts.{concept_read, given}
-use Rattle.oim_rows.specs.RowFacts.{Reading}
+use Rattle.oim_rows.specs.RowFacts.{TableHeaderValue}
 use Rattle.oim_fast.specs.state.Columns.{column_choices}
 use Rattle.oim_fast.specs.state.FrameTexts.{FrameValue}
 use Rattle.oim_fast.specs.state.Frames.{Chooses, HasConstantKind, HasReferredKind, IsFrameText, is_known_choice, levels_chosen}
@@ -35,17 +35,17 @@ kind_code (Some kind.Typed) = 9
 kind_code (Some kind.Other) = 10
 
 -- a frame that was made for a kind, or for none: its text, the reference that names its concept, or nothing is known
-abbrev pub IsBody : Reading → List Key → ℕ → List Choice → ℕ → Body → Type 0
+abbrev pub IsBody : TableHeaderValue → List Key → ℕ → List Choice → ℕ → Body → Type 0
 IsBody f keys c os k (body.Text t) = IsFrameText f keys c os t × ((k ≡ kind_code (Some t.kind)) ⊎ HasConstantKind f (levels_chosen f c os) t.kind)
 IsBody f keys c os k (body.ByConcept i) = HasReferredKind f keys (levels_chosen f c os) i
 IsBody f keys c os k body.Unknown = ⊤
 
 -- the body of a frame that is made for a column and a kind, or none, under what the row at hand chooses
-abbrev pub IsBodyFor : Reading → List Key → List GroupCell → FactColumn → Option Kind → Body → Type 0
+abbrev pub IsBodyFor : TableHeaderValue → List Key → List GroupCell → FactColumn → Option Kind → Body → Type 0
 IsBodyFor f keys cells c k b = IsBody f keys c.column (column_choices cells c) (kind_code k) b
 
 -- what is kept of a frame is right for each row of the table that chooses so
-abbrev pub IsFrame : Reading → List Key → Frame → Type 0
+abbrev pub IsFrame : TableHeaderValue → List Key → Frame → Type 0
 IsFrame f keys v = IsBody f keys v.column v.choices.items v.kind v.body
 
 -- a frame is that of a column and a kind, or of none, under what the row at hand chooses
@@ -63,7 +63,7 @@ pub record IsKnownFor (cells : List GroupCell) (c : FactColumn) (k : Option Kind
 pub record IsOfConcept (x : RowValue) (cells : List GroupCell) (c : FactColumn) (v : Frame) : Type 0 where
   pub kind : Kind
   pub is : IsFor cells c (Some kind) v
-  pub concept : concept_read x.form.report (given (cell_in x c.column) (codes "concept")) ≡ Ok kind
+  pub concept : concept_read x.header.report (given (cell_in x c.column) (codes "concept")) ≡ Ok kind
 
 -- the frame at a place is such
 abbrev pub HasFrame : List Frame → (Frame → Type 0) → ℕ → Type 0
@@ -81,9 +81,9 @@ text_in frames place = option_and_then (λ (v : Frame). text_of v.body) (slice_g
 -- the text of a frame is that of a column's facts in a row: of these levels, and of a kind that is the concept's
 pub record IsTextFor (x : RowValue) (keys : List Key) (c : ℕ) (t : FrameValue) : Type 0 where
   pub choices : List Choice
-  pub chosen : Chooses x (column_in x.form c).from choices
-  pub text : IsFrameText x.form keys c choices t
-  pub concept : concept_read x.form.report (given (cell_in x c) (codes "concept")) ≡ Ok t.kind
+  pub chosen : Chooses x (column_in x.header c).from choices
+  pub text : IsFrameText x.header keys c choices t
+  pub concept : concept_read x.header.report (given (cell_in x c) (codes "concept")) ≡ Ok t.kind
 
 -- so is that of the frame at a place, where it has one
 abbrev pub HasTextFor : RowValue → List Key → ℕ → List Frame → ℕ → Type 0

@@ -6,7 +6,7 @@ use Rattle.oim_report.specs.declared.data.Level.{Level}
 use Rattle.oim_report.specs.declared.data.Written.{Written}
 use Rattle.oim_report.specs.declared.kind.Kind.{Kind}
 use Rattle.oim_resolve.specs.ProgramCell.{held}
-use Rattle.oim_rows.specs.RowFacts.{Reading}
+use Rattle.oim_rows.specs.RowFacts.{TableHeaderValue}
 use Rattle.oim_fast.specs.state.FrameTexts.{FrameValue}
 use Rattle.oim_fast.specs.state.Frames.{AreKindDecimals, HasConstantKind, HasReferredKind, are_ready, entry_of, no_dimensions, with_parts}
 use Rattle.oim_fast.specs.state.Groups.{IsGroupCell, IsSaid}
@@ -30,8 +30,8 @@ from_general ls = reverse (held ls)
 abbrev pub keys_in : FrameMaker → List Key
 keys_in m = map key_of m.references
 
--- what makes frames is right for each row that is read by a form
-pub record IsReadyMaker (f : Reading) (m : FrameMaker) : Type 0 where
+-- what makes frames is right for each row under a header
+pub record IsReadyMaker (f : TableHeaderValue) (m : FrameMaker) : Type 0 where
   pub references : All (IsOfReport f.report) m.references
   pub cells : All (IsGroupCell f) m.cells.list.items
   pub parts : All (IsPart f (map key_of m.references)) m.parts.list.items
@@ -39,12 +39,12 @@ pub record IsReadyMaker (f : Reading) (m : FrameMaker) : Type 0 where
 -- and it has gone on to a row: its references have what the row gives, its cells of groups what the row says
 pub record IsMaker (x : RowValue) (m : FrameMaker) : Type 0 where
   pub fresh : All (IsFresh x) m.references
-  pub cells : All (IsGroupCell x.form) m.cells.list.items
+  pub cells : All (IsGroupCell x.header) m.cells.list.items
   pub said : All (IsSaid x) m.cells.list.items
-  pub parts : All (IsPart x.form (map key_of m.references)) m.parts.list.items
+  pub parts : All (IsPart x.header (map key_of m.references)) m.parts.list.items
 
 -- what levels write for the concept, or the kind of this number where it was given
-abbrev pub IsConcept : Reading → List Key → List Level → ℕ → Concept → Type 0
+abbrev pub IsConcept : TableHeaderValue → List Key → List Level → ℕ → Concept → Type 0
 IsConcept f keys ls k (concept.Constant c) = (k ≡ kind_code (Some c)) ⊎ HasConstantKind f ls c
 IsConcept f keys ls k (concept.Reference i) = HasReferredKind f keys ls i
 IsConcept f keys ls k concept.Unknown = ⊤
@@ -61,12 +61,12 @@ IsBodyOf None b = b ≡ body.Unknown
 IsBodyOf (Some t) b = b ≡ body.Text t
 
 -- a frame before its dimensions
-pub record IsOpening (f : Reading) (keys : List Key) (ls : List Level) (k : Kind) (lead : List ℕ) (t : FrameValue) : Type 0 where
+pub record IsOpening (f : TableHeaderValue) (keys : List Key) (ls : List Level) (k : Kind) (lead : List ℕ) (t : FrameValue) : Type 0 where
   pub start : t ≡ no_dimensions k lead t.settled t.decimals
   pub decimals : AreKindDecimals f keys ls k t.settled t.decimals
 
 -- a frame with the parts of entries more
-pub record AddsEntries (f : Reading) (keys : List Key) (es : List (List ℕ × Written)) (old new : FrameValue) : Type 0 where
+pub record AddsEntries (f : TableHeaderValue) (keys : List Key) (es : List (List ℕ × Written)) (old new : FrameValue) : Type 0 where
   pub parts : List Part
   pub entries : map entry_of parts ≡ es
   pub are : All (IsPart f keys) parts
@@ -74,5 +74,5 @@ pub record AddsEntries (f : Reading) (keys : List Key) (es : List (List ℕ × W
   pub text : new ≡ with_parts old parts
 
 -- the same where they were added
-abbrev pub AddsWhere : Reading → List Key → List (List ℕ × Written) → FrameValue → FrameValue → Bool → Type 0
+abbrev pub AddsWhere : TableHeaderValue → List Key → List (List ℕ × Written) → FrameValue → FrameValue → Bool → Type 0
 AddsWhere f keys es old new added = added ≡ true → AddsEntries f keys es old new

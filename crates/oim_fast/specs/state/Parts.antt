@@ -7,7 +7,7 @@ use Rattle.oim_report.specs.declared.data.Written.{Written}
 use Rattle.oim_report.specs.declared.data.WrittenDecimals.{WrittenDecimals}
 use Rattle.oim_resolve.specs.Facts.{concept_read, places, role_of, stated_accuracy, stated_read}
 use Rattle.oim_resolve.specs.Values.{Stated, side_of}
-use Rattle.oim_rows.specs.RowFacts.{Reading}
+use Rattle.oim_rows.specs.RowFacts.{TableHeaderValue}
 use Rattle.oim_fast.specs.state.Answers.{is_sound_for, json_for}
 use Rattle.oim_fast.specs.state.Pieces.{behind, constant_meaning, constant_stated, name_text}
 use Rattle.oim_fast.specs.state.References.{Key}
@@ -22,26 +22,26 @@ use Rattle.oim_fast.specs.declared.row.purpose.Purpose.{Purpose}
 use Rattle.oim_fast.specs.declared.row.purpose.Purpose.TheVariants.{Dimension, Decimals}
 
 -- what a written value of a dimension is read for
-abbrev pub purpose_of : Reading → List ℕ → Written → Purpose
+abbrev pub purpose_of : TableHeaderValue → List ℕ → Written → Purpose
 purpose_of f n w = Dimension (role_of f.report n) (side_of w)
 
 -- it means the same in each row, and has no fault
-pub record IsConstant (f : Reading) (n : List ℕ) (w : Written) : Type 0 where
+pub record IsConstant (f : TableHeaderValue) (n : List ℕ) (w : Written) : Type 0 where
   pub same : source_written f w ≡ None
   pub sound : is_sound_for f.report (purpose_of f n w) (constant_meaning f w) ≡ true
 
 -- what it gives then
-abbrev pub constant_json : Reading → List ℕ → Written → List ℕ
+abbrev pub constant_json : TableHeaderValue → List ℕ → Written → List ℕ
 constant_json f n w = json_for f.report (purpose_of f n w) (constant_meaning f w)
 
 -- the reference at a place is to what rows give it
-pub record IsReferred (f : Reading) (keys : List Key) (n : List ℕ) (w : Written) (i : ℕ) : Type 0 where
+pub record IsReferred (f : TableHeaderValue) (keys : List Key) (n : List ℕ) (w : Written) (i : ℕ) : Type 0 where
   pub source : SourceValue
   pub written : source_written f w ≡ Some source
   pub there : slice_get keys i ≡ Some (record { purpose = purpose_of f n w; source = source })
 
 -- what is kept ready of a dimension: no text, its name and value, its name and a reference, or nothing is known
-abbrev pub IsPartValue : Reading → List Key → List ℕ → Written → List ℕ → PartValue → Type 0
+abbrev pub IsPartValue : TableHeaderValue → List Key → List ℕ → Written → List ℕ → PartValue → Type 0
 IsPartValue f keys n w text part.Nothing = IsConstant f n w × (constant_json f n w ≡ [])
 IsPartValue f keys n w text part.Text = IsConstant f n w × (text ≡ behind (name_text n) (constant_json f n w))
 IsPartValue f keys n w text (part.Reference i) = IsReferred f keys n w i × (text ≡ name_text n)
@@ -54,7 +54,7 @@ PutsAnswer a old new part.Text = (a.is_sound ≡ true) × (new ≡ behind old a.
 PutsAnswer a old new (part.Reference i) = ⊥
 PutsAnswer a old new part.Unknown = ⊤
 
-pub record IsPart (f : Reading) (keys : List Key) (p : Part) : Type 0 where
+pub record IsPart (f : TableHeaderValue) (keys : List Key) (p : Part) : Type 0 where
   pub role : p.role ≡ role_of f.report p.name.now
   pub value : IsPartValue f keys p.name.now p.written.now p.text.items p.value
   pub same : IfSome p.kind (λ k. source_written f p.written.now ≡ None)
@@ -67,7 +67,7 @@ IsStated s text (decimals.Reference i) = ⊥
 IsStated s text decimals.Unknown = ⊤
 
 -- what is kept ready of written decimals: their text, a reference, or nothing is known
-abbrev pub AreDecimals : Reading → List Key → WrittenDecimals → List ℕ → FrameDecimals → Type 0
+abbrev pub AreDecimals : TableHeaderValue → List Key → WrittenDecimals → List ℕ → FrameDecimals → Type 0
 AreDecimals f keys w text decimals.Settled = (source_decimals f w ≡ None) × IsStated (constant_stated f w) text decimals.Settled
 AreDecimals f keys w text (decimals.Reference i) =
     (text ≡ []) × (source : SourceValue) × (source_decimals f w ≡ Some source) × (slice_get keys i ≡ Some (record { purpose = Decimals; source = source }))

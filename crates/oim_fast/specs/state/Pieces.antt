@@ -19,7 +19,7 @@ use Rattle.oim_resolve.specs.Facts.{entry_given, is_dropped, role_of, value_read
 use Rattle.oim_resolve.specs.ProgramLevels.{named}
 use Rattle.oim_resolve.specs.Values.{Fixed, Read, Stated, side_of, value}
 use Rattle.oim_resolve.specs.Written.{written}
-use Rattle.oim_rows.specs.RowFacts.{Reading}
+use Rattle.oim_rows.specs.RowFacts.{TableHeaderValue}
 use Rattle.oim_fast.specs.state.Answers.{dimension_json}
 
 -- what levels write for one name
@@ -52,11 +52,11 @@ abbrev pub AreSound : Cell → Kind → List (List ℕ × Written) → Type 0
 AreSound c k es = All (λ e. is_sound_dimension c.report k e.0 (side_of e.1) (value c e.1) ≡ true) es
 
 -- the meaning of the parameter of a name, or nothing
-abbrev pub parameter_meaning : Reading → List ℕ → Meaning
+abbrev pub parameter_meaning : TableHeaderValue → List ℕ → Meaning
 parameter_meaning f n = option_map_or meaning_of (parameter_of f.report f.table n) m.Absent
 
 -- the meaning of what is written where rows say nothing of it: of a literal, or of a parameter
-abbrev pub constant_meaning : Reading → Written → Meaning
+abbrev pub constant_meaning : TableHeaderValue → Written → Meaning
 constant_meaning f w.Nil = m.Nil
 constant_meaning f w.Empty = m.Empty
 constant_meaning f (w.Text t) = m.Text t
@@ -65,7 +65,7 @@ constant_meaning f (w.RowNumber s) = m.Absent
 constant_meaning f w.Absent = m.Absent
 
 -- what decimals state where rows say nothing of them
-abbrev pub constant_stated : Reading → WrittenDecimals → Stated
+abbrev pub constant_stated : TableHeaderValue → WrittenDecimals → Stated
 constant_stated f (d.Fixed a) = Fixed a
 constant_stated f (d.Named n) = Read (parameter_meaning f n)
 constant_stated f d.RowNumber = Read m.Absent

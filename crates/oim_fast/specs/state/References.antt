@@ -6,7 +6,7 @@ use Rattle.oim_cells.specs.Cells.{Meaning, meaning_of}
 use Rattle.oim_report.specs.ReportValue.{ReportValue}
 use Rattle.oim_fast.specs.state.Answers.{IsAnswer, IsCached, is_sound_for, json_for}
 use Rattle.oim_fast.specs.Rows.{RowValue}
-use Rattle.oim_rows.specs.RowFacts.{Reading}
+use Rattle.oim_rows.specs.RowFacts.{TableHeaderValue}
 use Rattle.oim_fast.specs.state.Sources.{SourceValue, seen_source, source_text}
 use Rattle.oim_fast.specs.declared.row.cached_answer.CachedAnswer.{CachedAnswer}
 use Rattle.oim_fast.specs.declared.row.purpose.Purpose.{Purpose}
@@ -43,7 +43,7 @@ IsOfReport report r = r.report ≡ report
 
 -- its text is that of a row
 pub record IsFresh (x : RowValue) (r : ReferenceValue) : Type 0 where
-  pub report : r.report ≡ x.form.report
+  pub report : r.report ≡ x.header.report
   pub text : r.text ≡ source_text x r.key.source
 
 -- what the reference at a place gives the text of a fact, and whether it has no fault
@@ -70,13 +70,13 @@ pub record AddsPlaces (old new : List CachedAnswer) : Type 0 where
   pub is : new ≡ old ++ more
   pub empty : All IsEmptyText more
 
--- what holds of each item of a list, in each form and for all keys, holds of each of another
-abbrev pub HoldsStill : {A : Type 0} → (Reading → List Key → A → Type 0) → List A → List A → Type 0
-HoldsStill P old new = (f : Reading) (keys : List Key) → All (P f keys) old → All (P f keys) new
+-- what holds of each item of a list, under each header and for all keys, holds of each of another
+abbrev pub HoldsStill : {A : Type 0} → (TableHeaderValue → List Key → A → Type 0) → List A → List A → Type 0
+HoldsStill P old new = (f : TableHeaderValue) (keys : List Key) → All (P f keys) old → All (P f keys) new
 
 -- the same where it holds of one item more
-abbrev pub HoldsWith : {A : Type 0} → (Reading → List Key → A → Type 0) → List A → A → List A → Type 0
-HoldsWith P old x new = (f : Reading) (keys : List Key) → All (P f keys) old → P f keys x → All (P f keys) new
+abbrev pub HoldsWith : {A : Type 0} → (TableHeaderValue → List Key → A → Type 0) → List A → A → List A → Type 0
+HoldsWith P old x new = (f : TableHeaderValue) (keys : List Key) → All (P f keys) old → P f keys x → All (P f keys) new
 
 -- a list with more items behind it
 pub record Grows {A : Type 0} (xs ys : List A) : Type 0 where

@@ -8,7 +8,7 @@ use Rattle.oim_report.specs.declared.data.Written.{Written}
 use Rattle.oim_report.specs.declared.data.Written.TheVariants as w
 use Rattle.oim_report.specs.declared.data.WrittenDecimals.{WrittenDecimals}
 use Rattle.oim_report.specs.declared.data.WrittenDecimals.TheVariants as d
-use Rattle.oim_rows.specs.RowFacts.{Reading, field_or_empty, source_of_column}
+use Rattle.oim_rows.specs.RowFacts.{TableHeaderValue, field_or_empty, source_of_column}
 use Rattle.oim_fast.specs.Rows.{RowValue, columns_in}
 use Rattle.oim_fast.specs.declared.row.source.Source.{Source}
 use Rattle.oim_fast.specs.declared.row.source.Source.TheVariants as seen
@@ -33,19 +33,19 @@ source_text x RowNumber = decimal x.number
 source_text x (Column place parameter) = cell_or_parameter (field_or_empty x.fields (Some place)) parameter
 
 -- the place in the header of the column of a name
-abbrev pub place_named : Reading → List ℕ → Option ℕ
-place_named f n = option_and_then (source_of_column f.header) (position (λ k. bytes_eq k.id n) (columns_in f))
+abbrev pub place_named : TableHeaderValue → List ℕ → Option ℕ
+place_named f n = option_and_then (source_of_column f.columns) (position (λ k. bytes_eq k.id n) (columns_in f))
 
 -- what a reference to a name names, where the header has its column. Else each row has the parameter alone
-abbrev pub source_named : Reading → List ℕ → Option SourceValue
+abbrev pub source_named : TableHeaderValue → List ℕ → Option SourceValue
 source_named f n = option_map (λ place. Column place (unwrap_or (parameter_of f.report f.table n) [])) (place_named f n)
 
-abbrev pub source_written : Reading → Written → Option SourceValue
+abbrev pub source_written : TableHeaderValue → Written → Option SourceValue
 source_written f (w.RowNumber s) = Some RowNumber
 source_written f (w.Named n s) = source_named f n
 source_written f _ = None
 
-abbrev pub source_decimals : Reading → WrittenDecimals → Option SourceValue
+abbrev pub source_decimals : TableHeaderValue → WrittenDecimals → Option SourceValue
 source_decimals f d.RowNumber = Some RowNumber
 source_decimals f (d.Named n) = source_named f n
 source_decimals f _ = None

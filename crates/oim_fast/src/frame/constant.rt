@@ -6,27 +6,27 @@ ghost use Rattle.oim_fast.specs.state.Pieces.{constant_meaning, parameter_meanin
 
 use oim_cells::{CellMeaning, meaning};
 use oim_report::Written;
-use oim_rows::RowForm;
+use oim_rows::TableHeader;
 
 /// What the parameter of a name means: nothing where there is none.
-pub(crate) fn parameter_of<'a>(form: &RowForm<'a>, name: &str) -> CellMeaning<'a>
-    ensures { seen_meaning result ≡ parameter_meaning form.now name.now }
+pub(crate) fn parameter_of<'a>(header: &TableHeader<'a>, name: &str) -> CellMeaning<'a>
+    ensures { seen_meaning result ≡ parameter_meaning header.now name.now }
 {
-    match form.report().parameter(form.table(), name) {
+    match header.report().parameter(header.table(), name) {
         Some(text) => meaning(text),
         None => CellMeaning::Absent,
     }
 }
 
 /// What a written value means where rows say nothing of it: a literal, or the parameter that a reference names.
-pub(crate) fn constant_of<'a>(form: &RowForm<'a>, written: &'a Written) -> CellMeaning<'a>
-    ensures { seen_meaning result ≡ constant_meaning form.now written.now }
+pub(crate) fn constant_of<'a>(header: &TableHeader<'a>, written: &'a Written) -> CellMeaning<'a>
+    ensures { seen_meaning result ≡ constant_meaning header.now written.now }
 {
     match written {
         Written::Nil => CellMeaning::Nil,
         Written::Empty => CellMeaning::Empty,
         Written::Text(text) => CellMeaning::Text(text.as_str()),
-        Written::Named(name, _) => parameter_of(form, name.as_str()),
+        Written::Named(name, _) => parameter_of(header, name.as_str()),
         Written::Absent | Written::RowNumber(_) => CellMeaning::Absent,
     }
 }

@@ -18,7 +18,7 @@ use crate::text::escape::put_escaped;
 use crate::text::hash_index::hash_with;
 use oim_cells::NumberKind;
 use oim_report::{Column, Kind, Level};
-use oim_rows::RowForm;
+use oim_rows::TableHeader;
 use std::alloc::{AllocError, Global};
 
 /// A column of facts: its place in the template and in the header, and the columns of property groups that it takes from, by
@@ -51,20 +51,20 @@ fn lead_of(alloc: Global, column: &Column) -> Result<TextBuffer, AllocError>
 /// The places of the columns of property groups that a column takes from. Fails where memory is short.
 fn groups_of<'a>(
     alloc: Global,
-    form: &RowForm<'a>,
+    header: &TableHeader<'a>,
     column: &Column,
     cells: &mut GroupCells<'a>,
 ) -> Result<Vec<usize>, AllocError>
-    requires from { All (λ i. i < length (columns_in form.now)) column.now.from }
-    requires cells { All (IsGroupCell form.now) cells.old.list.items }
-    ensures cells { All (IsGroupCell form.now) cells.new.list.items }
+    requires from { All (λ i. i < length (columns_in header.now)) column.now.from }
+    requires cells { All (IsGroupCell header.now) cells.old.list.items }
+    ensures cells { All (IsGroupCell header.now) cells.new.list.items }
     ensures grows { Grows cells.old.list.items cells.new.list.items }
     ensures places { IfOk result (λ v. map (λ p. option_map (λ g. g.column) (slice_get cells.new.list.items p)) v.items ≡ map Some column.now.from) }
 {
     let from = column.from.as_slice();
     let mut groups = Vec::new(alloc);
     for i in 0..from.len() {
-        let place = cells.place_for(form, from[i])?;
+        let place = cells.place_for(header, from[i])?;
         groups.push(place)?;
     }
     Ok(groups)
@@ -74,30 +74,30 @@ fn groups_of<'a>(
 /// short.
 fn fact_column<'a>(
     alloc: Global,
-    form: &RowForm<'a>,
+    header: &TableHeader<'a>,
     cells: &mut GroupCells<'a>,
     i: usize,
 ) -> Result<Option<FactColumn<'a>>, AllocError>
-    requires within { i < length form.now.header }
-    requires cells { All (IsGroupCell form.now) cells.old.list.items }
-    ensures cells { All (IsGroupCell form.now) cells.new.list.items }
+    requires within { i < length header.now.columns }
+    requires cells { All (IsGroupCell header.now) cells.old.list.items }
+    ensures cells { All (IsGroupCell header.now) cells.new.list.items }
     ensures grows { Grows cells.old.list.items cells.new.list.items }
-    ensures column { IfOk result (IsColumnAt form.now cells.new.list.items i) }
+    ensures column { IfOk result (IsColumnAt header.now cells.new.list.items i) }
 {
-    let Some(at) = form.header()[i] else {
+    let Some(at) = header.columns()[i] else {
         return Ok(None);
     };
-    if at >= form.report().columns(form.table()) {
+    if at >= header.report().columns(header.table()) {
         return Ok(None);
     }
-    let column = form.report().column(form.table(), at);
+    let column = header.report().column(header.table(), at);
     if !column.kind.holds_facts() {
         return Ok(None);
     }
-    let Some(place) = place_in(form.header(), at) else {
+    let Some(place) = place_in(header.columns(), at) else {
         return Ok(None);
     };
-    let groups = groups_of(alloc, form, column, cells)?;
+    let groups = groups_of(alloc, header, column, cells)?;
     let lead = lead_of(alloc, column)?;
     Ok(Some(FactColumn {
         column: at,
@@ -113,16 +113,16 @@ fn fact_column<'a>(
 /// The columns of facts of a header, in its order. Fails where memory is short.
 pub(crate) fn fact_columns<'a>(
     alloc: Global,
-    form: &RowForm<'a>,
+    header: &TableHeader<'a>,
     cells: &mut GroupCells<'a>,
 ) -> Result<Vec<FactColumn<'a>>, AllocError>
-    requires { All (IsGroupCell form.now) cells.old.list.items }
-    ensures cells { All (IsGroupCell form.now) cells.new.list.items }
-    ensures columns { IfOk result (λ v. AreFactColumns form.now cells.new.list.items v.items) }
+    requires { All (IsGroupCell header.now) cells.old.list.items }
+    ensures cells { All (IsGroupCell header.now) cells.new.list.items }
+    ensures columns { IfOk result (λ v. AreFactColumns header.now cells.new.list.items v.items) }
 {
     let mut facts = Vec::new(alloc);
-    for i in 0..form.header().len() {
-        if let Some(column) = fact_column(alloc, form, cells, i)? {
+    for i in 0..header.columns().len() {
+        if let Some(column) = fact_column(alloc, header, cells, i)? {
             facts.push(column)?;
         }
     }

@@ -11,7 +11,7 @@ use crate::row::table_row::TableRow;
 use crate::text::buffer::TextBuffer;
 use crate::text::copy::put_escaped_front;
 use crate::text::escape::put_escaped;
-use oim_rows::RowForm;
+use oim_rows::TableHeader;
 use std::alloc::{AllocError, Global};
 
 /// The text of a fact up to the identifier of its row, in its first `lead` bytes, and with the identifier.
@@ -26,7 +26,7 @@ fn put_id(out: &mut TextBuffer, row: &TableRow<'_, '_>) -> Result<(), AllocError
     ensures id { OnOk result (out.new.items ≡ out.old.items ++ flat_map escaped_byte (row_in row.now).id) }
     ensures stays { IsPrefix out.old.items out.new.items }
 {
-    match row.form().id_place() {
+    match row.header().id_place() {
         Some(place) => {
             let (bytes, len) = row.bytes_at(place);
             put_escaped_front(out, bytes, len)
@@ -40,12 +40,12 @@ fn put_id(out: &mut TextBuffer, row: &TableRow<'_, '_>) -> Result<(), AllocError
 
 impl FactStart {
     /// The text of a table, and no row yet. Fails where memory is short.
-    pub(crate) fn new(alloc: Global, form: &RowForm<'_>) -> Result<FactStart, AllocError>
-        ensures { IfOk result (IsStartOf form.now) }
+    pub(crate) fn new(alloc: Global, header: &TableHeader<'_>) -> Result<FactStart, AllocError>
+        ensures { IfOk result (IsStartOf header.now) }
     {
         let mut start = TextBuffer::new(alloc);
         start.put(b",\"")?;
-        put_escaped(&mut start, form.report().table_id(form.table()))?;
+        put_escaped(&mut start, header.report().table_id(header.table()))?;
         start.push(b'.')?;
         Ok(FactStart {
             lead: start.len(),
@@ -56,8 +56,8 @@ impl FactStart {
     /// Goes on to a row. Fails where memory is short.
     #[inline(always)]
     pub(crate) fn read(&mut self, row: &TableRow<'_, '_>) -> Result<(), AllocError>
-        requires { IsStartOf row.now.form self.old }
-        ensures lead { IsStartOf row.now.form self.new }
+        requires { IsStartOf row.now.header self.old }
+        ensures lead { IsStartOf row.now.header self.new }
         ensures start { OnOk result (self.new.start.items ≡ start_text row.now) }
     {
         self.start.truncate(self.lead);

@@ -36,14 +36,14 @@ fn put_parameter(
     settled: &mut TextBuffer,
 ) -> Result<FrameDecimals, AllocError>
     requires { settled.old.items ≡ [] }
-    ensures { IfOk result (λ d. IsStated (Read (parameter_meaning row.now.form name.now)) settled.new.items d) }
+    ensures { IfOk result (λ d. IsStated (Read (parameter_meaning row.now.header name.now)) settled.new.items d) }
 {
     let mut answer = Answer::new(alloc);
     answer.read(
         alloc,
         row.report(),
         Purpose::Decimals,
-        parameter_of(row.form(), name),
+        parameter_of(row.header(), name),
     )?;
     if !answer.is_sound {
         return Ok(FrameDecimals::Unknown);
@@ -63,11 +63,11 @@ pub(crate) fn decimals_ready<'a>(
 ) -> Result<FrameDecimals, AllocError>
     requires fresh { All (IsFresh row.now) references.old }
     requires empty { settled.old.items ≡ [] }
-    ensures decimals { IfOk result (λ d. AreDecimals row.now.form (map key_of references.new) written.now settled.new.items d) }
+    ensures decimals { IfOk result (λ d. AreDecimals row.now.header (map key_of references.new) written.now settled.new.items d) }
     ensures fresh { All (IsFresh row.now) references.new }
     ensures grows { Grows references.old references.new }
 {
-    if let Some(source) = source_of_decimals(row.form(), written) {
+    if let Some(source) = source_of_decimals(row.header(), written) {
         let place = references.place_for(alloc, row, Purpose::Decimals, source)?;
         return Ok(FrameDecimals::Reference(place));
     }

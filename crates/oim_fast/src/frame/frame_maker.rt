@@ -4,7 +4,7 @@ ghost use Rattle.std.specs.Prelude.{◌≡◌, ◌<◌, ◌++◌, [], IfOk, IfSo
 ghost use Rattle.std.specs.List.{All};
 ghost use Rattle.oim_report.specs.InOrder.{LevelRises};
 ghost use Rattle.oim_resolve.specs.ProgramCell.{held};
-ghost use Rattle.oim_rows.specs.RowFacts.{Reading};
+ghost use Rattle.oim_rows.specs.RowFacts.{TableHeaderValue};
 ghost use Rattle.oim_fast.specs.state.Columns.{IsFactColumn, column_choices};
 ghost use Rattle.oim_fast.specs.state.Frames.{AreKindDecimals, IsTextOfKind, levels_chosen};
 ghost use Rattle.oim_fast.specs.state.Groups.{IsGroupCell, levels_at};
@@ -93,9 +93,9 @@ fn levels_of<'a>(
     column: &FactColumn<'a>,
     cells: &GroupCells<'a>,
 ) -> Result<Vec<&'a Level>, AllocError>
-    requires cells { All (IsGroupCell row.now.form) cells.now.list.items }
-    requires column { IsFactColumn row.now.form cells.now.list.items column.now }
-    ensures levels { IfOk result (λ v. from_general v.items ≡ levels_chosen row.now.form column.now.column (column_choices cells.now.list.items column.now)) }
+    requires cells { All (IsGroupCell row.now.header) cells.now.list.items }
+    requires column { IsFactColumn row.now.header cells.now.list.items column.now }
+    ensures levels { IfOk result (λ v. from_general v.items ≡ levels_chosen row.now.header column.now.column (column_choices cells.now.list.items column.now)) }
     ensures rise { IfOk result (λ v. All (λ l. LevelRises l.now) v.items) }
 {
     let report = row.report();
@@ -140,7 +140,7 @@ fn decimals_of<'a>(
 ) -> Result<FrameDecimals, AllocError>
     requires fresh { All (IsFresh row.now) references.old }
     requires empty { settled.old.items ≡ [] }
-    ensures decimals { IfOk result (AreKindDecimals row.now.form (map key_of references.new) (from_general levels.now) kind settled.new.items) }
+    ensures decimals { IfOk result (AreKindDecimals row.now.header (map key_of references.new) (from_general levels.now) kind settled.new.items) }
     ensures fresh { All (IsFresh row.now) references.new }
     ensures grows { Grows references.old references.new }
 {
@@ -156,7 +156,7 @@ fn decimals_of<'a>(
 impl<'a> FrameMaker<'a> {
     /// Nothing is ready but the columns of groups. It takes no memory.
     pub(crate) fn new(alloc: Global, cells: GroupCells<'a>) -> FrameMaker<'a>
-        ensures ready { (f : Reading) → All (IsGroupCell f) cells.entry.list.items → IsReadyMaker f result }
+        ensures ready { (f : TableHeaderValue) → All (IsGroupCell f) cells.entry.list.items → IsReadyMaker f result }
         ensures references { result.references ≡ [] }
         ensures cells { result.cells ≡ cells.entry }
     {
@@ -174,9 +174,9 @@ impl<'a> FrameMaker<'a> {
         alloc: Global,
         row: &TableRow<'a, '_>,
     ) -> Result<(), AllocError>
-        requires { IsReadyMaker row.now.form self.old }
+        requires { IsReadyMaker row.now.header self.old }
         ensures maker { OnOk result (IsMaker row.now self.new) }
-        ensures form { IsReadyMaker row.now.form self.new }
+        ensures header { IsReadyMaker row.now.header self.new }
         ensures keys { keys_in self.new ≡ keys_in self.old }
         ensures columns { map (λ g. g.column) self.new.cells.list.items ≡ map (λ g. g.column) self.old.cells.list.items }
     {
@@ -195,7 +195,7 @@ impl<'a> FrameMaker<'a> {
     ) -> Result<Concept, AllocError>
         requires maker { IsMaker row.now self.old }
         requires rise { All (λ l. LevelRises l.now) levels.now }
-        ensures concept { IfOk result (IsConcept row.now.form (keys_in self.new) (from_general levels.now) (kind_code kind)) }
+        ensures concept { IfOk result (IsConcept row.now.header (keys_in self.new) (from_general levels.now) (kind_code kind)) }
         ensures maker { IsMaker row.now self.new }
         ensures grows { Grows self.old.references self.new.references }
         ensures cells { self.new.cells ≡ self.old.cells }
@@ -223,7 +223,7 @@ impl<'a> FrameMaker<'a> {
         kind: Kind,
     ) -> Result<FrameText, AllocError>
         requires { IsMaker row.now self.old }
-        ensures opening { IfOk result (IsOpening row.now.form (keys_in self.new) (from_general levels.now) kind lead.now.items) }
+        ensures opening { IfOk result (IsOpening row.now.header (keys_in self.new) (from_general levels.now) kind lead.now.items) }
         ensures maker { IsMaker row.now self.new }
         ensures grows { Grows self.old.references self.new.references }
         ensures cells { self.new.cells ≡ self.old.cells }
@@ -245,7 +245,7 @@ impl<'a> FrameMaker<'a> {
     ) -> Result<bool, AllocError>
         requires maker { IsMaker row.now self.old }
         requires rise { All (λ l. LevelRises l.now) levels.now }
-        ensures added { IfOk result (AddsWhere row.now.form (keys_in self.new) (entries_named (from_general levels.now) name.now) text.old text.new) }
+        ensures added { IfOk result (AddsWhere row.now.header (keys_in self.new) (entries_named (from_general levels.now) name.now) text.old text.new) }
         ensures maker { IsMaker row.now self.new }
         ensures grows { Grows self.old.references self.new.references }
         ensures cells { self.new.cells ≡ self.old.cells }
@@ -272,7 +272,7 @@ impl<'a> FrameMaker<'a> {
     ) -> Result<bool, AllocError>
         requires maker { IsMaker row.now self.old }
         requires rise { All (λ l. LevelRises l.now) levels.now }
-        ensures added { IfOk result (AddsWhere row.now.form (keys_in self.new) (written_entries (from_general levels.now)) text.old text.new) }
+        ensures added { IfOk result (AddsWhere row.now.header (keys_in self.new) (written_entries (from_general levels.now)) text.old text.new) }
         ensures maker { IsMaker row.now self.new }
         ensures grows { Grows self.old.references self.new.references }
         ensures cells { self.new.cells ≡ self.old.cells }
@@ -300,7 +300,7 @@ impl<'a> FrameMaker<'a> {
     ) -> Result<Option<FrameText>, AllocError>
         requires maker { IsMaker row.now self.old }
         requires rise { All (λ l. LevelRises l.now) levels.now }
-        ensures text { IfOk result (λ o. IfSome o (IsTextOfKind row.now.form (keys_in self.new) (from_general levels.now) lead.now.items kind)) }
+        ensures text { IfOk result (λ o. IfSome o (IsTextOfKind row.now.header (keys_in self.new) (from_general levels.now) lead.now.items kind)) }
         ensures maker { IsMaker row.now self.new }
         ensures grows { Grows self.old.references self.new.references }
         ensures cells { self.new.cells ≡ self.old.cells }
@@ -324,8 +324,8 @@ impl<'a> FrameMaker<'a> {
         kind: Option<Kind>,
     ) -> Result<Body, AllocError>
         requires maker { IsMaker row.now self.old }
-        requires column { IsFactColumn row.now.form self.old.cells.list.items column.now }
-        ensures body { IfOk result (IsBodyFor row.now.form (keys_in self.new) self.old.cells.list.items column.now kind) }
+        requires column { IsFactColumn row.now.header self.old.cells.list.items column.now }
+        ensures body { IfOk result (IsBodyFor row.now.header (keys_in self.new) self.old.cells.list.items column.now kind) }
         ensures maker { IsMaker row.now self.new }
         ensures grows { Grows self.old.references self.new.references }
         ensures cells { self.new.cells ≡ self.old.cells }
@@ -352,8 +352,8 @@ impl<'a> FrameMaker<'a> {
         kind: Option<Kind>,
     ) -> Result<Frame, AllocError>
         requires maker { IsMaker row.now self.old }
-        requires column { IsFactColumn row.now.form self.old.cells.list.items column.now }
-        ensures frame { IfOk result (IsFrame row.now.form (keys_in self.new)) }
+        requires column { IsFactColumn row.now.header self.old.cells.list.items column.now }
+        ensures frame { IfOk result (IsFrame row.now.header (keys_in self.new)) }
         ensures serves { IfOk result (IsFor self.old.cells.list.items column.now kind) }
         ensures maker { IsMaker row.now self.new }
         ensures grows { Grows self.old.references self.new.references }

@@ -172,13 +172,13 @@ impl Frames {
         maker: &mut FrameMaker<'a>,
     ) -> Result<usize, AllocError>
         requires maker { IsMaker row.now maker.old }
-        requires column { IsFactColumn row.now.form maker.old.cells.list.items column.now }
-        requires frames { All (IsFrame row.now.form (keys_in maker.old)) self.old.list.items }
+        requires column { IsFactColumn row.now.header maker.old.cells.list.items column.now }
+        requires frames { All (IsFrame row.now.header (keys_in maker.old)) self.old.list.items }
         ensures place { IfOk result (HasFrame self.new.list.items (IsFor maker.old.cells.list.items column.now kind)) }
         ensures maker { IsMaker row.now maker.new }
         ensures grows { Grows maker.old.references maker.new.references }
         ensures cells { maker.new.cells ≡ maker.old.cells }
-        ensures frames { All (IsFrame row.now.form (keys_in maker.new)) self.new.list.items }
+        ensures frames { All (IsFrame row.now.header (keys_in maker.new)) self.new.list.items }
     {
         let hash = column.hash(&maker.cells, kind);
         if let Some(place) = self.find(hash, column, &maker.cells, kind) {
@@ -200,13 +200,13 @@ impl Frames {
         maker: &mut FrameMaker<'a>,
     ) -> Result<Option<usize>, AllocError>
         requires maker { IsMaker row.now maker.old }
-        requires column { IsFactColumn row.now.form maker.old.cells.list.items column.old }
-        requires frames { All (IsFrame row.now.form (keys_in maker.old)) self.old.list.items }
+        requires column { IsFactColumn row.now.header maker.old.cells.list.items column.old }
+        requires frames { All (IsFrame row.now.header (keys_in maker.old)) self.old.list.items }
         ensures place { IfOk result (λ o. IfSome o (HasFrame self.new.list.items (IsKnownFor maker.old.cells.list.items column.old None))) }
         ensures maker { IsMaker row.now maker.new }
         ensures grows { Grows maker.old.references maker.new.references }
         ensures cells { maker.new.cells ≡ maker.old.cells }
-        ensures frames { All (IsFrame row.now.form (keys_in maker.new)) self.new.list.items }
+        ensures frames { All (IsFrame row.now.header (keys_in maker.new)) self.new.list.items }
         ensures column { column.new ≡ record column.old { last = column.new.last } }
     {
         if self.is_at(column.last, column, &maker.cells, None) {
@@ -232,14 +232,14 @@ impl Frames {
         maker: &mut FrameMaker<'a>,
     ) -> Result<Option<usize>, AllocError>
         requires maker { IsMaker row.now maker.old }
-        requires column { IsFactColumn row.now.form maker.old.cells.list.items column.old }
-        requires frames { All (IsFrame row.now.form (keys_in maker.old)) self.old.list.items }
-        requires reference { HasReferredKind row.now.form (keys_in maker.old) (levels (cell_in row.now column.old.column)) reference }
+        requires column { IsFactColumn row.now.header maker.old.cells.list.items column.old }
+        requires frames { All (IsFrame row.now.header (keys_in maker.old)) self.old.list.items }
+        requires reference { HasReferredKind row.now.header (keys_in maker.old) (levels (cell_in row.now column.old.column)) reference }
         ensures place { IfOk result (λ o. IfSome o (HasFrame self.new.list.items (IsOfConcept row.now maker.old.cells.list.items column.old))) }
         ensures maker { IsMaker row.now maker.new }
         ensures grows { Grows maker.old.references maker.new.references }
         ensures cells { maker.new.cells ≡ maker.old.cells }
-        ensures frames { All (IsFrame row.now.form (keys_in maker.new)) self.new.list.items }
+        ensures frames { All (IsFrame row.now.header (keys_in maker.new)) self.new.list.items }
         ensures column { column.new ≡ record column.old { last_of_kind = column.new.last_of_kind } }
     {
         // For the proof: the number of a row is below 2^32.
@@ -266,14 +266,14 @@ impl Frames {
         maker: &mut FrameMaker<'a>,
     ) -> Result<Option<usize>, AllocError>
         requires maker { IsMaker row.now maker.old }
-        requires column { IsFactColumn row.now.form maker.old.cells.list.items column.old }
-        requires frames { All (IsFrame row.now.form (keys_in maker.old)) self.old.list.items }
+        requires column { IsFactColumn row.now.header maker.old.cells.list.items column.old }
+        requires frames { All (IsFrame row.now.header (keys_in maker.old)) self.old.list.items }
         ensures text { IfOk result (λ o. IfSome o (HasTextFor row.now (keys_in maker.new) column.old.column self.new.list.items)) }
         ensures maker { IsMaker row.now maker.new }
         ensures grows { Grows maker.old.references maker.new.references }
         ensures cells { maker.new.cells ≡ maker.old.cells }
-        ensures frames { All (IsFrame row.now.form (keys_in maker.new)) self.new.list.items }
-        ensures column { IsFactColumn row.now.form maker.new.cells.list.items column.new }
+        ensures frames { All (IsFrame row.now.header (keys_in maker.new)) self.new.list.items }
+        ensures column { IsFactColumn row.now.header maker.new.cells.list.items column.new }
         ensures same { column.new ≡ record column.old { last = column.new.last; last_of_kind = column.new.last_of_kind } }
     {
         let first = self.first(alloc, row, column, maker)?;

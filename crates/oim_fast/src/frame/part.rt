@@ -18,7 +18,7 @@ use crate::text::buffer::TextBuffer;
 use crate::text::escape::put_quoted;
 use oim_report::{Kind, Written};
 use oim_resolve::{Role, side_of};
-use oim_rows::RowForm;
+use oim_rows::TableHeader;
 use std::alloc::{AllocError, Global};
 
 /// What a dimension gives a fact.
@@ -74,19 +74,24 @@ impl<'a> Part<'a> {
     /// A dimension that means the same in each row, whose role is known. Fails where memory is short.
     fn constant(
         alloc: Global,
-        form: &RowForm<'a>,
+        header: &TableHeader<'a>,
         role: Role,
         name: &'a str,
         written: &'a Written,
     ) -> Result<Part<'a>, AllocError>
-        requires same { source_written form.now written.now ≡ None }
-        requires role { role ≡ role_of form.now.report name.now }
-        ensures part { (keys : List Key) → IfOk result (λ p. IsPart form.now keys p) }
+        requires same { source_written header.now written.now ≡ None }
+        requires role { role ≡ role_of header.now.report name.now }
+        ensures part { (keys : List Key) → IfOk result (λ p. IsPart header.now keys p) }
         ensures named { IfOk result (λ p. (p.name.now ≡ name.now) × (p.written.now ≡ written.now)) }
     {
         let mut answer = Answer::new(alloc);
         let purpose = Purpose::Dimension(role, side_of(written));
-        answer.read(alloc, form.report(), purpose, constant_of(form, written))?;
+        answer.read(
+            alloc,
+            header.report(),
+            purpose,
+            constant_of(header, written),
+        )?;
         let mut text = name_of(alloc, name)?;
         let value = put_answer(&mut text, &answer)?;
         Ok(Part {
@@ -108,14 +113,14 @@ impl<'a> Part<'a> {
         written: &'a Written,
     ) -> Result<Part<'a>, AllocError>
         requires { All (IsFresh row.now) references.old }
-        ensures part { IfOk result (λ p. IsPart row.now.form (map key_of references.new) p) }
+        ensures part { IfOk result (λ p. IsPart row.now.header (map key_of references.new) p) }
         ensures named { IfOk result (λ p. (p.name.now ≡ name.now) × (p.written.now ≡ written.now)) }
         ensures fresh { All (IsFresh row.now) references.new }
         ensures grows { Grows references.old references.new }
     {
         let role = Role::of(row.report(), name);
-        let Some(source) = source_of(row.form(), written) else {
-            return Part::constant(alloc, row.form(), role, name, written);
+        let Some(source) = source_of(row.header(), written) else {
+            return Part::constant(alloc, row.header(), role, name, written);
         };
         let text = name_of(alloc, name)?;
         let purpose = Purpose::Dimension(role, side_of(written));

@@ -121,9 +121,9 @@ impl<'a> Parts<'a> {
         written: &'a Written,
     ) -> Result<usize, AllocError>
         requires fresh { All (IsFresh row.now) references.old }
-        requires parts { All (IsPart row.now.form (map key_of references.old)) self.old.list.items }
+        requires parts { All (IsPart row.now.header (map key_of references.old)) self.old.list.items }
         ensures place { IfOk result (λ place. option_map entry_of (slice_get self.new.list.items place) ≡ Some (name.now, written.now)) }
-        ensures parts { All (IsPart row.now.form (map key_of references.new)) self.new.list.items }
+        ensures parts { All (IsPart row.now.header (map key_of references.new)) self.new.list.items }
         ensures fresh { All (IsFresh row.now) references.new }
         ensures grows { Grows references.old references.new }
     {

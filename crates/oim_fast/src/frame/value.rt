@@ -117,7 +117,7 @@ pub(crate) fn rare_value<'r>(
     cell: &str,
     room: &'r mut TextBuffer,
 ) -> Result<CellValue<'r>, AllocError>
-    ensures { IfOk result (λ v. IsCellValue row.now.form.report kind (meaning_of cell.now) v) }
+    ensures { IfOk result (λ v. IsCellValue row.now.header.report kind (meaning_of cell.now) v) }
 {
     if cell == "#nil" {
         return Ok(CellValue::Value(nil_value()));
@@ -157,7 +157,7 @@ pub(crate) fn quick_value<'r>(
 ) -> Option<Value<'r>>
     requires cell { take len bytes.now ≡ field_or_empty row.now.fields (Some place) }
     requires within { len ≤ length bytes.now }
-    ensures { IfSome result (IsValue row.now.form.report kind (meaning_of (field_or_empty row.now.fields (Some place)))) }
+    ensures { IfSome result (IsValue row.now.header.report kind (meaning_of (field_or_empty row.now.fields (Some place)))) }
 {
     if let Kind::Number(number_kind) = kind {
         return number(row, place, number_kind, bytes, len);

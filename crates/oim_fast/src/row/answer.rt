@@ -92,7 +92,7 @@ fn put_entry(out: &mut TextBuffer, entry: &Entry) -> Result<(), AllocError>
 /// memory is short.
 #[tactic(auto, using(std::proofs::Common::append_assoc))]
 fn put_formed(out: &mut TextBuffer, has_form: bool, text: &str) -> Result<bool, AllocError>
-    ensures form { IfOk result (λ sound. sound ≡ has_form) }
+    ensures header { IfOk result (λ sound. sound ≡ has_form) }
     ensures text { IfOk result (AppendsWhere out.old.items (quoted text.now ++ codes ",") out.new.items) }
 {
     if has_form {

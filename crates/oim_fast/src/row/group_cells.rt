@@ -18,7 +18,7 @@ use crate::row::table_row::TableRow;
 use oim_cells::{CellMeaning, meaning};
 use oim_names::Text;
 use oim_report::Level;
-use oim_rows::RowForm;
+use oim_rows::TableHeader;
 use std::alloc::{AllocError, Global};
 
 /// What a row's cell says in a column of property groups.
@@ -108,8 +108,8 @@ impl<'a> GroupCell<'a> {
     /// What a row says, where the group that it names is guessed to stand at a place.
     #[inline(always)]
     fn choice_in(&self, row: &TableRow<'_, '_>, guess: usize) -> Choice
-        requires { IsGroupCell row.now.form self.now }
-        ensures { Says (column_in row.now.form self.now.column) (meaning_of (field_or_empty row.now.fields self.now.place)) result }
+        requires { IsGroupCell row.now.header self.now }
+        ensures { Says (column_in row.now.header self.now.column) (meaning_of (field_or_empty row.now.fields self.now.place)) result }
     {
         match meaning(row.text_at(self.place)) {
             CellMeaning::Absent => Choice::Nothing,
@@ -145,24 +145,28 @@ impl<'a> GroupCells<'a> {
     /// The place of a column of the template, which is added where it is not there. Fails where memory is short.
     pub(crate) fn place_for(
         &mut self,
-        form: &RowForm<'a>,
+        header: &TableHeader<'a>,
         column: usize,
     ) -> Result<usize, AllocError>
-        requires column { column < length (columns_in form.now) }
-        requires cells { All (IsGroupCell form.now) self.old.list.items }
+        requires column { column < length (columns_in header.now) }
+        requires cells { All (IsGroupCell header.now) self.old.list.items }
         ensures place { IfOk result (λ place. option_map (λ g. g.column) (slice_get self.new.list.items place) ≡ Some column) }
-        ensures cells { All (IsGroupCell form.now) self.new.list.items }
+        ensures cells { All (IsGroupCell header.now) self.new.list.items }
         ensures grows { Grows self.old.list.items self.new.list.items }
     {
         if let Some(place) = self.find(column) {
             return Ok(place);
         }
-        form.report().stands_in_order();
+        header.report().stands_in_order();
         let place = self.list.len();
         self.list.push(GroupCell {
             column,
-            place: place_in(form.header(), column),
-            groups: form.report().column(form.table(), column).groups.as_slice(),
+            place: place_in(header.columns(), column),
+            groups: header
+                .report()
+                .column(header.table(), column)
+                .groups
+                .as_slice(),
             choice: Choice::Unknown,
         })?;
         Ok(place)
@@ -171,8 +175,8 @@ impl<'a> GroupCells<'a> {
     /// Goes on to a row.
     #[inline(always)]
     pub(crate) fn refresh(&mut self, row: &TableRow<'_, '_>)
-        requires { All (IsGroupCell row.now.form) self.old.list.items }
-        ensures cells { All (IsGroupCell row.now.form) self.new.list.items }
+        requires { All (IsGroupCell row.now.header) self.old.list.items }
+        ensures cells { All (IsGroupCell row.now.header) self.new.list.items }
         ensures said { All (IsSaid row.now) self.new.list.items }
         ensures columns { map (λ g. g.column) self.new.list.items ≡ map (λ g. g.column) self.old.list.items }
     {

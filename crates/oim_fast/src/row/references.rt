@@ -47,9 +47,9 @@ fn refresh_all<'a>(
     list: &mut Vec<Reference<'a>>,
     row: &TableRow<'a, '_>,
 ) -> Result<u32, AllocError>
-    requires { All (IsOfReport row.now.form.report) list.old.items }
+    requires { All (IsOfReport row.now.header.report) list.old.items }
     ensures fresh { OnOk result (All (IsFresh row.now) list.new.items) }
-    ensures reports { All (IsOfReport row.now.form.report) list.new.items }
+    ensures reports { All (IsOfReport row.now.header.report) list.new.items }
     ensures keys { map key_of list.new.items ≡ map key_of list.old.items }
 {
     let mut most = 0usize;
@@ -82,9 +82,9 @@ impl<'a> References<'a> {
         alloc: Global,
         row: &TableRow<'a, '_>,
     ) -> Result<(), AllocError>
-        requires { All (IsOfReport row.now.form.report) self.old }
+        requires { All (IsOfReport row.now.header.report) self.old }
         ensures fresh { OnOk result (All (IsFresh row.now) self.new) }
-        ensures reports { All (IsOfReport row.now.form.report) self.new }
+        ensures reports { All (IsOfReport row.now.header.report) self.new }
         ensures keys { map key_of self.new ≡ map key_of self.old }
     {
         self.most = refresh_all(alloc, &mut self.list, row)?;

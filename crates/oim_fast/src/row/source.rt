@@ -8,7 +8,7 @@ ghost use Rattle.oim_fast.specs.state.Sources.{seen_source, source_decimals, sou
 
 use crate::row::table_row::TableRow;
 use oim_report::{Written, WrittenDecimals};
-use oim_rows::RowForm;
+use oim_rows::TableHeader;
 
 /// What a reference names.
 #[derive(Clone, Copy)]
@@ -68,40 +68,40 @@ pub(crate) fn place_in(header: &[Option<usize>], column: usize) -> Option<usize>
 }
 
 /// What a reference to a name names: None where the header has no column of that name.
-fn named<'a>(form: &RowForm<'a>, name: &str) -> Option<Source<'a>>
-    ensures { option_map seen_source result ≡ source_named form.now name.now }
+fn named<'a>(header: &TableHeader<'a>, name: &str) -> Option<Source<'a>>
+    ensures { option_map seen_source result ≡ source_named header.now name.now }
 {
-    let column = form
+    let column = header
         .report()
-        .place_of_column(form.table(), name.as_bytes())?;
-    let place = place_in(form.header(), column)?;
-    match form.report().parameter(form.table(), name) {
+        .place_of_column(header.table(), name.as_bytes())?;
+    let place = place_in(header.columns(), column)?;
+    match header.report().parameter(header.table(), name) {
         Some(text) => Some(Source::Column(place, text)),
         None => Some(Source::Column(place, "")),
     }
 }
 
 /// What a written value refers to: None where it means the same in each row.
-pub(crate) fn source_of<'a>(form: &RowForm<'a>, written: &Written) -> Option<Source<'a>>
-    ensures { option_map seen_source result ≡ source_written form.now written.now }
+pub(crate) fn source_of<'a>(header: &TableHeader<'a>, written: &Written) -> Option<Source<'a>>
+    ensures { option_map seen_source result ≡ source_written header.now written.now }
 {
     match written {
         Written::RowNumber(_) => Some(Source::RowNumber),
-        Written::Named(name, _) => named(form, name.as_str()),
+        Written::Named(name, _) => named(header, name.as_str()),
         Written::Absent | Written::Nil | Written::Empty | Written::Text(_) => None,
     }
 }
 
 /// What written decimals refer to: None where they state the same in each row.
 pub(crate) fn source_of_decimals<'a>(
-    form: &RowForm<'a>,
+    header: &TableHeader<'a>,
     written: &WrittenDecimals,
 ) -> Option<Source<'a>>
-    ensures { option_map seen_source result ≡ source_decimals form.now written.now }
+    ensures { option_map seen_source result ≡ source_decimals header.now written.now }
 {
     match written {
         WrittenDecimals::RowNumber => Some(Source::RowNumber),
-        WrittenDecimals::Named(name) => named(form, name.as_str()),
+        WrittenDecimals::Named(name) => named(header, name.as_str()),
         WrittenDecimals::Absent | WrittenDecimals::Fixed(_) => None,
     }
 }

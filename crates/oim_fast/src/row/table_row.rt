@@ -5,14 +5,14 @@ ghost use Rattle.oim_rows.specs.RowFacts.{field_or_empty};
 
 use oim_records::TextFields;
 use oim_report::Report;
-use oim_rows::RowForm;
+use oim_rows::TableHeader;
 use std::marker::Model;
 
-/// A row of a table: its fields under the table's header, and its number. A contract sees what its table's rows are read
-/// by, its number, and its fields.
+/// A row of a table: its fields under the table's header, and its number. A contract sees that header, its number,
+/// and its fields.
 #[derive(Drop)]
 pub struct TableRow<'a, 'r> {
-    form: &'r RowForm<'a>,
+    header: &'r TableHeader<'a>,
     number: u32,
     /// The number in digits.
     digits: &'r str,
@@ -25,7 +25,7 @@ impl<'a, 'r> Model for TableRow<'a, 'r> {
 
     ghost Value = { RowValue };
 
-    ghost view = { λ a. record { form = a.form.now; number = a.number; fields = a.fields.now } };
+    ghost view = { λ a. record { header = a.header.now; number = a.number; fields = a.fields.now } };
 
     ghost invariant = { λ a. a.digits.now ≡ decimal a.number };
 }
@@ -34,16 +34,16 @@ impl<'a, 'r> TableRow<'a, 'r> {
     /// The row of a number, which is given in digits too.
     #[inline(always)]
     pub fn new(
-        form: &'r RowForm<'a>,
+        header: &'r TableHeader<'a>,
         number: u32,
         digits: &'r str,
         fields: &'r TextFields<'r>,
     ) -> TableRow<'a, 'r>
         requires { digits.now ≡ decimal number }
-        ensures { result ≡ record { form = form.now; number = number; fields = fields.now } }
+        ensures { result ≡ record { header = header.now; number = number; fields = fields.now } }
     {
         TableRow {
-            form,
+            header,
             number,
             digits,
             fields,
@@ -52,27 +52,27 @@ impl<'a, 'r> TableRow<'a, 'r> {
 
     /// What the rows of its table are read by.
     #[inline(always)]
-    pub fn form(&self) -> &'r RowForm<'a>
-        ensures { result.now ≡ self.now.form }
+    pub fn header(&self) -> &'r TableHeader<'a>
+        ensures { result.now ≡ self.now.header }
     {
-        self.form
+        self.header
     }
 
     /// The report of its table.
     #[inline(always)]
     pub fn report(&self) -> &'a Report
-        ensures { result.now ≡ self.now.form.report }
+        ensures { result.now ≡ self.now.header.report }
     {
-        self.form.report()
+        self.header.report()
     }
 
     /// The place of its table in the report.
     #[inline(always)]
     pub fn table(&self) -> usize
-        ensures value { result ≡ self.now.form.table }
-        ensures within { result < length self.now.form.report.tables }
+        ensures value { result ≡ self.now.header.table }
+        ensures within { result < length self.now.header.report.tables }
     {
-        self.form.table()
+        self.header.table()
     }
 
     /// Its number.

@@ -17,7 +17,7 @@ use crate::row::group_cells::GroupCells;
 use crate::row::references::References;
 use crate::row::table_row::TableRow;
 use crate::text::buffer::TextBuffer;
-use oim_rows::RowForm;
+use oim_rows::TableHeader;
 use std::alloc::{AllocError, Global};
 
 /// All that is ready for the cells of a table's rows.
@@ -83,15 +83,15 @@ fn put_rare(
 }
 
 impl<'a> CellWriter<'a> {
-    /// What writes the cells of a form's rows. Fails where memory is short.
-    pub(crate) fn new(alloc: Global, form: &RowForm<'a>) -> Result<CellWriter<'a>, AllocError>
-        ensures { IfOk result (IsCellWriter form.now) }
+    /// What writes the cells of the rows under a header. Fails where memory is short.
+    pub(crate) fn new(alloc: Global, header: &TableHeader<'a>) -> Result<CellWriter<'a>, AllocError>
+        ensures { IfOk result (IsCellWriter header.now) }
     {
         let mut cells = GroupCells::new(alloc);
-        let columns = fact_columns(alloc, form, &mut cells)?;
+        let columns = fact_columns(alloc, header, &mut cells)?;
         let maker = FrameMaker::new(alloc, cells);
         let frames = Frames::new(alloc);
-        let start = FactStart::new(alloc, form)?;
+        let start = FactStart::new(alloc, header)?;
         Ok(CellWriter {
             columns,
             maker,
@@ -108,8 +108,8 @@ impl<'a> CellWriter<'a> {
         alloc: Global,
         row: &TableRow<'a, '_>,
     ) -> Result<(), AllocError>
-        requires { IsCellWriter row.now.form self.old }
-        ensures form { IsCellWriter row.now.form self.new }
+        requires { IsCellWriter row.now.header self.old }
+        ensures header { IsCellWriter row.now.header self.new }
         ensures row { OnOk result (IsInRow row.now self.new) }
     {
         // For the proof: the number of a row is below 2^32.
@@ -132,7 +132,7 @@ impl<'a> CellWriter<'a> {
         requires row { IsInRow row.now self.old }
         requires within { i < length self.old.columns.items }
         ensures row { IsInRow row.now self.new }
-        ensures cell { PutsCell row.now (column_at row.now.form i) out.old.items out.new.items result }
+        ensures cell { PutsCell row.now (column_at row.now.header i) out.old.items out.new.items result }
     {
         let column = &mut self.columns[i];
         let place = column.place;
@@ -166,7 +166,7 @@ impl<'a> CellWriter<'a> {
         ends: &mut Vec<usize>,
     ) -> Result<bool, AllocError>
         requires { IsInRow row.now self.old }
-        ensures form { IsCellWriter row.now.form self.new }
+        ensures header { IsCellWriter row.now.header self.new }
         ensures front { IsPrefix out.old.items out.new.items × IsPrefix ends.old.items ends.new.items }
         ensures facts { IfOk result (λ written. written ≡ true → WritesFacts row.now out.old.items out.new.items ends.old.items ends.new.items) }
     {

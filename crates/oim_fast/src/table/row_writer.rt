@@ -8,44 +8,47 @@ use crate::row::table_row::TableRow;
 use crate::table::cell_writer::CellWriter;
 use crate::text::buffer::TextBuffer;
 use ghost_value::GhostValue;
-use oim_rows::RowForm;
+use oim_rows::TableHeader;
 use std::alloc::{AllocError, Global};
 use std::marker::Model;
 
-/// Writes the facts of a table's rows: all that is ready for it. A contract sees what its rows are read by.
+/// Writes the facts of a table's rows: all that is ready for it. A contract sees the table's header.
 pub struct RowWriter<'a> {
-    form: GhostValue<RowForm<'a>>,
+    header: GhostValue<TableHeader<'a>>,
     cells: CellWriter<'a>,
 }
 
 // By hand, so that who lets one go elsewhere makes one call.
 impl Drop for RowWriter<'_> {
     fn drop(self) {
-        let Self { form: _, cells: _ } = self;
+        let Self {
+            header: _,
+            cells: _,
+        } = self;
     }
 }
 
 impl<'a> Model for RowWriter<'a> {
-    ghost use Rattle.oim_rows.specs.RowFacts.{Reading};
+    ghost use Rattle.oim_rows.specs.RowFacts.{TableHeaderValue};
     ghost use Rattle.oim_fast.specs.state.CellWriters.{IsCellWriter};
 
-    ghost Value = { Reading };
+    ghost Value = { TableHeaderValue };
 
-    ghost view = { λ a. a.form.value };
+    ghost view = { λ a. a.header.value };
 
-    ghost invariant = { λ a. IsCellWriter a.form.value a.cells };
+    ghost invariant = { λ a. IsCellWriter a.header.value a.cells };
 }
 
 impl<'a> RowWriter<'a> {
-    /// What writes the rows of a form.
+    /// What writes the rows under a header.
     ///
     /// Fails where memory is short.
-    pub fn new(alloc: Global, form: &RowForm<'a>) -> Result<RowWriter<'a>, AllocError>
-        ensures { IfOk result (λ w. w ≡ form.now) }
+    pub fn new(alloc: Global, header: &TableHeader<'a>) -> Result<RowWriter<'a>, AllocError>
+        ensures { IfOk result (λ w. w ≡ header.now) }
     {
         Ok(RowWriter {
-            form: GhostValue::seen(form),
-            cells: CellWriter::new(alloc, form)?,
+            header: GhostValue::seen(header),
+            cells: CellWriter::new(alloc, header)?,
         })
     }
 
@@ -62,7 +65,7 @@ impl<'a> RowWriter<'a> {
         out: &mut TextBuffer,
         ends: &mut Vec<usize>,
     ) -> Result<bool, AllocError>
-        requires { row.now.form ≡ self.old }
+        requires { row.now.header ≡ self.old }
         ensures same { self.new ≡ self.old }
         ensures front { IsPrefix out.old.items out.new.items × IsPrefix ends.old.items ends.new.items }
         ensures facts { IfOk result (λ written. written ≡ true → WritesFacts row.now out.old.items out.new.items ends.old.items ends.new.items) }

@@ -8,4 +8,4 @@ use Rattle.oim_pieces.specs.declared.flying.Coming.TheVariants.{Thread, Here}
 -- the answer for what was asked comes through the channel of that piece, or it is here
 abbrev pub Comes : Asked → Coming → Type 0
 Comes asked (Thread pending) = IsOf asked pending
-Comes asked (Here answer) = IsAnswer asked.reading.value asked.first asked.rows.value answer
+Comes asked (Here answer) = IsAnswer asked.header.value asked.first asked.rows.value answer

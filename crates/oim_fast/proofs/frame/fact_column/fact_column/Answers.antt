@@ -13,21 +13,21 @@ use Rattle.oim_fast.proofs.frame.fact_column.fact_column.Goals as goal
 
 pub returns-in_default-place_in-clause-column : goal.returns-in_default-place_in-clause-column
 returns-in_default-place_in-clause-column c =
-    let f = c.args.form.now in
+    let f = c.args.header.now in
     let at = c.in-Some.at in
-    let none : position_from (is_column at) 0 f.header ≡ None = cc (c.place_in.ensures, c.header-2.ensures, c.in_default-place_in.is) in
-    let here = get_or_default f.header c.args.i None _ c.requires.within ∙ ap (λ (h : Header). get_or h c.args.i _) (sym c.header.ensures) ∙ c.in-Some.is in
-    absurd (names_it f.header c.args.i at c.requires.within here none)
+    let none : position_from (is_column at) 0 f.columns ≡ None = cc (c.place_in.ensures, c.columns-3.ensures, c.in_default-place_in.is) in
+    let here = get_or_default f.columns c.args.i None _ c.requires.within ∙ ap (λ (h : Header). get_or h c.args.i _) (sym c.columns.ensures) ∙ c.in-Some.is in
+    absurd (names_it f.columns c.args.i at c.requires.within here none)
 
 pub returns-clause-column : goal.returns-clause-column
 returns-clause-column c =
-    let f = c.args.form.now in
+    let f = c.args.header.now in
     let at = c.in-Some.at in
-    let here = get_or_default f.header c.args.i None _ c.requires.within ∙ ap (λ (h : Header). get_or h c.args.i _) (sym c.header.ensures) ∙ c.in-Some.is in
+    let here = get_or_default f.columns c.args.i None _ c.requires.within ∙ ap (λ (h : Header). get_or h c.args.i _) (sym c.columns.ensures) ∙ c.in-Some.is in
     let is : c.column-column.result.now ≡ column_in f at =
     c.column-column.ensures.column ∙ ap (λ (r : ReportValue). column_of r c.table-2.result at) c.report-2.ensures ∙ ap (λ (t : ℕ). column_of f.report t at) c.table-2.ensures.value in
-    let all : c.columns.result ≡ length (columns_in f) =
-    c.columns.ensures ∙ ap (λ (r : ReportValue). length (columns_of r c.table.result)) c.report.ensures ∙ ap (λ (t : ℕ). length (columns_of f.report t)) c.table.ensures.value in
+    let all : c.columns-2.result ≡ length (columns_in f) =
+    c.columns-2.ensures ∙ ap (λ (r : ReportValue). length (columns_of r c.table.result)) c.report.ensures ∙ ap (λ (t : ℕ). length (columns_of f.report t)) c.table.ensures.value in
     let within : at < length (columns_in f) = omega (arith, all) in
     let yes : c.holds_facts.result ≡ true = search rules in
     let test : is_fact_column (columns_in f) at ≡ true =
@@ -35,7 +35,7 @@ returns-clause-column c =
       names_facts f c.args.i at here test,
       record {
         range = within;
-        there = sym (c.in-Some-place_in.ensures ∙ ap (position_from (is_column at) 0) c.header-2.ensures);
+        there = sym (c.in-Some-place_in.ensures ∙ ap (position_from (is_column at) 0) c.columns-3.ensures);
         level = ap (λ (k : Column). k.level) is;
         lead = c.in_ok-lead.ensures ∙ ap (λ (k : Column). flat_map escaped_byte (codes "." ++ k.id) ++ codes "\":{") is;
         from = subst (λ (k : Column). All (λ g. g < length (columns_in f)) k.from) is

@@ -8,13 +8,13 @@ use Rattle.oim_fast.proofs.frame.fact_column.fact_columns.Goals.{in-Some+in_ok-p
 
 pub loop-i-preserved : goal.loop-i-preserved
 loop-i-preserved c =
-    let f = c.args.form.now in
+    let f = c.args.header.now in
     let before = c.loop-i.cells.list.items in
     let after = c.fact_column.new.cells.list.items in
     let facts = c.loop-i.facts.items in
     let i = c.loop-i.i in
     let more = λ (o : Option FactColumn) (at : IsColumnAt f after i o).
-    one_more f before after facts i o (omega (arith, ap length c.header-i-end.ensures)) c.in_ok-column.ensures.grows c.loop-i.invariant.columns c.loop-i.invariant.are at in
+    one_more f before after facts i o (omega (arith, ap length c.columns-i-end.ensures)) c.in_ok-column.ensures.grows c.loop-i.invariant.columns c.loop-i.invariant.are at in
     elim c.match-branch-2.branch [
       | in-Some+in_ok-push w ↦
           let both = more (Some w.in-Some.column) (subst (IsColumnAt f after i) w.in-Some.is c.in_ok-column.ensures.column) in

@@ -7,7 +7,7 @@ use Rattle.oim_fast.proofs.frame.fact_column.fact_columns.Given as goal
 
 abbrev pub invariant-loop-i : goal.invariant-loop-i
 invariant-loop-i l = record {
-  cells : All (IsGroupCell l.form) l.cells.list.items;
-  columns : map (λ (c : FactColumn). c.column) l.facts.items ≡ fact_columns_in l.form (take l.i l.form.header);
-  are : All (IsFactColumn l.form l.cells.list.items) l.facts.items;
+  cells : All (IsGroupCell l.header) l.cells.list.items;
+  columns : map (λ (c : FactColumn). c.column) l.facts.items ≡ fact_columns_in l.header (take l.i l.header.columns);
+  are : All (IsFactColumn l.header l.cells.list.items) l.facts.items;
 }

@@ -3,7 +3,7 @@ use Rattle.std.specs.Prelude.{decimal}
 use Rattle.std.specs.List.{flat_map}
 use Rattle.std.specs.Result.{OnOk}
 use Rattle.oim_json.specs.JsonText.{escaped_byte}
-use Rattle.oim_rows.specs.RowFacts.{Reading, id_place_of, row_id_text}
+use Rattle.oim_rows.specs.RowFacts.{TableHeaderValue, id_place_of, row_id_text}
 use Rattle.oim_fast.proofs.Appends.{still_front}
 use Rattle.oim_fast.proofs.StartLaws.{number_put}
 use Rattle.oim_fast.proofs.frame.fact_start.put_id.Goals as goal
@@ -11,7 +11,7 @@ use Rattle.oim_fast.proofs.frame.fact_start.put_id.Goals as goal
 pub returns-in-Some-clause-id : goal.returns-in-Some-clause-id
 returns-in-Some-clause-id c =
     let x = c.args.row.now in
-    let place : id_place_of x.form ≡ Some c.in-Some.place = sym (c.id_place.ensures ∙ ap (λ (f : Reading). id_place_of f) c.form.ensures) ∙ c.in-Some.is in
+    let place : id_place_of x.header ≡ Some c.in-Some.place = sym (c.id_place.ensures ∙ ap (λ (f : TableHeaderValue). id_place_of f) c.header.ensures) ∙ c.in-Some.is in
     subst (λ (t : List ℕ). OnOk c.put_escaped_front.result (c.put_escaped_front.new.out.items ≡ c.args.out.now.items ++ flat_map escaped_byte t))
     (c.bytes_at-len.ensures.bytes ∙ sym (ap (λ (o : Option ℕ). row_id_text o x.number x.fields) place)) c.put_escaped_front.ensures.escaped
 
@@ -20,8 +20,8 @@ returns-in_ok-put-in-None-clause-id c =
     let x = c.args.row.now in
     let out = c.args.out.now.items in
     let mid = c.put.new.self.items in
-    let place : id_place_of x.form ≡ None = sym (c.id_place.ensures ∙ ap (λ (f : Reading). id_place_of f) c.form.ensures) ∙ c.in-None.is in
-    let whole : mid ++ c.digits.result.now ≡ out ++ flat_map escaped_byte (row_id_text (id_place_of x.form) x.number x.fields) =
+    let place : id_place_of x.header ≡ None = sym (c.id_place.ensures ∙ ap (λ (f : TableHeaderValue). id_place_of f) c.header.ensures) ∙ c.in-None.is in
+    let whole : mid ++ c.digits.result.now ≡ out ++ flat_map escaped_byte (row_id_text (id_place_of x.header) x.number x.fields) =
     ap (λ t. mid ++ t) c.digits.ensures.value ∙ ap (λ t. t ++ decimal x.number) c.in_ok-put-in-None.ensures.items
     ∙ number_put out x.number (omega (arith, c.digits.ensures.within)) ∙ sym (ap (λ (o : Option ℕ). out ++ flat_map escaped_byte (row_id_text o x.number x.fields)) place) in
     search rules

@@ -9,11 +9,11 @@ use Rattle.oim_fast.proofs.ChoiceLaws.{all_chosen, all_held, chosen_levels_rise,
 use Rattle.oim_fast.proofs.frame.frame_maker.levels_of.Goals as goal
 
 pub push_groups-requires : goal.push_groups-requires
-push_groups-requires c = rw c.as_slice.ensures.value (groups_within c.args.row.now.form c.args.cells.now.list.items c.args.column.now c.requires.column)
+push_groups-requires c = rw c.as_slice.ensures.value (groups_within c.args.row.now.header c.args.cells.now.list.items c.args.column.now c.requires.column)
 
 all_levels : goal.returns-clause-levels
 all_levels c =
-    let f = c.args.row.now.form in
+    let f = c.args.row.now.header in
     let cells = c.args.cells.now.list.items in
     let column = c.args.column.now in
     let groups = column.groups.items in
@@ -35,6 +35,6 @@ returns-clause-levels c = all_levels c
 
 pub returns-clause-rise : goal.returns-clause-rise
 returns-clause-rise c =
-    let f = c.args.row.now.form in
+    let f = c.args.row.now.header in
     let order : PartsRise f.report.level f.report.templates f.report.tables = subst (λ (r : ReportValue). PartsRise r.level r.templates r.tables) c.report-report.ensures c.stands_in_order.ensures.order in
     all_held LevelRises c.push-3.new.self.items (chosen_levels_rise f c.args.cells.now.list.items c.requires.cells order c.args.column.now c.requires.column (held c.push-3.new.self.items) (returns-clause-levels c))

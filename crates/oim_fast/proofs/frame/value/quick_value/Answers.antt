@@ -9,13 +9,13 @@ use Rattle.oim_fast.proofs.frame.value.quick_value.Goals as goal
 
 pub returns-in-Number : goal.returns-in-Number
 returns-in-Number c =
-    let report = c.args.row.now.form.report in
+    let report = c.args.row.now.header.report in
     let cell = field_or_empty c.args.row.now.fields (Some c.args.place) in
     subst (λ (k : Kind). IfSome c.number.result (IsValue report k (meaning_of cell))) (sym c.in-Number.is) (c.number.ensures report)
 
 pub returns-then-bytes-ne35 : goal.returns-then-bytes-ne35
 returns-then-bytes-ne35 c =
-    let report = c.args.row.now.form.report in
+    let report = c.args.row.now.header.report in
     let cell = field_or_empty c.args.row.now.fields (Some c.args.place) in
     let value : Value = record { bytes = c.args.bytes; len = c.args.len; accuracy = None; is_nil = false } in
     subst (λ (v : Value). IsValue report c.args.kind (meaning_of cell) v) (sym c.plain.ensures)

@@ -6,6 +6,6 @@ use Rattle.oim_fast.proofs.frame.value.rare_value.Goals as goal
 
 pub returns-then-eq : goal.returns-then-eq
 returns-then-eq c =
-    let report = c.args.row.now.form.report in
+    let report = c.args.row.now.header.report in
     let is = (bytes_eq-Decides _ _).0 (sym c.eq.ensures ∙ c.if-eq.true) in
     subst (λ (t : List ℕ). IsValue report c.args.kind (meaning_of t) c.nil_value.result) (sym is) (c.nil_value.ensures report c.args.kind)

@@ -23,12 +23,12 @@ loop-i-preserved c =
     let len : length xs ≡ length c.args.list.now.items = sym (length-map xs key_of) ∙ ap length c.loop-i.invariant.keys ∙ length-map c.args.list.now.items key_of in
     let b : i < length xs = omega (arith, c.len-i-end.ensures) in
     let is : x ≡ get_or xs i x = c.index_mut-reference.ensures.value in
-    let of_report : IsOfReport a.form.report x = subst (IsOfReport a.form.report) (sym is) (c.loop-i.invariant.reports i x b) in
-    let report : y.report ≡ a.form.report = ap (λ (s : ReferenceValue). s.report) c.refresh.ensures ∙ of_report in
+    let of_report : IsOfReport a.header.report x = subst (IsOfReport a.header.report) (sym is) (c.loop-i.invariant.reports i x b) in
+    let report : y.report ≡ a.header.report = ap (λ (s : ReferenceValue). s.report) c.refresh.ensures ∙ of_report in
     let source = sym (ap (λ (s : ReferenceValue). s.key.source) c.refresh.ensures) in
     let fresh : IsFresh a y = record { report = report; text = ap (λ (s : ReferenceValue). s.text) c.refresh.ensures ∙ ap (source_text a) source } in
     record {
       keys = set_map key_of xs i x y b is (ap key_of c.refresh.ensures) ∙ c.loop-i.invariant.keys;
-      reports = set_all (IsOfReport a.form.report) xs i y c.loop-i.invariant.reports report;
+      reports = set_all (IsOfReport a.header.report) xs i y c.loop-i.invariant.reports report;
       fresh = λ k d h. set_below (IsFresh a) xs i y b c.loop-i.invariant.fresh fresh k d (omega arith);
     }

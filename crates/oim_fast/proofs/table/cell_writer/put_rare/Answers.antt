@@ -8,7 +8,7 @@ use Rattle.oim_fast.proofs.table.cell_writer.put_rare.Goals as goal
 
 pub put_fact-requires-clause-plain : goal.put_fact-requires-clause-plain
 put_fact-requires-clause-plain c =
-    let r = c.args.row.now.form.report in
+    let r = c.args.row.now.header.report in
     let m = meaning_of c.args.cell.now in
     let kind : c.frame.inside.kind ≡ c.args.frame.now.kind = ap (λ (q : FrameValue). q.kind) c.frame.view_is in
     let v = c.in-Value.value in
@@ -18,7 +18,7 @@ put_fact-requires-clause-plain c =
 pub returns-in-Value : goal.returns-in-Value
 returns-in-Value c =
     let x = c.args.row.now in
-    let r = x.form.report in
+    let r = x.header.report in
     let m = meaning_of c.args.cell.now in
     let kind : c.frame.inside.kind ≡ c.args.frame.now.kind = ap (λ (q : FrameValue). q.kind) c.frame.view_is in
     let v = c.in-Value.value in

@@ -1,6 +1,6 @@
 use Rattle.std.proofs.Common.{◌+◌, ap, sym, ◌∙◌}
 use Rattle.oim_records.specs.PieceTaking.{bytes_left}
-use Rattle.oim_rows.specs.RowFacts.{Reading}
+use Rattle.oim_rows.specs.RowFacts.{TableHeaderValue}
 use Rattle.oim_pieces.specs.Cutting.{CutterLeft}
 use Rattle.oim_pieces.proofs.Openings.{behind_chain, behind_stream}
 use Rattle.oim_pieces.proofs.flight.Flight.behind.Goals as goal
@@ -9,8 +9,8 @@ pub invariant_of-result : goal.invariant_of-result
 invariant_of-result g c =
     let crew = c.in-Ok.ensures.crew in
     let next = ap (λ (x : CutterLeft). x.next) c.new.ensures ∙ ap (λ n. 1 + n) c.rows-rows.ensures in (
-      ap (λ (x : Reading). x.table) crew ∙ sym (ap (λ (x : CutterLeft). x.table) c.new.ensures),
-      ap (λ (x : Reading). x.limit) crew ∙ sym (ap (λ (x : CutterLeft). x.limit) c.new.ensures),
+      ap (λ (x : TableHeaderValue). x.table) crew ∙ sym (ap (λ (x : CutterLeft). x.table) c.new.ensures),
+      ap (λ (x : TableHeaderValue). x.limit) crew ∙ sym (ap (λ (x : CutterLeft). x.limit) c.new.ensures),
       behind_chain c.args.report.now c.args.table c.args.limit c.args.head _ _ _ c.in-Ok.ensures.piece (sym crew) c.requires.header next,
     )
 

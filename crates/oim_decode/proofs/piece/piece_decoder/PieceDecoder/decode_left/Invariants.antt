@@ -4,7 +4,7 @@ use Rattle.oim_decode.proofs.piece.piece_decoder.PieceDecoder.decode_left.Given 
 
 abbrev pub invariant-loop : goal.invariant-loop
 invariant-loop l = record {
-  decoded : HasDecoded l.fn.self.reading l.fn.first l.fn.self.left l.number l.self.left l.answer;
-  reading : l.self.reading ≡ l.fn.self.reading;
-  within : l.number ≤ l.fn.self.reading.limit + 1;
+  decoded : HasDecoded l.fn.self.header l.fn.first l.fn.self.left l.number l.self.left l.answer;
+  header : l.self.header ≡ l.fn.self.header;
+  within : l.number ≤ l.fn.self.header.limit + 1;
 }

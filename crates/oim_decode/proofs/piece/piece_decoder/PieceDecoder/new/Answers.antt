@@ -9,4 +9,4 @@ use Rattle.oim_decode.proofs.piece.piece_decoder.PieceDecoder.new.Goals as goal
 pub returns : goal.returns
 returns c =
     let none : c.new-3.result.left ≡ [] = ap (λ (p : Piece). p.left) c.new-3.ensures ∙ ap (records_left state.StartRecord) c.new-2.ensures.items ∙ no-record in
-    ap (λ (rs : List Record). piece_left c.args.form rs) none
+    ap (λ (rs : List Record). piece_left c.args.header rs) none

@@ -8,21 +8,21 @@ pub returns-in-Ok-false-clause-row : goal.returns-in-Ok-false-clause-row
 returns-in-Ok-false-clause-row c =
     let a = c.self.inside in
     let took = rw c.in-Ok-false.field-0-test at c.in-Ok-false.ensures in
-    rw (← c.self.view_is) (ends_none a.form c.args.number a.records.left c.args.answer.now took.0 c.requires)
+    rw (← c.self.view_is) (ends_none a.header c.args.number a.records.left c.args.answer.now took.0 c.requires)
 
 pub returns-in-Some-clause-row : goal.returns-in-Some-clause-row
 returns-in-Some-clause-row c =
     let a = c.self.inside in
     let took = rw c.in-Ok-true.field-0-test at c.in-Ok-true.ensures in
     rw (← c.self.view_is)
-    (ends_own a.form c.args.number a.ids a.records.left c.read.new.self.left c.read.new.self.fields c.fields-fields.result c.args.answer.now c.end-in-Some.new.self c.in-Some.fault
+    (ends_own a.header c.args.number a.ids a.records.left c.read.new.self.left c.read.new.self.fields c.fields-fields.result c.args.answer.now c.end-in-Some.new.self c.in-Some.fault
     took c.fields-fields.ensures c.self.invariant.1 (sym c.fault_of.ensures ∙ c.in-Some.is) c.end-in-Some.ensures)
 
 -- a row without a fault of its own is text
 pub unreachable-requires : goal.unreachable-requires
 unreachable-requires c =
     let a = c.self.inside in
-    let all = all_text 0 c.fields-fields.result (text_row a.form c.args.number a.ids c.fields-fields.result (sym c.fault_of.ensures ∙ c.in_default.is)) in
+    let all = all_text 0 c.fields-fields.result (text_row a.header c.args.number a.ids c.fields-fields.result (sym c.fault_of.ensures ∙ c.in_default.is)) in
     let none = rw c.in_default-texts.is at c.text_fields-texts.ensures in
     none (rw c.fields-fields.ensures at all)
 
@@ -32,6 +32,6 @@ returns-clause-row c =
     let texts = rw c.in-Some-texts.is at c.text_fields-texts.ensures in
     let took = rw c.in-Ok-true.field-0-test at c.in-Ok-true.ensures in
     rw (← c.self.view_is)
-    (row_steps c.new-row.result a.form c.args.number a.ids a.records.left c.read.new.self.left c.read.new.self.fields c.fields-fields.result c.in-Some-texts.texts c.args.answer.now
+    (row_steps c.new-row.result a.header c.args.number a.ids a.records.left c.read.new.self.left c.read.new.self.fields c.fields-fields.result c.in-Some-texts.texts c.args.answer.now
     c.push_row.new.self c.push_row.result took c.fields-fields.ensures c.self.invariant.1 (sym c.fault_of.ensures ∙ c.in_default.is) c.new-row.ensures texts
     c.push_row.ensures.row c.push_row.ensures.added)

@@ -7,7 +7,7 @@ returns-in-Ok-put_facts-clause-facts c =
     let x = c.args.row.now in
     record {
       facts = c.in-Ok.facts;
-      are = facts_are x.form.table (facts_of_row x) c.in-Ok.facts c.in-Ok.ensures.facts;
+      are = facts_are x.header.table (facts_of_row x) c.in-Ok.facts c.in-Ok.ensures.facts;
       text = c.in-Ok-put_facts.ensures.texts;
       ends = c.in-Ok-put_facts.ensures.ends;
     }

@@ -4,14 +4,14 @@ use Rattle.oim_decode.proofs.table.text_rows.TextRows.open.Goals as goal
 
 pub returns-clause-stream : goal.returns-clause-stream
 returns-clause-stream g c =
-    let both = opened_stream c.args.report.now c.args.table c.args.limit (g.R.Read.remaining c.args.reader) c.in-Ok.records.left c.read.new.records.left c.in-Ok-read.form.header c.in-Ok-read.form
-    c.new-2.result c.in-Ok.ensures c.in-Ok-read.ensures.header c.in-Ok-read.ensures.form c.new-2.ensures in
+    let both = opened_stream c.args.report.now c.args.table c.args.limit (g.R.Read.remaining c.args.reader) c.in-Ok.records.left c.read.new.records.left c.in-Ok-read.header.columns c.in-Ok-read.header
+    c.new-2.result c.in-Ok.ensures c.in-Ok-read.ensures.header c.in-Ok-read.ensures.value c.new-2.ensures in
     IfSome_then (g.R.Read.remaining c.args.reader) both (λ bytes h. h.0)
 
 pub returns-clause-header : goal.returns-clause-header
 returns-clause-header g c =
-    let both = opened_stream c.args.report.now c.args.table c.args.limit (g.R.Read.remaining c.args.reader) c.in-Ok.records.left c.read.new.records.left c.in-Ok-read.form.header c.in-Ok-read.form
-    c.new-2.result c.in-Ok.ensures c.in-Ok-read.ensures.header c.in-Ok-read.ensures.form c.new-2.ensures in
+    let both = opened_stream c.args.report.now c.args.table c.args.limit (g.R.Read.remaining c.args.reader) c.in-Ok.records.left c.read.new.records.left c.in-Ok-read.header.columns c.in-Ok-read.header
+    c.new-2.result c.in-Ok.ensures c.in-Ok-read.ensures.header c.in-Ok-read.ensures.value c.new-2.ensures in
     IfSome_then (g.R.Read.remaining c.args.reader) both (λ bytes h. h.1)
 
 pub returns-in-Err-clause-fault : goal.returns-in-Err-clause-fault

@@ -13,7 +13,7 @@ returns-in_err-put_id-clause-lead c =
     let old = c.args.self.now in
     let stays = subst (λ (xs : List ℕ). IsPrefix xs c.put_id.new.out.items) c.truncate.ensures.items c.put_id.ensures.stays in
     record {
-      text = front_stays old.lead old.start.items c.put_id.new.out.items (lead_text c.args.row.now.form) c.requires.text c.requires.size stays;
+      text = front_stays old.lead old.start.items c.put_id.new.out.items (lead_text c.args.row.now.header) c.requires.text c.requires.size stays;
       size = c.requires.size;
     }
 
@@ -22,7 +22,7 @@ returns-clause-lead c =
     let old = c.args.self.now in
     let stays = subst (λ (xs : List ℕ). IsPrefix xs c.put_id.new.out.items) c.truncate.ensures.items c.put_id.ensures.stays in
     record {
-      text = front_stays old.lead old.start.items c.put_id.new.out.items (lead_text c.args.row.now.form) c.requires.text c.requires.size stays;
+      text = front_stays old.lead old.start.items c.put_id.new.out.items (lead_text c.args.row.now.header) c.requires.text c.requires.size stays;
       size = c.requires.size;
     }
 
@@ -30,4 +30,4 @@ pub returns-clause-start : goal.returns-clause-start
 returns-clause-start c =
     let x = c.args.row.now in
     c.in_ok-put_id.ensures.id ∙ ap (λ q. q ++ flat_map escaped_byte (row_in x).id) (c.truncate.ensures.items ∙ c.requires.text)
-    ∙ start_put ((table_of x.form.report x.form.table).id) ((row_in x).id)
+    ∙ start_put ((table_of x.header.report x.header.table).id) ((row_in x).id)

@@ -21,7 +21,7 @@ returns-clause-maker c = maker_with c.args.row.now c.args.self.now c.place_for.n
 
 pub returns-clause-added : goal.returns-clause-added
 returns-clause-added c = λ yes.
-    let f = c.args.row.now.form in
+    let f = c.args.row.now.header in
     let keys = map key_of c.place_for.new.references in
     let xs = c.place_for.new.self.list.items in
     let p = c.index-part.result.now in

@@ -16,12 +16,12 @@ loop-i-init c = record {
   maker = c.requires.maker;
   grows = grows_none c.args.self.now.references;
   cells = refl;
-  added = adds_none c.args.row.now.form (map key_of c.args.self.now.references) c.args.text.now;
+  added = adds_none c.args.row.now.header (map key_of c.args.self.now.references) c.args.text.now;
 }
 
 pub loop-i-preserved : goal.loop-i-preserved
 loop-i-preserved c =
-    let f = c.args.row.now.form in
+    let f = c.args.row.now.header in
     let ls = reverse (held c.args.levels.now) in
     let ns = c.in_ok-names.names.items in
     let i = c.loop-i.i in
@@ -42,7 +42,7 @@ loop-i-preserved c =
 
 pub returns-clause-added : goal.returns-clause-added
 returns-clause-added c = λ _.
-    let f = c.args.row.now.form in
+    let f = c.args.row.now.header in
     let ls = reverse (held c.args.levels.now) in
     let ns = c.in_ok-names.names.items in
     let every : take c.loop-i.i ns ≡ ns = take_all c.loop-i.i ns (omega (arith, c.len-i-end.ensures)) in

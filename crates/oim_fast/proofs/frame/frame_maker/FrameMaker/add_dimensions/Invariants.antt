@@ -13,5 +13,5 @@ invariant-loop-i l = record {
   maker : IsMaker l.row l.self;
   grows : Grows l.fn.self.references l.self.references;
   cells : l.self.cells ≡ l.fn.self.cells;
-  added : AddsEntries l.row.form (map key_of l.self.references) (flat_map (λ n. named n (written (reverse (held l.levels)) n)) (held (take l.i l.names.items))) l.fn.text l.text;
+  added : AddsEntries l.row.header (map key_of l.self.references) (flat_map (λ n. named n (written (reverse (held l.levels)) n)) (held (take l.i l.names.items))) l.fn.text l.text;
 }

@@ -26,7 +26,7 @@ returns-clause-maker c = maker_with c.args.row.now c.args.self.now c.place_for.n
 
 pub returns-clause-concept : goal.returns-clause-concept
 returns-clause-concept c =
-    let f = c.args.row.now.form in
+    let f = c.args.row.now.header in
     let keys = map key_of c.place_for.new.references in
     let ls = reverse (held c.args.levels.now) in
     let xs = c.place_for.new.self.list.items in

@@ -9,9 +9,9 @@ use Rattle.oim_fast.proofs.frame.frame_maker.FrameMaker.text.Goals as goal
 pub returns-clause-text : goal.returns-clause-text
 returns-clause-text c =
     let yes : c.in_ok-added.added ≡ true = search rules in
-    let made = text_made c.args.row.now.form c.opening.new.self.references c.add_dimensions.new.self.references (reverse (held c.args.levels.now)) c.args.kind c.args.lead.now.items
+    let made = text_made c.args.row.now.header c.opening.new.self.references c.add_dimensions.new.self.references (reverse (held c.args.levels.now)) c.args.kind c.args.lead.now.items
     c.in_ok-text.text c.add_dimensions.new.text c.add_dimensions.ensures.grows c.in_ok-text.ensures.opening (c.in_ok-added.ensures.added yes) in
-    subst (IsTextOfKind c.args.row.now.form (keys_in c.add_dimensions.new.self) (from_general c.args.levels.now) c.args.lead.now.items c.args.kind) (sym c.fit.ensures) made
+    subst (IsTextOfKind c.args.row.now.header (keys_in c.add_dimensions.new.self) (from_general c.args.levels.now) c.args.lead.now.items c.args.kind) (sym c.fit.ensures) made
 
 pub returns-clause-grows : goal.returns-clause-grows
 returns-clause-grows c = grows_twice c.args.self.now.references c.opening.new.self.references c.add_dimensions.new.self.references c.opening.ensures.grows c.add_dimensions.ensures.grows

@@ -24,7 +24,7 @@ by_concept-requires-clause-reference c =
     let keys = map key_of c.first.new.maker.references in
     let P = IsKnownFor cells column None in
     let at = subst (λ (o : Option ℕ). IfSome o (λ q. IsSomeAnd (slice_get vs q) P)) c.in-Some.is c.in_ok-first.ensures.place in
-    subst (λ (q : ℕ). HasReferredKind x.form keys (levels (cell_in x q)) c.in-Some-concept.reference) (sym (ap (λ (k : FactColumn). k.column) c.first.ensures.column))
+    subst (λ (q : ℕ). HasReferredKind x.header keys (levels (cell_in x q)) c.in-Some-concept.reference) (sym (ap (λ (k : FactColumn). k.column) c.first.ensures.column))
     (concept_here x cells column c.requires.column c.requires.maker.cells c.requires.maker.said keys vs c.first.ensures.frames place c.index-frame.result.now (there_some P vs place at) c.index-frame.ensures at
     c.in-Some-concept.reference c.in-Some-concept.ensures)
 
@@ -52,8 +52,8 @@ returns-clause-text c =
     let P = IsKnownFor cells column None in
     let at = subst (λ (o : Option ℕ). IfSome o (λ q. IsSomeAnd (slice_get vs q) P)) c.in-Some.is c.in_ok-first.ensures.place in
     let known = known_here x cells column c.requires.column c.requires.maker.cells c.requires.maker.said keys vs c.first.ensures.frames place c.index-frame.result.now (there_some P vs place at) c.index-frame.ensures at in
-    let kept : IsFactColumn x.form c.first.new.maker.cells.list.items one =
-    subst (λ (g : GroupCells). IsFactColumn x.form g.list.items one) (sym c.first.ensures.cells) (guessed x.form cells column one c.first.ensures.column c.requires.column) in
+    let kept : IsFactColumn x.header c.first.new.maker.cells.list.items one =
+    subst (λ (g : GroupCells). IsFactColumn x.header g.list.items one) (sym c.first.ensures.cells) (guessed x.header cells column one c.first.ensures.column c.requires.column) in
     let now : All (λ o. is_known_choice o ≡ true) (choices_in c.first.new.maker.cells.list.items one.groups.items) =
     subst (λ (g : GroupCells). All (λ o. is_known_choice o ≡ true) (choices_in g.list.items one.groups.items)) (sym c.first.ensures.cells)
     (subst (λ (k : FactColumn). All (λ o. is_known_choice o ≡ true) (choices_in cells k.groups.items)) (sym c.first.ensures.column) known) in

@@ -10,10 +10,10 @@ use Rattle.oim_fast.proofs.ServedLaws.{some_also, some_is}
 use Rattle.oim_fast.proofs.frame.frames.Frames.place.Goals as goal
 
 pub hash-hash-requires : goal.hash-hash-requires
-hash-hash-requires c = groups_within c.args.row.now.form c.args.maker.now.cells.list.items c.args.column.now c.requires.column
+hash-hash-requires c = groups_within c.args.row.now.header c.args.maker.now.cells.list.items c.args.column.now c.requires.column
 
 pub find-requires : goal.find-requires
-find-requires c = groups_within c.args.row.now.form c.args.maker.now.cells.list.items c.args.column.now c.requires.column
+find-requires c = groups_within c.args.row.now.header c.args.maker.now.cells.list.items c.args.column.now c.requires.column
 
 pub returns-in-Some-clause-place : goal.returns-in-Some-clause-place
 returns-in-Some-clause-place c =
@@ -25,17 +25,17 @@ returns-in-Some-clause-grows c = grows_none c.args.maker.now.references
 
 pub returns-in_err-frame-clause-frames : goal.returns-in_err-frame-clause-frames
 returns-in_err-frame-clause-frames c =
-    frames_grow c.args.row.now.form c.args.maker.now.references c.frame.new.self.references c.frame.ensures.grows c.args.self.now.list.items c.requires.frames
+    frames_grow c.args.row.now.header c.args.maker.now.references c.frame.new.self.references c.frame.ensures.grows c.args.self.now.list.items c.requires.frames
 
 pub returns-in_err-place-clause-frames : goal.returns-in_err-place-clause-frames
 returns-in_err-place-clause-frames c =
-    let f = c.args.row.now.form in
+    let f = c.args.row.now.header in
     let later = c.frame.new.self.references in
     c.keep.ensures.frames f (map key_of later) (frames_grow f c.args.maker.now.references later c.frame.ensures.grows c.args.self.now.list.items c.requires.frames) c.in_ok-frame.ensures.frame
 
 pub returns-clause-frames : goal.returns-clause-frames
 returns-clause-frames c =
-    let f = c.args.row.now.form in
+    let f = c.args.row.now.header in
     let later = c.frame.new.self.references in
     c.keep.ensures.frames f (map key_of later) (frames_grow f c.args.maker.now.references later c.frame.ensures.grows c.args.self.now.list.items c.requires.frames) c.in_ok-frame.ensures.frame
 

@@ -13,7 +13,7 @@ use Rattle.oim_fast.proofs.frame.part.Part.constant.Goals as goal
 
 pub returns-clause-part : goal.returns-clause-part
 returns-clause-part c = λ keys.
-    let f = c.args.form.now in
+    let f = c.args.header.now in
     let n = c.args.name.now in
     let w = c.args.written.now in
     let a = c.read.new.self in

@@ -3,7 +3,7 @@ use Rattle.oim_report.specs.ReportValue.{ReportValue}
 use Rattle.oim_report.specs.declared.data.Side.{Side}
 use Rattle.oim_resolve.specs.Facts.{role_of}
 use Rattle.oim_resolve.specs.declared.role.Role.{Role}
-use Rattle.oim_rows.specs.RowFacts.{Reading}
+use Rattle.oim_rows.specs.RowFacts.{TableHeaderValue}
 use Rattle.oim_fast.specs.state.Parts.{purpose_of}
 use Rattle.oim_fast.specs.state.References.{Key}
 use Rattle.oim_fast.specs.state.Sources.{seen_source, source_written}
@@ -14,7 +14,7 @@ use Rattle.oim_fast.proofs.frame.part.Part.new.Goals as goal
 
 pub returns-clause-part : goal.returns-clause-part
 returns-clause-part c =
-    let f = c.args.row.now.form in
+    let f = c.args.row.now.header in
     let n = c.args.name.now in
     let w = c.args.written.now in
     let source = seen_source c.in-Some.source in
@@ -27,7 +27,7 @@ returns-clause-part c =
       value = (
         record {
           source = source;
-          written = sym (c.in-Some.ensures ∙ ap (λ (g : Reading). source_written g w) c.form.ensures);
+          written = sym (c.in-Some.ensures ∙ ap (λ (g : TableHeaderValue). source_written g w) c.header.ensures);
           there = key_there c.place_for.new.self c.in_ok-place.place (key (purpose_of f n w)) (c.in_ok-place.ensures.place ∙ ap (λ (p : Purpose). Some (key p)) purpose);
         },
         c.in_ok-text.ensures,

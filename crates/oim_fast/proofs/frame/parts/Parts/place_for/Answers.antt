@@ -11,17 +11,17 @@ pub returns-in-Some-clause-grows : goal.returns-in-Some-clause-grows
 returns-in-Some-clause-grows c = grows_none c.args.references.now
 
 pub returns-in_err-part-clause-parts : goal.returns-in_err-part-clause-parts
-returns-in_err-part-clause-parts c = parts_grow c.args.row.now.form c.args.references.now c.new.new.references c.new.ensures.grows c.args.self.now.list.items c.requires.parts
+returns-in_err-part-clause-parts c = parts_grow c.args.row.now.header c.args.references.now c.new.new.references c.new.ensures.grows c.args.self.now.list.items c.requires.parts
 
 pub returns-in_err-place-clause-parts : goal.returns-in_err-place-clause-parts
 returns-in_err-place-clause-parts c =
-    let f = c.args.row.now.form in
+    let f = c.args.row.now.header in
     let later = c.new.new.references in
     c.keep.ensures.parts f (map key_of later) (parts_grow f c.args.references.now later c.new.ensures.grows c.args.self.now.list.items c.requires.parts) c.in_ok-part.ensures.part
 
 pub returns-clause-parts : goal.returns-clause-parts
 returns-clause-parts c =
-    let f = c.args.row.now.form in
+    let f = c.args.row.now.header in
     let later = c.new.new.references in
     c.keep.ensures.parts f (map key_of later) (parts_grow f c.args.references.now later c.new.ensures.grows c.args.self.now.list.items c.requires.parts) c.in_ok-part.ensures.part
 

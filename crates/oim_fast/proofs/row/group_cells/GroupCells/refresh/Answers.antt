@@ -18,10 +18,10 @@ loop-i-preserved c =
     let len : length xs ≡ length c.args.self.now.list.items = sym (length-map xs column_of) ∙ ap length c.loop-i.invariant.columns ∙ length-map c.args.self.now.list.items column_of in
     let b : i < length xs = omega (arith, c.len-i-end.ensures) in
     let is : x ≡ get_or xs i x = c.index_mut-cell.ensures.value in
-    let cell : IsGroupCell a.form x = subst (IsGroupCell a.form) (sym is) (c.loop-i.invariant.cells i x b) in
-    let kept : IsGroupCell a.form y = record { range = cell.range; place = cell.place; groups = cell.groups; rising = cell.rising } in
+    let cell : IsGroupCell a.header x = subst (IsGroupCell a.header) (sym is) (c.loop-i.invariant.cells i x b) in
+    let kept : IsGroupCell a.header y = record { range = cell.range; place = cell.place; groups = cell.groups; rising = cell.rising } in
     record {
       columns = set_map column_of xs i x y b is refl ∙ c.loop-i.invariant.columns;
-      cells = set_all (IsGroupCell a.form) xs i y c.loop-i.invariant.cells kept;
+      cells = set_all (IsGroupCell a.header) xs i y c.loop-i.invariant.cells kept;
       said = λ k d h. set_below (IsSaid a) xs i y b c.loop-i.invariant.said c.choice_in-cell.ensures k d (omega arith);
     }

@@ -7,6 +7,6 @@ use Rattle.oim_fast.proofs.row.group_cells.GroupCells.refresh.Given as goal
 abbrev pub invariant-loop-i : goal.invariant-loop-i
 invariant-loop-i l = record {
   columns : map (λ (g : GroupCell). g.column) l.self.list.items ≡ map (λ (g : GroupCell). g.column) l.fn.self.list.items;
-  cells : All (IsGroupCell l.row.form) l.self.list.items;
+  cells : All (IsGroupCell l.row.header) l.self.list.items;
   said : (k : ℕ) (d : GroupCell) → k < l.i → IsSaid l.row (get_or l.self.list.items k d);
 }

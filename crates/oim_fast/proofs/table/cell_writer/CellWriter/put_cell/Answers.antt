@@ -23,8 +23,8 @@ returns-then-size-eq0-clause-cell c =
     let old = c.args.self.now in
     let k = c.index_mut-column.result.now in
     let is : k ≡ get_or old.columns.items c.args.i k = c.index_mut-column.ensures.value in
-    let there : k.column ≡ column_at x.form c.args.i = column_there x.form old.maker.cells.list.items old.columns.items c.args.i k c.requires.row.columns c.requires.within is in
-    let column : IsFactColumn x.form old.maker.cells.list.items k = subst (IsFactColumn x.form old.maker.cells.list.items) (sym is) (c.requires.row.columns.are c.args.i k c.requires.within) in
+    let there : k.column ≡ column_at x.header c.args.i = column_there x.header old.maker.cells.list.items old.columns.items c.args.i k c.requires.row.columns c.requires.within is in
+    let column : IsFactColumn x.header old.maker.cells.list.items k = subst (IsFactColumn x.header old.maker.cells.list.items) (sym is) (c.requires.row.columns.are c.args.i k c.requires.within) in
     let field = field_or_empty x.fields (Some k.place) in
     let means : meaning_of field ≡ fact_meaning (cell_in x k.column) = cell_meaning x old.maker.cells.list.items k column in
     let size : c.bytes_at-size.result.1 ≡ 0 = omega arith in
@@ -39,7 +39,7 @@ returns-in_err-at-clause-row c =
     let k = c.index_mut-column.result.now in
     let is : k ≡ get_or old.columns.items c.args.i k = c.index_mut-column.ensures.value in
     record {
-      columns = column_set x.form old.maker.cells.list.items c.frame_for.new.maker.cells.list.items old.columns.items c.args.i k c.frame_for.new.column c.requires.row.columns c.requires.within is
+      columns = column_set x.header old.maker.cells.list.items c.frame_for.new.maker.cells.list.items old.columns.items c.args.i k c.frame_for.new.column c.requires.row.columns c.requires.within is
           (ap (λ (g : GroupCells). g.list.items) c.frame_for.ensures.cells) (ap (λ (q : FactColumn). q.column) c.frame_for.ensures.same) c.frame_for.ensures.column;
       maker = c.frame_for.ensures.maker;
       frames = c.frame_for.ensures.frames;
@@ -55,7 +55,7 @@ returns-in_default-clause-row c =
     let k = c.index_mut-column.result.now in
     let is : k ≡ get_or old.columns.items c.args.i k = c.index_mut-column.ensures.value in
     record {
-      columns = column_set x.form old.maker.cells.list.items c.frame_for.new.maker.cells.list.items old.columns.items c.args.i k c.frame_for.new.column c.requires.row.columns c.requires.within is
+      columns = column_set x.header old.maker.cells.list.items c.frame_for.new.maker.cells.list.items old.columns.items c.args.i k c.frame_for.new.column c.requires.row.columns c.requires.within is
           (ap (λ (g : GroupCells). g.list.items) c.frame_for.ensures.cells) (ap (λ (q : FactColumn). q.column) c.frame_for.ensures.same) c.frame_for.ensures.column;
       maker = c.frame_for.ensures.maker;
       frames = c.frame_for.ensures.frames;
@@ -71,7 +71,7 @@ returns-in_default-text-clause-row c =
     let k = c.index_mut-column.result.now in
     let is : k ≡ get_or old.columns.items c.args.i k = c.index_mut-column.ensures.value in
     record {
-      columns = column_set x.form old.maker.cells.list.items c.frame_for.new.maker.cells.list.items old.columns.items c.args.i k c.frame_for.new.column c.requires.row.columns c.requires.within is
+      columns = column_set x.header old.maker.cells.list.items c.frame_for.new.maker.cells.list.items old.columns.items c.args.i k c.frame_for.new.column c.requires.row.columns c.requires.within is
           (ap (λ (g : GroupCells). g.list.items) c.frame_for.ensures.cells) (ap (λ (q : FactColumn). q.column) c.frame_for.ensures.same) c.frame_for.ensures.column;
       maker = c.frame_for.ensures.maker;
       frames = c.frame_for.ensures.frames;
@@ -87,7 +87,7 @@ returns-in-Some-quick_value-clause-row c =
     let k = c.index_mut-column.result.now in
     let is : k ≡ get_or old.columns.items c.args.i k = c.index_mut-column.ensures.value in
     record {
-      columns = column_set x.form old.maker.cells.list.items c.frame_for.new.maker.cells.list.items old.columns.items c.args.i k c.frame_for.new.column c.requires.row.columns c.requires.within is
+      columns = column_set x.header old.maker.cells.list.items c.frame_for.new.maker.cells.list.items old.columns.items c.args.i k c.frame_for.new.column c.requires.row.columns c.requires.within is
           (ap (λ (g : GroupCells). g.list.items) c.frame_for.ensures.cells) (ap (λ (q : FactColumn). q.column) c.frame_for.ensures.same) c.frame_for.ensures.column;
       maker = c.frame_for.ensures.maker;
       frames = c.frame_for.ensures.frames;
@@ -103,7 +103,7 @@ returns-clause-row c =
     let k = c.index_mut-column.result.now in
     let is : k ≡ get_or old.columns.items c.args.i k = c.index_mut-column.ensures.value in
     record {
-      columns = column_set x.form old.maker.cells.list.items c.frame_for.new.maker.cells.list.items old.columns.items c.args.i k c.frame_for.new.column c.requires.row.columns c.requires.within is
+      columns = column_set x.header old.maker.cells.list.items c.frame_for.new.maker.cells.list.items old.columns.items c.args.i k c.frame_for.new.column c.requires.row.columns c.requires.within is
           (ap (λ (g : GroupCells). g.list.items) c.frame_for.ensures.cells) (ap (λ (q : FactColumn). q.column) c.frame_for.ensures.same) c.frame_for.ensures.column;
       maker = c.frame_for.ensures.maker;
       frames = c.frame_for.ensures.frames;
@@ -118,8 +118,8 @@ put_fact-requires-clause-plain c =
     let old = c.args.self.now in
     let k = c.index_mut-column.result.now in
     let is : k ≡ get_or old.columns.items c.args.i k = c.index_mut-column.ensures.value in
-    let there : k.column ≡ column_at x.form c.args.i = column_there x.form old.maker.cells.list.items old.columns.items c.args.i k c.requires.row.columns c.requires.within is in
-    let column : IsFactColumn x.form old.maker.cells.list.items k = subst (IsFactColumn x.form old.maker.cells.list.items) (sym is) (c.requires.row.columns.are c.args.i k c.requires.within) in
+    let there : k.column ≡ column_at x.header c.args.i = column_there x.header old.maker.cells.list.items old.columns.items c.args.i k c.requires.row.columns c.requires.within is in
+    let column : IsFactColumn x.header old.maker.cells.list.items k = subst (IsFactColumn x.header old.maker.cells.list.items) (sym is) (c.requires.row.columns.are c.args.i k c.requires.within) in
     let field = field_or_empty x.fields (Some k.place) in
     let means : meaning_of field ≡ fact_meaning (cell_in x k.column) = cell_meaning x old.maker.cells.list.items k column in
     let rs = c.frame_for.new.maker.references in
@@ -129,8 +129,8 @@ put_fact-requires-clause-plain c =
     let text : IsTextFor x (map key_of rs) k.column t = subst (λ (o : Option FrameValue). IfSome o (IsTextFor x (map key_of rs) k.column)) c.in-Some-text.ensures first in
     let kind : c.frame.inside.kind ≡ t.kind = ap (λ (q : FrameValue). q.kind) c.frame.view_is in
     let v = c.in-Some-quick_value.value in
-    let value : IsValue x.form.report t.kind (meaning_of field) v = subst (λ (q : Kind). IsValue x.form.report q (meaning_of field) v) kind c.in-Some-quick_value.ensures in
-    value_is_plain x.form.report t.kind (meaning_of field) v value
+    let value : IsValue x.header.report t.kind (meaning_of field) v = subst (λ (q : Kind). IsValue x.header.report q (meaning_of field) v) kind c.in-Some-quick_value.ensures in
+    value_is_plain x.header.report t.kind (meaning_of field) v value
 
 pub put_fact-requires-clause-references : goal.put_fact-requires-clause-references
 put_fact-requires-clause-references c =
@@ -143,7 +143,7 @@ put_fact-requires-clause-references c =
     let t = c.in-Some-text.frame.now in
     let first : IfSome (text_in vs c.in-Some.at) (IsTextFor x (map key_of rs) k.column) = subst (λ (o : Option ℕ). IfSome o (λ place. IfSome (text_in vs place) (IsTextFor x (map key_of rs) k.column))) c.in-Some.is c.in_ok-at.ensures.text in
     let text : IsTextFor x (map key_of rs) k.column t = subst (λ (o : Option FrameValue). IfSome o (IsTextFor x (map key_of rs) k.column)) c.in-Some-text.ensures first in
-    of_references x.form rs _ _ t text.text
+    of_references x.header rs _ _ t text.text
 
 pub returns-in-Some-quick_value-clause-cell : goal.returns-in-Some-quick_value-clause-cell
 returns-in-Some-quick_value-clause-cell c =
@@ -151,8 +151,8 @@ returns-in-Some-quick_value-clause-cell c =
     let old = c.args.self.now in
     let k = c.index_mut-column.result.now in
     let is : k ≡ get_or old.columns.items c.args.i k = c.index_mut-column.ensures.value in
-    let there : k.column ≡ column_at x.form c.args.i = column_there x.form old.maker.cells.list.items old.columns.items c.args.i k c.requires.row.columns c.requires.within is in
-    let column : IsFactColumn x.form old.maker.cells.list.items k = subst (IsFactColumn x.form old.maker.cells.list.items) (sym is) (c.requires.row.columns.are c.args.i k c.requires.within) in
+    let there : k.column ≡ column_at x.header c.args.i = column_there x.header old.maker.cells.list.items old.columns.items c.args.i k c.requires.row.columns c.requires.within is in
+    let column : IsFactColumn x.header old.maker.cells.list.items k = subst (IsFactColumn x.header old.maker.cells.list.items) (sym is) (c.requires.row.columns.are c.args.i k c.requires.within) in
     let field = field_or_empty x.fields (Some k.place) in
     let means : meaning_of field ≡ fact_meaning (cell_in x k.column) = cell_meaning x old.maker.cells.list.items k column in
     let rs = c.frame_for.new.maker.references in
@@ -162,8 +162,8 @@ returns-in-Some-quick_value-clause-cell c =
     let text : IsTextFor x (map key_of rs) k.column t = subst (λ (o : Option FrameValue). IfSome o (IsTextFor x (map key_of rs) k.column)) c.in-Some-text.ensures first in
     let kind : c.frame.inside.kind ≡ t.kind = ap (λ (q : FrameValue). q.kind) c.frame.view_is in
     let v = c.in-Some-quick_value.value in
-    let value : IsValue x.form.report t.kind (meaning_of field) v = subst (λ (q : Kind). IsValue x.form.report q (meaning_of field) v) kind c.in-Some-quick_value.ensures in
-    let meant : IsValue x.form.report t.kind (fact_meaning (cell_in x k.column)) v = subst (λ (m : Meaning). IsValue x.form.report t.kind m v) means value in
+    let value : IsValue x.header.report t.kind (meaning_of field) v = subst (λ (q : Kind). IsValue x.header.report q (meaning_of field) v) kind c.in-Some-quick_value.ensures in
+    let meant : IsValue x.header.report t.kind (fact_meaning (cell_in x k.column)) v = subst (λ (m : Meaning). IsValue x.header.report t.kind m v) means value in
     subst (λ (n : ℕ). PutsCell x n c.args.out.now.items c.put_fact.new.out.items c.put_fact.result) there
     (puts_fact x old.maker.cells.list.items k rs t v old.start.start.items c.args.out.now.items c.put_fact.new.out.items c.requires.row.number column c.frame_for.ensures.maker.fresh text meant c.requires.row.start
     c.put_fact.result c.put_fact.ensures)
@@ -178,7 +178,7 @@ put_rare-requires c =
     let t = c.in-Some-text.frame.now in
     let first : IfSome (text_in vs c.in-Some.at) (IsTextFor x (map key_of rs) k.column) = subst (λ (o : Option ℕ). IfSome o (λ place. IfSome (text_in vs place) (IsTextFor x (map key_of rs) k.column))) c.in-Some.is c.in_ok-at.ensures.text in
     let text : IsTextFor x (map key_of rs) k.column t = subst (λ (o : Option FrameValue). IfSome o (IsTextFor x (map key_of rs) k.column)) c.in-Some-text.ensures first in
-    of_references x.form rs _ _ t text.text
+    of_references x.header rs _ _ t text.text
 
 pub returns-clause-cell : goal.returns-clause-cell
 returns-clause-cell c =
@@ -186,8 +186,8 @@ returns-clause-cell c =
     let old = c.args.self.now in
     let k = c.index_mut-column.result.now in
     let is : k ≡ get_or old.columns.items c.args.i k = c.index_mut-column.ensures.value in
-    let there : k.column ≡ column_at x.form c.args.i = column_there x.form old.maker.cells.list.items old.columns.items c.args.i k c.requires.row.columns c.requires.within is in
-    let column : IsFactColumn x.form old.maker.cells.list.items k = subst (IsFactColumn x.form old.maker.cells.list.items) (sym is) (c.requires.row.columns.are c.args.i k c.requires.within) in
+    let there : k.column ≡ column_at x.header c.args.i = column_there x.header old.maker.cells.list.items old.columns.items c.args.i k c.requires.row.columns c.requires.within is in
+    let column : IsFactColumn x.header old.maker.cells.list.items k = subst (IsFactColumn x.header old.maker.cells.list.items) (sym is) (c.requires.row.columns.are c.args.i k c.requires.within) in
     let rs = c.frame_for.new.maker.references in
     let vs = c.frame_for.new.self.list.items in
     let t = c.in-Some-text.frame.now in

@@ -11,29 +11,29 @@ put_cell-requires-clause-within c =
     let x = c.args.row.now in
     let i = c.loop-i.i in
     let so = c.loop-i.invariant in
-    omega (arith, c.len-count.ensures, columns_length x.form c.args.self.now.maker.cells.list.items c.args.self.now.columns.items c.requires.columns, columns_length x.form c.loop-i.self.maker.cells.list.items c.loop-i.self.columns.items so.row.columns)
+    omega (arith, c.len-count.ensures, columns_length x.header c.args.self.now.maker.cells.list.items c.args.self.now.columns.items c.requires.columns, columns_length x.header c.loop-i.self.maker.cells.list.items c.loop-i.self.columns.items so.row.columns)
 
-pub returns-in_err-done-clause-form : goal.returns-in_err-done-clause-form
-returns-in_err-done-clause-form c = again c.args.row.now _ c.put_cell.ensures.row
+pub returns-in_err-done-clause-header : goal.returns-in_err-done-clause-header
+returns-in_err-done-clause-header c = again c.args.row.now _ c.put_cell.ensures.row
 
-pub returns-then-not-done-clause-form : goal.returns-then-not-done-clause-form
-returns-then-not-done-clause-form c = again c.args.row.now _ c.put_cell.ensures.row
+pub returns-then-not-done-clause-header : goal.returns-then-not-done-clause-header
+returns-then-not-done-clause-header c = again c.args.row.now _ c.put_cell.ensures.row
 
-pub returns-in_err-note_end-clause-form : goal.returns-in_err-note_end-clause-form
-returns-in_err-note_end-clause-form c = again c.args.row.now _ c.put_cell.ensures.row
+pub returns-in_err-note_end-clause-header : goal.returns-in_err-note_end-clause-header
+returns-in_err-note_end-clause-header c = again c.args.row.now _ c.put_cell.ensures.row
 
-pub returns-in_err-reserve_ends-clause-form : goal.returns-in_err-reserve_ends-clause-form
-returns-in_err-reserve_ends-clause-form c = again c.args.row.now c.args.self.now c.requires
+pub returns-in_err-reserve_ends-clause-header : goal.returns-in_err-reserve_ends-clause-header
+returns-in_err-reserve_ends-clause-header c = again c.args.row.now c.args.self.now c.requires
 
-pub returns-clause-form : goal.returns-clause-form
-returns-clause-form c = again c.args.row.now _ c.loop-i.invariant.row
+pub returns-clause-header : goal.returns-clause-header
+returns-clause-header c = again c.args.row.now _ c.loop-i.invariant.row
 
 pub returns-in_err-done-clause-front : goal.returns-in_err-done-clause-front
 returns-in_err-done-clause-front c =
     let x = c.args.row.now in
     let i = c.loop-i.i in
     let so = c.loop-i.invariant in
-    let left = cell_failed x (column_at x.form i) c.loop-i.out.items c.put_cell.new.out.items c.put_cell.result _ c.put_cell.ensures.cell c.in_err-done.was in
+    let left = cell_failed x (column_at x.header i) c.loop-i.out.items c.put_cell.new.out.items c.put_cell.result _ c.put_cell.ensures.cell c.in_err-done.was in
     (subst (IsPrefix c.args.out.now.items) (sym left) (text_stays so.facts), ends_stay so.facts)
 
 pub returns-then-not-done-clause-front : goal.returns-then-not-done-clause-front
@@ -41,7 +41,7 @@ returns-then-not-done-clause-front c =
     let x = c.args.row.now in
     let i = c.loop-i.i in
     let so = c.loop-i.invariant in
-    let left = cell_left x (column_at x.form i) c.loop-i.out.items c.put_cell.new.out.items c.put_cell.result c.in_ok-done.done c.put_cell.ensures.cell c.in_ok-done.was c.if-not-done.true in
+    let left = cell_left x (column_at x.header i) c.loop-i.out.items c.put_cell.new.out.items c.put_cell.result c.in_ok-done.done c.put_cell.ensures.cell c.in_ok-done.was c.if-not-done.true in
     (subst (IsPrefix c.args.out.now.items) (sym left) (text_stays so.facts), ends_stay so.facts)
 
 pub returns-in_err-note_end-clause-front : goal.returns-in_err-note_end-clause-front
@@ -49,7 +49,7 @@ returns-in_err-note_end-clause-front c =
     let x = c.args.row.now in
     let i = c.loop-i.i in
     let so = c.loop-i.invariant in
-    let wrote = cell_done x (column_at x.form i) c.loop-i.out.items c.put_cell.new.out.items c.put_cell.result c.in_ok-done.done c.put_cell.ensures.cell c.in_ok-done.was c.if-not-done.false in (
+    let wrote = cell_done x (column_at x.header i) c.loop-i.out.items c.put_cell.new.out.items c.put_cell.result c.in_ok-done.done c.put_cell.ensures.cell c.in_ok-done.was c.if-not-done.false in (
       behind c.args.out.now.items c.loop-i.out.items c.put_cell.new.out.items (text_stays so.facts) (wrote_behind wrote),
       behind c.args.ends.now.items c.loop-i.ends.items c.note_end.new.ends.items (ends_stay so.facts) c.note_end.ensures.stays,
     )
@@ -63,16 +63,16 @@ returns-clause-facts c = λ _.
     let i = c.loop-i.i in
     let so = c.loop-i.invariant in
     all_given x i c.args.out.now.items c.loop-i.out.items c.args.ends.now.items c.loop-i.ends.items
-    (omega (arith, c.len-count.ensures, columns_length x.form c.args.self.now.maker.cells.list.items c.args.self.now.columns.items c.requires.columns)) so.facts
+    (omega (arith, c.len-count.ensures, columns_length x.header c.args.self.now.maker.cells.list.items c.args.self.now.columns.items c.requires.columns)) so.facts
 
 pub loop-i-preserved : goal.loop-i-preserved
 loop-i-preserved c =
     let x = c.args.row.now in
     let i = c.loop-i.i in
     let so = c.loop-i.invariant in
-    let wrote = cell_done x (column_at x.form i) c.loop-i.out.items c.put_cell.new.out.items c.put_cell.result c.in_ok-done.done c.put_cell.ensures.cell c.in_ok-done.was c.if-not-done.false in
-    let lt : i < length (fact_columns_in x.form x.form.header) =
-    omega (arith, c.len-count.ensures, columns_length x.form c.args.self.now.maker.cells.list.items c.args.self.now.columns.items c.requires.columns) in
+    let wrote = cell_done x (column_at x.header i) c.loop-i.out.items c.put_cell.new.out.items c.put_cell.result c.in_ok-done.done c.put_cell.ensures.cell c.in_ok-done.was c.if-not-done.false in
+    let lt : i < length (fact_columns_in x.header x.header.columns) =
+    omega (arith, c.len-count.ensures, columns_length x.header c.args.self.now.maker.cells.list.items c.args.self.now.columns.items c.requires.columns) in
     record {
       row = c.put_cell.ensures.row;
       facts = one_more x i c.args.out.now.items c.loop-i.out.items c.put_cell.new.out.items c.args.ends.now.items c.loop-i.ends.items c.note_end.new.ends.items lt so.facts wrote

@@ -1,16 +1,16 @@
-//! The beginning of a table's file, with its header.
+//! The records that a table's file begins with, its header first.
 
 ghost use Rattle.std.specs.Prelude.{◌≡◌, ◌⊎◌, ◌-◌, ◌<◌, ◌≤◌, [], IfErr, IfNone, IfOk, IfSome, None, Some, length};
 ghost use Rattle.oim_records.specs.Grids.{grid};
 ghost use Rattle.oim_records.specs.Reads.{KeepsLeft, StartsFile, left_behind};
 ghost use Rattle.oim_rows.specs.Header.{file_header_fault};
 ghost use Rattle.oim_rows.specs.Streams.{IsOutside};
-ghost use Rattle.oim_decode.specs.Heads.{reading_in, records_in};
+ghost use Rattle.oim_decode.specs.Heads.{table_header_in, records_in};
 
 use crate::piece::piece_decoder::PieceDecoder;
 use oim_records::{FilePiece, PieceReader, ReadFault, RecordReader};
 use oim_report::Report;
-use oim_rows::{RowForm, TableFault, TableKind, fault_of_read, whole_fault};
+use oim_rows::{TableFault, TableHeader, TableKind, fault_of_read, whole_fault};
 use std::alloc::{AllocError, Global};
 use std::io::Read;
 use std::marker::Model;
@@ -20,14 +20,14 @@ const MARK: [u8; 3] = [0xEF, 0xBB, 0xBF];
 
 /// The first piece of a table's file that has a record: the table's header, and the rows behind it. A contract sees its records.
 #[derive(Drop)]
-pub struct TableHead {
+pub struct FirstRecords {
     // a mark, and then the piece
     marked: Vec<u8>,
     // how many records the piece has
     records: u64,
 }
 
-impl Model for TableHead {
+impl Model for FirstRecords {
     ghost use Rattle.std.specs.Prelude.{◌≡◌, ◌++◌, List, drop, length};
     ghost use Rattle.csv.specs.declared.parser.State.TheVariants as state;
     ghost use Rattle.oim_records.specs.Grids.{Record, records_left};
@@ -68,7 +68,7 @@ fn first_piece<R: Read + Drop>(pieces: &mut PieceReader<R>) -> Result<Option<Fil
 pub fn open_pieces<R: Read + Drop>(
     alloc: Global,
     reader: R,
-) -> Result<Option<(TableHead, PieceReader<R>)>, ReadFault>
+) -> Result<Option<(FirstRecords, PieceReader<R>)>, ReadFault>
     ensures file { IfOk result (λ o. IfSome o (λ opened. StartsFile (R.remaining reader) (left_behind opened.0 opened.1))) }
     ensures header { IfOk result (λ o. IfSome o (λ opened. 1 ≤ length opened.0)) }
     ensures none { IfOk result (λ o. IfNone o (IfSome (R.remaining reader) (λ bytes. grid bytes ≡ []))) }
@@ -76,7 +76,7 @@ pub fn open_pieces<R: Read + Drop>(
     let mut pieces = PieceReader::new(alloc, reader);
     pieces.skip_mark()?;
     match first_piece(&mut pieces)? {
-        Some(piece) => match TableHead::of(alloc, &piece) {
+        Some(piece) => match FirstRecords::of(alloc, &piece) {
             Ok(head) => Ok(Some((head, pieces))),
             Err(_) => Err(ReadFault::Memory),
         },
@@ -84,16 +84,16 @@ pub fn open_pieces<R: Read + Drop>(
     }
 }
 
-impl TableHead {
+impl FirstRecords {
     /// The head with the bytes of a piece. Fails where memory is short.
-    fn of(alloc: Global, piece: &FilePiece) -> Result<TableHead, AllocError>
+    fn of(alloc: Global, piece: &FilePiece) -> Result<FirstRecords, AllocError>
         requires { piece.now.records ≡ length (records_in piece.now.bytes.items) }
         ensures { IfOk result (λ head. head ≡ records_in piece.now.bytes.items) }
     {
         let mut marked = Vec::new(alloc);
         marked.extend_from_slice(&MARK)?;
         marked.extend_from_slice(&piece.bytes)?;
-        Ok(TableHead {
+        Ok(FirstRecords {
             marked,
             records: piece.records,
         })
@@ -122,19 +122,19 @@ impl TableHead {
         Ok(piece)
     }
 
-    /// What the rows of the table at this place of a report are told by. They are at most `limit`.
+    /// The header of the table at this place of a report. The rows are at most `limit`.
     ///
     /// Fails with the header's first fault, in this order: NoHeader, UnknownHeader, RepeatedHeader, NoRowIdColumn; and with
     /// Memory where memory is short; its clause allows Read as well.
-    pub fn form<'a>(
+    pub fn header<'a>(
         &self,
         alloc: Global,
         report: &'a Report,
         table: usize,
         limit: u32,
-    ) -> Result<RowForm<'a>, TableFault>
+    ) -> Result<TableHeader<'a>, TableFault>
         requires { table < length report.now.tables }
-        ensures form { IfOk result (λ form. form ≡ reading_in report.now table limit self.now) }
+        ensures value { IfOk result (λ header. header ≡ table_header_in report.now table limit self.now) }
         ensures header { IfOk result (λ _. file_header_fault report.now table self.now ≡ None) }
         ensures fault { IfErr result (λ e. IsOutside table e ⊎ (file_header_fault report.now table self.now ≡ Some e)) }
     {
@@ -142,10 +142,10 @@ impl TableHead {
             Ok(records) => records,
             Err(fault) => return Err(fault_of_read(table, fault)),
         };
-        RowForm::read(alloc, report, table, limit, &mut records)
+        TableHeader::read(alloc, report, table, limit, &mut records)
     }
 
-    /// What decodes pieces of the table at this place of a report, whose rows are at most `limit`. Fails as `form` does.
+    /// What decodes pieces of the table at this place of a report, whose rows are at most `limit`. Fails as `header` does.
     pub fn decoder<'a>(
         &self,
         alloc: Global,
@@ -155,15 +155,15 @@ impl TableHead {
     ) -> Result<PieceDecoder<'a>, TableFault>
         requires place { table < length report.now.tables }
         requires rows { limit ≤ 4294967294 }
-        ensures decoder { IfOk result (λ decoder. decoder ≡ record { reading = reading_in report.now table limit self.now; left = [] }) }
+        ensures decoder { IfOk result (λ decoder. decoder ≡ record { header = table_header_in report.now table limit self.now; left = [] }) }
         ensures header { IfOk result (λ _. file_header_fault report.now table self.now ≡ None) }
         ensures fault { IfErr result (λ e. IsOutside table e ⊎ (file_header_fault report.now table self.now ≡ Some e)) }
     {
-        let form = match self.form(alloc, report, table, limit) {
-            Ok(form) => form,
+        let header = match self.header(alloc, report, table, limit) {
+            Ok(header) => header,
             Err(fault) => return Err(fault),
         };
-        match PieceDecoder::new(alloc, form) {
+        match PieceDecoder::new(alloc, header) {
             Ok(decoder) => Ok(decoder),
             Err(_) => Err(whole_fault(table, TableKind::Memory)),
         }

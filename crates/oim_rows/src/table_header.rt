@@ -1,4 +1,4 @@
-//! The form of a table's rows: what makes a record a row, before its cells are resolved.
+//! The header of a table as it was read: what makes a record a row, before its cells are resolved.
 
 ghost use Rattle.std.specs.Prelude.{◌≡◌, ◌⊎◌, ◌<◌, IfOk, IfErr, IfSome, OnOk, length};
 ghost use Rattle.std.specs.String.{string_bytes};
@@ -17,28 +17,28 @@ use std::alloc::{AllocError, Global};
 use std::io::Read;
 use std::marker::Model;
 
-/// What the rows of one table are told by. A contract sees the report, the table's place, the most
-/// rows that it may have, and its header.
+/// The header of one table as it was read, by which its rows are told. A contract sees the report, the table's place, the most
+/// rows that it may have, and the column of each cell of the header.
 #[derive(Drop)]
-pub struct RowForm<'a> {
+pub struct TableHeader<'a> {
     report: &'a Report,
     table: usize,
     limit: u32,
-    header: Vec<Option<usize>>,
+    columns: Vec<Option<usize>>,
     // the place in the header of the row identifier
     id_place: Option<usize>,
 }
 
-impl<'a> Model for RowForm<'a> {
+impl<'a> Model for TableHeader<'a> {
     ghost use Rattle.std.specs.Prelude.{◌≡◌, ◌<◌, length};
     ghost use Rattle.oim_report.specs.Readers.{template_of};
-    ghost use Rattle.oim_rows.specs.RowFacts.{Reading, row_id_place};
+    ghost use Rattle.oim_rows.specs.RowFacts.{TableHeaderValue, row_id_place};
 
-    ghost Value = { Reading };
+    ghost Value = { TableHeaderValue };
 
-    ghost view = { λ a. record { report = a.report.now; table = a.table; limit = a.limit; header = a.header.items } };
+    ghost view = { λ a. record { report = a.report.now; table = a.table; limit = a.limit; columns = a.columns.items } };
 
-    ghost invariant = { λ a. (a.table < length a.report.now.tables) × (a.id_place ≡ row_id_place (template_of a.report.now a.table).row_id_column a.header.items) };
+    ghost invariant = { λ a. (a.table < length a.report.now.tables) × (a.id_place ≡ row_id_place (template_of a.report.now a.table).row_id_column a.columns.items) };
 }
 
 /// The place in a header of the row identifier, where the template has a column for it.
@@ -51,7 +51,7 @@ fn place_of_id(header: &[Option<usize>], column: Option<usize>) -> Option<usize>
     }
 }
 
-impl<'a> RowForm<'a> {
+impl<'a> TableHeader<'a> {
     /// Reads the header of a table: the first record that `records` has left. The rows are at most `limit`.
     ///
     /// Fails with the header's first fault, in this order: NoHeader, UnknownHeader, RepeatedHeader,
@@ -63,28 +63,28 @@ impl<'a> RowForm<'a> {
         table: usize,
         limit: u32,
         records: &mut RecordReader<R>,
-    ) -> Result<RowForm<'a>, TableFault>
+    ) -> Result<TableHeader<'a>, TableFault>
         requires { table < length report.now.tables }
-        ensures form { IfOk result (λ f. f ≡ record { report = report.now; table = table; limit = limit; header = f.header }) }
-        ensures header { IfOk result (λ f. TakesHeader report.now table records.old.left f.header records.new.left) }
+        ensures value { IfOk result (λ f. f ≡ record { report = report.now; table = table; limit = limit; columns = f.columns }) }
+        ensures header { IfOk result (λ f. TakesHeader report.now table records.old.left f.columns records.new.left) }
         ensures fault { IfErr result (λ e. IsOutside table e ⊎ IfSome records.old.left (λ rs. file_header_fault report.now table rs ≡ Some e)) }
     {
-        let header = match read_header(alloc, report, table, records) {
-            Ok(header) => header,
+        let columns = match read_header(alloc, report, table, records) {
+            Ok(columns) => columns,
             Err(fault) => return Err(fault),
         };
-        let id_place = place_of_id(header.as_slice(), report.row_id_column(table));
-        Ok(RowForm {
+        let id_place = place_of_id(columns.as_slice(), report.row_id_column(table));
+        Ok(TableHeader {
             report,
             table,
             limit,
-            header,
+            columns,
             id_place,
         })
     }
 }
 
-impl<'a> RowForm<'a> {
+impl<'a> TableHeader<'a> {
     /// The report of the table.
     pub fn report(&self) -> &'a Report
         ensures { result.now ≡ (self.now).report }
@@ -108,10 +108,10 @@ impl<'a> RowForm<'a> {
     }
 
     /// The column of each header cell, none for an empty one.
-    pub fn header(&self) -> &[Option<usize>]
-        ensures { result.now ≡ (self.now).header }
+    pub fn columns(&self) -> &[Option<usize>]
+        ensures { result.now ≡ (self.now).columns }
     {
-        self.header.as_slice()
+        self.columns.as_slice()
     }
 
     /// The first fault of row `number` apart from those of its cells, where `ids` are the identifiers of
@@ -119,7 +119,7 @@ impl<'a> RowForm<'a> {
     pub fn fault_of_row(&self, number: u32, ids: &RowIds, row: &Fields<'_>) -> Option<TableFault>
         ensures { result ≡ row_fault self.now number ids.now row.now }
     {
-        if row.len() != self.header.len() {
+        if row.len() != self.columns.len() {
             return Some(fault_of_whole_row(self.table, number, TableKind::Ragged));
         }
         if let Some(place) = row.first_not_text() {
@@ -142,7 +142,7 @@ impl<'a> RowForm<'a> {
     ) -> Option<TableFault>
         ensures { result ≡ row_fault self.now number ids.now row.now }
     {
-        if count_of_texts(row) != self.header.len() {
+        if count_of_texts(row) != self.columns.len() {
             return Some(fault_of_whole_row(self.table, number, TableKind::Ragged));
         }
         if self.limit < number {

@@ -20,7 +20,7 @@ use Rattle.oim_rows.specs.Header.{fault_at, file_fault}
 use Rattle.oim_decode.specs.PieceAnswers.{AddsApart, AddsRowFacts, EndsRows, IsJoined, StepsRow, TakesRow, apart_then, left_behind, no_rows, refused}
 use Rattle.oim_decode.specs.state.RowEnds.{counts_from, stretches}
 use Rattle.oim_decode.specs.Pieces.{AreCut, EndsBetween, behind, pieces_from, records_of, stream_then}
-use Rattle.oim_rows.specs.RowFacts.{Reading}
+use Rattle.oim_rows.specs.RowFacts.{TableHeaderValue}
 use Rattle.oim_rows.specs.Streams.{Stream, ending}
 use Rattle.oim_rows.specs.declared.fault.TableKind.TheVariants as kind
 
@@ -42,8 +42,8 @@ report = record {
   parameters = [];
 }
 
-abbrev reading : Reading
-reading = record { report = report; table = 0; limit = 9; header = Some 0 ∷ Some 1 ∷ [] }
+abbrev header : TableHeaderValue
+header = record { report = report; table = 0; limit = 9; columns = Some 0 ∷ Some 1 ∷ [] }
 
 abbrev line : List ℕ → List ℕ → Record
 line cash k = cash ∷ k ∷ []
@@ -62,17 +62,17 @@ twice = line (codes "x") (codes "a") ∷ line (codes "y") (codes "a") ∷ []
 abbrev both : Apart
 both = record { rows = (note (codes "a") (codes "x") ∷ []) ∷ (note (codes "a") (codes "y") ∷ []) ∷ []; ids = codes "a" ∷ codes "a" ∷ []; fault = None }
 
-piece_by_itself : apart_from reading 1 twice ≡ both
+piece_by_itself : apart_from header 1 twice ≡ both
 unfolding apart_from cell_result rest_faults fact_of meaning_of chars is_row_identifier is_plain_char is_ncname is_name_char is_name_start qname_of field_at is_utf8 lib.Utf8.encode
 piece_by_itself = refl
 
 -- a row whose cells have a fault still shows its identifier, one without its identifier does not
-bad_cell : apart_from reading 4 (line (codes "x") (codes "a") ∷ line (codes "#foo") (codes "b") ∷ line (codes "z") (codes "c") ∷ [])
+bad_cell : apart_from header 4 (line (codes "x") (codes "a") ∷ line (codes "#foo") (codes "b") ∷ line (codes "z") (codes "c") ∷ [])
     ≡ record { rows = (note (codes "a") (codes "x") ∷ []) ∷ []; ids = codes "a" ∷ codes "b" ∷ []; fault = Some (fault_at 0 5 1 (kind.Cell cell.UnknownSpecial)) }
 unfolding apart_from cell_result rest_faults fact_of meaning_of chars is_row_identifier is_plain_char is_ncname is_name_char is_name_start qname_of field_at is_utf8 lib.Utf8.encode
 bad_cell = refl
 
-no_identifier : apart_from reading 4 (line (codes "x") (codes "a") ∷ line (codes "y") [] ∷ []) ≡ record { rows = (note (codes "a") (codes "x") ∷ []) ∷ []; ids = codes "a" ∷ []; fault = Some (fault_at 0 5 2 kind.MissingRowId) }
+no_identifier : apart_from header 4 (line (codes "x") (codes "a") ∷ line (codes "y") [] ∷ []) ≡ record { rows = (note (codes "a") (codes "x") ∷ []) ∷ []; ids = codes "a" ∷ []; fault = Some (fault_at 0 5 2 kind.MissingRowId) }
 unfolding apart_from cell_result rest_faults fact_of meaning_of chars is_row_identifier is_plain_char is_ncname is_name_char is_name_start qname_of field_at is_utf8 lib.Utf8.encode
 no_identifier = refl
 
@@ -85,20 +85,20 @@ came_before : (repeated_from 0 [] (codes "a" ∷ codes "b" ∷ codes "a" ∷ [])
     × (repeated_from 0 (codes "b" ∷ []) (codes "a" ∷ codes "c" ∷ []) ≡ None)
 came_before = (refl, refl, refl)
 
-repeated_row : repeated_id reading 7 ≡ fault_at 0 7 2 kind.RepeatedRowId
+repeated_row : repeated_id header 7 ≡ fault_at 0 7 2 kind.RepeatedRowId
 repeated_row = refl
 
-within_a_piece : joined reading 1 [] both ≡ record { rows = (note (codes "a") (codes "x") ∷ []) ∷ []; fault = Some (fault_at 0 2 2 kind.RepeatedRowId) }
+within_a_piece : joined header 1 [] both ≡ record { rows = (note (codes "a") (codes "x") ∷ []) ∷ []; fault = Some (fault_at 0 2 2 kind.RepeatedRowId) }
 within_a_piece = refl
 
-across_pieces : joined reading 5 (codes "a" ∷ []) (record { rows = [] ∷ []; ids = codes "a" ∷ []; fault = None }) ≡ ending (Some (fault_at 0 5 2 kind.RepeatedRowId))
+across_pieces : joined header 5 (codes "a" ∷ []) (record { rows = [] ∷ []; ids = codes "a" ∷ []; fault = None }) ≡ ending (Some (fault_at 0 5 2 kind.RepeatedRowId))
 across_pieces = refl
 
 -- before the fault of the row's cells, and before that of a later row
-before_the_cells : joined reading 5 (codes "a" ∷ []) (record { rows = []; ids = codes "a" ∷ []; fault = Some (fault_at 0 5 1 (kind.Cell cell.BadNumber)) }) ≡ ending (Some (fault_at 0 5 2 kind.RepeatedRowId))
+before_the_cells : joined header 5 (codes "a" ∷ []) (record { rows = []; ids = codes "a" ∷ []; fault = Some (fault_at 0 5 1 (kind.Cell cell.BadNumber)) }) ≡ ending (Some (fault_at 0 5 2 kind.RepeatedRowId))
 before_the_cells = refl
 
-no_repetition : joined reading 5 (codes "b" ∷ []) both ≡ cut_at reading 5 (Some 1) both
+no_repetition : joined header 5 (codes "b" ∷ []) both ≡ cut_at header 5 (Some 1) both
 no_repetition = refl
 
 -- ONE BEHIND THE OTHER: nothing comes behind a fault
@@ -109,7 +109,7 @@ behind_a_fault : (stream_then (ending (Some (fault_at 0 5 0 kind.Ragged))) one �
     × (behind None one (ending (Some (fault_at 0 5 0 kind.Ragged))) ≡ record { rows = [] ∷ []; fault = Some (fault_at 0 5 0 kind.Ragged) })
 behind_a_fault = (refl, refl, refl)
 
-in_two_pieces : pieces_from reading 1 [] ((line [] (codes "a") ∷ []) ∷ (line [] (codes "b") ∷ line [] (codes "a") ∷ []) ∷ [])
+in_two_pieces : pieces_from header 1 [] ((line [] (codes "a") ∷ []) ∷ (line [] (codes "b") ∷ line [] (codes "a") ∷ []) ∷ [])
     ≡ record { rows = [] ∷ [] ∷ []; fault = Some (fault_at 0 3 2 kind.RepeatedRowId) }
 unfolding pieces_from apart_from cell_result rest_faults fact_of meaning_of chars is_row_identifier is_plain_char is_ncname is_name_char is_name_start qname_of field_at is_utf8 lib.Utf8.encode
 in_two_pieces = refl
@@ -148,14 +148,14 @@ facts_refused : AddsRowFacts 0 (Err (fault_at 0 1 1 (kind.Cell cell.BadNumber)))
 facts_refused = (refl, inr refl)
 
 -- no row is taken where none is left, and the piece ends then
-no_row_taken : TakesRow reading 1 [] no_rows [] no_rows → ⊥
+no_row_taken : TakesRow header 1 [] no_rows [] no_rows → ⊥
 no_row_taken h = h
 
-piece_ends : (StepsRow reading 1 [] first false [] first) × EndsRows reading 1 [] first first
+piece_ends : (StepsRow header 1 [] first false [] first) × EndsRows header 1 [] first first
 unfolding apart_from
 piece_ends = (inl refl, inl refl)
 
-joined_or_refused : IsJoined reading 5 (codes "a" ∷ []) first (ending (Some (fault_at 0 5 2 kind.RepeatedRowId))) × IsJoined reading 5 [] first (ending (Some (file_fault 0 kind.Memory)))
+joined_or_refused : IsJoined header 5 (codes "a" ∷ []) first (ending (Some (fault_at 0 5 2 kind.RepeatedRowId))) × IsJoined header 5 [] first (ending (Some (file_fault 0 kind.Memory)))
 joined_or_refused = (inl refl, inr refl)
 
 left_of_a_table : (left_behind None one ≡ one) × (left_behind (Some (fault_at 0 5 0 kind.Ragged)) one ≡ ending (Some (fault_at 0 5 0 kind.Ragged)))

@@ -2,7 +2,7 @@ use Rattle.std.proofs.Common.{[]}
 use Rattle.oim_records.specs.PieceTaking.{bytes_left}
 use Rattle.oim_records.specs.Reads.{left_behind}
 use Rattle.oim_decode.proofs.HeadLaws.{none_found}
-use Rattle.oim_decode.proofs.piece.table_head.first_piece.Goals as goal
+use Rattle.oim_decode.proofs.piece.first_records.first_piece.Goals as goal
 
 pub returns-in-None-clause-none : goal.returns-in-None-clause-none
 returns-in-None-clause-none g c =
