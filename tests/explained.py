@@ -47,6 +47,14 @@ METADATA: List[Tuple[Place, Any, str, str, str, str]] = [
     (("documentInfo",), None, "NotReport (2)", "/documentInfo/documentType", "(nothing)", "this is no object with documentInfo and its documentType"),
     (("documentInfo", "namespaces"), [], "BadNamespaces (3)", "/documentInfo/namespaces", "(a list of 0)", "namespaces is not an object"),
     (("documentInfo", "namespaces", "e:g"), "u", "BadNamespaces (3)", "/documentInfo/namespaces/e:g", '"u"', "the prefix is not an NCName"),
+    (
+        ("documentInfo", "namespaces", "eh"),
+        {"a": 1, "b": 2},
+        "BadNamespaces (3)",
+        "/documentInfo/namespaces/eh",
+        "(an object of 2)",
+        "the namespace of this prefix is not a text",
+    ),
     (("documentInfo", "namespaces", "eh"), 1.5, "BadNamespaces (3)", "/documentInfo/namespaces/eh", "1.5", "the namespace of this prefix is not a text"),
     (
         ("documentInfo", "namespaces", "eh"),

@@ -35,9 +35,10 @@ fn place(alloc: Global, path: &str, keys: &[Text]) -> Result<Text, AllocError>
 fn found_there(
     alloc: Global,
     there: Option<&Value>,
-    fault: MetaFault,
+    finding: &Finding,
 ) -> Result<String, AllocError> {
-    if fault == MetaFault::BadNamespaces {
+    // One key deeper stands the namespace of one prefix.
+    if finding.fault == MetaFault::BadNamespaces && finding.place.as_slice().len() == 2 {
         if let Some(found) = with_one_uri(alloc, there)? {
             return Ok(found);
         }
@@ -52,7 +53,7 @@ fn in_value(
     finding: &Finding,
 ) -> Result<(String, &'static str), AllocError> {
     let keys = finding.place.as_slice();
-    let found = found_there(alloc, there, finding.fault)?;
+    let found = found_there(alloc, there, finding)?;
     Ok((found, cause(finding.fault, keys, there)))
 }
 
