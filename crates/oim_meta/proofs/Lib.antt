@@ -13,6 +13,7 @@ mod Examples
 mod ExamplesBytes
 mod ExamplesFaults
 mod ExamplesShapes
+mod ExamplesWalk
 pub mod LeastFault
 pub mod FirstFinding
 pub mod Joined
