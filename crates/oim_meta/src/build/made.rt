@@ -4,12 +4,11 @@ ghost use Rattle.std.specs.Prelude.{◌≡◌, ℕ, List, IfOk, OnOk, option_map
 ghost use Rattle.serde_json.specs.Data.{Data, no_items};
 ghost use Rattle.serde_json.specs.Find.{as_array};
 ghost use Rattle.serde_json.specs.View.{view, items_view, members_view};
-ghost use Rattle.oim_meta.specs.Members.{section, items_at, map_members, map_items, text_of as text_in};
+ghost use Rattle.oim_meta.specs.Members.{items_at, map_members, map_items, text_of as text_in};
 ghost use Rattle.oim_meta.specs.Order.{names_of};
 ghost use Rattle.oim_report.specs.Rising.{IsRising};
 ghost use Rattle.oim_meta.specs.Value.{flag_at, named_text};
 
-use crate::lookup::object_at;
 use oim_names::{Items, Text};
 use serde_json::{Map, Value};
 use std::alloc::{AllocError, Global};
@@ -38,20 +37,6 @@ pub(crate) fn vec_of<T: FromMember + Drop>(
         made.push(T::from_member(alloc, name.as_str(), member)?)?;
     }
     Ok(made)
-}
-
-/// What the members of the object at a key make, in their order.
-pub(crate) fn list_from<T: FromMember + Drop>(
-    alloc: Global,
-    value: &Value,
-    key: &str,
-) -> Result<Items<T>, AllocError>
-    ensures { IfOk result (λ made. made ≡ map_members T.of (section key.now (view value.now))) }
-{
-    match object_at(value, key) {
-        Some(members) => Ok(Items::from_vec(vec_of(alloc, members)?)),
-        None => Ok(Items::new(alloc)),
-    }
 }
 
 /// The text of a value, or the empty text if the value is not a text.
