@@ -573,8 +573,65 @@ def unreadable(folder: Path) -> None:
     (folder / "r/p/p.csv").mkdir(parents=True)
     with_url = {"r/m.json": {**REPORT, "parameterURL": "p/p.csv"}}
     says(folder, "a folder as the parameters file", with_url, "parameters: Read (17)", "r/p/p.csv", "(the whole file)", UNREAD)
-    said = subprocess.run([PROGRAM, "none.json", "--types", "t.csv", "--explain"], cwd=folder, capture_output=True).stderr
-    case("a file that is not there", said == b"xbrl-json: cannot read none.json\n", said)
+
+
+NO_FILE = "there is no such file"
+NO_FOLDER = "a part of its path is not a folder"
+OF_REPORT = "it is a file of the report, which is only read"
+TWICE = "the run reads it or writes it twice, or no file can be made beside it"
+
+# Words behind `r/m.json --types t.csv`, or all of them; the file that cannot be read or written, and why.
+UNOPENED: List[Tuple[Tuple[str, ...], str, str]] = [
+    (("none.json", "--types", "t.csv"), "read none.json", NO_FILE),
+    (("r/m.json", "--types", "none.csv"), "read none.csv", NO_FILE),
+    (("t.csv/m.json", "--types", "t.csv"), "read t.csv/m.json", NO_FOLDER),
+    ((*WORDS, "--out", "no/o.json"), "write no/o.json", "its folder is not there"),
+    ((*WORDS, "--out", "t.csv/o.json"), "write t.csv/o.json", NO_FOLDER),
+    ((*WORDS, "--out", "t.csv/x/o.json"), "write t.csv/x/o.json", NO_FOLDER),
+    ((*WORDS, "--out", "r"), "write r", "it is a folder"),
+    ((*WORDS, "--whole", "--out", "r"), "write r", "it is a folder"),
+    ((*WORDS, "--out", "t.csv"), "write t.csv", OF_REPORT),
+    ((*WORDS, "--out", "r/../t.csv"), "write r/../t.csv", TWICE),
+    ((*WORDS, "--faults", "r/m.json"), "write r/m.json", OF_REPORT),
+    ((*WORDS, "--faults", "no/f.csv"), "write no/f.csv", "its folder is not there"),
+    ((*WORDS, "--out", "old.json", "--faults", "old.json"), "write old.json", TWICE),
+    (("r/url.json", "--types", "t.csv"), "read r/p.csv", NO_FILE),
+    (("r/url.json", "--types", "t.csv", "--out", "r/p.csv"), "write r/p.csv", "no file can be made in its folder, or the run reads it"),
+]
+
+# The same for who is not root: a file that the system refuses, and the permissions of which file are what.
+FORBIDDEN: List[Tuple[str, int, Tuple[str, ...], str, str]] = [
+    ("r/m.json", 0o000, WORDS, "read r/m.json", "you may not read it"),
+    ("t.csv", 0o200, WORDS, "read t.csv", "you may not read it"),
+    ("old.json", 0o444, (*WORDS, "--out", "old.json"), "write old.json", "you may not write it"),
+    ("closed", 0o000, ("closed/m.json", "--types", "t.csv"), "read closed/m.json", "the system does not let you look into a folder of its path"),
+    ("closed", 0o000, (*WORDS, "--out", "closed/o.json"), "write closed/o.json", "the system does not let you look into a folder of its path"),
+    ("closed", 0o555, (*WORDS, "--out", "closed/o.json"), "write closed/o.json", "no file can be made in its folder, or the run reads it"),
+    ("closed", 0o555, (*WORDS, "--whole", "--out", "closed/old.json"), "write closed/old.json", TWICE),
+]
+
+
+def unopened(folder: Path) -> None:
+    """Files that cannot be opened: the system's reason stands below the line, and without `--explain` the line is alone."""
+    write(folder, {"r/url.json": {**REPORT, "parameterURL": "p.csv"}, "old.json": "old", "closed/old.json": "old"})
+    for words, what, why in UNOPENED:
+        run = lambda *more: subprocess.run([PROGRAM, *words, *more], cwd=folder, capture_output=True, timeout=60)
+        case(f"cannot {what}: the line alone", run().stderr.decode() == f"xbrl-json: cannot {what}\n", run())
+        ran = run("--explain")
+        case(f"cannot {what}, {words}", (ran.returncode, ran.stderr.decode()) == (3, f"xbrl-json: cannot {what}\n    {why}\n"), ran)
+    nobody = [] if os.geteuid() else ["setpriv", "--reuid=65534", "--regid=65534", "--clear-groups"]
+    program = folder / "program"
+    program.write_bytes(Path(PROGRAM).read_bytes())
+    program.chmod(0o755)
+    for path in (folder, *folder.rglob("*")):
+        if not os.geteuid():
+            os.chown(path, 65534, 65534)
+    for path, mode, words, what, why in FORBIDDEN:
+        before = (folder / path).stat().st_mode
+        (folder / path).chmod(mode)
+        ran = subprocess.run([*nobody, str(program), *words, "--explain"], cwd=folder, capture_output=True, timeout=60)
+        (folder / path).chmod(before)
+        case(f"cannot {what}, {oct(mode)}", (ran.returncode, ran.stderr.decode()) == (3, f"xbrl-json: cannot {what}\n    {why}\n"), ran)
 
 
 def changed(folder: Path) -> None:
@@ -613,7 +670,7 @@ def size(folder: Path) -> None:
 
 
 def main() -> int:
-    for test in (metadata, text, two_files, entries, tables, sources, many_tables, unreadable, changed, size):
+    for test in (metadata, text, two_files, entries, tables, sources, many_tables, unreadable, unopened, changed, size):
         with tempfile.TemporaryDirectory() as folder:
             test(Path(folder))
     return told("what --explain says")

@@ -1,10 +1,12 @@
 //! The faults of a run, explained to a person: the files are read again. No contract says anything about them.
 
 use crate::disk::DiskFile;
+use crate::reason::{why_unread, why_unwritten};
+use oim_meta::MetaFault;
 use oim_names::Text;
 use oim_rows::TableFault;
 use oim_run::{
-    EarlyFault, Folder, Outcome, ReportAgain, Settings, explain_report, explain_table,
+    EarlyFault, Folder, Outcome, ReportAgain, Settings, Source, explain_report, explain_table,
     report_again, table_line,
 };
 use std::alloc::{AllocError, Global};
@@ -41,17 +43,35 @@ fn print(rt: &HostRuntime, lines: Result<String, AllocError>) {
     }
 }
 
+/// Prints below the line of a fault of the metadata, the types table or the parameters file what there is to say of it.
+fn explain_early(
+    rt: &HostRuntime,
+    alloc: Global,
+    settings: &Settings,
+    source: Source,
+    fault: MetaFault,
+) {
+    let (meta, types) = (settings.meta.as_str(), settings.types.as_str());
+    let folder = &mut Ordinary { rt };
+    print(
+        rt,
+        explain_report(alloc, meta, types, folder, source, fault),
+    );
+}
+
 /// Prints below the line of an outcome what there is to say of its fault. What cannot be printed, or finds
 /// no memory, is left out.
 pub fn explain_fault(rt: &HostRuntime, alloc: Global, settings: &Settings, outcome: &Outcome) {
-    if let Outcome::Report(source, fault) = outcome {
-        let (meta, types) = (settings.meta.as_str(), settings.types.as_str());
-        let folder = &mut Ordinary { rt };
-        print(
-            rt,
-            explain_report(alloc, meta, types, folder, *source, *fault),
-        );
-    }
+    let reason = match outcome {
+        Outcome::Report(source, fault) => {
+            explain_early(rt, alloc, settings, *source, *fault);
+            return;
+        }
+        Outcome::CannotRead(path) => why_unread(rt, path.as_str()),
+        Outcome::CannotWrite(path) => why_unwritten(rt, settings, path.as_str()),
+        _ => return,
+    };
+    let _ = eprint!(rt; "    {reason}\n");
 }
 
 /// Prints what there is to say of the fault of a table, whose report was read again.

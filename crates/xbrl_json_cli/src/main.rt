@@ -29,6 +29,7 @@ mod output;
 mod over;
 mod paths;
 mod progress;
+mod reason;
 mod said;
 mod target;
 mod written;
@@ -39,7 +40,7 @@ use oim_convert::ConvertFault;
 use oim_run::{Outcome, Request, held_told, request_of, tell};
 use output::SystemOutputs;
 use progress::Progress;
-use said::{StandardError, convert_and_tell, explained};
+use said::{StandardError, convert_and_tell, explained, told_before};
 use std::alloc::{AllocError, Global};
 use std::io;
 use std::io::{ErrorKind, IsTerminal};
@@ -90,7 +91,7 @@ fn asked<T: Threads + Wait + Sync>(
         return 2;
     }
     match refused_before(rt, alloc, request) {
-        Some(outcome) => tell(&mut StandardError { rt }, alloc, &outcome),
+        Some(outcome) => told_before(rt, alloc, request, &outcome),
         None => converted(rt, threads, alloc, request),
     }
 }

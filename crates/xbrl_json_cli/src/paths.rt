@@ -21,7 +21,7 @@ pub fn reached(rt: &HostRuntime, alloc: Global, path: &str) -> Option<String> {
 }
 
 /// The path of the folder of a file, and the file's name there.
-fn parts_of(path: &str) -> (&str, &str) {
+pub fn parts_of(path: &str) -> (&str, &str) {
     match path.rsplit_once('/') {
         Some(("", name)) => ("/", name),
         Some(parts) => parts,

@@ -37,6 +37,13 @@ impl<'a> Teller for StandardError<'a> {
     }
 }
 
+/// Prints what there is to say of an outcome below its line, if the words ask for it.
+fn explain_if_asked(rt: &HostRuntime, alloc: Global, request: &Request, outcome: &Outcome) {
+    if request.explain {
+        explain_fault(rt, alloc, &request.settings, outcome);
+    }
+}
+
 /// Tells the lines of an outcome, with the places of its faults if the words ask for them. The lines of tables with
 /// their places are printed one by one, and not as one text.
 fn told_as_asked<L: Teller>(
@@ -72,10 +79,19 @@ fn faults_told<L: Teller>(
 ) -> u8
     ensures { SaysLast (L.terminal to.old) request.now.faults outcome.now (L.said to.old) (L.said to.new) result }
 {
-    match write_faults(rt, alloc, request, outcome) {
-        Some(unwritten) => tell(to, alloc, &unwritten),
-        None => status(outcome),
-    }
+    let Some(unwritten) = write_faults(rt, alloc, request, outcome) else {
+        return status(outcome);
+    };
+    let status = tell(to, alloc, &unwritten);
+    explain_if_asked(rt, alloc, request, &unwritten);
+    status
+}
+
+/// Tells how a run ended that was not begun, and gives its exit status.
+pub fn told_before(rt: &HostRuntime, alloc: Global, request: &Request, outcome: &Outcome) -> u8 {
+    let status = tell(&mut StandardError { rt }, alloc, outcome);
+    explain_if_asked(rt, alloc, request, outcome);
+    status
 }
 
 /// Converts as `convert_as` does, with the numbers of standard input, output and error taken: where the
