@@ -295,6 +295,8 @@ TABLES: List[Tuple[Any, ...]] = [
     ({("tables", "t1", "url"): "no.csv"}, None, "0, 0 NoFile (20)", "r/no.csv", "(the whole file)", "a table that is not optional has no file"),
     ({("tables", "t1", "url"): "d"}, None, "0, 0 Read (21)", "r/d", "(the whole file)", UNREAD),
     ({}, "", "0, 0 NoHeader (22)", "r/t1.csv", "(the whole file)", "the file has no record at all"),
+    ({}, "cash,note\n1\u00a0000,a\n", "1, 1 BadNumber (40)", "r/t1.csv, line 2, cell 1", '"1\\u00a0000" in cash (eg:Cash) of row r_1', "the cell of a number is not a numeral"),
+    ({}, "\ufeff\ufeffcash,note\n", "0, 1 UnknownHeader (23)", "r/t1.csv, line 1, cell 1", '"\\ufeffcash"', "a header cell does not name a column of the template"),
     ({}, "cash,no\x7fpe\n", "0, 2 UnknownHeader (23)", "r/t1.csv, line 1, cell 2", '"no\\x7fpe"', "a header cell does not name a column of the template"),
     ({}, "\r\n\ncash,note,cash\n", "0, 3 RepeatedHeader (24)", "r/t1.csv, line 3, cell 3", '"cash"', "a column stands twice in the header"),
     (IDENTIFIED, "cash,note\n", "0, 0 NoRowIdColumn (25)", "r/t1.csv, line 1", "k", "the column of row identifiers is not in the header"),

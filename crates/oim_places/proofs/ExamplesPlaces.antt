@@ -1,12 +1,12 @@
 -- Worked cases of places: texts that are cut, JSON pointers, the lines of records.
-use Rattle.std.proofs.Common.{◌≡◌, List, ℕ, [], ◌∷◌, ◌++◌, Some, None, refl, replicate}
+use Rattle.std.proofs.Common.{◌≡◌, List, ℕ, [], ◌∷◌, ◌++◌, Some, None, map, true, false, refl, replicate}
 use Rattle.std.specs.Prelude.{codes}
 use Rattle.std.specs.Str.{chars}
 use Rattle.csv.specs.Reading.{strip_bom}
 use lib.Utf8.{encode}
 use Rattle.oim_places.specs.LineNumbers.{line_of_record}
 use Rattle.oim_places.specs.Pointers.{pointer_of}
-use Rattle.oim_places.specs.Shown.{excerpt_of, shown}
+use Rattle.oim_places.specs.Shown.{excerpt_of, is_unseen, shown}
 
 -- 80 characters are shown whole, of 81 two points stand for the last
 eighty : excerpt_of (replicate 80 97) ≡ replicate 80 97
@@ -115,7 +115,20 @@ no_such_record : line_of_record 2 (codes "a" ++ lf ++ codes "1" ++ lf) ≡ None
 unfolding strip_bom
 no_such_record = refl
 
--- a letter of two bytes, and U+00A0, which comes behind the last control character
-shown_letters : shown (codes "a \\ z" ++ 195 ∷ 169 ∷ 194 ∷ 160 ∷ []) ≡ codes "a \\ z" ++ 195 ∷ 169 ∷ 194 ∷ 160 ∷ []
+-- a letter of two bytes, and U+00A1, which are seen
+shown_letters : shown (codes "a \\ z" ++ 195 ∷ 169 ∷ 194 ∷ 161 ∷ []) ≡ codes "a \\ z" ++ 195 ∷ 169 ∷ 194 ∷ 161 ∷ []
 unfolding chars encode
 shown_letters = refl
+
+-- a blank that is none, a byte-order mark and a change of direction, by their codes
+shown_unseen : shown (codes "1" ++ 194 ∷ 160 ∷ codes "000" ++ 239 ∷ 187 ∷ 191 ∷ 226 ∷ 128 ∷ 174 ∷ []) ≡ codes "1\\u00a0000\\ufeff\\u202e"
+unfolding chars encode
+shown_unseen = refl
+
+-- the first and the last of each run of characters that are not seen
+unseen_characters : map is_unseen (160 ∷ 173 ∷ 1564 ∷ 5760 ∷ 6158 ∷ 8192 ∷ 8207 ∷ 8232 ∷ 8239 ∷ 8287 ∷ 8303 ∷ 12288 ∷ 65279 ∷ []) ≡ replicate 13 true
+unseen_characters = refl
+
+-- those before and behind them
+seen_characters : map is_unseen (32 ∷ 159 ∷ 161 ∷ 172 ∷ 174 ∷ 1563 ∷ 1565 ∷ 5759 ∷ 5761 ∷ 6157 ∷ 6159 ∷ 8191 ∷ 8208 ∷ 8231 ∷ 8240 ∷ 8286 ∷ 8304 ∷ 12287 ∷ 12289 ∷ 65278 ∷ 65280 ∷ []) ≡ replicate 21 false
+seen_characters = refl

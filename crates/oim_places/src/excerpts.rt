@@ -10,7 +10,7 @@ use std::alloc::{AllocError, Global};
 /// How many characters of a text are shown.
 const MOST_CHARACTERS: usize = 80;
 
-/// The first 80 characters of a text, each control character as `\x` and its two hexadecimal digits, and two
+/// The first 80 characters of a text, those that are not seen by their codes, as `shown` has them, and two
 /// points behind them if the text is longer. Fails if memory runs out.
 pub fn excerpt(alloc: Global, text: &str) -> Result<String, AllocError>
     ensures { IfOk result (λ s. string_bytes s ≡ excerpt_of text.now) }

@@ -1,8 +1,8 @@
-//! Texts of files and words as a terminal is shown them, with no control character.
+//! Texts of files and words as a terminal is shown them: each character is seen.
 
 ghost use Rattle.std.specs.Prelude.{◌≡◌, ◌<◌, ◌++◌, IfOk, chars, flat_map, string_bytes};
 ghost use Rattle.oim_places.specs.Pointers.{char_of, pointer_char};
-ghost use Rattle.oim_places.specs.Shown.{escape_of, hex_digit, shown, shown_char};
+ghost use Rattle.oim_places.specs.Shown.{escape_of, hex_digit, is_unseen, long_escape_of, shown, shown_char};
 
 use oim_names::Text;
 use std::alloc::{AllocError, Global};
@@ -29,12 +29,45 @@ pub(crate) fn put_control(out: &mut String, c: char) -> Result<(), AllocError>
     out.push(digit(code % 16))
 }
 
+/// Puts a character that is not seen behind a text, as `\u` and four hexadecimal digits.
+fn put_unseen(out: &mut String, c: char) -> Result<(), AllocError>
+    ensures { IfOk result (λ u. string_bytes out.new ≡ string_bytes out.old ++ long_escape_of c) }
+{
+    let code = u32::from(c);
+    out.push_str("\\u")?;
+    out.push(digit(code / 4096 % 16))?;
+    out.push(digit(code / 256 % 16))?;
+    out.push(digit(code / 16 % 16))?;
+    out.push(digit(code % 16))
+}
+
+/// Whether a character looks like a blank and is none, or is not seen at all.
+fn is_unseen(c: char) -> bool
+    ensures { result ≡ is_unseen c }
+{
+    matches!(
+        c,
+        '\u{a0}'
+            | '\u{ad}'
+            | '\u{61c}'
+            | '\u{1680}'
+            | '\u{180e}'
+            | '\u{2000}'..='\u{200f}'
+            | '\u{2028}'..='\u{202f}'
+            | '\u{205f}'..='\u{206f}'
+            | '\u{3000}'
+            | '\u{feff}'
+    )
+}
+
 /// Puts a character behind a text, as a terminal is shown it.
 pub(crate) fn put_shown(out: &mut String, c: char) -> Result<(), AllocError>
     ensures { IfOk result (λ u. string_bytes out.new ≡ string_bytes out.old ++ shown_char c) }
 {
     if c.is_control() {
         put_control(out, c)
+    } else if is_unseen(c) {
+        put_unseen(out, c)
     } else {
         out.push(c)
     }
@@ -65,7 +98,8 @@ pub(crate) fn put_text(out: &mut String, text: &str, is_key: bool) -> Result<(),
     Ok(())
 }
 
-/// A text with each control character (U+0000 to U+001F, U+007F to U+009F) as `\x` and its two hexadecimal digits. Fails if
+/// A text with each control character (U+0000 to U+001F, U+007F to U+009F) as `\x` and its two hexadecimal digits, and each
+/// that looks like a blank or is not seen (no-break blank, byte-order mark, change of direction) as `\u` and four. Fails if
 /// memory runs out.
 pub fn shown(alloc: Global, text: &str) -> Result<Text, AllocError>
     ensures { IfOk result (λ t. t ≡ shown text.now) }
