@@ -85,6 +85,16 @@ table t =
 abbrev table_with : List ℕ → Data → Data
 table_with k d = table (two k d (codes "url") (text (codes "t.csv")))
 
+-- two tables of one template
+abbrev two_tables : Data
+two_tables =
+    object
+    (member (codes "documentInfo") good_info
+    (member (codes "tableTemplates") (one (codes "t") (one (codes "columns") nothing))
+    (member (codes "tables")
+        (two (codes "t") (one (codes "url") (text (codes "t.csv"))) (codes "u") (two (codes "template") (text (codes "t")) (codes "url") (text (codes "u.csv"))))
+        no_members)))
+
 -- an entity that is no text
 abbrev bad_entity : Data
 bad_entity = one (codes "entity") null
@@ -114,6 +124,8 @@ places_in_info :
     × Stands (with_info (codes "namespaces") (two (codes "a") (text (codes "u")) (codes "b") (text (codes "u")))) BadNamespaces (codes "documentInfo" ∷ codes "namespaces" ∷ [])
     -- taxonomy is no list
     × Stands (info csv null (codes "namespaces") nothing) BadTaxonomy (codes "documentInfo" ∷ codes "taxonomy" ∷ [])
+    -- taxonomy is missing
+    × Stands (one (codes "documentInfo") (one (codes "documentType") csv)) BadTaxonomy (codes "documentInfo" ∷ codes "taxonomy" ∷ [])
     -- baseURL is no text
     × Stands (with_info (codes "baseURL") null) BadTaxonomy (codes "documentInfo" ∷ codes "baseURL" ∷ [])
     -- the report extends another
@@ -121,7 +133,7 @@ places_in_info :
 unfolding walked first in_metadata in_document in_info_in in_info in_namespaces in_parts in_level in_dimensions in_templates in_template in_template_itself in_columns in_column in_column_itself
     in_sources in_column_level in_groups in_group in_tables in_table in_table_itself in_parameters in_own_parameters has_no_report has_bad_parameter_url is_bad_dimension is_decimals
     name_in meaning_of is_plain_path accuracy_of strip_front qname_of is_identifier is_plain_char is_ncname is_name_char is_name_start chars is_utf8 encode
-places_in_info = (refl, refl, refl, refl, refl, refl, refl, refl)
+places_in_info = (refl, refl, refl, refl, refl, refl, refl, refl, refl)
 
 -- LINKS, and what the report itself writes
 places_in_report :
@@ -211,6 +223,8 @@ places_in_groups = (refl, refl, refl, refl, refl, refl)
 places_in_tables :
     -- tables is no object
     Stands (report (codes "tables") null) BadTemplate (codes "tables" ∷ [])
+    -- a table more than the limit
+    × Stands two_tables TooLarge (codes "tables" ∷ [])
     -- the name of a table has a dot
     × Stands (two (codes "documentInfo") good_info (codes "tables") (one (codes "t.u") (one (codes "url") (text (codes "t.csv"))))) BadIdentifier (codes "tables" ∷ codes "t.u" ∷ [])
     -- a table without an url: the missing property is named
@@ -230,7 +244,7 @@ places_in_tables :
 unfolding walked first in_metadata in_document in_info_in in_info in_namespaces in_parts in_level in_dimensions in_templates in_template in_template_itself in_columns in_column in_column_itself
     in_sources in_column_level in_groups in_group in_tables in_table in_table_itself in_parameters in_own_parameters has_no_report has_bad_parameter_url is_bad_dimension is_decimals
     name_in meaning_of is_plain_path accuracy_of strip_front qname_of is_identifier is_plain_char is_ncname is_name_char is_name_start chars is_utf8 encode
-places_in_tables = (refl, refl, refl, refl, refl, refl, refl, refl, refl)
+places_in_tables = (refl, refl, refl, refl, refl, refl, refl, refl, refl, refl)
 
 -- PARAMETERS of the report
 places_in_parameters :
@@ -258,16 +272,41 @@ unfolding walked first in_metadata in_document in_info_in in_info in_namespaces 
     name_in meaning_of is_plain_path accuracy_of strip_front qname_of is_identifier is_plain_char is_ncname is_name_char is_name_start chars is_utf8 encode
 first_of_two = (refl, refl)
 
+-- TWO PLACES of one fault: the first of them in the order of the walk
+first_place :
+    -- a bad prefix, and one URI for two others: at the prefix
+    Stands
+        (with_info (codes "namespaces") (object (member (codes "1") (text (codes "v")) (member (codes "a") (text (codes "u")) (member (codes "b") (text (codes "u")) no_members)))))
+        BadNamespaces (codes "documentInfo" ∷ codes "namespaces" ∷ codes "1" ∷ [])
+    -- a report that extends another and has links
+    × Stands
+        (two (codes "documentInfo")
+            (object (member (codes "documentType") csv (member (codes "extends") (list (text (codes "m.json"))) (member (codes "taxonomy") (array no_items) no_members))))
+            (codes "links") (one (codes "x") nothing))
+        Unsupported (codes "documentInfo" ∷ codes "extends" ∷ [])
+    -- a template without columns, whose rowIdColumn is no text
+    × Stands (template (one (codes "rowIdColumn") null)) BadTemplate (codes "tableTemplates" ∷ codes "p" ∷ codes "columns" ∷ [])
+    -- a table without an url, whose template is no text
+    × Stands (table (one (codes "template") null)) BadTemplate (codes "tables" ∷ codes "t" ∷ codes "url" ∷ [])
+    -- a table whose template is no text, and optional no truth value
+    × Stands
+        (table (object (member (codes "optional") (text (codes "true")) (member (codes "template") null (member (codes "url") (text (codes "t.csv")) no_members)))))
+        BadTemplate (codes "tables" ∷ codes "t" ∷ codes "template" ∷ [])
+unfolding walked first in_metadata in_document in_info_in in_info in_namespaces in_parts in_level in_dimensions in_templates in_template in_template_itself in_columns in_column in_column_itself
+    in_sources in_column_level in_groups in_group in_tables in_table in_table_itself in_parameters in_own_parameters has_no_report has_bad_parameter_url is_bad_dimension is_decimals
+    name_in meaning_of is_plain_path accuracy_of strip_front qname_of is_identifier is_plain_char is_ncname is_name_char is_name_start chars is_utf8 encode
+first_place = (refl, refl, refl, refl, refl)
+
 -- ALL PLACES: the columns that are no objects, in the order of the walk; nothing in a report as it should be
 all_places :
     (places_of BadTemplate (walked (columns (two (codes "c") null (codes "d") null)))
     ≡ (codes "tableTemplates" ∷ codes "p" ∷ codes "columns" ∷ codes "c" ∷ []) ∷ (codes "tableTemplates" ∷ codes "p" ∷ codes "columns" ∷ codes "d" ∷ []) ∷ [])
     × (has BadTemplate (walked (column null)) ≡ true) × (has BadDecimals (walked (column null)) ≡ false)
-    × (walked (table (one (codes "url") (text (codes "t.csv")))) ≡ [])
+    × (walked (table (one (codes "url") (text (codes "t.csv")))) ≡ []) × (walked (column (one (codes "dimensions") nothing)) ≡ [])
 unfolding walked in_metadata in_document in_info_in in_info in_namespaces in_parts in_level in_dimensions in_templates in_template in_template_itself in_columns in_column in_column_itself
     in_sources in_column_level in_groups in_group in_tables in_table in_table_itself in_parameters in_own_parameters has_no_report has_bad_parameter_url is_bad_dimension is_decimals
     name_in meaning_of is_plain_path accuracy_of strip_front qname_of is_identifier is_plain_char is_ncname is_name_char is_name_start chars is_utf8 encode
-all_places = (refl, refl, refl, refl)
+all_places = (refl, refl, refl, refl, refl)
 
 -- WHAT HAS NO PLACE: text that is not JSON is a fault of the whole, at no key
 no_key : (refusal_of Syntax ≡ Found (finding Syntax [])) × (fault_in (refusal_of Syntax) ≡ Syntax)
