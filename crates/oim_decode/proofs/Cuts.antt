@@ -8,7 +8,7 @@ use Rattle.std.proofs.lemmas.Str.{IsUtf8-from_is_utf8}
 use Rattle.csv.specs.Records.{AllText}
 use Rattle.oim_resolve.specs.FactParts.{FactParts as Fact}
 use Rattle.oim_fast.specs.Facts.{WritesFacts}
-use Rattle.oim_fast.specs.Rows.{RowValue}
+use Rattle.oim_row.specs.Rows.{RowValue}
 use Rattle.oim_rows.specs.RowFacts.{is_not_text}
 use Rattle.oim_rows.specs.declared.fault.TableFault.{TableFault}
 use Rattle.oim_json.specs.Blocks.{behind_comma, behind_commas, ends_from}

@@ -4,7 +4,7 @@ use Rattle.std.specs.Option.{is_none}
 use Rattle.std.proofs.lemmas.Bool.{ltb-false}
 use Rattle.oim_records.specs.Grids.{Field, Record}
 use Rattle.oim_resolve.specs.FactParts.{FactParts as Fact}
-use Rattle.oim_fast.specs.Rows.{RowValue}
+use Rattle.oim_row.specs.Rows.{RowValue}
 use Rattle.std.specs.Prelude.{if◌then◌else◌}
 use Rattle.oim_rows.specs.Header.{fault_at, file_fault, or_else}
 use Rattle.oim_rows.specs.RowFacts.{TableHeaderValue, facts_from, id_fault, id_place_of, ragged_fault, row_fault, row_of, text_fault}

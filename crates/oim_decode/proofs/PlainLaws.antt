@@ -7,7 +7,7 @@ use Rattle.oim_json.specs.Blocks.{behind_commas, ends_from}
 use Rattle.oim_json.proofs.Blocks.{texts_push, ends_push}
 use Rattle.oim_records.specs.Grids.{Record}
 use Rattle.oim_fast.specs.Facts.{facts_of_row}
-use Rattle.oim_fast.specs.Rows.{RowValue}
+use Rattle.oim_row.specs.Rows.{RowValue}
 use Rattle.oim_rows.specs.RowFacts.{TableHeaderValue, facts_from, row_of}
 use Rattle.oim_rows.specs.Streams.{OrNoMemory}
 use Rattle.oim_rows.specs.declared.fault.TableFault.{TableFault}

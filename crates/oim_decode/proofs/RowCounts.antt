@@ -4,7 +4,7 @@ use Rattle.std.proofs.lemmas.Grind.{flat_map-append}
 use Rattle.oim_records.specs.Grids.{Field}
 use Rattle.oim_resolve.specs.FactParts.{FactParts as Fact}
 use Rattle.oim_fast.specs.Facts.{facts_of_row}
-use Rattle.oim_fast.specs.Rows.{RowValue}
+use Rattle.oim_row.specs.Rows.{RowValue}
 use Rattle.oim_rows.specs.Header.{file_fault}
 use Rattle.oim_rows.specs.RowFacts.{id_place_of}
 use Rattle.oim_rows.specs.Streams.{OrNoMemory, facts_of_rows}

@@ -5,7 +5,7 @@ use Rattle.oim_records.specs.Reads.{TakesRecord}
 use Rattle.oim_records.specs.declared.read_fault.ReadFault.{ReadFault}
 use Rattle.oim_resolve.specs.FactParts.{FactParts as Fact}
 use Rattle.oim_fast.specs.Facts.{facts_of_row}
-use Rattle.oim_fast.specs.Rows.{RowValue}
+use Rattle.oim_row.specs.Rows.{RowValue}
 use Rattle.oim_rows.specs.RowFacts.{IsNewId, IsTextRecord, field_or_empty, TableHeaderValue, checked, facts_from, id_fault, id_place_of, ids_after, is_not_text, limit_fault, ragged_fault, row_fault, row_of, row_result, text_fault}
 use Rattle.oim_rows.specs.Header.{fault_at, or_else}
 use Rattle.oim_rows.specs.declared.fault.TableKind.TheVariants as kind

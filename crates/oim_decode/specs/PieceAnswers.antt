@@ -3,7 +3,7 @@ use Rattle.std.specs.Prelude.{◌≡◌, ◌⊎◌, ◌+◌, ◌≤◌, Bool, tr
 use Rattle.oim_records.specs.Grids.{Field, Record}
 use Rattle.oim_resolve.specs.FactParts.{FactParts as Fact}
 use Rattle.oim_fast.specs.Facts.{facts_of_row}
-use Rattle.oim_fast.specs.Rows.{RowValue}
+use Rattle.oim_row.specs.Rows.{RowValue}
 use Rattle.oim_rows.specs.Header.{file_fault}
 use Rattle.oim_rows.specs.RowFacts.{TableHeaderValue, id_place_of}
 use Rattle.oim_rows.specs.Streams.{OrNoMemory, Stream, ending, stream_from}

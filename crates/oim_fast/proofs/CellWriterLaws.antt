@@ -27,8 +27,8 @@ use Rattle.oim_fast.specs.state.FrameTexts.{FrameValue, Segment, with_part, with
 use Rattle.oim_fast.specs.state.Frames.{AreFrameDecimals, IsTextOf, no_dimensions, with_parts}
 use Rattle.oim_fast.specs.state.KeptFrames.{IsTextFor}
 use Rattle.oim_fast.specs.state.Parts.{IsPart, IsPartValue}
-use Rattle.oim_fast.specs.state.References.{IsFresh, Key, ReferenceValue, key_of}
-use Rattle.oim_fast.specs.Rows.{RowValue, cell_in, column_in}
+use Rattle.oim_row.specs.References.{IsFresh, Key, ReferenceValue, key_of}
+use Rattle.oim_row.specs.Rows.{RowValue, cell_in, column_in}
 use Rattle.oim_fast.specs.declared.frame.fact_column.FactColumn.{FactColumn}
 use Rattle.oim_fast.specs.declared.frame.frame_decimals.FrameDecimals.{FrameDecimals}
 use Rattle.oim_fast.specs.declared.frame.frame_decimals.FrameDecimals.TheVariants as decimals
@@ -36,12 +36,12 @@ use Rattle.oim_fast.specs.declared.frame.part.Part.{Part}
 use Rattle.oim_fast.specs.declared.frame.part.PartValue.{PartValue}
 use Rattle.oim_fast.specs.declared.frame.part.PartValue.TheVariants as part
 use Rattle.oim_fast.specs.declared.frame.value.Value.{Value}
-use Rattle.oim_fast.specs.declared.row.group_cells.GroupCell.{GroupCell}
+use Rattle.oim_row.specs.declared.group_cells.GroupCell.{GroupCell}
 use Rattle.oim_fast.proofs.FoundLaws.{absent_given, fact_given, text_given}
 use Rattle.oim_fast.proofs.FrameLaws.{levels_are}
-use Rattle.oim_fast.proofs.Growth.{all_push}
+use Rattle.oim_row.proofs.Growth.{all_push}
 use Rattle.oim_fast.proofs.PlainNumerals.{given_is_plain}
-use Rattle.oim_fast.proofs.Refreshed.{set_all, set_map}
+use Rattle.oim_row.proofs.Refreshed.{set_all, set_map}
 use Rattle.oim_fast.proofs.RowLaws.{text_is}
 use Rattle.oim_fast.proofs.SoundLaws.{chosen_sound}
 

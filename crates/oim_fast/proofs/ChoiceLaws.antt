@@ -17,14 +17,15 @@ use Rattle.oim_resolve.proofs.LevelOrder.{column_level_rises, report_rises, temp
 use Rattle.oim_rows.specs.RowFacts.{TableHeaderValue, field_or_empty, source_of_column}
 use Rattle.oim_fast.specs.state.Columns.{IsFactColumn}
 use Rattle.oim_fast.specs.state.Frames.{Chooses, groups_chosen, is_known_choice, levels_chosen}
-use Rattle.oim_fast.specs.state.Groups.{IsGroupCell, IsSaid, Says, choice_in, choices_in, group_at, level_at, level_chosen, levels_at}
-use Rattle.oim_fast.specs.Rows.{RowValue, column_in}
+use Rattle.oim_row.specs.Groups.{IsGroupCell, IsSaid, Says, group_at, level_chosen}
+use Rattle.oim_fast.specs.state.ChosenGroups.{choice_in, choices_in, level_at, levels_at}
+use Rattle.oim_row.specs.Rows.{RowValue, column_in}
 use Rattle.oim_fast.specs.declared.frame.fact_column.FactColumn.{FactColumn}
-use Rattle.oim_fast.specs.declared.row.group_cells.Choice.{Choice}
-use Rattle.oim_fast.specs.declared.row.group_cells.Choice.TheVariants as choice
-use Rattle.oim_fast.specs.declared.row.group_cells.GroupCell.{GroupCell}
+use Rattle.oim_row.specs.declared.group_cells.Choice.{Choice}
+use Rattle.oim_row.specs.declared.group_cells.Choice.TheVariants as choice
+use Rattle.oim_row.specs.declared.group_cells.GroupCell.{GroupCell}
 use Rattle.oim_fast.proofs.ColumnLaws.{column_at}
-use Rattle.oim_fast.proofs.Growth.{all_append, all_push}
+use Rattle.oim_row.proofs.Growth.{all_append, all_push}
 use Rattle.oim_fast.proofs.PieceLaws.{all_at}
 
 -- PLACES

@@ -11,11 +11,11 @@ use Rattle.oim_report.specs.Readers.{holds_facts, no_column}
 use Rattle.oim_report.specs.declared.data.Column.{Column}
 use Rattle.oim_rows.specs.RowFacts.{TableHeaderValue, is_fact_column}
 use Rattle.oim_fast.specs.state.Columns.{AreFactColumns, IsColumnAt, IsFactColumn, fact_column_at, fact_columns_in}
-use Rattle.oim_fast.specs.state.References.{Grows}
-use Rattle.oim_fast.specs.Rows.{columns_in}
+use Rattle.oim_row.specs.References.{Grows}
+use Rattle.oim_row.specs.Rows.{columns_in}
 use Rattle.oim_fast.specs.declared.frame.fact_column.FactColumn.{FactColumn}
-use Rattle.oim_fast.specs.declared.row.group_cells.GroupCell.{GroupCell}
-use Rattle.oim_fast.proofs.Growth.{all_push, slice_get-append}
+use Rattle.oim_row.specs.declared.group_cells.GroupCell.{GroupCell}
+use Rattle.oim_row.proofs.Growth.{all_push, slice_get-append}
 
 -- THE HEADER
 

@@ -6,11 +6,12 @@ use Rattle.oim_report.specs.declared.kind.Kind.TheVariants as kind
 use Rattle.oim_rows.specs.RowFacts.{TableHeaderValue}
 use Rattle.oim_fast.specs.state.Columns.{fact_columns_in}
 use Rattle.oim_fast.specs.state.Frames.{groups_chosen}
-use Rattle.oim_fast.specs.state.Groups.{choice_in, group_at}
+use Rattle.oim_fast.specs.state.ChosenGroups.{choice_in}
+use Rattle.oim_row.specs.Groups.{group_at}
 use Rattle.oim_fast.specs.state.KeptFrames.{kind_code, text_in, text_of}
-use Rattle.oim_fast.specs.Rows.{column_in}
+use Rattle.oim_row.specs.Rows.{column_in}
 use Rattle.oim_fast.specs.declared.frame.frame.Body.TheVariants as body
-use Rattle.oim_fast.specs.declared.row.group_cells.Choice.TheVariants as choice
+use Rattle.oim_row.specs.declared.group_cells.Choice.TheVariants as choice
 
 -- a header cell that is empty names no column
 empty_cell : (f : TableHeaderValue) → fact_columns_in f (None ∷ []) ≡ []

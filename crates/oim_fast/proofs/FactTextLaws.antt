@@ -1,5 +1,5 @@
 -- The text of a fact, from what stands in its frame.
-use Rattle.std.proofs.Common.{◌≡◌, ◌<◌, ◌≤◌, ◌+◌, ◌-◌, ◌*◌, ℕ, zero, suc, Bool, true, false, not, nat_lt, ◌==◌, ◌&&◌, ◌||◌, List, [], ◌∷◌, ◌++◌, length, take, drop, Option, Some, None, codes, is_none, refl, sym, ap, subst, ◌∙◌, arith, append_assoc, length-append, length-take-le, length-drop, take-add, take-append-drop, drop-drop}
+use Rattle.std.proofs.Common.{◌≡◌, ◌<◌, ◌≤◌, ◌+◌, ◌-◌, ◌*◌, ℕ, zero, suc, Bool, true, false, not, ◌&&◌, ◌||◌, List, [], ◌∷◌, ◌++◌, length, take, drop, Option, Some, None, codes, is_none, refl, sym, ap, subst, ◌∙◌, arith, append_assoc, length-append, length-take-le, length-drop, take-add, take-append-drop, drop-drop}
 use Rattle.std.specs.Prelude.{ℤ, MatchOption, if◌then◌else◌, slice_range}
 use Rattle.std.specs.Fmt.{signed_decimal}
 use Rattle.std.specs.List.{All, flat_map, sum_by}
@@ -13,15 +13,16 @@ use Rattle.oim_resolve.specs.Facts.{is_numeric, places}
 use Rattle.oim_fast.specs.state.FactTexts.{TriesFact, WritesObject, WritesOpening, are_settled, are_sound_decimals, cut, fact_room, frame_decimals, frame_length, has_decimals, has_settled, opening_decimals, value_of}
 use Rattle.oim_fast.specs.state.FrameTexts.{AreRuns, FrameValue, IsLaidOut, Segment, dimensions_start, frame_dimensions, rest_from, segment_text, segments_from}
 use Rattle.oim_fast.specs.state.Pieces.{behind}
-use Rattle.oim_fast.specs.state.Places.{Placed, Stays}
-use Rattle.oim_fast.specs.state.References.{ReferenceValue, given_by, is_sound_by}
+use Rattle.oim_text.specs.Places.{Placed, Stays}
+use Rattle.oim_row.specs.References.{ReferenceValue}
+use Rattle.oim_fast.specs.state.GivenTexts.{given_by, is_sound_by}
 use Rattle.oim_fast.specs.state.Writing.{WritesRuns}
 use Rattle.oim_fast.specs.declared.frame.frame_decimals.FrameDecimals.{FrameDecimals}
 use Rattle.oim_fast.specs.declared.frame.frame_decimals.FrameDecimals.TheVariants as decimals
 use Rattle.oim_fast.specs.declared.frame.frame_text.Run.{Run}
 use Rattle.oim_fast.specs.declared.frame.value.Value.{Value}
 use Rattle.oim_fast.proofs.FrameTextLaws.{runs_within, seen}
-use Rattle.oim_fast.proofs.PlacedBytes.{Placed-less, Placed-stays, Placed-then, Stays-then}
+use Rattle.oim_text.proofs.PlacedBytes.{Placed-less, Placed-stays, Placed-then, Stays-then}
 use Rattle.oim_fast.proofs.WriteLaws.{range_split}
 
 -- DECIMALS
@@ -217,21 +218,6 @@ value_none {a} {b} {i} {j} v none p =
 pub places_placed : {a b c d : List ℕ} {i j k l : ℕ} (n : ℤ) → Placed a b i (codes "\"decimals\":") j → Placed b c j (signed_decimal n) k → Placed c d k (codes ",") l → Placed a d i (decimals_text (Some n)) l
 unfolding decimals_text
 places_placed n p q r = Placed-then (Placed-then p q) r
-
-short_if : (b : Bool) (x y : List ℕ) → length x ≤ 6 → length y ≤ 6 → length (if b then x else y) ≤ 6
-short_if true x y p q = p
-short_if false x y p q = q
-
-byte_length : (b : ℕ) → length (escaped_byte b) ≤ 6
-unfolding escaped_byte
-byte_length b =
-    short_if (b == 34) _ _ (omega arith) (short_if (b == 92) _ _ (omega arith) (short_if (b == 8) _ _ (omega arith) (short_if (b == 12) _ _ (omega arith) (short_if (b == 10) _ _ (omega arith)
-    (short_if (b == 13) _ _ (omega arith) (short_if (b == 9) _ _ (omega arith) (short_if (nat_lt b 32) _ _ (omega arith) (omega arith))))))))
-
--- an escaped text takes six bytes for each of its bytes at most
-pub escaped_length : (xs : List ℕ) → length (flat_map escaped_byte xs) ≤ 6 * length xs
-escaped_length [] = omega arith
-escaped_length (x ∷ xs) = omega (arith, byte_length x, escaped_length xs, length-append (escaped_byte x) (flat_map escaped_byte xs))
 
 -- THE WHOLE OBJECT
 

@@ -14,21 +14,22 @@ use Rattle.oim_resolve.specs.Facts.{is_dropped}
 use Rattle.oim_resolve.specs.Values.{side_of, value}
 use Rattle.oim_resolve.specs.Written.{group_named, levels}
 use Rattle.oim_rows.specs.RowFacts.{TableHeaderValue}
-use Rattle.oim_fast.specs.state.Answers.{dimension_json}
+use Rattle.oim_row.specs.Answers.{dimension_json}
 use Rattle.oim_fast.specs.state.FrameTexts.{FrameValue, Segment, frame_dimensions, with_part, with_value}
 use Rattle.oim_fast.specs.state.Frames.{Chooses, IsTextOf, are_ready, entry_of, groups_chosen, is_known_choice, levels_chosen, no_dimensions, with_parts}
-use Rattle.oim_fast.specs.state.Groups.{Says, group_at}
+use Rattle.oim_row.specs.Groups.{Says, group_at}
 use Rattle.oim_fast.specs.state.Parts.{IsPart, IsPartValue}
 use Rattle.oim_fast.specs.state.Pieces.{behind, dimension_piece, name_text, written_pieces}
-use Rattle.oim_fast.specs.state.References.{IsFresh, Key, ReferenceValue, given_by, key_of}
-use Rattle.oim_fast.specs.Rows.{RowValue, cell_in, column_in, columns_in}
+use Rattle.oim_row.specs.References.{IsFresh, Key, ReferenceValue, key_of}
+use Rattle.oim_fast.specs.state.GivenTexts.{given_by}
+use Rattle.oim_row.specs.Rows.{RowValue, cell_in, column_in, columns_in}
 use Rattle.oim_fast.specs.declared.frame.part.Part.{Part}
 use Rattle.oim_fast.specs.declared.frame.part.PartValue.{PartValue}
 use Rattle.oim_fast.specs.declared.frame.part.PartValue.TheVariants as part
-use Rattle.oim_fast.specs.declared.row.group_cells.Choice.{Choice}
-use Rattle.oim_fast.specs.declared.row.group_cells.Choice.TheVariants as choice
+use Rattle.oim_row.specs.declared.group_cells.Choice.{Choice}
+use Rattle.oim_row.specs.declared.group_cells.Choice.TheVariants as choice
 use Rattle.std.proofs.lemmas.Option.{slice_get_within}
-use Rattle.oim_fast.proofs.Growth.{all_push}
+use Rattle.oim_row.proofs.Growth.{all_push}
 use Rattle.oim_fast.proofs.PieceLaws.{part_added}
 use Rattle.oim_fast.proofs.RowLaws.{text_is}
 

@@ -12,7 +12,7 @@ use Rattle.oim_resolve.specs.Written.{written_decimals}
 use Rattle.oim_fast.specs.state.Frames.{AreFrameDecimals, AreKindDecimals, HasReferredKind, IsTextOf, levels_chosen}
 use Rattle.oim_fast.specs.state.KeptFrames.{IsBody, IsFrame}
 use Rattle.oim_fast.specs.state.Parts.{AreDecimals, IsPart, IsPartValue, IsReferred}
-use Rattle.oim_fast.specs.state.References.{Grows, Key, ReferenceValue, key_of}
+use Rattle.oim_row.specs.References.{Grows, Key, ReferenceValue, key_of}
 use Rattle.oim_fast.specs.state.FrameTexts.{FrameValue}
 use Rattle.oim_fast.specs.declared.frame.frame.Body.{Body}
 use Rattle.oim_fast.specs.declared.frame.frame.Body.TheVariants as body
@@ -22,8 +22,8 @@ use Rattle.oim_fast.specs.declared.frame.frame_decimals.FrameDecimals.TheVariant
 use Rattle.oim_fast.specs.declared.frame.part.Part.{Part}
 use Rattle.oim_fast.specs.declared.frame.part.PartValue.{PartValue}
 use Rattle.oim_fast.specs.declared.frame.part.PartValue.TheVariants as part
-use Rattle.oim_fast.specs.declared.row.group_cells.Choice.{Choice}
-use Rattle.oim_fast.proofs.Growth.{slice_get-append}
+use Rattle.oim_row.specs.declared.group_cells.Choice.{Choice}
+use Rattle.oim_row.proofs.Growth.{slice_get-append}
 
 module _ (f : TableHeaderValue) (keys more : List Key) where
   pub referred_more : (n : List ℕ) (w : Written) (i : ℕ) → IsReferred f keys n w i → IsReferred f (keys ++ more) n w i

@@ -6,7 +6,8 @@ use mathlib.Core.List.{IsPrefix}
 use Rattle.oim_json.specs.JsonText.{escaped_byte, quoted, value_text}
 use Rattle.oim_fast.specs.state.FactTexts.{AddsFact, EndsInstead, PutsFact, cut, object_text, opening_decimals, value_of}
 use Rattle.oim_fast.specs.state.FrameTexts.{FrameValue, dimensions_start, frame_dimensions}
-use Rattle.oim_fast.specs.state.References.{ReferenceValue, given_by}
+use Rattle.oim_row.specs.References.{ReferenceValue}
+use Rattle.oim_fast.specs.state.GivenTexts.{given_by}
 use Rattle.oim_fast.specs.declared.frame.value.Value.{Value}
 
 abbrev emptied : Value → Value

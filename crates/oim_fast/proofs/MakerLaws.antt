@@ -4,8 +4,8 @@ use Rattle.std.specs.List.{All}
 use Rattle.oim_rows.specs.RowFacts.{TableHeaderValue}
 use Rattle.oim_fast.specs.state.Making.{IsMaker, IsReadyMaker}
 use Rattle.oim_fast.specs.state.Parts.{IsPart}
-use Rattle.oim_fast.specs.state.References.{Grows, IsFresh, Key, ReferenceValue, key_of}
-use Rattle.oim_fast.specs.Rows.{RowValue}
+use Rattle.oim_row.specs.References.{Grows, IsFresh, Key, ReferenceValue, key_of}
+use Rattle.oim_row.specs.Rows.{RowValue}
 use Rattle.oim_fast.specs.declared.frame.frame_maker.FrameMaker.{FrameMaker}
 use Rattle.oim_fast.specs.declared.frame.part.Part.{Part}
 use Rattle.oim_fast.specs.declared.frame.parts.Parts.{Parts}

@@ -23,16 +23,16 @@ use Rattle.oim_fast.specs.state.Making.{AddsEntries, IsBodyOf, IsConcept, IsOpen
 use Rattle.oim_fast.specs.state.Parts.{IsPart, IsPartValue, IsReferred}
 use Rattle.oim_fast.specs.state.Pieces.{constant_meaning}
 use Rattle.oim_resolve.specs.ProgramLevels.{named, written_entries}
-use Rattle.oim_fast.specs.state.Sources.{source_written}
-use Rattle.oim_fast.specs.state.References.{Grows, Key, ReferenceValue, key_of}
+use Rattle.oim_row.specs.Sources.{source_written}
+use Rattle.oim_row.specs.References.{Grows, Key, ReferenceValue, key_of}
 use Rattle.oim_fast.specs.declared.frame.frame.Body.{Body}
 use Rattle.oim_fast.specs.declared.frame.frame_maker.Concept.{Concept}
 use Rattle.oim_fast.specs.declared.frame.frame_maker.Concept.TheVariants as concept
 use Rattle.oim_fast.specs.declared.frame.part.Part.{Part}
-use Rattle.oim_fast.specs.declared.row.group_cells.Choice.{Choice}
+use Rattle.oim_row.specs.declared.group_cells.Choice.{Choice}
 use Rattle.oim_fast.specs.declared.frame.part.PartValue.{PartValue}
 use Rattle.oim_fast.specs.declared.frame.part.PartValue.TheVariants as part
-use Rattle.oim_fast.proofs.Growth.{all_append}
+use Rattle.oim_row.proofs.Growth.{all_append}
 use Rattle.oim_fast.proofs.KeyLaws.{kind_decimals_grow, parts_grow}
 
 -- PARTS

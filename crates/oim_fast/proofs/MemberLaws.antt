@@ -15,7 +15,7 @@ use Rattle.oim_resolve.specs.Values.{side_of, value}
 use Rattle.oim_resolve.specs.Written.{levels, names, written}
 use Rattle.oim_resolve.specs.declared.role.Role.{Role}
 use Rattle.oim_resolve.specs.declared.role.Role.TheVariants as role
-use Rattle.oim_fast.specs.state.Answers.{dimension_json}
+use Rattle.oim_row.specs.Answers.{dimension_json}
 use Rattle.oim_fast.specs.state.FactTexts.{cut}
 use Rattle.oim_fast.specs.state.Pieces.{behind, dimension_piece, name_text, written_pieces}
 use Rattle.oim_resolve.specs.ProgramLevels.{named, written_entries}

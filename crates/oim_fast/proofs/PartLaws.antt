@@ -9,15 +9,15 @@ use Rattle.oim_json.specs.JsonText.{decimals_text}
 use Rattle.oim_report.specs.declared.data.Written.{Written}
 use Rattle.oim_resolve.specs.Values.{Read}
 use Rattle.oim_rows.specs.RowFacts.{TableHeaderValue}
-use Rattle.oim_fast.specs.state.Answers.{IsAnswer}
+use Rattle.oim_row.specs.Answers.{IsAnswer}
 use Rattle.oim_fast.specs.state.Parts.{IsPartValue, IsStated, PutsAnswer, purpose_of}
 use Rattle.oim_fast.specs.state.Pieces.{behind, constant_meaning, name_text}
-use Rattle.oim_fast.specs.state.References.{Key, ReferenceValue, key_of}
-use Rattle.oim_fast.specs.state.Sources.{source_written}
+use Rattle.oim_row.specs.References.{Key, ReferenceValue, key_of}
+use Rattle.oim_row.specs.Sources.{source_written}
 use Rattle.oim_fast.specs.declared.frame.frame_decimals.FrameDecimals.TheVariants as decimals
 use Rattle.oim_fast.specs.declared.frame.part.PartValue.{PartValue}
 use Rattle.oim_fast.specs.declared.frame.part.PartValue.TheVariants as part
-use Rattle.oim_fast.specs.declared.row.answer.Answer.{Answer}
+use Rattle.oim_row.specs.declared.answer.Answer.{Answer}
 
 -- a dimension that means the same in each row
 pub constant_value : (f : TableHeaderValue) (keys : List Key) (n : List ℕ) (w : Written) (a : Answer) (old new : List ℕ) (v : PartValue) → source_written f w ≡ None

@@ -10,13 +10,14 @@ use Rattle.oim_report.specs.ReportValue.{ReportValue}
 use Rattle.oim_report.specs.declared.data.Written.{Written}
 use Rattle.oim_resolve.specs.Facts.{entry_given, is_dropped, role_of}
 use Rattle.oim_resolve.specs.Values.{side_of, value}
-use Rattle.oim_fast.specs.state.Answers.{dimension_json, json_for}
+use Rattle.oim_row.specs.Answers.{dimension_json, json_for}
 use Rattle.oim_fast.specs.state.FrameTexts.{FrameValue, Segment, frame_dimensions, is_known, is_ready, segment_text, with_part, with_value}
 use Rattle.oim_fast.specs.state.Parts.{IsPart, IsPartValue}
 use Rattle.oim_fast.specs.state.Pieces.{behind, dimension_piece, name_text}
-use Rattle.oim_fast.specs.state.References.{IsFresh, Key, ReferenceValue, given_by, key_of, meaning_at_hand}
-use Rattle.oim_fast.specs.Rows.{RowValue, cell_in}
-use Rattle.oim_fast.specs.state.Sources.{source_text}
+use Rattle.oim_row.specs.References.{IsFresh, Key, ReferenceValue, key_of, meaning_at_hand}
+use Rattle.oim_fast.specs.state.GivenTexts.{given_by}
+use Rattle.oim_row.specs.Rows.{RowValue, cell_in}
+use Rattle.oim_row.specs.Sources.{source_text}
 use Rattle.oim_fast.specs.declared.frame.part.Part.{Part}
 use Rattle.oim_fast.specs.declared.frame.part.PartValue.{PartValue}
 use Rattle.oim_fast.specs.declared.frame.part.PartValue.TheVariants as part

@@ -19,7 +19,7 @@ use Rattle.oim_json.specs.JsonText.{is_unescaped}
 use Rattle.oim_report.specs.ReportValue.{ReportValue}
 use Rattle.oim_report.specs.declared.kind.Kind.{Kind}
 use Rattle.oim_report.specs.declared.kind.Kind.TheVariants as kind
-use Rattle.oim_fast.proofs.NumeralBytes.{digits_pass, numeral_passes}
+use Rattle.oim_text.proofs.NumeralBytes.{digits_pass, numeral_passes}
 use Rattle.oim_resolve.specs.FactValues.{numeral_given, text_in, value_given}
 use Rattle.oim_resolve.specs.Facts.{is_numeric}
 

@@ -18,9 +18,9 @@ use Rattle.oim_resolve.specs.Cell.{Cell, text_at}
 use Rattle.oim_resolve.specs.Values.{Read, decimals_value, not_empty, referred, value}
 use Rattle.oim_rows.specs.RowFacts.{cell_at, field_or_empty, source_of_column}
 use Rattle.oim_fast.specs.state.Pieces.{constant_meaning, constant_stated}
-use Rattle.oim_fast.specs.Rows.{RowValue, cell_in, columns_in}
-use Rattle.oim_fast.specs.state.Sources.{Column, RowNumber, SourceValue, cell_or_parameter, place_named, source_decimals, source_text, source_written}
-use Rattle.oim_fast.proofs.Texts.{empty_meaning, number_meaning}
+use Rattle.oim_row.specs.Rows.{RowValue, cell_in, columns_in}
+use Rattle.oim_row.specs.Sources.{Column, RowNumber, SourceValue, cell_or_parameter, place_named, source_decimals, source_text, source_written}
+use Rattle.oim_row.proofs.Texts.{empty_meaning, number_meaning}
 
 by_text : (t : List ℕ) (q : Option (List ℕ)) → option_map_or meaning_of (option_or (not_empty t) q) m.Absent ≡ meaning_of (cell_or_parameter t (unwrap_or q []))
 by_text [] None = sym empty_meaning

@@ -15,22 +15,23 @@ use Rattle.oim_report.specs.declared.kind.Kind.TheVariants as kind
 use Rattle.oim_resolve.specs.Facts.{concept_read, given}
 use Rattle.oim_resolve.specs.Values.{value}
 use Rattle.oim_resolve.specs.Written.{levels, written}
-use Rattle.oim_fast.specs.state.Answers.{IsAnswer}
+use Rattle.oim_row.specs.Answers.{IsAnswer}
 use Rattle.oim_fast.specs.state.Columns.{IsFactColumn}
 use Rattle.oim_fast.specs.state.Frames.{Chooses, HasConstantKind, HasReferredKind, is_known_choice, levels_chosen}
 use Rattle.oim_fast.specs.state.FrameTexts.{FrameValue}
-use Rattle.oim_fast.specs.state.Groups.{IsGroupCell, IsSaid, choices_in}
+use Rattle.oim_row.specs.Groups.{IsGroupCell, IsSaid}
+use Rattle.oim_fast.specs.state.ChosenGroups.{choices_in}
 use Rattle.oim_fast.specs.state.KeptFrames.{IsBody, IsFor, IsFrame, IsKnownFor, IsOfConcept, IsTextFor, kind_code, text_of}
-use Rattle.oim_fast.specs.state.References.{IsFresh, Key, ReferenceValue, key_of, meaning_at_hand}
-use Rattle.oim_fast.specs.Rows.{RowValue, cell_in, column_in}
-use Rattle.oim_fast.specs.state.Sources.{source_text}
+use Rattle.oim_row.specs.References.{IsFresh, Key, ReferenceValue, key_of, meaning_at_hand}
+use Rattle.oim_row.specs.Rows.{RowValue, cell_in, column_in}
+use Rattle.oim_row.specs.Sources.{source_text}
 use Rattle.oim_fast.specs.declared.frame.fact_column.FactColumn.{FactColumn}
 use Rattle.oim_fast.specs.declared.frame.frame.Body.{Body}
 use Rattle.oim_fast.specs.declared.frame.frame.Body.TheVariants as body
 use Rattle.oim_fast.specs.declared.frame.frame.Frame.{Frame}
-use Rattle.oim_fast.specs.declared.row.answer.Answer.{Answer}
-use Rattle.oim_fast.specs.declared.row.group_cells.Choice.{Choice}
-use Rattle.oim_fast.specs.declared.row.group_cells.GroupCell.{GroupCell}
+use Rattle.oim_row.specs.declared.answer.Answer.{Answer}
+use Rattle.oim_row.specs.declared.group_cells.Choice.{Choice}
+use Rattle.oim_row.specs.declared.group_cells.GroupCell.{GroupCell}
 use Rattle.oim_fast.proofs.ChoiceLaws.{chooses}
 use Rattle.oim_fast.proofs.FrameLaws.{levels_are}
 use Rattle.oim_fast.proofs.PieceLaws.{all_at, found}

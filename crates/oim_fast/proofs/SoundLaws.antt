@@ -22,24 +22,25 @@ use Rattle.oim_resolve.specs.declared.fact.CellFault.{CellFault}
 use Rattle.oim_resolve.specs.declared.role.Role.{Role}
 use Rattle.oim_resolve.specs.declared.role.Role.TheVariants as role
 use Rattle.oim_rows.specs.RowFacts.{field_or_empty, source_of_column}
-use Rattle.oim_fast.specs.state.Answers.{is_sound_for}
+use Rattle.oim_row.specs.Answers.{is_sound_for}
 use Rattle.oim_fast.specs.state.FactTexts.{frame_decimals, has_decimals}
 use Rattle.oim_fast.specs.state.FrameTexts.{FrameValue, Segment, is_known, is_ready, with_part, with_value}
 use Rattle.oim_fast.specs.state.Frames.{AreFrameDecimals, Chooses, are_ready, entry_of, is_known_choice, with_parts}
-use Rattle.oim_fast.specs.state.Groups.{Names, Says}
+use Rattle.oim_row.specs.Groups.{Names, Says}
 use Rattle.oim_fast.specs.state.Parts.{IsPart, IsPartValue}
 use Rattle.oim_fast.specs.state.Pieces.{AreSound, constant_stated, is_sound_dimension}
 use Rattle.oim_resolve.specs.ProgramLevels.{named}
-use Rattle.oim_fast.specs.state.References.{IsFresh, Key, ReferenceValue, given_by, is_sound_by, key_of, meaning_at_hand}
-use Rattle.oim_fast.specs.Rows.{RowValue, cell_in, column_in, columns_in}
-use Rattle.oim_fast.specs.state.Sources.{source_text}
+use Rattle.oim_row.specs.References.{IsFresh, Key, ReferenceValue, key_of, meaning_at_hand}
+use Rattle.oim_fast.specs.state.GivenTexts.{given_by, is_sound_by}
+use Rattle.oim_row.specs.Rows.{RowValue, cell_in, column_in, columns_in}
+use Rattle.oim_row.specs.Sources.{source_text}
 use Rattle.oim_fast.specs.declared.frame.frame_decimals.FrameDecimals.{FrameDecimals}
 use Rattle.oim_fast.specs.declared.frame.frame_decimals.FrameDecimals.TheVariants as decimals
 use Rattle.oim_fast.specs.declared.frame.part.Part.{Part}
 use Rattle.oim_fast.specs.declared.frame.part.PartValue.{PartValue}
 use Rattle.oim_fast.specs.declared.frame.part.PartValue.TheVariants as part
-use Rattle.oim_fast.specs.declared.row.group_cells.Choice.{Choice}
-use Rattle.oim_fast.specs.declared.row.group_cells.Choice.TheVariants as choice
+use Rattle.oim_row.specs.declared.group_cells.Choice.{Choice}
+use Rattle.oim_row.specs.declared.group_cells.Choice.TheVariants as choice
 use Rattle.oim_fast.proofs.FrameLaws.{kind_kept}
 use Rattle.oim_fast.proofs.PieceLaws.{all_at, found, given_at}
 use Rattle.oim_fast.proofs.RowLaws.{stated_constant, stated_referred, text_is, value_constant, value_referred}

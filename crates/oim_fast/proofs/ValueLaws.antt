@@ -19,7 +19,7 @@ use Rattle.oim_resolve.specs.FactValues.{ValueParts, in_form, numeral_given, pla
 use Rattle.oim_resolve.specs.Facts.{is_absent, is_nil, is_unknown}
 use Rattle.oim_fast.specs.state.CellValues.{IsValue}
 use Rattle.oim_fast.specs.declared.frame.value.Value.{Value}
-use Rattle.oim_fast.proofs.Texts.{plain_meaning}
+use Rattle.oim_row.proofs.Texts.{plain_meaning}
 
 -- A NUMERAL DOES NOT BEGIN WITH `#`
 

@@ -2,10 +2,11 @@
 use Rattle.std.proofs.Common.{◌≡◌, ◌<◌, ◌≤◌, ◌+◌, ◌-◌, ◌*◌, ℕ, zero, suc, true, List, [], ◌∷◌, ◌++◌, length, take, drop, IfSome, refl, sym, ap, ◌∙◌, arith, take-add, take-append-drop, drop-drop}
 use Rattle.std.specs.Prelude.{slice_range}
 use Rattle.std.specs.List.{slice_get}
-use Rattle.oim_fast.specs.state.Answers.{IsAnswer}
+use Rattle.oim_row.specs.Answers.{IsAnswer}
 use Rattle.oim_fast.specs.state.Pieces.{behind}
-use Rattle.oim_fast.specs.state.References.{ReferenceValue, given_by, is_sound_by, meaning_at_hand}
-use Rattle.oim_fast.specs.declared.row.answer.Answer.{Answer}
+use Rattle.oim_row.specs.References.{ReferenceValue, meaning_at_hand}
+use Rattle.oim_fast.specs.state.GivenTexts.{given_by, is_sound_by}
+use Rattle.oim_row.specs.declared.answer.Answer.{Answer}
 use Rattle.oim_fast.proofs.FrameTextLaws.{range_more}
 
 -- what the answer of a reference says

@@ -6,7 +6,7 @@ use Rattle.oim_report.specs.Readers.{table_of}
 use Rattle.oim_resolve.specs.FactParts.{FactParts as Fact}
 use Rattle.oim_rows.specs.RowFacts.{TableHeaderValue, facts_from}
 use Rattle.oim_rows.specs.declared.fault.TableFault.{TableFault}
-use Rattle.oim_fast.specs.Rows.{RowValue, column_in, row_in}
+use Rattle.oim_row.specs.Rows.{RowValue, column_in, row_in}
 
 -- the text of a fact up to the row's identifier, and with it
 abbrev pub lead_text : TableHeaderValue → List ℕ

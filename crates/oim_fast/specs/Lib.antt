@@ -1,4 +1,2 @@
-pub mod Buffers
-pub mod Rows
 pub mod Facts
 pub mod state

@@ -1,14 +1,10 @@
-pub mod Escapes
-pub mod Places
-pub mod Sources
-pub mod Answers
-pub mod References
-pub mod Groups
+pub mod GivenTexts
+pub mod StillHolds
+pub mod ChosenGroups
 pub mod Pieces
 pub mod Parts
 pub mod FrameTexts
 pub mod Writing
-pub mod Digits
 pub mod CellValues
 pub mod FactTexts
 pub mod Frames

@@ -6,9 +6,10 @@
 //! the definition gives. Which good rows it leaves alone no clause says.
 //!
 //! - `frame`: a column of facts under the property groups that a row names: all of its text that is the same in each row;
-//! - `row`: a row under its header, and what its cells give the references and the columns of property groups;
-//! - `table`: the rows of a table;
-//! - `text`: texts that grow, copies, escapes, hashes.
+//! - `table`: the rows of a table.
+//!
+//! What a row's cells give the references and the columns of property groups is of `oim_row`; the texts that grow, and the escapes, are of
+//! `oim_text`. The row and the text that a caller meets here are theirs.
 //!
 //! A call:
 //!
@@ -33,10 +34,8 @@
 #![tactic(auto)]
 
 mod frame;
-mod row;
 mod table;
-mod text;
 
-pub use row::table_row::TableRow;
+pub use oim_row::TableRow;
+pub use oim_text::TextBuffer;
 pub use table::row_writer::RowWriter;
-pub use text::buffer::TextBuffer;

@@ -14,8 +14,8 @@ use Rattle.oim_fast.specs.Facts.{WritesFact, lead_text, start_text}
 use Rattle.oim_fast.specs.state.FrameTexts.{FrameValue}
 use Rattle.oim_fast.specs.state.KeptFrames.{IsFrame}
 use Rattle.oim_fast.specs.state.Making.{IsMaker, IsReadyMaker}
-use Rattle.oim_fast.specs.state.References.{ReferenceValue, key_of}
-use Rattle.oim_fast.specs.Rows.{RowValue, cell_in}
+use Rattle.oim_row.specs.References.{ReferenceValue, key_of}
+use Rattle.oim_row.specs.Rows.{RowValue, cell_in}
 use Rattle.oim_fast.specs.declared.frame.fact_start.FactStart.{FactStart}
 use Rattle.oim_fast.specs.declared.frame.value.Value.{Value}
 use Rattle.oim_fast.specs.declared.table.cell_writer.CellWriter.{CellWriter}

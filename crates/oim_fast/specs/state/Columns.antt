@@ -4,11 +4,11 @@ use Rattle.std.specs.List.{All, slice_get}
 use Rattle.std.specs.Option.{option_map}
 use Rattle.oim_rows.specs.RowFacts.{TableHeaderValue, is_fact_column, source_of_column}
 use Rattle.oim_fast.specs.Facts.{column_lead}
-use Rattle.oim_fast.specs.state.Groups.{choices_in}
-use Rattle.oim_fast.specs.Rows.{column_in, columns_in}
+use Rattle.oim_fast.specs.state.ChosenGroups.{choices_in}
+use Rattle.oim_row.specs.Rows.{column_in, columns_in}
 use Rattle.oim_fast.specs.declared.frame.fact_column.FactColumn.{FactColumn}
-use Rattle.oim_fast.specs.declared.row.group_cells.Choice.{Choice}
-use Rattle.oim_fast.specs.declared.row.group_cells.GroupCell.{GroupCell}
+use Rattle.oim_row.specs.declared.group_cells.Choice.{Choice}
+use Rattle.oim_row.specs.declared.group_cells.GroupCell.{GroupCell}
 
 -- what is kept of a column of facts. `place` is that of its cell in the header
 pub record IsFactColumn (f : TableHeaderValue) (cells : List GroupCell) (c : FactColumn) : Type 0 where

@@ -13,18 +13,18 @@ use Rattle.oim_resolve.specs.Written.{written, written_decimals}
 use Rattle.oim_rows.specs.RowFacts.{TableHeaderValue, field_or_empty, source_of_column}
 use Rattle.oim_fast.specs.Facts.{column_lead}
 use Rattle.oim_fast.specs.state.FrameTexts.{FrameValue, is_ready, with_part}
-use Rattle.oim_fast.specs.state.Groups.{Says, group_at}
+use Rattle.oim_row.specs.Groups.{Says, group_at}
 use Rattle.oim_fast.specs.state.Parts.{AreDecimals, IsPart, IsReferred}
 use Rattle.oim_fast.specs.state.Pieces.{constant_meaning}
 use Rattle.oim_resolve.specs.ProgramLevels.{written_entries}
-use Rattle.oim_fast.specs.state.References.{Key}
-use Rattle.oim_fast.specs.Rows.{RowValue, column_in}
-use Rattle.oim_fast.specs.state.Sources.{source_written}
+use Rattle.oim_row.specs.References.{Key}
+use Rattle.oim_row.specs.Rows.{RowValue, column_in}
+use Rattle.oim_row.specs.Sources.{source_written}
 use Rattle.oim_fast.specs.declared.frame.frame_decimals.FrameDecimals.{FrameDecimals}
 use Rattle.oim_fast.specs.declared.frame.frame_decimals.FrameDecimals.TheVariants as decimals
 use Rattle.oim_fast.specs.declared.frame.part.Part.{Part}
-use Rattle.oim_fast.specs.declared.row.group_cells.Choice.{Choice}
-use Rattle.oim_fast.specs.declared.row.group_cells.Choice.TheVariants as choice
+use Rattle.oim_row.specs.declared.group_cells.Choice.{Choice}
+use Rattle.oim_row.specs.declared.group_cells.Choice.TheVariants as choice
 
 -- LEVELS
 

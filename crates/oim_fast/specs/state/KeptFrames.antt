@@ -10,15 +10,15 @@ use Rattle.oim_rows.specs.RowFacts.{TableHeaderValue}
 use Rattle.oim_fast.specs.state.Columns.{column_choices}
 use Rattle.oim_fast.specs.state.FrameTexts.{FrameValue}
 use Rattle.oim_fast.specs.state.Frames.{Chooses, HasConstantKind, HasReferredKind, IsFrameText, is_known_choice, levels_chosen}
-use Rattle.oim_fast.specs.state.Groups.{choices_in}
-use Rattle.oim_fast.specs.state.References.{Key}
-use Rattle.oim_fast.specs.Rows.{RowValue, cell_in, column_in}
+use Rattle.oim_fast.specs.state.ChosenGroups.{choices_in}
+use Rattle.oim_row.specs.References.{Key}
+use Rattle.oim_row.specs.Rows.{RowValue, cell_in, column_in}
 use Rattle.oim_fast.specs.declared.frame.fact_column.FactColumn.{FactColumn}
 use Rattle.oim_fast.specs.declared.frame.frame.Body.{Body}
 use Rattle.oim_fast.specs.declared.frame.frame.Body.TheVariants as body
 use Rattle.oim_fast.specs.declared.frame.frame.Frame.{Frame}
-use Rattle.oim_fast.specs.declared.row.group_cells.Choice.{Choice}
-use Rattle.oim_fast.specs.declared.row.group_cells.GroupCell.{GroupCell}
+use Rattle.oim_row.specs.declared.group_cells.Choice.{Choice}
+use Rattle.oim_row.specs.declared.group_cells.GroupCell.{GroupCell}
 
 -- a number for a kind, and another for none
 abbrev pub kind_code : Option Kind → ℕ

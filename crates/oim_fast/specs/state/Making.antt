@@ -9,11 +9,11 @@ use Rattle.oim_resolve.specs.ProgramCell.{held}
 use Rattle.oim_rows.specs.RowFacts.{TableHeaderValue}
 use Rattle.oim_fast.specs.state.FrameTexts.{FrameValue}
 use Rattle.oim_fast.specs.state.Frames.{AreKindDecimals, HasConstantKind, HasReferredKind, are_ready, entry_of, no_dimensions, with_parts}
-use Rattle.oim_fast.specs.state.Groups.{IsGroupCell, IsSaid}
+use Rattle.oim_row.specs.Groups.{IsGroupCell, IsSaid}
 use Rattle.oim_fast.specs.state.KeptFrames.{kind_code}
 use Rattle.oim_fast.specs.state.Parts.{IsPart}
-use Rattle.oim_fast.specs.state.References.{IsFresh, IsOfReport, Key, key_of}
-use Rattle.oim_fast.specs.Rows.{RowValue}
+use Rattle.oim_row.specs.References.{IsFresh, IsOfReport, Key, key_of}
+use Rattle.oim_row.specs.Rows.{RowValue}
 use Rattle.oim_fast.specs.declared.frame.frame.Body.{Body}
 use Rattle.oim_fast.specs.declared.frame.frame.Body.TheVariants as body
 use Rattle.oim_fast.specs.declared.frame.frame_maker.Concept.{Concept}

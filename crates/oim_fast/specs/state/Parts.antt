@@ -8,18 +8,18 @@ use Rattle.oim_report.specs.declared.data.WrittenDecimals.{WrittenDecimals}
 use Rattle.oim_resolve.specs.Facts.{concept_read, places, role_of, stated_accuracy, stated_read}
 use Rattle.oim_resolve.specs.Values.{Stated, side_of}
 use Rattle.oim_rows.specs.RowFacts.{TableHeaderValue}
-use Rattle.oim_fast.specs.state.Answers.{is_sound_for, json_for}
+use Rattle.oim_row.specs.Answers.{is_sound_for, json_for}
 use Rattle.oim_fast.specs.state.Pieces.{behind, constant_meaning, constant_stated, name_text}
-use Rattle.oim_fast.specs.state.References.{Key}
-use Rattle.oim_fast.specs.state.Sources.{SourceValue, source_decimals, source_written}
+use Rattle.oim_row.specs.References.{Key}
+use Rattle.oim_row.specs.Sources.{SourceValue, source_decimals, source_written}
 use Rattle.oim_fast.specs.declared.frame.frame_decimals.FrameDecimals.{FrameDecimals}
 use Rattle.oim_fast.specs.declared.frame.frame_decimals.FrameDecimals.TheVariants as decimals
 use Rattle.oim_fast.specs.declared.frame.part.Part.{Part}
 use Rattle.oim_fast.specs.declared.frame.part.PartValue.{PartValue}
 use Rattle.oim_fast.specs.declared.frame.part.PartValue.TheVariants as part
-use Rattle.oim_fast.specs.declared.row.answer.Answer.{Answer}
-use Rattle.oim_fast.specs.declared.row.purpose.Purpose.{Purpose}
-use Rattle.oim_fast.specs.declared.row.purpose.Purpose.TheVariants.{Dimension, Decimals}
+use Rattle.oim_row.specs.declared.answer.Answer.{Answer}
+use Rattle.oim_row.specs.declared.purpose.Purpose.{Purpose}
+use Rattle.oim_row.specs.declared.purpose.Purpose.TheVariants.{Dimension, Decimals}
 
 -- what a written value of a dimension is read for
 abbrev pub purpose_of : TableHeaderValue → List ℕ → Written → Purpose

@@ -20,7 +20,7 @@ use Rattle.oim_resolve.specs.ProgramLevels.{named}
 use Rattle.oim_resolve.specs.Values.{Fixed, Read, Stated, side_of, value}
 use Rattle.oim_resolve.specs.Written.{written}
 use Rattle.oim_rows.specs.RowFacts.{TableHeaderValue}
-use Rattle.oim_fast.specs.state.Answers.{dimension_json}
+use Rattle.oim_row.specs.Answers.{dimension_json}
 
 -- what levels write for one name
 abbrev pub entries_named : List Level → List ℕ → List (List ℕ × Written)

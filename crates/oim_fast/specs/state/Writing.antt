@@ -3,8 +3,9 @@ use Rattle.std.specs.Prelude.{◌≡◌, ◌+◌, ◌-◌, ◌*◌, ◌≤◌, �
 use Rattle.std.specs.List.{All}
 use Rattle.oim_fast.specs.state.FrameTexts.{rest_from, segment_text, segments_from}
 use Rattle.oim_fast.specs.state.Pieces.{behind}
-use Rattle.oim_fast.specs.state.Places.{Placed}
-use Rattle.oim_fast.specs.state.References.{ReferenceValue, given_by, is_sound_by}
+use Rattle.oim_text.specs.Places.{Placed}
+use Rattle.oim_row.specs.References.{ReferenceValue}
+use Rattle.oim_fast.specs.state.GivenTexts.{given_by, is_sound_by}
 use Rattle.oim_fast.specs.declared.frame.frame_text.Run.{Run}
 
 -- the text before a reference from a place on, and what it gives behind its dimension's name, were written

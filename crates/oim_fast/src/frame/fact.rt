@@ -7,18 +7,19 @@ ghost use Rattle.oim_json.specs.JsonText.{decimals_text, escaped_byte, is_unesca
 ghost use Rattle.oim_resolve.specs.Facts.{is_numeric, places};
 ghost use Rattle.oim_fast.specs.state.FactTexts.{EndsInstead, IsOfReferences, PutsFact, TriesFact, WritesDecimals, WritesObject, WritesOpening};
 ghost use Rattle.oim_fast.specs.state.FactTexts.{fact_room, has_settled, value_of};
-ghost use Rattle.oim_fast.specs.state.Places.{Placed, Stays};
+ghost use Rattle.oim_text.specs.Places.{Placed, Stays};
 
 use crate::frame::frame_decimals::FrameDecimals;
 use crate::frame::frame_text::FrameText;
 use crate::frame::value::Value;
 use crate::frame::write::{copy_range, write_runs};
-use crate::row::references::References;
-use crate::text::buffer::{TextBuffer, make_room};
-use crate::text::copy::{copy, copy_escaped, copy_short, copy_text, put_escaped_front};
 use itoa::Buffer;
 use oim_cells::Accuracy;
 use oim_report::Kind;
+use oim_row::References;
+use oim_text::{
+    TextBuffer, copy, copy_escaped, copy_short, copy_text, make_room, put_escaped_front,
+};
 use std::alloc::AllocError;
 
 /// Writes a number of decimals, with a comma behind it. Answers where it ends.

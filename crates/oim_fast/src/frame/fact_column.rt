@@ -7,18 +7,17 @@ ghost use Rattle.oim_json.specs.JsonText.{escaped_byte};
 ghost use Rattle.oim_fast.specs.state.Columns.{AreFactColumns, IsColumnAt};
 ghost use Rattle.oim_fast.specs.state.KeptFrames.{kind_code};
 ghost use Rattle.oim_fast.specs.state.Frames.{is_known_choice};
-ghost use Rattle.oim_fast.specs.state.Groups.{IsGroupCell, choices_in};
-ghost use Rattle.oim_fast.specs.state.References.{Grows};
-ghost use Rattle.oim_fast.specs.Rows.{columns_in};
+ghost use Rattle.oim_row.specs.Groups.{IsGroupCell};
+ghost use Rattle.oim_fast.specs.state.ChosenGroups.{choices_in};
+ghost use Rattle.oim_row.specs.References.{Grows};
+ghost use Rattle.oim_row.specs.Rows.{columns_in};
 
-use crate::row::group_cells::{Choice, GroupCells};
-use crate::row::source::place_in;
-use crate::text::buffer::TextBuffer;
-use crate::text::escape::put_escaped;
-use crate::text::hash_index::hash_with;
+use crate::frame::hash_index::hash_with;
 use oim_cells::NumberKind;
 use oim_report::{Column, Kind, Level};
+use oim_row::{Choice, GroupCells, place_in};
 use oim_rows::TableHeader;
+use oim_text::{TextBuffer, put_escaped};
 use std::alloc::{AllocError, Global};
 
 /// A column of facts: its place in the template and in the header, and the columns of property groups that it takes from, by

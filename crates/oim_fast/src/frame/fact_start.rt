@@ -5,13 +5,11 @@ ghost use mathlib.Core.List.{IsPrefix};
 ghost use Rattle.oim_json.specs.JsonText.{escaped_byte};
 ghost use Rattle.oim_fast.specs.state.CellWriters.{IsStartOf};
 ghost use Rattle.oim_fast.specs.Facts.{start_text};
-ghost use Rattle.oim_fast.specs.Rows.{row_in};
+ghost use Rattle.oim_row.specs.Rows.{row_in};
 
-use crate::row::table_row::TableRow;
-use crate::text::buffer::TextBuffer;
-use crate::text::copy::put_escaped_front;
-use crate::text::escape::put_escaped;
+use oim_row::TableRow;
 use oim_rows::TableHeader;
+use oim_text::{TextBuffer, put_escaped, put_escaped_front};
 use std::alloc::{AllocError, Global};
 
 /// The text of a fact up to the identifier of its row, in its first `lead` bytes, and with the identifier.

@@ -3,7 +3,7 @@
 ghost use Rattle.std.specs.Prelude.{◌≡◌, IfSome};
 
 use crate::frame::frame_text::FrameText;
-use crate::row::group_cells::Choice;
+use oim_row::Choice;
 
 /// What a frame is.
 #[derive(Drop)]

@@ -5,16 +5,12 @@ ghost use Rattle.std.specs.List.{All};
 ghost use Rattle.oim_resolve.specs.Values.{Read};
 ghost use Rattle.oim_fast.specs.state.Parts.{AreDecimals, IsStated};
 ghost use Rattle.oim_fast.specs.state.Pieces.{parameter_meaning};
-ghost use Rattle.oim_fast.specs.state.References.{Grows, IsFresh, key_of};
+ghost use Rattle.oim_row.specs.References.{Grows, IsFresh, key_of};
 
 use crate::frame::constant::parameter_of;
-use crate::row::answer::{Answer, put_decimals};
-use crate::row::purpose::Purpose;
-use crate::row::references::References;
-use crate::row::source::source_of_decimals;
-use crate::row::table_row::TableRow;
-use crate::text::buffer::TextBuffer;
 use oim_report::WrittenDecimals;
+use oim_row::{Answer, Purpose, References, TableRow, put_decimals, source_of_decimals};
+use oim_text::TextBuffer;
 use std::alloc::{AllocError, Global};
 
 /// The decimals that levels write.

@@ -7,12 +7,13 @@ ghost use Rattle.oim_resolve.specs.ProgramCell.{held};
 ghost use Rattle.oim_rows.specs.RowFacts.{TableHeaderValue};
 ghost use Rattle.oim_fast.specs.state.Columns.{IsFactColumn, column_choices};
 ghost use Rattle.oim_fast.specs.state.Frames.{AreKindDecimals, IsTextOfKind, levels_chosen};
-ghost use Rattle.oim_fast.specs.state.Groups.{IsGroupCell, levels_at};
+ghost use Rattle.oim_row.specs.Groups.{IsGroupCell};
+ghost use Rattle.oim_fast.specs.state.ChosenGroups.{levels_at};
 ghost use Rattle.oim_fast.specs.state.KeptFrames.{IsBodyFor, IsFor, IsFrame, kind_code};
 ghost use Rattle.oim_fast.specs.state.Making.{AddsWhere, IsBodyOf, IsConcept, IsMaker, IsOpening, IsReadyMaker, SaysConcept, from_general, keys_in};
 ghost use Rattle.oim_fast.specs.state.Pieces.{entries_named};
 ghost use Rattle.oim_resolve.specs.ProgramLevels.{written_entries};
-ghost use Rattle.oim_fast.specs.state.References.{Grows, IsFresh, key_of};
+ghost use Rattle.oim_row.specs.References.{Grows, IsFresh, key_of};
 
 use crate::frame::fact_column::{FactColumn, kind_number};
 use crate::frame::frame::{Body, Frame};
@@ -20,12 +21,10 @@ use crate::frame::frame_decimals::{FrameDecimals, decimals_ready};
 use crate::frame::frame_text::FrameText;
 use crate::frame::part::{Part, PartValue};
 use crate::frame::parts::Parts;
-use crate::row::group_cells::{Choice, GroupCells};
-use crate::row::references::References;
-use crate::row::table_row::TableRow;
-use crate::text::buffer::TextBuffer;
 use oim_report::{Kind, Level};
 use oim_resolve::levels::{names, written, written_decimals};
+use oim_row::{Choice, GroupCells, References, TableRow};
+use oim_text::TextBuffer;
 use std::alloc::{AllocError, Global};
 
 /// What makes the frames of a table: its references, its columns of groups, and the dimensions that levels write, made ready.

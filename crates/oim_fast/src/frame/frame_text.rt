@@ -5,8 +5,8 @@ ghost use Rattle.oim_fast.specs.state.FrameTexts.{dimensions_start, is_ready, wi
 
 use crate::frame::frame_decimals::FrameDecimals;
 use crate::frame::part::{Part, PartValue};
-use crate::text::buffer::TextBuffer;
 use oim_report::Kind;
+use oim_text::TextBuffer;
 use std::alloc::{AllocError, Global};
 use std::marker::Model;
 

@@ -5,20 +5,20 @@ ghost use Rattle.std.specs.List.{All, slice_get};
 ghost use Rattle.oim_resolve.specs.Written.{levels};
 ghost use Rattle.oim_fast.specs.state.Columns.{IsFactColumn};
 ghost use Rattle.oim_fast.specs.state.Frames.{HasReferredKind, is_known_choice};
-ghost use Rattle.oim_fast.specs.state.Groups.{choices_in};
+ghost use Rattle.oim_fast.specs.state.ChosenGroups.{choices_in};
 ghost use Rattle.oim_fast.specs.state.KeptFrames.{HasFrame, HasTextFor, IsFor, IsFrame, IsKnownFor, IsOfConcept, text_in};
 ghost use Rattle.oim_fast.specs.state.Making.{IsMaker, keys_in};
-ghost use Rattle.oim_fast.specs.state.References.{Grows, HoldsStill, HoldsWith};
-ghost use Rattle.oim_fast.specs.Rows.{cell_in};
+ghost use Rattle.oim_row.specs.References.{Grows};
+ghost use Rattle.oim_fast.specs.state.StillHolds.{HoldsStill, HoldsWith};
+ghost use Rattle.oim_row.specs.Rows.{cell_in};
 
 use crate::frame::fact_column::{FactColumn, kind_number};
 use crate::frame::frame::{Body, Frame};
 use crate::frame::frame_maker::FrameMaker;
 use crate::frame::frame_text::FrameText;
-use crate::row::group_cells::{Choice, GroupCells};
-use crate::row::table_row::TableRow;
-use crate::text::hash_index::{HashIndex, STEPS};
+use crate::frame::hash_index::{HashIndex, STEPS};
 use oim_report::Kind;
+use oim_row::{Choice, GroupCells, TableRow};
 use std::alloc::{AllocError, Global};
 
 /// How much memory the frames of a table may take, about. Where they would take more, all of them are forgotten.

@@ -5,20 +5,15 @@ ghost use Rattle.std.specs.List.{All};
 ghost use Rattle.oim_resolve.specs.Facts.{role_of};
 ghost use Rattle.oim_fast.specs.state.Parts.{IsPart, PutsAnswer};
 ghost use Rattle.oim_fast.specs.state.Pieces.{name_text};
-ghost use Rattle.oim_fast.specs.state.References.{Grows, IsFresh, Key, key_of};
-ghost use Rattle.oim_fast.specs.state.Sources.{source_written};
+ghost use Rattle.oim_row.specs.References.{Grows, IsFresh, Key, key_of};
+ghost use Rattle.oim_row.specs.Sources.{source_written};
 
 use crate::frame::constant::constant_of;
-use crate::row::answer::Answer;
-use crate::row::purpose::Purpose;
-use crate::row::references::References;
-use crate::row::source::source_of;
-use crate::row::table_row::TableRow;
-use crate::text::buffer::TextBuffer;
-use crate::text::escape::put_quoted;
 use oim_report::{Kind, Written};
 use oim_resolve::{Role, side_of};
+use oim_row::{Answer, Purpose, References, TableRow, source_of};
 use oim_rows::TableHeader;
+use oim_text::{TextBuffer, put_quoted};
 use std::alloc::{AllocError, Global};
 
 /// What a dimension gives a fact.

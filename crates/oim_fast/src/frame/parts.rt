@@ -5,14 +5,13 @@ ghost use Rattle.std.specs.List.{All, slice_get};
 ghost use Rattle.std.specs.Option.{option_map};
 ghost use Rattle.oim_fast.specs.state.Frames.{entry_of};
 ghost use Rattle.oim_fast.specs.state.Parts.{IsPart};
-ghost use Rattle.oim_fast.specs.state.References.{Grows, HoldsStill, HoldsWith, IsFresh, key_of};
+ghost use Rattle.oim_row.specs.References.{Grows, IsFresh, key_of};
+ghost use Rattle.oim_fast.specs.state.StillHolds.{HoldsStill, HoldsWith};
 
+use crate::frame::hash_index::{HashIndex, STEPS, hash_of, hash_with};
 use crate::frame::part::Part;
-use crate::row::purpose::is_same_side;
-use crate::row::references::References;
-use crate::row::table_row::TableRow;
-use crate::text::hash_index::{HashIndex, STEPS, hash_of, hash_with};
 use oim_report::Written;
+use oim_row::{References, TableRow, is_same_side};
 use std::alloc::{AllocError, Global};
 
 /// How many parts are kept at most. Where there would be more, all of them are forgotten.

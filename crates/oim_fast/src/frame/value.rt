@@ -9,12 +9,11 @@ ghost use Rattle.oim_report.specs.declared.kind.Kind.TheVariants.{Number as numb
 ghost use Rattle.oim_resolve.specs.FactValues.{plain as plain_text, text_given};
 ghost use Rattle.oim_fast.specs.state.CellValues.{IsCellValue, IsValue};
 
-use crate::frame::numeral::{numeral_len, suffix_behind};
-use crate::row::table_row::TableRow;
-use crate::text::buffer::TextBuffer;
 use oim_cells::{Accuracy, CellMeaning, NumberKind, meaning};
 use oim_report::Kind;
 use oim_resolve::fact_value;
+use oim_row::TableRow;
+use oim_text::{TextBuffer, numeral_len, suffix_behind};
 use std::alloc::AllocError;
 
 /// The value of a fact: the first `len` of the bytes, and the accuracy that the suffix of a numeral states.

@@ -3,13 +3,12 @@
 ghost use Rattle.std.specs.Prelude.{◌+◌, ◌-◌, ◌*◌, ◌<◌, ◌≤◌, MatchOption, length, slice_range};
 ghost use Rattle.std.specs.List.{All};
 ghost use Rattle.oim_fast.specs.state.FrameTexts.{AreRuns};
-ghost use Rattle.oim_fast.specs.state.Places.{Placed, Stays};
+ghost use Rattle.oim_text.specs.Places.{Placed, Stays};
 ghost use Rattle.oim_fast.specs.state.Writing.{WritesRun, WritesRuns};
 
 use crate::frame::frame_text::Run;
-use crate::row::references::References;
-use crate::text::buffer::TextBuffer;
-use crate::text::copy::{copy_padded, copy_some};
+use oim_row::References;
+use oim_text::{TextBuffer, copy_padded, copy_some};
 
 /// Copies the bytes of a text from one place up to another. Answers where they end.
 #[inline(always)]

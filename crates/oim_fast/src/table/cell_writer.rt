@@ -13,11 +13,9 @@ use crate::frame::frame_maker::FrameMaker;
 use crate::frame::frame_text::FrameText;
 use crate::frame::frames::Frames;
 use crate::frame::value::{CellValue, quick_value, rare_value};
-use crate::row::group_cells::GroupCells;
-use crate::row::references::References;
-use crate::row::table_row::TableRow;
-use crate::text::buffer::TextBuffer;
+use oim_row::{GroupCells, References, TableRow};
 use oim_rows::TableHeader;
+use oim_text::TextBuffer;
 use std::alloc::{AllocError, Global};
 
 /// All that is ready for the cells of a table's rows.

@@ -4,11 +4,11 @@ ghost use Rattle.std.specs.Prelude.{◌≡◌, IfOk, true};
 ghost use mathlib.Core.List.{IsPrefix};
 ghost use Rattle.oim_fast.specs.Facts.{WritesFacts};
 
-use crate::row::table_row::TableRow;
 use crate::table::cell_writer::CellWriter;
-use crate::text::buffer::TextBuffer;
 use ghost_value::GhostValue;
+use oim_row::TableRow;
 use oim_rows::TableHeader;
+use oim_text::TextBuffer;
 use std::alloc::{AllocError, Global};
 use std::marker::Model;
 

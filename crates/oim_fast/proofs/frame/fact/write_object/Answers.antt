@@ -1,6 +1,6 @@
 use Rattle.std.proofs.Common.{arith}
 use Rattle.oim_fast.proofs.FactTextLaws.{body_before, end_fits, object_written, runs_fit, runs_there, runs_within_references}
-use Rattle.oim_fast.proofs.PlacedBytes.{Placed-stays, Stays-then}
+use Rattle.oim_text.proofs.PlacedBytes.{Placed-stays, Stays-then}
 use Rattle.oim_fast.proofs.frame.fact.write_object.Goals as goal
 
 pub write_runs-requires-clause-runs : goal.write_runs-requires-clause-runs

@@ -1,6 +1,7 @@
 use Rattle.std.proofs.Common.{take, arith, length-take-le}
-use Rattle.oim_fast.proofs.FactTextLaws.{escaped_length, value_none, value_some}
-use Rattle.oim_fast.proofs.PlacedBytes.{Placed-then}
+use Rattle.oim_text.proofs.EscapedLengths.{escaped_length}
+use Rattle.oim_fast.proofs.FactTextLaws.{value_none, value_some}
+use Rattle.oim_text.proofs.PlacedBytes.{Placed-then}
 use Rattle.oim_fast.proofs.frame.fact.write_value.Goals as goal
 
 pub write_byte-at-requires : goal.write_byte-at-requires

@@ -7,7 +7,7 @@ use Rattle.oim_report.specs.ReportValue.{ReportValue}
 use Rattle.oim_report.specs.declared.data.Column.{Column}
 use Rattle.oim_rows.specs.Header.{Header, is_column}
 use Rattle.oim_rows.specs.RowFacts.{is_fact_column}
-use Rattle.oim_fast.specs.Rows.{column_in, columns_in}
+use Rattle.oim_row.specs.Rows.{column_in, columns_in}
 use Rattle.oim_fast.proofs.ColumnLaws.{kind_there, names_facts, names_it}
 use Rattle.oim_fast.proofs.frame.fact_column.fact_column.Goals as goal
 

@@ -1,6 +1,6 @@
 use Rattle.std.proofs.Common.{◌≡◌, ℕ, List, Some, get_or, map, refl, subst, sym, take, ◌+◌}
 use Rattle.oim_fast.proofs.ColumnLaws.{column_at, place_more, places_grow}
-use Rattle.oim_fast.proofs.Growth.{grows_twice}
+use Rattle.oim_row.proofs.Growth.{grows_twice}
 use Rattle.oim_fast.proofs.frame.fact_column.groups_of.Goals as goal
 
 pub loop-i-preserved : goal.loop-i-preserved

@@ -1,7 +1,7 @@
 use Rattle.std.proofs.Common.{◌≡◌, map, take, Some}
 use Rattle.std.specs.List.{All}
-use Rattle.oim_fast.specs.state.Groups.{IsGroupCell}
-use Rattle.oim_fast.specs.state.References.{Grows}
+use Rattle.oim_row.specs.Groups.{IsGroupCell}
+use Rattle.oim_row.specs.References.{Grows}
 use Rattle.oim_fast.proofs.ColumnLaws.{column_at}
 use Rattle.oim_fast.proofs.frame.fact_column.groups_of.Given as goal
 

@@ -4,7 +4,7 @@ use Rattle.std.specs.List.{flat_map}
 use Rattle.std.specs.Result.{OnOk}
 use Rattle.oim_json.specs.JsonText.{escaped_byte}
 use Rattle.oim_rows.specs.RowFacts.{TableHeaderValue, id_place_of, row_id_text}
-use Rattle.oim_fast.proofs.Appends.{still_front}
+use Rattle.oim_text.proofs.Appends.{still_front}
 use Rattle.oim_fast.proofs.StartLaws.{number_put}
 use Rattle.oim_fast.proofs.frame.fact_start.put_id.Goals as goal
 

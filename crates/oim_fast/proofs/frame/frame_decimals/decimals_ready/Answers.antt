@@ -1,6 +1,6 @@
 use Rattle.std.proofs.Common.{sym, ap, ◌∙◌, refl}
 use Rattle.oim_rows.specs.RowFacts.{TableHeaderValue}
-use Rattle.oim_fast.specs.state.Sources.{seen_source, source_decimals}
+use Rattle.oim_row.specs.Sources.{seen_source, source_decimals}
 use Rattle.oim_fast.proofs.PartLaws.{key_there, no_decimals}
 use Rattle.oim_fast.proofs.frame.frame_decimals.decimals_ready.Goals as goal
 

@@ -1,5 +1,5 @@
 use Rattle.std.proofs.Common.{◌++◌, ◌∷◌, [], List, sym, ap, ◌∙◌, arith}
-use Rattle.oim_fast.specs.declared.row.group_cells.Choice.{Choice}
+use Rattle.oim_row.specs.declared.group_cells.Choice.{Choice}
 use Rattle.oim_fast.proofs.ChoiceLaws.{choices_more}
 use Rattle.oim_fast.proofs.frame.frame_maker.choices_of.Goals as goal
 

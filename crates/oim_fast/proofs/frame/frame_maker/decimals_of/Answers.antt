@@ -1,4 +1,4 @@
-use Rattle.oim_fast.proofs.Growth.{grows_none}
+use Rattle.oim_row.proofs.Growth.{grows_none}
 use Rattle.oim_fast.proofs.frame.frame_maker.decimals_of.Goals as goal
 
 pub returns-in_default-clause-grows : goal.returns-in_default-clause-grows

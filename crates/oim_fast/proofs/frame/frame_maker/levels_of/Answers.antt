@@ -4,7 +4,7 @@ use Rattle.oim_report.specs.Readers.{template_of}
 use Rattle.oim_report.specs.ReportValue.{ReportValue}
 use Rattle.oim_report.specs.declared.data.Level.{Level}
 use Rattle.oim_resolve.specs.ProgramCell.{held}
-use Rattle.oim_fast.specs.state.Groups.{levels_at}
+use Rattle.oim_fast.specs.state.ChosenGroups.{levels_at}
 use Rattle.oim_fast.proofs.ChoiceLaws.{all_chosen, all_held, chosen_levels_rise, groups_within, levels_from, pushed}
 use Rattle.oim_fast.proofs.frame.frame_maker.levels_of.Goals as goal
 

@@ -2,10 +2,10 @@ use Rattle.std.proofs.Common.{◌≡◌, ◌<◌, ◌+◌, ◌∷◌, ◌++◌, 
 use Rattle.std.specs.List.{All}
 use Rattle.std.proofs.lemmas.List.{get_or_default, take_all, take_more}
 use Rattle.oim_fast.specs.state.Frames.{is_known_choice}
-use Rattle.oim_fast.specs.state.Groups.{choices_in}
-use Rattle.oim_fast.specs.declared.row.group_cells.Choice.{Choice}
+use Rattle.oim_fast.specs.state.ChosenGroups.{choices_in}
+use Rattle.oim_row.specs.declared.group_cells.Choice.{Choice}
 use Rattle.oim_fast.proofs.ChoiceLaws.{choices_more}
-use Rattle.oim_fast.proofs.Growth.{all_push}
+use Rattle.oim_row.proofs.Growth.{all_push}
 use Rattle.oim_fast.proofs.frame.frames.are_chosen.Goals as goal
 
 pub loop-i-preserved : goal.loop-i-preserved

@@ -1,7 +1,7 @@
 use Rattle.std.proofs.Common.{◌≡◌, ap, sym, subst, ◌∙◌, true, arith}
 use Rattle.std.specs.List.{All}
 use Rattle.oim_fast.specs.state.Frames.{is_known_choice}
-use Rattle.oim_fast.specs.state.Groups.{choices_in}
+use Rattle.oim_fast.specs.state.ChosenGroups.{choices_in}
 use Rattle.oim_fast.specs.state.KeptFrames.{kind_code}
 use Rattle.oim_fast.proofs.frame.frames.is_for.Goals as goal
 

@@ -4,7 +4,7 @@ use Rattle.oim_rows.specs.RowFacts.{field_or_empty}
 use Rattle.oim_report.specs.declared.kind.Kind.TheVariants.{Number as number_kind}
 use Rattle.oim_fast.specs.state.CellValues.{IsValue}
 use Rattle.oim_fast.specs.declared.frame.value.Value.{Value}
-use Rattle.oim_fast.proofs.Numerals.{suffix_split, whole_split}
+use Rattle.oim_text.proofs.Numerals.{suffix_split, whole_split}
 use Rattle.oim_fast.proofs.ValueLaws.{number_found}
 use Rattle.oim_fast.proofs.frame.value.number.Goals as goal
 

@@ -1,7 +1,7 @@
 use Rattle.std.proofs.Common.{◌≡◌, ◌-◌, take, drop, ap, ◌∙◌}
 use Rattle.std.specs.Prelude.{slice_range}
 use Rattle.std.proofs.lemmas.List.{take_rest}
-use Rattle.oim_fast.specs.Buffers.{BufferText}
+use Rattle.oim_text.specs.Buffers.{BufferText}
 use Rattle.oim_fast.proofs.WriteLaws.{range_of_front}
 use Rattle.oim_fast.proofs.frame.write.copy_range.Goals as goal
 

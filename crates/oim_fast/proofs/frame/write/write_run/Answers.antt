@@ -2,9 +2,9 @@ use Rattle.std.proofs.Common.{◌≡◌, ◌<◌, ◌-◌, ◌++◌, ℕ, List, 
 use Rattle.std.specs.Prelude.{slice_range}
 use Rattle.std.proofs.lemmas.List.{length-take}
 use Rattle.oim_fast.specs.state.Pieces.{behind}
-use Rattle.oim_fast.specs.state.Places.{Placed}
-use Rattle.oim_fast.specs.state.References.{given_by}
-use Rattle.oim_fast.proofs.PlacedBytes.{Placed-then}
+use Rattle.oim_text.specs.Places.{Placed}
+use Rattle.oim_fast.specs.state.GivenTexts.{given_by}
+use Rattle.oim_text.proofs.PlacedBytes.{Placed-then}
 use Rattle.oim_fast.proofs.WriteLaws.{answered, behind_some, none_given, range_split}
 use Rattle.oim_fast.proofs.frame.write.write_run.Goals as goal
 

@@ -4,11 +4,11 @@ use Rattle.std.specs.List.{flat_map}
 use Rattle.std.proofs.lemmas.List.{drop_more, get_or_default}
 use Rattle.oim_fast.specs.state.FrameTexts.{AreRuns, rest_from, segment_text, segments_from}
 use Rattle.oim_fast.specs.state.Pieces.{behind}
-use Rattle.oim_fast.specs.state.References.{given_by, is_sound_by}
+use Rattle.oim_fast.specs.state.GivenTexts.{given_by, is_sound_by}
 use Rattle.oim_fast.specs.declared.frame.frame_text.Run.{Run}
 use Rattle.oim_fast.proofs.FrameTextLaws.{runs_within}
-use Rattle.oim_fast.proofs.PlacedBytes.{Placed-stays, Placed-then, Stays-then}
-use Rattle.oim_fast.proofs.Refreshed.{below_more}
+use Rattle.oim_text.proofs.PlacedBytes.{Placed-stays, Placed-then, Stays-then}
+use Rattle.oim_row.proofs.Refreshed.{below_more}
 use Rattle.oim_fast.proofs.WriteLaws.{one_less}
 use Rattle.oim_fast.proofs.frame.write.write_runs.Goals as goal
 

@@ -1,8 +1,8 @@
 use Rattle.std.proofs.Common.{◌≡◌, ◌<◌, ◌≤◌, ◌+◌, ◌-◌, ◌*◌, ◌++◌, ℕ, true, List, drop, get_or, length}
 use Rattle.std.specs.List.{flat_map}
 use Rattle.oim_fast.specs.state.FrameTexts.{AreRuns, rest_from, segment_text, segments_from}
-use Rattle.oim_fast.specs.state.Places.{Placed}
-use Rattle.oim_fast.specs.state.References.{given_by, is_sound_by}
+use Rattle.oim_text.specs.Places.{Placed}
+use Rattle.oim_fast.specs.state.GivenTexts.{given_by, is_sound_by}
 use Rattle.oim_fast.specs.declared.frame.frame_text.Run.{Run}
 use Rattle.oim_fast.proofs.frame.write.write_runs.Given as goal
 

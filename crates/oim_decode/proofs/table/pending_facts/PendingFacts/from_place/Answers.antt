@@ -1,7 +1,7 @@
 use Rattle.std.proofs.Common.{◌≡◌, ◌≤◌, ◌++◌, ◌∙◌, ap, length, arith, sym, ◌-◌, map}
 use Rattle.oim_json.specs.Blocks.{behind_commas, ends_from}
 use Rattle.oim_json.proofs.Blocks.{ends_length}
-use Rattle.oim_fast.specs.Buffers.{BufferText}
+use Rattle.oim_text.specs.Buffers.{BufferText}
 use Rattle.oim_decode.proofs.Cuts.{drop_before, end_of_first, rest_ends, rest_texts}
 use Rattle.oim_decode.proofs.table.pending_facts.PendingFacts.from_place.Goals as goal
 

@@ -2,10 +2,10 @@ use Rattle.std.proofs.Common.{◌≡◌, ℕ, List, sym, subst, take, true, arit
 use Rattle.std.specs.List.{All}
 use Rattle.std.proofs.lemmas.List.{take_all}
 use Rattle.oim_fast.specs.state.Frames.{is_known_choice}
-use Rattle.oim_fast.specs.state.Groups.{choices_in}
-use Rattle.oim_fast.specs.declared.row.group_cells.Choice.{Choice}
+use Rattle.oim_fast.specs.state.ChosenGroups.{choices_in}
+use Rattle.oim_row.specs.declared.group_cells.Choice.{Choice}
 use Rattle.oim_fast.proofs.ChoiceLaws.{choices_more, known_of}
-use Rattle.oim_fast.proofs.Growth.{all_push}
+use Rattle.oim_row.proofs.Growth.{all_push}
 use Rattle.oim_fast.proofs.frame.fact_column.FactColumn.has_unknown.Goals as goal
 
 abbrev known : List Choice → Type 0

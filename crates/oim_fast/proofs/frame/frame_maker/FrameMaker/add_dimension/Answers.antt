@@ -1,8 +1,8 @@
 use Rattle.std.proofs.Common.{map, sym}
 use Rattle.oim_fast.specs.state.Frames.{entry_of}
 use Rattle.oim_fast.specs.state.Parts.{IsPart}
-use Rattle.oim_fast.specs.state.References.{key_of}
-use Rattle.oim_fast.proofs.Growth.{grows_none}
+use Rattle.oim_row.specs.References.{key_of}
+use Rattle.oim_row.proofs.Growth.{grows_none}
 use Rattle.oim_fast.proofs.MakerLaws.{maker_with}
 use Rattle.oim_fast.proofs.MakingLaws.{adds_one, entry_there, part_there, there_in}
 use Rattle.oim_fast.proofs.frame.frame_maker.FrameMaker.add_dimension.Goals as goal

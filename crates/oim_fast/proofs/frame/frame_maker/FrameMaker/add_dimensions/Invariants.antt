@@ -5,7 +5,7 @@ use Rattle.oim_resolve.specs.ProgramCell.{held}
 use Rattle.oim_resolve.specs.Written.{written}
 use Rattle.oim_fast.specs.state.Making.{AddsEntries, IsMaker}
 use Rattle.oim_resolve.specs.ProgramLevels.{named}
-use Rattle.oim_fast.specs.state.References.{Grows, key_of}
+use Rattle.oim_row.specs.References.{Grows, key_of}
 use Rattle.oim_fast.proofs.frame.frame_maker.FrameMaker.add_dimensions.Given as goal
 
 abbrev pub invariant-loop-i : goal.invariant-loop-i

@@ -3,8 +3,8 @@ use Rattle.oim_resolve.specs.ProgramCell.{held}
 use Rattle.oim_fast.specs.state.Frames.{entry_of}
 use Rattle.oim_fast.specs.state.KeptFrames.{kind_code}
 use Rattle.oim_fast.specs.state.Parts.{IsPart}
-use Rattle.oim_fast.specs.state.References.{key_of}
-use Rattle.oim_fast.proofs.Growth.{grows_none}
+use Rattle.oim_row.specs.References.{key_of}
+use Rattle.oim_row.proofs.Growth.{grows_none}
 use Rattle.oim_fast.proofs.MakerLaws.{maker_with}
 use Rattle.oim_fast.proofs.MakingLaws.{concept_made, entry_there, part_there, there_in}
 use Rattle.oim_fast.proofs.frame.frame_maker.FrameMaker.concept.Goals as goal

@@ -1,5 +1,5 @@
 use Rattle.oim_fast.specs.state.Parts.{IsPart}
-use Rattle.oim_fast.specs.state.References.{IsOfReport, key_of}
+use Rattle.oim_row.specs.References.{IsOfReport, key_of}
 use Rattle.std.proofs.Common.{map}
 use Rattle.oim_fast.proofs.MakerLaws.{all_of_none}
 use Rattle.oim_fast.proofs.frame.frame_maker.FrameMaker.new.Goals as goal

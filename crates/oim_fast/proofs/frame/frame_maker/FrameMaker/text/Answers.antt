@@ -2,7 +2,7 @@ use Rattle.std.proofs.Common.{◌≡◌, true, reverse, rules, subst, sym}
 use Rattle.oim_fast.specs.state.Frames.{IsTextOfKind}
 use Rattle.oim_fast.specs.state.Making.{from_general, keys_in}
 use Rattle.oim_resolve.specs.ProgramCell.{held}
-use Rattle.oim_fast.proofs.Growth.{grows_twice}
+use Rattle.oim_row.proofs.Growth.{grows_twice}
 use Rattle.oim_fast.proofs.MakingLaws.{text_made}
 use Rattle.oim_fast.proofs.frame.frame_maker.FrameMaker.text.Goals as goal
 

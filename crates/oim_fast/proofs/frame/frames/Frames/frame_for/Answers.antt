@@ -4,12 +4,12 @@ use Rattle.std.specs.List.{All, slice_get}
 use Rattle.oim_resolve.specs.Written.{levels}
 use Rattle.oim_fast.specs.state.Columns.{IsFactColumn}
 use Rattle.oim_fast.specs.state.Frames.{HasReferredKind, is_known_choice}
-use Rattle.oim_fast.specs.state.Groups.{choices_in}
+use Rattle.oim_fast.specs.state.ChosenGroups.{choices_in}
 use Rattle.oim_fast.specs.state.KeptFrames.{IsKnownFor, IsTextFor, text_in}
-use Rattle.oim_fast.specs.state.References.{key_of}
-use Rattle.oim_fast.specs.Rows.{cell_in}
+use Rattle.oim_row.specs.References.{key_of}
+use Rattle.oim_row.specs.Rows.{cell_in}
 use Rattle.oim_fast.specs.declared.frame.fact_column.FactColumn.{FactColumn}
-use Rattle.oim_fast.specs.declared.row.group_cells.GroupCells.{GroupCells}
+use Rattle.oim_row.specs.declared.group_cells.GroupCells.{GroupCells}
 use Rattle.oim_fast.proofs.ColumnLaws.{guessed}
 use Rattle.oim_fast.proofs.ServedLaws.{concept_here, known_here, served_places, text_here, there_some}
 use Rattle.oim_fast.proofs.frame.frames.Frames.frame_for.Goals as goal

@@ -2,7 +2,7 @@ use Rattle.std.proofs.Common.{◌≡◌, List, arith, length, sym, ap, subst, �
 use Rattle.std.specs.List.{All, slice_get}
 use Rattle.oim_fast.specs.state.KeptFrames.{IsFrame}
 use Rattle.oim_fast.specs.declared.frame.frame.Frame.{Frame}
-use Rattle.oim_fast.proofs.Growth.{all_push, slice_get-last}
+use Rattle.oim_row.proofs.Growth.{all_push, slice_get-last}
 use Rattle.oim_fast.proofs.frame.frames.Frames.keep.Goals as goal
 
 pub returns-in_err-add-clause-frames : goal.returns-in_err-add-clause-frames

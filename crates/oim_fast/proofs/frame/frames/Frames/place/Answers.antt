@@ -1,10 +1,10 @@
 use Rattle.std.proofs.Common.{map}
 use Rattle.std.specs.List.{slice_get}
 use Rattle.oim_fast.specs.state.KeptFrames.{IsFor, IsKnownFor}
-use Rattle.oim_fast.specs.state.References.{key_of}
+use Rattle.oim_row.specs.References.{key_of}
 use Rattle.oim_fast.specs.declared.frame.frame.Frame.{Frame}
 use Rattle.oim_fast.proofs.ChoiceLaws.{groups_within}
-use Rattle.oim_fast.proofs.Growth.{grows_none}
+use Rattle.oim_row.proofs.Growth.{grows_none}
 use Rattle.oim_fast.proofs.KeyLaws.{frames_grow}
 use Rattle.oim_fast.proofs.ServedLaws.{some_also, some_is}
 use Rattle.oim_fast.proofs.frame.frames.Frames.place.Goals as goal

@@ -4,10 +4,10 @@ use Rattle.oim_report.specs.ReportValue.{ReportValue}
 use Rattle.oim_report.specs.declared.data.Side.{Side}
 use Rattle.oim_resolve.specs.Facts.{role_of}
 use Rattle.oim_resolve.specs.declared.role.Role.{Role}
-use Rattle.oim_fast.specs.state.Answers.{IsAnswer}
+use Rattle.oim_row.specs.Answers.{IsAnswer}
 use Rattle.oim_fast.specs.state.Parts.{purpose_of}
 use Rattle.oim_fast.specs.state.Pieces.{constant_meaning}
-use Rattle.oim_fast.specs.declared.row.purpose.Purpose.TheVariants.{Dimension}
+use Rattle.oim_row.specs.declared.purpose.Purpose.TheVariants.{Dimension}
 use Rattle.oim_fast.proofs.PartLaws.{constant_value, some_same}
 use Rattle.oim_fast.proofs.frame.part.Part.constant.Goals as goal
 

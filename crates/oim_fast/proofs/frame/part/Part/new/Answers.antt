@@ -5,10 +5,10 @@ use Rattle.oim_resolve.specs.Facts.{role_of}
 use Rattle.oim_resolve.specs.declared.role.Role.{Role}
 use Rattle.oim_rows.specs.RowFacts.{TableHeaderValue}
 use Rattle.oim_fast.specs.state.Parts.{purpose_of}
-use Rattle.oim_fast.specs.state.References.{Key}
-use Rattle.oim_fast.specs.state.Sources.{seen_source, source_written}
-use Rattle.oim_fast.specs.declared.row.purpose.Purpose.{Purpose}
-use Rattle.oim_fast.specs.declared.row.purpose.Purpose.TheVariants.{Dimension}
+use Rattle.oim_row.specs.References.{Key}
+use Rattle.oim_row.specs.Sources.{seen_source, source_written}
+use Rattle.oim_row.specs.declared.purpose.Purpose.{Purpose}
+use Rattle.oim_row.specs.declared.purpose.Purpose.TheVariants.{Dimension}
 use Rattle.oim_fast.proofs.PartLaws.{key_there}
 use Rattle.oim_fast.proofs.frame.part.Part.new.Goals as goal
 

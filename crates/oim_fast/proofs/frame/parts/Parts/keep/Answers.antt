@@ -2,7 +2,7 @@ use Rattle.std.proofs.Common.{◌≡◌, List, arith, length, sym, ap, subst, �
 use Rattle.std.specs.List.{All, slice_get}
 use Rattle.oim_fast.specs.state.Parts.{IsPart}
 use Rattle.oim_fast.specs.declared.frame.part.Part.{Part}
-use Rattle.oim_fast.proofs.Growth.{all_push, slice_get-last}
+use Rattle.oim_row.proofs.Growth.{all_push, slice_get-last}
 use Rattle.oim_fast.proofs.frame.parts.Parts.keep.Goals as goal
 
 pub returns-in_err-add-clause-parts : goal.returns-in_err-add-clause-parts

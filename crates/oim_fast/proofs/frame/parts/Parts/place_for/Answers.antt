@@ -2,8 +2,8 @@ use Rattle.std.proofs.Common.{List, ℕ, Some, map, ap, ◌∙◌}
 use Rattle.std.specs.Option.{option_map}
 use Rattle.oim_report.specs.declared.data.Written.{Written}
 use Rattle.oim_fast.specs.state.Frames.{entry_of}
-use Rattle.oim_fast.specs.state.References.{key_of}
-use Rattle.oim_fast.proofs.Growth.{grows_none}
+use Rattle.oim_row.specs.References.{key_of}
+use Rattle.oim_row.proofs.Growth.{grows_none}
 use Rattle.oim_fast.proofs.KeyLaws.{parts_grow}
 use Rattle.oim_fast.proofs.frame.parts.Parts.place_for.Goals as goal
 

@@ -1,8 +1,8 @@
 use Rattle.std.proofs.Common.{map, sym, subst}
 use Rattle.oim_fast.specs.state.Columns.{AreFactColumns}
 use Rattle.oim_fast.specs.state.KeptFrames.{IsFrame}
-use Rattle.oim_fast.specs.state.References.{key_of}
-use Rattle.oim_fast.specs.declared.row.group_cells.GroupCells.{GroupCells}
+use Rattle.oim_row.specs.References.{key_of}
+use Rattle.oim_row.specs.declared.group_cells.GroupCells.{GroupCells}
 use Rattle.oim_fast.proofs.MakerLaws.{all_of_none}
 use Rattle.oim_fast.proofs.table.cell_writer.CellWriter.new.Goals as goal
 

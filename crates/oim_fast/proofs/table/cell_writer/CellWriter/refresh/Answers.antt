@@ -1,7 +1,7 @@
 use Rattle.std.proofs.Common.{List, map, sym, subst, arith}
 use Rattle.std.specs.List.{All}
 use Rattle.oim_fast.specs.state.KeptFrames.{IsFrame}
-use Rattle.oim_fast.specs.state.References.{Key, key_of}
+use Rattle.oim_row.specs.References.{Key, key_of}
 use Rattle.oim_fast.proofs.ColumnLaws.{all_columns_kept}
 use Rattle.oim_fast.proofs.table.cell_writer.CellWriter.refresh.Goals as goal
 

@@ -1,7 +1,0 @@
-use Rattle.std.proofs.Common.{rules, sym, ◌∙◌}
-use Rattle.oim_json.proofs.Quoted.{all_unescaped}
-use Rattle.oim_fast.proofs.text.escape.put_escaped.Goals as goal
-
-pub returns-then-needs_no_escape-clause-escaped : goal.returns-then-needs_no_escape-clause-escaped
-returns-then-needs_no_escape-clause-escaped c =
-    rw (all_unescaped c.args.text.now (sym c.needs_no_escape.ensures ∙ c.if-needs_no_escape.true)) (search rules)

@@ -1,0 +1,72 @@
+-- Worked cases of the definitions.
+use Rattle.std.proofs.Common.{◌≡◌, true, false, List, ℕ, [], ◌∷◌, ◌++◌, Some, None, codes, refl, arith}
+use Rattle.std.proofs.lemmas.Fmt.{decimal_digit}
+use Rattle.csv.specs.Records.{field_at}
+use Rattle.oim_cells.specs.Cells.{Text}
+use Rattle.oim_json.specs.JsonText.{escaped_byte, quoted, value_text}
+use Rattle.oim_report.specs.Readers.{no_column, no_level}
+use Rattle.oim_report.specs.declared.data.Column.{Column as AColumn}
+use Rattle.oim_report.specs.declared.data.Level.{Level}
+use Rattle.oim_rows.specs.RowFacts.{TableHeaderValue}
+use Rattle.oim_row.specs.Answers.{dimension_json}
+use Rattle.oim_row.specs.Groups.{group_at, names_none}
+use Rattle.oim_row.specs.Rows.{RowValue}
+use Rattle.oim_row.specs.Sources.{Column, RowNumber, source_text}
+use Rattle.oim_row.specs.declared.group_cells.Choice.TheVariants as choice
+
+-- SOURCES
+
+abbrev row : TableHeaderValue → List (List ℕ) → RowValue
+row f fields = record { header = f; number = 7; fields = fields }
+
+-- the cell stands over the parameter
+cell_first : (f : TableHeaderValue) → source_text (row f (codes "r" ∷ codes "eg:B" ∷ [])) (Column 1 (codes "eg:A")) ≡ codes "eg:B"
+unfolding field_at
+cell_first f = refl
+
+-- an empty cell gives way to it, and so does a cell that is not there
+empty_cell : (f : TableHeaderValue) → source_text (row f (codes "r" ∷ [] ∷ [])) (Column 1 (codes "eg:A")) ≡ codes "eg:A"
+unfolding field_at
+empty_cell f = refl
+
+-- `#none` is no empty cell
+none_is_a_text : (f : TableHeaderValue) → source_text (row f (codes "#none" ∷ [])) (Column 0 (codes "eg:A")) ≡ codes "#none"
+unfolding field_at
+none_is_a_text f = refl
+
+number_of_the_row : (f : TableHeaderValue) → source_text (row f []) RowNumber ≡ codes "7"
+number_of_the_row f = decimal_digit 7 (omega arith)
+
+-- JSON
+
+no_value : dimension_json None ≡ []
+no_value = refl
+
+nil_value : dimension_json (Some None) ≡ codes "null,"
+unfolding value_text
+nil_value = refl
+
+-- a quote and a line feed are escaped
+text_value : dimension_json (Some (Some (codes "a\"b" ++ 10 ∷ []))) ≡ codes "\"a\\\"b\\n\","
+unfolding value_text quoted escaped_byte
+text_value = refl
+
+-- GROUPS
+
+abbrev eu : Level
+eu = no_level
+
+abbrev column : AColumn
+column = record no_column { groups = (codes "eu", eu) ∷ [] }
+
+group_of_a_place : group_at column.groups (choice.Group 0) ≡ Some eu
+group_of_a_place = refl
+
+no_group_at_a_place : group_at column.groups (choice.Group 1) ≡ None
+no_group_at_a_place = refl
+
+a_group_is_named : names_none column (Text (codes "eu")) ≡ false
+a_group_is_named = refl
+
+no_group_is_named : names_none column (Text (codes "us")) ≡ true
+no_group_is_named = refl

@@ -1,0 +1,9 @@
+pub mod Texts
+pub mod AnswerLaws
+pub mod Refreshed
+pub mod Growth
+pub mod Fields
+pub mod GroupLaws
+pub mod ReadLaws
+pub mod KeptLaws
+pub mod Examples

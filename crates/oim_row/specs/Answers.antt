@@ -1,0 +1,36 @@
+-- What a value gives the text of a fact. (xBRL-JSON 1.0, the dimensions and decimals of a fact)
+use Rattle.std.specs.Prelude.{◌≡◌, ℕ, Bool, true, List, [], ◌++◌, Option, Some, None, Ok, IfSome, codes, is_ok}
+use Rattle.std.specs.Option.{option_and_then}
+use Rattle.oim_cells.specs.Cells.{Meaning}
+use Rattle.oim_json.specs.JsonText.{decimals_text, value_text}
+use Rattle.oim_report.specs.ReportValue.{ReportValue}
+use Rattle.oim_resolve.specs.Facts.{concept_read, entry_given, places, stated_accuracy, stated_read, value_read}
+use Rattle.oim_resolve.specs.Values.{Read}
+use Rattle.oim_row.specs.declared.answer.Answer.{Answer}
+use Rattle.oim_row.specs.declared.purpose.Purpose.{Purpose}
+use Rattle.oim_row.specs.declared.purpose.Purpose.TheVariants.{Dimension, Decimals}
+
+-- a dimension's value with a comma behind it: no text where it gives nothing
+abbrev pub dimension_json : Option (Option (List ℕ)) → List ℕ
+dimension_json None = []
+dimension_json (Some v) = value_text v ++ codes ","
+
+-- the decimals that a value states, with a comma behind them: no text where it states none, or that a number is exact
+abbrev pub decimals_json : Meaning → List ℕ
+decimals_json v = decimals_text (option_and_then places (stated_accuracy (Read v)))
+
+-- a value has no fault for a purpose
+abbrev pub is_sound_for : ReportValue → Purpose → Meaning → Bool
+is_sound_for r (Dimension o s) v = is_ok (value_read r o s v)
+is_sound_for r Decimals v = is_ok (stated_read (Read v))
+
+-- what it gives then, as JSON
+abbrev pub json_for : ReportValue → Purpose → Meaning → List ℕ
+json_for r (Dimension o s) v = dimension_json (entry_given r o s v)
+json_for r Decimals v = decimals_json v
+
+-- what an answer says of a value. One that is not sound says nothing
+pub record IsAnswer (r : ReportValue) (p : Purpose) (v : Meaning) (a : Answer) : Type 0 where
+  pub sound : a.is_sound ≡ true → is_sound_for r p v ≡ true
+  pub json : a.is_sound ≡ true → a.json.items ≡ json_for r p v
+  pub concept : IfSome a.kind (λ k. concept_read r v ≡ Ok k)

@@ -1,0 +1,82 @@
+//! A text, and what it gives for a purpose.
+
+ghost use Rattle.std.specs.Prelude.{◌≡◌, ◌≤◌, false, length, take, true};
+ghost use Rattle.std.specs.String.{string_bytes};
+ghost use Rattle.oim_cells.specs.Cells.{meaning_of};
+ghost use Rattle.oim_row.specs.Answers.{IsAnswer};
+ghost use Rattle.oim_row.specs.state.Kept.{IsCached, IsEmptyText};
+ghost use Rattle.oim_row.specs.state.Reading.{IsTypedAnswer};
+
+use crate::answer::Answer;
+use crate::purpose::Purpose;
+use oim_cells::meaning;
+use oim_report::Report;
+use std::alloc::{AllocError, Global};
+
+/// How many bytes a text has at most that is kept. A longer one seldom comes back.
+const LONGEST: usize = 1 << 16;
+
+/// A text, where it is kept, and what it gives for a purpose. At first it is the empty text.
+#[derive(Drop)]
+pub(crate) struct CachedAnswer {
+    pub(crate) text: String,
+    pub(crate) is_kept: bool,
+    pub(crate) answer: Answer,
+}
+
+impl CachedAnswer {
+    /// The empty text, which gives nothing. It takes no memory.
+    pub(crate) fn new(alloc: Global) -> CachedAnswer
+        ensures { IsEmptyText result }
+    {
+        CachedAnswer {
+            text: String::new(alloc),
+            is_kept: true,
+            answer: Answer::new(alloc),
+        }
+    }
+
+    /// Whether it is kept for a text.
+    #[inline(always)]
+    pub(crate) fn is_of(&self, text: &str) -> bool
+        ensures kept { result ≡ true → self.now.is_kept ≡ true }
+        ensures text { result ≡ true → string_bytes self.now.text ≡ text.now }
+    {
+        self.is_kept && self.text.as_str() == text
+    }
+
+    /// Reads a text, in place of the text that was kept. A long one is not kept. Fails where memory is short, and then says nothing.
+    #[inline(never)]
+    pub(crate) fn read(
+        &mut self,
+        alloc: Global,
+        report: &Report,
+        purpose: Purpose,
+        text: &str,
+    ) -> Result<(), AllocError>
+        ensures cached { IsCached report.now purpose self.new }
+        ensures answer { IsAnswer report.now purpose (meaning_of text.now) self.new.answer }
+    {
+        self.answer.forget();
+        self.is_kept = false;
+        self.text.clear();
+        if text.len() > LONGEST {
+            return self.answer.read(alloc, report, purpose, meaning(text));
+        }
+        self.text.push_str(text)?;
+        self.is_kept = true;
+        self.answer.read(alloc, report, purpose, meaning(text))
+    }
+
+    /// Reads the first `len` bytes of a text as the value of a typed dimension. It is not kept. Fails where memory is short, and then
+    /// says nothing.
+    #[inline(always)]
+    pub(crate) fn read_typed(&mut self, text: &[u8], len: usize) -> Result<(), AllocError>
+        requires { len ≤ length text.now }
+        ensures kept { self.new.is_kept ≡ false }
+        ensures answer { IsTypedAnswer (take len text.now) self.new.answer }
+    {
+        self.is_kept = false;
+        self.answer.read_typed(text, len)
+    }
+}

@@ -1,0 +1,216 @@
+//! The property groups that a row names.
+
+ghost use Rattle.std.specs.Prelude.{◌≡◌, ◌<◌, [], Some, IfOk, IfSome, length, map};
+ghost use Rattle.std.specs.List.{All, slice_get};
+ghost use Rattle.std.specs.Map.{keys_of};
+ghost use Rattle.std.specs.Option.{option_map, option_and_then};
+ghost use Rattle.oim_cells.specs.Cells.{Text as a_text, meaning_of};
+ghost use Rattle.oim_report.specs.Rising.{IsRising};
+ghost use Rattle.oim_report.specs.declared.data.Column.{Column as ColumnValue};
+ghost use Rattle.oim_rows.specs.RowFacts.{field_or_empty};
+ghost use Rattle.oim_row.specs.Groups.{IsGroupCell, IsSaid, Says, level_chosen};
+ghost use Rattle.oim_row.specs.References.{Grows};
+ghost use Rattle.oim_row.specs.Rows.{column_in, columns_in};
+
+use crate::group_hints::GroupHints;
+use crate::source::place_in;
+use crate::table_row::TableRow;
+use oim_cells::{CellMeaning, meaning};
+use oim_names::Text;
+use oim_report::Level;
+use oim_rows::TableHeader;
+use std::alloc::{AllocError, Global};
+
+/// What a row's cell says in a column of property groups.
+#[derive(Clone, Copy)]
+pub enum Choice {
+    Nothing,
+    /// The place of the group that it names.
+    Group(usize),
+    /// It is not known: facts of columns that take from it are not by the fast way.
+    Unknown,
+}
+
+/// A column of property groups: its place in the template and in the header, its groups, and what the row at hand says.
+#[derive(Drop)]
+pub struct GroupCell<'a> {
+    pub column: usize,
+    pub place: Option<usize>,
+    pub groups: &'a [(Text, Level)],
+    pub choice: Choice,
+}
+
+/// The columns of property groups that the fact columns of a header take from.
+#[derive(Drop)]
+pub struct GroupCells<'a> {
+    /// Each of them once, in the order in which they were added.
+    pub list: Vec<GroupCell<'a>>,
+    hints: GroupHints,
+}
+
+/// How many groups are looked through one by one at most.
+const FEW: usize = 8;
+
+/// The place of the group of a name among a few, where it is found.
+fn place_among(groups: &[(Text, Level)], name: &str) -> Choice
+    requires { IsRising (keys_of groups.now) }
+    ensures { (column : ColumnValue) → groups.now ≡ column.groups → Says column (a_text name.now) result }
+{
+    for i in 0..groups.len() {
+        if groups[i].0.as_str() == name {
+            return Choice::Group(i);
+        }
+    }
+    Choice::Unknown
+}
+
+/// The place of the group of a name, where it is found.
+fn place_of(groups: &[(Text, Level)], name: &str) -> Choice
+    requires { IsRising (keys_of groups.now) }
+    ensures { (column : ColumnValue) → groups.now ≡ column.groups → Says column (a_text name.now) result }
+{
+    if groups.len() <= FEW {
+        return place_among(groups, name);
+    }
+    match groups.binary_search_by(|group| group.0.as_str().cmp(name)) {
+        Ok(place) => Choice::Group(place),
+        Err(_) => Choice::Unknown,
+    }
+}
+
+/// Notes where the group stands that a name names, where it was not guessed and there are many groups.
+#[inline(always)]
+fn note_found(hints: &mut GroupHints, name: &str, guess: usize, cell: &GroupCell<'_>) {
+    if let Choice::Group(place) = cell.choice {
+        if place != guess && cell.groups.len() > FEW {
+            hints.note(name, place, cell.groups.len());
+        }
+    }
+}
+
+impl<'a> GroupCell<'a> {
+    /// The group of a name. Often it is the one that the last row named, or stands where it is guessed to stand.
+    #[inline(always)]
+    fn find(&self, name: &str, guess: usize) -> Choice
+        requires { IsRising (keys_of self.now.groups.now) }
+        ensures { (column : ColumnValue) → self.now.groups.now ≡ column.groups → Says column (a_text name.now) result }
+    {
+        if let Choice::Group(place) = self.choice {
+            if place < self.groups.len() && self.groups[place].0.as_str() == name {
+                return Choice::Group(place);
+            }
+        }
+        if guess < self.groups.len() && self.groups[guess].0.as_str() == name {
+            return Choice::Group(guess);
+        }
+        place_of(self.groups, name)
+    }
+
+    /// What a row says, where the group that it names is guessed to stand at a place.
+    #[inline(always)]
+    fn choice_in(&self, row: &TableRow<'_, '_>, guess: usize) -> Choice
+        requires { IsGroupCell row.now.header self.now }
+        ensures { Says (column_in row.now.header self.now.column) (meaning_of (field_or_empty row.now.fields self.now.place)) result }
+    {
+        match meaning(row.text_at(self.place)) {
+            CellMeaning::Absent => Choice::Nothing,
+            CellMeaning::Text(name) => self.find(name, guess),
+            CellMeaning::Nil | CellMeaning::Empty | CellMeaning::Unknown => Choice::Unknown,
+        }
+    }
+}
+
+impl<'a> GroupCells<'a> {
+    /// No columns. It takes no memory.
+    pub fn new(alloc: Global) -> GroupCells<'a>
+        ensures { result.list.items ≡ [] }
+    {
+        GroupCells {
+            list: Vec::new(alloc),
+            hints: GroupHints::new(alloc),
+        }
+    }
+
+    /// The place of a column of the template that is there already.
+    fn find(&self, column: usize) -> Option<usize>
+        ensures { IfSome result (λ place. option_map (λ g. g.column) (slice_get self.now.list.items place) ≡ Some column) }
+    {
+        for i in 0..self.list.len() {
+            if self.list[i].column == column {
+                return Some(i);
+            }
+        }
+        None
+    }
+
+    /// The place of a column of the template, which is added where it is not there. Fails where memory is short.
+    pub fn place_for(
+        &mut self,
+        header: &TableHeader<'a>,
+        column: usize,
+    ) -> Result<usize, AllocError>
+        requires column { column < length (columns_in header.now) }
+        requires cells { All (IsGroupCell header.now) self.old.list.items }
+        ensures place { IfOk result (λ place. option_map (λ g. g.column) (slice_get self.new.list.items place) ≡ Some column) }
+        ensures cells { All (IsGroupCell header.now) self.new.list.items }
+        ensures grows { Grows self.old.list.items self.new.list.items }
+    {
+        if let Some(place) = self.find(column) {
+            return Ok(place);
+        }
+        header.report().stands_in_order();
+        let place = self.list.len();
+        self.list.push(GroupCell {
+            column,
+            place: place_in(header.columns(), column),
+            groups: header
+                .report()
+                .column(header.table(), column)
+                .groups
+                .as_slice(),
+            choice: Choice::Unknown,
+        })?;
+        Ok(place)
+    }
+
+    /// Goes on to a row.
+    #[inline(always)]
+    pub fn refresh(&mut self, row: &TableRow<'_, '_>)
+        requires { All (IsGroupCell row.now.header) self.old.list.items }
+        ensures cells { All (IsGroupCell row.now.header) self.new.list.items }
+        ensures said { All (IsSaid row.now) self.new.list.items }
+        ensures columns { map (λ g. g.column) self.new.list.items ≡ map (λ g. g.column) self.old.list.items }
+    {
+        for i in 0..self.list.len() {
+            let name = row.text_at(self.list[i].place);
+            let guess = self.hints.guess(name);
+            let cell = &mut self.list[i];
+            cell.choice = cell.choice_in(row, guess);
+            note_found(&mut self.hints, name, guess, cell);
+        }
+    }
+
+    /// What the row at hand says in a column.
+    #[inline(always)]
+    pub fn choice(&self, place: usize) -> Choice
+        requires { place < length self.now.list.items }
+        ensures { option_map (λ g. g.choice) (slice_get self.now.list.items place) ≡ Some result }
+    {
+        self.list[place].choice
+    }
+
+    /// The level of the group that the row at hand names in a column.
+    pub fn level(&self, place: usize) -> Option<&'a Level>
+        requires { place < length self.now.list.items }
+        ensures { option_map (λ l. l.now) result ≡ option_and_then level_chosen (slice_get self.now.list.items place) }
+    {
+        let cell = &self.list[place];
+        match cell.choice {
+            Choice::Group(group) => match cell.groups.get(group) {
+                Some(entry) => Some(&entry.1),
+                None => None,
+            },
+            Choice::Nothing | Choice::Unknown => None,
+        }
+    }
+}

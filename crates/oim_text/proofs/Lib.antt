@@ -1,0 +1,9 @@
+pub mod PlacedBytes
+pub mod Escaping
+pub mod EscapedLengths
+pub mod Appends
+pub mod NumeralBytes
+pub mod Ink
+pub mod NumeralMarks
+pub mod Numerals
+pub mod Examples
