@@ -1,6 +1,6 @@
 //! The report of these calls, the calls over it, and a fact.
 
-use crate::{blocks, facts, fast_rows, pieces, reports, rows, tables};
+use crate::{blocks, facts, fast_rows, pieces, reports, row_answers, rows, tables};
 use oim_json::{Block, block_of};
 use oim_meta::{Limits, Parameters, Report, Types, read_report, read_types};
 use oim_names::{Items, Text};
@@ -34,6 +34,7 @@ pub(crate) enum Over {
     Pieces,
     Reads,
     Reports,
+    RowAnswers,
     Rows,
     Tables,
 }
@@ -49,6 +50,7 @@ fn hold_over(alloc: Global, report: &Report, over: Over) -> bool {
         Over::Pieces => pieces::hold(alloc, report),
         Over::Reads => rows::hold_of_reads(alloc, report),
         Over::Reports => reports::hold(alloc, report),
+        Over::RowAnswers => row_answers::hold(alloc, report),
         Over::Rows => rows::hold(alloc, report),
         Over::Tables => tables::hold(alloc, report),
     }

@@ -36,8 +36,12 @@ mod reports;
 #[cfg(test)]
 mod rings;
 #[cfg(test)]
+mod row_answers;
+#[cfg(test)]
 mod rows;
 #[cfg(test)]
 mod tables;
+#[cfg(test)]
+mod texts;
 #[cfg(test)]
 mod words;

@@ -1,0 +1,127 @@
+//! Calls of `oim_row`.
+
+use crate::held::{Over, holds};
+use oim_cells::{Accuracy, meaning};
+use oim_meta::{Report, Side, Written, WrittenDecimals};
+use oim_records::RecordReader;
+use oim_resolve::Role;
+use oim_row::{
+    Answer, Choice, GroupCell, GroupCells, Purpose, References, Source, TableRow, is_same_side,
+    place_in, put_decimals, source_of, source_of_decimals,
+};
+use oim_rows::TableHeader;
+use oim_text::TextBuffer;
+use std::alloc::{AllocError, Global};
+
+/// The decimals that the cell at a place states, as the text of a fact has them, or none where they have a fault.
+fn decimals_at(
+    alloc: Global,
+    row: &TableRow<'_, '_>,
+    place: usize,
+) -> Result<Option<TextBuffer>, AllocError> {
+    let mut answer = Answer::new(alloc);
+    let said = meaning(row.text_at(Some(place)));
+    answer.read(alloc, row.report(), Purpose::Decimals, said)?;
+    if answer.is_sound {
+        Ok(Some(answer.json))
+    } else {
+        Ok(None)
+    }
+}
+
+/// Whether the first cell of a row states one place, and the second has a fault as decimals.
+fn states_decimals(alloc: Global, row: &TableRow<'_, '_>) -> bool {
+    let first = match decimals_at(alloc, row, 0) {
+        Ok(Some(json)) => json.as_slice() == b"\"decimals\":1,".as_slice(),
+        Ok(None) | Err(_) => false,
+    };
+    first && matches!(decimals_at(alloc, row, 1), Ok(None))
+}
+
+/// Whether decimals have their text.
+fn puts_decimals(alloc: Global) -> bool {
+    let mut out = TextBuffer::new(alloc);
+    put_decimals(&mut out, Accuracy::Places(2)).is_ok()
+        && out.as_slice() == b"\"decimals\":2,".as_slice()
+}
+
+/// Whether the number of a row is referred to, and what is not written refers to nothing.
+fn refers(header: &TableHeader<'_>) -> bool {
+    let source: Option<Source<'_>> = source_of(header, &Written::RowNumber(Side::Start));
+    matches!(source, Some(Source::RowNumber))
+        && source_of_decimals(header, &WrittenDecimals::Absent).is_none()
+        && place_in(header.columns(), 1) == Some(1)
+        && is_same_side(Side::Start, Side::Start)
+}
+
+/// How many bytes the number of a row gives a typed dimension.
+fn bytes_of_number(alloc: Global, row: &TableRow<'_, '_>) -> Result<u32, AllocError> {
+    let mut references = References::new(alloc);
+    let purpose = Purpose::Dimension(Role::Typed, Side::Whole);
+    let _place = references.place_for(alloc, row, purpose, Source::RowNumber)?;
+    Ok(references.most())
+}
+
+/// What a row says of property groups in the first column of its table's template.
+fn first_choice(alloc: Global, row: &TableRow<'_, '_>) -> Result<Option<Choice>, AllocError> {
+    let mut cells = GroupCells::new(alloc);
+    if row.report().columns(row.table()) == 0 {
+        return Ok(None);
+    }
+    let _place = cells.place_for(row.header(), 0)?;
+    cells.refresh(row);
+    let first: Option<&GroupCell<'_>> = cells.list.first();
+    match first {
+        Some(cell) => Ok(Some(cell.choice)),
+        None => Ok(None),
+    }
+}
+
+/// Whether a row answers as it must. Its first column is none of property groups, so what it says there is not known.
+fn answers(alloc: Global, row: &TableRow<'_, '_>) -> bool {
+    states_decimals(alloc, row)
+        && puts_decimals(alloc)
+        && refers(row.header())
+        && matches!(bytes_of_number(alloc, row), Ok(4))
+        && matches!(first_choice(alloc, row), Ok(Some(Choice::Unknown)))
+}
+
+/// The same of the next record of a table with this header.
+fn answers_a_row(
+    alloc: Global,
+    header: &TableHeader<'_>,
+    records: &mut RecordReader<&[u8]>,
+) -> bool {
+    if records.read().is_err() {
+        return false;
+    }
+    match records.text_fields() {
+        Some(fields) => answers(alloc, &TableRow::new(header, 1, "1", &fields)),
+        None => false,
+    }
+}
+
+/// The same of a report's first table, whose file these are the records of.
+fn answers_a_table(alloc: Global, report: &Report, records: &mut RecordReader<&[u8]>) -> bool {
+    if report.tables() == 0 {
+        return false;
+    }
+    match TableHeader::read(alloc, report, 0, 10, records) {
+        Ok(header) => answers_a_row(alloc, &header, records),
+        Err(_) => false,
+    }
+}
+
+/// Whether the calls over a report answer as they must.
+pub(crate) fn hold(alloc: Global, report: &Report) -> bool {
+    let file: &[u8] = b"cash,note\n1,n\n";
+    match RecordReader::open(alloc, file) {
+        Ok(mut records) => answers_a_table(alloc, report, &mut records),
+        Err(_) => false,
+    }
+}
+
+#[test]
+fn calls_of_row_answers(rt: HostRuntime) {
+    assert!(rt; holds(rt.alloc(), Over::RowAnswers));
+}
