@@ -92,8 +92,12 @@ two_tables =
     (member (codes "documentInfo") good_info
     (member (codes "tableTemplates") (one (codes "t") (one (codes "columns") nothing))
     (member (codes "tables")
-        (two (codes "t") (one (codes "url") (text (codes "t.csv"))) (codes "u") (two (codes "template") (text (codes "t")) (codes "url") (text (codes "u.csv"))))
-        no_members)))
+    (two (codes "t") (one (codes "url") (text (codes "t.csv"))) (codes "u") (two (codes "template") (text (codes "t")) (codes "url") (text (codes "u.csv"))))
+    no_members)))
+
+-- decimals and tables that are none
+abbrev two_faults : Data
+two_faults = object (member (codes "decimals") null (member (codes "documentInfo") good_info (member (codes "tables") null no_members)))
 
 -- an entity that is no text
 abbrev bad_entity : Data
@@ -264,7 +268,7 @@ places_in_parameters = (refl, refl, refl, refl)
 -- TWO FAULTS
 first_of_two :
     -- the decimals of the report come first in the walk, but tables, which is no object, has the lower number
-    Stands (object (member (codes "decimals") null (member (codes "documentInfo") good_info (member (codes "tables") null no_members)))) BadTemplate (codes "tables" ∷ [])
+    Stands two_faults BadTemplate (codes "tables" ∷ [])
     -- both faults are of one kind: that of the first column
     × Stands (columns (two (codes "c") null (codes "d") null)) BadTemplate (codes "tableTemplates" ∷ codes "p" ∷ codes "columns" ∷ codes "c" ∷ [])
 unfolding walked first in_metadata in_document in_info_in in_info in_namespaces in_parts in_level in_dimensions in_templates in_template in_template_itself in_columns in_column in_column_itself
@@ -276,22 +280,22 @@ first_of_two = (refl, refl)
 first_place :
     -- a bad prefix, and one URI for two others: at the prefix
     Stands
-        (with_info (codes "namespaces") (object (member (codes "1") (text (codes "v")) (member (codes "a") (text (codes "u")) (member (codes "b") (text (codes "u")) no_members)))))
-        BadNamespaces (codes "documentInfo" ∷ codes "namespaces" ∷ codes "1" ∷ [])
+    (with_info (codes "namespaces") (object (member (codes "1") (text (codes "v")) (member (codes "a") (text (codes "u")) (member (codes "b") (text (codes "u")) no_members)))))
+    BadNamespaces (codes "documentInfo" ∷ codes "namespaces" ∷ codes "1" ∷ [])
     -- a report that extends another and has links
     × Stands
-        (two (codes "documentInfo")
-            (object (member (codes "documentType") csv (member (codes "extends") (list (text (codes "m.json"))) (member (codes "taxonomy") (array no_items) no_members))))
-            (codes "links") (one (codes "x") nothing))
-        Unsupported (codes "documentInfo" ∷ codes "extends" ∷ [])
+    (two (codes "documentInfo")
+    (object (member (codes "documentType") csv (member (codes "extends") (list (text (codes "m.json"))) (member (codes "taxonomy") (array no_items) no_members))))
+    (codes "links") (one (codes "x") nothing))
+    Unsupported (codes "documentInfo" ∷ codes "extends" ∷ [])
     -- a template without columns, whose rowIdColumn is no text
     × Stands (template (one (codes "rowIdColumn") null)) BadTemplate (codes "tableTemplates" ∷ codes "p" ∷ codes "columns" ∷ [])
     -- a table without an url, whose template is no text
     × Stands (table (one (codes "template") null)) BadTemplate (codes "tables" ∷ codes "t" ∷ codes "url" ∷ [])
     -- a table whose template is no text, and optional no truth value
     × Stands
-        (table (object (member (codes "optional") (text (codes "true")) (member (codes "template") null (member (codes "url") (text (codes "t.csv")) no_members)))))
-        BadTemplate (codes "tables" ∷ codes "t" ∷ codes "template" ∷ [])
+    (table (object (member (codes "optional") (text (codes "true")) (member (codes "template") null (member (codes "url") (text (codes "t.csv")) no_members)))))
+    BadTemplate (codes "tables" ∷ codes "t" ∷ codes "template" ∷ [])
 unfolding walked first in_metadata in_document in_info_in in_info in_namespaces in_parts in_level in_dimensions in_templates in_template in_template_itself in_columns in_column in_column_itself
     in_sources in_column_level in_groups in_group in_tables in_table in_table_itself in_parameters in_own_parameters has_no_report has_bad_parameter_url is_bad_dimension is_decimals
     name_in meaning_of is_plain_path accuracy_of strip_front qname_of is_identifier is_plain_char is_ncname is_name_char is_name_start chars is_utf8 encode
@@ -301,12 +305,12 @@ first_place = (refl, refl, refl, refl, refl)
 all_places :
     (places_of BadTemplate (walked (columns (two (codes "c") null (codes "d") null)))
     ≡ (codes "tableTemplates" ∷ codes "p" ∷ codes "columns" ∷ codes "c" ∷ []) ∷ (codes "tableTemplates" ∷ codes "p" ∷ codes "columns" ∷ codes "d" ∷ []) ∷ [])
-    × (has BadTemplate (walked (column null)) ≡ true) × (has BadDecimals (walked (column null)) ≡ false)
+    × (has BadTemplate (walked two_faults) ≡ true) × (has BadTemplate (walked (column null)) ≡ true) × (has BadDecimals (walked (column null)) ≡ false)
     × (walked (table (one (codes "url") (text (codes "t.csv")))) ≡ []) × (walked (column (one (codes "dimensions") nothing)) ≡ [])
 unfolding walked in_metadata in_document in_info_in in_info in_namespaces in_parts in_level in_dimensions in_templates in_template in_template_itself in_columns in_column in_column_itself
     in_sources in_column_level in_groups in_group in_tables in_table in_table_itself in_parameters in_own_parameters has_no_report has_bad_parameter_url is_bad_dimension is_decimals
     name_in meaning_of is_plain_path accuracy_of strip_front qname_of is_identifier is_plain_char is_ncname is_name_char is_name_start chars is_utf8 encode
-all_places = (refl, refl, refl, refl, refl)
+all_places = (refl, refl, refl, refl, refl, refl)
 
 -- WHAT HAS NO PLACE: text that is not JSON is a fault of the whole, at no key
 no_key : (refusal_of Syntax ≡ Found (finding Syntax [])) × (fault_in (refusal_of Syntax) ≡ Syntax)
