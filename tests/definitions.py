@@ -20,7 +20,7 @@ from typing import NamedTuple
 CRATES = Path(__file__).resolve().parent.parent / "crates"
 # The crates that are judged by file, lowest first.
 MIXED = (
-    "oim_resolve", "oim_rows", "oim_json", "oim_text", "oim_row",
+    "oim_rows", "oim_json", "oim_text", "oim_row",
     "oim_fast", "oim_decode", "oim_places", "oim_explain", "oim_pieces", "oim_ring", "oim_merge", "oim_crew", "oim_convert", "oim_run",
 )  # fmt: skip
 
@@ -156,6 +156,15 @@ def clauses(source: Path, text: str) -> tuple[str, str]:
     return LABEL.sub(r"\1 {", "\n".join(stated)), LABEL.sub(r"\1 {", "\n".join(inherited))
 
 
+def closed(found: set, below: dict) -> set:
+    """These, and all that they need, directly or through others."""
+    fresh = found
+    while fresh:
+        fresh = {it for name in fresh for it in below[name] if it in below} - found
+        found = found | fresh
+    return found
+
+
 def main() -> None:
     """Prints what stands in the wrong room, and ends with 1 if something does."""
     all = files()
@@ -171,10 +180,9 @@ def main() -> None:
         if not file.startswith("state/"):
             others = sorted({name[:2] for name in it.known.values() if name[1].startswith("state/")} & set(all))
             wrong += [f"{crate}/specs/{file} rests on {a}/specs/{b}" for a, b in others]
-    fresh = needed & set(below)
-    while fresh:
-        needed |= fresh
-        fresh = {it for name in fresh for it in below[name]} & set(below) - needed
+    rooms = {room: {name[:2] for name in it.known.values()} & set(all) for room, it in all.items()}
+    needed_files = closed({name[:2] for name in needed} & set(all), rooms)
+    needed = closed(needed & set(below), below)
     unneeded = [name for name in below if not name[1].startswith("state/") and name not in needed]
     if sys.argv[1:] == ["--list"]:
         for crate, file, name in unneeded:
@@ -183,7 +191,7 @@ def main() -> None:
         sys.exit(0)
     wrong += [f"{crate}/specs/{file}: {name} is needed for no public contract" for crate, file, name in unneeded if crate not in MIXED]
     mixed = [room for room in all if room[0] in MIXED]
-    idle = [room for room in mixed if not room[1].startswith("state/") and not any((*room, name) in needed for name in all[room].own)]
+    idle = [room for room in mixed if not room[1].startswith("state/") and room not in needed_files]
     wrong += [f"{crate}/specs/{file} is needed for no public contract" for crate, file in idle]
     for it in wrong:
         print(it)

@@ -21,7 +21,7 @@ use Rattle.oim_fast.specs.Facts.{column_lead, fact_text, start_text}
 use Rattle.oim_fast.specs.state.FrameTexts.{FrameValue, Segment, dimensions_start, frame_dimensions}
 use Rattle.oim_fast.specs.state.Frames.{IsTextOf, no_dimensions}
 use Rattle.oim_fast.specs.state.Pieces.{AreSound, written_pieces}
-use Rattle.oim_resolve.specs.ProgramLevels.{written_entries}
+use Rattle.oim_resolve.specs.state.ProgramLevels.{written_entries}
 use Rattle.oim_row.specs.References.{IsFresh, ReferenceValue, key_of}
 use Rattle.oim_fast.specs.state.GivenTexts.{given_by, is_sound_by}
 use Rattle.oim_row.specs.Rows.{RowValue, cell_in, column_in, row_in}

@@ -29,7 +29,7 @@ use Rattle.oim_fast.specs.state.Frames.{AreFrameDecimals, Chooses, are_ready, en
 use Rattle.oim_row.specs.Groups.{Names, Says}
 use Rattle.oim_fast.specs.state.Parts.{IsPart, IsPartValue}
 use Rattle.oim_fast.specs.state.Pieces.{AreSound, constant_stated, is_sound_dimension}
-use Rattle.oim_resolve.specs.ProgramLevels.{named}
+use Rattle.oim_resolve.specs.state.ProgramLevels.{named}
 use Rattle.oim_row.specs.References.{IsFresh, Key, ReferenceValue, key_of, meaning_at_hand}
 use Rattle.oim_fast.specs.state.GivenTexts.{given_by, is_sound_by}
 use Rattle.oim_row.specs.Rows.{RowValue, cell_in, column_in, columns_in}

@@ -16,7 +16,7 @@ use Rattle.oim_fast.specs.state.FrameTexts.{FrameValue, is_ready, with_part}
 use Rattle.oim_row.specs.Groups.{Says, group_at}
 use Rattle.oim_fast.specs.state.Parts.{AreDecimals, IsPart, IsReferred}
 use Rattle.oim_fast.specs.state.Pieces.{constant_meaning}
-use Rattle.oim_resolve.specs.ProgramLevels.{written_entries}
+use Rattle.oim_resolve.specs.state.ProgramLevels.{written_entries}
 use Rattle.oim_row.specs.References.{Key}
 use Rattle.oim_row.specs.Rows.{RowValue, column_in}
 use Rattle.oim_row.specs.Sources.{source_written}
