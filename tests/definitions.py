@@ -15,12 +15,12 @@ from __future__ import annotations
 import re
 import sys
 from pathlib import Path
-from typing import NamedTuple
+from typing import NamedTuple, TypeVar
 
 CRATES = Path(__file__).resolve().parent.parent / "crates"
 # The crates that are judged by file, lowest first.
 MIXED = (
-    "oim_rows", "oim_json", "oim_text", "oim_row",
+    "oim_json", "oim_text", "oim_row",
     "oim_fast", "oim_decode", "oim_places", "oim_explain", "oim_pieces", "oim_ring", "oim_merge", "oim_crew", "oim_convert", "oim_run",
 )  # fmt: skip
 
@@ -47,6 +47,7 @@ GIVEN = re.compile(r"^pub use (?:[\w:]+::)?(\{[^}]*\}|\w+);", re.M)
 Room = tuple[str, str]
 # A definition: its crate, its file, and its name, which is empty where the whole file is meant.
 Name = tuple[str, str, str]
+Either = TypeVar("Either", Room, Name)
 
 
 class File(NamedTuple):
@@ -96,7 +97,7 @@ def files() -> dict[Room, File]:
     return found
 
 
-def named(text: str, known: dict[str, Name], all: dict[Room, File], room: Room | None = None, bound: set[str] = set()) -> set[Name]:
+def named(text: str, known: dict[str, Name], all: dict[Room, File], room: Room | None = None, bound: frozenset[str] = frozenset()) -> set[Name]:
     """The definitions that a text names: those of its own file, and those that it imports."""
     found = set()
     for token in TOKEN.findall(text):
@@ -116,7 +117,7 @@ def rests(room: Room, name: str, all: dict[Room, File]) -> set[Name]:
         bound = {word for words in BOUND.findall(part) for word in " ".join(words).split()}
         if not HEAD.match(part):
             bound |= set(PATTERN.findall(re.split(r" =\s", part)[0])) - set(all[room].cases)
-        found |= named(part, all[room].known, all, room, bound)
+        found |= named(part, all[room].known, all, room, frozenset(bound))
     return found - {(*room, name)}
 
 
@@ -156,7 +157,7 @@ def clauses(source: Path, text: str) -> tuple[str, str]:
     return LABEL.sub(r"\1 {", "\n".join(stated)), LABEL.sub(r"\1 {", "\n".join(inherited))
 
 
-def closed(found: set, below: dict) -> set:
+def closed(found: set[Either], below: dict[Either, set[Either]]) -> set[Either]:
     """These, and all that they need, directly or through others."""
     fresh = found
     while fresh:
