@@ -4,7 +4,8 @@ use Rattle.std.proofs.Common.{refl, sym, ap, ◌∙◌, subst, append_assoc, app
 use mathlib.Core.List.{IsPrefix}
 use Rattle.oim_json.proofs.Members.{members_more}
 use Rattle.oim_json.proofs.Writes.{broke_before}
-use Rattle.oim_json.specs.Document.{has_any, members, more_members}
+use Rattle.oim_json.specs.Document.{members, more_members}
+use Rattle.oim_json.specs.state.Writing.{has_any}
 use Rattle.oim_json.specs.JsonText.{head_text}
 use Rattle.oim_json.specs.Sinks.{SinkView, Broke}
 use Rattle.oim_json.specs.declared.layout.Layout.{Layout}

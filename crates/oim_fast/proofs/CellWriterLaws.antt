@@ -5,7 +5,7 @@ use Rattle.std.specs.Prelude.{if◌then◌else◌}
 use Rattle.std.proofs.lemmas.List.{get_or-map, length-map}
 use Rattle.std.proofs.lemmas.Option.{slice_get_within}
 use Rattle.oim_cells.specs.Cells.{Meaning, meaning_of}
-use Rattle.oim_json.specs.JsonText.{is_unescaped}
+use Rattle.oim_json.specs.state.Writing.{is_unescaped}
 use Rattle.oim_report.specs.ReportValue.{ReportValue}
 use Rattle.oim_report.specs.declared.data.Level.{Level}
 use Rattle.oim_report.specs.declared.data.WrittenDecimals.{WrittenDecimals}
