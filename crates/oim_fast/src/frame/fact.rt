@@ -8,7 +8,8 @@ ghost use Rattle.oim_json.specs.state.Writing.{is_unescaped};
 ghost use Rattle.oim_resolve.specs.Facts.{is_numeric, places};
 ghost use Rattle.oim_fast.specs.state.FactTexts.{EndsInstead, IsOfReferences, PutsFact, TriesFact, WritesDecimals, WritesObject, WritesOpening};
 ghost use Rattle.oim_fast.specs.state.FactTexts.{fact_room, has_settled, value_of};
-ghost use Rattle.oim_text.specs.Places.{Placed, Stays};
+ghost use Rattle.oim_text.specs.Places.{Placed};
+ghost use Rattle.oim_text.specs.state.Rooms.{Stays};
 
 use crate::frame::frame_decimals::FrameDecimals;
 use crate::frame::frame_text::FrameText;
