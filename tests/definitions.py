@@ -20,7 +20,7 @@ from typing import NamedTuple, TypeVar
 CRATES = Path(__file__).resolve().parent.parent / "crates"
 # The crates that are judged by file, lowest first.
 MIXED = (
-    "oim_row",
+    
     "oim_fast", "oim_decode", "oim_places", "oim_explain", "oim_pieces", "oim_ring", "oim_merge", "oim_convert", "oim_run",
 )  # fmt: skip
 

@@ -28,7 +28,8 @@ use Rattle.oim_fast.specs.state.Frames.{AreFrameDecimals, IsTextOf, no_dimension
 use Rattle.oim_fast.specs.state.KeptFrames.{IsTextFor}
 use Rattle.oim_fast.specs.state.Parts.{IsPart, IsPartValue}
 use Rattle.oim_row.specs.References.{IsFresh, Key, ReferenceValue, key_of}
-use Rattle.oim_row.specs.Rows.{RowValue, cell_in, column_in}
+use Rattle.oim_row.specs.Rows.{RowValue, column_in}
+use Rattle.oim_row.specs.state.Rows.{cell_in}
 use Rattle.oim_fast.specs.declared.frame.fact_column.FactColumn.{FactColumn}
 use Rattle.oim_fast.specs.declared.frame.frame_decimals.FrameDecimals.{FrameDecimals}
 use Rattle.oim_fast.specs.declared.frame.frame_decimals.FrameDecimals.TheVariants as decimals

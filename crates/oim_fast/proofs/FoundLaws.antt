@@ -24,7 +24,8 @@ use Rattle.oim_fast.specs.state.Pieces.{AreSound, written_pieces}
 use Rattle.oim_resolve.specs.state.ProgramLevels.{written_entries}
 use Rattle.oim_row.specs.References.{IsFresh, ReferenceValue, key_of}
 use Rattle.oim_fast.specs.state.GivenTexts.{given_by, is_sound_by}
-use Rattle.oim_row.specs.Rows.{RowValue, cell_in, column_in, row_in}
+use Rattle.oim_row.specs.Rows.{RowValue, column_in, row_in}
+use Rattle.oim_row.specs.state.Rows.{cell_in}
 use Rattle.oim_fast.specs.declared.frame.value.Value.{Value}
 use Rattle.oim_fast.proofs.FrameLaws.{parts_added}
 use Rattle.oim_fast.proofs.MemberLaws.{pieces_cut, written_pieces_are}
