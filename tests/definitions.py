@@ -21,7 +21,7 @@ CRATES = Path(__file__).resolve().parent.parent / "crates"
 # The crates that are judged by file, lowest first.
 MIXED = (
     
-    "oim_fast", "oim_decode", "oim_places", "oim_explain", "oim_pieces", "oim_merge", "oim_convert", "oim_run",
+    "oim_fast", "oim_decode", "oim_places", "oim_explain", "oim_pieces", "oim_convert", "oim_run",
 )  # fmt: skip
 
 IMPORT = re.compile(r"\buse (?:pub )?Rattle\.(\w+)\.specs\.(state\.)?(\w+)((?:\.\w+)*)(?:\.\{([^}]*)\}| as (\S+?))?;?$", re.M)
