@@ -17,7 +17,7 @@ use Rattle.oim_resolve.specs.Written.{levels, names, written_decimals}
 use Rattle.oim_resolve.specs.declared.fact.CellFault.{CellFault}
 use Rattle.oim_fast.specs.state.CellValues.{IsValue}
 use Rattle.oim_fast.specs.state.FactTexts.{are_sound_decimals, cut, frame_decimals, has_decimals, object_text, opening_decimals, value_of}
-use Rattle.oim_fast.specs.Facts.{column_lead, fact_text, start_text}
+use Rattle.oim_fast.specs.state.Facts.{column_lead, fact_text, start_text}
 use Rattle.oim_fast.specs.state.FrameTexts.{FrameValue, Segment, dimensions_start, frame_dimensions}
 use Rattle.oim_fast.specs.state.Frames.{IsTextOf, no_dimensions}
 use Rattle.oim_fast.specs.state.Pieces.{AreSound, written_pieces}

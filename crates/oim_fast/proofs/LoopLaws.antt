@@ -15,7 +15,8 @@ use Rattle.oim_rows.specs.RowFacts.{at_place, facts_from, in_front, is_fact_colu
 use Rattle.oim_rows.specs.declared.fault.TableFault.{TableFault}
 use Rattle.oim_fast.specs.state.CellWriters.{GiveFacts, HasFacts, column_at}
 use Rattle.oim_fast.specs.state.Columns.{fact_columns_in}
-use Rattle.oim_fast.specs.Facts.{WritesFact, WritesFacts, fact_text}
+use Rattle.oim_fast.specs.Facts.{WritesFacts}
+use Rattle.oim_fast.specs.state.Facts.{WritesFact, fact_text}
 use Rattle.oim_row.specs.Rows.{RowValue, columns_in, row_in}
 use Rattle.oim_row.specs.state.Rows.{cell_in}
 

@@ -10,7 +10,7 @@ use Rattle.oim_rows.specs.RowFacts.{TableHeaderValue}
 use Rattle.oim_fast.specs.state.CellValues.{IsValue}
 use Rattle.oim_fast.specs.state.Columns.{AreFactColumns, fact_columns_in}
 use Rattle.oim_fast.specs.state.FactTexts.{AddsFact}
-use Rattle.oim_fast.specs.Facts.{WritesFact, lead_text, start_text}
+use Rattle.oim_fast.specs.state.Facts.{WritesFact, lead_text, start_text}
 use Rattle.oim_fast.specs.state.FrameTexts.{FrameValue}
 use Rattle.oim_fast.specs.state.KeptFrames.{IsFrame}
 use Rattle.oim_fast.specs.state.Making.{IsMaker, IsReadyMaker}

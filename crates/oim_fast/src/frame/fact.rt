@@ -6,8 +6,7 @@ ghost use mathlib.Core.List.{IsPrefix};
 ghost use Rattle.oim_json.specs.JsonText.{decimals_text, escaped_byte, value_text};
 ghost use Rattle.oim_json.specs.state.Writing.{is_unescaped};
 ghost use Rattle.oim_resolve.specs.Facts.{is_numeric, places};
-ghost use Rattle.oim_fast.specs.state.FactTexts.{EndsInstead, IsOfReferences, PutsFact, TriesFact, WritesDecimals, WritesObject, WritesOpening};
-ghost use Rattle.oim_fast.specs.state.FactTexts.{fact_room, has_settled, value_of};
+ghost use Rattle.oim_fast.specs.state.FactTexts.{EndsInstead, IsOfReferences, PutsFact, TriesFact, WritesDecimals, WritesObject, WritesOpening, fact_room, has_settled, value_of};
 ghost use Rattle.oim_text.specs.Places.{Placed};
 ghost use Rattle.oim_text.specs.state.Rooms.{Stays};
 

@@ -6,7 +6,7 @@ use Rattle.oim_rows.specs.RowFacts.{field_or_empty}
 use Rattle.oim_fast.specs.state.CellValues.{IsValue}
 use Rattle.oim_fast.specs.state.CellWriters.{PutsCell, column_at}
 use Rattle.oim_fast.specs.state.Columns.{IsFactColumn}
-use Rattle.oim_fast.specs.Facts.{WritesFact}
+use Rattle.oim_fast.specs.state.Facts.{WritesFact}
 use Rattle.oim_fast.specs.state.FrameTexts.{FrameValue}
 use Rattle.oim_fast.specs.state.KeptFrames.{IsTextFor, text_in}
 use Rattle.oim_row.specs.References.{key_of}
