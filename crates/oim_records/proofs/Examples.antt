@@ -6,7 +6,7 @@ use Rattle.std.specs.Str.{chars, is_utf8}
 use Rattle.csv.specs.Machine.{next_record}
 use Rattle.csv.specs.Reading.{records_from, strip_bom}
 use Rattle.csv.specs.declared.parser.State.TheVariants as state
-use Rattle.oim_records.specs.state.Bytes.{ends_field, ends_line, is_quote, joins_field, is_unquoted}
+use Rattle.oim_records.specs.state.Bytes.{ends_field, ends_line, is_quote, joins_field, is_unquoted, is_ascii, is_high}
 use Rattle.oim_records.specs.Cuts.{ended, is_between, state_after}
 use Rattle.oim_records.specs.state.Fields.{IsReadTo, IsWithin, fields_in}
 use Rattle.oim_records.specs.Grids.{Record, grid, records_left}
@@ -14,10 +14,10 @@ use Rattle.oim_records.specs.PieceTaking.{bytes_left}
 use Rattle.oim_records.specs.Pieces.{unread}
 use Rattle.oim_records.specs.state.Places as places
 use Rattle.oim_records.specs.state.Places.{at_field, ends_record, in_text, is_line_end, place_after, place_of}
-use Rattle.oim_records.specs.Reads.{left_in}
+use Rattle.oim_records.specs.state.Reads.{left_in}
 use Rattle.oim_records.specs.state.Runs.{behind, is_quoted, is_special, moved, skipped, stops}
 use Rattle.oim_records.specs.state.Scans.{fresh, scanned}
-use Rattle.oim_records.specs.Texts.{is_ascii, is_high, is_not_text}
+use Rattle.oim_records.specs.Texts.{is_not_text}
 use Rattle.oim_records.specs.declared.field.FieldRange.{FieldRange}
 use Rattle.oim_records.specs.declared.place.Place.TheVariants as place
 use Rattle.oim_records.specs.declared.scan.Scan.{Scan}

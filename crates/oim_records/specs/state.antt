@@ -7,3 +7,5 @@ pub mod Fields
 pub mod Held
 pub mod PlainReaders
 pub mod ReadFaults
+pub mod PieceTaking
+pub mod Reads

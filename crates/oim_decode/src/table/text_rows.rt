@@ -3,8 +3,10 @@
 ghost use Rattle.std.specs.Prelude.{◌≡◌, ◌⊎◌, ◌≤◌, ◌<◌, ◌+◌, [], IfErr, IfOk, IfSome, None, OnErr, OnOk, Some, length, option_map, true};
 ghost use Rattle.oim_records.specs.Grids.{grid};
 ghost use Rattle.oim_rows.specs.Header.{file_header_fault};
-ghost use Rattle.oim_rows.specs.RowFacts.{IsNewId, id_place_of, ids_after, row_fault, row_result};
-ghost use Rattle.oim_rows.specs.Streams.{early_row_answer, stream_of};
+ghost use Rattle.oim_rows.specs.RowFacts.{id_place_of, ids_after, row_fault, row_result};
+ghost use Rattle.oim_rows.specs.state.RowFacts.{IsNewId};
+ghost use Rattle.oim_rows.specs.Streams.{stream_of};
+ghost use Rattle.oim_rows.specs.state.Streams.{early_row_answer};
 ghost use Rattle.oim_decode.specs.Blocks.{AddsNone, AddsRow, CountsRow, TakesOne, has_row};
 ghost use Rattle.oim_decode.specs.Heads.{IsHeaderFault};
 ghost use Rattle.oim_decode.specs.RowTexts.{AddsFacts};
