@@ -1,7 +1,8 @@
 -- The Bools of a block, one at a time.
 use Rattle.std.proofs.Common.{◌≡◌, ℕ, zero, suc, ◌+◌, ◌<◌, Bool, true, false, List, [], ◌∷◌, map, length, get_or, refl, sym, ap, ap₂, ◌∙◌, arith}
 use Rattle.std.specs.Prelude.{◌&&◌}
-use Rattle.oim_records.specs.state.Blocks.{but, differ, firsts, is_opener, led}
+use Rattle.oim_records.specs.state.Bits.{differ}
+use Rattle.oim_records.specs.state.Blocks.{but, firsts, is_opener, led}
 use Rattle.oim_records.specs.state.Bytes.{ends_line, is_quote}
 use Rattle.oim_records.specs.declared.place.Place.{Place}
 use Rattle.oim_records.proofs.BlockWalks.{insides, led_behind, line_ends, strays}

@@ -3,7 +3,8 @@ use Rattle.std.proofs.Common.{◌≡◌, ℕ, zero, suc, ◌+◌, ◌*◌, ◌<�
 use Rattle.std.specs.Prelude.{if◌then◌else◌, ◌==◌, ◌&&◌, ◌||◌}
 use Rattle.std.specs.Simd.Lanes.{mask_l}
 use Rattle.std.proofs.lemmas.Bool.Decides.{eqb_tells}
-use Rattle.oim_records.specs.state.Blocks.{block_scanned, but, cut_behind, cut_rows_behind, differ, is_opener, led, may_open, rows_behind}
+use Rattle.oim_records.specs.state.Bits.{differ}
+use Rattle.oim_records.specs.state.Blocks.{block_scanned, but, cut_behind, cut_rows_behind, is_opener, led, may_open, rows_behind}
 use Rattle.oim_records.specs.state.Bytes.{ends_line, is_quote}
 use Rattle.oim_records.specs.state.Places.{ends_record, is_between, place_after}
 use Rattle.oim_records.specs.state.Runs.{is_quoted}

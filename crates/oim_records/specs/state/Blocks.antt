@@ -6,11 +6,6 @@ use Rattle.oim_records.specs.declared.place.Place.{Place}
 use Rattle.oim_records.specs.declared.place.Place.TheVariants as place
 use Rattle.oim_records.specs.declared.scan.Scan.{Scan}
 
--- whether one of the two holds, and the other does not
-abbrev pub differ : Bool → Bool → Bool
-differ true b = not b
-differ false b = b
-
 -- whether the first holds, and the other does not
 abbrev pub but : Bool → Bool → Bool
 but true b = not b
