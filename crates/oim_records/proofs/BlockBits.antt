@@ -68,7 +68,3 @@ firsts-masked before es ends long is small =
     let shows : Shows ends es = λ k lt. ap (λ n. is_set n k) is ∙ set-mask_l es k in
     mask-shown _ (firsts before es) (omega (arith, and_le_l ends (flip (bit_or (shl 1 ends) (cond before 1 0))))) (length-firsts before es ∙ long) (λ k lt.
       set-but ends (bit_or (shl 1 ends) (cond before 1 0)) k (moved-small ends before) lt ∙ ap₂ but (shows k lt) (moved-in ends before es shows k lt) ∙ sym (first-at before es k))
-
--- the highest bit
-pub last-shown : (m : ℕ) (ms : List Bool) → m < 2 ^ 64 → Shows m ms → is_set m 63 ≡ get_or ms 63 false
-last-shown m ms small shows = shows 63 (omega arith)

@@ -1,12 +1,16 @@
 -- The rows and the cut behind a block, by the mask of the ends of its lines.
-use Rattle.std.proofs.Common.{◌≡◌, ℕ, zero, suc, ◌+◌, ◌*◌, ◌^◌, ◌<◌, ◌≤◌, ◌⊎◌, inl, inr, Bool, true, false, cond, List, [], ◌∷◌, length, get_or, refl, sym, ap, subst, ◌∙◌, arith, add-zero, pow-suc}
+use Rattle.std.proofs.Common.{◌≡◌, ℕ, zero, suc, ◌+◌, ◌-◌, ◌*◌, ◌^◌, ◌<◌, ◌≤◌, ◌⊎◌, inl, inr, Bool, true, false, cond, List, [], ◌∷◌, length, get_or, refl, sym, ap, subst, ◌∙◌, arith, add-zero, pow-suc}
 use Rattle.std.specs.Prelude.{if◌then◌else◌}
 use Rattle.std.specs.Int.RustNames.{count_ones}
 use Rattle.std.specs.Simd.Lanes.{mask_l}
 use Rattle.std.proofs.Math.Nat.{one-le-pow}
-use Rattle.std.proofs.lemmas.Nat.{ones_le_self}
+use Rattle.std.proofs.lemmas.Nat.{leading_top, ones_le_self}
+use Rattle.std.specs.Int.Count.{count_leading_zeros}
 use Rattle.std.proofs.lemmas.Simd.{ones-mask_l_cons}
-use Rattle.oim_records.specs.state.Blocks.{but, cut_behind, cut_rows_behind, firsts, rows_behind}
+use Rattle.oim_records.specs.state.Blocks.{block_scanned, but, cut_behind, cut_rows_behind, firsts, rows_behind}
+use Rattle.oim_records.specs.state.Places.{is_between}
+use Rattle.oim_records.specs.declared.place.Place.{Place}
+use Rattle.oim_records.specs.declared.scan.Scan.{Scan}
 
 pub rows-counted : (rows : ℕ) (before : Bool) (es : List Bool) → rows_behind rows before es ≡ rows + count_ones (mask_l (firsts before es))
 unfolding rows_behind firsts
@@ -63,3 +67,24 @@ cut-at cut seen j (e ∷ es) low high = at e j (mask_l es) refl low high (λ i. 
     at false (suc j) zero none low high rest = absurd (omega (arith, one-le-pow (suc j) 2))
     at e zero (suc m) some low high rest = absurd (omega arith)
     at e (suc j) (suc m) some low high rest = let half = halved e j (mask_l es) low high in rest j half.0 half.1 ∙ omega arith
+
+-- the scan behind a block in which no line ends outside quotes
+pub block-none : (s : Scan) (p : Place) (es : List Bool) → length es ≡ 64 → mask_l es ≡ 0
+    → ◌≡◌ {A = Scan} (record { place = p; seen = s.seen + 64; rows = s.rows; cut = s.cut; cut_rows = s.cut_rows }) (block_scanned s p es)
+block-none s p es long none =
+    let stands = no-end s.cut s.seen s.cut_rows s.rows (is_between s.place) es none in
+    rw (long, stands.0, stands.1, stands.2) refl
+
+-- and behind one in which some do
+pub block-some : (s : Scan) (p : Place) (es : List Bool) (ends rows before : ℕ) → length es ≡ 64 → ends ≡ mask_l es → 0 < ends → ends < 2 ^ 64
+    → rows ≡ count_ones (mask_l (firsts (is_between s.place) es)) → before ≡ count_leading_zeros 64 ends
+    → ◌≡◌ {A = Scan} (record { place = p; seen = s.seen + 64; rows = s.rows + rows; cut = s.seen + 64 - before; cut_rows = s.rows + rows }) (block_scanned s p es)
+block-some s p es ends rows before long is some small counted leads =
+    let t = leading_top 64 ends some small in
+    let j = t.0 in
+    let low : 2 ^ j ≤ mask_l es = subst (λ m. 2 ^ j ≤ m) is t.2 in
+    let high : mask_l es < 2 ^ suc j = subst (λ m. m < 2 ^ suc j) is t.3 in
+    let cut : cut_behind s.cut s.seen es ≡ s.seen + 64 - before = cut-at s.cut s.seen j es low high ∙ omega (arith, leads, t.1) in
+    let all : rows_behind s.rows (is_between s.place) es ≡ s.rows + rows = rows-counted s.rows (is_between s.place) es ∙ ap (λ n. s.rows + n) (sym counted) in
+    let last : cut_rows_behind s.cut_rows s.rows (is_between s.place) es ≡ s.rows + rows = rows-at-cut s.cut_rows s.rows (is_between s.place) es (subst (λ m. 0 < m) is some) ∙ all in
+    rw (long, cut, all, last) refl

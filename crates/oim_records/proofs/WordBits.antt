@@ -103,6 +103,20 @@ unfolding is_set
 set-other true i h = same_is _ _ (upto_sound (λ j. same (is_set 1 (suc j)) false) 64 tt i h)
 set-other false i h = same_is _ _ (upto_sound (λ j. same (is_set 0 (suc j)) false) 64 tt i h)
 
+-- whether a word is not 0 behind a shift that leaves its highest bit
+pub set-highest : (m : ℕ) → m < 2 ^ 64 → not (m / 2 ^ 63 == 0) ≡ is_set m 63
+unfolding is_set
+set-highest m small = bit_cases (λ x. not (x == 0) ≡ (x % 2 == 1)) refl refl (m / 2 ^ 63) (omega arith)
+
+-- all bits, and none
+pub set-all : (i : ℕ) → i < 64 → is_set 18446744073709551615 i ≡ true
+unfolding is_set
+set-all i h = same_is _ _ (upto_sound (λ j. same (is_set 18446744073709551615 j) true) 64 tt i h)
+
+pub set-none : (i : ℕ) → i < 64 → is_set 0 i ≡ false
+unfolding is_set
+set-none i h = same_is _ _ (upto_sound (λ j. same (is_set 0 j) false) 64 tt i h)
+
 -- the bits of a word moved up by one, and one moved in
 pub moved-in : (m : ℕ) (b : Bool) (ms : List Bool) → Shows m ms → Shows (bit_or (shl 1 m) (cond b 1 0)) (b ∷ ms)
 moved-in m b ms shows zero h = set-or (shl 1 m) (cond b 1 0) 0 ∙ ap₂ (λ x y. x || y) (set-shl_low 1 0 m (omega arith) h) (set-first b)
