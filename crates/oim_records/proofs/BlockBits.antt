@@ -47,9 +47,9 @@ pub strays-masked : (inside ready : Bool) (xs : List ℕ) (quotes openers m : �
     → quotes < 2 ^ 64 → Shows m (insides inside xs) → bit_and (bit_and quotes m) (flip (bit_or (shl 1 openers) (cond ready 1 0))) ≡ mask_l (strays inside ready xs)
 strays-masked inside ready xs quotes openers m long is starts small shows =
     mask-shown _ (strays inside ready xs) (omega (arith, and_le_l (bit_and quotes m) (flip before), and_le_l quotes m)) (length-strays inside ready xs ∙ long) (λ k lt.
-      set-but (bit_and quotes m) before k (moved-small openers ready) lt
-      ∙ ap₂ but (set-and quotes m k ∙ ap₂ (λ x y. x && y) (marked is_quote refl xs quotes k is) (shows k lt)) (moved-in openers ready (map is_opener xs) (λ i l. ap (λ n. is_set n i) starts ∙ set-mask_l (map is_opener xs) i) k lt)
-      ∙ sym (stray-at inside ready xs k))
+    set-but (bit_and quotes m) before k (moved-small openers ready) lt
+    ∙ ap₂ but (set-and quotes m k ∙ ap₂ (λ x y. x && y) (marked is_quote refl xs quotes k is) (shows k lt)) (moved-in openers ready (map is_opener xs) (λ i l. ap (λ n. is_set n i) starts ∙ set-mask_l (map is_opener xs) i) k lt)
+    ∙ sym (stray-at inside ready xs k))
   where
     before : ℕ
     before = bit_or (shl 1 openers) (cond ready 1 0)
@@ -59,7 +59,7 @@ pub ends-masked : (inside : Bool) (xs : List ℕ) (lines m : ℕ) → length xs 
     → bit_and lines (flip m) ≡ mask_l (line_ends inside xs)
 ends-masked inside xs lines m long is small low shows =
     mask-shown _ (line_ends inside xs) (omega (arith, and_le_l lines (flip m))) (length-line_ends inside xs ∙ long) (λ k lt.
-      set-but lines m k low lt ∙ ap₂ but (marked ends_line refl xs lines k is) (shows k lt) ∙ sym (end-at inside xs k))
+    set-but lines m k low lt ∙ ap₂ but (marked ends_line refl xs lines k is) (shows k lt) ∙ sym (end-at inside xs k))
 
 -- those that follow no other at once
 pub firsts-masked : (before : Bool) (es : List Bool) (ends : ℕ) → length es ≡ 64 → ends ≡ mask_l es → ends < 2 ^ 64
@@ -67,4 +67,4 @@ pub firsts-masked : (before : Bool) (es : List Bool) (ends : ℕ) → length es 
 firsts-masked before es ends long is small =
     let shows : Shows ends es = λ k lt. ap (λ n. is_set n k) is ∙ set-mask_l es k in
     mask-shown _ (firsts before es) (omega (arith, and_le_l ends (flip (bit_or (shl 1 ends) (cond before 1 0))))) (length-firsts before es ∙ long) (λ k lt.
-      set-but ends (bit_or (shl 1 ends) (cond before 1 0)) k (moved-small ends before) lt ∙ ap₂ but (shows k lt) (moved-in ends before es shows k lt) ∙ sym (first-at before es k))
+    set-but ends (bit_or (shl 1 ends) (cond before 1 0)) k (moved-small ends before) lt ∙ ap₂ but (shows k lt) (moved-in ends before es shows k lt) ∙ sym (first-at before es k))
