@@ -1,5 +1,5 @@
 -- One bit of a word as a Bool, through each operation. After the `json` crate.
-use Rattle.std.proofs.Common.{◌≡◌, ℕ, zero, suc, ◌+◌, ◌-◌, ◌*◌, ◌/◌, ◌%◌, ◌^◌, ◌<◌, ◌≤◌, ◌⊎◌, inl, inr, min, max, Bool, true, false, not, ◌&&◌, List, [], ◌∷◌, length, get_or, cond, refl, sym, ap, ap₂, ◌∙◌, subst, arith, w64, not-suc-le-zero, le_of_suc-le-suc, mul_assoc}
+use Rattle.std.proofs.Common.{◌≡◌, ℕ, zero, suc, ◌+◌, ◌-◌, ◌*◌, ◌/◌, ◌%◌, ◌^◌, ◌<◌, ◌≤◌, ◌⊎◌, inl, inr, min, max, Bool, true, false, not, ◌&&◌, List, ◌∷◌, length, get_or, cond, refl, sym, ap, ap₂, ◌∙◌, subst, arith, w64, not-suc-le-zero, le_of_suc-le-suc, mul_assoc}
 use Rattle.std.specs.Prelude.{◌==◌, ◌||◌}
 use Rattle.std.specs.Int.{bit_at}
 use Rattle.std.specs.Simd.Lanes.{mask_l}
@@ -10,7 +10,7 @@ use lib.Bits.{bit_and, bit_or, bit_xor, shifted_even}
 use lib.Pow.{field, mod-mod-pow, shr-shr, shl-shr, pow-add}
 use Rattle.oim_records.specs.state.Bits.{differ, is_odd_below, is_set}
 use Rattle.oim_records.specs.state.Blocks.{but}
-use Rattle.oim_records.proofs.Masks.{same, same_is, upto, upto_sound}
+use Rattle.oim_records.proofs.Masks.{same, same_is, upto_sound}
 
 bit_cases : (P : ℕ → Type 0) → P 0 → P 1 → (x : ℕ) → x < 2 → P x
 bit_cases P p q zero h = p

@@ -1,5 +1,5 @@
 -- A block of bytes as a scan for cuts sees it: a Bool for each byte.
-use Rattle.std.specs.Prelude.{ℕ, List, [], ◌∷◌, ◌+◌, Bool, true, false, not, ◌&&◌, ◌||◌, ◌==◌, if◌then◌else◌, length}
+use Rattle.std.specs.Prelude.{ℕ, List, [], ◌∷◌, ◌+◌, Bool, true, false, not, ◌||◌, ◌==◌, if◌then◌else◌, length}
 use Rattle.oim_records.specs.state.Bytes.{ends_field, is_quote}
 use Rattle.oim_records.specs.state.Places.{is_between, is_line_end}
 use Rattle.oim_records.specs.declared.place.Place.{Place}

@@ -1,4 +1,4 @@
-use Rattle.std.proofs.Common.{◌≡◌, ◌⊎◌, inl, inr, ◌∙◌, sym, ap}
+use Rattle.std.proofs.Common.{inl, inr, ◌∙◌, sym, ap}
 use Rattle.oim_records.specs.state.Runs.{is_quoted}
 use Rattle.oim_records.proofs.WordBits.{set-all, set-none}
 use Rattle.oim_records.proofs.blocks.quoted_bits.Goals as goal

@@ -1,4 +1,4 @@
-use Rattle.std.proofs.Common.{◌≡◌, ◌≤◌, ◌+◌, ◌-◌, ◌∙◌, ap, sym, arith, take, drop, length, length-drop, length-take}
+use Rattle.std.proofs.Common.{◌≡◌, ◌+◌, ◌-◌, ◌∙◌, ap, sym, arith, take, drop, length-drop, length-take}
 use Rattle.std.proofs.lemmas.Bool.{eqb-true}
 use Rattle.oim_records.specs.state.Scans.{fresh, scanned}
 use Rattle.oim_records.proofs.Walks.{scan-kept, scanned-range}
