@@ -20,7 +20,7 @@ moved-small m b = or_lt 64 (shl 1 m) (cond b 1 0) (omega arith) (at b)
     at false = omega arith
 
 -- the bits of a mask of bytes
-marked : (p : ℕ → Bool) → p 0 ≡ false → (xs : List ℕ) (m k : ℕ) → m ≡ mask_l (map p xs) → is_set m k ≡ p (get_or xs k 0)
+pub marked : (p : ℕ → Bool) → p 0 ≡ false → (xs : List ℕ) (m k : ℕ) → m ≡ mask_l (map p xs) → is_set m k ≡ p (get_or xs k 0)
 marked p none xs m k is = ap (λ n. is_set n k) is ∙ set-mask_l (map p xs) k ∙ subst (λ d. get_or (map p xs) k d ≡ p (get_or xs k 0)) none (get_or-map p xs k 0)
 
 -- what is inside quotes

@@ -69,11 +69,12 @@ cut-at cut seen j (e ∷ es) low high = at e j (mask_l es) refl low high (λ i. 
     at e (suc j) (suc m) some low high rest = let half = halved e j (mask_l es) low high in rest j half.0 half.1 ∙ omega arith
 
 -- the scan behind a block in which no line ends outside quotes
-pub block-none : (s : Scan) (p : Place) (es : List Bool) → length es ≡ 64 → mask_l es ≡ 0
-    → ◌≡◌ {A = Scan} (record { place = p; seen = s.seen + 64; rows = s.rows; cut = s.cut; cut_rows = s.cut_rows }) (block_scanned s p es)
-block-none s p es long none =
-    let stands = no-end s.cut s.seen s.cut_rows s.rows (is_between s.place) es none in
-    rw (long, stands.0, stands.1, stands.2) refl
+pub block-none : (s : Scan) (p : Place) (es : List Bool) (ends rows : ℕ) → length es ≡ 64 → ends ≡ mask_l es → ends ≡ 0 → rows ≡ count_ones (mask_l (firsts (is_between s.place) es))
+    → ◌≡◌ {A = Scan} (record { place = p; seen = s.seen + 64; rows = s.rows + rows; cut = s.cut; cut_rows = s.cut_rows }) (block_scanned s p es)
+block-none s p es ends rows long is none counted =
+    let stands = no-end s.cut s.seen s.cut_rows s.rows (is_between s.place) es (sym is ∙ none) in
+    let all : rows_behind s.rows (is_between s.place) es ≡ s.rows + rows = rows-counted s.rows (is_between s.place) es ∙ ap (λ n. s.rows + n) (sym counted) in
+    rw (long, all, stands.1, stands.2) refl
 
 -- and behind one in which some do
 pub block-some : (s : Scan) (p : Place) (es : List Bool) (ends rows before : ℕ) → length es ≡ 64 → ends ≡ mask_l es → 0 < ends → ends < 2 ^ 64
