@@ -23,7 +23,7 @@ unfoldable pub line_ends : Bool → List ℕ → List Bool
 line_ends inside [] = []
 line_ends inside (c ∷ xs) = but (ends_line c) (differ inside (is_quote c)) ∷ line_ends (differ inside (is_quote c)) xs
 
--- which bytes are a quote that would ready quotes where none can
+-- which bytes are a quote that would open quotes where none can
 unfoldable pub strays : Bool → Bool → List ℕ → List Bool
 strays inside ready [] = []
 strays inside ready (c ∷ xs) = but (is_quote c && differ inside (is_quote c)) ready ∷ strays (differ inside (is_quote c)) (is_opener c) xs

@@ -1,4 +1,4 @@
-use Rattle.std.proofs.Common.{◌≡◌, ◌∙◌, ap, arith}
+use Rattle.std.proofs.Common.{◌∙◌, ap, arith}
 use Rattle.std.specs.Int.RustNames.{count_ones}
 use Rattle.oim_records.proofs.BlockCounts.{block-none, block-some}
 use Rattle.oim_records.proofs.blocks.pass_block.Goals as goal
