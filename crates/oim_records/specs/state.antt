@@ -2,6 +2,7 @@ pub mod Places
 pub mod Scans
 pub mod Runs
 pub mod Bits
+pub mod Blocks
 pub mod Bytes
 pub mod Fields
 pub mod Held
