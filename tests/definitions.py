@@ -20,9 +20,7 @@ from typing import NamedTuple, TypeVar
 
 CRATES = Path(__file__).resolve().parent.parent / "crates"
 # The crates that are judged by file, lowest first. Where none is left, the tuple is empty.
-MIXED: tuple[str, ...] = (
-    "oim_decode", "oim_places", "oim_explain", "oim_pieces", "oim_convert", "oim_run",
-)  # fmt: skip
+MIXED: tuple[str, ...] = ()  # fmt: skip
 
 IMPORT = re.compile(r"\buse (?:pub )?Rattle\.(\w+)\.specs\.(state\.)?(\w+)((?:\.\w+)*)(?:\.\{([^}]*)\}| as (\S+?))?;?$", re.M)
 HEAD = re.compile(r"(?:  )?(?:(?:abbrev|unfoldable) (?:pub )?|pub (data|record) )([\w']+)")

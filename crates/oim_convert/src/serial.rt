@@ -9,7 +9,8 @@ ghost use Rattle.oim_rows.specs.Streams.{table_stream};
 ghost use Rattle.oim_convert.specs.Answer.{streams};
 ghost use Rattle.oim_convert.specs.Files.{AreFilesOf};
 ghost use Rattle.oim_records.specs.Reads.{IsFileOf};
-ghost use Rattle.oim_convert.specs.Serial.{AreFew, Converts, HasBegun, IsOfTables, Leaves};
+ghost use Rattle.oim_convert.specs.Serial.{AreFew, Converts, IsOfTables, Leaves};
+ghost use Rattle.oim_convert.specs.state.Serial.{HasBegun};
 ghost use Rattle.oim_convert.specs.state.Steps.{Gave, GaveFile, ReadsTables, TookBlocks};
 ghost use Rattle.oim_convert.specs.declared.fault.ConvertFault.TheVariants as fault;
 

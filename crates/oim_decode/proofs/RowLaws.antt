@@ -16,8 +16,8 @@ use Rattle.oim_rows.specs.Streams.{OrNoMemory, Stream, IsOutside, fault_of_read,
 use Rattle.oim_rows.specs.state.Streams.{early_row_answer}
 use Rattle.oim_rows.proofs.StreamLaws.{gives_end, gives_fault, gives_row, outside}
 use Rattle.oim_rows.specs.declared.fault.TableFault.{TableFault}
-use Rattle.oim_decode.specs.Blocks.{AddsNone, AddsRow, CountsRow, TakesOne, has_row}
-use Rattle.oim_decode.specs.RowTexts.{AddsFacts, facts_in}
+use Rattle.oim_decode.specs.state.Blocks.{AddsNone, AddsRow, CountsRow, TakesOne, has_row}
+use Rattle.oim_decode.specs.state.RowTexts.{AddsFacts, facts_in}
 
 pub known : {A : Type 0} (o : Option A) → IfSome o (λ _. Unit {0})
 known None = tt
