@@ -22,7 +22,7 @@ Definitions of relations and records (`Type 0`, `data`, `record`) are left out: 
 the same meaning is a clause. A file whose cases fail in an unchanged copy can't be tried so, and is named.
 
 The crates below have to be proved with their work kept (`rt check` and `rt lib` in each), since it is copied. --only takes
-one file of specs/ by its name, --name one definition, --every N each Nth change (from the one at --begin, else the first),
+one file of specs/ by its name (`Reads`, or `state.Reads`), --name one definition, --every N each Nth change (from the one at --begin, else the first),
 --batch how many changes a run checks (40), --minutes for a run (10); --list lists the changes and checks nothing, --all
 prints what came of each. RT names another command for `rt`. The copy stands in TMPDIR and goes at the end. The status is 0
 where every change that is a definition showed, else 1. Python 3.9 or later.
@@ -231,7 +231,8 @@ class Copies:
         self.at = self.folder / "crates" / crate
         specs = TOP / "crates" / crate / "specs"
         found = [*sorted(specs.glob("*.antt")), *sorted((specs / "state").glob("*.antt"))]
-        self.files = {it.stem: str(it.relative_to(specs)) for it in found if it.stem not in ("Lib", "state")}
+        files = {".".join(it.relative_to(specs).with_suffix("").parts): str(it.relative_to(specs)) for it in found}
+        self.files = {name: file for name, file in files.items() if name not in ("Lib", "state")}
         self.specs = {it: (specs / file).read_text() for it, file in self.files.items()}
         self.cases = {it.stem: it.read_text() for it in sorted((TOP / "crates" / crate / "proofs").glob("Examples*.antt"))}
         self.root = "main" if (TOP / "crates" / crate / "src/main.rt").exists() else "lib"
@@ -269,12 +270,12 @@ class Copies:
 
     def names(self, text: str, file: str) -> re.Match[str] | None:
         """Where a text names a file of specs/, or None."""
-        return re.search(rf"\bRattle\.{self.crate}\.specs\.(?:state\.)?{file}\b", text)
+        return re.search(rf"\bRattle\.{self.crate}\.specs\.{re.escape(file)}\b", text)
 
     def renamed(self, text: str, mark: str, files: set[str]) -> str:
         """A text that names the copies of these files, under a mark, in their place."""
         for it in files:
-            text = re.sub(rf"\bRattle\.{self.crate}\.specs\.(?:state\.)?{it}\b", f"Rattle.{self.crate}.proofs.{mark}{it}", text)
+            text = re.sub(rf"\bRattle\.{self.crate}\.specs\.{re.escape(it)}\b", f"Rattle.{self.crate}.proofs.{mark}{it.replace('.', '')}", text)
         return text
 
     def write(self, cases: str, changes: list[Change]) -> None:
@@ -290,8 +291,9 @@ class Copies:
             files = self.needed(cases, change.file)
             for it in files:
                 text = with_imports(change.text) if it == change.file else self.specs[it]
-                (proofs / f"{mark}{it}.antt").write_text(self.renamed(text, mark, files))
-                names.append(f"{mark}{it}")
+                name = mark + it.replace(".", "")
+                (proofs / f"{name}.antt").write_text(self.renamed(text, mark, files))
+                names.append(name)
             text = self.renamed(self.cases[cases], mark, files)
             (proofs / f"{mark}{cases}.antt").write_text(MARK + text + "\npub shows : Shown\nshows = 0\n")
             names.append(f"{mark}{cases}")

@@ -26,7 +26,7 @@ use Rattle.oim_convert.specs.FaultNames.{name_of, number_of}
 use Rattle.oim_convert.specs.Histories.{AreUnserved, IsDecoded, IsStream}
 use Rattle.oim_convert.specs.Identifiers.{WriteOwnIds}
 use Rattle.oim_convert.specs.Runs.{AreStreams, IsCut, early_fault}
-use Rattle.oim_convert.specs.Tasks.{Gives, placed}
+use Rattle.oim_convert.specs.state.Tasks.{Gives, placed}
 use Rattle.oim_convert.specs.Serial.{AreBelow, Leaves}
 use Rattle.oim_convert.specs.declared.fault.ConvertFault.TheVariants as fault
 use Rattle.oim_convert.specs.declared.table_task.TableTask.{TableTask}

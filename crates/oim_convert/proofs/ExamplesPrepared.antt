@@ -12,7 +12,7 @@ use Rattle.oim_ring.specs.declared.item.Item.{Item}
 use Rattle.oim_ring.specs.declared.item.Item.TheVariants.{Ending}
 use Rattle.oim_rows.specs.declared.fault.TableFault.{TableFault}
 use Rattle.oim_crew.specs.Claims.{Claiming, Drawer, fresh}
-use Rattle.oim_convert.specs.Tasks.{IsLane, IsOpened}
+use Rattle.oim_convert.specs.state.Tasks.{IsLane, IsOpened}
 use Rattle.oim_convert.specs.Limits.{IsWorkerCount}
 use Rattle.oim_convert.specs.state.Preparing.{HasRun, IsReturnRoom}
 use Rattle.oim_convert.specs.Serial.{AreFew}

@@ -3,7 +3,8 @@ use Rattle.std.specs.Prelude.{◌≡◌, ℕ, zero, suc, List, [], ◌∷◌, �
 use Rattle.std.proofs.Common.{refl, ap, sym, ◌∙◌, append_assoc}
 use Rattle.std.proofs.lemmas.List.{map-append}
 use Rattle.oim_ring.specs.Ends.{DrainView}
-use Rattle.oim_convert.specs.Tasks.{Each, IsLane}
+use Rattle.oim_convert.specs.Tasks.{Each}
+use Rattle.oim_convert.specs.state.Tasks.{IsLane}
 use Rattle.oim_convert.specs.declared.table_task.TableTask.{TableTask}
 
 get_before : {X : Type 0} (xs : List X) (k : ℕ) (x y : X) → slice_get xs k ≡ Some x → slice_get (xs ++ y ∷ []) k ≡ Some x

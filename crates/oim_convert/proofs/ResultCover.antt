@@ -11,7 +11,7 @@ use Rattle.std.proofs.lemmas.List.Sums.{sum_by-cons}
 use Rattle.oim_report.specs.ReportValue.{ReportValue}
 use Rattle.oim_ring.specs.Ends.{ClosedView}
 use Rattle.oim_crew.specs.Claims.{Claiming, Drawer}
-use Rattle.oim_convert.specs.Tasks.{Gives, placed, tables_promised, results_of}
+use Rattle.oim_convert.specs.state.Tasks.{Gives, placed, tables_promised, results_of}
 use Rattle.oim_crew.specs.Numbers.{EachOnceBelow, once_below, times}
 use Rattle.oim_crew.specs.Shifts.{IsIdle, IsServed, IsShift}
 use Rattle.oim_convert.specs.declared.table_task.TableTask.{TableTask}

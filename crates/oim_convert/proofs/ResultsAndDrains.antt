@@ -10,7 +10,8 @@ use Rattle.oim_ring.specs.Items.{blocks_only, EndsOnce}
 use Rattle.oim_ring.specs.declared.item.Ending.{Ending}
 use Rattle.oim_ring.specs.declared.item.Item.{Item}
 use Rattle.oim_ring.specs.declared.item.Item.TheVariants as items
-use Rattle.oim_convert.specs.Tasks.{CanServe, Each, Fulfills, Gives, IsEnded, IsKept, IsLane, IsOpened}
+use Rattle.oim_convert.specs.Tasks.{Each, IsKept}
+use Rattle.oim_convert.specs.state.Tasks.{CanServe, Fulfills, Gives, IsEnded, IsLane, IsOpened}
 use Rattle.oim_crew.specs.Shifts.{CanServeAll, IsServed}
 use Rattle.oim_convert.specs.declared.table_task.TableTask.{TableTask}
 use Rattle.oim_convert.specs.declared.table_task.TaskResult.{TaskResult}

@@ -20,7 +20,8 @@ use Rattle.oim_convert.specs.Answer.{IsAnswer, ending_of, streams, streams_from}
 use Rattle.oim_convert.specs.Files.{AreFilesOf}
 use Rattle.oim_records.specs.Reads.{IsFileOf}
 use Rattle.oim_convert.specs.Histories.{AreDecoded, AreUnserved, IsDecoded, IsGiven, IsHistory, IsStream}
-use Rattle.oim_convert.specs.Tasks.{Each, EachClosedFeed, IsTable}
+use Rattle.oim_convert.specs.Tasks.{Each}
+use Rattle.oim_convert.specs.state.Tasks.{EachClosedFeed, IsTable}
 use Rattle.oim_convert.specs.state.Preparing.{HasTables}
 use Rattle.oim_convert.specs.Served.{AreServed, IsServed}
 use Rattle.oim_convert.specs.Runs.{AreHistories, AreStreams, AreThreaded, AreUncut, IsCut, IsOuter, IsRun, IsThreadless, Writes}

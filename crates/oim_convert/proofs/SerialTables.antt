@@ -4,7 +4,8 @@ use Rattle.std.proofs.Common.{refl, sym, ap, ◌∙◌, subst, append_assoc, app
 use mathlib.Core.List.{IsPrefix}
 use Rattle.oim_json.proofs.Members.{members_more}
 use Rattle.oim_json.proofs.Writes.{broke_before}
-use Rattle.oim_json.specs.Document.{has_any, members, more_members}
+use Rattle.oim_json.specs.Document.{members, more_members}
+use Rattle.oim_json.specs.state.Writing.{has_any}
 use Rattle.oim_json.specs.JsonText.{head_text}
 use Rattle.oim_json.specs.Sinks.{SinkView, Broke}
 use Rattle.oim_json.specs.declared.layout.Layout.{Layout}
@@ -12,7 +13,8 @@ use Rattle.oim_json.specs.declared.mark.WriteFault.{WriteFault}
 use Rattle.oim_merge.proofs.Writing.{all_refusals, blocks_refusals, given_more, given_nothing}
 use Rattle.oim_merge.specs.Histories.{all_of, document, facts_before, refusals, tail_for, unfinished}
 use Rattle.oim_merge.specs.Merging.{EndsWith}
-use Rattle.oim_merge.specs.Writers.{Continues, IsBroken, WriterView, given, whole_text}
+use Rattle.oim_merge.specs.Writers.{IsBroken, WriterView, given, whole_text}
+use Rattle.oim_merge.specs.state.Writers.{Continues}
 use Rattle.oim_merge.specs.declared.progress.MergeEnd.{MergeEnd}
 use Rattle.oim_merge.specs.declared.progress.MergeEnd.TheVariants as end
 use Rattle.oim_report.specs.ReportValue.{ReportValue}

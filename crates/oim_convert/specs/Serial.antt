@@ -36,17 +36,6 @@ Leaves old new (Err fault.BadWorkers) = ⊥
 Leaves old new (Err fault.BadSize) = ⊥
 Leaves old new (Err fault.Lost) = ⊥
 
--- the answer is one of a conversion that has begun to write
-abbrev pub HasBegun : Result (Unit {0}) ConvertFault → Type 0
-HasBegun (Ok u) = ⊤
-HasBegun (Err (fault.Tables faults)) = ⊤
-HasBegun (Err (fault.Write w)) = ⊤
-HasBegun (Err fault.WrongReaders) = ⊥
-HasBegun (Err fault.Memory) = ⊥
-HasBegun (Err fault.BadWorkers) = ⊥
-HasBegun (Err fault.BadSize) = ⊥
-HasBegun (Err fault.Lost) = ⊥
-
 -- each fault is of a table with a number below this one
 abbrev pub AreBelow : ℕ → List TableFault → Type 0
 AreBelow tables [] = ⊤

@@ -1,7 +1,8 @@
 //! A place for the token of each table, with which its drain is settled.
 
 ghost use Rattle.std.specs.Prelude.{◌≡◌, ◌≤◌, [], None, length, map, All, Contains, IfNone, IfSome, slice_set, vec_len, vec_capacity};
-ghost use Rattle.oim_convert.specs.Tasks.{AreTables, Each, EachClosedFeed, Fulfills, Gives, IsEnded, placed, results_of};
+ghost use Rattle.oim_convert.specs.Tasks.{Each};
+ghost use Rattle.oim_convert.specs.state.Tasks.{AreTables, EachClosedFeed, Fulfills, Gives, IsEnded, placed, results_of};
 ghost use Rattle.oim_crew.specs.Shifts.{IsShift};
 
 use crate::table_task::{TableTask, TaskResult};
@@ -97,7 +98,8 @@ pub(crate) fn settle_all<R: Read>(
     requires settled { settled.items ≡ [] }
     requires room { vec_len drains ≤ vec_capacity settled }
     ensures taken { IfSome result (λ all. all.items ≡ map (λ d. d.taken) drains.items) }
-    ensures tables { IfSome result (λ all. AreTables R.remaining terms.now.report.now terms.now.limits.rows terms.now.served terms.now.claims.now.items all.items) }
+    ensures tables { IfSome result (λ all.
+        AreTables R.remaining terms.now.report.now terms.now.limits.rows terms.now.served terms.now.claims.now.items all.items) }
     ensures lost { IfNone result (Contains closed_feeds.old None) }
 {
     let _ = terms;

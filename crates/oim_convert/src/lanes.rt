@@ -1,7 +1,8 @@
 //! One ring for each table.
 
 ghost use Rattle.std.specs.Prelude.{◌≡◌, ◌≤◌, All, length, IfOk, map};
-ghost use Rattle.oim_convert.specs.Tasks.{Each, IsLane, IsOpened};
+ghost use Rattle.oim_convert.specs.Tasks.{Each};
+ghost use Rattle.oim_convert.specs.state.Tasks.{IsLane, IsOpened};
 ghost use Rattle.oim_ring.specs.Limits.{IsRingSize};
 
 use crate::table_task::TableTask;

@@ -2,7 +2,8 @@
 //! claims, and the room that is kept for it.
 
 ghost use Rattle.std.specs.Prelude.{◌≡◌, length, map, All, IfNone, IfOk, IfSome, vec_len};
-ghost use Rattle.oim_convert.specs.Tasks.{AreTables, Each, Gives, IsEnded, IsLostIn, tables_promised};
+ghost use Rattle.oim_convert.specs.Tasks.{Each};
+ghost use Rattle.oim_convert.specs.state.Tasks.{AreTables, Gives, IsEnded, IsLostIn, tables_promised};
 ghost use Rattle.oim_crew.specs.Numbers.{EachOnceBelow};
 ghost use Rattle.oim_convert.specs.state.Preparing.{IsReturnRoom};
 ghost use Rattle.oim_crew.specs.Shifts.{IsShift};

@@ -1,7 +1,7 @@
 //! The scope of threads in which workers decode tables while the caller's thread merges.
 
 ghost use Rattle.std.specs.Prelude.{◌≡◌, false, true, All, length, vec_len};
-ghost use Rattle.oim_convert.specs.Tasks.{CanServe, Gives};
+ghost use Rattle.oim_convert.specs.state.Tasks.{CanServe, Gives};
 ghost use Rattle.oim_crew.specs.Shifts.{CanServeAll, IsCrew, IsShift};
 ghost use Rattle.oim_convert.specs.state.Working.{CanMerge, CanWork, HasWorked, IsMerged};
 

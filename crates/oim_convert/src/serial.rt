@@ -3,12 +3,14 @@
 ghost use Rattle.std.specs.Prelude.{◌≡◌, ◌≢◌, ◌↔◌, ◌≤◌, ◌<◌, ℕ, List, [], Option, Err, IfErr, IfSome, OnOk, length, vec_capacity};
 ghost use Rattle.oim_json.specs.JsonText.{head_text};
 ghost use Rattle.oim_merge.specs.Histories.{refusals};
-ghost use Rattle.oim_merge.specs.Writers.{Continues, IsBroken};
+ghost use Rattle.oim_merge.specs.Writers.{IsBroken};
+ghost use Rattle.oim_merge.specs.state.Writers.{Continues};
 ghost use Rattle.oim_rows.specs.Streams.{table_stream};
 ghost use Rattle.oim_convert.specs.Answer.{streams};
 ghost use Rattle.oim_convert.specs.Files.{AreFilesOf};
 ghost use Rattle.oim_records.specs.Reads.{IsFileOf};
-ghost use Rattle.oim_convert.specs.Serial.{AreFew, Converts, HasBegun, IsOfTables, Leaves};
+ghost use Rattle.oim_convert.specs.Serial.{AreFew, Converts, IsOfTables, Leaves};
+ghost use Rattle.oim_convert.specs.state.Serial.{HasBegun};
 ghost use Rattle.oim_convert.specs.state.Steps.{Gave, GaveFile, ReadsTables, TookBlocks};
 ghost use Rattle.oim_convert.specs.declared.fault.ConvertFault.TheVariants as fault;
 

@@ -25,7 +25,7 @@ pub(crate) struct Serving {
 }
 
 impl<R: Read + Drop, T: Threads + Wait> Serve<TableTask<R>, TaskResult, T, Report> for Serving {
-    ghost use Rattle.oim_convert.specs.Tasks.{CanServe, gives_of};
+    ghost use Rattle.oim_convert.specs.state.Tasks.{CanServe, gives_of};
 
     ghost can_serve = { λ s report. CanServe report s.limits.rows };
 

@@ -1,6 +1,6 @@
 -- What workers begin with, and what they hand back.
 use Rattle.std.specs.Prelude.{◌≡◌, ◌≤◌, ◌+◌, ℕ, All, Bool, true, List, [], cond, slice_get, length, MatchBool, Some, vec_len, vec_capacity, false}
-use Rattle.std.specs.List.{AllZip, list_all}
+use Rattle.std.specs.List.{AllZip}
 use Rattle.std.specs.declared.thread.PromisedHandle.{PromisedHandle}
 use Rattle.oim_crew.specs.Claims.{Claiming, Drawer, fresh}
 use Rattle.oim_crew.specs.declared.crew.Crew.{Crew}
@@ -40,10 +40,6 @@ module _ {V O : Type 0} where
   -- the workers that were started have promised shifts by this server, and the others have handed theirs back
   abbrev pub IsUnderWay : {S T C : Type 0} → (S → C → ℕ → V → O → Type 0) → S → C → Claiming V → List (PromisedHandle (Shift V O) (ShiftOf V S T C)) → List (Shift V O) → Type 0
   IsUnderWay gives server shared claims started shifts = All (IsStarted server shared claims) started × All (IsShift (gives server shared) claims) shifts
-
-  -- no worker was started, and all were stopped before they drew
-  abbrev pub IsAlone : {S T C : Type 0} → List (PromisedHandle (Shift V O) (ShiftOf V S T C)) → List (Shift V O) → Type 0
-  IsAlone started shifts = (started ≡ []) × (list_all (λ (shift : Shift V O). shift.stopped) shifts ≡ true)
 
   -- a station for each worker, room for all of them, and none was started yet
   pub record ArePosts {S T C : Type 0} (claims : Claiming V) (posts : Posts V O S T C) : Type 0 where

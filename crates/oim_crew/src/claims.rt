@@ -23,7 +23,8 @@ pub struct Claims<V> {
 
 impl<V> Model for Claims<V> {
     ghost use Rattle.std.specs.Prelude.{◌≡◌, length};
-    ghost use Rattle.oim_crew.specs.Claims.{Claiming, claiming_coded};
+    ghost use Rattle.oim_crew.specs.Claims.{Claiming};
+    ghost use Rattle.oim_crew.specs.state.Claims.{claiming_coded};
 
     ghost Value = { Claiming V };
 

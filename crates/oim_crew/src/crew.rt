@@ -3,7 +3,8 @@
 ghost use Rattle.std.specs.Prelude.{◌≡◌, ◌≤◌, ◌<◌, ◌+◌, ◌^◌, [], false, All, IfOk, cond, length, replicate, vec_len, vec_capacity};
 ghost use Rattle.std.specs.List.{list_all};
 ghost use Rattle.oim_crew.specs.Claims.{fresh};
-ghost use Rattle.oim_crew.specs.Shifts.{ArePosts, AreUnderWay, CanServeAll, IsAlone, IsCrew, IsShift, IsStation, IsUnderWay, serving};
+ghost use Rattle.oim_crew.specs.Shifts.{ArePosts, AreUnderWay, CanServeAll, IsCrew, IsShift, IsStation, IsUnderWay, serving};
+ghost use Rattle.oim_crew.specs.state.Shifts.{IsAlone};
 
 use crate::claims::Claims;
 use crate::seat::Seat;

@@ -16,7 +16,8 @@ pub struct Seat<V> {
 
 impl<V> Model for Seat<V> {
     ghost use Rattle.std.specs.Prelude.{◌≡◌, cond};
-    ghost use Rattle.oim_crew.specs.Claims.{Drawer, drawer_coded};
+    ghost use Rattle.oim_crew.specs.Claims.{Drawer};
+    ghost use Rattle.oim_crew.specs.state.Claims.{drawer_coded};
 
     ghost Value = { Drawer V };
 

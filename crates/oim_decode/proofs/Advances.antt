@@ -8,7 +8,8 @@ use Rattle.oim_rows.specs.Header.{file_fault}
 use Rattle.oim_rows.specs.Streams.{GivesNext, IsOutside, Stream, ending, facts_of_rows}
 use Rattle.oim_rows.specs.declared.fault.TableFault.{TableFault}
 use Rattle.oim_rows.specs.declared.fault.TableKind.TheVariants as kind
-use Rattle.oim_decode.specs.Blocks.{AddsRow, GivesBlock, HasRead, IsBehind, ReadsRows, TakesOne}
+use Rattle.oim_decode.specs.Blocks.{GivesBlock, IsBehind, ReadsRows}
+use Rattle.oim_decode.specs.state.Blocks.{AddsRow, HasRead, TakesOne}
 
 pub none_read : (table : ℕ) (left : Option Stream) (before : List Fact) → IfSome left (λ s. HasRead table s before before left)
 none_read table None before = tt

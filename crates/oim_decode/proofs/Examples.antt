@@ -13,9 +13,11 @@ use Rattle.oim_rows.specs.Header.{fault_at, file_fault}
 use Rattle.oim_rows.specs.Streams.{ending}
 use Rattle.oim_rows.specs.declared.fault.TableFault.{TableFault}
 use Rattle.oim_rows.specs.declared.fault.TableKind.TheVariants as kind
-use Rattle.oim_decode.specs.RowTexts.{AddsFacts, facts_in}
-use Rattle.oim_decode.specs.Blocks.{AddsNone, AnswersFacts, CountsRow, GivesFound, IsBehind, LeavesNone, ReadsRows, TakesOne, has_row, left_of, turns_left}
-use Rattle.oim_decode.specs.Heads.{header_in, mark, table_header_in}
+use Rattle.oim_decode.specs.state.RowTexts.{AddsFacts, facts_in}
+use Rattle.oim_decode.specs.Blocks.{AnswersFacts, GivesFound, IsBehind, LeavesNone, ReadsRows}
+use Rattle.oim_decode.specs.state.Blocks.{AddsNone, CountsRow, TakesOne, has_row, left_of, turns_left}
+use Rattle.oim_decode.specs.Heads.{header_in, table_header_in}
+use Rattle.oim_decode.specs.state.Heads.{mark}
 
 abbrev a : Fact
 a = record { id = codes "a"; value = None; decimals = None; dimensions = [] }

@@ -17,7 +17,8 @@ use Rattle.oim_resolve.specs.FactParts.{FactParts as Fact}
 use Rattle.oim_resolve.specs.declared.fact.CellFault.TheVariants as cell
 use Rattle.oim_decode.specs.Apart.{Apart, apart_from, apart_row, cut_at, id_in, joined, repeated_from, repeated_id}
 use Rattle.oim_rows.specs.Header.{fault_at, file_fault}
-use Rattle.oim_decode.specs.PieceAnswers.{AddsApart, AddsRowFacts, EndsRows, IsJoined, StepsRow, TakesRow, apart_then, left_behind, no_rows, refused}
+use Rattle.oim_decode.specs.PieceAnswers.{IsJoined, apart_then, left_behind, refused}
+use Rattle.oim_decode.specs.state.PieceAnswers.{AddsApart, AddsRowFacts, EndsRows, StepsRow, TakesRow, no_rows}
 use Rattle.oim_decode.specs.state.RowEnds.{counts_from, stretches}
 use Rattle.oim_decode.specs.Pieces.{AreCut, EndsBetween, behind, pieces_from, records_of, stream_then}
 use Rattle.oim_rows.specs.RowFacts.{TableHeaderValue}

@@ -15,7 +15,8 @@ use Rattle.oim_rows.specs.RowFacts.{TableHeaderValue}
 use Rattle.oim_rows.specs.Streams.{IsOutside, TakesHeader}
 use Rattle.oim_rows.specs.declared.fault.TableFault.{TableFault}
 use Rattle.oim_decode.specs.Apart.{Apart, apart_from}
-use Rattle.oim_decode.specs.Heads.{mark, table_header_in}
+use Rattle.oim_decode.specs.Heads.{table_header_in}
+use Rattle.oim_decode.specs.state.Heads.{mark}
 use Rattle.oim_decode.specs.PieceAnswers.{IsDecoded, refused}
 
 -- BYTES

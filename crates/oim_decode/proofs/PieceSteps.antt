@@ -11,7 +11,8 @@ use Rattle.oim_rows.specs.RowFacts.{TableHeaderValue, facts_from, id_fault, id_p
 use Rattle.oim_rows.specs.declared.fault.TableFault.{TableFault}
 use Rattle.oim_rows.specs.declared.fault.TableKind.TheVariants as kind
 use Rattle.oim_decode.specs.Apart.{Apart, apart_from, apart_row, id_in}
-use Rattle.oim_decode.specs.PieceAnswers.{AddsApart, EndsRows, IsDecoded, PieceLeft, StepsRow, TakesRow, apart_then, cells_apart, no_rows, refused}
+use Rattle.oim_decode.specs.PieceAnswers.{IsDecoded, PieceLeft, apart_then, refused}
+use Rattle.oim_decode.specs.state.PieceAnswers.{AddsApart, EndsRows, StepsRow, TakesRow, cells_apart, no_rows}
 
 abbrev pub answer : List (List Fact) → List Field → Option TableFault → Apart
 answer rows ids fault = record { rows = rows; ids = ids; fault = fault }

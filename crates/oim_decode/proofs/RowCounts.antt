@@ -11,9 +11,10 @@ use Rattle.oim_rows.specs.Streams.{OrNoMemory, facts_of_rows}
 use Rattle.oim_rows.specs.declared.fault.TableFault.{TableFault}
 use Rattle.oim_rows.specs.declared.fault.TableKind.TheVariants as kind
 use Rattle.oim_decode.specs.Apart.{Apart, apart_row, id_in}
-use Rattle.oim_decode.specs.PieceAnswers.{AddsRowFacts, apart_then, cells_apart, no_rows, refused}
+use Rattle.oim_decode.specs.PieceAnswers.{apart_then, refused}
+use Rattle.oim_decode.specs.state.PieceAnswers.{AddsRowFacts, cells_apart, no_rows}
 use Rattle.oim_decode.specs.state.RowEnds.{counts_from, stretches}
-use Rattle.oim_decode.specs.RowTexts.{AddsFacts, facts_in}
+use Rattle.oim_decode.specs.state.RowTexts.{AddsFacts, facts_in}
 use Rattle.oim_decode.proofs.PieceSteps.{answer, then_fault}
 
 -- the facts of one row more

@@ -6,16 +6,18 @@ use Rattle.oim_records.specs.declared.read_fault.ReadFault.{ReadFault}
 use Rattle.oim_resolve.specs.FactParts.{FactParts as Fact}
 use Rattle.oim_fast.specs.Facts.{facts_of_row}
 use Rattle.oim_row.specs.Rows.{RowValue}
-use Rattle.oim_rows.specs.RowFacts.{IsNewId, IsTextRecord, field_or_empty, TableHeaderValue, checked, facts_from, id_fault, id_place_of, ids_after, is_not_text, limit_fault, ragged_fault, row_fault, row_of, row_result, text_fault}
+use Rattle.oim_rows.specs.RowFacts.{IsTextRecord, field_or_empty, TableHeaderValue, checked, facts_from, id_fault, id_place_of, ids_after, is_not_text, limit_fault, ragged_fault, row_fault, row_of, row_result, text_fault}
+use Rattle.oim_rows.specs.state.RowFacts.{IsNewId}
 use Rattle.oim_rows.specs.Header.{fault_at, or_else}
 use Rattle.oim_rows.specs.declared.fault.TableKind.TheVariants as kind
 use Rattle.std.specs.List.{list_any, position_from}
 use Rattle.std.specs.Str.{bytes_eq}
-use Rattle.oim_rows.specs.Streams.{OrNoMemory, Stream, IsOutside, early_row_answer, fault_of_read, stream_from}
+use Rattle.oim_rows.specs.Streams.{OrNoMemory, Stream, IsOutside, fault_of_read, stream_from}
+use Rattle.oim_rows.specs.state.Streams.{early_row_answer}
 use Rattle.oim_rows.proofs.StreamLaws.{gives_end, gives_fault, gives_row, outside}
 use Rattle.oim_rows.specs.declared.fault.TableFault.{TableFault}
-use Rattle.oim_decode.specs.Blocks.{AddsNone, AddsRow, CountsRow, TakesOne, has_row}
-use Rattle.oim_decode.specs.RowTexts.{AddsFacts, facts_in}
+use Rattle.oim_decode.specs.state.Blocks.{AddsNone, AddsRow, CountsRow, TakesOne, has_row}
+use Rattle.oim_decode.specs.state.RowTexts.{AddsFacts, facts_in}
 
 pub known : {A : Type 0} (o : Option A) → IfSome o (λ _. Unit {0})
 known None = tt

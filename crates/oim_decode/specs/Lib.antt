@@ -1,4 +1,3 @@
-pub mod RowTexts
 pub mod Blocks
 pub mod Laws
 pub mod Apart

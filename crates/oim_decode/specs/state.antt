@@ -1,1 +1,5 @@
 pub mod RowEnds
+pub mod Blocks
+pub mod Heads
+pub mod PieceAnswers
+pub mod RowTexts

@@ -18,7 +18,8 @@ use Rattle.oim_entries.specs.FaultNames.{fault_number, fault_name}
 use Rattle.oim_records.specs.Grids.{Record, grid, records_left}
 use Rattle.oim_entries.specs.ParametersFile.{parameters_file, parameters_result}
 use Rattle.oim_names.specs.Lookup.{value_at}
-use Rattle.oim_entries.specs.TypeWords.{Words, plain_words, wider_words, words_chosen, words_in}
+use Rattle.oim_entries.specs.TypeWords.{Words, plain_words, wider_words, words_chosen}
+use Rattle.oim_entries.specs.state.Held.{words_in}
 use Rattle.oim_entries.specs.TypesFile.{types_file, types_result}
 use Rattle.oim_report.specs.Named.{value_under}
 use Rattle.oim_report.specs.Types.{kind_in}

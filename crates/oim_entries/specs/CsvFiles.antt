@@ -1,6 +1,5 @@
 -- A CSV file (RFC 4180) of entries: a header record, and then a record for each entry.
 use Rattle.std.specs.Prelude.{ℕ, ◌+◌, ◌≡◌, ◌⊎◌, List, [], ◌∷◌, ◌&&◌, Option, Some, None, Result, Ok, Err, if◌then◌else◌, nat_le}
-use Rattle.std.specs.Borrow.{Bor}
 use Rattle.std.specs.Option.{ok_or, option_and_then, option_map_or}
 use Rattle.std.specs.Str.{is_utf8}
 use Rattle.csv.specs.Records.{field_at}
@@ -26,13 +25,6 @@ two_texts r = None
 abbrev pub three_texts : Record → Option (Field × Field × Field)
 three_texts (a ∷ b ∷ c ∷ []) = if is_utf8 a && is_utf8 b && is_utf8 c then Some (a, b, c) else None
 three_texts r = None
-
--- the bytes of texts, as a program holds them
-abbrev pub seen_two : Bor (List ℕ) × Bor (List ℕ) → Field × Field
-seen_two p = (p.0.now, p.1.now)
-
-abbrev pub seen_three : Bor (List ℕ) × Bor (List ℕ) × Bor (List ℕ) → Field × Field × Field
-seen_three p = (p.0.now, p.1.now, p.2.now)
 
 -- how a file of entries is read: the most entries that it may have, the fault of a bad record, the value before the
 -- first entry, and the value after one more record, if that record is good

@@ -4,3 +4,4 @@ pub mod CsvFiles
 pub mod ParametersFile
 pub mod WholeFile
 pub mod FaultNames
+pub mod state

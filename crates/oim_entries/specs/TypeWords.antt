@@ -8,8 +8,6 @@ use Rattle.oim_entries.specs.CsvFiles.{three_texts}
 use Rattle.oim_records.specs.Grids.{Field, Record}
 use Rattle.oim_report.specs.declared.kind.Kind.{Kind}
 use Rattle.oim_report.specs.declared.kind.Kind.TheVariants as kind
-use Rattle.oim_entries.specs.declared.type_words.TypeWords.{TypeWords}
-use Rattle.oim_entries.specs.declared.type_words.TypeWords.TheVariants.{Plain, Wider}
 
 -- a table of words
 abbrev pub Words : Type 0
@@ -46,8 +44,3 @@ words_named p = if bytes_eq p.0 (codes "namespace") && bytes_eq p.1 (codes "name
 -- the table of words that a header chooses
 abbrev pub words_chosen : Record → Option Words
 words_chosen header = option_and_then words_named (three_texts header)
-
--- the same tables, as a program names them
-abbrev pub words_in : TypeWords → Words
-words_in Plain = plain_words
-words_in Wider = wider_words

@@ -3,7 +3,8 @@
 ghost use Rattle.std.specs.Prelude.{◌≡◌};
 ghost use Rattle.std.specs.Option.{option_map};
 ghost use Rattle.csv.specs.Records.{fields_of};
-ghost use Rattle.oim_entries.specs.CsvFiles.{seen_three, seen_two, text_field, three_texts, two_texts};
+ghost use Rattle.oim_entries.specs.CsvFiles.{text_field, three_texts, two_texts};
+ghost use Rattle.oim_entries.specs.state.Held.{seen_three, seen_two};
 
 use csv::ByteRecord;
 

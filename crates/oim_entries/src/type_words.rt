@@ -4,7 +4,8 @@ ghost use Rattle.std.specs.Prelude.{◌≡◌};
 ghost use Rattle.std.specs.Option.{option_map};
 ghost use Rattle.csv.specs.Records.{fields_of};
 ghost use Rattle.oim_names.specs.Lookup.{value_at};
-ghost use Rattle.oim_entries.specs.TypeWords.{plain_words, tables_of_words, wider_words, words_chosen, words_in};
+ghost use Rattle.oim_entries.specs.TypeWords.{plain_words, tables_of_words, wider_words, words_chosen};
+ghost use Rattle.oim_entries.specs.state.Held.{words_in};
 
 use crate::fields::texts_of_three;
 use csv::ByteRecord;

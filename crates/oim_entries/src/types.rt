@@ -20,7 +20,7 @@ const MOST_TYPES: usize = 1_048_576;
 
 impl Entries for TypeWords {
     ghost use Rattle.std.specs.Prelude.{refl};
-    ghost use Rattle.oim_entries.specs.TypeWords.{words_in};
+    ghost use Rattle.oim_entries.specs.state.Held.{words_in};
     ghost use Rattle.oim_entries.specs.TypesFile.{types_chosen, types_file};
     ghost use Rattle.oim_entries.specs.declared.fault.MetaFault.TheVariants.{BadTypes};
 

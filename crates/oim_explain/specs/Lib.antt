@@ -1,2 +1,3 @@
 pub mod Explanations
 pub mod TablePlaces
+pub mod state

@@ -14,10 +14,6 @@ use Rattle.oim_explain.specs.declared.explanation.Explanation.{Explanation}
 abbrev pub NamesPlace : List ℕ → TableFault → List ℕ → List ℕ → Type 0
 NamesPlace path f bytes text = (line : Option ℕ) × IfSome line (λ n. line_of_record f.row bytes ≡ Some n) × (text ≡ place_text path line (column_place f.column))
 
--- the same where these files are known, and the one at the path is among them
-abbrev pub NamesPlaceIn : Option Files → List ℕ → TableFault → List ℕ → Type 0
-NamesPlaceIn known path f text = IfSome known (λ files. IfSome (files path) (λ bytes. NamesPlace path f bytes text))
-
 -- the explanation is of the file at this path as a whole, or its place is that of the fault in the file, which has it there, its first
 abbrev pub ExplainsAt : Files → List ℕ → ReportValue → TableFault → Explanation → Type 0
 ExplainsAt files path report f e = (e.place ≡ shown path) ⊎ ((is_of_file f.kind ≡ false) × FoundIn files path (λ bytes. (fault_in report f.table bytes ≡ Some f) × NamesPlace path f bytes e.place))

@@ -1,7 +1,8 @@
 //! The explanation of a table's fault.
 
 ghost use Rattle.std.specs.Prelude.{◌<◌, IfOk, IfSome, length, string_bytes};
-ghost use Rattle.oim_explain.specs.TablePlaces.{ExplainsAt, ExplainsTable, NamesPlaceIn, SaysOfTable};
+ghost use Rattle.oim_explain.specs.TablePlaces.{ExplainsAt, ExplainsTable, SaysOfTable};
+ghost use Rattle.oim_explain.specs.state.TablePlaces.{NamesPlaceIn};
 
 use crate::explanation::{Explanation, explanation_text};
 use crate::files::{changed, of_file};

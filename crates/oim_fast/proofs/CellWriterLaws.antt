@@ -5,7 +5,7 @@ use Rattle.std.specs.Prelude.{if◌then◌else◌}
 use Rattle.std.proofs.lemmas.List.{get_or-map, length-map}
 use Rattle.std.proofs.lemmas.Option.{slice_get_within}
 use Rattle.oim_cells.specs.Cells.{Meaning, meaning_of}
-use Rattle.oim_json.specs.JsonText.{is_unescaped}
+use Rattle.oim_json.specs.state.Writing.{is_unescaped}
 use Rattle.oim_report.specs.ReportValue.{ReportValue}
 use Rattle.oim_report.specs.declared.data.Level.{Level}
 use Rattle.oim_report.specs.declared.data.WrittenDecimals.{WrittenDecimals}
@@ -18,7 +18,7 @@ use Rattle.oim_fast.specs.state.CellValues.{IsValue}
 use Rattle.oim_fast.specs.state.CellWriters.{IsCellWriter, IsInRow, PutsCell, PutsSaid, column_at}
 use Rattle.oim_fast.specs.state.Columns.{AreFactColumns, IsFactColumn}
 use Rattle.oim_fast.specs.state.FactTexts.{AddsFact, IsOfReferences, IsWithin, PutsFact, object_text, value_of}
-use Rattle.oim_fast.specs.Facts.{WritesFact, fact_text, start_text}
+use Rattle.oim_fast.specs.state.Facts.{WritesFact, fact_text, start_text}
 use Rattle.oim_resolve.specs.FactParts.{FactParts as Fact}
 use mathlib.Core.List.{IsPrefix}
 use Rattle.oim_fast.specs.declared.table.cell_writer.CellWriter.{CellWriter}
@@ -28,7 +28,8 @@ use Rattle.oim_fast.specs.state.Frames.{AreFrameDecimals, IsTextOf, no_dimension
 use Rattle.oim_fast.specs.state.KeptFrames.{IsTextFor}
 use Rattle.oim_fast.specs.state.Parts.{IsPart, IsPartValue}
 use Rattle.oim_row.specs.References.{IsFresh, Key, ReferenceValue, key_of}
-use Rattle.oim_row.specs.Rows.{RowValue, cell_in, column_in}
+use Rattle.oim_row.specs.Rows.{RowValue, column_in}
+use Rattle.oim_row.specs.state.Rows.{cell_in}
 use Rattle.oim_fast.specs.declared.frame.fact_column.FactColumn.{FactColumn}
 use Rattle.oim_fast.specs.declared.frame.frame_decimals.FrameDecimals.{FrameDecimals}
 use Rattle.oim_fast.specs.declared.frame.frame_decimals.FrameDecimals.TheVariants as decimals
@@ -105,8 +106,8 @@ module _ (x : RowValue) (cells : List GroupCell) (c : FactColumn) (rs : List Ref
   adds_fact : AddsFact rs t v start old new → WritesFact (cell_result (cell_in x c.column)) old new
   adds_fact adds =
       let here = cell_in x c.column in
-      let levels_is : IsTextOf x.header (map key_of rs) (levels here) (Rattle.oim_fast.specs.Facts.column_lead x.header c.column) t =
-      subst (λ (ls : List Level). IsTextOf x.header (map key_of rs) ls (Rattle.oim_fast.specs.Facts.column_lead x.header c.column) t) (sym (levels_are x c.column text.choices column.from text.chosen)) text.text in
+      let levels_is : IsTextOf x.header (map key_of rs) (levels here) (Rattle.oim_fast.specs.state.Facts.column_lead x.header c.column) t =
+      subst (λ (ls : List Level). IsTextOf x.header (map key_of rs) ls (Rattle.oim_fast.specs.state.Facts.column_lead x.header c.column) t) (sym (levels_are x c.column text.choices column.from text.chosen)) text.text in
       record {
         fact = Some (fact_of here);
         is = fact_given x c.column few rs fresh t v levels_is text.concept value adds.dimensions adds.decimals value.known (chosen_sound x c.column (column_in x.header c.column).from text.choices column.from text.chosen);

@@ -6,7 +6,7 @@ use Rattle.oim_json.specs.JsonText.{decimals_text, value_text}
 use Rattle.oim_report.specs.declared.kind.Kind.{Kind}
 use Rattle.oim_report.specs.declared.kind.Kind.TheVariants as kind
 use Rattle.oim_fast.specs.state.FactTexts.{are_sound_decimals, cut, object_text, opening_decimals}
-use Rattle.oim_fast.specs.Facts.{fact_text}
+use Rattle.oim_fast.specs.state.Facts.{fact_text}
 use Rattle.oim_fast.specs.state.FrameTexts.{FrameValue}
 use Rattle.oim_fast.specs.declared.frame.frame_decimals.FrameDecimals.{FrameDecimals}
 use Rattle.oim_fast.specs.declared.frame.frame_decimals.FrameDecimals.TheVariants as decimals

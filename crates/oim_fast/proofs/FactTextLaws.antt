@@ -13,7 +13,8 @@ use Rattle.oim_resolve.specs.Facts.{is_numeric, places}
 use Rattle.oim_fast.specs.state.FactTexts.{TriesFact, WritesObject, WritesOpening, are_settled, are_sound_decimals, cut, fact_room, frame_decimals, frame_length, has_decimals, has_settled, opening_decimals, value_of}
 use Rattle.oim_fast.specs.state.FrameTexts.{AreRuns, FrameValue, IsLaidOut, Segment, dimensions_start, frame_dimensions, rest_from, segment_text, segments_from}
 use Rattle.oim_fast.specs.state.Pieces.{behind}
-use Rattle.oim_text.specs.Places.{Placed, Stays}
+use Rattle.oim_text.specs.Places.{Placed}
+use Rattle.oim_text.specs.state.Rooms.{Stays}
 use Rattle.oim_row.specs.References.{ReferenceValue}
 use Rattle.oim_fast.specs.state.GivenTexts.{given_by, is_sound_by}
 use Rattle.oim_fast.specs.state.Writing.{WritesRuns}

@@ -17,14 +17,15 @@ use Rattle.oim_resolve.specs.Written.{levels, names, written_decimals}
 use Rattle.oim_resolve.specs.declared.fact.CellFault.{CellFault}
 use Rattle.oim_fast.specs.state.CellValues.{IsValue}
 use Rattle.oim_fast.specs.state.FactTexts.{are_sound_decimals, cut, frame_decimals, has_decimals, object_text, opening_decimals, value_of}
-use Rattle.oim_fast.specs.Facts.{column_lead, fact_text, start_text}
+use Rattle.oim_fast.specs.state.Facts.{column_lead, fact_text, start_text}
 use Rattle.oim_fast.specs.state.FrameTexts.{FrameValue, Segment, dimensions_start, frame_dimensions}
 use Rattle.oim_fast.specs.state.Frames.{IsTextOf, no_dimensions}
 use Rattle.oim_fast.specs.state.Pieces.{AreSound, written_pieces}
-use Rattle.oim_resolve.specs.ProgramLevels.{written_entries}
+use Rattle.oim_resolve.specs.state.ProgramLevels.{written_entries}
 use Rattle.oim_row.specs.References.{IsFresh, ReferenceValue, key_of}
 use Rattle.oim_fast.specs.state.GivenTexts.{given_by, is_sound_by}
-use Rattle.oim_row.specs.Rows.{RowValue, cell_in, column_in, row_in}
+use Rattle.oim_row.specs.Rows.{RowValue, column_in, row_in}
+use Rattle.oim_row.specs.state.Rows.{cell_in}
 use Rattle.oim_fast.specs.declared.frame.value.Value.{Value}
 use Rattle.oim_fast.proofs.FrameLaws.{parts_added}
 use Rattle.oim_fast.proofs.MemberLaws.{pieces_cut, written_pieces_are}

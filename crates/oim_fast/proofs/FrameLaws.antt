@@ -22,7 +22,8 @@ use Rattle.oim_fast.specs.state.Parts.{IsPart, IsPartValue}
 use Rattle.oim_fast.specs.state.Pieces.{behind, dimension_piece, name_text, written_pieces}
 use Rattle.oim_row.specs.References.{IsFresh, Key, ReferenceValue, key_of}
 use Rattle.oim_fast.specs.state.GivenTexts.{given_by}
-use Rattle.oim_row.specs.Rows.{RowValue, cell_in, column_in, columns_in}
+use Rattle.oim_row.specs.Rows.{RowValue, column_in, columns_in}
+use Rattle.oim_row.specs.state.Rows.{cell_in}
 use Rattle.oim_fast.specs.declared.frame.part.Part.{Part}
 use Rattle.oim_fast.specs.declared.frame.part.PartValue.{PartValue}
 use Rattle.oim_fast.specs.declared.frame.part.PartValue.TheVariants as part

@@ -15,8 +15,10 @@ use Rattle.oim_rows.specs.RowFacts.{at_place, facts_from, in_front, is_fact_colu
 use Rattle.oim_rows.specs.declared.fault.TableFault.{TableFault}
 use Rattle.oim_fast.specs.state.CellWriters.{GiveFacts, HasFacts, column_at}
 use Rattle.oim_fast.specs.state.Columns.{fact_columns_in}
-use Rattle.oim_fast.specs.Facts.{WritesFact, WritesFacts, fact_text}
-use Rattle.oim_row.specs.Rows.{RowValue, cell_in, columns_in, row_in}
+use Rattle.oim_fast.specs.Facts.{WritesFacts}
+use Rattle.oim_fast.specs.state.Facts.{WritesFact, fact_text}
+use Rattle.oim_row.specs.Rows.{RowValue, columns_in, row_in}
+use Rattle.oim_row.specs.state.Rows.{cell_in}
 
 -- one column more
 give_more : (x : RowValue) (cs : List ℕ) (c : ℕ) (fs : List Fact) (o : Option Fact) → GiveFacts x cs fs → cell_result (cell_in x c) ≡ Ok o → GiveFacts x (cs ++ c ∷ []) (fs ++ option_to_list o)

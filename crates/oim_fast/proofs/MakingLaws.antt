@@ -17,12 +17,12 @@ use Rattle.oim_resolve.specs.Written.{written}
 use Rattle.oim_rows.specs.RowFacts.{TableHeaderValue}
 use Rattle.oim_fast.specs.state.FrameTexts.{FrameValue, is_ready, with_part, with_value}
 use Rattle.oim_fast.specs.state.Frames.{AreKindDecimals, HasConstantKind, HasReferredKind, IsTextOf, are_ready, entry_of, levels_chosen, no_dimensions, with_parts}
-use Rattle.oim_fast.specs.Facts.{column_lead}
+use Rattle.oim_fast.specs.state.Facts.{column_lead}
 use Rattle.oim_fast.specs.state.KeptFrames.{IsBody, kind_code}
 use Rattle.oim_fast.specs.state.Making.{AddsEntries, IsBodyOf, IsConcept, IsOpening, SaysConcept}
 use Rattle.oim_fast.specs.state.Parts.{IsPart, IsPartValue, IsReferred}
 use Rattle.oim_fast.specs.state.Pieces.{constant_meaning}
-use Rattle.oim_resolve.specs.ProgramLevels.{named, written_entries}
+use Rattle.oim_resolve.specs.state.ProgramLevels.{named, written_entries}
 use Rattle.oim_row.specs.Sources.{source_written}
 use Rattle.oim_row.specs.References.{Grows, Key, ReferenceValue, key_of}
 use Rattle.oim_fast.specs.declared.frame.frame.Body.{Body}

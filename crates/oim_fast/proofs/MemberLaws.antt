@@ -18,7 +18,7 @@ use Rattle.oim_resolve.specs.declared.role.Role.TheVariants as role
 use Rattle.oim_row.specs.Answers.{dimension_json}
 use Rattle.oim_fast.specs.state.FactTexts.{cut}
 use Rattle.oim_fast.specs.state.Pieces.{behind, dimension_piece, name_text, written_pieces}
-use Rattle.oim_resolve.specs.ProgramLevels.{named, written_entries}
+use Rattle.oim_resolve.specs.state.ProgramLevels.{named, written_entries}
 use Rattle.oim_fast.proofs.FrameLaws.{piece_text}
 
 -- dimensions, each with a comma behind it

@@ -16,7 +16,8 @@ use Rattle.oim_fast.specs.state.Parts.{IsPart, IsPartValue}
 use Rattle.oim_fast.specs.state.Pieces.{behind, dimension_piece, name_text}
 use Rattle.oim_row.specs.References.{IsFresh, Key, ReferenceValue, key_of, meaning_at_hand}
 use Rattle.oim_fast.specs.state.GivenTexts.{given_by}
-use Rattle.oim_row.specs.Rows.{RowValue, cell_in}
+use Rattle.oim_row.specs.Rows.{RowValue}
+use Rattle.oim_row.specs.state.Rows.{cell_in}
 use Rattle.oim_row.specs.Sources.{source_text}
 use Rattle.oim_fast.specs.declared.frame.part.Part.{Part}
 use Rattle.oim_fast.specs.declared.frame.part.PartValue.{PartValue}

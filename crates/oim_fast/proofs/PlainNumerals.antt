@@ -15,7 +15,7 @@ use Rattle.oim_cells.specs.Cells.{Meaning, numeral_of}
 use Rattle.oim_cells.specs.Cells as m
 use Rattle.oim_cells.specs.Numeral.{IsNumeralOf, IsSplit, bare, suffixed}
 use Rattle.oim_cells.proofs.Values.{numeral_law}
-use Rattle.oim_json.specs.JsonText.{is_unescaped}
+use Rattle.oim_json.specs.state.Writing.{is_unescaped}
 use Rattle.oim_report.specs.ReportValue.{ReportValue}
 use Rattle.oim_report.specs.declared.kind.Kind.{Kind}
 use Rattle.oim_report.specs.declared.kind.Kind.TheVariants as kind

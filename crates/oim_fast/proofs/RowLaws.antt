@@ -18,7 +18,8 @@ use Rattle.oim_resolve.specs.Cell.{Cell, text_at}
 use Rattle.oim_resolve.specs.Values.{Read, decimals_value, not_empty, referred, value}
 use Rattle.oim_rows.specs.RowFacts.{cell_at, field_or_empty, source_of_column}
 use Rattle.oim_fast.specs.state.Pieces.{constant_meaning, constant_stated}
-use Rattle.oim_row.specs.Rows.{RowValue, cell_in, columns_in}
+use Rattle.oim_row.specs.Rows.{RowValue, columns_in}
+use Rattle.oim_row.specs.state.Rows.{cell_in}
 use Rattle.oim_row.specs.Sources.{Column, RowNumber, SourceValue, cell_or_parameter, place_named, source_decimals, source_text, source_written}
 use Rattle.oim_row.proofs.Texts.{empty_meaning, number_meaning}
 

@@ -23,7 +23,8 @@ use Rattle.oim_row.specs.Groups.{IsGroupCell, IsSaid}
 use Rattle.oim_fast.specs.state.ChosenGroups.{choices_in}
 use Rattle.oim_fast.specs.state.KeptFrames.{IsBody, IsFor, IsFrame, IsKnownFor, IsOfConcept, IsTextFor, kind_code, text_of}
 use Rattle.oim_row.specs.References.{IsFresh, Key, ReferenceValue, key_of, meaning_at_hand}
-use Rattle.oim_row.specs.Rows.{RowValue, cell_in, column_in}
+use Rattle.oim_row.specs.Rows.{RowValue, column_in}
+use Rattle.oim_row.specs.state.Rows.{cell_in}
 use Rattle.oim_row.specs.Sources.{source_text}
 use Rattle.oim_fast.specs.declared.frame.fact_column.FactColumn.{FactColumn}
 use Rattle.oim_fast.specs.declared.frame.frame.Body.{Body}

@@ -29,10 +29,11 @@ use Rattle.oim_fast.specs.state.Frames.{AreFrameDecimals, Chooses, are_ready, en
 use Rattle.oim_row.specs.Groups.{Names, Says}
 use Rattle.oim_fast.specs.state.Parts.{IsPart, IsPartValue}
 use Rattle.oim_fast.specs.state.Pieces.{AreSound, constant_stated, is_sound_dimension}
-use Rattle.oim_resolve.specs.ProgramLevels.{named}
+use Rattle.oim_resolve.specs.state.ProgramLevels.{named}
 use Rattle.oim_row.specs.References.{IsFresh, Key, ReferenceValue, key_of, meaning_at_hand}
 use Rattle.oim_fast.specs.state.GivenTexts.{given_by, is_sound_by}
-use Rattle.oim_row.specs.Rows.{RowValue, cell_in, column_in, columns_in}
+use Rattle.oim_row.specs.Rows.{RowValue, column_in, columns_in}
+use Rattle.oim_row.specs.state.Rows.{cell_in}
 use Rattle.oim_row.specs.Sources.{source_text}
 use Rattle.oim_fast.specs.declared.frame.frame_decimals.FrameDecimals.{FrameDecimals}
 use Rattle.oim_fast.specs.declared.frame.frame_decimals.FrameDecimals.TheVariants as decimals

@@ -12,3 +12,4 @@ pub mod Columns
 pub mod KeptFrames
 pub mod Making
 pub mod CellWriters
+pub mod Facts

@@ -6,9 +6,10 @@ use Rattle.std.specs.Fmt.{digits}
 use Rattle.oim_report.specs.ReportValue.{ReportValue}
 use Rattle.oim_resolve.specs.FactParts.{FactParts as Fact}
 use Rattle.oim_json.specs.Blocks.{behind_commas, ends_from}
-use Rattle.oim_json.specs.Document.{has_any, members, more_members, piece, tail_text, text_after}
+use Rattle.oim_json.specs.Document.{members, more_members, piece, tail_text, text_after}
+use Rattle.oim_json.specs.state.Writing.{has_any, is_unescaped, comma_before}
 use Rattle.oim_json.specs.FaultNames.{number_of, name_of}
-use Rattle.oim_json.specs.JsonText.{escaped_byte, is_unescaped, quoted, value_text, dimension_text, decimals_text, comma_before, member_text, namespace_text, base_url_text, head_text}
+use Rattle.oim_json.specs.JsonText.{escaped_byte, quoted, value_text, dimension_text, decimals_text, member_text, namespace_text, base_url_text, head_text}
 use Rattle.oim_json.specs.Lines.{cut_at_line_feeds, with_commas}
 use Rattle.oim_json.specs.Sinks.{SinkView, WritesAll, WritesSome, mark_of, sink_at}
 use Rattle.oim_json.specs.declared.layout.Layout.TheVariants.{Compact, Lines}

@@ -4,7 +4,8 @@ use Rattle.std.proofs.lemmas.List.{take_more, map-append, length-map, length-tak
 use Rattle.std.specs.Prelude.{Some}
 use Rattle.std.specs.List.{slice_get}
 use Rattle.std.proofs.lemmas.Option.{slice_get_within, get_or_from_slice_get}
-use Rattle.oim_json.specs.JsonText.{comma_before, joined}
+use Rattle.oim_json.specs.JsonText.{joined}
+use Rattle.oim_json.specs.state.Writing.{comma_before}
 
 joined-push : (xs : List (List ℕ)) (y : List ℕ) → joined (xs ++ y ∷ []) ≡ joined xs ++ (comma_before (length xs) ++ y)
 joined-push [] y = refl

@@ -6,7 +6,8 @@ use Rattle.std.proofs.lemmas.List.{take_more, take-append-drop}
 use Rattle.std.proofs.lemmas.Option.{get_or_from_slice_get, slice_get_within}
 use Rattle.oim_resolve.specs.FactParts.{FactParts as Fact}
 use Rattle.oim_json.specs.Blocks.{behind_commas}
-use Rattle.oim_json.specs.Document.{has_any, members, more_members, piece, placed_member}
+use Rattle.oim_json.specs.Document.{members, more_members, piece, placed_member}
+use Rattle.oim_json.specs.state.Writing.{has_any}
 use Rattle.oim_json.specs.JsonText.{joined}
 use Rattle.oim_json.specs.declared.layout.Layout.{Layout}
 use Rattle.oim_json.specs.declared.layout.Layout.TheVariants.{Compact}

@@ -3,7 +3,8 @@ use Rattle.std.specs.Prelude.{◌≡◌, ◌+◌, ℕ, Bool, List, [], ◌++◌,
 use Rattle.std.proofs.Common.{refl, sym, ap, ◌∙◌, subst}
 use Rattle.oim_resolve.specs.FactParts.{FactParts as Fact}
 use Rattle.oim_json.specs.state.Chunks.{IsPut}
-use Rattle.oim_json.specs.Document.{has_any, line_start, more_members, piece}
+use Rattle.oim_json.specs.Document.{line_start, more_members, piece}
+use Rattle.oim_json.specs.state.Writing.{has_any}
 use Rattle.oim_json.specs.JsonText.{member_text}
 use Rattle.oim_json.specs.Sinks.{SinkView, Broke}
 use Rattle.oim_json.specs.declared.layout.Layout.TheVariants.{Lines}

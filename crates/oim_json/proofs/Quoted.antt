@@ -7,7 +7,8 @@ use Rattle.serde_json.specs.Data.{string}
 use Rattle.serde_json.specs.Written.{compact_text}
 use Rattle.serde_json.proofs.OnLiterals.{serde_json_on_literals}
 use Rattle.oim_names.proofs.Cut.{eqb_of}
-use Rattle.oim_json.specs.JsonText.{escaped_byte, is_unescaped, quoted}
+use Rattle.oim_json.specs.JsonText.{escaped_byte, quoted}
+use Rattle.oim_json.specs.state.Writing.{is_unescaped}
 
 abbrev letter : ℕ → ℕ
 letter x = cond ((x == 34) || (x == 92)) x (cond (x == 8) 98 (cond (x == 12) 102 (cond (x == 10) 110 (cond (x == 13) 114 (cond (x == 9) 116 0)))))

@@ -1,5 +1,5 @@
 -- The bytes of a block: the text of each fact behind a comma, and where each of these texts ends.
-use Rattle.std.specs.Prelude.{◌≡◌, ◌≤◌, ℕ, ◌+◌, List, [], ◌∷◌, length}
+use Rattle.std.specs.Prelude.{ℕ, ◌+◌, List, [], ◌∷◌, length}
 use Rattle.std.specs.List.{flat_map}
 use Rattle.oim_resolve.specs.FactParts.{FactParts as Fact}
 use Rattle.oim_json.specs.JsonText.{member_text}
@@ -16,7 +16,3 @@ behind_commas fs = flat_map behind_comma fs
 unfoldable pub ends_from : ℕ → List Fact → List ℕ
 ends_from n [] = []
 ends_from n (f ∷ fs) = (n + length (behind_comma f)) ∷ ends_from (n + length (behind_comma f)) fs
-
--- a block of 1 to 256 facts keeps their texts, each behind a comma, and where each ends
-abbrev pub IsBlockOf : List ℕ → List ℕ → List Fact → Type 0
-IsBlockOf bytes ends facts = (bytes ≡ behind_commas facts) × (ends ≡ ends_from 0 facts) × (1 ≤ length facts) × (length facts ≤ 256)

@@ -39,8 +39,3 @@ piece false bytes = bytes
 abbrev pub more_members : Layout → Bool → List Fact → List ℕ
 more_members layout any [] = []
 more_members layout any (f ∷ fs) = piece any (placed_member layout f) ++ more_members layout true fs
-
--- whether a document has any, once it has these too
-abbrev pub has_any : Bool → List Fact → Bool
-has_any any [] = any
-has_any any (f ∷ fs) = true

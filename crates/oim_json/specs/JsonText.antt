@@ -1,6 +1,6 @@
 -- The text of a fact and of a report's head in xBRL-JSON 1.0: compact, the members of each object in byte order, but dimensions and prefixes in
 -- the order of the fact and of the report.
-use Rattle.std.specs.Prelude.{Bool, not, ◌&&◌, ℕ, zero, suc, ◌/◌, ◌%◌, ℤ, List, [], ◌∷◌, ◌++◌, map, flat_map, Option, Some, None, codes, ◌==◌, nat_lt, if◌then◌else◌}
+use Rattle.std.specs.Prelude.{ℕ, ◌/◌, ◌%◌, ℤ, List, [], ◌∷◌, ◌++◌, map, flat_map, Option, Some, None, codes, ◌==◌, nat_lt, if◌then◌else◌}
 use Rattle.std.specs.Char.{digit_char}
 use Rattle.std.specs.List.{join_with_byte}
 use Rattle.std.specs.Fmt.{signed_decimal}
@@ -20,10 +20,6 @@ escaped_byte b =
     else if nat_lt b 32 then codes "\\u00" ++ digit_char (b / 16) ∷ digit_char (b % 16) ∷ []
     else b ∷ []
 
--- the byte b stands for itself in a text
-abbrev pub is_unescaped : ℕ → Bool
-is_unescaped b = not (nat_lt b 32) && (not (b == 34) && not (b == 92))
-
 -- a text in quotes
 unfoldable pub quoted : List ℕ → List ℕ
 quoted s = codes "\"" ++ flat_map escaped_byte s ++ codes "\""
@@ -40,11 +36,6 @@ dimension_text d = quoted d.0 ++ codes ":" ++ value_text d.1
 unfoldable pub decimals_text : Option ℤ → List ℕ
 decimals_text (Some n) = codes "\"decimals\":" ++ signed_decimal n ++ codes ","
 decimals_text None = []
-
--- the comma before the item at place i
-abbrev pub comma_before : ℕ → List ℕ
-comma_before zero = []
-comma_before (suc i) = codes ","
 
 -- texts with a comma between each two
 abbrev pub joined : List (List ℕ) → List ℕ

@@ -1,1 +1,3 @@
 pub mod Chunks
+pub mod Blocks
+pub mod Writing

@@ -38,7 +38,7 @@ impl Drop for Block {
 impl Model for Block {
     ghost use Rattle.std.specs.Prelude.{List};
     ghost use Rattle.oim_resolve.specs.FactParts.{FactParts};
-    ghost use Rattle.oim_json.specs.Blocks.{IsBlockOf};
+    ghost use Rattle.oim_json.specs.state.Blocks.{IsBlockOf};
 
     ghost Value = { List FactParts };
 

@@ -4,7 +4,8 @@ ghost use Rattle.std.specs.Prelude.{◌≡◌, ◌++◌, ℕ, List, map, OnOk};
 ghost use Rattle.std.specs.Fmt.{signed_decimal};
 ghost use Rattle.std.specs.List.{list_all};
 ghost use Rattle.std.specs.Option.{option_map};
-ghost use Rattle.oim_json.specs.JsonText.{is_unescaped, quoted, value_text, dimension_text, namespace_text, comma_before, joined};
+ghost use Rattle.oim_json.specs.JsonText.{quoted, value_text, dimension_text, namespace_text, joined};
+ghost use Rattle.oim_json.specs.state.Writing.{is_unescaped, comma_before};
 
 use itoa::Buffer;
 use oim_names::{Namespaces, Text};

@@ -3,7 +3,8 @@ use Rattle.std.specs.Prelude.{◌≡◌, ◌≤◌, ℕ, List, [], ◌∷◌, �
 use Rattle.std.proofs.Common.{refl, sym, ap, ◌∙◌, subst, append_assoc, append-nil}
 use Rattle.oim_json.proofs.Members.{has_any_append, has_some, members_more, no_members}
 use Rattle.oim_json.proofs.Writes.{broke_before, broke_later, wrote_twice}
-use Rattle.oim_json.specs.Document.{has_any, members, more_members, tail_text}
+use Rattle.oim_json.specs.Document.{members, more_members, tail_text}
+use Rattle.oim_json.specs.state.Writing.{has_any}
 use Rattle.oim_json.specs.Sinks.{SinkView, Broke, Wrote}
 use Rattle.oim_json.specs.declared.layout.Layout.{Layout}
 use Rattle.oim_json.specs.declared.mark.WriteFault.{WriteFault}

@@ -1,5 +1,5 @@
 -- A document that is being written, as contracts see its writer.
-use Rattle.std.specs.Prelude.{◌≡◌, ℕ, List, ◌++◌}
+use Rattle.std.specs.Prelude.{ℕ, List, ◌++◌}
 use Rattle.oim_json.specs.Sinks.{Broke, SinkView, Wrote}
 use Rattle.oim_json.specs.declared.layout.Layout.{Layout}
 use Rattle.oim_json.specs.declared.mark.WriteFault.{WriteFault}
@@ -35,7 +35,3 @@ IsWritten w = Wrote w.before w.sink (text_so_far w)
 
 abbrev pub IsBroken : WriterView → WriteFault → Type 0
 IsBroken w fault = Broke w.before w.sink (text_so_far w) fault
-
--- the same document at a later time
-abbrev pub Continues : WriterView → WriterView → Type 0
-Continues old new = new ≡ record old { items = new.items; sink = new.sink }

@@ -25,7 +25,8 @@ use Rattle.oim_meta.specs.BadDimensions.{is_dimension, is_typed, name_in, is_bad
 use Rattle.oim_meta.specs.BadDecimals.{is_decimals, has_bad_decimals}
 use Rattle.oim_meta.specs.BadParameters.{has_bad_parameter, has_bad_parameter_url}
 use Rattle.oim_meta.specs.Counts.{has_too_many}
-use Rattle.oim_meta.specs.FirstFault.{first_fault, has_fault, late_fault}
+use Rattle.oim_meta.specs.FirstFault.{first_fault, has_fault}
+use Rattle.oim_meta.specs.state.Reading.{late_fault}
 use Rattle.oim_meta.specs.Reading.{has_url_fault}
 
 -- PATHS

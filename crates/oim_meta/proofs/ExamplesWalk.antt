@@ -21,7 +21,8 @@ use Rattle.oim_meta.specs.BadParameters.{has_bad_parameter_url}
 use Rattle.oim_meta.specs.Paths.{Path}
 use Rattle.oim_meta.specs.Findings.{finding, first_of}
 use Rattle.oim_meta.specs.FindingPlaces.{places_of, has}
-use Rattle.oim_meta.specs.Refusals.{fault_in, refusal_of}
+use Rattle.oim_meta.specs.Refusals.{fault_in}
+use Rattle.oim_meta.specs.state.Refusals.{refusal_of}
 use Rattle.oim_meta.specs.Walk.{in_dimensions, in_level, in_group, in_groups, in_column_itself, in_sources, in_column_level, in_column, in_template_itself, in_columns, in_template, in_templates}
 use Rattle.oim_meta.specs.WalkTables.{in_parameters, in_own_parameters, in_table_itself, in_table, in_tables}
 use Rattle.oim_meta.specs.WalkReport.{in_namespaces, in_info, in_info_in, in_document, in_parts, in_metadata}

@@ -11,7 +11,8 @@ use Rattle.std.proofs.lemmas.Map.Text.{is_eq-slice_cmp}
 use Rattle.serde_json.specs.Data.{Data, Members, no_members, member}
 use Rattle.oim_names.specs.Lookup.{value_at}
 use Rattle.oim_meta.specs.Members.{text_of, any_member}
-use Rattle.oim_meta.specs.Order.{names_of, has_other, repeats_text, repeats_seen}
+use Rattle.oim_meta.specs.Order.{names_of, has_other, repeats_text}
+use Rattle.oim_meta.specs.state.Order.{repeats_seen}
 use Rattle.oim_report.specs.Rising.{IsRising}
 
 -- ---- texts that are the same

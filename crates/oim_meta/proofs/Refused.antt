@@ -18,8 +18,10 @@ use Rattle.oim_meta.specs.UnknownColumn.{has_unknown_column}
 use Rattle.oim_meta.specs.FaultOrder.{IsLeastFault}
 use Rattle.oim_meta.specs.FirstFault.{first_fault, has_fault}
 use Rattle.oim_meta.specs.Findings.{first_of}
-use Rattle.oim_meta.specs.Reading.{HasFirst, IsFault, IsJson, IsNoJson, IsUnread, IsUrlFault, IsUrlFaultOf, Reads, first_url_fault}
-use Rattle.oim_meta.specs.Refusals.{IsFirstOf, IsFinding, IsRefusal, fault_in, refusal_of}
+use Rattle.oim_meta.specs.Reading.{HasFirst, IsFault, IsJson, IsUnread, IsUrlFault, IsUrlFaultOf, Reads, first_url_fault}
+use Rattle.oim_meta.specs.state.Reading.{IsNoJson}
+use Rattle.oim_meta.specs.Refusals.{IsFirstOf, IsFinding, IsRefusal, fault_in}
+use Rattle.oim_meta.specs.state.Refusals.{refusal_of}
 use Rattle.oim_meta.specs.WalkReport.{in_document, in_metadata}
 use Rattle.oim_meta.proofs.LeastFault.{is_least}
 use Rattle.oim_meta.proofs.FirstFound.{document_is_first, first_found, none_is_first}

@@ -2,9 +2,8 @@
 use Rattle.std.specs.Prelude.{List, [], ◌∷◌, Bool, Option, Some, None, nat_lt, fold, if◌then◌else◌}
 use Rattle.oim_entries.specs.declared.fault.MetaFault.{MetaFault}
 use Rattle.oim_meta.specs.declared.findings.Finding.{Finding}
-use Rattle.oim_meta.specs.declared.findings.Found.{Found}
 use Rattle.oim_entries.specs.FaultNames.{fault_number}
-use Rattle.oim_meta.specs.Paths.{Path, place_path}
+use Rattle.oim_meta.specs.Paths.{Path}
 
 -- a fault at a place
 abbrev pub finding : MetaFault → Path → Finding
@@ -22,7 +21,3 @@ sooner (Some x) y = if nat_lt (fault_number y.fault) (fault_number x.fault) then
 -- the one with the least number, and of those the earliest
 abbrev pub first_of : List Finding → Option Finding
 first_of = fold sooner None
-
--- a finding, as the program holds it
-abbrev pub seen_found : Found → Finding
-seen_found f = finding f.fault (place_path f.place)

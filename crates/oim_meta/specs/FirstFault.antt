@@ -50,10 +50,3 @@ faults_in_order = early_faults ++ late_faults
 -- the first fault that a metadata has
 abbrev pub first_fault : Limits → ParametersValue → TypesValue → Data → Option MetaFault
 first_fault limits given types d = find (has_fault limits given types d) faults_in_order
-
--- the first of the early faults, and of the late ones
-abbrev pub early_fault : Limits → ParametersValue → TypesValue → Data → Option MetaFault
-early_fault limits given types d = find (has_fault limits given types d) early_faults
-
-abbrev pub late_fault : Limits → ParametersValue → TypesValue → Data → Option MetaFault
-late_fault limits given types d = find (has_fault limits given types d) late_faults

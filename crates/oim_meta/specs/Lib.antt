@@ -23,3 +23,4 @@ pub mod WalkReport
 pub mod Value
 pub mod Reading
 pub mod Refusals
+pub mod state

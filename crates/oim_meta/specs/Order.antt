@@ -1,11 +1,10 @@
 -- Members in order, and one text under two names.
-use Rattle.std.specs.Prelude.{⊤, ◌≡◌, ℕ, List, [], ◌∷◌, ◌++◌, Bool, false, not, ◌&&◌, ◌||◌, bytes_eq, is_some}
+use Rattle.std.specs.Prelude.{⊤, ◌≡◌, ℕ, List, Bool, not, ◌&&◌, bytes_eq}
 use Rattle.std.specs.List.{AllByRecursion}
 use Rattle.std.specs.Ordering.{nat_cmp}
 use Rattle.std.specs.declared.cmp.Ordering.TheVariants.{Less}
 use Rattle.std.specs.Cmp.Lexicographic.{slice_cmp}
 use Rattle.serde_json.specs.Data.{Data, null, boolean, number, string, array, object, Members, no_members, member}
-use Rattle.oim_names.specs.Lookup.{value_at}
 use Rattle.oim_meta.specs.Members.{text_of, any_member, map_members}
 
 abbrev pub names_of : Members → List (List ℕ)
@@ -18,11 +17,6 @@ has_other name text = any_member (λ other d. not (bytes_eq name other) && bytes
 -- one text under two names
 abbrev pub repeats_text : Members → Bool
 repeats_text ms = any_member (λ name d. has_other name (text_of d) ms) ms
-
--- some member has a text that was seen, or that a member before it has
-abbrev pub repeats_seen : List (List ℕ × ⊤) → Members → Bool
-repeats_seen seen no_members = false
-repeats_seen seen (member name d ms) = is_some (value_at (text_of d) seen) || repeats_seen (seen ++ (text_of d, tt) ∷ []) ms
 
 -- a name is below each of these members' names
 abbrev pub IsAbove : List ℕ → Members → Type 0

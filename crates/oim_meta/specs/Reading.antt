@@ -3,8 +3,6 @@ use Rattle.std.specs.Prelude.{◌≡◌, ◌<◌, ◌≤◌, ◌⊎◌, ℕ, Lis
 use Rattle.std.specs.Cmp.Lexicographic.{pointwise}
 use Rattle.serde_json.specs.Data.{Data}
 use Rattle.serde_json.specs.Read.{read}
-use Rattle.serde_json.specs.Errors.{IsMemory}
-use Rattle.serde_json.specs.declared.error.Error.{Error}
 use Rattle.oim_entries.specs.declared.fault.MetaFault.{MetaFault}
 use Rattle.oim_entries.specs.declared.fault.MetaFault.TheVariants.{Syntax, NotReport, BadParameter, TooLarge, Memory}
 use Rattle.oim_report.specs.declared.limits.Limits.{Limits}
@@ -28,16 +26,6 @@ IsJson bytes d = IsUtf8 (after_mark bytes) × (read (after_mark bytes) ≡ Some 
 -- the bytes are not JSON text for any value
 abbrev pub HasNoJson : List ℕ → Type 0
 HasNoJson bytes = (d : Data) → IsJson bytes d → ⊥
-
--- running out of memory gives Memory, every other error of JSON gives Syntax
-abbrev pub IsFaultOf : Error → MetaFault → Type 0
-IsFaultOf error fault = (IsMemory error → fault ≡ Memory) × (¬ IsMemory error → fault ≡ Syntax)
-
--- memory ran out, or the bytes are not JSON
-abbrev pub IsNoJson : List ℕ → MetaFault → Type 0
-IsNoJson bytes Syntax = HasNoJson bytes
-IsNoJson bytes Memory = Unit {0}
-IsNoJson bytes f = ⊥
 
 -- the bytes are within the limit, and JSON text for d
 abbrev pub Reads : Limits → List ℕ → Data → Type 0

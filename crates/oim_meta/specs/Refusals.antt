@@ -18,11 +18,6 @@ abbrev pub fault_in : Refusal → MetaFault
 fault_in (Found x) = x.fault
 fault_in Memory = fault.Memory
 
--- a fault of the whole, at no key
-abbrev pub refusal_of : MetaFault → Refusal
-refusal_of fault.Memory = Memory
-refusal_of f = Found (finding f [])
-
 -- the first finding; running out of memory says nothing about the metadata
 abbrev pub IsFirstOf : List Finding → Refusal → Type 0
 IsFirstOf xs (Found x) = first_of xs ≡ Some x

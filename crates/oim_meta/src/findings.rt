@@ -1,8 +1,8 @@
 //! What a walk over a metadata finds wrong.
 
 ghost use Rattle.std.specs.Prelude.{◌≡◌, ◌++◌, ◌∷◌, [], option_map};
-ghost use Rattle.oim_meta.specs.Findings.{finding, found, first_of, seen_found};
-ghost use Rattle.oim_meta.specs.Paths.{place_path};
+ghost use Rattle.oim_meta.specs.Findings.{finding, found, first_of};
+ghost use Rattle.oim_meta.specs.state.Places.{seen_found, place_path};
 
 use crate::place::Place;
 use ghost_value::{Denotes, GhostValue};
@@ -35,7 +35,8 @@ pub(crate) struct Findings<'v> {
 impl<'v> Model for Findings<'v> {
     ghost use Rattle.std.specs.Prelude.{◌≡◌, List, option_map};
     ghost use Rattle.oim_meta.specs.declared.findings.Finding.{Finding as FindingValue};
-    ghost use Rattle.oim_meta.specs.Findings.{first_of, seen_found};
+    ghost use Rattle.oim_meta.specs.Findings.{first_of};
+    ghost use Rattle.oim_meta.specs.state.Places.{seen_found};
 
     ghost Value = { List FindingValue };
 

@@ -2,7 +2,8 @@
 
 ghost use Rattle.std.specs.Prelude.{◌≡◌, [], IfOk};
 ghost use Rattle.serde_json.specs.View.{members_view};
-ghost use Rattle.oim_meta.specs.Order.{repeats_seen, repeats_text as repeated};
+ghost use Rattle.oim_meta.specs.Order.{repeats_text as repeated};
+ghost use Rattle.oim_meta.specs.state.Order.{repeats_seen};
 
 use oim_report::Named;
 use serde_json::{Map, Value};

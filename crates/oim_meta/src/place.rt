@@ -2,7 +2,8 @@
 
 ghost use Rattle.std.specs.Prelude.{◌≡◌, ◌++◌, ◌∷◌, [], IfOk, OnOk, option_map};
 ghost use Rattle.std.specs.Option.{option_to_list};
-ghost use Rattle.oim_meta.specs.Paths.{document_path, template_path, column_path, group_path, table_path, part_path, place_path};
+ghost use Rattle.oim_meta.specs.Paths.{document_path, template_path, column_path, group_path, table_path};
+ghost use Rattle.oim_meta.specs.state.Places.{part_path, place_path};
 
 use oim_names::{Items, Text};
 use std::alloc::{AllocError, Global};

@@ -2,7 +2,8 @@
 
 ghost use Rattle.std.specs.Prelude.{◌≡◌, None, OnOk, IfErr};
 ghost use Rattle.oim_meta.specs.Findings.{first_of};
-ghost use Rattle.oim_meta.specs.Refusals.{IsFirstOf, fault_in, refusal_of};
+ghost use Rattle.oim_meta.specs.Refusals.{IsFirstOf, fault_in};
+ghost use Rattle.oim_meta.specs.state.Refusals.{refusal_of};
 
 use crate::findings::{Finding, Findings};
 use crate::place::keys;

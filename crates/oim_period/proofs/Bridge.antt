@@ -6,7 +6,7 @@ use Rattle.jiff_core.proofs.SignedLemmas.{signed_arith, back_small}
 use Rattle.jiff_core.proofs.CalendarLemmas.{day_count-next_year, day_count-next_month, day_count-day, days_from_civil-day_count, day_count_bounds, day_count-lt_year}
 use Rattle.jiff_core.proofs.MarchLemmas.{day_count-early}
 use Rattle.oim_period.specs.Calendar.{days_of_years, days_of_months, day_number, days_in_month, IsDate}
-use Rattle.oim_period.specs.Table.{IsDateOf}
+use Rattle.oim_period.specs.state.Reads.{IsDateOf}
 
 pub day_count-year_one : day_count (pos 1) 1 1 ≡ 3_652_791
 day_count-year_one = day_count-early (pos 1) 10000 1 1 refl (omega arith) (omega arith) (omega arith)

@@ -2,7 +2,8 @@
 use Rattle.std.proofs.Common.{◌≡◌, ℕ, ◌<◌, ◌↔◌, Option, None, Some, IsSome, IfSome, refl, sym, ◌∙◌, arith, true, false}
 use Rattle.oim_period.specs.Calendar.{day_limit}
 use Rattle.oim_period.specs.declared.days.Days.{Days}
-use Rattle.oim_period.specs.Reads.{IsRead, IsOnly}
+use Rattle.oim_period.specs.Reads.{IsOnly}
+use Rattle.oim_period.specs.state.Reads.{IsRead}
 
 -- the relation has these days alone, and they are answered where the day after them is in the years that a text may name
 pub read_by : (P : ℕ → ℕ → Type 0) (o : Option Days) (f a : ℕ) → P f a → ((f₂ a₂ : ℕ) → P f₂ a₂ → (f₂ ≡ f) × (a₂ ≡ a)) → (IsSome o ↔ (a < day_limit))

@@ -4,3 +4,4 @@ pub mod Periods
 pub mod Table
 pub mod Reads
 pub mod Dates
+pub mod state

@@ -1,18 +1,11 @@
 -- A period as a program holds it, told by its moments in seconds (Open Information Model 1.0, the period core dimension), and what a
 -- reader of a relation answers: the one value that it has, or nothing.
-use Rattle.std.specs.Prelude.{◌≡◌, ℕ, ◌≤◌, Option, None, Some}
-use Rattle.oim_period.specs.Calendar.{day_limit, seconds_at}
+use Rattle.std.specs.Prelude.{◌≡◌, ℕ, Option, None, Some}
+use Rattle.oim_period.specs.Calendar.{seconds_at}
 use Rattle.oim_period.specs.Periods.{Reading, instant, duration}
-use Rattle.oim_period.specs.declared.days.Days.{Days}
 use Rattle.oim_period.specs.declared.period.Moment.{Moment}
-use Rattle.oim_period.specs.declared.period.Span.{Span}
 use Rattle.oim_period.specs.declared.period.Period.{Period}
 use Rattle.oim_period.specs.declared.period.Period.TheVariants.{Instant, Duration}
-
--- the answer is the one pair of days that the relation has, or none where the day after them is not in the years that a text may name
-abbrev pub IsRead : (ℕ → ℕ → Type 0) → Option Days → Type 0
-IsRead P None = (first after : ℕ) → P first after → day_limit ≤ after
-IsRead P (Some d) = P d.first d.after × ((first after : ℕ) → P first after → (first ≡ d.first) × (after ≡ d.after))
 
 -- the answer is the one value of the relation, or none where it has none
 abbrev pub IsOnly : {A : Type 0} → (A → Type 0) → Option A → Type 0
@@ -22,10 +15,6 @@ IsOnly {A} P (Some y) = P y × ((x : A) → P x → x ≡ y)
 -- a moment in seconds
 abbrev pub seconds_of : Moment → ℕ
 seconds_of m = seconds_at m.day m.second
-
--- a duration, by the seconds at which it starts and ends
-abbrev pub ends_of : Span → ℕ × ℕ
-ends_of s = (seconds_of s.start, seconds_of s.end)
 
 -- a period, by its moments in seconds
 abbrev pub reading_of : Period → Reading

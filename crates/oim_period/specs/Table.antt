@@ -1,14 +1,10 @@
 -- The forms of a period and what each means, one constructor for each form (Open Information Model 1.0; xBRL-CSV 1.0, the short forms of
 -- periods; ISO 8601 for dates, times and weeks). A moment is told by its seconds since the year 1 began.
-use Rattle.std.specs.Prelude.{◌≡◌, ℕ, ◌+◌, ◌-◌, ◌*◌, ◌<◌, ◌≤◌, List, [], ◌++◌, codes, ℤ, pos}
+use Rattle.std.specs.Prelude.{ℕ, ◌+◌, ◌-◌, ◌*◌, ◌<◌, ◌≤◌, List, [], ◌++◌, codes}
 use Rattle.std.specs.Int.{IsInRange}
 use Rattle.oim_period.specs.Calendar.{IsYear, IsDate, IsWeek, IsClock, day_number, month_start, week_start, day_limit, midnight, seconds_at}
 use Rattle.oim_period.specs.Digits.{one, two, four, date_text, clock_text}
 use Rattle.oim_period.specs.Periods.{Reading, instant, duration}
-
--- the date of a day
-abbrev pub IsDateOf : ℕ → ℤ → ℕ → ℕ → Type 0
-IsDateOf day year m d = (y : ℕ) × (year ≡ pos y) × IsDate y m d × (day_number y m d ≡ day)
 
 -- what follows the year in a text, the first day that the whole text names, and the day after the last
 pub data InYear : ℕ → List ℕ → ℕ → ℕ → Type 0 where

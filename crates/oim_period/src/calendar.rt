@@ -3,7 +3,7 @@
 ghost use Rattle.std.specs.Prelude.{◌≡◌, ◌↔◌, ◌<◌, ◌≤◌, IsSome, IfSome};
 ghost use Rattle.std.specs.Int.{IsInRange};
 ghost use Rattle.oim_period.specs.Calendar.{IsDate, IsYear, IsWeek, day_number as number_of_day, week_start as monday_of_week, day_limit, month_start as first_of_month};
-ghost use Rattle.oim_period.specs.Table.{IsDateOf};
+ghost use Rattle.oim_period.specs.state.Reads.{IsDateOf};
 
 use jiff::civil::{Date, ISOWeekDate, Weekday};
 

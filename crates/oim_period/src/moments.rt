@@ -3,7 +3,8 @@
 ghost use Rattle.std.specs.Prelude.{◌≡◌, ◌<◌, length, option_map};
 ghost use Rattle.oim_period.specs.Calendar.{day_limit, midnight as midnight_of};
 ghost use Rattle.oim_period.specs.Table.{IsMoment, IsDuration};
-ghost use Rattle.oim_period.specs.Reads.{IsOnly, seconds_of, ends_of};
+ghost use Rattle.oim_period.specs.Reads.{IsOnly, seconds_of};
+ghost use Rattle.oim_period.specs.state.Reads.{ends_of};
 
 use crate::calendar::DAY_LIMIT;
 use crate::parts;

@@ -4,7 +4,8 @@ ghost use Rattle.std.specs.Prelude.{◌≡◌, ℕ, ◌↔◌, ◌+◌, ◌*◌,
 ghost use Rattle.oim_period.specs.Calendar.{IsYear, IsClock, day_limit};
 ghost use Rattle.oim_period.specs.Digits.{digit};
 ghost use Rattle.oim_period.specs.Table.{IsDay, IsTime, IsDays};
-ghost use Rattle.oim_period.specs.Reads.{IsRead, IsOnly};
+ghost use Rattle.oim_period.specs.Reads.{IsOnly};
+ghost use Rattle.oim_period.specs.state.Reads.{IsRead};
 
 use crate::calendar;
 use crate::days::Days;

@@ -5,7 +5,7 @@ ghost use Rattle.std.specs.Int.{IsInRange};
 ghost use Rattle.oim_period.specs.Calendar.{IsDate, IsYear, IsWeek, day_number as number_of_day, week_start as monday_of_week, day_limit, month_start as first_of_month};
 ghost use Rattle.oim_period.specs.Digits.{digit};
 ghost use Rattle.oim_period.specs.Table.{InYear};
-ghost use Rattle.oim_period.specs.Reads.{IsRead};
+ghost use Rattle.oim_period.specs.state.Reads.{IsRead};
 
 use crate::calendar;
 use crate::days::Days;

@@ -6,7 +6,7 @@ use Rattle.oim_records.specs.Grids.{records_left}
 use Rattle.oim_records.specs.PieceTaking.{TakesBytes}
 use Rattle.oim_records.specs.Reads.{KeepsLeft, left_known}
 use Rattle.oim_records.proofs.PieceReads.{no-record}
-use Rattle.oim_pieces.specs.Cutting.{TakesRows}
+use Rattle.oim_pieces.specs.state.Cutting.{TakesRows}
 
 pub cut_taken : (bytes after : Option (List ℕ)) (piece : List ℕ) → TakesBytes bytes piece after → TakesRows (left_known [] bytes) (records_left state.StartRecord piece) (left_known [] after)
 cut_taken None after piece takes = tt

@@ -14,8 +14,9 @@ use Rattle.oim_rows.specs.declared.fault.TableFault.{TableFault}
 use Rattle.oim_rows.specs.declared.fault.TableKind.TheVariants as kind
 use Rattle.oim_decode.specs.Apart.{Apart, apart_from}
 use Rattle.oim_pieces.specs.state.Comings.{Comes}
-use Rattle.oim_pieces.specs.Cutting.{IsOver, TakesRows, left_over}
-use Rattle.oim_pieces.specs.Flights.{AreChained, EndsWith, FewerSteps, FlyingPiece, IsAnswer, IsEnd, IsFront, KeepsEnd, KeepsStream, NoMoreSteps, behind, first_of, rows_in, rows_left, steps_for, steps_in, stream_in}
+use Rattle.oim_pieces.specs.state.Cutting.{IsOver, TakesRows, left_over}
+use Rattle.oim_pieces.specs.Flights.{FewerSteps, IsEnd, KeepsEnd, steps_for}
+use Rattle.oim_pieces.specs.state.Flights.{AreChained, EndsWith, FlyingPiece, IsAnswer, IsFront, KeepsStream, NoMoreSteps, behind, first_of, rows_in, rows_left, steps_in, stream_in}
 use Rattle.oim_pieces.specs.declared.decoded.Asked.{Asked}
 use Rattle.oim_pieces.specs.declared.flying.Coming.TheVariants.{Here, Thread}
 

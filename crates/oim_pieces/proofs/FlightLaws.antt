@@ -16,8 +16,8 @@ use Rattle.oim_decode.specs.Apart.{Apart}
 use Rattle.oim_decode.specs.Blocks.{ReadsRows}
 use Rattle.oim_decode.specs.PieceAnswers.{IsDecoded, IsJoined, left_behind}
 use Rattle.oim_decode.proofs.JoinLaws.{piece_is_read}
-use Rattle.oim_pieces.specs.Cutting.{CutterLeft, IsOver, TakesRows}
-use Rattle.oim_pieces.specs.Flights.{AreChained, EndsWith, FlightLeft, FlyingPiece, IsAnswer, IsFront, KeepsStream, behind, first_of, rows_in, rows_left, stream_in}
+use Rattle.oim_pieces.specs.state.Cutting.{CutterLeft, IsOver, TakesRows}
+use Rattle.oim_pieces.specs.state.Flights.{AreChained, EndsWith, FlightLeft, FlyingPiece, IsAnswer, IsFront, KeepsStream, behind, first_of, rows_in, rows_left, stream_in}
 
 -- COUNTS
 

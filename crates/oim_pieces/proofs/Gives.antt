@@ -5,9 +5,11 @@ use Rattle.oim_rows.specs.Header.{file_fault}
 use Rattle.oim_rows.specs.Streams.{IsOutside, Stream, ending, facts_of_rows}
 use Rattle.oim_rows.specs.declared.fault.TableFault.{TableFault}
 use Rattle.oim_rows.specs.declared.fault.TableKind.TheVariants as kind
-use Rattle.oim_decode.specs.Blocks.{GivesBlock, ReadsRows, left_of}
+use Rattle.oim_decode.specs.Blocks.{GivesBlock, ReadsRows}
+use Rattle.oim_decode.specs.state.Blocks.{left_of}
 use Rattle.oim_decode.proofs.Advances.{broken_off}
-use Rattle.oim_pieces.specs.Flights.{EndsWith, FewerSteps, IsEnd, KeepsEnd, KeepsStream, behind, steps_for}
+use Rattle.oim_pieces.specs.Flights.{FewerSteps, IsEnd, KeepsEnd, steps_for}
+use Rattle.oim_pieces.specs.state.Flights.{EndsWith, KeepsStream, behind}
 
 -- the end, or a fault, is kept
 pub end_kept : {A : Type 0} (r : Result (Option A) TableFault) (o : Option TableFault) → IsEnd o r → KeepsEnd r (Some o)

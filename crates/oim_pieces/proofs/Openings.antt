@@ -9,7 +9,7 @@ use Rattle.oim_rows.specs.RowFacts.{TableHeaderValue}
 use Rattle.oim_rows.specs.Streams.{IsOutside, Stream, table_header_of, stream_from, stream_of}
 use Rattle.oim_rows.specs.declared.fault.TableFault.{TableFault}
 use Rattle.oim_decode.specs.Heads.{table_header_in}
-use Rattle.oim_pieces.specs.Flights.{AreChained, FlyingPiece, rows_left}
+use Rattle.oim_pieces.specs.state.Flights.{AreChained, FlyingPiece, rows_left}
 
 good-header : (report : ReportValue) (table limit : ℕ) (header : Record) (rows : List Record) → header_fault report table header ≡ None
     → stream_of report table limit (header ∷ rows) ≡ stream_from (table_header_of report table limit header) 1 [] rows

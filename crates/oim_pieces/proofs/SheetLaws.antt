@@ -6,7 +6,7 @@ use Rattle.oim_rows.specs.RowFacts.{TableHeaderValue}
 use Rattle.oim_decode.specs.Apart.{Apart}
 use Rattle.oim_decode.specs.PieceAnswers.{refused}
 use Rattle.oim_decode.proofs.HeadLaws.{refused_decoded}
-use Rattle.oim_pieces.specs.Flights.{IsAnswer}
+use Rattle.oim_pieces.specs.state.Flights.{IsAnswer}
 use Rattle.oim_pieces.specs.state.Sheets.{FitsPiece, IsAnswerIn, IsLine, IsOf, IsPiece, IsReadBy}
 use Rattle.oim_pieces.specs.declared.decoded.Asked.{Asked}
 use Rattle.oim_pieces.specs.declared.sheet.Question.{Question}

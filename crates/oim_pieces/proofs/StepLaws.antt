@@ -2,7 +2,8 @@
 use Rattle.std.proofs.Common.{◌≡◌, ◌++◌, ◌+◌, ◌≤◌, ◌<◌, ℕ, suc, List, [], ◌∷◌, length, Option, Some, None, ap, sym, subst, ◌∙◌, arith, length-append}
 use Rattle.std.specs.Io.KnownBytes.{Keeps}
 use Rattle.oim_records.specs.PieceTaking.{TakesBytes}
-use Rattle.oim_pieces.specs.Flights.{FewerSteps, FlyingPiece, NoMoreSteps, steps_for}
+use Rattle.oim_pieces.specs.Flights.{FewerSteps, steps_for}
+use Rattle.oim_pieces.specs.state.Flights.{FlyingPiece, NoMoreSteps}
 
 pub steps_same : (o : Option ℕ) → NoMoreSteps o o
 steps_same None = tt

@@ -1,2 +1,4 @@
 pub mod Sheets
 pub mod Comings
+pub mod Cutting
+pub mod Flights

@@ -6,7 +6,7 @@ ghost use Rattle.oim_decode.specs.Heads.{table_header_in};
 ghost use Rattle.oim_records.specs.Grids.{records_left};
 ghost use Rattle.oim_rows.specs.Header.{file_header_fault};
 ghost use Rattle.oim_rows.specs.Streams.{IsOutside};
-ghost use Rattle.oim_pieces.specs.Flights.{IsAnswer};
+ghost use Rattle.oim_pieces.specs.state.Flights.{IsAnswer};
 ghost use Rattle.oim_pieces.specs.state.Sheets.{FitsPiece, IsAnswerIn, IsOf, IsPiece, IsReadBy};
 
 use crate::cutter::CutPiece;

@@ -6,7 +6,7 @@ ghost use Rattle.csv.specs.declared.parser.State.TheVariants as state;
 ghost use Rattle.oim_records.specs.Grids.{records_left};
 ghost use Rattle.oim_records.specs.PieceTaking.{TakesBytes, bytes_left};
 ghost use Rattle.oim_records.specs.Reads.{KeepsLeft, left_behind};
-ghost use Rattle.oim_pieces.specs.Cutting.{IsOver, TakesRows};
+ghost use Rattle.oim_pieces.specs.state.Cutting.{IsOver, TakesRows};
 
 use oim_records::{FilePiece, PieceReader};
 use oim_rows::{TableFault, TableKind, fault_of_read, whole_fault};
@@ -73,7 +73,7 @@ impl<R: Read + Drop> Model for Cutter<R> {
     ghost use Rattle.std.specs.Prelude.{◌≡◌, ◌≤◌, [], IfSome};
     ghost use Rattle.oim_records.specs.PieceTaking.{bytes_left};
     ghost use Rattle.oim_records.specs.Reads.{left_behind};
-    ghost use Rattle.oim_pieces.specs.Cutting.{CutterLeft, IsOver, left_over};
+    ghost use Rattle.oim_pieces.specs.state.Cutting.{CutterLeft, IsOver, left_over};
 
     ghost Value = { CutterLeft };
 

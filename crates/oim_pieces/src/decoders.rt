@@ -3,7 +3,7 @@
 ghost use Rattle.std.specs.Prelude.{◌≡◌, ◌≤◌, ◌<◌, List, IfSome, length};
 ghost use Rattle.oim_decode.specs.Heads.{table_header_in};
 ghost use Rattle.oim_records.specs.Grids.{Record};
-ghost use Rattle.oim_pieces.specs.Flights.{IsAnswer};
+ghost use Rattle.oim_pieces.specs.state.Flights.{IsAnswer};
 
 use oim_decode::{FirstRecords, PieceAnswer, PieceDecoder};
 use oim_report::Report;

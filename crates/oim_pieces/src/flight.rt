@@ -7,7 +7,8 @@ ghost use Rattle.oim_records.specs.PieceTaking.{bytes_left};
 ghost use Rattle.oim_records.specs.Reads.{left_behind};
 ghost use Rattle.oim_rows.specs.Header.{file_header_fault};
 ghost use Rattle.oim_rows.specs.Streams.{IsOutside, ending, stream_of};
-ghost use Rattle.oim_pieces.specs.Flights.{EndsWith, FewerSteps, IsFront, KeepsStream, NoMoreSteps, behind, steps_in, stream_in};
+ghost use Rattle.oim_pieces.specs.Flights.{FewerSteps};
+ghost use Rattle.oim_pieces.specs.state.Flights.{EndsWith, IsFront, KeepsStream, NoMoreSteps, behind, steps_in, stream_in};
 
 use crate::crew::Crew;
 use crate::cutter::Cutter;
@@ -48,7 +49,7 @@ pub(crate) struct Flight<'a, R: Read + Drop> {
 
 impl<'a, R: Read + Drop> Model for Flight<'a, R> {
     ghost use Rattle.std.specs.Prelude.{◌≡◌};
-    ghost use Rattle.oim_pieces.specs.Flights.{AreChained, FlightLeft};
+    ghost use Rattle.oim_pieces.specs.state.Flights.{AreChained, FlightLeft};
 
     ghost Value = { FlightLeft };
 

@@ -1,7 +1,7 @@
 //! A piece that is under way.
 
 ghost use Rattle.std.specs.Prelude.{◌≡◌, Some};
-ghost use Rattle.oim_pieces.specs.Flights.{IsAnswer};
+ghost use Rattle.oim_pieces.specs.state.Flights.{IsAnswer};
 ghost use Rattle.oim_pieces.specs.state.Sheets.{IsOf};
 
 use crate::crew::Crew;
@@ -35,7 +35,7 @@ impl Drop for Flying<'_> {
 }
 
 impl<'a> Model for Flying<'a> {
-    ghost use Rattle.oim_pieces.specs.Flights.{FlyingPiece};
+    ghost use Rattle.oim_pieces.specs.state.Flights.{FlyingPiece};
     ghost use Rattle.oim_pieces.specs.state.Comings.{Comes};
 
     ghost Value = { FlyingPiece };

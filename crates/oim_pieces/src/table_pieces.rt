@@ -6,7 +6,8 @@ ghost use Rattle.oim_records.specs.Grids.{grid};
 ghost use Rattle.oim_rows.specs.Header.{file_fault, file_header_fault};
 ghost use Rattle.oim_rows.specs.Streams.{IsOutside, ending, facts_of_rows, stream_of};
 ghost use Rattle.oim_rows.specs.declared.fault.TableKind.TheVariants as kind;
-ghost use Rattle.oim_pieces.specs.Flights.{FewerSteps, IsEnd, KeepsEnd, behind, steps_for};
+ghost use Rattle.oim_pieces.specs.Flights.{FewerSteps, IsEnd, KeepsEnd, steps_for};
+ghost use Rattle.oim_pieces.specs.state.Flights.{behind};
 
 use crate::flight::Flight;
 use crate::helpers::Helpers;
@@ -36,8 +37,9 @@ pub struct TablePieces<'a, R: Read + Drop> {
 
 impl<'a, R: Read + Drop> Model for TablePieces<'a, R> {
     ghost use Rattle.std.specs.Prelude.{length};
-    ghost use Rattle.oim_decode.specs.Blocks.{left_of};
-    ghost use Rattle.oim_pieces.specs.Flights.{PiecesLeft, stream_in};
+    ghost use Rattle.oim_decode.specs.state.Blocks.{left_of};
+    ghost use Rattle.oim_pieces.specs.Flights.{PiecesLeft};
+    ghost use Rattle.oim_pieces.specs.state.Flights.{stream_in};
 
     ghost Value = { PiecesLeft };
 

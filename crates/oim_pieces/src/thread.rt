@@ -3,7 +3,7 @@
 ghost use Rattle.std.specs.Prelude.{◌≡◌, ◌≤◌, ◌+◌, IfSome};
 ghost use Rattle.csv.specs.declared.parser.State.TheVariants as state;
 ghost use Rattle.oim_records.specs.Grids.{records_left};
-ghost use Rattle.oim_pieces.specs.Flights.{IsAnswer};
+ghost use Rattle.oim_pieces.specs.state.Flights.{IsAnswer};
 ghost use Rattle.oim_pieces.specs.state.Sheets.{IsPiece, IsReadBy};
 
 use crate::bins::Bin;

@@ -14,7 +14,8 @@ use Rattle.oim_decode.specs.Blocks.{GivesBlock, ReadsRows}
 use Rattle.oim_rows.specs.Streams.{IsOutside, Stream, ending, stream_of}
 use Rattle.oim_rows.specs.declared.fault.TableFault.{TableFault}
 use Rattle.oim_places.specs.Reports.{IsReportOf}
-use Rattle.oim_places.specs.FaultPlaces.{EndsStream, FoundIn, HasRecordOf, HasRow, IsFaultOf, IsPlaceAt, IsRowAt, fault_in, field_in, is_of_file, row_at, unknown_place}
+use Rattle.oim_places.specs.FaultPlaces.{FoundIn, HasRecordOf, HasRow, IsFaultOf, IsPlaceAt, IsRowAt, fault_in, field_in, is_of_file, row_at, unknown_place}
+use Rattle.oim_places.specs.state.FaultPlaces.{EndsStream}
 use Rattle.oim_places.specs.LineNumbers.{line_of_record}
 use Rattle.oim_places.specs.declared.fault_places.FaultPlace.{FaultPlace}
 use Rattle.oim_places.specs.declared.records.RowAgain.{RowAgain}

@@ -5,7 +5,8 @@ use Rattle.csv.proofs.RoundTrip.{read-write-many}
 use Rattle.csv.specs.Writing.{default_writer, row_text}
 use Rattle.oim_records.specs.Grids.{Field, Record, grid}
 use Rattle.oim_records.specs.Reads.{IsFileOf, TakesRecord}
-use Rattle.oim_places.specs.FaultPlaces.{FoundIn, HasRow, TakesNth}
+use Rattle.oim_places.specs.FaultPlaces.{FoundIn, HasRow}
+use Rattle.oim_places.specs.state.FaultPlaces.{TakesNth}
 use Rattle.oim_places.specs.FaultRows.{IsTextOf}
 use Rattle.oim_files.specs.Folders.{Files}
 

@@ -1,9 +1,9 @@
 -- What stands in the files of a report at the place of a table's fault: the line of its record, and the cells of the header and of the row.
-use Rattle.std.specs.Prelude.{◌≡◌, ◌⊎◌, ◌+◌, ℕ, zero, suc, Bool, true, false, List, [], ◌++◌, Option, Some, None, IfSome, drop, slice_get, unwrap_or}
+use Rattle.std.specs.Prelude.{◌≡◌, ◌⊎◌, ℕ, zero, suc, Bool, true, false, List, [], ◌++◌, Option, Some, None, IfSome, slice_get, unwrap_or}
 use Rattle.csv.specs.Records.{field_at}
 use Rattle.oim_records.specs.Grids.{Field, Record, grid}
 use Rattle.oim_files.specs.Metadata.{profile}
-use Rattle.oim_rows.specs.Streams.{IsOutside, Stream, table_stream}
+use Rattle.oim_rows.specs.Streams.{IsOutside, table_stream}
 use Rattle.oim_rows.specs.declared.fault.TableFault.{TableFault}
 use Rattle.oim_rows.specs.declared.fault.TableKind.{TableKind}
 use Rattle.oim_rows.specs.declared.fault.TableKind.TheVariants as kind
@@ -37,14 +37,6 @@ IsRowAt records (suc number) row = slice_get records (suc number) ≡ Some row
 -- the header of these records, and one of their rows
 abbrev pub HasRow : List Record → ℕ → Record → Record → Type 0
 HasRow records number header row = (slice_get records 0 ≡ Some header) × IsRowAt records number row
-
--- the same of the file of these bytes, where they are known
-abbrev pub FileHasRow : Option (List ℕ) → ℕ → Record → Record → Type 0
-FileHasRow file number header row = IfSome file (λ bytes. HasRow (grid bytes) number header row)
-
--- the record so many places behind the next one, and those that are left behind it
-abbrev pub TakesNth : List Record → ℕ → Record → Option (List Record) → Type 0
-TakesNth left before row after = (slice_get left before ≡ Some row) × (after ≡ Some (drop (before + 1) left))
 
 -- what is found in the file at a path of a folder, which is there
 abbrev pub FoundIn : Files → List ℕ → (List ℕ → Type 0) → Type 0
@@ -88,10 +80,6 @@ unknown_place = record { line = None; header = []; cell = [] }
 -- the first fault of the table whose file has these bytes
 abbrev pub fault_in : ReportValue → (table : ℕ) → List ℕ → Option TableFault
 fault_in report table bytes = (table_stream report table profile.rows (Some bytes)).fault
-
--- the fault of a table's stream as it is found by reading: a reader may fail and memory may run out
-abbrev pub EndsStream : (table : ℕ) → Stream → TableFault → Type 0
-EndsStream table s f = IsOutside table f ⊎ (s.fault ≡ Some f)
 
 -- the same of the table's file
 abbrev pub IsFaultOf : ReportValue → (table : ℕ) → List ℕ → TableFault → Type 0

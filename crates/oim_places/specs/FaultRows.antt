@@ -4,7 +4,6 @@ use Rattle.std.specs.Prelude.{◌≡◌, ℕ, List, [], ◌∷◌, ◌++◌, Opt
 use Rattle.std.specs.Fmt.{decimal}
 use Rattle.csv.specs.Machine.{next_record}
 use Rattle.csv.specs.Reading.{default_config}
-use Rattle.csv.specs.Records.{Row, fields_of, partial_of}
 use Rattle.csv.specs.Writing.{default_writer, row_text}
 use Rattle.csv.specs.declared.parser.State.TheVariants as state
 use Rattle.oim_records.specs.Grids.{Field, Record}
@@ -34,7 +33,3 @@ ReadsAs text fields = (later : List ℕ) → next_record default_config state.St
 pub record IsTextOf (fields : Record) (text : List ℕ) : Type 0 where
   pub written : text ≡ row_text default_writer fields
   pub reads : ReadsAs text fields
-
--- a field more stands behind those of a record
-abbrev pub PutsField : Row → Row → Field → Type 0
-PutsField before after field = (fields_of after ≡ fields_of before ++ field ∷ []) × (partial_of after ≡ [])

@@ -6,3 +6,4 @@ pub mod LineNumbers
 pub mod Pointers
 pub mod Reports
 pub mod Shown
+pub mod state

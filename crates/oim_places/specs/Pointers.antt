@@ -1,5 +1,5 @@
 -- The JSON pointer of a place, as a terminal is shown it.
-use Rattle.std.specs.Prelude.{ℕ, Bool, true, false, nat_eq, if◌then◌else◌, List, ◌++◌, chars, codes, flat_map}
+use Rattle.std.specs.Prelude.{ℕ, nat_eq, if◌then◌else◌, List, ◌++◌, chars, codes, flat_map}
 use Rattle.oim_meta.specs.Paths.{Path}
 use Rattle.oim_places.specs.Shown.{shown_char}
 
@@ -12,8 +12,3 @@ pointer_key key = codes "/" ++ flat_map pointer_char (chars key)
 
 abbrev pub pointer_of : Path → List ℕ
 pointer_of keys = flat_map pointer_key keys
-
--- a character of a key, or as it is shown
-abbrev pub char_of : Bool → ℕ → List ℕ
-char_of true c = pointer_char c
-char_of false c = shown_char c

@@ -28,7 +28,7 @@ is_unseen c =
 abbrev pub shown_char : ℕ → List ℕ
 shown_char c = if is_control c then escape_of c else if is_unseen c then long_escape_of c else encode_utf8 c
 
--- a text as a terminal is shown it: each character is seen
+-- a text as a terminal is shown it, with what nobody sees by its code
 abbrev pub shown : List ℕ → List ℕ
 shown text = flat_map shown_char (chars text)
 
@@ -36,7 +36,7 @@ shown text = flat_map shown_char (chars text)
 abbrev pub most_characters : ℕ
 most_characters = 80
 
--- the beginning of a text, of which each character is seen; two points stand for the rest
+-- the beginning of a text, shown likewise; two points stand for the rest
 abbrev pub excerpt_of : List ℕ → List ℕ
 excerpt_of text =
     if nat_lt most_characters (length (chars text)) then flat_map shown_char (take most_characters (chars text)) ++ codes ".." else shown text

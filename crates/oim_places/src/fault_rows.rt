@@ -4,7 +4,8 @@ ghost use Rattle.std.specs.Prelude.{◌≡◌, [], IfOk};
 ghost use Rattle.std.specs.Fmt.{decimal};
 ghost use Rattle.csv.specs.Records.{fields_of, partial_of};
 ghost use Rattle.csv.specs.Writing.{default_writer, row_text};
-ghost use Rattle.oim_places.specs.FaultRows.{IsTextOf, PutsField, fault_fields, fault_names, line_field};
+ghost use Rattle.oim_places.specs.FaultRows.{IsTextOf, fault_fields, fault_names, line_field};
+ghost use Rattle.oim_places.specs.state.FaultRows.{PutsField};
 
 use crate::fault_places::FaultPlace;
 use csv::{ByteRecord, WriterBuilder};

@@ -4,7 +4,8 @@ ghost use Rattle.std.specs.Prelude.{◌≡◌, ◌<◌, [], IfOk, IfSome, length
 ghost use Rattle.csv.specs.Records.{fields_of};
 ghost use Rattle.oim_records.specs.Grids.{grid};
 ghost use Rattle.oim_records.specs.Reads.{TakesRecord};
-ghost use Rattle.oim_places.specs.FaultPlaces.{EndsStream, FileHasRow, HasRow, IsFaultOf, TakesNth};
+ghost use Rattle.oim_places.specs.FaultPlaces.{HasRow, IsFaultOf};
+ghost use Rattle.oim_places.specs.state.FaultPlaces.{EndsStream, FileHasRow, TakesNth};
 
 use csv::ByteRecord;
 use oim_decode::TableBlocks;

@@ -1,7 +1,8 @@
-//! Texts of files and words as a terminal is shown them: each character is seen.
+//! Texts of files and words as a terminal is shown them: control characters, and blanks and marks that nobody sees, by their codes.
 
 ghost use Rattle.std.specs.Prelude.{◌≡◌, ◌<◌, ◌++◌, IfOk, chars, flat_map, string_bytes};
-ghost use Rattle.oim_places.specs.Pointers.{char_of, pointer_char};
+ghost use Rattle.oim_places.specs.Pointers.{pointer_char};
+ghost use Rattle.oim_places.specs.state.Pointers.{char_of};
 ghost use Rattle.oim_places.specs.Shown.{escape_of, hex_digit, is_unseen, long_escape_of, shown, shown_char};
 
 use oim_names::Text;

@@ -5,7 +5,7 @@ use Rattle.std.proofs.lemmas.List.{length-take-le, take-append-le, take_at}
 use Rattle.std.specs.Io.{ReadsAtMost}
 use borrow.Rule.Slice.PartMut.{post_of, put_mid}
 use Rattle.std.specs.Io.KnownBytes.{Consumes, IsAtEnd, Keeps, ReadConsumes, prepend_known}
-use Rattle.oim_records.specs.PieceTaking.{IsReadBehind}
+use Rattle.oim_records.specs.state.PieceTaking.{IsReadBehind}
 
 -- a vector whose elements were written, with as many as before
 pub written-back : (n : ℕ) (new old : List ℕ) → length old ≡ n → length new ≡ length old → take n (new ++ drop (length new) old) ≡ new

@@ -6,7 +6,9 @@ use Rattle.std.specs.Str.{chars, is_utf8}
 use Rattle.csv.specs.Machine.{next_record}
 use Rattle.csv.specs.Reading.{records_from, strip_bom}
 use Rattle.csv.specs.declared.parser.State.TheVariants as state
-use Rattle.oim_records.specs.state.Bytes.{ends_field, ends_line, is_quote, joins_field, is_unquoted}
+use Rattle.oim_records.specs.state.Bits.{differ, is_odd_below, is_set}
+use Rattle.oim_records.specs.state.Blocks.{block_scanned, but, cut_behind, cut_rows_behind, firsts, is_opener, led, may_open, rows_behind}
+use Rattle.oim_records.specs.state.Bytes.{ends_field, ends_line, is_quote, joins_field, is_unquoted, is_ascii, is_high}
 use Rattle.oim_records.specs.Cuts.{ended, is_between, state_after}
 use Rattle.oim_records.specs.state.Fields.{IsReadTo, IsWithin, fields_in}
 use Rattle.oim_records.specs.Grids.{Record, grid, records_left}
@@ -14,10 +16,10 @@ use Rattle.oim_records.specs.PieceTaking.{bytes_left}
 use Rattle.oim_records.specs.Pieces.{unread}
 use Rattle.oim_records.specs.state.Places as places
 use Rattle.oim_records.specs.state.Places.{at_field, ends_record, in_text, is_line_end, place_after, place_of}
-use Rattle.oim_records.specs.Reads.{left_in}
-use Rattle.oim_records.specs.state.Runs.{behind, is_quoted, is_special, moved, skipped, stops}
+use Rattle.oim_records.specs.state.Reads.{left_in}
+use Rattle.oim_records.specs.state.Runs.{behind, is_quoted, moved, skipped, stops}
 use Rattle.oim_records.specs.state.Scans.{fresh, scanned}
-use Rattle.oim_records.specs.Texts.{is_ascii, is_high, is_not_text}
+use Rattle.oim_records.specs.Texts.{is_not_text}
 use Rattle.oim_records.specs.declared.field.FieldRange.{FieldRange}
 use Rattle.oim_records.specs.declared.place.Place.TheVariants as place
 use Rattle.oim_records.specs.declared.scan.Scan.{Scan}
@@ -166,9 +168,6 @@ stopped = refl
 quoted_places : map is_quoted (place.Between ∷ place.FieldStart ∷ place.Field ∷ place.Quoted ∷ place.QuoteSeen ∷ []) ≡ false ∷ false ∷ false ∷ true ∷ false ∷ []
 quoted_places = refl
 
-special : map is_special letters ≡ false ∷ true ∷ true ∷ true ∷ false ∷ []
-special = refl
-
 moves : (map (moved place.Between) (codes ",a") ≡ place.FieldStart ∷ place.Field ∷ []) × (map (moved place.Quoted) (codes ",\n") ≡ place.Quoted ∷ place.Quoted ∷ [])
 moves = (refl, refl)
 
@@ -179,6 +178,36 @@ behind_runs = (refl, refl, refl, refl)
 skipped_run : skipped (record { place = place.Field; seen = 4; rows = 1; cut = 2; cut_rows = 1 }) (codes "ab,") ≡ record { place = place.FieldStart; seen = 7; rows = 1; cut = 2; cut_rows = 1 }
 unfolding behind
 skipped_run = refl
+
+-- BITS: 5 has the lowest bit and the one two places above
+bits : (map (is_set 5) (0 ∷ 1 ∷ 2 ∷ 3 ∷ []) ≡ true ∷ false ∷ true ∷ false ∷ []) × (map (is_odd_below 5) (0 ∷ 1 ∷ 2 ∷ 3 ∷ []) ≡ false ∷ true ∷ true ∷ false ∷ [])
+unfolding is_odd_below is_set
+bits = (refl, refl)
+
+either_alone : (map (differ true) (true ∷ false ∷ []) ≡ false ∷ true ∷ []) × (map (differ false) (true ∷ false ∷ []) ≡ true ∷ false ∷ [])
+either_alone = (refl, refl)
+
+-- BLOCKS
+first_alone : (map (but true) (true ∷ false ∷ []) ≡ false ∷ true ∷ []) × (map (but false) (true ∷ false ∷ []) ≡ false ∷ false ∷ [])
+first_alone = (refl, refl)
+
+openings : (map is_opener letters ≡ true ∷ true ∷ true ∷ true ∷ false ∷ [])
+    × (map may_open (place.Between ∷ place.FieldStart ∷ place.Field ∷ place.Quoted ∷ place.QuoteSeen ∷ []) ≡ true ∷ true ∷ false ∷ false ∷ true ∷ [])
+openings = (refl, refl)
+
+led_by_letters : (map (led false) letters ≡ place.FieldStart ∷ place.QuoteSeen ∷ place.Between ∷ place.Between ∷ place.Field ∷ []) × (map (led true) (codes ",a") ≡ place.Quoted ∷ place.Quoted ∷ [])
+led_by_letters = (refl, refl)
+
+-- of line ends that follow each other the first ends a record, if the one before the block does not
+first_ends : (firsts false (true ∷ true ∷ false ∷ true ∷ []) ≡ true ∷ false ∷ false ∷ true ∷ []) × (firsts true (true ∷ true ∷ false ∷ true ∷ []) ≡ false ∷ false ∷ false ∷ true ∷ [])
+unfolding firsts
+first_ends = (refl, refl)
+
+scanned_blocks : (block_scanned (record { place = place.Field; seen = 4; rows = 1; cut = 2; cut_rows = 1 }) place.Quoted (false ∷ true ∷ true ∷ false ∷ []) ≡ record { place = place.Quoted; seen = 8; rows = 2; cut = 7; cut_rows = 2 })
+    × (block_scanned (record { place = place.Between; seen = 4; rows = 1; cut = 4; cut_rows = 1 }) place.Field (true ∷ false ∷ []) ≡ record { place = place.Field; seen = 6; rows = 1; cut = 5; cut_rows = 1 })
+    × (block_scanned (record { place = place.Field; seen = 4; rows = 1; cut = 2; cut_rows = 1 }) place.Field (false ∷ false ∷ []) ≡ record { place = place.Field; seen = 6; rows = 1; cut = 2; cut_rows = 1 })
+unfolding rows_behind cut_behind cut_rows_behind
+scanned_blocks = (refl, refl, refl)
 
 -- BYTES
 field_ends : (map ends_field letters ≡ true ∷ false ∷ true ∷ true ∷ false ∷ []) × (map joins_field letters ≡ false ∷ true ∷ false ∷ false ∷ true ∷ [])

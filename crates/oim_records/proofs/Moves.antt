@@ -1,7 +1,7 @@
 -- Bytes that are moved to a place before them, sixteen at a time.
 use Rattle.std.proofs.Common.{◌≡◌, ℕ, zero, suc, ◌+◌, ◌-◌, ◌≤◌, List, [], ◌∷◌, ◌++◌, cond, map, length, take, drop, refl, sym, ap, ◌∙◌, arith, append_assoc, take-add, take_at, drop_at, drop-drop, length-take-le, length-drop, length-append, replicate, take-take, ◌^◌}
 use Rattle.std.specs.Prelude.{slice_range}
-use Rattle.std.specs.List.{range_with_len}
+use Rattle.std.specs.List.{prefix_len, range_with_len}
 use Rattle.std.proofs.lemmas.Bool.{le-leb, lt-leb}
 use Rattle.std.proofs.lemmas.List.{drop-append-le, take-append-drop}
 use Rattle.std.proofs.lemmas.Simd.{put_chunk_is, tops_compared, zip2_splat}
@@ -10,6 +10,7 @@ use lib.Lanes.{put_chunk, sel_l, top, zip2}
 use mir.Syntax.{w8}
 use mir.Val.{bits, hbits}
 use native.Mathlib.Decide.{dec_lt}
+use Rattle.oim_records.specs.state.Bytes.{is_unquoted}
 use Rattle.oim_records.proofs.Ranges.{same-behind, same-part}
 
 -- a vector is stored that begins with some bytes and ends with what stood there behind them
@@ -134,3 +135,9 @@ behind-on old mid new place from at to low high first second =
     let sum : place + (at - from) + (to - at) ≡ place + (to - from) = omega arith in
     let later = same-behind mid old (place + (at - from)) (place + (at - from) + (to - at)) first (omega arith) in
     ap (λ k. drop k new) (sym sum) ∙ second ∙ later ∙ ap (λ k. drop k old) sum
+
+-- the run up to the next quote goes on behind the bytes of it that were moved
+pub run-on : (old mid : List ℕ) (place from at : ℕ) → place ≤ from → from ≤ at → from + prefix_len is_unquoted (drop from old) ≡ at + prefix_len is_unquoted (drop at old)
+    → drop (place + (at - from)) mid ≡ drop (place + (at - from)) old → from + prefix_len is_unquoted (drop from old) ≡ at + prefix_len is_unquoted (drop at mid)
+run-on old mid place from at before low run behind =
+    run ∙ ap (λ xs. at + prefix_len is_unquoted xs) (sym (same-behind mid old (place + (at - from)) at behind (omega arith)))

@@ -2,8 +2,11 @@ pub mod Places
 pub mod Scans
 pub mod Runs
 pub mod Bits
+pub mod Blocks
 pub mod Bytes
 pub mod Fields
 pub mod Held
 pub mod PlainReaders
 pub mod ReadFaults
+pub mod PieceTaking
+pub mod Reads

@@ -2,7 +2,7 @@
 
 ghost use Rattle.std.specs.Prelude.{◌≡◌, ◌≤◌, ◌+◌, ◌<◌, IfOk, OnOk, length, take};
 ghost use Rattle.std.specs.Io.KnownBytes.{IsAtEnd};
-ghost use Rattle.oim_records.specs.PieceTaking.{IsReadBehind};
+ghost use Rattle.oim_records.specs.state.PieceTaking.{IsReadBehind};
 
 use std::alloc::AllocError;
 use std::io;

@@ -8,7 +8,8 @@ use Rattle.std.specs.Map.{keys_of, lookup, values_of}
 use Rattle.std.specs.Str.{bytes_eq}
 use Rattle.indexmap.specs.IndexMap.{set_value_at}
 use Rattle.oim_names.specs.Lookup.{value_at}
-use Rattle.oim_report.specs.Named.{ExtendsUnder, renamed, value_under}
+use Rattle.oim_report.specs.Named.{ExtendsUnder, value_under}
+use Rattle.oim_report.specs.state.Named.{renamed}
 
 -- a look-up by bytes is one in the entries that a contract sees
 pub lookup-renamed : {K V : Type 0} (bytes : K → List ℕ) (name : List ℕ) (entries : List (K × V)) → lookup (λ k. bytes_eq name (bytes k)) entries ≡ value_at name (renamed bytes entries)

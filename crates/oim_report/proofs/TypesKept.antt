@@ -5,7 +5,8 @@ use Rattle.std.specs.Option.{option_map, option_or}
 use Rattle.std.specs.List.{find}
 use Rattle.std.specs.Str.{bytes_eq}
 use Rattle.oim_report.specs.Named.{ExtendsUnder, Grouped, value_under}
-use Rattle.oim_report.specs.Types.{GivesKinds, TypesValue, is_of, kind_in}
+use Rattle.oim_report.specs.Types.{TypesValue, is_of, kind_in}
+use Rattle.oim_report.specs.state.Types.{GivesKinds}
 use Rattle.oim_report.specs.Types.{with_kind}
 use Rattle.oim_report.specs.declared.kind.Kind.{Kind}
 use Rattle.oim_report.specs.declared.typed_name.TypedName.{TypedName}

@@ -6,3 +6,4 @@ pub mod InOrder
 pub mod ReportValue
 pub mod Places
 pub mod Readers
+pub mod state

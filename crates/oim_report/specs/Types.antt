@@ -1,7 +1,6 @@
 -- The types of concepts and dimensions: the records of the types table, in file order.
-use Rattle.std.specs.Prelude.{◌≡◌, ℕ, List, [], ◌∷◌, ◌++◌, Bool, ◌&&◌, Option, option_map, find}
+use Rattle.std.specs.Prelude.{ℕ, List, [], ◌∷◌, ◌++◌, Bool, ◌&&◌, Option, option_map, find}
 use Rattle.std.specs.Str.{bytes_eq}
-use Rattle.oim_report.specs.Named.{Grouped, value_under}
 use Rattle.oim_report.specs.declared.kind.Kind.{Kind}
 use Rattle.oim_report.specs.declared.typed_name.TypedName.{TypedName}
 
@@ -15,10 +14,6 @@ is_of uri local name = bytes_eq name.uri uri && bytes_eq name.local local
 -- the kind of the concept or dimension of a URI and a local part: that of its record
 abbrev pub kind_in : TypesValue → List ℕ → List ℕ → Option Kind
 kind_in types uri local = option_map (λ (name : TypedName). name.kind) (find (is_of uri local) types)
-
--- kinds by local part, by URI: a look-up gives what the records say
-abbrev pub GivesKinds : Grouped Kind → TypesValue → Type 0
-GivesKinds groups types = (uri local : List ℕ) → value_under groups uri local ≡ kind_in types uri local
 
 -- the types with one more record, the last
 abbrev pub with_kind : TypesValue → List ℕ → List ℕ → Kind → TypesValue

@@ -19,7 +19,7 @@ pub struct Named<V> {
 impl<V> Model for Named<V> {
     ghost use Rattle.std.specs.Prelude.{List, ℕ};
     ghost use Rattle.std.specs.String.{string_bytes};
-    ghost use Rattle.oim_report.specs.Named.{renamed};
+    ghost use Rattle.oim_report.specs.state.Named.{renamed};
 
     ghost Value = { List (List ℕ × V) };
 

@@ -20,7 +20,8 @@ pub struct Types {
 }
 
 impl Model for Types {
-    ghost use Rattle.oim_report.specs.Types.{GivesKinds, TypesValue};
+    ghost use Rattle.oim_report.specs.Types.{TypesValue};
+    ghost use Rattle.oim_report.specs.state.Types.{GivesKinds};
 
     ghost Value = { TypesValue };
 

@@ -39,7 +39,8 @@ use Rattle.oim_resolve.specs.declared.fact.CellFault.{CellFault}
 use Rattle.oim_resolve.specs.declared.fact.CellFault.TheVariants as fault
 use Rattle.oim_resolve.specs.declared.role.Role.TheVariants as role
 use Rattle.oim_resolve.specs.Facts.{cell_result, early_result, rest_faults, fact_of, is_numeric, is_of_text, role_of, value_faults_of}
-use Rattle.oim_resolve.specs.Faults.{both, least_of, name_of, number_of}
+use Rattle.oim_resolve.specs.Faults.{name_of, number_of}
+use Rattle.oim_resolve.specs.state.ProgramFaults.{both, least_of}
 use Rattle.oim_resolve.specs.Order.{IsAscending, HasNamesInOrder}
 use Rattle.oim_resolve.specs.Values.{side_of}
 

@@ -3,7 +3,8 @@ use Rattle.std.proofs.Common.{◌≡◌, ℕ, true, false, List, [], ◌∷◌, 
 use Rattle.std.proofs.lemmas.Bool.Decides.{nat_tests}
 use Rattle.std.proofs.lemmas.List.{append-nil}
 use Rattle.oim_resolve.specs.declared.fact.CellFault.{CellFault}
-use Rattle.oim_resolve.specs.Faults.{number_of, lesser, least, least_of, both, unless}
+use Rattle.oim_resolve.specs.Faults.{number_of, lesser, least, unless}
+use Rattle.oim_resolve.specs.state.ProgramFaults.{least_of, both}
 
 above : (a b c : ℕ) → leb a b ≡ false → leb b c ≡ false → leb a c ≡ false
 above a b c e k = grind (arith, nat_tests)

@@ -11,7 +11,7 @@ use Rattle.std.specs.declared.cmp.Ordering.TheVariants.{Less, Equal, Greater}
 use Rattle.oim_names.specs.Lookup.{value_at}
 use Rattle.oim_report.specs.declared.data.Level.{Level}
 use Rattle.oim_report.specs.declared.data.Written.{Written}
-use Rattle.oim_resolve.specs.ProgramLevels.{named, merged_at, merged_levels, written_names, put_levels}
+use Rattle.oim_resolve.specs.state.ProgramLevels.{named, merged_at, merged_levels, written_names, put_levels}
 use Rattle.std.proofs.lemmas.Bool.{false≢true}
 use Rattle.oim_resolve.specs.Written.{put_name, names, written, written_decimals}
 use Rattle.std.proofs.lemmas.List.{reverse-append}

@@ -4,9 +4,10 @@ use Rattle.std.specs.Prelude.{if◌then◌else◌}
 use Rattle.oim_resolve.specs.FactParts.{FactParts as Fact}
 use Rattle.oim_resolve.specs.declared.fact.CellFault.{CellFault}
 use Rattle.oim_resolve.specs.Cell.{Cell}
-use Rattle.oim_resolve.specs.Faults.{least, unless, both}
+use Rattle.oim_resolve.specs.Faults.{least, unless}
+use Rattle.oim_resolve.specs.state.ProgramFaults.{both}
 use Rattle.oim_resolve.specs.FactValues.{ValueParts, value_given, faults_in, text_in, accuracy_in}
-use Rattle.oim_resolve.specs.ProgramValues.{text_read}
+use Rattle.oim_resolve.specs.state.ProgramValues.{text_read, decimals_read}
 use Rattle.std.specs.List.{flat_map}
 use Rattle.oim_report.specs.declared.kind.Kind.{Kind}
 use Rattle.oim_resolve.specs.Written.{levels, names}
@@ -14,7 +15,7 @@ use Rattle.oim_resolve.proofs.LeastFaults.{both_unless, pair}
 use Rattle.oim_cells.specs.Cells.{Meaning}
 use Rattle.oim_cells.specs.declared.cells.Accuracy.{Accuracy}
 use Rattle.oim_resolve.specs.Values.{Stated}
-use Rattle.oim_resolve.specs.Facts.{id_of, fact_value, fact_decimals, named_entry, dimension_entry, dimension_faults, decimals_faults, decimals_read, stated, is_absent}
+use Rattle.oim_resolve.specs.Facts.{id_of, fact_value, fact_decimals, named_entry, dimension_entry, dimension_faults, decimals_faults, stated, is_absent}
 use Rattle.oim_resolve.specs.Facts.{fact_meaning, cell_and_group_faults, concept_faults, concept_kind, rest_faults, fact_of, cell_result, early_result}
 
 unfoldable pub outcome : Bool → Option CellFault → Option CellFault → Option CellFault → Fact → Result (Option Fact) CellFault

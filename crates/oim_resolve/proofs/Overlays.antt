@@ -20,11 +20,10 @@ use Rattle.oim_report.specs.Readers.{column_of, template_of}
 use Rattle.oim_report.specs.declared.data.Level.{Level}
 use Rattle.oim_report.specs.declared.data.Written.{Written}
 use Rattle.oim_resolve.specs.Cell.{Cell, column, meaning_at}
-use Rattle.oim_resolve.specs.ProgramLevels.{named, merged_at, merged_levels, written_entries, written_names, put_levels}
+use Rattle.oim_resolve.specs.state.ProgramLevels.{named, merged_at, merged_levels, written_entries, written_names, put_levels}
 use Rattle.oim_resolve.specs.state.ProgramDimensions.{row_entries}
 use Rattle.oim_resolve.specs.Order.{IsAscending}
-use Rattle.oim_resolve.specs.ProgramPlan.{Entry, Keyed, entry_in, group_in, planned_levels, planned_column, planned_level}
-use Rattle.oim_resolve.specs.ProgramPlan.{put_entry, put_entries, keep, over, with_named, seen_planned, seen_keyed, seen_flagged, seen_group}
+use Rattle.oim_resolve.specs.state.ProgramPlan.{Entry, Keyed, entry_in, group_in, planned_levels, planned_column, planned_level, put_entry, put_entries, keep, over, with_named, seen_planned, seen_keyed, seen_flagged, seen_group}
 use Rattle.oim_resolve.specs.declared.plan.dimension.PlannedDimension.{PlannedDimension}
 use Rattle.oim_resolve.specs.declared.plan.group.PlannedGroup.{PlannedGroup}
 use Rattle.oim_resolve.specs.state.Rows.{planned_named, planned_groups, row_map}

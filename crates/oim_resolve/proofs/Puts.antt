@@ -10,7 +10,7 @@ use Rattle.std.proofs.lemmas.List.{take_more, at_drop_more, take-append-drop, ma
 use Rattle.std.proofs.lemmas.Grind.{get_or-set_at}
 use Rattle.oim_resolve.specs.declared.plan.dimension.PlannedDimension.{PlannedDimension}
 use Rattle.oim_resolve.specs.ProgramCell.{held}
-use Rattle.oim_resolve.specs.ProgramPlan.{Keyed, put_entry, seen_keyed}
+use Rattle.oim_resolve.specs.state.ProgramPlan.{Keyed, put_entry, seen_keyed}
 
 -- the entries below place i come before e
 abbrev pub PutsEntryFrom : List Keyed → ℕ → Keyed → Type 0

@@ -14,10 +14,11 @@ use Rattle.oim_resolve.specs.declared.role.Role.{Role}
 use Rattle.oim_resolve.specs.declared.role.Role.TheVariants as role
 use Rattle.oim_resolve.specs.Cell.{Cell}
 use Rattle.oim_resolve.specs.Facts.{given, role_of, is_dropped, value_faults_of, entry_given, value_read, dimension_faults, dimension_entry, named_entry, concept_read}
-use Rattle.oim_resolve.specs.Faults.{least, unless, both}
-use Rattle.oim_resolve.specs.ProgramLevels.{named}
+use Rattle.oim_resolve.specs.Faults.{least, unless}
+use Rattle.oim_resolve.specs.state.ProgramFaults.{both}
+use Rattle.oim_resolve.specs.state.ProgramLevels.{named}
 use Rattle.oim_resolve.specs.state.ProgramDimensions.{Dimensions, dimension_read, named_read, dimensions_of, dimension_concept, row_meaning, row_entries}
-use Rattle.oim_resolve.specs.ProgramPlan.{Entry, entry_in}
+use Rattle.oim_resolve.specs.state.ProgramPlan.{Entry, entry_in}
 use Rattle.oim_resolve.specs.Values.{value, side_of}
 use Rattle.oim_resolve.specs.state.Rows.{row_map}
 use Rattle.oim_resolve.specs.Written.{names, written, levels}

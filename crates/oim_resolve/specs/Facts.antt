@@ -60,7 +60,7 @@ is_text test _ = false
 abbrev pub fact_meaning : Cell → Meaning
 fact_meaning c = meaning_at c c.column
 
--- STEP 1
+-- STEP 1: the cell itself, and the cells of its row that name property groups
 
 -- the row's cell at a place says something, and names no group of its column
 abbrev pub names_no_group : Cell → ℕ → Bool
@@ -73,7 +73,7 @@ cell_and_group_faults c =
     fault_if UnknownSpecial (is_unknown (fact_meaning c) || list_any (λ i. is_unknown (meaning_at c i)) (column c).from)
     ++ fault_if UnknownGroup (list_any (names_no_group c) (column c).from)
 
--- STEP 2
+-- STEP 2: the concept, which says of what kind the value is
 
 -- what the row gives for a dimension: Absent where no level writes it
 abbrev pub given : Cell → List ℕ → Meaning
@@ -120,7 +120,7 @@ concept_read r v = unless (least (concept_faults_of r v)) (Ok (text_kind r v))
 abbrev pub concept_kind : Cell → Kind
 concept_kind c = text_kind c.report (given c (codes "concept"))
 
--- STEP 3
+-- STEP 3: the other dimensions, the value and the decimals
 
 abbrev pub is_numeric : Kind → Bool
 is_numeric (kind.Number n) = true
@@ -293,10 +293,6 @@ decimals_given k v suffix s =
     if is_numeric k && not (is_nil v)
     then option_and_then places (if is_none suffix then stated_accuracy s else suffix)
     else None
-
--- the decimals read: their least fault, or those of the fact
-abbrev pub decimals_read : Kind → Meaning → Option Accuracy → Stated → Result (Option ℤ) CellFault
-decimals_read k v suffix s = unless (least (decimals_faults_of k v suffix s)) (Ok (decimals_given k v suffix s))
 
 abbrev pub fact_decimals : Cell → Kind → Option ℤ
 fact_decimals c k = decimals_given k (fact_meaning c) (accuracy_in (fact_value c k)) (stated c)

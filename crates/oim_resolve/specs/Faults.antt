@@ -1,5 +1,5 @@
 -- The faults of a cell, each with its number and its name, and the least of a set. (what the converter answers for a cell that breaks xBRL-CSV 1.0)
-use Rattle.std.specs.Prelude.{ℕ, codes, List, [], ◌∷◌, Bool, true, false, Option, Some, None, Result, Ok, Err, nat_le, if◌then◌else◌}
+use Rattle.std.specs.Prelude.{ℕ, codes, List, [], ◌∷◌, Bool, true, false, Option, Some, None, Result, Err, nat_le, if◌then◌else◌}
 use Rattle.std.specs.Option.{option_map_or}
 use Rattle.oim_resolve.specs.declared.fact.CellFault.{CellFault}
 use Rattle.oim_resolve.specs.declared.fact.CellFault.TheVariants.{UnknownSpecial, UnknownGroup, NoConcept, UnknownName, BadReference, BadValue}
@@ -51,15 +51,3 @@ least (f ∷ fs) = Some (option_map_or (lesser f) (least fs) f)
 abbrev pub unless : {A : Type 0} → Option CellFault → Result A CellFault → Result A CellFault
 unless (Some f) r = Err f
 unless None r = r
-
--- of two faults that may be there, the lesser
-abbrev pub least_of : Option CellFault → Option CellFault → Option CellFault
-least_of None g = g
-least_of (Some f) g = Some (option_map_or (lesser f) g f)
-
--- two readings together: what both give, or the lesser of their faults
-abbrev pub both : {A B C : Type 0} → (A → B → C) → Result A CellFault → Result B CellFault → Result C CellFault
-both join (Ok a) (Ok b) = Ok (join a b)
-both join (Ok a) (Err g) = Err g
-both join (Err f) (Ok b) = Err f
-both join (Err f) (Err g) = Err (lesser f g)

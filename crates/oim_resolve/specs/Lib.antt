@@ -8,6 +8,5 @@ pub mod Facts
 pub mod Order
 pub mod ProgramCell
 pub mod ProgramValues
-pub mod ProgramLevels
 pub mod ProgramPlan
 pub mod state

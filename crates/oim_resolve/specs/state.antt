@@ -1,3 +1,8 @@
 pub mod Rows
 pub mod ProgramPlace
 pub mod ProgramDimensions
+pub mod ProgramLevels
+pub mod ProgramPlan
+pub mod ProgramFaults
+pub mod ProgramValues
+pub mod ProgramCell

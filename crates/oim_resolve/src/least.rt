@@ -1,7 +1,8 @@
 //! Two readings together: of two faults the lesser.
 
 ghost use Rattle.std.specs.Prelude.{◌≡◌};
-ghost use Rattle.oim_resolve.specs.Faults.{both, lesser};
+ghost use Rattle.oim_resolve.specs.Faults.{lesser};
+ghost use Rattle.oim_resolve.specs.state.ProgramFaults.{both};
 
 use crate::fact::CellFault;
 

@@ -13,8 +13,8 @@ ghost use Rattle.oim_report.specs.Readers.{columns_of};
 ghost use Rattle.oim_resolve.specs.Cell.{IsCell, cell_of};
 ghost use Rattle.oim_resolve.specs.Facts.{cell_result, early_result};
 ghost use Rattle.oim_resolve.specs.Order.{HasNamesInOrder};
-ghost use Rattle.oim_resolve.specs.ProgramCell.{cell_at};
-ghost use Rattle.oim_resolve.specs.ProgramPlan.{ArePlanned};
+ghost use Rattle.oim_resolve.specs.state.ProgramCell.{cell_at};
+ghost use Rattle.oim_resolve.specs.state.ProgramPlan.{ArePlanned};
 
 use crate::cell::{Place, PlannedCell};
 use crate::fact::{CellFault, Fact, Row};
@@ -39,7 +39,8 @@ pub struct Plan<'a> {
 }
 
 impl<'a> Model for Plan<'a> {
-    ghost use Rattle.oim_resolve.specs.ProgramPlan.{IsPlan, PlanOf};
+    ghost use Rattle.oim_resolve.specs.ProgramPlan.{PlanOf};
+    ghost use Rattle.oim_resolve.specs.state.ProgramPlan.{IsPlan};
 
     ghost Value = { PlanOf };
 

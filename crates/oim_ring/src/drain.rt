@@ -2,7 +2,7 @@
 
 ghost use Rattle.std.specs.Prelude.{◌≡◌, false, [], ◌∷◌, ◌++◌, IfSome, IfNone};
 ghost use Rattle.rtrb.specs.Ring.{received};
-ghost use Rattle.oim_ring.specs.Ends.{taker_ring};
+ghost use Rattle.oim_ring.specs.state.Ends.{taker_ring};
 ghost use Rattle.oim_ring.specs.Items.{blocks_only};
 
 use crate::backlog::BacklogHandle;
@@ -24,7 +24,8 @@ pub struct Drain {
 
 impl Model for Drain {
     ghost use Rattle.rtrb.specs.Ring.{received};
-    ghost use Rattle.oim_ring.specs.Ends.{DrainView, taker_ring};
+    ghost use Rattle.oim_ring.specs.Ends.{DrainView};
+    ghost use Rattle.oim_ring.specs.state.Ends.{taker_ring};
 
     ghost Value = { DrainView };
 

@@ -3,7 +3,7 @@
 ghost use Rattle.std.specs.Prelude.{◌≡◌, ◌<◌, ◌≤◌, ◌-◌, [], ◌∷◌, ◌++◌, true, length, IsOk, OnOk, IfErr};
 ghost use Rattle.rtrb.specs.Ring.{sent, producer_capacity};
 ghost use Rattle.oim_ring.specs.Closing.{Closes};
-ghost use Rattle.oim_ring.specs.Ends.{sender_ring};
+ghost use Rattle.oim_ring.specs.state.Ends.{sender_ring};
 ghost use Rattle.oim_ring.specs.FaultNames.{name_of, number_of};
 ghost use Rattle.oim_ring.specs.Items.{blocks_only};
 ghost use Rattle.oim_ring.specs.declared.item.Item.TheVariants as items;
@@ -31,7 +31,8 @@ impl Model for Feed {
     ghost use Rattle.std.specs.Prelude.{◌≡◌, ◌-◌, true};
     ghost use Rattle.rtrb.specs.Ring.{sent, producer_capacity};
     ghost use Rattle.oim_ring.specs.Items.{blocks_only};
-    ghost use Rattle.oim_ring.specs.Ends.{FeedView, sender_ring};
+    ghost use Rattle.oim_ring.specs.Ends.{FeedView};
+    ghost use Rattle.oim_ring.specs.state.Ends.{sender_ring};
 
     ghost Value = { FeedView };
 
@@ -50,7 +51,8 @@ pub struct Closed {
 impl Model for Closed {
     ghost use Rattle.rtrb.specs.Ring.{all_sent};
     ghost use Rattle.oim_ring.specs.Items.{EndsOnce};
-    ghost use Rattle.oim_ring.specs.Ends.{ClosedView, finished_ring};
+    ghost use Rattle.oim_ring.specs.Ends.{ClosedView};
+    ghost use Rattle.oim_ring.specs.state.Ends.{finished_ring};
 
     ghost Value = { ClosedView };
 

@@ -3,7 +3,6 @@ use Rattle.std.specs.Prelude.{ℕ, List}
 use Rattle.oim_records.specs.Grids.{Record}
 use Rattle.oim_report.specs.Readers.{column_of, columns_of}
 use Rattle.oim_report.specs.declared.data.Column.{Column}
-use Rattle.oim_resolve.specs.Cell.{Cell, cell_of}
 use Rattle.oim_resolve.specs.declared.fact.Row.{Row}
 use Rattle.oim_rows.specs.RowFacts.{TableHeaderValue, row_of}
 
@@ -16,10 +15,6 @@ pub record RowValue : Type 0 where
 -- the row with a cell for each column of the template
 abbrev pub row_in : RowValue → Row
 row_in x = row_of x.header x.number x.fields
-
--- the cell of a column in it
-abbrev pub cell_in : RowValue → ℕ → Cell
-cell_in x c = cell_of x.header.report x.header.table (row_in x) c
 
 -- the columns of the table's template
 abbrev pub columns_in : TableHeaderValue → List Column

@@ -11,7 +11,8 @@ use Rattle.oim_resolve.specs.FactParts.{FactParts as Fact}
 use Rattle.oim_resolve.specs.declared.fact.CellFault.{CellFault}
 use Rattle.oim_resolve.specs.declared.fact.CellFault.TheVariants.{UnknownSpecial, UnknownGroup, NoConcept, UnknownName, BadReference, Memory}
 use Rattle.oim_resolve.specs.declared.fact.Row.{Row}
-use Rattle.oim_rows.specs.RowFacts.{at_place, early_fact_at, is_fact_column}
+use Rattle.oim_rows.specs.RowFacts.{at_place, is_fact_column}
+use Rattle.oim_rows.specs.state.RowFacts.{early_fact_at}
 use Rattle.oim_rows.specs.declared.fault.TableFault.{TableFault}
 
 first_step : (a b : Bool) → least (fault_if UnknownSpecial a ++ fault_if UnknownGroup b) ≡ Some Memory → ⊥

@@ -24,8 +24,10 @@ use Rattle.oim_records.specs.declared.read_fault.ReadFault.TheVariants as read
 use Rattle.oim_rows.specs.Header.{fault_at, file_fault, file_header_fault, header_fault, header_of, is_column, names_row_id}
 use Rattle.oim_rows.specs.Identifiers.{facts_of_tables}
 use Rattle.oim_rows.specs.state.Progressing.{left_of}
-use Rattle.oim_rows.specs.RowFacts.{TableHeaderValue, cell_at, early_fact_at, fact_at, facts_from, id_kind, is_fact_column, row_fault, row_id_text, row_result, source_of_column}
-use Rattle.oim_rows.specs.Streams.{answer_of, early_header_fault, early_row_answer, ending, facts_of, fault_of_read, kept_answer, row_answer, stream_from, stream_of, table_stream}
+use Rattle.oim_rows.specs.RowFacts.{TableHeaderValue, cell_at, fact_at, facts_from, id_kind, is_fact_column, row_fault, row_id_text, row_result, source_of_column}
+use Rattle.oim_rows.specs.state.RowFacts.{early_fact_at}
+use Rattle.oim_rows.specs.Streams.{answer_of, ending, facts_of, fault_of_read, kept_answer, stream_from, stream_of, table_stream}
+use Rattle.oim_rows.specs.state.Streams.{early_header_fault, early_row_answer, row_answer}
 use Rattle.oim_rows.specs.WholeTable.{ids_of, row_after, row_at}
 use Rattle.oim_rows.specs.declared.fault.TableKind.TheVariants as kind
 

@@ -10,7 +10,8 @@ use Rattle.oim_records.specs.declared.read_fault.ReadFault.TheVariants as read
 use Rattle.oim_rows.specs.Header.{Header, file_fault, file_header_fault, header_fault, header_of}
 use Rattle.oim_rows.specs.declared.fault.TableKind.TheVariants as kind
 use Rattle.oim_rows.specs.RowFacts.{TableHeaderValue, checked, facts_from, id_place_of, ids_after, row_fault, row_of, row_result}
-use Rattle.oim_rows.specs.Streams.{GivesNext, IsOutside, OrNoMemory, Stream, early_header_fault, early_row_answer, fault_of_read, row_answer, TakesHeader, stream_from, stream_of}
+use Rattle.oim_rows.specs.Streams.{GivesNext, IsOutside, OrNoMemory, Stream, fault_of_read, TakesHeader, stream_from, stream_of}
+use Rattle.oim_rows.specs.state.Streams.{early_header_fault, early_row_answer, row_answer}
 use Rattle.oim_rows.specs.declared.fault.TableFault.{TableFault}
 
 pub gives_end : (table n : ℕ) (g : TableHeaderValue) (ids : List Field) (old new : Option (List Record)) (r : Record) (after : Option Stream) → TakesRecord old false r new

@@ -95,10 +95,6 @@ header_faults report table r =
 abbrev pub header_fault : ReportValue → ℕ → Record → Option TableFault
 header_fault report table r = first_of (header_faults report table r)
 
--- a column twice, or a missing column of row identifiers
-abbrev pub columns_fault : ReportValue → ℕ → Header → Option TableFault
-columns_fault report table h = or_else (repeated_fault table h) (row_id_fault report table h)
-
 -- the first fault of a table's file before its rows
 abbrev pub file_header_fault : ReportValue → ℕ → List Record → Option TableFault
 file_header_fault report table [] = Some (file_fault table kind.NoHeader)

@@ -1,6 +1,6 @@
 -- The facts of one row of a table, or its first fault.
 -- xBRL-CSV 1.0, table files: a row has a cell for each column of the header; the row identifier is the text of the template's column for it.
-use Rattle.std.specs.Prelude.{⊤, ◌≡◌, List, [], ◌∷◌, ◌++◌, ℕ, ◌+◌, Bool, true, false, not, ◌==◌, nat_lt, if◌then◌else◌}
+use Rattle.std.specs.Prelude.{◌≡◌, List, [], ◌∷◌, ◌++◌, ℕ, ◌+◌, Bool, false, not, ◌==◌, nat_lt, if◌then◌else◌}
 use Rattle.std.specs.Prelude.{Option, Some, None, option_map, map, length, Result, Ok, Err, codes, decimal, unwrap_or, slice_get}
 use Rattle.std.specs.List.{enumerate_from, list_any, position_from, range_with_len}
 use Rattle.std.specs.Option.{option_map_or}
@@ -12,7 +12,7 @@ use Rattle.oim_report.specs.Readers.{columns_of, holds_facts, template_of}
 use Rattle.oim_report.specs.ReportValue.{ReportValue}
 use Rattle.oim_report.specs.declared.data.Column.{Column}
 use Rattle.oim_resolve.specs.Cell.{cell_of}
-use Rattle.oim_resolve.specs.Facts.{cell_result, early_result}
+use Rattle.oim_resolve.specs.Facts.{cell_result}
 use Rattle.oim_resolve.specs.declared.fact.CellFault.{CellFault}
 use Rattle.oim_resolve.specs.FactParts.{FactParts as Fact}
 use Rattle.oim_resolve.specs.declared.fact.Row.{Row}
@@ -113,11 +113,6 @@ abbrev pub fact_at : ReportValue → ℕ → Row → ℕ → Option ℕ → Resu
 fact_at report table row p None = Ok None
 fact_at report table row p (Some c) = if is_fact_column (columns_of report table) c then at_place table row.number (p + 1) (cell_result (cell_of report table row c)) else Ok None
 
--- the same by the first two steps of the cell, where these settle it
-abbrev pub early_fact_at : ReportValue → ℕ → Row → ℕ → Option ℕ → Option (Result (Option Fact) TableFault)
-early_fact_at report table row p None = Some (Ok None)
-early_fact_at report table row p (Some c) = if is_fact_column (columns_of report table) c then option_map (at_place table row.number (p + 1)) (early_result (cell_of report table row c)) else Some (Ok None)
-
 -- one more answer in front
 abbrev pub in_front : Result (Option Fact) TableFault → Result (List Fact) TableFault → Result (List Fact) TableFault
 in_front (Err e) r = Err e
@@ -146,8 +141,3 @@ row_result g n ids r = checked (row_fault g n ids r) (facts_from g.report g.tabl
 abbrev pub ids_after : Option ℕ → List Field → Record → List Field
 ids_after None ids r = ids
 ids_after (Some p) ids r = ids ++ unwrap_or (field_at r p) [] ∷ []
-
--- no earlier row has the row's identifier
-abbrev pub IsNewId : Option ℕ → List Field → Record → Type 0
-IsNewId None ids r = ⊤
-IsNewId (Some p) ids r = list_any (bytes_eq (unwrap_or (field_at r p) [])) ids ≡ false

@@ -1,6 +1,6 @@
 -- A table's stream: all its facts, row by row, up to its first fault.
 -- xBRL-CSV 1.0, table files: the first record is the header, row n is the nth record after it.
-use Rattle.std.specs.Prelude.{⊤, List, [], ◌∷◌, ◌≡◌, ◌⊎◌, ℕ, ◌+◌, Bool, true, false, if◌then◌else◌, Option, Some, None, option_map, Result, Ok, Err}
+use Rattle.std.specs.Prelude.{⊤, List, [], ◌∷◌, ◌≡◌, ◌⊎◌, ℕ, ◌+◌, if◌then◌else◌, Option, Some, None, Result, Ok, Err}
 use Rattle.std.specs.List.{flat_map}
 use Rattle.oim_records.specs.Grids.{Field, Record, grid}
 use Rattle.oim_report.specs.Readers.{columns_of, table_of}
@@ -8,8 +8,8 @@ use Rattle.oim_report.specs.ReportValue.{ReportValue}
 use Rattle.oim_records.specs.declared.read_fault.ReadFault.{ReadFault}
 use Rattle.oim_records.specs.declared.read_fault.ReadFault.TheVariants as read
 use Rattle.oim_resolve.specs.FactParts.{FactParts as Fact}
-use Rattle.oim_rows.specs.Header.{Header, file_fault, header_fault, header_of, unknown_fault}
-use Rattle.oim_rows.specs.RowFacts.{TableHeaderValue, id_place_of, ids_after, row_fault, row_result}
+use Rattle.oim_rows.specs.Header.{Header, file_fault, header_fault, header_of}
+use Rattle.oim_rows.specs.RowFacts.{TableHeaderValue, id_place_of, ids_after, row_result}
 use Rattle.oim_rows.specs.declared.fault.TableFault.{TableFault}
 use Rattle.oim_rows.specs.declared.fault.TableKind.TheVariants as kind
 
@@ -69,23 +69,6 @@ abbrev pub fault_of_read : ℕ → ReadFault → TableFault
 fault_of_read table read.Read = file_fault table kind.Read
 fault_of_read table read.Memory = file_fault table kind.Memory
 
--- what the reader's answer for the header gives without memory: its own fault, that there is no record, or a cell that is not empty and names no column
-abbrev pub early_header_fault : ReportValue → ℕ → Result Bool ReadFault → Record → Option TableFault
-early_header_fault report table (Err f) r = Some (fault_of_read table f)
-early_header_fault report table (Ok false) r = Some (file_fault table kind.NoHeader)
-early_header_fault report table (Ok true) r = unknown_fault report table r
-
--- what the reader's answer for row n gives without memory: its own fault, the end, or a fault of the row itself
-abbrev pub early_row_answer : TableHeaderValue → ℕ → List Field → Result Bool ReadFault → Record → Option (Result (Option (List Fact)) TableFault)
-early_row_answer g n ids (Err f) r = Some (Err (fault_of_read g.table f))
-early_row_answer g n ids (Ok false) r = Some (Ok None)
-early_row_answer g n ids (Ok true) r = option_map Err (row_fault g n ids r)
-
--- the facts of a row as an answer
-abbrev pub row_answer : Result (List Fact) TableFault → Result (Option (List Fact)) TableFault
-row_answer (Ok facts) = Ok (Some facts)
-row_answer (Err e) = Err e
-
 -- the answer, unless memory ran out
 abbrev pub OrNoMemory : {A : Type 0} → ℕ → Result A TableFault → Result A TableFault → Type 0
 OrNoMemory table result answer = (result ≡ Err (file_fault table kind.Memory)) ⊎ (result ≡ answer)
@@ -97,10 +80,6 @@ GivesNext table s (Ok (Some facts)) None = ⊥
 GivesNext table s (Ok (Some facts)) (Some rest) = s ≡ row_in_front (Ok facts) rest
 GivesNext table s (Ok None) after = s ≡ ending None
 GivesNext table s (Err e) after = IsOutside table e ⊎ (s ≡ ending (Some e))
-
--- row n is read: the identifiers before and after it, the records from it on and behind it
-abbrev pub GivesRow : TableHeaderValue → ℕ → (before after : List Field) → List Record → Result (Option (List Fact)) TableFault → Option (List Record) → Type 0
-GivesRow g n before after rs result left = GivesNext g.table (stream_from g n before rs) result (option_map (stream_from g (n + 1) after) left)
 
 -- what is answered again after an answer
 abbrev pub kept_answer : Result (Option (List Fact)) TableFault → Option (Option TableFault)

@@ -1,7 +1,8 @@
 //! How the records of one table become the facts of its rows.
 
 ghost use Rattle.std.specs.Prelude.{◌≡◌, ◌≤◌, Err, IfOk, IfSome, OnErr, OnOk};
-ghost use Rattle.oim_rows.specs.RowFacts.{IsNewId, IsTextRecord, id_place_of, ids_after, row_fault, row_result};
+ghost use Rattle.oim_rows.specs.RowFacts.{IsTextRecord, id_place_of, ids_after, row_fault, row_result};
+ghost use Rattle.oim_rows.specs.state.RowFacts.{IsNewId};
 ghost use Rattle.oim_rows.specs.Streams.{OrNoMemory};
 
 use crate::cells::text_at;

@@ -3,8 +3,9 @@
 ghost use Rattle.std.specs.Prelude.{◌≡◌, ◌<◌, ◌⊎◌, [], IfOk, IfErr, IfSome, None, Some, Ok, Err, true, take, length};
 ghost use Rattle.std.specs.List.{All, list_any, position_from};
 ghost use Rattle.oim_report.specs.Readers.{columns_of as columns_in, template_of};
-ghost use Rattle.oim_rows.specs.Header.{columns_fault, named_column, file_fault, file_header_fault, header_fault, header_of, is_column, is_unknown, names_row_id, place_of, repeat_from};
-ghost use Rattle.oim_rows.specs.Streams.{IsOutside, TakesHeader, early_header_fault};
+ghost use Rattle.oim_rows.specs.Header.{named_column, file_fault, file_header_fault, header_fault, header_of, is_column, is_unknown, names_row_id, place_of, repeat_from};
+ghost use Rattle.oim_rows.specs.state.Streams.{columns_fault, early_header_fault};
+ghost use Rattle.oim_rows.specs.Streams.{IsOutside, TakesHeader};
 
 use crate::cells::field;
 use crate::fault::{TableFault, TableKind, fault_at_place, fault_of_read, whole_fault};

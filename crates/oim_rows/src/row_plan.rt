@@ -4,7 +4,8 @@ ghost use Rattle.std.specs.Prelude.{◌≡◌, ◌<◌, Err, IfOk, IfSome, OnOk,
 ghost use Rattle.std.specs.List.{range_with_len};
 ghost use Rattle.std.specs.String.{string_bytes};
 ghost use Rattle.oim_report.specs.Readers.{columns_of};
-ghost use Rattle.oim_rows.specs.RowFacts.{IsTextRecord, early_fact_at, fact_at, facts_from, field_or_empty};
+ghost use Rattle.oim_rows.specs.RowFacts.{IsTextRecord, fact_at, facts_from, field_or_empty};
+ghost use Rattle.oim_rows.specs.state.RowFacts.{early_fact_at};
 ghost use Rattle.oim_rows.specs.RowFacts.{id_place_of, is_fact_column, row_id_text, row_of, source_of_column};
 ghost use Rattle.oim_rows.specs.Streams.{OrNoMemory};
 

@@ -4,7 +4,8 @@ ghost use Rattle.std.specs.Prelude.{◌≡◌, ◌⊎◌, ◌≤◌, ◌<◌, �
 ghost use Rattle.oim_records.specs.Grids.{grid};
 ghost use Rattle.oim_rows.specs.Header.{file_header_fault};
 ghost use Rattle.oim_rows.specs.RowFacts.{id_place_of, ids_after, row_result};
-ghost use Rattle.oim_rows.specs.Streams.{GivesNext, GivesRow, IsOutside, OrNoMemory, answer_of, early_row_answer, row_answer, kept_answer, stream_from, stream_of};
+ghost use Rattle.oim_rows.specs.Streams.{GivesNext, IsOutside, OrNoMemory, answer_of, kept_answer, stream_from, stream_of};
+ghost use Rattle.oim_rows.specs.state.Streams.{GivesRow, early_row_answer, row_answer};
 ghost use Rattle.oim_rows.specs.WholeTable.{IsTableStream};
 
 use crate::decoder::Decoder;
@@ -120,10 +121,12 @@ impl<'a, R: Read + Drop> Rows<'a, R> {
         ensures stream { IfSome (R.remaining reader) (λ bytes. IfOk result (λ rows. rows.left ≡ Some (stream_of report.now table limits.rows (grid bytes)))) }
         ensures header { IfSome (R.remaining reader) (λ bytes. IfOk result (λ _. file_header_fault report.now table (grid bytes) ≡ None)) }
         // Said of all rows at once.
-        ensures whole { IfSome (R.remaining reader) (λ bytes. IfOk result (λ rows. IfSome rows.left (IsTableStream report.now table limits.rows (Some bytes)))) }
+        ensures whole { IfSome (R.remaining reader) (λ bytes.
+            IfOk result (λ rows. IfSome rows.left (IsTableStream report.now table limits.rows (Some bytes)))) }
 
         // Its fault, unless the reader failed or memory ran out.
-        ensures fault { IfSome (R.remaining reader) (λ bytes. IfErr result (λ e. IsOutside table e ⊎ (file_header_fault report.now table (grid bytes) ≡ Some e))) }
+        ensures fault { IfSome (R.remaining reader) (λ bytes. IfErr result (λ e. IsOutside table e
+            ⊎ (file_header_fault report.now table (grid bytes) ≡ Some e))) }
     {
         let mut records = match RecordReader::open(alloc, reader) {
             Ok(records) => records,

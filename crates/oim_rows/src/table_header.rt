@@ -38,7 +38,8 @@ impl<'a> Model for TableHeader<'a> {
 
     ghost view = { λ a. record { report = a.report.now; table = a.table; limit = a.limit; columns = a.columns.items } };
 
-    ghost invariant = { λ a. (a.table < length a.report.now.tables) × (a.id_place ≡ row_id_place (template_of a.report.now a.table).row_id_column a.columns.items) };
+    ghost invariant = { λ a. (a.table < length a.report.now.tables)
+        × (a.id_place ≡ row_id_place (template_of a.report.now a.table).row_id_column a.columns.items) };
 }
 
 /// The place in a header of the row identifier, where the template has a column for it.

@@ -9,7 +9,8 @@ use Rattle.oim_convert.specs.Histories.{AreDecoded, AreUnserved, IsGiven}
 use Rattle.oim_convert.specs.Runs.{AreHistories, AreStreams}
 use Rattle.oim_convert.specs.WrittenHistories.{WritesHistories}
 use Rattle.oim_json.proofs.Members.{members_more}
-use Rattle.oim_json.specs.Document.{has_any, members, more_members}
+use Rattle.oim_json.specs.Document.{members, more_members}
+use Rattle.oim_json.specs.state.Writing.{has_any}
 use Rattle.oim_json.specs.JsonText.{head_text}
 use Rattle.oim_json.specs.Sinks.{SinkView}
 use Rattle.oim_json.specs.declared.layout.Layout.{Layout}

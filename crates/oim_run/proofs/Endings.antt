@@ -21,11 +21,12 @@ use Rattle.oim_run.proofs.Threads.{answered, in_range, left, never_lost}
 use Rattle.oim_run.proofs.Waiting.{appends_then, keeps_same, took_all, took_some}
 use Rattle.oim_json.specs.declared.mark.Mark.TheVariants as «marks»
 use Rattle.oim_files.specs.Metadata.{profile}
-use Rattle.oim_run.specs.Buffers.{Buffered, flushed, told_behind}
+use Rattle.oim_run.specs.Buffers.{Buffered, flushed}
+use Rattle.oim_run.specs.state.Buffers.{told_behind}
 use Rattle.std.specs.Borrow.{Bor}
 use Rattle.oim_files.specs.Folders.{Files, IsFolderOf, first_at}
-use Rattle.oim_run.specs.state.Naming.{outcome_by}
-use Rattle.oim_run.specs.Outcomes.{EndsAs, Leaves, table_ids}
+use Rattle.oim_run.specs.state.Naming.{outcome_by, table_ids}
+use Rattle.oim_run.specs.Outcomes.{EndsAs, Leaves}
 use Rattle.oim_run.specs.Runs.{EndsOver, files_of, range_fault, table_file, table_files}
 use Rattle.oim_files.specs.Steps.{IsReport}
 use Rattle.oim_files.specs.declared.early_fault.EarlyFault.{EarlyFault}

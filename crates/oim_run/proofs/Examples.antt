@@ -28,8 +28,8 @@ use Rattle.oim_run.specs.CommandLine.{AreLayouts, Words, command_line, is_given}
 use Rattle.oim_run.specs.Buffers.{flushed}
 use Rattle.oim_files.specs.Folders.{Files}
 use Rattle.oim_run.specs.Lines.{line_of, status_of, terminal_line_of, unprinted_status, words_status}
-use Rattle.oim_run.specs.state.Naming.{outcome_at}
-use Rattle.oim_run.specs.Outcomes.{AreDefined, Gives, Leaves, refused_tables, table_ids}
+use Rattle.oim_run.specs.state.Naming.{outcome_at, table_ids}
+use Rattle.oim_run.specs.Outcomes.{AreDefined, Gives, Leaves, refused_tables}
 use Rattle.oim_run.specs.Runs.{range_fault, table_files}
 use Rattle.oim_run.specs.Early.{outcome_of}
 use Rattle.oim_files.specs.declared.early_fault.EarlyFault.TheVariants as early

@@ -7,7 +7,8 @@ use Rattle.oim_files.specs.Folders.{Files}
 use Rattle.oim_json.specs.Sinks.{SinkView, sink_at}
 use Rattle.oim_json.specs.declared.mark.Mark.TheVariants as marks
 use Rattle.oim_json.specs.declared.mark.WriteFault.TheVariants as write
-use Rattle.oim_run.specs.Buffers.{Buffered, HoldsAll, HoldsSome, flushed, told_behind, told_since}
+use Rattle.oim_run.specs.Buffers.{Buffered, HoldsAll, HoldsSome, flushed}
+use Rattle.oim_run.specs.state.Buffers.{told_behind, told_since}
 use Rattle.oim_run.specs.Runs.{files_of}
 use Rattle.oim_run.specs.declared.outcome.Outcome.{Outcome}
 use Rattle.oim_run.specs.declared.outcome.Outcome.TheVariants as outcome

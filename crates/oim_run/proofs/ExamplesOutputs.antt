@@ -12,7 +12,8 @@ use Rattle.oim_rows.specs.Header.{fault_at}
 use Rattle.oim_rows.specs.declared.fault.TableKind.TheVariants as table
 use Rattle.oim_run.specs.CommandLine.{IsInput}
 use Rattle.oim_run.specs.Lines.{status_of}
-use Rattle.oim_run.specs.Outputs.{Deed, Did, Ended, EndsFor, EndsTold, IsLeftUnwritten, IsToldBy, Opened, RunsInto, RunsOnce, RunsTo, RunsTold, Says, SaysLast}
+use Rattle.oim_run.specs.Outputs.{Deed, Did, Ended, EndsFor, EndsTold, IsLeftUnwritten, IsToldBy, Opened, RunsOnce, RunsTo, RunsTold, Says, SaysLast}
+use Rattle.oim_run.specs.state.Outputs.{RunsInto}
 use Rattle.oim_run.specs.declared.ending.Ending.{Ending}
 use Rattle.oim_run.specs.declared.ending.Ending.TheVariants as ending
 use Rattle.oim_run.specs.declared.outcome.Outcome.{Outcome}

@@ -22,8 +22,8 @@ use Rattle.oim_ring.specs.declared.item.Item.{Item}
 use Rattle.oim_ring.specs.declared.item.Item.TheVariants.{Ending}
 use Rattle.oim_rows.specs.Streams.{Stream, table_stream}
 use Rattle.oim_rows.specs.declared.fault.TableFault.{TableFault}
-use Rattle.oim_run.specs.state.Naming.{with_names}
-use Rattle.oim_run.specs.Outcomes.{name_in, named_by, refused_tables, table_ids}
+use Rattle.oim_run.specs.state.Naming.{with_names, name_in, table_ids}
+use Rattle.oim_run.specs.Outcomes.{named_by, refused_tables}
 
 -- ONE FAULT OF A TABLE, IN TABLE ORDER
 

@@ -24,8 +24,8 @@ use Rattle.oim_run.proofs.Beginnings.{begun}
 use Rattle.oim_run.proofs.Names.{names_are}
 use Rattle.oim_run.proofs.Stopped.{stops}
 use Rattle.oim_run.proofs.Threads.{no_names, uncut}
-use Rattle.oim_run.specs.state.Naming.{outcome_alone, with_names}
-use Rattle.oim_run.specs.Outcomes.{AreDefined, EndsAs, Gives, Leaves, Refuses, table_ids}
+use Rattle.oim_run.specs.state.Naming.{outcome_alone, with_names, table_ids}
+use Rattle.oim_run.specs.Outcomes.{AreDefined, EndsAs, Gives, Leaves, Refuses}
 use Rattle.oim_run.specs.declared.outcome.Outcome.{Outcome}
 
 -- the fault of settings in range, for this many readers and tables

@@ -27,8 +27,8 @@ use Rattle.oim_rows.specs.declared.fault.TableFault.{TableFault}
 use Rattle.oim_run.proofs.Beginnings.{begun}
 use Rattle.oim_run.proofs.Names.{faults_few, names_are}
 use Rattle.oim_run.proofs.Stopped.{stopped}
-use Rattle.oim_run.specs.state.Naming.{outcome_at, outcome_by, with_names}
-use Rattle.oim_run.specs.Outcomes.{AreDefined, EndsAs, Gives, Leaves, StopsInTable, refused_tables, table_ids}
+use Rattle.oim_run.specs.state.Naming.{outcome_at, outcome_by, with_names, table_ids}
+use Rattle.oim_run.specs.Outcomes.{AreDefined, EndsAs, Gives, Leaves, StopsInTable, refused_tables}
 use Rattle.oim_run.specs.Runs.{range_fault}
 use Rattle.oim_run.specs.declared.outcome.Outcome.TheVariants as outcome
 

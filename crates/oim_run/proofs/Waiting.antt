@@ -4,7 +4,7 @@ use mathlib.Core.List.{IsPrefix}
 use Rattle.std.proofs.Common.{arith, refl, sym, ap, ◌∙◌, subst, append-nil}
 use Rattle.std.proofs.lemmas.Bool.{leb-false, leb-true}
 use Rattle.std.specs.Io.KnownBytes.{Appends, Keeps}
-use Rattle.oim_run.specs.Buffers.{told_behind, told_since}
+use Rattle.oim_run.specs.state.Buffers.{told_behind, told_since}
 
 pub keeps_same : (a : Option (List ℕ)) → Keeps a a
 keeps_same None = tt

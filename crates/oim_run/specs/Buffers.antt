@@ -1,5 +1,5 @@
 -- The bytes that wait before a writer, what it holds, and how a run through a buffer ends.
-use Rattle.std.specs.Prelude.{◌≡◌, ◌⊎◌, ℕ, nat_le, if◌then◌else◌, List, ◌∷◌, ◌++◌, Option, Some, None, length}
+use Rattle.std.specs.Prelude.{◌≡◌, ◌⊎◌, ℕ, List, Option}
 use mathlib.Core.List.{IsPrefix}
 use Rattle.std.specs.Io.KnownBytes.{Appends, Keeps}
 use Rattle.oim_convert.specs.declared.fault.ConvertFault.TheVariants as fault
@@ -8,16 +8,6 @@ use Rattle.oim_json.specs.declared.mark.Mark.TheVariants as «marks»
 use Rattle.oim_json.specs.declared.mark.WriteFault.TheVariants as write
 use Rattle.oim_run.specs.declared.outcome.Outcome.{Outcome}
 use Rattle.oim_run.specs.declared.outcome.Outcome.TheVariants as outcome
-
--- what a writer holds and then what waits before it, behind the number of bytes that it held at first, as long as it holds as many
-abbrev pub told_since : ℕ → List ℕ → List ℕ → Option (List ℕ)
-told_since first now waiting = if nat_le first (length now) then Some (first ∷ (now ++ waiting)) else None
-
--- the same where the writer tells what it holds
-abbrev pub told_behind : Option (List ℕ) → Option (List ℕ) → List ℕ → Option (List ℕ)
-told_behind None now waiting = None
-told_behind (Some first) None waiting = None
-told_behind (Some first) (Some now) waiting = told_since (length first) now waiting
 
 -- a failed flush is a failed write, if a document was written before it
 abbrev pub flushed : Outcome → Outcome

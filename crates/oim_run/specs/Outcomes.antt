@@ -1,6 +1,6 @@
 -- What the outcome of a conversion means, for every number of workers and every ring size.
 -- xBRL-CSV 1.0 (a report is the facts of its tables), xBRL-JSON 1.0 (the document).
-use Rattle.std.specs.Prelude.{⊤, ◌≡◌, ◌⊎◌, ◌+◌, ◌++◌, map, slice_index_or, length, ℕ, List, [], ◌∷◌, Option, Some, None}
+use Rattle.std.specs.Prelude.{⊤, ◌≡◌, ◌⊎◌, ◌+◌, ◌++◌, map, length, ℕ, List, [], ◌∷◌, Option, Some, None}
 use mathlib.Core.List.{IsPrefix}
 use Rattle.std.specs.Io.KnownBytes.{Appends}
 use Rattle.oim_convert.specs.Answer.{IsAnswer, answer_text}
@@ -21,13 +21,6 @@ use Rattle.oim_rows.specs.Streams.{Stream, facts_of}
 use Rattle.oim_rows.specs.declared.fault.TableFault.{TableFault}
 use Rattle.oim_run.specs.declared.outcome.Outcome.{Outcome}
 use Rattle.oim_run.specs.declared.outcome.Outcome.TheVariants as outcome
-
--- the identifiers of a report's tables, and the one at a place
-abbrev pub table_ids : ReportValue → List (List ℕ)
-table_ids report = map (λ t. t.id) report.tables
-
-abbrev pub name_in : List (List ℕ) → ℕ → List ℕ
-name_in names i = slice_index_or names i []
 
 -- faults, each with the name of its table
 abbrev pub named_by : (ℕ → List ℕ) → List TableFault → List (List ℕ × TableFault)

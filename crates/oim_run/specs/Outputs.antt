@@ -52,16 +52,6 @@ RunsTo told s old new o =
     IfSome told (λ files. Buffered (EndsOver files s.meta s.types s.workers s.ring s.layout) old new o)
     × Buffered (Leaves (range_fault s.workers s.ring)) old new o
 
--- a run was made to the open output whose writer holds this at first. That output is ended, with what its writer holds then, and nothing else is done with
--- any. What is to be told is the run's outcome, by how the output ended
-pub record RunsInto (runs : (old new : Option (List ℕ)) → Outcome → Type 0) (out faults : Option (List ℕ)) (first : Option (List ℕ)) (before after : Option (List Deed)) (o : Outcome) : Type 0 where
-  pub last : Option (List ℕ)
-  pub ran : Outcome
-  pub how : Ending
-  pub run : runs first last ran
-  pub done : Did before (Ended last ran how ∷ []) after
-  pub told : IsToldBy out faults how ran o
-
 -- one output is opened, standard output or the file at the path, one run is made to it, and it is ended; nothing else is done with any
 pub record RunsOnce (runs : (old new : Option (List ℕ)) → Outcome → Type 0) (out faults path : Option (List ℕ)) (before after : Option (List Deed)) (o : Outcome) : Type 0 where
   pub first : Option (List ℕ)

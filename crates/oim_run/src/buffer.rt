@@ -3,7 +3,7 @@
 ghost use Rattle.std.specs.Prelude.{◌≡◌, ◌≤◌, ◌+◌, ◌-◌, ◌<◌, ℕ, List, [], ◌++◌, drop, take, length, true, vec_len, vec_capacity};
 ghost use Rattle.std.specs.Io.{WritesAtMost};
 ghost use Rattle.std.specs.Io.KnownBytes.{Appends, Keeps, WriteAppends};
-ghost use Rattle.oim_run.specs.Buffers.{told_behind};
+ghost use Rattle.oim_run.specs.state.Buffers.{told_behind};
 ghost use Rattle.oim_json.specs.declared.mark.Mark.TheVariants.{Fine};
 
 use ghost_value::GhostValue;

@@ -6,8 +6,8 @@ ghost use Rattle.oim_convert.specs.Files.{AreFilesOf};
 ghost use Rattle.oim_convert.specs.Runs.{early_fault};
 ghost use Rattle.oim_convert.specs.Serial.{AreFew};
 ghost use Rattle.oim_convert.specs.declared.fault.ConvertFault.TheVariants as convert_faults;
-ghost use Rattle.oim_run.specs.state.Naming.{outcome_alone, outcome_by, with_names};
-ghost use Rattle.oim_run.specs.Outcomes.{EndsAs, Leaves, name_in, table_ids};
+ghost use Rattle.oim_run.specs.state.Naming.{outcome_alone, outcome_by, with_names, name_in, table_ids};
+ghost use Rattle.oim_run.specs.Outcomes.{EndsAs, Leaves};
 
 use crate::outcome::Outcome;
 use oim_convert::{ConvertFault, LARGEST_RING, Run, convert, convert_serial};

@@ -1,7 +1,8 @@
 //! One run, to standard output or to the file that the words name.
 
 ghost use Rattle.std.specs.Prelude.{◌≡◌, ◌⊎◌, ℕ, List, [], ◌∷◌, Option, Some, None, option_map};
-ghost use Rattle.oim_run.specs.Outputs.{Deed, Did, Ended, EndsFor, IntoFile, Opened, RunsInto, RunsTo};
+ghost use Rattle.oim_run.specs.Outputs.{Deed, Did, Ended, EndsFor, IntoFile, Opened, RunsTo};
+ghost use Rattle.oim_run.specs.state.Outputs.{RunsInto};
 
 use crate::buffered::run_to;
 use crate::ending::{Ending, cannot_write, told_by};

@@ -7,7 +7,8 @@ use Rattle.std.proofs.lemmas.Grind.{flat_map-append}
 use Rattle.std.proofs.lemmas.Simd.{trailing_mask_l}
 use lib.Lanes.{mask_l}
 use lib.Count.{count_trailing_zeros}
-use Rattle.oim_json.specs.JsonText.{escaped_byte, is_unescaped}
+use Rattle.oim_json.specs.JsonText.{escaped_byte}
+use Rattle.oim_json.specs.state.Writing.{is_unescaped}
 use Rattle.oim_text.specs.state.Escapes.{is_escaped}
 use Rattle.oim_text.specs.Places.{Placed}
 use Rattle.oim_records.proofs.PassingRuns.{not-not, run_stops, run_through}

@@ -2,7 +2,8 @@
 use Rattle.std.proofs.Common.{◌≡◌, ℕ, ◌+◌, ◌≤◌, List, [], ◌++◌, length, take, drop, ap, sym, ◌∙◌, arith, append_assoc, append-nil, length-append, length-take, length-take-le, length-drop, take-add, take-take, take_at, drop_at}
 use Rattle.std.proofs.lemmas.Slice.{take-put_mid}
 use borrow.Rule.Slice.PartMut.{put_mid, same_len_mid}
-use Rattle.oim_text.specs.Places.{Placed, Stays}
+use Rattle.oim_text.specs.Places.{Placed}
+use Rattle.oim_text.specs.state.Rooms.{Stays}
 
 -- nothing was written
 pub Placed-none : (a : List ℕ) (i : ℕ) → Placed a a i [] i

@@ -6,8 +6,3 @@ pub record Placed (old new : List ℕ) (at : ℕ) (xs : List ℕ) (end : ℕ) : 
   pub bytes : take end new ≡ take at old ++ xs
   pub moved : end ≡ at + length xs
   pub len : length new ≡ length old
-
--- what stands before a place of a room stays
-pub record Stays (old new : List ℕ) (at : ℕ) : Type 0 where
-  pub front : take at new ≡ take at old
-  pub len : length new ≡ length old

@@ -19,7 +19,8 @@ pub struct TextBuffer {
 
 impl Model for TextBuffer {
     ghost use Rattle.std.specs.Prelude.{take};
-    ghost use Rattle.oim_text.specs.Buffers.{BufferText, IsPadded};
+    ghost use Rattle.oim_text.specs.Buffers.{BufferText};
+    ghost use Rattle.oim_text.specs.state.Rooms.{IsPadded};
 
     ghost Value = { BufferText };
 

@@ -5,7 +5,8 @@ ghost use Rattle.std.specs.List.{flat_map, prefix_len};
 ghost use Rattle.std.specs.Simd.Lanes.{mask_l};
 ghost use mathlib.Core.List.{IsPrefix};
 ghost use Rattle.oim_text.specs.state.Escapes.{is_escaped};
-ghost use Rattle.oim_json.specs.JsonText.{escaped_byte, is_unescaped, quoted};
+ghost use Rattle.oim_json.specs.JsonText.{escaped_byte, quoted};
+ghost use Rattle.oim_json.specs.state.Writing.{is_unescaped};
 ghost use Rattle.oim_text.specs.Places.{Placed};
 
 use crate::buffer::{TextBuffer, make_room};

@@ -4,7 +4,8 @@ ghost use Rattle.std.specs.Prelude.{◌≡◌, ◌++◌, ◌∷◌, ◌<◌, ◌
 ghost use Rattle.std.specs.Char.{digit_char};
 ghost use Rattle.std.specs.List.{flat_map, list_all};
 ghost use mathlib.Core.List.{IsPrefix};
-ghost use Rattle.oim_json.specs.JsonText.{escaped_byte, is_unescaped, quoted};
+ghost use Rattle.oim_json.specs.JsonText.{escaped_byte, quoted};
+ghost use Rattle.oim_json.specs.state.Writing.{is_unescaped};
 
 use crate::buffer::TextBuffer;
 use std::alloc::AllocError;

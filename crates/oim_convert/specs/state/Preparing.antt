@@ -2,7 +2,8 @@
 use Rattle.std.specs.Prelude.{◌≡◌, ◌≤◌, ⊤, ℕ, Bool, false, List, [], Option, None, Result, Ok, Err, length, replicate, vec_capacity}
 use Rattle.oim_report.specs.ReportValue.{ReportValue}
 use Rattle.oim_ring.specs.declared.item.Item.{Item}
-use Rattle.oim_convert.specs.Tasks.{AreTables, Each, IsLane, IsOpened}
+use Rattle.oim_convert.specs.Tasks.{Each}
+use Rattle.oim_convert.specs.state.Tasks.{AreTables, IsLane, IsOpened}
 use Rattle.oim_crew.specs.Shifts.{IsCrew}
 use Rattle.oim_convert.specs.declared.returning.ReturnRoom.{ReturnRoom}
 use Rattle.oim_convert.specs.declared.fault.ConvertFault.{ConvertFault}

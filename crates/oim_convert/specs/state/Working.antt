@@ -3,7 +3,7 @@ use Rattle.std.specs.Prelude.{◌≡◌, ◌≤◌, ℕ, All, Option, List, [], 
 use Rattle.oim_json.specs.Sinks.{SinkView}
 use Rattle.oim_merge.specs.Merging.{EndEach, IsFresh, Merges, rings_of, taken_of}
 use Rattle.oim_report.specs.declared.report.Report.{Report}
-use Rattle.oim_convert.specs.Tasks.{CanServe, gives_of}
+use Rattle.oim_convert.specs.state.Tasks.{CanServe, gives_of}
 use Rattle.oim_crew.specs.Shifts.{ArePosts, CanServeAll, IsShift, serving}
 use Rattle.oim_crew.specs.declared.crew.Posts.{Posts}
 use Rattle.oim_crew.specs.declared.site.Site.{Site}

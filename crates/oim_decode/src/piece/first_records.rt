@@ -5,7 +5,8 @@ ghost use Rattle.oim_records.specs.Grids.{grid};
 ghost use Rattle.oim_records.specs.Reads.{KeepsLeft, StartsFile, left_behind};
 ghost use Rattle.oim_rows.specs.Header.{file_header_fault};
 ghost use Rattle.oim_rows.specs.Streams.{IsOutside};
-ghost use Rattle.oim_decode.specs.Heads.{table_header_in, records_in};
+ghost use Rattle.oim_decode.specs.Heads.{table_header_in};
+ghost use Rattle.oim_decode.specs.state.Heads.{records_in};
 
 use crate::piece::piece_decoder::PieceDecoder;
 use oim_records::{FilePiece, PieceReader, ReadFault, RecordReader};
@@ -31,7 +32,7 @@ impl Model for FirstRecords {
     ghost use Rattle.std.specs.Prelude.{◌≡◌, ◌++◌, List, drop, length};
     ghost use Rattle.csv.specs.declared.parser.State.TheVariants as state;
     ghost use Rattle.oim_records.specs.Grids.{Record, records_left};
-    ghost use Rattle.oim_decode.specs.Heads.{mark};
+    ghost use Rattle.oim_decode.specs.state.Heads.{mark};
 
     ghost Value = { List Record };
 

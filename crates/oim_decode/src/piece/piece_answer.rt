@@ -4,7 +4,8 @@ ghost use Rattle.std.specs.Prelude.{◌≡◌, ◌++◌, ◌<◌, IfOk, IfSome, 
 ghost use Rattle.std.specs.Option.{is_none};
 ghost use Rattle.oim_rows.specs.RowFacts.{IsTextRecord, id_place_of};
 ghost use Rattle.oim_decode.specs.Apart.{id_in};
-ghost use Rattle.oim_decode.specs.PieceAnswers.{AddsApart, cells_apart, no_rows, refused as no_memory};
+ghost use Rattle.oim_decode.specs.PieceAnswers.{refused as no_memory};
+ghost use Rattle.oim_decode.specs.state.PieceAnswers.{AddsApart, cells_apart, no_rows};
 
 use crate::piece::piece_rows::PieceRows;
 use crate::piece::rooms::Rooms;

@@ -3,7 +3,8 @@
 ghost use Rattle.std.specs.Prelude.{◌≡◌, ◌≤◌, ◌+◌, [], IfOk, IfSome, None, drop, length};
 ghost use Rattle.csv.specs.declared.parser.State.TheVariants as state;
 ghost use Rattle.oim_records.specs.Grids.{records_left};
-ghost use Rattle.oim_decode.specs.PieceAnswers.{IsDecoded, StepsRow, no_rows};
+ghost use Rattle.oim_decode.specs.PieceAnswers.{IsDecoded};
+ghost use Rattle.oim_decode.specs.state.PieceAnswers.{StepsRow, no_rows};
 ghost use Rattle.oim_rows.specs.RowFacts.{row_fault};
 
 use crate::piece::first_records::FirstRecords;

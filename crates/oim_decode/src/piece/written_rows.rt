@@ -4,8 +4,8 @@ ghost use Rattle.std.specs.Prelude.{◌≡◌, ◌≤◌, ◌-◌, ◌∷◌, []
 ghost use Rattle.oim_fast.specs.Facts.{facts_of_row};
 ghost use Rattle.oim_rows.specs.RowFacts.{IsTextRecord};
 ghost use Rattle.oim_rows.specs.Streams.{facts_of_rows};
-ghost use Rattle.oim_decode.specs.PieceAnswers.{AddsRowFacts};
-ghost use Rattle.oim_decode.specs.RowTexts.{facts_in};
+ghost use Rattle.oim_decode.specs.state.PieceAnswers.{AddsRowFacts};
+ghost use Rattle.oim_decode.specs.state.RowTexts.{facts_in};
 
 use crate::table::fact_list::{first, none, then};
 use crate::table::pending_facts::PendingFacts;

@@ -3,7 +3,7 @@
 ghost use Rattle.std.specs.Prelude.{◌≡◌, ◌≤◌, [], IfOk, OnErr, OnOk, drop, length, take};
 ghost use Rattle.oim_fast.specs.Facts.{facts_of_row};
 ghost use Rattle.oim_rows.specs.RowFacts.{IsTextRecord};
-ghost use Rattle.oim_decode.specs.RowTexts.{AddsFacts, facts_in};
+ghost use Rattle.oim_decode.specs.state.RowTexts.{AddsFacts, facts_in};
 
 use crate::table::fact_list::{first, none, rest, then};
 use crate::table::row_texts::RowTexts;

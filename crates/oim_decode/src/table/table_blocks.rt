@@ -44,7 +44,8 @@ impl<R: Read + Drop> Drop for TableBlocks<'_, R> {
 }
 
 impl<'a, R: Read + Drop> Model for TableBlocks<'a, R> {
-    ghost use Rattle.oim_decode.specs.Blocks.{BlocksLeft, blocks_left};
+    ghost use Rattle.oim_decode.specs.Blocks.{BlocksLeft};
+    ghost use Rattle.oim_decode.specs.state.Blocks.{blocks_left};
 
     ghost Value = { BlocksLeft };
 
@@ -71,11 +72,13 @@ impl<'a, R: Read + Drop> TableBlocks<'a, R> {
         // The facts of the table, where its header has no fault.
         ensures start { IfOk result (λ blocks. (blocks.table ≡ table) × (blocks.limit ≡ limits.rows)) }
         ensures begun { IfOk result (λ blocks. (blocks.given ≡ 0) × (blocks.pending ≡ []) × (blocks.answered ≡ None)) }
-        ensures stream { IfSome (R.remaining reader) (λ bytes. IfOk result (λ blocks. blocks.left ≡ Some (stream_of report.now table limits.rows (grid bytes)))) }
+        ensures stream { IfSome (R.remaining reader) (λ bytes. IfOk result (λ blocks. blocks.left
+            ≡ Some (stream_of report.now table limits.rows (grid bytes)))) }
         ensures header { IfSome (R.remaining reader) (λ bytes. IfOk result (λ _. file_header_fault report.now table (grid bytes) ≡ None)) }
 
         // Its fault, unless the reader failed or memory was refused.
-        ensures fault { IfSome (R.remaining reader) (λ bytes. IfErr result (λ e. IsOutside table e ⊎ (file_header_fault report.now table (grid bytes) ≡ Some e))) }
+        ensures fault { IfSome (R.remaining reader) (λ bytes. IfErr result (λ e. IsOutside table e
+            ⊎ (file_header_fault report.now table (grid bytes) ≡ Some e))) }
     {
         match TextRows::open(alloc, report, table, reader, limits.rows) {
             Ok(rows) => Ok(TableBlocks {
@@ -90,7 +93,7 @@ impl<'a, R: Read + Drop> TableBlocks<'a, R> {
 }
 
 ghost use Rattle.std.specs.Prelude.{IsSome, OnSome};
-ghost use Rattle.oim_decode.specs.Blocks.{HasRead};
+ghost use Rattle.oim_decode.specs.state.Blocks.{HasRead};
 
 impl<R: Read + Drop> TableBlocks<'_, R> {
     /// The next facts in header order and row by row, 1 to 256 of them, or None at the end. A block

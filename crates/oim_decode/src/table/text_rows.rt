@@ -3,11 +3,13 @@
 ghost use Rattle.std.specs.Prelude.{◌≡◌, ◌⊎◌, ◌≤◌, ◌<◌, ◌+◌, [], IfErr, IfOk, IfSome, None, OnErr, OnOk, Some, length, option_map, true};
 ghost use Rattle.oim_records.specs.Grids.{grid};
 ghost use Rattle.oim_rows.specs.Header.{file_header_fault};
-ghost use Rattle.oim_rows.specs.RowFacts.{IsNewId, id_place_of, ids_after, row_fault, row_result};
-ghost use Rattle.oim_rows.specs.Streams.{early_row_answer, stream_of};
-ghost use Rattle.oim_decode.specs.Blocks.{AddsNone, AddsRow, CountsRow, TakesOne, has_row};
-ghost use Rattle.oim_decode.specs.Heads.{IsHeaderFault};
-ghost use Rattle.oim_decode.specs.RowTexts.{AddsFacts};
+ghost use Rattle.oim_rows.specs.RowFacts.{id_place_of, ids_after, row_fault, row_result};
+ghost use Rattle.oim_rows.specs.state.RowFacts.{IsNewId};
+ghost use Rattle.oim_rows.specs.Streams.{stream_of};
+ghost use Rattle.oim_rows.specs.state.Streams.{early_row_answer};
+ghost use Rattle.oim_decode.specs.state.Blocks.{AddsNone, AddsRow, CountsRow, TakesOne, has_row};
+ghost use Rattle.oim_decode.specs.state.Heads.{IsHeaderFault};
+ghost use Rattle.oim_decode.specs.state.RowTexts.{AddsFacts};
 
 use crate::table::pending_facts::PendingFacts;
 use crate::table::row_texts::RowTexts;
@@ -35,7 +37,7 @@ pub(crate) struct TextRows<'a, R: Read + Drop> {
 impl<'a, R: Read + Drop> Model for TextRows<'a, R> {
     ghost use Rattle.std.specs.Prelude.{◌≡◌, ◌≤◌, ◌<◌, ◌^◌, ◌-◌, ◌+◌, option_map};
     ghost use Rattle.oim_rows.specs.Streams.{stream_from};
-    ghost use Rattle.oim_decode.specs.Blocks.{RowsUnread};
+    ghost use Rattle.oim_decode.specs.state.Blocks.{RowsUnread};
 
     ghost Value = { RowsUnread };
 

@@ -10,12 +10,13 @@ use Rattle.oim_rows.specs.RowFacts.{TableHeaderValue}
 use Rattle.oim_fast.specs.state.CellValues.{IsValue}
 use Rattle.oim_fast.specs.state.Columns.{AreFactColumns, fact_columns_in}
 use Rattle.oim_fast.specs.state.FactTexts.{AddsFact}
-use Rattle.oim_fast.specs.Facts.{WritesFact, lead_text, start_text}
+use Rattle.oim_fast.specs.state.Facts.{WritesFact, lead_text, start_text}
 use Rattle.oim_fast.specs.state.FrameTexts.{FrameValue}
 use Rattle.oim_fast.specs.state.KeptFrames.{IsFrame}
 use Rattle.oim_fast.specs.state.Making.{IsMaker, IsReadyMaker}
 use Rattle.oim_row.specs.References.{ReferenceValue, key_of}
-use Rattle.oim_row.specs.Rows.{RowValue, cell_in}
+use Rattle.oim_row.specs.Rows.{RowValue}
+use Rattle.oim_row.specs.state.Rows.{cell_in}
 use Rattle.oim_fast.specs.declared.frame.fact_start.FactStart.{FactStart}
 use Rattle.oim_fast.specs.declared.frame.value.Value.{Value}
 use Rattle.oim_fast.specs.declared.table.cell_writer.CellWriter.{CellWriter}

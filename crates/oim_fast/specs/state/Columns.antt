@@ -3,7 +3,7 @@ use Rattle.std.specs.Prelude.{◌≡◌, ◌<◌, ℕ, List, [], ◌∷◌, Opti
 use Rattle.std.specs.List.{All, slice_get}
 use Rattle.std.specs.Option.{option_map}
 use Rattle.oim_rows.specs.RowFacts.{TableHeaderValue, is_fact_column, source_of_column}
-use Rattle.oim_fast.specs.Facts.{column_lead}
+use Rattle.oim_fast.specs.state.Facts.{column_lead}
 use Rattle.oim_fast.specs.state.ChosenGroups.{choices_in}
 use Rattle.oim_row.specs.Rows.{column_in, columns_in}
 use Rattle.oim_fast.specs.declared.frame.fact_column.FactColumn.{FactColumn}

@@ -5,7 +5,8 @@ use Rattle.std.specs.Option.{option_map_or}
 use Rattle.oim_json.specs.JsonText.{decimals_text, escaped_byte, value_text}
 use Rattle.oim_resolve.specs.Facts.{is_numeric, places}
 use Rattle.oim_fast.specs.state.FrameTexts.{FrameValue, Segment, dimensions_start, frame_dimensions}
-use Rattle.oim_text.specs.Places.{Placed, Stays}
+use Rattle.oim_text.specs.Places.{Placed}
+use Rattle.oim_text.specs.state.Rooms.{Stays}
 use Rattle.oim_row.specs.References.{ReferenceValue}
 use Rattle.oim_fast.specs.state.GivenTexts.{given_by, is_sound_by}
 use Rattle.oim_fast.specs.declared.frame.frame_decimals.FrameDecimals.{FrameDecimals}

@@ -11,12 +11,12 @@ use Rattle.oim_report.specs.declared.kind.Kind.{Kind}
 use Rattle.oim_resolve.specs.Facts.{concept_read, is_numeric}
 use Rattle.oim_resolve.specs.Written.{written, written_decimals}
 use Rattle.oim_rows.specs.RowFacts.{TableHeaderValue, field_or_empty, source_of_column}
-use Rattle.oim_fast.specs.Facts.{column_lead}
+use Rattle.oim_fast.specs.state.Facts.{column_lead}
 use Rattle.oim_fast.specs.state.FrameTexts.{FrameValue, is_ready, with_part}
 use Rattle.oim_row.specs.Groups.{Says, group_at}
 use Rattle.oim_fast.specs.state.Parts.{AreDecimals, IsPart, IsReferred}
 use Rattle.oim_fast.specs.state.Pieces.{constant_meaning}
-use Rattle.oim_resolve.specs.ProgramLevels.{written_entries}
+use Rattle.oim_resolve.specs.state.ProgramLevels.{written_entries}
 use Rattle.oim_row.specs.References.{Key}
 use Rattle.oim_row.specs.Rows.{RowValue, column_in}
 use Rattle.oim_row.specs.Sources.{source_written}

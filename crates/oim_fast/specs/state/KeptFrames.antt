@@ -12,7 +12,8 @@ use Rattle.oim_fast.specs.state.FrameTexts.{FrameValue}
 use Rattle.oim_fast.specs.state.Frames.{Chooses, HasConstantKind, HasReferredKind, IsFrameText, is_known_choice, levels_chosen}
 use Rattle.oim_fast.specs.state.ChosenGroups.{choices_in}
 use Rattle.oim_row.specs.References.{Key}
-use Rattle.oim_row.specs.Rows.{RowValue, cell_in, column_in}
+use Rattle.oim_row.specs.Rows.{RowValue, column_in}
+use Rattle.oim_row.specs.state.Rows.{cell_in}
 use Rattle.oim_fast.specs.declared.frame.fact_column.FactColumn.{FactColumn}
 use Rattle.oim_fast.specs.declared.frame.frame.Body.{Body}
 use Rattle.oim_fast.specs.declared.frame.frame.Body.TheVariants as body

@@ -16,7 +16,7 @@ use Rattle.oim_report.specs.declared.data.WrittenDecimals.TheVariants as d
 use Rattle.oim_report.specs.declared.kind.Kind.{Kind}
 use Rattle.oim_resolve.specs.Cell.{Cell}
 use Rattle.oim_resolve.specs.Facts.{entry_given, is_dropped, role_of, value_read}
-use Rattle.oim_resolve.specs.ProgramLevels.{named}
+use Rattle.oim_resolve.specs.state.ProgramLevels.{named}
 use Rattle.oim_resolve.specs.Values.{Fixed, Read, Stated, side_of, value}
 use Rattle.oim_resolve.specs.Written.{written}
 use Rattle.oim_rows.specs.RowFacts.{TableHeaderValue}

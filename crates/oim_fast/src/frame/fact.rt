@@ -3,11 +3,12 @@
 ghost use Rattle.std.specs.Prelude.{◌≡◌, ◌+◌, ◌-◌, ◌*◌, ◌<◌, ◌≤◌, ◌++◌, ◌∷◌, [], IfSome, MatchOption, OnOk, Some, codes, flat_map, length, take, true};
 ghost use Rattle.std.specs.List.{list_all};
 ghost use mathlib.Core.List.{IsPrefix};
-ghost use Rattle.oim_json.specs.JsonText.{decimals_text, escaped_byte, is_unescaped, value_text};
+ghost use Rattle.oim_json.specs.JsonText.{decimals_text, escaped_byte, value_text};
+ghost use Rattle.oim_json.specs.state.Writing.{is_unescaped};
 ghost use Rattle.oim_resolve.specs.Facts.{is_numeric, places};
-ghost use Rattle.oim_fast.specs.state.FactTexts.{EndsInstead, IsOfReferences, PutsFact, TriesFact, WritesDecimals, WritesObject, WritesOpening};
-ghost use Rattle.oim_fast.specs.state.FactTexts.{fact_room, has_settled, value_of};
-ghost use Rattle.oim_text.specs.Places.{Placed, Stays};
+ghost use Rattle.oim_fast.specs.state.FactTexts.{EndsInstead, IsOfReferences, PutsFact, TriesFact, WritesDecimals, WritesObject, WritesOpening, fact_room, has_settled, value_of};
+ghost use Rattle.oim_text.specs.Places.{Placed};
+ghost use Rattle.oim_text.specs.state.Rooms.{Stays};
 
 use crate::frame::frame_decimals::FrameDecimals;
 use crate::frame::frame_text::FrameText;

@@ -4,7 +4,7 @@ ghost use Rattle.std.specs.Prelude.{◌≡◌, ◌++◌, IfOk, OnOk, flat_map};
 ghost use mathlib.Core.List.{IsPrefix};
 ghost use Rattle.oim_json.specs.JsonText.{escaped_byte};
 ghost use Rattle.oim_fast.specs.state.CellWriters.{IsStartOf};
-ghost use Rattle.oim_fast.specs.Facts.{start_text};
+ghost use Rattle.oim_fast.specs.state.Facts.{start_text};
 ghost use Rattle.oim_row.specs.Rows.{row_in};
 
 use oim_row::TableRow;

@@ -12,7 +12,7 @@ ghost use Rattle.oim_fast.specs.state.ChosenGroups.{levels_at};
 ghost use Rattle.oim_fast.specs.state.KeptFrames.{IsBodyFor, IsFor, IsFrame, kind_code};
 ghost use Rattle.oim_fast.specs.state.Making.{AddsWhere, IsBodyOf, IsConcept, IsMaker, IsOpening, IsReadyMaker, SaysConcept, from_general, keys_in};
 ghost use Rattle.oim_fast.specs.state.Pieces.{entries_named};
-ghost use Rattle.oim_resolve.specs.ProgramLevels.{written_entries};
+ghost use Rattle.oim_resolve.specs.state.ProgramLevels.{written_entries};
 ghost use Rattle.oim_row.specs.References.{Grows, IsFresh, key_of};
 
 use crate::frame::fact_column::{FactColumn, kind_number};

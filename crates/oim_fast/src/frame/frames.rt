@@ -10,7 +10,7 @@ ghost use Rattle.oim_fast.specs.state.KeptFrames.{HasFrame, HasTextFor, IsFor, I
 ghost use Rattle.oim_fast.specs.state.Making.{IsMaker, keys_in};
 ghost use Rattle.oim_row.specs.References.{Grows};
 ghost use Rattle.oim_fast.specs.state.StillHolds.{HoldsStill, HoldsWith};
-ghost use Rattle.oim_row.specs.Rows.{cell_in};
+ghost use Rattle.oim_row.specs.state.Rows.{cell_in};
 
 use crate::frame::fact_column::{FactColumn, kind_number};
 use crate::frame::frame::{Body, Frame};

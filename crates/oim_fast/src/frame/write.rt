@@ -3,7 +3,8 @@
 ghost use Rattle.std.specs.Prelude.{◌+◌, ◌-◌, ◌*◌, ◌<◌, ◌≤◌, MatchOption, length, slice_range};
 ghost use Rattle.std.specs.List.{All};
 ghost use Rattle.oim_fast.specs.state.FrameTexts.{AreRuns};
-ghost use Rattle.oim_text.specs.Places.{Placed, Stays};
+ghost use Rattle.oim_text.specs.Places.{Placed};
+ghost use Rattle.oim_text.specs.state.Rooms.{Stays};
 ghost use Rattle.oim_fast.specs.state.Writing.{WritesRun, WritesRuns};
 
 use crate::frame::frame_text::Run;

@@ -1,6 +1,6 @@
 -- The steps of writing a document: how far it is written after each item.
 use Rattle.std.specs.Prelude.{◌≡◌, ℕ, List, [], Bool, false}
-use Rattle.oim_json.specs.Document.{has_any}
+use Rattle.oim_json.specs.state.Writing.{has_any}
 use Rattle.oim_json.specs.Sinks.{SinkView}
 use Rattle.oim_json.specs.declared.layout.Layout.{Layout}
 use Rattle.oim_ring.specs.declared.item.Item.{Item}

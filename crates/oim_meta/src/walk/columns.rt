@@ -3,7 +3,7 @@
 ghost use Rattle.std.specs.Prelude.{◌≡◌, ◌++◌, IfOk, OnOk};
 ghost use Rattle.serde_json.specs.View.{view, members_view};
 ghost use Rattle.oim_meta.specs.Members.{map_members};
-ghost use Rattle.oim_meta.specs.Paths.{part_path};
+ghost use Rattle.oim_meta.specs.state.Places.{part_path};
 ghost use Rattle.oim_meta.specs.Value.{column_level as level_in, groups_of as groups_in, column_of};
 ghost use Rattle.oim_meta.specs.Walk.{in_column, in_column_itself, in_column_level, in_groups, in_members};
 

@@ -6,7 +6,7 @@ ghost use Rattle.oim_meta.specs.BadDimensions.{is_core as core_key, is_typed as 
 ghost use Rattle.oim_meta.specs.BadDimensions.{name_in, is_bad_text, is_bad_dimension};
 ghost use Rattle.oim_meta.specs.Members.{map_members, section};
 ghost use Rattle.oim_meta.specs.Value.{named_dimension};
-ghost use Rattle.oim_meta.specs.Paths.{part_path};
+ghost use Rattle.oim_meta.specs.state.Places.{part_path};
 ghost use Rattle.oim_meta.specs.Walk.{in_dimension, in_dimensions, in_members};
 ghost use Rattle.oim_cells.specs.Cells.{meaning_of};
 

@@ -6,7 +6,7 @@ ghost use Rattle.serde_json.specs.View.{view};
 ghost use Rattle.oim_meta.specs.Decimals.{decimals_of};
 ghost use Rattle.oim_meta.specs.BadDecimals.{is_decimals_text as decimals_text, is_decimals as decimals_value, has_bad_decimals_there};
 ghost use Rattle.oim_meta.specs.Value.{level_of, nothing_written};
-ghost use Rattle.oim_meta.specs.Paths.{part_path};
+ghost use Rattle.oim_meta.specs.state.Places.{part_path};
 ghost use Rattle.oim_meta.specs.Walk.{in_level};
 
 use crate::decimals::{whole, written_decimals};

@@ -4,7 +4,7 @@ ghost use Rattle.std.specs.Prelude.{◌≡◌, ◌++◌, IfOk, OnOk, codes};
 ghost use Rattle.serde_json.specs.View.{view, members_view};
 ghost use Rattle.oim_meta.specs.BadParameters.{is_bad_parameter, is_no_plain_path as not_plain_path, has_bad_parameter_url};
 ghost use Rattle.oim_meta.specs.Members.{map_members, section};
-ghost use Rattle.oim_meta.specs.Paths.{part_path};
+ghost use Rattle.oim_meta.specs.state.Places.{part_path};
 ghost use Rattle.oim_meta.specs.Value.{named_text};
 ghost use Rattle.oim_meta.specs.Walk.{in_members};
 ghost use Rattle.oim_meta.specs.WalkTables.{in_given, in_own_parameters, in_parameter, in_parameters};

@@ -1,5 +1,5 @@
 -- How the answer for a piece comes.
-use Rattle.oim_pieces.specs.Flights.{IsAnswer}
+use Rattle.oim_pieces.specs.state.Flights.{IsAnswer}
 use Rattle.oim_pieces.specs.state.Sheets.{IsOf}
 use Rattle.oim_pieces.specs.declared.decoded.Asked.{Asked}
 use Rattle.oim_pieces.specs.declared.flying.Coming.{Coming}

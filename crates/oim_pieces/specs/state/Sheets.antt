@@ -4,7 +4,7 @@ use Rattle.csv.specs.declared.parser.State.TheVariants as state
 use Rattle.oim_records.specs.Grids.{records_left}
 use Rattle.oim_rows.specs.RowFacts.{TableHeaderValue}
 use Rattle.oim_decode.specs.Apart.{Apart}
-use Rattle.oim_pieces.specs.Flights.{IsAnswer}
+use Rattle.oim_pieces.specs.state.Flights.{IsAnswer}
 use Rattle.oim_pieces.specs.declared.decoded.Asked.{Asked}
 use Rattle.oim_pieces.specs.declared.sheet.Question.{Question}
 use Rattle.oim_pieces.specs.declared.sheet.Sheet.{Sheet}

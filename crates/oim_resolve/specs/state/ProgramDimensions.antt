@@ -14,10 +14,11 @@ use Rattle.oim_resolve.specs.declared.cell.entries.Entries.{Entries}
 use Rattle.oim_resolve.specs.declared.cell.entries.Entries.TheVariants as entries
 use Rattle.oim_resolve.specs.Cell.{Cell, text_at}
 use Rattle.oim_resolve.specs.Facts.{value_read, concept_read, is_dropped, named_entry}
-use Rattle.oim_resolve.specs.Faults.{both}
-use Rattle.oim_resolve.specs.ProgramLevels.{written_entries}
-use Rattle.oim_resolve.specs.ProgramCell.{cell_at, held}
-use Rattle.oim_resolve.specs.ProgramPlan.{Entry, entry_in, seen_planned}
+use Rattle.oim_resolve.specs.state.ProgramFaults.{both}
+use Rattle.oim_resolve.specs.state.ProgramLevels.{written_entries}
+use Rattle.oim_resolve.specs.ProgramCell.{held}
+use Rattle.oim_resolve.specs.state.ProgramCell.{cell_at}
+use Rattle.oim_resolve.specs.state.ProgramPlan.{Entry, entry_in, seen_planned}
 use Rattle.oim_resolve.specs.Values.{not_empty}
 use Rattle.oim_resolve.specs.Written.{levels, named_groups}
 

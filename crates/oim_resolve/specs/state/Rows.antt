@@ -5,7 +5,7 @@ use Rattle.std.specs.Option.{option_map, option_to_list}
 use Rattle.oim_report.specs.Readers.{column_of}
 use Rattle.oim_report.specs.declared.data.Level.{Level}
 use Rattle.oim_resolve.specs.Cell.{Cell, column, meaning_at}
-use Rattle.oim_resolve.specs.ProgramPlan.{Keyed, planned_column, planned_level, put_entries}
+use Rattle.oim_resolve.specs.state.ProgramPlan.{Keyed, planned_column, planned_level, put_entries}
 use Rattle.oim_resolve.specs.Written.{group_named}
 
 -- what the group writes that the row's cell at a place names

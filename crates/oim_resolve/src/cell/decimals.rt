@@ -2,7 +2,7 @@
 
 ghost use Rattle.std.specs.Prelude.{◌≡◌};
 ghost use Rattle.oim_resolve.specs.Facts.{stated_read};
-ghost use Rattle.oim_resolve.specs.ProgramValues.{seen_stated};
+ghost use Rattle.oim_resolve.specs.state.ProgramValues.{seen_stated};
 
 use crate::fact::CellFault;
 use oim_cells::{Accuracy, CellMeaning, decimals};

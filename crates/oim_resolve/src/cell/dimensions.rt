@@ -6,10 +6,11 @@ ghost use Rattle.oim_cells.specs.Cells.{seen_meaning};
 ghost use Rattle.oim_resolve.specs.Facts.{concept_kind, fact_meaning, fact_of, rest_faults, stated};
 ghost use Rattle.oim_resolve.specs.Faults.{least, unless};
 ghost use Rattle.oim_resolve.specs.Order.{IsAscending};
-ghost use Rattle.oim_resolve.specs.ProgramCell.{cell_at, held};
-ghost use Rattle.oim_resolve.specs.ProgramValues.{seen_stated};
+ghost use Rattle.oim_resolve.specs.ProgramCell.{held};
+ghost use Rattle.oim_resolve.specs.state.ProgramCell.{cell_at};
+ghost use Rattle.oim_resolve.specs.state.ProgramValues.{seen_stated};
 ghost use Rattle.oim_resolve.specs.state.ProgramDimensions.{AreMet, dimension_read, dimensions_of, entries_in};
-ghost use Rattle.oim_resolve.specs.ProgramPlan.{seen_keyed, seen_planned};
+ghost use Rattle.oim_resolve.specs.state.ProgramPlan.{seen_keyed, seen_planned};
 ghost use Rattle.oim_resolve.specs.state.Rows.{row_map};
 ghost use Rattle.oim_resolve.specs.Written.{levels, named_groups, written_decimals};
 
@@ -118,7 +119,8 @@ impl<'a> CellDimensions<'a> {
         dimension: &PlannedDimension<'a>,
     ) -> Result<Result<Entry, CellFault>, AllocError>
         ensures read { IfOk result (λ r. r ≡ dimension_read (cell_at self.now.place) kind (seen_planned dimension.now)) }
-        ensures early { IfErr result (λ _. ((dimension.now).role ≡ Role.Language) ⊎ IsOk (dimension_read (cell_at self.now.place) kind (seen_planned dimension.now))) }
+        ensures early { IfErr result (λ _. ((dimension.now).role ≡ Role.Language)
+            ⊎ IsOk (dimension_read (cell_at self.now.place) kind (seen_planned dimension.now))) }
     {
         if dimension.role.is_dropped(kind) {
             return Ok(Ok(None));

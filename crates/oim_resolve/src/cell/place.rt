@@ -29,10 +29,10 @@ impl<'a> Place<'a> {
     ghost use Rattle.oim_cells.specs.Cells.{seen_meaning};
     ghost use Rattle.oim_resolve.specs.Cell.{text_at, meaning_at};
     ghost use Rattle.oim_resolve.specs.Facts.{fact_meaning, id_of, stated_by};
-    ghost use Rattle.oim_resolve.specs.ProgramCell.{cell_at};
+    ghost use Rattle.oim_resolve.specs.state.ProgramCell.{cell_at};
     ghost use Rattle.oim_resolve.specs.state.ProgramDimensions.{reference_text, row_meaning};
-    ghost use Rattle.oim_resolve.specs.ProgramPlan.{seen_planned, seen_reference};
-    ghost use Rattle.oim_resolve.specs.ProgramValues.{seen_stated};
+    ghost use Rattle.oim_resolve.specs.state.ProgramPlan.{seen_planned, seen_reference};
+    ghost use Rattle.oim_resolve.specs.state.ProgramValues.{seen_stated};
     ghost use Rattle.oim_resolve.specs.Values.{not_empty, text_in_row, referred};
 
     /// The text of the row's cell at a place.

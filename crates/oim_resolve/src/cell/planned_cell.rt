@@ -9,9 +9,9 @@ ghost use Rattle.oim_report.specs.Readers.{column_of, columns_of};
 ghost use Rattle.oim_resolve.specs.Cell.{column, meaning_at};
 ghost use Rattle.oim_resolve.specs.Facts.{cell_and_group_faults, cell_result, concept_read, early_result, fact_meaning, given, is_absent, is_unknown, names_no_group};
 ghost use Rattle.oim_resolve.specs.Faults.{least};
-ghost use Rattle.oim_resolve.specs.ProgramCell.{cell_at};
+ghost use Rattle.oim_resolve.specs.state.ProgramCell.{cell_at};
 ghost use Rattle.oim_resolve.specs.state.ProgramDimensions.{dimension_concept};
-ghost use Rattle.oim_resolve.specs.ProgramPlan.{ArePlanned, over, seen_flagged, seen_group, seen_planned, with_named};
+ghost use Rattle.oim_resolve.specs.state.ProgramPlan.{ArePlanned, over, seen_flagged, seen_group, seen_planned, with_named};
 ghost use Rattle.oim_resolve.specs.state.Rows.{planned_named, row_map};
 ghost use Rattle.oim_resolve.specs.Written.{group_named};
 
@@ -142,7 +142,8 @@ impl<'a> PlannedCell<'a> {
         i: usize,
     ) -> Option<&'a PlannedDimension<'a>>
         requires { i < length (columns_of self.now.place.report.now self.now.place.table) }
-        ensures { option_map seen_flagged result ≡ with_named (codes "concept") (option_map seen_flagged concept.entry) (planned_named (cell_at self.now.place) i) }
+        ensures { option_map seen_flagged result
+            ≡ with_named (codes "concept") (option_map seen_flagged concept.entry) (planned_named (cell_at self.now.place) i) }
     {
         match self.named_group(i) {
             Some(group) => over(concept, find_dimension(group.planned.as_slice(), "concept")),

@@ -3,9 +3,10 @@
 ghost use Rattle.std.specs.Prelude.{◌≡◌, IfErr, IfOk, IsOk};
 ghost use Rattle.std.specs.Option.{option_and_then};
 ghost use Rattle.oim_cells.specs.Cells.{seen_meaning};
-ghost use Rattle.oim_resolve.specs.Facts.{decimals_read, places};
+ghost use Rattle.oim_resolve.specs.Facts.{places};
+ghost use Rattle.oim_resolve.specs.state.ProgramValues.{decimals_read, seen_stated, text_read};
 ghost use Rattle.oim_resolve.specs.FactValues.{accuracy_in};
-ghost use Rattle.oim_resolve.specs.ProgramValues.{seen_reading, seen_stated, text_read};
+ghost use Rattle.oim_resolve.specs.ProgramValues.{seen_reading};
 
 use crate::cell::decimals::Stated;
 use crate::dimension::is_numeric;

@@ -3,7 +3,7 @@
 ghost use Rattle.std.specs.Prelude.{◌≡◌, ◌<◌, map, length, IfOk};
 ghost use Rattle.oim_report.specs.InOrder.{LevelRises};
 ghost use Rattle.oim_report.specs.Readers.{columns_of};
-ghost use Rattle.oim_resolve.specs.ProgramPlan.{IsPlanned, planned_column, planned_levels, seen_keyed};
+ghost use Rattle.oim_resolve.specs.state.ProgramPlan.{IsPlanned, planned_column, planned_levels, seen_keyed};
 
 use crate::plan::dimension::{PlannedDimension, plan_dimension};
 use crate::plan::group::{PlannedGroup, plan_groups};
@@ -21,7 +21,7 @@ pub(crate) struct PlannedColumn<'a> {
 }
 
 /// What a column, its template and the report write, merged in byte order of names.
-#[tactic(auto, unfolding(crate::specs::ProgramPlan::planned_levels))]
+#[tactic(auto, unfolding(crate::specs::state::ProgramPlan::planned_levels))]
 fn plan_levels<'a>(
     alloc: Global,
     report: &'a Report,

@@ -3,7 +3,7 @@
 ghost use Rattle.std.specs.Prelude.{◌≡◌, ◌<◌, map, length, IfOk};
 ghost use Rattle.std.specs.Option.{option_map};
 ghost use Rattle.oim_names.specs.Lookup.{value_at};
-ghost use Rattle.oim_resolve.specs.ProgramPlan.{entry_in, seen_keyed};
+ghost use Rattle.oim_resolve.specs.state.ProgramPlan.{entry_in, seen_keyed};
 
 use crate::cell::side_of;
 use crate::plan::literal::{Literal, literal_of};
@@ -28,7 +28,7 @@ pub(crate) struct PlannedDimension<'a> {
 }
 
 /// A dimension, made ready for the rows.
-#[tactic(auto, unfolding(crate::specs::ProgramPlan::entry_in))]
+#[tactic(auto, unfolding(crate::specs::state::ProgramPlan::entry_in))]
 pub(crate) fn plan_dimension<'a>(
     alloc: Global,
     report: &'a Report,

@@ -3,7 +3,7 @@
 ghost use Rattle.std.specs.Prelude.{◌≡◌, ◌<◌, map, length, IfOk};
 ghost use Rattle.std.specs.Option.{option_map};
 ghost use Rattle.oim_names.specs.Lookup.{value_at};
-ghost use Rattle.oim_resolve.specs.ProgramPlan.{group_in, planned_level, seen_group, seen_keyed};
+ghost use Rattle.oim_resolve.specs.state.ProgramPlan.{group_in, planned_level, seen_group, seen_keyed};
 
 use crate::plan::dimension::{PlannedDimension, plan_dimension};
 use oim_report::{Column, Level, Report};
@@ -18,7 +18,7 @@ pub(crate) struct PlannedGroup<'a> {
 }
 
 /// What a group writes.
-#[tactic(auto, unfolding(crate::specs::ProgramPlan::planned_level))]
+#[tactic(auto, unfolding(crate::specs::state::ProgramPlan::planned_level))]
 fn plan_level<'a>(
     alloc: Global,
     report: &'a Report,

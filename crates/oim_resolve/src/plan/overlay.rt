@@ -1,7 +1,7 @@
 //! Entries of groups, put over those of a column.
 
 ghost use Rattle.std.specs.Prelude.{◌≡◌, map, OnOk};
-ghost use Rattle.oim_resolve.specs.ProgramPlan.{put_entry, put_entries, seen_keyed};
+ghost use Rattle.oim_resolve.specs.state.ProgramPlan.{put_entry, put_entries, seen_keyed};
 ghost use Rattle.oim_resolve.specs.ProgramCell.{held};
 
 use crate::plan::dimension::PlannedDimension;

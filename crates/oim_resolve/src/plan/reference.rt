@@ -2,7 +2,7 @@
 
 ghost use Rattle.std.specs.Prelude.{◌≡◌, ◌<◌, length};
 ghost use Rattle.std.specs.Option.{option_map};
-ghost use Rattle.oim_resolve.specs.ProgramPlan.{reference_of, seen_reference};
+ghost use Rattle.oim_resolve.specs.state.ProgramPlan.{reference_of, seen_reference};
 
 use oim_report::{Report, Written};
 

@@ -1,7 +1,7 @@
 use Rattle.std.specs.Prelude.{◌≡◌, [], ◌++◌, map}
 use Rattle.std.specs.Vec.Iter.{into_iter_items}
 use Rattle.std.proofs.Common.{arith, ap, sym, ◌∙◌, append-nil}
-use Rattle.oim_convert.specs.Tasks.{Gives, placed, results_of}
+use Rattle.oim_convert.specs.state.Tasks.{Gives, placed, results_of}
 use Rattle.oim_crew.specs.Shifts.{IsShift}
 use Rattle.oim_convert.proofs.ResultCover.{placed_append}
 use Rattle.oim_convert.proofs.ClosedFeeds.{map_one}

@@ -1,6 +1,6 @@
 use Rattle.std.specs.Prelude.{◌≡◌, ◌≤◌, ◌+◌, ◌++◌, All, map, vec_capacity, vec_len}
 use Rattle.std.specs.Vec.Iter.{into_iter_items, into_iter_len}
-use Rattle.oim_convert.specs.Tasks.{EachClosedFeed, Gives, placed, results_of}
+use Rattle.oim_convert.specs.state.Tasks.{EachClosedFeed, Gives, placed, results_of}
 use Rattle.oim_crew.specs.Shifts.{IsShift}
 use Rattle.oim_convert.proofs.closed_feeds.place_all.Given as goal
 

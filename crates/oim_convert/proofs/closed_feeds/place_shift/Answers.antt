@@ -1,7 +1,7 @@
 use Rattle.std.specs.Prelude.{All, [], ◌≡◌}
 use Rattle.std.specs.Vec.Iter.{into_iter_items}
 use Rattle.std.proofs.Common.{ap, subst, sym, ◌∙◌}
-use Rattle.oim_convert.specs.Tasks.{Fulfills, placed}
+use Rattle.oim_convert.specs.state.Tasks.{Fulfills, placed}
 use Rattle.oim_convert.proofs.ResultsAndDrains.{results_fulfill}
 use Rattle.oim_convert.proofs.TableFiles.{nothing_left}
 use Rattle.oim_crew.proofs.LongerLists.{all-first}

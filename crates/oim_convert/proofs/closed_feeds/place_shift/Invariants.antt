@@ -1,6 +1,6 @@
 use Rattle.std.specs.Prelude.{◌≡◌, All}
 use Rattle.std.specs.Vec.Iter.{into_iter_items}
-use Rattle.oim_convert.specs.Tasks.{EachClosedFeed, Fulfills, placed}
+use Rattle.oim_convert.specs.state.Tasks.{EachClosedFeed, Fulfills, placed}
 use Rattle.oim_convert.proofs.closed_feeds.place_shift.Given as goal
 
 abbrev pub invariant-loop-task_result : goal.invariant-loop-task_result

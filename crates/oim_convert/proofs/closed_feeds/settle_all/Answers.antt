@@ -4,7 +4,8 @@ use Rattle.std.proofs.Math.ListN.{length-set}
 use Rattle.std.proofs.lemmas.List.{get_or_default}
 use Rattle.std.specs.Vec.Iter.{into_iter_items}
 use Rattle.oim_ring.specs.declared.item.Item.{Item}
-use Rattle.oim_convert.specs.Tasks.{Each, IsEnded, IsKept, IsSentOf, IsTable}
+use Rattle.oim_convert.specs.Tasks.{Each, IsKept}
+use Rattle.oim_convert.specs.state.Tasks.{IsEnded, IsSentOf, IsTable}
 use Rattle.oim_convert.specs.declared.table_task.TableTask.{TableTask}
 use Rattle.oim_convert.proofs.ClosedFeeds.{closed_kept, closed_read, each_first, each_more, map_one}
 use Rattle.oim_convert.proofs.closed_feeds.settle_all.Given as given

@@ -1,7 +1,8 @@
 use Rattle.std.proofs.Common.{◌≡◌, ℕ, ◌+◌, ◌≤◌, ◌++◌, length, vec_len}
 use Rattle.std.specs.Prelude.{None, map, slice_index_or, vec_capacity}
 use Rattle.std.specs.Vec.Iter.{into_iter_items, into_iter_len}
-use Rattle.oim_convert.specs.Tasks.{Each, EachClosedFeed, IsEnded, IsTable}
+use Rattle.oim_convert.specs.Tasks.{Each}
+use Rattle.oim_convert.specs.state.Tasks.{EachClosedFeed, IsEnded, IsTable}
 use Rattle.oim_convert.proofs.closed_feeds.settle_all.Given as goal
 
 abbrev pub invariant-loop-drain : goal.invariant-loop-drain

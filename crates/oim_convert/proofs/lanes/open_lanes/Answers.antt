@@ -2,7 +2,8 @@ use Rattle.std.specs.Prelude.{◌≡◌, ℕ, ◌+◌, List, [], ◌∷◌, ◌+
 use Rattle.std.proofs.Common.{arith, refl, ap, sym, ◌∙◌, subst, length-append}
 use Rattle.std.specs.Vec.Iter.{into_iter_items}
 use Rattle.oim_ring.specs.Ends.{DrainView}
-use Rattle.oim_convert.specs.Tasks.{Each, IsLane, IsOpened}
+use Rattle.oim_convert.specs.Tasks.{Each}
+use Rattle.oim_convert.specs.state.Tasks.{IsLane, IsOpened}
 use Rattle.oim_convert.specs.declared.table_task.TableTask.{TableTask}
 use Rattle.oim_crew.proofs.LongerLists.{all-more}
 use Rattle.oim_convert.proofs.ClosedFeeds.{each_more}

@@ -1,6 +1,7 @@
 use Rattle.std.specs.Prelude.{◌≡◌, ◌++◌, All, length, map}
 use Rattle.std.specs.Vec.Iter.{into_iter_items}
-use Rattle.oim_convert.specs.Tasks.{Each, IsLane, IsOpened}
+use Rattle.oim_convert.specs.Tasks.{Each}
+use Rattle.oim_convert.specs.state.Tasks.{IsLane, IsOpened}
 use Rattle.oim_convert.proofs.lanes.open_lanes.Given as goal
 
 abbrev pub invariant-loop-reader : goal.invariant-loop-reader

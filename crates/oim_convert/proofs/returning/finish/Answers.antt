@@ -1,7 +1,7 @@
 use Rattle.std.specs.Prelude.{◌≡◌, ◌⊎◌, true, false, Option, Some, None, Any, Contains, IfNone, IfSome, length}
 use Rattle.std.proofs.Common.{ap, sym, ◌∙◌, subst, inl, inr}
 use Rattle.std.specs.List.{list_all}
-use Rattle.oim_convert.specs.Tasks.{tables_promised, results_of}
+use Rattle.oim_convert.specs.state.Tasks.{tables_promised, results_of}
 use Rattle.oim_crew.specs.Numbers.{EachOnceBelow}
 use Rattle.oim_convert.specs.declared.table_task.TaskResult.{TaskResult}
 use Rattle.oim_convert.proofs.ResultCover.{covered, lost_result, seats_mine, some_finished}

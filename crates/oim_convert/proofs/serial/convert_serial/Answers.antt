@@ -1,7 +1,8 @@
 use Rattle.std.proofs.Common.{◌≡◌, ◌∙◌, subst, rules, length}
 use Rattle.oim_merge.specs.Writers.{WriterView}
 use Rattle.oim_convert.specs.Answer.{streams}
-use Rattle.oim_convert.specs.Serial.{Converts, HasBegun, Leaves}
+use Rattle.oim_convert.specs.Serial.{Converts, Leaves}
+use Rattle.oim_convert.specs.state.Serial.{HasBegun}
 use Rattle.oim_convert.proofs.FaultTables.{as_many_files, is_of_tables}
 use Rattle.oim_convert.proofs.serial.convert_serial.Goals as goal
 

@@ -2,7 +2,7 @@ use Rattle.std.proofs.Common.{◌≡◌, ◌≤◌, ◌+◌, length}
 use Rattle.std.specs.Prelude.{List, ℕ, Option, vec_len, vec_capacity}
 use Rattle.std.specs.Vec.Iter.{into_iter_items}
 use Rattle.oim_merge.specs.Histories.{refusals}
-use Rattle.oim_merge.specs.Writers.{Continues}
+use Rattle.oim_merge.specs.state.Writers.{Continues}
 use Rattle.oim_convert.specs.Files.{AreFilesOf}
 use Rattle.oim_convert.proofs.SerialTables.{HasRead}
 use Rattle.oim_convert.proofs.serial.convert_tables.Given as goal

@@ -5,7 +5,8 @@ use Rattle.oim_merge.specs.Merging.{EndEach, Merges, taken_of}
 use Rattle.oim_ring.specs.Ends.{DrainView}
 use Rattle.oim_ring.specs.declared.item.Item.{Item}
 use Rattle.oim_crew.specs.Claims.{Claiming}
-use Rattle.oim_convert.specs.Tasks.{Each, IsEnded, IsTable}
+use Rattle.oim_convert.specs.Tasks.{Each}
+use Rattle.oim_convert.specs.state.Tasks.{IsEnded, IsTable}
 use Rattle.oim_convert.specs.state.Preparing.{IsReturnRoom}
 use Rattle.oim_convert.specs.declared.table_task.TableTask.{TableTask}
 use Rattle.oim_convert.proofs.ResultsAndDrains.{lanes_ended, lanes_fresh, opened_serve}

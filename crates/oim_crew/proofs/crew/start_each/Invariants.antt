@@ -1,6 +1,7 @@
 use Rattle.std.proofs.Common.{◌≡◌, ◌≤◌, ◌+◌, All, length, vec_capacity, vec_len}
 use Rattle.std.specs.Vec.Iter.{into_iter_items, into_iter_len}
-use Rattle.oim_crew.specs.Shifts.{IsAlone, IsShift, IsStarted, IsStation}
+use Rattle.oim_crew.specs.Shifts.{IsShift, IsStarted, IsStation}
+use Rattle.oim_crew.specs.state.Shifts.{IsAlone}
 use Rattle.oim_crew.proofs.crew.start_each.Given as goal
 
 abbrev pub invariant-loop-station : goal.invariant-loop-station

@@ -1,6 +1,7 @@
 use Rattle.std.proofs.Common.{◌≡◌, [], take}
 use Rattle.oim_json.specs.state.Chunks.{IsPut}
-use Rattle.oim_json.specs.Document.{has_any, more_members}
+use Rattle.oim_json.specs.Document.{more_members}
+use Rattle.oim_json.specs.state.Writing.{has_any}
 use Rattle.oim_json.specs.declared.layout.Layout.TheVariants.{Lines}
 use Rattle.oim_json.proofs.writing.write_lines.Given as goal
 

@@ -1,6 +1,6 @@
 use Rattle.std.proofs.Common.{◌≡◌, []}
 use Rattle.serde_json.specs.View.{members_view}
-use Rattle.oim_meta.specs.Order.{repeats_seen}
+use Rattle.oim_meta.specs.state.Order.{repeats_seen}
 use Rattle.oim_meta.proofs.order.repeats_earlier.Given as goal
 
 -- what the whole answers, the rest answers with the texts that were seen

@@ -1,7 +1,7 @@
 use Rattle.std.proofs.Common.{◌∙◌, ◌++◌, ap, flat_map, map-id, string_bytes, sym}
 use Rattle.std.proofs.lemmas.Iterator.{YieldsList-from_chars}
 use Rattle.std.proofs.lemmas.Iterator.Consumers.{YieldsList-end}
-use Rattle.oim_places.specs.Pointers.{char_of}
+use Rattle.oim_places.specs.state.Pointers.{char_of}
 use Rattle.oim_places.proofs.terminal.put_text.Goals as goal
 
 pub returns : goal.returns

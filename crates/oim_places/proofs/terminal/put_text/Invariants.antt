@@ -1,5 +1,5 @@
 use Rattle.std.proofs.Common.{◌≡◌, ◌++◌, flat_map, string_bytes}
-use Rattle.oim_places.specs.Pointers.{char_of}
+use Rattle.oim_places.specs.state.Pointers.{char_of}
 use Rattle.oim_places.proofs.terminal.put_text.Given as goal
 
 abbrev pub invariant-loop-c : goal.invariant-loop-c

@@ -1,6 +1,6 @@
 use Rattle.std.proofs.Common.{arith}
 use Rattle.std.proofs.lemmas.Simd.{zip2_splat}
-use Rattle.oim_records.specs.Texts.{is_ascii}
+use Rattle.oim_records.specs.state.Bytes.{is_ascii}
 use Rattle.oim_records.proofs.Masks.{below, masked}
 use Rattle.oim_records.proofs.utf8.ascii_marks.Goals as goal
 

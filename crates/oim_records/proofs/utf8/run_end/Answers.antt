@@ -1,6 +1,6 @@
 use Rattle.std.proofs.Common.{sym, ap, ◌∙◌, arith}
 use lib.Count.{count_trailing_zeros}
-use Rattle.oim_records.specs.Texts.{is_high, is_ascii}
+use Rattle.oim_records.specs.state.Bytes.{is_high, is_ascii}
 use Rattle.oim_records.proofs.PassingRuns.{not-not, run_bound, run_stops}
 use Rattle.oim_records.proofs.utf8.run_end.Goals as goal
 

@@ -1,5 +1,5 @@
 use Rattle.std.proofs.Common.{◌≡◌, length}
-use Rattle.oim_resolve.specs.ProgramPlan.{ArePlanned}
+use Rattle.oim_resolve.specs.state.ProgramPlan.{ArePlanned}
 use Rattle.oim_resolve.proofs.plan.compile.Given as goal
 
 abbrev pub invariant-loop-column : goal.invariant-loop-column

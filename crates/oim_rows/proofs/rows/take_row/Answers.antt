@@ -1,7 +1,7 @@
 use Rattle.std.proofs.Common.{◌≡◌, ◌∙◌, List, Option, Result, Ok, Err, IfSome, ap, subst, sym}
 use Rattle.oim_resolve.specs.FactParts.{FactParts as Fact}
 use Rattle.oim_rows.specs.RowFacts.{row_fault}
-use Rattle.oim_rows.specs.Streams.{early_row_answer}
+use Rattle.oim_rows.specs.state.Streams.{early_row_answer}
 use Rattle.oim_rows.specs.declared.fault.TableFault.{TableFault}
 use Rattle.oim_rows.proofs.StreamLaws.{early_fault}
 use Rattle.oim_rows.proofs.rows.take_row.Goals as goal

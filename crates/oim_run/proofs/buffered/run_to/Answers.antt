@@ -2,7 +2,7 @@ use Rattle.std.proofs.Common.{inl}
 use Rattle.oim_json.specs.Sinks.{sink_at}
 use Rattle.oim_run.proofs.Endings.{behind, behind_told, no_buffer}
 use Rattle.oim_run.proofs.Waiting.{keeps_same}
-use Rattle.oim_run.specs.Buffers.{told_behind}
+use Rattle.oim_run.specs.state.Buffers.{told_behind}
 use Rattle.oim_run.specs.Outcomes.{Leaves}
 use Rattle.oim_run.specs.Runs.{range_fault}
 use Rattle.oim_run.proofs.buffered.run_to.Goals as goal

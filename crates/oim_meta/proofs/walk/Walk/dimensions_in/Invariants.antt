@@ -2,7 +2,7 @@ use Rattle.std.proofs.Common.{◌≡◌, ◌++◌}
 use Rattle.serde_json.specs.View.{members_view}
 use Rattle.oim_meta.specs.Members.{map_members}
 use Rattle.oim_meta.specs.Value.{named_dimension}
-use Rattle.oim_meta.specs.Paths.{part_path}
+use Rattle.oim_meta.specs.state.Places.{part_path}
 use Rattle.oim_meta.specs.Walk.{in_dimension, in_members}
 use Rattle.oim_meta.proofs.walk.Walk.dimensions_in.Given as goal
 

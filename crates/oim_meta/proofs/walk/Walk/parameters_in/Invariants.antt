@@ -1,7 +1,7 @@
 use Rattle.std.proofs.Common.{◌≡◌, ◌++◌}
 use Rattle.serde_json.specs.View.{members_view}
 use Rattle.oim_meta.specs.Members.{map_members}
-use Rattle.oim_meta.specs.Paths.{part_path}
+use Rattle.oim_meta.specs.state.Places.{part_path}
 use Rattle.oim_meta.specs.Value.{named_text}
 use Rattle.oim_meta.specs.Walk.{in_members}
 use Rattle.oim_meta.specs.WalkTables.{in_parameter}

@@ -1,7 +1,7 @@
 use Rattle.std.proofs.Common.{◌+◌, ap, sym, ◌∙◌}
 use Rattle.oim_records.specs.PieceTaking.{bytes_left}
 use Rattle.oim_rows.specs.RowFacts.{TableHeaderValue}
-use Rattle.oim_pieces.specs.Cutting.{CutterLeft}
+use Rattle.oim_pieces.specs.state.Cutting.{CutterLeft}
 use Rattle.oim_pieces.proofs.Openings.{behind_chain, behind_stream}
 use Rattle.oim_pieces.proofs.flight.Flight.behind.Goals as goal
 

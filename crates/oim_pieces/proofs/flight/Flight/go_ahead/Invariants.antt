@@ -1,5 +1,5 @@
 use Rattle.std.proofs.Common.{◌≡◌}
-use Rattle.oim_pieces.specs.Flights.{KeepsStream, NoMoreSteps, steps_in, stream_in}
+use Rattle.oim_pieces.specs.state.Flights.{KeepsStream, NoMoreSteps, steps_in, stream_in}
 use Rattle.oim_pieces.proofs.flight.Flight.go_ahead.Given as goal
 
 abbrev pub invariant-loop : goal.invariant-loop

@@ -1,8 +1,7 @@
-use Rattle.std.proofs.Common.{◌≡◌, ◌≤◌, ◌+◌, ◌-◌, ◌∙◌, ap, sym, arith, take, drop, length, length-drop, length-take}
+use Rattle.std.proofs.Common.{◌≡◌, ◌+◌, ◌-◌, ◌∙◌, ap, sym, arith, take, drop, length-drop, length-take}
 use Rattle.std.proofs.lemmas.Bool.{eqb-true}
 use Rattle.oim_records.specs.state.Scans.{fresh, scanned}
-use Rattle.oim_records.proofs.Marked.{scanned-range}
-use Rattle.oim_records.proofs.Walks.{scan-kept}
+use Rattle.oim_records.proofs.Walks.{scan-kept, scanned-range}
 use Rattle.oim_records.proofs.piece_reader.PieceReader.fill.Goals as goal
 
 pub scan_blocks-self-inside-requires-clause-seen : goal.scan_blocks-self-inside-requires-clause-seen

@@ -1,7 +1,7 @@
 use Rattle.std.proofs.Common.{◌≡◌, ◌∙◌, ◌++◌, ◌∷◌, [], refl, sym}
 use Rattle.std.specs.String.{string_bytes}
 use Rattle.indexmap.proofs.MapLemmas.{OnOk-map}
-use Rattle.oim_report.specs.Named.{renamed}
+use Rattle.oim_report.specs.state.Named.{renamed}
 use Rattle.oim_report.proofs.NamedFacts.{lacks-under, lookup-renamed, none-found, under-found, under-new}
 use Rattle.oim_report.proofs.named.Named+Named+V.push_under.Goals as goal
 

@@ -3,7 +3,7 @@ use Rattle.std.specs.String.{string_bytes, string_eq}
 use Rattle.std.proofs.lemmas.List.{map-append}
 use Rattle.indexmap.specs.IndexMap.{get}
 use Rattle.indexmap.proofs.CallerLemmas.{insert_entry-new}
-use Rattle.oim_report.specs.Named.{renamed}
+use Rattle.oim_report.specs.state.Named.{renamed}
 use Rattle.oim_report.proofs.NamedFacts.{lookup-renamed}
 use Rattle.oim_report.proofs.named.Named.push.Goals as goal
 

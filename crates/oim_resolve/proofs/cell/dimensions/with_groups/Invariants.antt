@@ -3,8 +3,9 @@ use Rattle.std.specs.List.{flat_map, fold}
 use Rattle.std.specs.Option.{option_to_list}
 use Rattle.oim_report.specs.Readers.{column_of}
 use Rattle.oim_resolve.specs.Cell.{meaning_at}
-use Rattle.oim_resolve.specs.ProgramCell.{cell_at, held}
-use Rattle.oim_resolve.specs.ProgramPlan.{put_entries, planned_column, seen_keyed}
+use Rattle.oim_resolve.specs.ProgramCell.{held}
+use Rattle.oim_resolve.specs.state.ProgramCell.{cell_at}
+use Rattle.oim_resolve.specs.state.ProgramPlan.{put_entries, planned_column, seen_keyed}
 use Rattle.oim_resolve.specs.state.Rows.{planned_groups}
 use Rattle.oim_resolve.specs.Written.{group_named}
 use Rattle.oim_resolve.proofs.cell.dimensions.with_groups.Given as goal

@@ -2,7 +2,7 @@ use Rattle.std.proofs.Common.{◌≡◌, List, map, IfOk, subst, ap, ◌∙◌}
 use Rattle.oim_report.specs.Readers.{template_of}
 use Rattle.oim_report.specs.declared.data.Column.{Column}
 use Rattle.oim_report.specs.declared.data.Level.{Level}
-use Rattle.oim_resolve.specs.ProgramPlan.{Keyed, planned_column, planned_levels, seen_keyed}
+use Rattle.oim_resolve.specs.state.ProgramPlan.{Keyed, planned_column, planned_levels, seen_keyed}
 use Rattle.oim_resolve.proofs.plan.column.plan_dimensions.Goals as goal
 
 pub returns : goal.returns

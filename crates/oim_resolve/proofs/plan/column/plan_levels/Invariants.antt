@@ -1,7 +1,7 @@
 use Rattle.std.proofs.Common.{◌≡◌, take, map}
 use Rattle.std.specs.List.{flat_map}
-use Rattle.oim_resolve.specs.ProgramLevels.{named, merged_at}
-use Rattle.oim_resolve.specs.ProgramPlan.{entry_in, seen_keyed}
+use Rattle.oim_resolve.specs.state.ProgramLevels.{named, merged_at}
+use Rattle.oim_resolve.specs.state.ProgramPlan.{entry_in, seen_keyed}
 use Rattle.oim_resolve.specs.ProgramCell.{held}
 use Rattle.oim_resolve.proofs.plan.column.plan_levels.Given as goal
 

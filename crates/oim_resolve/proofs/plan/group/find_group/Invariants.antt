@@ -1,6 +1,6 @@
 use Rattle.std.proofs.Common.{◌≡◌, drop, map}
 use Rattle.oim_names.specs.Lookup.{value_at}
-use Rattle.oim_resolve.specs.ProgramPlan.{seen_group}
+use Rattle.oim_resolve.specs.state.ProgramPlan.{seen_group}
 use Rattle.oim_resolve.proofs.plan.group.find_group.Given as goal
 
 abbrev pub invariant-loop-group : goal.invariant-loop-group

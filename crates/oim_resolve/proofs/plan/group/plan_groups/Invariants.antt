@@ -1,5 +1,5 @@
 use Rattle.std.proofs.Common.{◌≡◌, take, map}
-use Rattle.oim_resolve.specs.ProgramPlan.{group_in, seen_group}
+use Rattle.oim_resolve.specs.state.ProgramPlan.{group_in, seen_group}
 use Rattle.oim_resolve.proofs.plan.group.plan_groups.Given as goal
 
 abbrev pub invariant-loop-name : goal.invariant-loop-name

@@ -1,5 +1,5 @@
 use Rattle.std.proofs.Common.{◌≡◌, take, map, true}
-use Rattle.oim_resolve.specs.ProgramPlan.{entry_in, seen_keyed}
+use Rattle.oim_resolve.specs.state.ProgramPlan.{entry_in, seen_keyed}
 use Rattle.oim_resolve.proofs.plan.group.plan_level.Given as goal
 
 abbrev pub invariant-loop-name : goal.invariant-loop-name

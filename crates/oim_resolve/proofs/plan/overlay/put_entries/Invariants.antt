@@ -1,5 +1,5 @@
 use Rattle.std.proofs.Common.{◌≡◌, take, map}
-use Rattle.oim_resolve.specs.ProgramPlan.{put_entries, seen_keyed}
+use Rattle.oim_resolve.specs.state.ProgramPlan.{put_entries, seen_keyed}
 use Rattle.oim_resolve.specs.ProgramCell.{held}
 use Rattle.oim_resolve.proofs.plan.overlay.put_entries.Given as goal
 

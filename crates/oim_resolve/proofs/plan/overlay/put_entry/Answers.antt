@@ -2,7 +2,7 @@ use Rattle.std.proofs.Common.{◌<◌, length, map, get_or, set, sym, ap, ap₂,
 use Rattle.std.specs.Cmp.Lexicographic.{slice_cmp}
 use Rattle.std.specs.List.{insert}
 use Rattle.oim_resolve.specs.ProgramCell.{held}
-use Rattle.oim_resolve.specs.ProgramPlan.{seen_keyed}
+use Rattle.oim_resolve.specs.state.ProgramPlan.{seen_keyed}
 use Rattle.oim_resolve.proofs.Puts.{entry_less, entry_kept, entry_replaced, entry_more, set_split}
 use Rattle.oim_resolve.proofs.plan.overlay.put_entry.Goals as goal
 

@@ -1,6 +1,6 @@
 use Rattle.std.proofs.Common.{◌≡◌, map}
 use Rattle.oim_resolve.specs.ProgramCell.{held}
-use Rattle.oim_resolve.specs.ProgramPlan.{seen_keyed}
+use Rattle.oim_resolve.specs.state.ProgramPlan.{seen_keyed}
 use Rattle.oim_resolve.proofs.Puts.{PutsEntryFrom}
 use Rattle.oim_resolve.proofs.plan.overlay.put_entry.Given as goal
 

@@ -2,7 +2,7 @@ use Rattle.std.proofs.Common.{Some, ap, sym, ◌∙◌}
 use Rattle.std.specs.List.{position}
 use Rattle.std.specs.Str.{bytes_eq}
 use Rattle.oim_report.specs.Readers.{columns_of, parameter_of}
-use Rattle.oim_resolve.specs.ProgramPlan.{reference_of}
+use Rattle.oim_resolve.specs.state.ProgramPlan.{reference_of}
 use Rattle.oim_resolve.proofs.plan.reference.reference_of.Goals as goal
 
 pub returns-in-Named : goal.returns-in-Named

@@ -1,6 +1,6 @@
 use Rattle.std.proofs.Common.{◌≡◌, vec_len}
 use Rattle.std.specs.Io.KnownBytes.{Keeps}
-use Rattle.oim_run.specs.Buffers.{told_behind}
+use Rattle.oim_run.specs.state.Buffers.{told_behind}
 use Rattle.oim_run.proofs.buffer.Buffer.empty.Given as goal
 
 abbrev pub invariant-loop-self : goal.invariant-loop-self

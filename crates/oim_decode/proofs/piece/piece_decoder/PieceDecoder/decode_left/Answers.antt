@@ -1,7 +1,8 @@
 use Rattle.std.proofs.Common.{◌∙◌, ap, arith, length, subst, sym}
 use Rattle.oim_rows.specs.RowFacts.{TableHeaderValue}
 use Rattle.oim_decode.specs.Apart.{Apart}
-use Rattle.oim_decode.specs.PieceAnswers.{EndsRows, PieceLeft, TakesRow}
+use Rattle.oim_decode.specs.PieceAnswers.{PieceLeft}
+use Rattle.oim_decode.specs.state.PieceAnswers.{EndsRows, TakesRow}
 use Rattle.oim_decode.proofs.PieceSteps.{HasDecoded, all_decoded, decoded_within, front_within, none_decoded, one_decoded, taken_within}
 use Rattle.oim_decode.proofs.piece.piece_decoder.PieceDecoder.decode_left.Goals as goal
 

@@ -1,6 +1,6 @@
 use Rattle.std.proofs.Common.{◌∷◌, ◌++◌, ◌∙◌, [], ap}
 use Rattle.oim_fast.specs.Facts.{facts_of_row}
-use Rattle.oim_decode.specs.RowTexts.{facts_in}
+use Rattle.oim_decode.specs.state.RowTexts.{facts_in}
 use Rattle.oim_decode.proofs.RowCounts.{row_counted}
 use Rattle.oim_decode.proofs.piece.written_rows.WrittenRows.push_row.Goals as goal
 

@@ -1,5 +1,5 @@
 use Rattle.std.proofs.Common.{◌++◌, ◌∙◌, ap}
-use Rattle.oim_decode.specs.RowTexts.{facts_in}
+use Rattle.oim_decode.specs.state.RowTexts.{facts_in}
 use Rattle.oim_decode.proofs.Cuts.{held_more}
 use Rattle.oim_decode.proofs.table.pending_facts.PendingFacts.push_row.Goals as goal
 

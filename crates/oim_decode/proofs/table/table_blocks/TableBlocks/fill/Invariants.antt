@@ -1,5 +1,6 @@
 use Rattle.std.proofs.Common.{◌≡◌, ◌⊎◌, ◌<◌, ◌≤◌, ◌-◌, IfSome, IsSome, None}
-use Rattle.oim_decode.specs.Blocks.{HasRead, IsBehind, blocks_left, left_of, turns_left}
+use Rattle.oim_decode.specs.Blocks.{IsBehind}
+use Rattle.oim_decode.specs.state.Blocks.{HasRead, blocks_left, left_of, turns_left}
 use Rattle.oim_decode.proofs.table.table_blocks.TableBlocks.fill.Given as goal
 
 abbrev pub invariant-loop-self : goal.invariant-loop-self

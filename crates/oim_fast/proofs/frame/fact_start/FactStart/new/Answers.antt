@@ -2,7 +2,7 @@ use Rattle.std.proofs.Common.{◌≡◌, ◌∙◌, ℕ, ap, length, take}
 use Rattle.std.proofs.Math.Seq.{take-length}
 use Rattle.oim_report.specs.Readers.{table_of}
 use Rattle.oim_report.specs.ReportValue.{ReportValue}
-use Rattle.oim_fast.specs.Facts.{lead_text}
+use Rattle.oim_fast.specs.state.Facts.{lead_text}
 use Rattle.oim_fast.proofs.StartLaws.{lead_put}
 use Rattle.oim_fast.proofs.frame.fact_start.FactStart.new.Goals as goal
 

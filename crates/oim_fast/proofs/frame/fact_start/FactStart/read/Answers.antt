@@ -3,7 +3,7 @@ use mathlib.Core.List.{IsPrefix}
 use Rattle.std.specs.List.{flat_map}
 use Rattle.oim_json.specs.JsonText.{escaped_byte}
 use Rattle.oim_report.specs.Readers.{table_of}
-use Rattle.oim_fast.specs.Facts.{lead_text}
+use Rattle.oim_fast.specs.state.Facts.{lead_text}
 use Rattle.oim_row.specs.Rows.{row_in}
 use Rattle.oim_fast.proofs.StartLaws.{front_stays, start_put}
 use Rattle.oim_fast.proofs.frame.fact_start.FactStart.read.Goals as goal

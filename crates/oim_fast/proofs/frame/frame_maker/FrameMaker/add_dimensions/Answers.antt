@@ -5,7 +5,7 @@ use Rattle.oim_report.specs.declared.data.Written.{Written}
 use Rattle.oim_resolve.specs.ProgramCell.{held}
 use Rattle.oim_resolve.specs.Written.{written}
 use Rattle.oim_fast.specs.state.Making.{AddsEntries}
-use Rattle.oim_resolve.specs.ProgramLevels.{named}
+use Rattle.oim_resolve.specs.state.ProgramLevels.{named}
 use Rattle.oim_row.specs.References.{key_of}
 use Rattle.oim_row.proofs.Growth.{grows_none, grows_twice}
 use Rattle.oim_fast.proofs.MakingLaws.{adds_grow, adds_more, adds_none, entries_more}

@@ -4,7 +4,7 @@ use Rattle.std.specs.Prelude.{reverse}
 use Rattle.oim_resolve.specs.ProgramCell.{held}
 use Rattle.oim_resolve.specs.Written.{written}
 use Rattle.oim_fast.specs.state.Making.{AddsEntries, IsMaker}
-use Rattle.oim_resolve.specs.ProgramLevels.{named}
+use Rattle.oim_resolve.specs.state.ProgramLevels.{named}
 use Rattle.oim_row.specs.References.{Grows, key_of}
 use Rattle.oim_fast.proofs.frame.frame_maker.FrameMaker.add_dimensions.Given as goal
 

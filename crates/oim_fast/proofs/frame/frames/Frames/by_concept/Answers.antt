@@ -2,7 +2,7 @@ use Rattle.std.proofs.Common.{◌≡◌, Some, Ok, codes}
 use Rattle.std.specs.List.{slice_get}
 use Rattle.oim_resolve.specs.Facts.{concept_read, given}
 use Rattle.oim_fast.specs.state.KeptFrames.{IsFor, IsKnownFor, IsOfConcept}
-use Rattle.oim_row.specs.Rows.{cell_in}
+use Rattle.oim_row.specs.state.Rows.{cell_in}
 use Rattle.oim_fast.specs.declared.frame.frame.Frame.{Frame}
 use Rattle.oim_fast.proofs.ChoiceLaws.{groups_within}
 use Rattle.oim_fast.proofs.ServedLaws.{referred_read, some_also}

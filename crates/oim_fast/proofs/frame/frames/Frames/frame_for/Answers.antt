@@ -7,7 +7,7 @@ use Rattle.oim_fast.specs.state.Frames.{HasReferredKind, is_known_choice}
 use Rattle.oim_fast.specs.state.ChosenGroups.{choices_in}
 use Rattle.oim_fast.specs.state.KeptFrames.{IsKnownFor, IsTextFor, text_in}
 use Rattle.oim_row.specs.References.{key_of}
-use Rattle.oim_row.specs.Rows.{cell_in}
+use Rattle.oim_row.specs.state.Rows.{cell_in}
 use Rattle.oim_fast.specs.declared.frame.fact_column.FactColumn.{FactColumn}
 use Rattle.oim_row.specs.declared.group_cells.GroupCells.{GroupCells}
 use Rattle.oim_fast.proofs.ColumnLaws.{guessed}

@@ -6,11 +6,11 @@ use Rattle.oim_rows.specs.RowFacts.{field_or_empty}
 use Rattle.oim_fast.specs.state.CellValues.{IsValue}
 use Rattle.oim_fast.specs.state.CellWriters.{PutsCell, column_at}
 use Rattle.oim_fast.specs.state.Columns.{IsFactColumn}
-use Rattle.oim_fast.specs.Facts.{WritesFact}
+use Rattle.oim_fast.specs.state.Facts.{WritesFact}
 use Rattle.oim_fast.specs.state.FrameTexts.{FrameValue}
 use Rattle.oim_fast.specs.state.KeptFrames.{IsTextFor, text_in}
 use Rattle.oim_row.specs.References.{key_of}
-use Rattle.oim_row.specs.Rows.{cell_in}
+use Rattle.oim_row.specs.state.Rows.{cell_in}
 use Rattle.oim_fast.specs.declared.frame.fact_column.FactColumn.{FactColumn}
 use Rattle.oim_row.specs.declared.group_cells.GroupCells.{GroupCells}
 use Rattle.oim_fast.proofs.CellWriterLaws.{cell_meaning, column_set, column_there, nothing_written, of_references, puts_fact, puts_said, value_is_plain}

@@ -1,5 +1,5 @@
 use Rattle.std.proofs.Common.{Ok, inr, ap, ◌∙◌}
-use Rattle.oim_resolve.specs.ProgramCell.{cell_at}
+use Rattle.oim_resolve.specs.state.ProgramCell.{cell_at}
 use Rattle.oim_resolve.specs.state.ProgramDimensions.{dimensions_of}
 use Rattle.oim_resolve.proofs.Ascending.{given_ascends}
 use Rattle.oim_resolve.proofs.Outcomes.{fact_fault, fact_whole, read_together}

@@ -1,8 +1,9 @@
 use Rattle.std.proofs.Common.{◌<◌, List, length, map, sym, subst, ap, ◌∙◌}
 use Rattle.oim_report.specs.declared.data.Column.{Column}
 use Rattle.oim_resolve.specs.declared.plan.column.PlannedColumn.{PlannedColumn}
-use Rattle.oim_resolve.specs.ProgramCell.{cell_at, held}
-use Rattle.oim_resolve.specs.ProgramPlan.{Keyed, seen_keyed}
+use Rattle.oim_resolve.specs.ProgramCell.{held}
+use Rattle.oim_resolve.specs.state.ProgramCell.{cell_at}
+use Rattle.oim_resolve.specs.state.ProgramPlan.{Keyed, seen_keyed}
 use Rattle.oim_resolve.proofs.Overlays.{row_map_is, column_is, nothing_named, seen_entries}
 use Rattle.oim_resolve.proofs.cell.dimensions.CellDimensions.new.Goals as goal
 

@@ -1,5 +1,5 @@
 use Rattle.std.proofs.Common.{codes, ◌∙◌}
-use Rattle.oim_resolve.specs.ProgramCell.{cell_at}
+use Rattle.oim_resolve.specs.state.ProgramCell.{cell_at}
 use Rattle.oim_resolve.proofs.Overlays.{lookup_more}
 use Rattle.oim_resolve.proofs.cell.planned_cell.PlannedCell.concept.Goals as goal
 

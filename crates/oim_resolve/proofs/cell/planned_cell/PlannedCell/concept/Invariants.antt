@@ -2,8 +2,8 @@ use Rattle.std.proofs.Common.{◌≡◌, codes, take}
 use Rattle.std.specs.List.{fold}
 use Rattle.std.specs.Option.{option_map}
 use Rattle.oim_names.specs.Lookup.{value_at}
-use Rattle.oim_resolve.specs.ProgramCell.{cell_at}
-use Rattle.oim_resolve.specs.ProgramPlan.{planned_column, put_entries, seen_flagged}
+use Rattle.oim_resolve.specs.state.ProgramCell.{cell_at}
+use Rattle.oim_resolve.specs.state.ProgramPlan.{planned_column, put_entries, seen_flagged}
 use Rattle.oim_resolve.specs.state.Rows.{planned_groups}
 use Rattle.oim_resolve.proofs.cell.planned_cell.PlannedCell.concept.Given as goal
 

@@ -2,7 +2,7 @@ use Rattle.std.proofs.Common.{◌≡◌, drop}
 use Rattle.std.specs.List.{list_any}
 use Rattle.oim_resolve.specs.Cell.{meaning_at}
 use Rattle.oim_resolve.specs.Facts.{is_unknown}
-use Rattle.oim_resolve.specs.ProgramCell.{cell_at}
+use Rattle.oim_resolve.specs.state.ProgramCell.{cell_at}
 use Rattle.oim_resolve.proofs.cell.planned_cell.PlannedCell.has_unknown_group.Given as goal
 
 abbrev pub invariant-loop-i : goal.invariant-loop-i

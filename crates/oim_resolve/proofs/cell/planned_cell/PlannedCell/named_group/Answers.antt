@@ -2,7 +2,7 @@ use Rattle.std.proofs.Common.{◌<◌, map, sym, subst, ap, ◌∙◌}
 use Rattle.std.specs.Option.{option_map}
 use Rattle.oim_names.specs.Lookup.{value_at}
 use Rattle.oim_report.specs.Readers.{column_of}
-use Rattle.oim_resolve.specs.ProgramPlan.{planned_level, seen_group}
+use Rattle.oim_resolve.specs.state.ProgramPlan.{planned_level, seen_group}
 use Rattle.oim_resolve.specs.Written.{group_named}
 use Rattle.oim_resolve.proofs.Overlays.{group_found, level_named}
 use Rattle.oim_resolve.proofs.cell.planned_cell.PlannedCell.named_group.Goals as goal

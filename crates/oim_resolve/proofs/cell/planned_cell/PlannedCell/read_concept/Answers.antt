@@ -1,5 +1,5 @@
 use Rattle.std.proofs.Common.{ap, ◌∙◌}
-use Rattle.oim_resolve.specs.ProgramCell.{cell_at}
+use Rattle.oim_resolve.specs.state.ProgramCell.{cell_at}
 use Rattle.oim_resolve.specs.state.ProgramDimensions.{dimension_concept}
 use Rattle.std.specs.Option.{option_map}
 use Rattle.oim_resolve.proofs.Overlays.{without_flag}

@@ -1,7 +1,7 @@
 use Rattle.std.proofs.Common.{Ok, Err, inl, inr, sym, ap, ◌∙◌}
 use Rattle.oim_resolve.specs.Facts.{concept_faults, concept_kind, is_absent, rest_faults, fact_of}
 use Rattle.oim_resolve.specs.Faults.{least, unless}
-use Rattle.oim_resolve.specs.ProgramCell.{cell_at}
+use Rattle.oim_resolve.specs.state.ProgramCell.{cell_at}
 use Rattle.oim_resolve.proofs.Outcomes.{absent_cell, as_result, early_absent, early_first, early_second, first_fault, last_step, no_early, read_fault, read_none, read_value, second_fault}
 use Rattle.oim_resolve.proofs.cell.planned_cell.PlannedCell.resolve.Goals as goal
 

@@ -1,4 +1,4 @@
--- What is made of one row: its facts, or its first fault.
+-- The facts that the answer for one row gives.
 use Rattle.std.specs.Prelude.{◌≡◌, List, [], ◌++◌, ℕ, Result, Ok, Err}
 use Rattle.oim_resolve.specs.FactParts.{FactParts as Fact}
 use Rattle.oim_rows.specs.Streams.{OrNoMemory}

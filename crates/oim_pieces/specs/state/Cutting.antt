@@ -1,7 +1,6 @@
 -- What cutting a table's file into pieces leaves.
 use Rattle.std.specs.Prelude.{◌≡◌, ◌++◌, ⊤, ℕ, List, [], Option, Some, None, IfSome}
 use Rattle.oim_records.specs.Grids.{Record}
-use Rattle.oim_records.specs.Reads.{KeepsLeft}
 use Rattle.oim_rows.specs.Streams.{IsOutside}
 use Rattle.oim_rows.specs.declared.fault.TableFault.{TableFault}
 

@@ -1,0 +1,7 @@
+-- A document that is being written, at a later time.
+use Rattle.std.specs.Prelude.{◌≡◌}
+use Rattle.oim_merge.specs.Writers.{WriterView}
+
+-- the same document at a later time
+abbrev pub Continues : WriterView → WriterView → Type 0
+Continues old new = new ≡ record old { items = new.items; sink = new.sink }

@@ -1,0 +1,4 @@
+pub mod Places
+pub mod Reading
+pub mod Order
+pub mod Refusals

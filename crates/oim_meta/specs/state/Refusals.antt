@@ -1,0 +1,12 @@
+-- The refusal for a fault that has no place.
+use Rattle.std.specs.Prelude.{[]}
+use Rattle.oim_entries.specs.declared.fault.MetaFault.{MetaFault}
+use Rattle.oim_entries.specs.declared.fault.MetaFault.TheVariants as fault
+use Rattle.oim_meta.specs.declared.refusal.Refusal.{Refusal}
+use Rattle.oim_meta.specs.declared.refusal.Refusal.TheVariants.{Found, Memory}
+use Rattle.oim_meta.specs.Findings.{finding}
+
+-- a fault of the whole, at no key
+abbrev pub refusal_of : MetaFault → Refusal
+refusal_of fault.Memory = Memory
+refusal_of f = Found (finding f [])

@@ -1,0 +1,3 @@
+pub mod FaultPlaces
+pub mod FaultRows
+pub mod Pointers
