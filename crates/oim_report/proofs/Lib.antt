@@ -4,3 +4,4 @@ pub mod TypesKept
 pub mod ParameterFacts
 pub mod GroupOrder
 pub mod Searches
+mod Examples

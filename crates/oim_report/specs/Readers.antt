@@ -1,6 +1,8 @@
 -- What the readers of a report answer. Places that are out of range have empty parts.
 use Rattle.std.specs.Prelude.{ℕ, List, [], Bool, true, false, Option, None, slice_index_or}
+use Rattle.std.specs.List.{position}
 use Rattle.std.specs.Option.{option_or}
+use Rattle.std.specs.Str.{bytes_eq}
 use Rattle.oim_names.specs.Lookup.{value_at}
 use Rattle.oim_report.specs.Types.{kind_in}
 use Rattle.oim_report.specs.ReportValue.{ReportValue}
@@ -36,6 +38,14 @@ columns_of r i = (template_of r i).columns
 
 abbrev pub column_of : ReportValue → ℕ → ℕ → Column
 column_of r i c = slice_index_or (columns_of r i) c no_column
+
+-- the place of the first column with this identifier
+abbrev pub place_of_name : List Column → List ℕ → Option ℕ
+place_of_name columns n = position (λ k. bytes_eq k.id n) columns
+
+-- the same among the columns of a table's template
+abbrev pub column_named : ReportValue → ℕ → List ℕ → Option ℕ
+column_named r i n = place_of_name (columns_of r i) n
 
 -- the table's parameter, else the report's
 abbrev pub parameter_of : ReportValue → ℕ → List ℕ → Option (List ℕ)

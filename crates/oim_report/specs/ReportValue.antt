@@ -1,6 +1,7 @@
 -- What the metadata of a report says, with its parameters and its types.
-use Rattle.std.specs.Prelude.{ℕ, List}
+use Rattle.std.specs.Prelude.{ℕ, List, ◌++◌}
 use Rattle.oim_names.specs.Bindings.{Bindings}
+use Rattle.oim_report.specs.Parameters.{ParametersValue}
 use Rattle.oim_report.specs.Types.{TypesValue}
 use Rattle.oim_report.specs.declared.data.Info.{Info}
 use Rattle.oim_report.specs.declared.data.Level.{Level}
@@ -14,4 +15,16 @@ pub record ReportValue : Type 0 where
   pub level : Level
   pub templates : List Template
   pub tables : List Table
-  pub parameters : List (List ℕ × List ℕ)
+  pub parameters : ParametersValue
+
+-- the report of these parts: the parameters of the metadata stand before those that are given beside it
+abbrev pub report_with : Info → Bindings → TypesValue → Level → List Template → List Table → ParametersValue × ParametersValue → ReportValue
+report_with info namespaces types level templates tables parameters = record {
+  info = info;
+  namespaces = namespaces;
+  types = types;
+  level = level;
+  templates = templates;
+  tables = tables;
+  parameters = parameters.0 ++ parameters.1;
+}

@@ -1,8 +1,7 @@
 //! A column by its name.
 
 ghost use Rattle.std.specs.Prelude.{◌≡◌, map};
-ghost use Rattle.std.specs.List.{position};
-ghost use Rattle.std.specs.Str.{bytes_eq};
+ghost use Rattle.oim_report.specs.Readers.{place_of_name};
 ghost use Rattle.oim_report.specs.Rising.{IsRising};
 ghost use Rattle.oim_report.specs.declared.data.Column.{Column as ColumnValue};
 
@@ -13,7 +12,7 @@ const SHORT: usize = 8;
 
 /// The place of the column of a name, by a walk.
 fn place_by_walk(columns: &[Column], name: &[u8]) -> Option<usize>
-    ensures { result ≡ position (λ k. bytes_eq k.id name.now) columns.now }
+    ensures { result ≡ place_of_name columns.now name.now }
 {
     columns
         .iter()
@@ -23,7 +22,7 @@ fn place_by_walk(columns: &[Column], name: &[u8]) -> Option<usize>
 /// The place of the column of a name among columns whose names rise strictly in byte order, where there is one.
 pub(crate) fn place_in_order(columns: &[Column], name: &[u8]) -> Option<usize>
     requires { IsRising (map (λ (c : ColumnValue). c.id) columns.now) }
-    ensures { result ≡ position (λ k. bytes_eq k.id name.now) columns.now }
+    ensures { result ≡ place_of_name columns.now name.now }
 {
     if columns.len() <= SHORT {
         return place_by_walk(columns, name);

@@ -1,13 +1,12 @@
 //! The readers of a report.
 
 ghost use Rattle.std.specs.Prelude.{◌≡◌, ◌<◌, length, IfOk, IfSome};
-ghost use Rattle.std.specs.List.{All, position};
+ghost use Rattle.std.specs.List.{All};
 ghost use Rattle.std.specs.Option.{option_map};
-ghost use Rattle.std.specs.Str.{bytes_eq};
 ghost use Rattle.oim_names.specs.Lookup.{value_at};
 ghost use Rattle.oim_report.specs.InOrder.{PartsRise, HaveIdentifiers};
 ghost use Rattle.oim_report.specs.Places.{HasColumns};
-ghost use Rattle.oim_report.specs.Readers.{table_of, template_of, columns_of, column_of, parameter_of, kind_of};
+ghost use Rattle.oim_report.specs.Readers.{table_of, template_of, columns_of, column_of, column_named, parameter_of, kind_of};
 
 use crate::by_name::place_in_order;
 use crate::data::{Column, Info, Level, Table, Template};
@@ -99,7 +98,7 @@ impl Report {
     #[tactic(auto, using(crate::proofs::GroupOrder::columns_rise))]
     pub fn place_of_column(&self, i: usize, name: &[u8]) -> Option<usize>
         requires { i < length self.now.tables }
-        ensures { result ≡ position (λ k. bytes_eq k.id name.now) (columns_of self.now i) }
+        ensures { result ≡ column_named self.now i name.now }
     {
         self.stands_in_order();
         place_in_order(self.template_columns(i), name)

@@ -1,7 +1,8 @@
 //! A report: its metadata, parameters and types.
 
-ghost use Rattle.std.specs.Prelude.{◌≡◌, ◌++◌};
+ghost use Rattle.std.specs.Prelude.{◌≡◌};
 ghost use Rattle.oim_report.specs.Places.{IsReport as are_parts};
+ghost use Rattle.oim_report.specs.ReportValue.{report_with};
 
 use crate::data::{Info, Level, Table, Template};
 use crate::parameters::Parameters;
@@ -40,21 +41,12 @@ impl Drop for Report {
 }
 
 impl Model for Report {
-    ghost use Rattle.std.specs.Prelude.{◌++◌};
-    ghost use Rattle.oim_report.specs.ReportValue.{ReportValue};
+    ghost use Rattle.oim_report.specs.ReportValue.{ReportValue, report_with};
     ghost use Rattle.oim_report.specs.Places.{IsReport};
 
     ghost Value = { ReportValue };
 
-    ghost view = { λ r. record {
-      info = r.info;
-      namespaces = r.namespaces;
-      types = r.types;
-      level = r.level;
-      templates = r.templates;
-      tables = r.tables;
-      parameters = r.parameters ++ r.given;
-    } };
+    ghost view = { λ r. report_with r.info r.namespaces r.types r.level r.templates r.tables (r.parameters, r.given) };
 
     ghost invariant = { λ r. IsReport r.level r.templates r.tables r.parameters };
 }
@@ -72,15 +64,7 @@ impl Report {
         parameters: (Items<(Text, Text)>, Parameters),
     ) -> Report
         requires { are_parts level templates tables parameters.0 }
-        ensures { result ≡ record {
-          info = info;
-          namespaces = namespaces;
-          types = types;
-          level = level;
-          templates = templates;
-          tables = tables;
-          parameters = parameters.0 ++ parameters.1;
-        } }
+        ensures { result ≡ report_with info namespaces types level templates tables parameters }
     {
         let (parameters, given) = parameters;
         Report {

@@ -42,7 +42,7 @@ use Rattle.oim_resolve.specs.Facts.{cell_result, early_result, rest_faults, fact
 use Rattle.oim_resolve.specs.Faults.{name_of, number_of}
 use Rattle.oim_resolve.specs.state.ProgramFaults.{both, least_of}
 use Rattle.oim_resolve.specs.Order.{IsAscending, HasNamesInOrder}
-use Rattle.oim_resolve.specs.Values.{side_of}
+use Rattle.oim_resolve.specs.Values.{literal_of, side_of}
 
 -- what is unfolded to compute with names, with periods and with cells that are written out
 unfoldable names_on_literals : ⊤
@@ -576,6 +576,11 @@ language_by_reference = refl
 typed_by_reference : map (referred (codes "eg:Cash") (codes "eg:Branch")) (codes "#nil" ∷ codes "#empty" ∷ []) ≡ with_branch None ∷ with_branch (Some []) ∷ []
 unfolding on_literals
 typed_by_reference = refl
+
+-- literals, the same in every row, and references
+literals : map literal_of (w.Absent ∷ w.Nil ∷ w.Empty ∷ text (codes "a") ∷ reference (codes "a") ∷ w.RowNumber side.Whole ∷ [])
+    ≡ Some m.Absent ∷ Some m.Nil ∷ Some m.Empty ∷ Some (m.Text (codes "a")) ∷ None ∷ None ∷ []
+literals = refl
 
 -- and as literals
 literal_branches : map (λ x. with_b ((codes "eg:Branch", x) ∷ base_level) []) (w.Nil ∷ w.Empty ∷ w.Absent ∷ [])

@@ -16,10 +16,10 @@ use Rattle.oim_cells.specs.Cells.{Meaning}
 use Rattle.oim_cells.specs.declared.cells.Accuracy.{Accuracy}
 use Rattle.oim_resolve.specs.Values.{Stated}
 use Rattle.oim_resolve.specs.Facts.{id_of, fact_value, fact_decimals, named_entry, dimension_entry, dimension_faults, decimals_faults, stated, is_absent}
-use Rattle.oim_resolve.specs.Facts.{fact_meaning, cell_and_group_faults, concept_faults, concept_kind, rest_faults, fact_of, cell_result, early_result}
+use Rattle.oim_resolve.specs.Facts.{fact_meaning, cell_and_group_faults, concept_faults, concept_kind, rest_faults, fact_of, rest_result, as_result, cell_result, early_result}
 
 unfoldable pub outcome : Bool → Option CellFault → Option CellFault → Option CellFault → Fact → Result (Option Fact) CellFault
-outcome absent x y z f = if absent then Ok None else unless x (unless y (unless z (Ok (Some f))))
+outcome absent x y z f = if absent then Ok None else unless x (unless y (as_result (unless z (Ok f))))
 
 module _ (c : Cell) where
   abbrev pub no_cell : Bool
@@ -72,18 +72,12 @@ pub read_value : {A : Type 0} (o : Option CellFault) (a b : A) → Ok b ≡ unle
 read_value None a b e = cc e
 read_value (Some g) a b e = cc e
 
--- a fact as the result of a cell
-abbrev pub as_result : Result Fact CellFault → Result (Option Fact) CellFault
-as_result (Ok f) = Ok (Some f)
-as_result (Err e) = Err e
-
 as_result-unless : (z : Option CellFault) (f : Fact) → as_result (unless z (Ok f)) ≡ outcome false None None z f
 unfolding outcome
-as_result-unless None f = refl
-as_result-unless (Some g) f = refl
+as_result-unless z f = refl
 
 module _ (c : Cell) (here : is_absent (fact_meaning c) ≡ false) (groups : None ≡ least (cell_and_group_faults c)) (concept : None ≡ least (concept_faults c)) where
-  pub last_step : (r : Result Fact CellFault) → r ≡ unless (least (rest_faults c (concept_kind c))) (Ok (fact_of c)) → as_result r ≡ cell_result c
+  pub last_step : (r : Result Fact CellFault) → r ≡ rest_result c → as_result r ≡ cell_result c
   last_step r e = ap as_result e ∙ as_result-unless _ _ ∙ sym (past_second c here groups concept)
 
   pub not_early : early_result c ≡ None
@@ -177,16 +171,20 @@ module _ (c : Cell) (k : Kind) where
       ∙ ap (decimals_read k (fact_meaning c) (accuracy_in (fact_value c k))) hs in
       hwhole ∙ ap (λ x. both pair x t) htwo ∙ all_three d n t hd decimals (ht ∙ ap text_read reading)
 
-  pub fact_fault : (f : CellFault) (r : Result Together CellFault) → r ≡ Err f → r ≡ unless rest (Ok all_given) → Err f ≡ unless rest (Ok (fact_of c))
-  fact_fault f r is e = ap (λ o. unless o (Ok (fact_of c))) (read_fault rest all_given f (sym is ∙ e))
+  -- the third step, where the concept is of this kind
+  at_kind : k ≡ concept_kind c → unless rest (Ok (fact_of c)) ≡ rest_result c
+  at_kind same = ap (λ j. unless (least (rest_faults c j)) (Ok (fact_of c))) same
+
+  pub fact_fault : (f : CellFault) (r : Result Together CellFault) → k ≡ concept_kind c → r ≡ Err f → r ≡ unless rest (Ok all_given) → Err f ≡ rest_result c
+  fact_fault f r same is e = ap (λ o. unless o (Ok (fact_of c))) (read_fault rest all_given f (sym is ∙ e)) ∙ at_kind same
 
   pub fact_whole : (id : List ℕ) (w : Together) (r : Result Together CellFault) → k ≡ concept_kind c → id ≡ id_of c
       → r ≡ Ok w → r ≡ unless rest (Ok all_given)
-      → Ok (record { id = id; value = w.1; decimals = w.0.1; dimensions = w.0.0 }) ≡ unless rest (Ok (fact_of c))
+      → Ok (record { id = id; value = w.1; decimals = w.0.1; dimensions = w.0.0 }) ≡ rest_result c
   fact_whole id w r same a is e =
       let none : None ≡ rest = read_none rest all_given w (sym is ∙ e) in
       let parts : w ≡ all_given = read_value rest all_given w (sym is ∙ e) in
       let value = ap (λ (x : Together). x.1) parts in
       let decimals = ap (λ (x : Together). x.0.1) parts in
       let dimensions = ap (λ (x : Together). x.0.0) parts in
-      ap Ok (fact_parts c k id w.1 w.0.1 w.0.0 same a value decimals dimensions) ∙ ap (λ o. unless o (Ok (fact_of c))) none
+      ap Ok (fact_parts c k id w.1 w.0.1 w.0.0 same a value decimals dimensions) ∙ ap (λ o. unless o (Ok (fact_of c))) none ∙ at_kind same

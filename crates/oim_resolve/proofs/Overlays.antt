@@ -19,7 +19,7 @@ use Rattle.oim_report.specs.ReportValue.{ReportValue}
 use Rattle.oim_report.specs.Readers.{column_of, template_of}
 use Rattle.oim_report.specs.declared.data.Level.{Level}
 use Rattle.oim_report.specs.declared.data.Written.{Written}
-use Rattle.oim_resolve.specs.Cell.{Cell, column, meaning_at}
+use Rattle.oim_resolve.specs.Cell.{Cell, column}
 use Rattle.oim_resolve.specs.state.ProgramLevels.{named, merged_at, merged_levels, written_entries, written_names, put_levels}
 use Rattle.oim_resolve.specs.state.ProgramDimensions.{row_entries}
 use Rattle.oim_resolve.specs.Order.{IsAscending}
@@ -27,7 +27,7 @@ use Rattle.oim_resolve.specs.state.ProgramPlan.{Entry, Keyed, entry_in, group_in
 use Rattle.oim_resolve.specs.declared.plan.dimension.PlannedDimension.{PlannedDimension}
 use Rattle.oim_resolve.specs.declared.plan.group.PlannedGroup.{PlannedGroup}
 use Rattle.oim_resolve.specs.state.Rows.{planned_named, planned_groups, row_map}
-use Rattle.oim_resolve.specs.Written.{put_name, names, written, levels, named_groups, group_named}
+use Rattle.oim_resolve.specs.Written.{put_name, names, written, levels, named_groups, group_of_cell}
 use Rattle.oim_resolve.proofs.Ascending.{order, Precedes, turned, earlier, IsAscending-put, IsAscending-fold, IsAscending-names}
 use Rattle.oim_resolve.proofs.Merges.{names_merged, value_at-merged, picked, pick_written}
 use Rattle.oim_resolve.proofs.Overrides.{first_written, written_reversed}
@@ -348,14 +348,14 @@ one_named c None = refl
 one_named c (Some l) = refl
 
 planned_groups-are : (c : Cell) (is : List ℕ)
-    → planned_groups c is ≡ map (planned_level c.report c.table) (flat_map (λ i. option_to_list (group_named (column_of c.report c.table i) (meaning_at c i))) is)
+    → planned_groups c is ≡ map (planned_level c.report c.table) (flat_map (λ i. option_to_list (group_of_cell c i)) is)
 planned_groups-are c [] = refl
 planned_groups-are c (i ∷ is) =
     map-append (λ (g : Level × List Keyed). g.1) (option_to_list (planned_named c i)) (flat_map (λ i. option_to_list (planned_named c i)) is)
-    ∙ ap (λ xs. xs ++ planned_groups c is) (one_named c (group_named (column_of c.report c.table i) (meaning_at c i)))
-    ∙ ap (λ xs. map (planned_level c.report c.table) (option_to_list (group_named (column_of c.report c.table i) (meaning_at c i))) ++ xs) (planned_groups-are c is)
-    ∙ sym (map-append (planned_level c.report c.table) (option_to_list (group_named (column_of c.report c.table i) (meaning_at c i)))
-    (flat_map (λ i. option_to_list (group_named (column_of c.report c.table i) (meaning_at c i))) is))
+    ∙ ap (λ xs. xs ++ planned_groups c is) (one_named c (group_of_cell c i))
+    ∙ ap (λ xs. map (planned_level c.report c.table) (option_to_list (group_of_cell c i)) ++ xs) (planned_groups-are c is)
+    ∙ sym (map-append (planned_level c.report c.table) (option_to_list (group_of_cell c i))
+    (flat_map (λ i. option_to_list (group_of_cell c i)) is))
 
 pub row_map_is : (c : Cell) → map (λ k. k.1.0) (row_map c) ≡ row_entries c
 unfolding row_map row_entries planned_column
@@ -386,7 +386,7 @@ unfolding planned_column
 lookup_over c n is l K e =
     let r = c.report in
     let t = c.table in
-    let gs = flat_map (λ i. option_to_list (group_named (column_of r t i) (meaning_at c i))) is in
+    let gs = flat_map (λ i. option_to_list (group_of_cell c i)) is in
     let start = planned_levels r t r.level (template_of r t).level (column c).level in
     let same : K ≡ with r t start gs = e ∙ ap (fold put_entries start) (planned_groups-are c is) in
     let ascends = subst (λ ks. IsAscending (keys ks)) (sym same) (ascending-groups r t gs start (start_ascends r t r.level (template_of r t).level (column c).level gs)) in
@@ -403,7 +403,7 @@ column_is c h =
 pub nothing_named : (c : Cell) → length (column c).from ≡ 0 → named_groups c ≡ []
 nothing_named c h = by (column c).from h
   where
-    by : (is : List ℕ) → length is ≡ 0 → flat_map (λ i. option_to_list (group_named (column_of c.report c.table i) (meaning_at c i))) is ≡ []
+    by : (is : List ℕ) → length is ≡ 0 → flat_map (λ i. option_to_list (group_of_cell c i)) is ≡ []
     by [] e = refl
     by (i ∷ is) e = absurd (omega (arith, e))
 
@@ -454,6 +454,6 @@ module _ (c : Cell) (n : List ℕ) (is : List ℕ) (k d : ℕ) where
   pub lookup_more : (o : Option (Entry × Bool)) → k < length is → o ≡ value_at n so_far
       → with_named n o next ≡ value_at n (fold put_entries (planned_column c.report c.table c.column) (planned_groups c (take (k + 1) is)))
   lookup_more o h e =
-      with_next o (group_named (column_of c.report c.table (get_or is k d)) (meaning_at c (get_or is k d))) e
+      with_next o (group_of_cell c (get_or is k d)) e
       ∙ ap (value_at n) (sym (fold-append put_entries (planned_column c.report c.table c.column) (planned_groups c (take k is)) (entries_of (option_to_list next))))
       ∙ ap (λ gs. value_at n (fold put_entries (planned_column c.report c.table c.column) gs)) (sym (groups_more h))

@@ -316,12 +316,20 @@ fact_of c = record {
 
 -- RESULT
 
+-- what the third step gives: the least fault of the other dimensions, the decimals and the value, or the fact
+abbrev pub rest_result : Cell → Result Fact CellFault
+rest_result c = unless (least (rest_faults c (concept_kind c))) (Ok (fact_of c))
+
+-- a fact as the result of a cell
+abbrev pub as_result : Result Fact CellFault → Result (Option Fact) CellFault
+as_result (Ok f) = Ok (Some f)
+as_result (Err e) = Err e
+
 unfoldable pub cell_result : Cell → Result (Option Fact) CellFault
 cell_result c =
     if is_absent (fact_meaning c) then Ok None
     else unless (least (cell_and_group_faults c))
-    (unless (least (concept_faults c))
-    (unless (least (rest_faults c (concept_kind c))) (Ok (Some (fact_of c)))))
+    (unless (least (concept_faults c)) (as_result (rest_result c)))
 
 -- the answer that the first two steps have, if any: no fact where the cell says nothing, else the least fault of the first of them that has one
 unfoldable pub early_result : Cell → Option (Result (Option Fact) CellFault)

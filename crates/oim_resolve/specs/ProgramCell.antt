@@ -1,4 +1,4 @@
--- What references point to.
+-- What contracts see of references: what they point to.
 use Rattle.std.specs.Prelude.{List, map}
 use Rattle.std.specs.Borrow.{Bor}
 

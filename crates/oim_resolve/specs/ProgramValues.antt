@@ -1,11 +1,10 @@
--- What the cell of a fact gives, as the program holds it.
+-- What contracts see of the value that is read of the cell of a fact: its text and its accuracy.
 use Rattle.std.specs.Prelude.{Result, Ok, Err}
 use Rattle.std.specs.Option.{option_map}
 use Rattle.oim_resolve.specs.declared.fact.CellFault.{CellFault}
 use Rattle.oim_resolve.specs.declared.reading.FactValue.{FactValue}
 use Rattle.oim_resolve.specs.FactValues.{ValueParts}
 
--- what a cell gives its fact, and its reading
 abbrev pub seen_value : FactValue → ValueParts
 seen_value v = record { text = option_map (λ t. t.now) v.text; accuracy = v.accuracy }
 

@@ -1,12 +1,10 @@
 -- What a written property gives in a row: a literal, the row number, or what the row, else a parameter, says.
 -- (xBRL-CSV 1.0, column and parameter references, special values)
-use Rattle.std.specs.Prelude.{ℕ, List, [], ◌∷◌, Option, Some, None, decimal}
-use Rattle.std.specs.List.{position}
+use Rattle.std.specs.Prelude.{ℕ, List, [], ◌∷◌, Option, Some, None, decimal, unwrap_or}
 use Rattle.std.specs.Option.{option_or, option_and_then, option_map_or}
-use Rattle.std.specs.Str.{bytes_eq}
 use Rattle.oim_cells.specs.Cells.{Meaning, meaning_of}
 use Rattle.oim_cells.specs.Cells as m
-use Rattle.oim_report.specs.Readers.{columns_of, parameter_of}
+use Rattle.oim_report.specs.Readers.{column_named, parameter_of}
 use Rattle.oim_cells.specs.declared.cells.Accuracy.{Accuracy}
 use Rattle.oim_report.specs.declared.data.Side.{Side}
 use Rattle.oim_report.specs.declared.data.Side.TheVariants as side
@@ -23,19 +21,30 @@ not_empty (b ∷ bs) = Some (b ∷ bs)
 
 -- the text of the row's cell in the column of a name, where it is not empty
 abbrev pub text_in_row : Cell → List ℕ → Option (List ℕ)
-text_in_row c n = option_and_then (λ i. not_empty (text_at c i)) (position (λ k. bytes_eq k.id n) (columns_of c.report c.table))
+text_in_row c n = option_and_then (λ i. not_empty (text_at c i)) (column_named c.report c.table n)
 
 -- the meaning of what a reference names: the row's cell, else the table's parameter, else the report's
 abbrev pub referred : Cell → List ℕ → Meaning
 referred c n = option_map_or meaning_of (option_or (text_in_row c n) (parameter_of c.report c.table n)) m.Absent
 
+-- what is written by itself, the same in every row; none for a reference
+abbrev pub literal_of : Written → Option Meaning
+literal_of w.Absent = Some m.Absent
+literal_of w.Nil = Some m.Nil
+literal_of w.Empty = Some m.Empty
+literal_of (w.Text t) = Some (m.Text t)
+literal_of (w.RowNumber s) = None
+literal_of (w.Named n s) = None
+
+-- what a reference means in the row; a literal refers to nothing
+abbrev pub reference_value : Cell → Written → Meaning
+reference_value c (w.RowNumber s) = m.Text (decimal c.row.number)
+reference_value c (w.Named n s) = referred c n
+reference_value c _ = m.Absent
+
+-- the literal, else what the reference means
 abbrev pub value : Cell → Written → Meaning
-value c w.Absent = m.Absent
-value c w.Nil = m.Nil
-value c w.Empty = m.Empty
-value c (w.Text t) = m.Text t
-value c (w.RowNumber s) = m.Text (decimal c.row.number)
-value c (w.Named n s) = referred c n
+value c x = unwrap_or (literal_of x) (reference_value c x)
 
 -- the side of a duration that a reference asks for
 abbrev pub side_of : Written → Side

@@ -20,9 +20,13 @@ abbrev pub group_named : Column → Meaning → Option Level
 group_named g (m.Text t) = value_at t g.groups
 group_named g _ = None
 
+-- the group that the row's cell at a place names
+abbrev pub group_of_cell : Cell → ℕ → Option Level
+group_of_cell c i = group_named (column_of c.report c.table i) (meaning_at c i)
+
 -- the groups that the row's cells name, in the order of `propertiesFrom`
 abbrev pub named_groups : Cell → List Level
-named_groups c = flat_map (λ i. option_to_list (group_named (column_of c.report c.table i) (meaning_at c i))) (column c).from
+named_groups c = flat_map (λ i. option_to_list (group_of_cell c i)) (column c).from
 
 -- the levels of a cell, from the most general to the most specific
 abbrev pub levels : Cell → List Level

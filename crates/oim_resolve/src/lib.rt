@@ -13,8 +13,9 @@
 //! `read_value` reads one dimension and `read_concept` a concept, each from what a row gives, and
 //! `fact_value` the fact cell by the kind of its concept.
 //!
-//! In `specs/`, the files named `Program..`, and `Rows`, describe what the program keeps, and are read
-//! beside the code; the others hold the rules.
+//! In `specs/`, the files named `Program..` say what contracts see of a plan, of references and of the
+//! value that is read of a cell; the others hold the rules. `specs/state/` describes what the program
+//! keeps, and is read beside the code.
 //!
 //! A call:
 //!

@@ -1,38 +1,31 @@
 -- Header cells that name a column, and columns that stand in the front of a header.
 use Rattle.std.proofs.Common.{◌≡◌, ℕ, ◌+◌, ◌<◌, zero, suc, List, [], ◌∷◌, ◌++◌, length, take, drop, get_or, set, replicate, Option, Some, None, Bool, true, false, refl, sym, ap, ◌∙◌, arith, cond, ◌≢◌}
 use Rattle.std.specs.Prelude.{IfSome, ◌||◌, ◌==◌, if◌then◌else◌}
-use Rattle.std.specs.List.{All, list_any, position, position_from}
+use Rattle.std.specs.List.{All, list_any}
 use Rattle.std.specs.Str.{bytes_eq}
-use Rattle.std.proofs.lemmas.Iterator.Adapters.{position_from-zero}
 use Rattle.std.proofs.lemmas.List.Folds.{list_any-append}
+use Rattle.std.proofs.lemmas.List.Quantifiers.{position-Some}
 use Rattle.std.proofs.lemmas.Bool.{eqb-true, eqb-false}
 use Rattle.std.proofs.lemmas.Grind.{get_or-set_at}
 use Rattle.std.proofs.Math.Seq.{drop-cons}
 use Rattle.std.proofs.lemmas.List.{get_or_default, get_or-replicate, get_or-set_other, length-replicate, length-set, take_more}
 use Rattle.oim_records.specs.Grids.{Field, Record}
+use Rattle.oim_report.specs.Readers.{no_column, place_of_name}
 use Rattle.oim_report.specs.declared.data.Column.{Column}
-use Rattle.oim_rows.specs.Header.{Header, header_of, is_column, named_column, place_of, repeat_from, repeats}
-
--- the two words for the first place that passes a test
-pub place_is : (columns : List Column) (f : Field) → position (λ (k : Column). bytes_eq k.id f) columns ≡ place_of columns f
-place_is columns f = position_from-zero (λ (k : Column). bytes_eq k.id f) columns
+use Rattle.oim_rows.specs.Header.{Header, header_of, is_column, named_column, repeat_from, repeats}
 
 -- A CELL NAMES A COLUMN THAT IS THERE
 
 IsBelow : ℕ → Option ℕ → Type 0
 IsBelow n o = IfSome o (λ c. c < n)
 
-place_below : {X : Type 0} (t : X → Bool) (i : ℕ) (xs : List X) (n : ℕ) → i + length xs ≡ n → IfSome (position_from t i xs) (λ c. c < n)
-place_below t i [] n e = tt
-place_below {X} t i (x ∷ xs) n e = by (t x) (place_below t (i + 1) xs n (omega (arith, e)))
-  where
-    by : (b : Bool) → IfSome (position_from t (i + 1) xs) (λ c. c < n) → IfSome (cond b (Some i) (position_from t (i + 1) xs)) (λ c. c < n)
-    by true more = omega (arith, e)
-    by false more = more
-
 cell_below : (columns : List Column) (f : Field) → IfSome (named_column columns f) (λ c. c < length columns)
 cell_below columns [] = tt
-cell_below columns (b ∷ bs) = place_below (λ (k : Column). bytes_eq k.id (b ∷ bs)) 0 columns (length columns) (omega arith)
+cell_below columns (b ∷ bs) = by (place_of_name columns (b ∷ bs)) refl
+  where
+    by : (o : Option ℕ) → place_of_name columns (b ∷ bs) ≡ o → IfSome o (λ c. c < length columns)
+    by None e = tt
+    by (Some c) e = (position-Some (λ (k : Column). bytes_eq k.id (b ∷ bs)) columns c no_column e).0
 
 pub header_below : (columns : List Column) (r : Record) → All (λ o. IfSome o (λ c. c < length columns)) (header_of columns r)
 header_below columns [] k d lt = absurd (omega (arith, lt))

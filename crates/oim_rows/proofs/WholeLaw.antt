@@ -9,7 +9,7 @@ use Rattle.oim_resolve.specs.FactParts.{FactParts as Fact}
 use Rattle.oim_rows.specs.Header.{header_fault}
 use Rattle.oim_rows.specs.RowFacts.{TableHeaderValue, id_place_of, ids_after}
 use Rattle.oim_rows.specs.Streams.{Stream, ending, table_header_of, row_in_front, stream_from, stream_of, table_stream}
-use Rattle.oim_rows.specs.WholeTable.{Gives, IsFileStream, IsStreamOf, IsTableStream, ids_of, row_after, row_at}
+use Rattle.oim_rows.specs.WholeTable.{RowGives, IsFileStream, IsStreamOf, IsTableStream, ids_of, row_after, row_at}
 use Rattle.oim_rows.specs.declared.fault.TableFault.{TableFault}
 
 pub ids_of-more : (p : Option ℕ) (earlier : List Record) (r : Record) → ids_after p (ids_of p earlier) r ≡ ids_of p (earlier ++ r ∷ [])
@@ -17,21 +17,21 @@ ids_of-more None earlier r = refl
 ids_of-more (Some p) earlier r = sym (map-append (λ (q : Record). unwrap_or (field_at q p) []) earlier (r ∷ []))
 
 -- a row after the first is one of the rows after it
-gives_later : (g : TableHeaderValue) (earlier rows : List Record) (r : Record) (m : ℕ) (answer : Result (List Fact) TableFault) → Gives g (earlier ++ r ∷ []) rows m answer
-    → Gives g earlier (r ∷ rows) (suc m) answer
+gives_later : (g : TableHeaderValue) (earlier rows : List Record) (r : Record) (m : ℕ) (answer : Result (List Fact) TableFault) → RowGives g (earlier ++ r ∷ []) rows m answer
+    → RowGives g earlier (r ∷ rows) (suc m) answer
 gives_later g earlier rows r m answer h = (h.0, h.1, rw (append_assoc earlier (r ∷ []) (take m rows)) at h.2)
 
-gives_first : (g : TableHeaderValue) (earlier rows : List Record) (r : Record) (answer : Result (List Fact) TableFault) → row_after g earlier r ≡ answer → Gives g earlier (r ∷ rows) zero answer
+gives_first : (g : TableHeaderValue) (earlier rows : List Record) (r : Record) (answer : Result (List Fact) TableFault) → row_after g earlier r ≡ answer → RowGives g earlier (r ∷ rows) zero answer
 gives_first g earlier rows r answer e = (r, refl, rw (append-nil earlier) e)
 
 good_rows : (g : TableHeaderValue) (earlier rows : List Record) (r : Record) (first : List Fact) (s : Stream) → row_after g earlier r ≡ Ok first → IsStreamOf g (earlier ++ r ∷ []) rows s
-    → (m : ℕ) (facts : List Fact) → row_at (first ∷ s.rows) m ≡ Some facts → Gives g earlier (r ∷ rows) m (Ok facts)
+    → (m : ℕ) (facts : List Fact) → row_at (first ∷ s.rows) m ≡ Some facts → RowGives g earlier (r ∷ rows) m (Ok facts)
 good_rows g earlier rows r first s e h zero facts at = let same : first ≡ facts = cc in gives_first g earlier rows r (Ok facts) (rw (← same) e)
 good_rows g earlier rows r first s e h (suc m) facts at = gives_later g earlier rows r m (Ok facts) (h.good m facts at)
 
 end_row : (g : TableHeaderValue) (earlier rows : List Record) (r : Record) (first : List Fact) (more : List (List Fact)) (o : Option TableFault)
-    → MatchOption o (length more ≡ length rows) (λ x. Gives g (earlier ++ r ∷ []) rows (length more) (Err x))
-    → MatchOption o (length (first ∷ more) ≡ length (r ∷ rows)) (λ x. Gives g earlier (r ∷ rows) (length (first ∷ more)) (Err x))
+    → MatchOption o (length more ≡ length rows) (λ x. RowGives g (earlier ++ r ∷ []) rows (length more) (Err x))
+    → MatchOption o (length (first ∷ more) ≡ length (r ∷ rows)) (λ x. RowGives g earlier (r ∷ rows) (length (first ∷ more)) (Err x))
 end_row g earlier rows r first more None h = omega arith
 end_row g earlier rows r first more (Some x) h = gives_later g earlier rows r (length more) (Err x) h
 
@@ -75,16 +75,16 @@ stream_after-end : (g : TableHeaderValue) (earlier : List Record) → stream_aft
 unfolding stream_from
 stream_after-end g earlier = refl
 
-first_gives : (g : TableHeaderValue) (earlier rows : List Record) (r : Record) (answer : Result (List Fact) TableFault) → Gives g earlier (r ∷ rows) zero answer → row_after g earlier r ≡ answer
+first_gives : (g : TableHeaderValue) (earlier rows : List Record) (r : Record) (answer : Result (List Fact) TableFault) → RowGives g earlier (r ∷ rows) zero answer → row_after g earlier r ≡ answer
 first_gives g earlier rows r answer (x, at, is) = let same : r ≡ x = cc in rw (append-nil earlier, ← same) at is
 
-rest_gives : (g : TableHeaderValue) (earlier rows : List Record) (r : Record) (m : ℕ) (answer : Result (List Fact) TableFault) → Gives g earlier (r ∷ rows) (suc m) answer
-    → Gives g (earlier ++ r ∷ []) rows m answer
+rest_gives : (g : TableHeaderValue) (earlier rows : List Record) (r : Record) (m : ℕ) (answer : Result (List Fact) TableFault) → RowGives g earlier (r ∷ rows) (suc m) answer
+    → RowGives g (earlier ++ r ∷ []) rows m answer
 rest_gives g earlier rows r m answer (x, at, is) = (x, at, subst (λ before. row_after g before x ≡ answer) (sym (append_assoc earlier (r ∷ []) (take m rows))) is)
 
 rest_end : (g : TableHeaderValue) (earlier rows : List Record) (r : Record) (first : List Fact) (more : List (List Fact)) (o : Option TableFault)
-    → MatchOption o (length (first ∷ more) ≡ length (r ∷ rows)) (λ x. Gives g earlier (r ∷ rows) (length (first ∷ more)) (Err x))
-    → MatchOption o (length more ≡ length rows) (λ x. Gives g (earlier ++ r ∷ []) rows (length more) (Err x))
+    → MatchOption o (length (first ∷ more) ≡ length (r ∷ rows)) (λ x. RowGives g earlier (r ∷ rows) (length (first ∷ more)) (Err x))
+    → MatchOption o (length more ≡ length rows) (λ x. RowGives g (earlier ++ r ∷ []) rows (length more) (Err x))
 rest_end g earlier rows r first more None h = omega arith
 rest_end g earlier rows r first more (Some x) h = rest_gives g earlier rows r (length more) (Err x) h
 
@@ -95,7 +95,7 @@ rest_stream g earlier rows r first more o h = record {
   end = rest_end g earlier rows r first more o h.end;
 }
 
-past_end : (g : TableHeaderValue) (earlier : List Record) (m : ℕ) (answer : Result (List Fact) TableFault) → Gives g earlier [] m answer → ⊥
+past_end : (g : TableHeaderValue) (earlier : List Record) (m : ℕ) (answer : Result (List Fact) TableFault) → RowGives g earlier [] m answer → ⊥
 past_end g earlier m answer (x, at, is) = cc at
 
 only_stream : (g : TableHeaderValue) (earlier rows : List Record) (all : List (List Fact)) (o : Option TableFault) → IsStreamOf g earlier rows (record { rows = all; fault = o })

@@ -2,9 +2,8 @@
 -- xBRL-CSV 1.0, table files: a header cell is the identifier of a column of the table's template, in any order. An empty cell is passed over.
 use Rattle.std.specs.Prelude.{List, [], ◌∷◌, ◌++◌, ℕ, ◌+◌, ◌-◌, ◌^◌, min, Bool, true, false, not, ◌&&◌, ◌==◌, if◌then◌else◌, Option, Some, None, is_none, option_map, map}
 use Rattle.std.specs.List.{list_any, position_from}
-use Rattle.std.specs.Str.{bytes_eq}
 use Rattle.oim_records.specs.Grids.{Field, Record}
-use Rattle.oim_report.specs.Readers.{columns_of, template_of}
+use Rattle.oim_report.specs.Readers.{columns_of, place_of_name, template_of}
 use Rattle.oim_report.specs.ReportValue.{ReportValue}
 use Rattle.oim_report.specs.declared.data.Column.{Column}
 use Rattle.oim_rows.specs.declared.fault.TableFault.{TableFault}
@@ -38,20 +37,16 @@ first_of [] = None
 first_of (o ∷ []) = o
 first_of (o ∷ p ∷ os) = or_else o (first_of (p ∷ os))
 
--- the place of the column with this identifier
-abbrev pub place_of : List Column → Field → Option ℕ
-place_of columns f = position_from (λ c. bytes_eq c.id f) 0 columns
-
 -- the place of the column that a header cell names
 abbrev pub named_column : List Column → Field → Option ℕ
-named_column columns f = if is_empty f then None else place_of columns f
+named_column columns f = if is_empty f then None else place_of_name columns f
 
 abbrev pub header_of : List Column → Record → Header
 header_of columns r = map (named_column columns) r
 
 -- a cell that is not empty and does not name a column
 abbrev pub is_unknown : List Column → Field → Bool
-is_unknown columns f = not (is_empty f) && is_none (place_of columns f)
+is_unknown columns f = not (is_empty f) && is_none (place_of_name columns f)
 
 abbrev pub is_column : ℕ → Option ℕ → Bool
 is_column c None = false

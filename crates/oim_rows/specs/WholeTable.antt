@@ -27,13 +27,13 @@ abbrev pub row_after : TableHeaderValue → List Record → Record → Result (L
 row_after g earlier r = row_result g (length earlier + 1) (ids_of (id_place_of g) earlier) r
 
 -- what the row at a place gives, if there is one
-abbrev pub Gives : TableHeaderValue → List Record → List Record → ℕ → Result (List Fact) TableFault → Type 0
-Gives g earlier rows m answer = (r : Record) × (row_at rows m ≡ Some r) × (row_after g (earlier ++ take m rows) r ≡ answer)
+abbrev pub RowGives : TableHeaderValue → List Record → List Record → ℕ → Result (List Fact) TableFault → Type 0
+RowGives g earlier rows m answer = (r : Record) × (row_at rows m ≡ Some r) × (row_after g (earlier ++ take m rows) r ≡ answer)
 
 -- each of the stream's rows is given by the row at its place, and the row after them has the stream's fault, or there is none
 pub record IsStreamOf (g : TableHeaderValue) (earlier rows : List Record) (s : Stream) : Type 0 where
-  pub good : (m : ℕ) (facts : List Fact) → row_at s.rows m ≡ Some facts → Gives g earlier rows m (Ok facts)
-  pub end : MatchOption s.fault (length s.rows ≡ length rows) (λ e. Gives g earlier rows (length s.rows) (Err e))
+  pub good : (m : ℕ) (facts : List Fact) → row_at s.rows m ≡ Some facts → RowGives g earlier rows m (Ok facts)
+  pub end : MatchOption s.fault (length s.rows ≡ length rows) (λ e. RowGives g earlier rows (length s.rows) (Err e))
 
 -- the stream of a table whose file has these records: only the fault of its header, or that of its rows
 abbrev pub IsFileStream : ReportValue → ℕ → ℕ → List Record → Stream → Type 0

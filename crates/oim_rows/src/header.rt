@@ -1,9 +1,9 @@
 //! The header of a table file.
 
-ghost use Rattle.std.specs.Prelude.{◌≡◌, ◌<◌, ◌⊎◌, [], IfOk, IfErr, IfSome, None, Some, Ok, Err, true, take, length};
+ghost use Rattle.std.specs.Prelude.{◌≡◌, ◌<◌, ◌⊎◌, [], IfOk, IfErr, IfSome, OnOk, None, Some, Ok, Err, true, take, length};
 ghost use Rattle.std.specs.List.{All, list_any, position_from};
-ghost use Rattle.oim_report.specs.Readers.{columns_of as columns_in, template_of};
-ghost use Rattle.oim_rows.specs.Header.{named_column, file_fault, file_header_fault, header_fault, header_of, is_column, is_unknown, names_row_id, place_of, repeat_from};
+ghost use Rattle.oim_report.specs.Readers.{column_named, columns_of as columns_in, template_of};
+ghost use Rattle.oim_rows.specs.Header.{named_column, file_fault, file_header_fault, header_fault, header_of, is_column, is_unknown, names_row_id, repeat_from};
 ghost use Rattle.oim_rows.specs.state.Streams.{columns_fault, early_header_fault};
 ghost use Rattle.oim_rows.specs.Streams.{IsOutside, TakesHeader};
 
@@ -17,7 +17,7 @@ use std::io::Read;
 /// The place of the column with this identifier.
 fn place_of_cell(report: &Report, table: usize, cell: &[u8]) -> Option<usize>
     requires { table < length report.now.tables }
-    ensures { result ≡ place_of (columns_in report.now table) cell.now }
+    ensures { result ≡ column_named report.now table cell.now }
 {
     report.place_of_column(table, cell)
 }
@@ -154,8 +154,9 @@ fn take_header(
 ) -> Result<Vec<Option<usize>>, TableFault>
     requires { table < length report.now.tables }
     ensures early { IfSome (early_header_fault report.now table found row.now) (λ e. result ≡ Err e) }
-    ensures header { IfOk result (λ h. (found ≡ Ok true) × (header_fault report.now table row.now ≡ None)
-        × (h.items ≡ header_of (columns_in report.now table) row.now)) }
+    ensures read { OnOk result (found ≡ Ok true) }
+    ensures sound { OnOk result (header_fault report.now table row.now ≡ None) }
+    ensures header { IfOk result (λ h. h.items ≡ header_of (columns_in report.now table) row.now) }
     ensures fault { found ≡ Ok true → IfErr result (λ e. (e ≡ file_fault table TableKind.Memory) ⊎ (header_fault report.now table row.now ≡ Some e)) }
 {
     match found {

@@ -1,16 +1,14 @@
 -- A plan as the program holds it: of a written dimension, what is the same for all rows. (xBRL-CSV 1.0, dimensions and property groups)
 use Rattle.std.specs.Prelude.{◌≡◌, ◌<◌, ℕ, List, [], ◌∷◌, map, Bool, true, Option, Some, None, length, slice_index_or, if◌then◌else◌}
 use Rattle.std.specs.Borrow.{Bor}
-use Rattle.std.specs.List.{fold, position}
+use Rattle.std.specs.List.{fold}
 use Rattle.std.specs.Option.{option_map}
 use Rattle.std.specs.Ordering.{match_ordering, nat_cmp}
 use Rattle.std.specs.Cmp.Lexicographic.{slice_cmp}
-use Rattle.std.specs.Str.{bytes_eq}
 use Rattle.oim_names.specs.Lookup.{value_at}
 use Rattle.oim_cells.specs.Cells.{Meaning}
-use Rattle.oim_cells.specs.Cells as m
 use Rattle.oim_report.specs.ReportValue.{ReportValue}
-use Rattle.oim_report.specs.Readers.{column_of, columns_of, template_of, parameter_of}
+use Rattle.oim_report.specs.Readers.{column_of, column_named, columns_of, template_of, parameter_of}
 use Rattle.oim_report.specs.declared.data.Level.{Level}
 use Rattle.oim_report.specs.declared.data.Side.{Side}
 use Rattle.oim_report.specs.declared.data.Written.{Written}
@@ -23,7 +21,7 @@ use Rattle.oim_resolve.specs.declared.plan.column.PlannedColumn.{PlannedColumn}
 use Rattle.oim_resolve.specs.declared.role.Role.{Role}
 use Rattle.oim_resolve.specs.Facts.{value_read, concept_read, role_of}
 use Rattle.oim_resolve.specs.state.ProgramLevels.{merged_levels}
-use Rattle.oim_resolve.specs.Values.{side_of}
+use Rattle.oim_resolve.specs.Values.{literal_of, side_of}
 
 -- a dimension, with what its literal gives, or with the column and the parameter that its reference names
 pub record Entry : Type 0 where
@@ -33,24 +31,17 @@ pub record Entry : Type 0 where
   pub literal : Option Literal
   pub reference : Option (Option ℕ × Option (List ℕ))
 
-abbrev pub literal_of : Written → Option Meaning
-literal_of w.Absent = Some m.Absent
-literal_of w.Nil = Some m.Nil
-literal_of w.Empty = Some m.Empty
-literal_of (w.Text t) = Some (m.Text t)
-literal_of (w.RowNumber s) = None
-literal_of (w.Named n s) = None
-
 abbrev pub literal_in : ReportValue → Role → Side → Meaning → Literal
 literal_in r o s v = record { value = value_read r o s v; concept = concept_read r v }
 
--- the place of the column of a name, and the parameter of the name
-abbrev pub reference_in : ReportValue → ℕ → List ℕ → Option ℕ × Option (List ℕ)
-reference_in r t n = (position (λ k. bytes_eq k.id n) (columns_of r t), parameter_of r t n)
+-- what a name refers to: the place of the column of the name, and the parameter of the name
+abbrev pub target_in : ReportValue → ℕ → List ℕ → Option ℕ × Option (List ℕ)
+target_in r t n = (column_named r t n, parameter_of r t n)
 
-abbrev pub reference_of : ReportValue → ℕ → Written → Option (Option ℕ × Option (List ℕ))
-reference_of r t (w.Named n s) = Some (reference_in r t n)
-reference_of r t _ = None
+-- what a reference by name refers to
+abbrev pub target_of : ReportValue → ℕ → Written → Option (Option ℕ × Option (List ℕ))
+target_of r t (w.Named n s) = Some (target_in r t n)
+target_of r t _ = None
 
 unfoldable pub entry_in : ReportValue → ℕ → List ℕ → Written → Entry
 entry_in r t n x = record {
@@ -58,7 +49,7 @@ entry_in r t n x = record {
   side = side_of x;
   role = role_of r n;
   literal = option_map (literal_in r (role_of r n) (side_of x)) (literal_of x);
-  reference = reference_of r t x;
+  reference = target_of r t x;
 }
 
 -- an entry beside its name, and whether the column, or a group, writes it

@@ -2,15 +2,14 @@
 use Rattle.std.specs.Prelude.{ℕ, List, map, Option}
 use Rattle.std.specs.List.{flat_map, fold}
 use Rattle.std.specs.Option.{option_map, option_to_list}
-use Rattle.oim_report.specs.Readers.{column_of}
 use Rattle.oim_report.specs.declared.data.Level.{Level}
-use Rattle.oim_resolve.specs.Cell.{Cell, column, meaning_at}
+use Rattle.oim_resolve.specs.Cell.{Cell, column}
 use Rattle.oim_resolve.specs.state.ProgramPlan.{Keyed, planned_column, planned_level, put_entries}
-use Rattle.oim_resolve.specs.Written.{group_named}
+use Rattle.oim_resolve.specs.Written.{group_of_cell}
 
 -- what the group writes that the row's cell at a place names
 abbrev pub planned_named : Cell → ℕ → Option (Level × List Keyed)
-planned_named c i = option_map (λ l. (l, planned_level c.report c.table l)) (group_named (column_of c.report c.table i) (meaning_at c i))
+planned_named c i = option_map (λ l. (l, planned_level c.report c.table l)) (group_of_cell c i)
 
 abbrev pub planned_groups : Cell → List ℕ → List (List Keyed)
 planned_groups c is = map (λ g. g.1) (flat_map (λ i. option_to_list (planned_named c i)) is)

@@ -1,10 +1,9 @@
 //! What the levels of a cell write, its dimensions and its decimals, and the fact that they give.
 
-ghost use Rattle.std.specs.Prelude.{◌≡◌, ◌<◌, ◌⊎◌, [], length, map, IfErr, IfOk, IsOk, Ok};
+ghost use Rattle.std.specs.Prelude.{◌≡◌, ◌<◌, ◌⊎◌, [], length, map, IfErr, IfOk, IsOk};
 ghost use Rattle.std.specs.Option.{option_map};
 ghost use Rattle.oim_cells.specs.Cells.{seen_meaning};
-ghost use Rattle.oim_resolve.specs.Facts.{concept_kind, fact_meaning, fact_of, rest_faults, stated};
-ghost use Rattle.oim_resolve.specs.Faults.{least, unless};
+ghost use Rattle.oim_resolve.specs.Facts.{concept_kind, fact_meaning, rest_result, stated};
 ghost use Rattle.oim_resolve.specs.Order.{IsAscending};
 ghost use Rattle.oim_resolve.specs.ProgramCell.{held};
 ghost use Rattle.oim_resolve.specs.state.ProgramCell.{cell_at};
@@ -185,8 +184,7 @@ impl<'a> CellDimensions<'a> {
     fn fact(&self, alloc: Global, value: CellValue<'_>) -> Result<Fact, CellFault>
         requires kind { value.kind ≡ concept_kind (cell_at self.now.place) }
         requires meaning { seen_meaning value.meaning ≡ fact_meaning (cell_at self.now.place) }
-        ensures { (result ≡ Err CellFault.Memory)
-            ⊎ (result ≡ unless (least (rest_faults (cell_at self.now.place) value.entry.kind)) (Ok (fact_of (cell_at self.now.place)))) }
+        ensures { (result ≡ Err CellFault.Memory) ⊎ (result ≡ rest_result (cell_at self.now.place)) }
     {
         let reading = fact_value(self.place.report, value.kind, value.meaning);
         let dimensions = self.read(alloc, value.kind)?;
@@ -209,8 +207,7 @@ impl<'a> CellDimensions<'a> {
     ) -> Result<Fact, CellFault>
         requires kind { value.kind ≡ concept_kind (cell_at cell.place) }
         requires meaning { seen_meaning value.meaning ≡ fact_meaning (cell_at cell.place) }
-        ensures { (result ≡ Err CellFault.Memory)
-            ⊎ (result ≡ unless (least (rest_faults (cell_at cell.entry.place) value.entry.kind)) (Ok (fact_of (cell_at cell.entry.place)))) }
+        ensures { (result ≡ Err CellFault.Memory) ⊎ (result ≡ rest_result (cell_at cell.entry.place)) }
     {
         CellDimensions::new(alloc, cell)?.fact(alloc, value)
     }

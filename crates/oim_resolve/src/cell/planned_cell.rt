@@ -5,7 +5,7 @@ ghost use Rattle.std.specs.List.{list_any};
 ghost use Rattle.std.specs.Option.{option_map};
 ghost use Rattle.oim_names.specs.Lookup.{value_at};
 ghost use Rattle.oim_cells.specs.Cells.{seen_meaning};
-ghost use Rattle.oim_report.specs.Readers.{column_of, columns_of};
+ghost use Rattle.oim_report.specs.Readers.{columns_of};
 ghost use Rattle.oim_resolve.specs.Cell.{column, meaning_at};
 ghost use Rattle.oim_resolve.specs.Facts.{cell_and_group_faults, cell_result, concept_read, early_result, fact_meaning, given, is_absent, is_unknown, names_no_group};
 ghost use Rattle.oim_resolve.specs.Faults.{least};
@@ -13,7 +13,7 @@ ghost use Rattle.oim_resolve.specs.state.ProgramCell.{cell_at};
 ghost use Rattle.oim_resolve.specs.state.ProgramDimensions.{dimension_concept};
 ghost use Rattle.oim_resolve.specs.state.ProgramPlan.{ArePlanned, over, seen_flagged, seen_group, seen_planned, with_named};
 ghost use Rattle.oim_resolve.specs.state.Rows.{planned_named, row_map};
-ghost use Rattle.oim_resolve.specs.Written.{group_named};
+ghost use Rattle.oim_resolve.specs.Written.{group_of_cell};
 
 use crate::cell::dimensions::CellDimensions;
 use crate::cell::place::Place;
@@ -66,8 +66,7 @@ impl<'a> PlannedCell<'a> {
     pub(crate) fn named_group(&self, i: usize) -> Option<&'a PlannedGroup<'a>>
         requires { i < length (columns_of self.now.place.report.now self.now.place.table) }
         ensures group { option_map (λ g. (seen_group g.now).1) result ≡ planned_named (cell_at self.now.place) i }
-        ensures level { option_map (λ g. g.now.level.now) result
-            ≡ group_named (column_of self.now.place.report.now self.now.place.table i) (meaning_at (cell_at self.now.place) i) }
+        ensures level { option_map (λ g. g.now.level.now) result ≡ group_of_cell (cell_at self.now.place) i }
     {
         let columns = self.columns;
         match self.place.meaning_at(i) {

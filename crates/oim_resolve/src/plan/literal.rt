@@ -3,7 +3,8 @@
 ghost use Rattle.std.specs.Prelude.{◌≡◌, IfErr, IfOk, IsOk};
 ghost use Rattle.std.specs.Option.{option_map};
 ghost use Rattle.oim_cells.specs.Cells.{seen_meaning};
-ghost use Rattle.oim_resolve.specs.state.ProgramPlan.{literal_in, literal_of};
+ghost use Rattle.oim_resolve.specs.state.ProgramPlan.{literal_in};
+ghost use Rattle.oim_resolve.specs.Values.{literal_of};
 
 use crate::dimension::{Entry, read_concept, read_value};
 use crate::fact::CellFault;

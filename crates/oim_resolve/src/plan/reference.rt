@@ -2,7 +2,7 @@
 
 ghost use Rattle.std.specs.Prelude.{◌≡◌, ◌<◌, length};
 ghost use Rattle.std.specs.Option.{option_map};
-ghost use Rattle.oim_resolve.specs.state.ProgramPlan.{reference_of, seen_reference};
+ghost use Rattle.oim_resolve.specs.state.ProgramPlan.{seen_reference, target_of};
 
 use oim_report::{Report, Written};
 
@@ -20,7 +20,7 @@ pub(crate) fn reference_of<'a>(
     written: &'a Written,
 ) -> Option<Reference<'a>>
     requires { table < length report.now.tables }
-    ensures { option_map seen_reference result ≡ reference_of report.now table written.now }
+    ensures { option_map seen_reference result ≡ target_of report.now table written.now }
 {
     match written {
         Written::Named(name, _) => Some(Reference {

@@ -31,4 +31,4 @@ returns-in-Err c =
     let dimensions = c.in_ok-dimensions.ensures ∙ ap (dimensions_of cell k) c.args.self.now.all.entries_are ∙ row_read cell k in
     let together = read_together cell k _ _ c.suffix_of.result _ _ _ _ _ c.both-2.result c.requires.meaning c.fact_value-reading.ensures c.suffix_of.ensures
     c.stated.ensures dimensions c.decimals-decimals.ensures c.in_ok-text.ensures.text c.both.ensures c.both-2.ensures in
-    inr (fact_fault cell k c.in-Err.fault c.both-2.result c.in-Err.is together)
+    inr (fact_fault cell k c.in-Err.fault c.both-2.result c.requires.kind c.in-Err.is together)

@@ -1,8 +1,8 @@
 use Rattle.std.proofs.Common.{Ok, Err, inl, inr, sym, ap, ◌∙◌}
-use Rattle.oim_resolve.specs.Facts.{concept_faults, concept_kind, is_absent, rest_faults, fact_of}
-use Rattle.oim_resolve.specs.Faults.{least, unless}
+use Rattle.oim_resolve.specs.Facts.{as_result, concept_faults, concept_kind, is_absent}
+use Rattle.oim_resolve.specs.Faults.{least}
 use Rattle.oim_resolve.specs.state.ProgramCell.{cell_at}
-use Rattle.oim_resolve.proofs.Outcomes.{absent_cell, as_result, early_absent, early_first, early_second, first_fault, last_step, no_early, read_fault, read_none, read_value, second_fault}
+use Rattle.oim_resolve.proofs.Outcomes.{absent_cell, early_absent, early_first, early_second, first_fault, last_step, no_early, read_fault, read_none, second_fault}
 use Rattle.oim_resolve.proofs.cell.planned_cell.PlannedCell.resolve.Goals as goal
 
 pub returns-then-is_absent : goal.returns-then-is_absent
@@ -29,12 +29,11 @@ returns-in-Ok-fact_of c =
     let cell = cell_at c.args.self.now.place in
     let here = sym (c.is_absent.ensures ∙ ap is_absent c.fact_meaning-meaning.ensures) ∙ c.if-is_absent.false in
     let second = read_none (least (concept_faults cell)) (concept_kind cell) c.in-Ok.kind c.in-Ok.ensures in
-    let same = read_value (least (concept_faults cell)) (concept_kind cell) c.in-Ok.kind c.in-Ok.ensures in
     record {
       early = no_early cell here c.in_default.ensures second _;
       result = elim c.in-Ok-fact_of.ensures [
         | inl e ↦ cc e
-        | inr e ↦ inr (last_step cell here c.in_default.ensures second (Ok c.in-Ok-fact_of.fact) (e ∙ ap (λ k. unless (least (rest_faults cell k)) (Ok (fact_of cell))) same))
+        | inr e ↦ inr (last_step cell here c.in_default.ensures second (Ok c.in-Ok-fact_of.fact) e)
       ];
     }
 
@@ -43,11 +42,10 @@ returns-in-Err-fact_of c =
     let cell = cell_at c.args.self.now.place in
     let here = sym (c.is_absent.ensures ∙ ap is_absent c.fact_meaning-meaning.ensures) ∙ c.if-is_absent.false in
     let second = read_none (least (concept_faults cell)) (concept_kind cell) c.in-Ok.kind c.in-Ok.ensures in
-    let same = read_value (least (concept_faults cell)) (concept_kind cell) c.in-Ok.kind c.in-Ok.ensures in
     record {
       early = no_early cell here c.in_default.ensures second _;
       result = elim c.in-Err-fact_of.ensures [
         | inl e ↦ inl (ap as_result e)
-        | inr e ↦ inr (last_step cell here c.in_default.ensures second (Err c.in-Err-fact_of.fault) (e ∙ ap (λ k. unless (least (rest_faults cell k)) (Ok (fact_of cell))) same))
+        | inr e ↦ inr (last_step cell here c.in_default.ensures second (Err c.in-Err-fact_of.fault) e)
       ];
     }

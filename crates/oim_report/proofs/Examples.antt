@@ -1,0 +1,26 @@
+-- The definitions, executed on worked cases.
+use Rattle.std.proofs.Common.{◌≡◌, ℕ, List, [], ◌∷◌, Option, Some, None, codes, map, refl, false}
+use Rattle.oim_report.specs.Parameters.{ParametersValue}
+use Rattle.oim_report.specs.Readers.{column_named, no_level, parameter_of}
+use Rattle.oim_report.specs.ReportValue.{ReportValue, report_with}
+use Rattle.oim_report.specs.declared.data.Column.{Column}
+use Rattle.oim_report.specs.declared.data.ColumnKind.TheVariants as column
+
+abbrev plain : List ℕ → Column
+plain id = record { id = id; kind = column.Plain; level = no_level; groups = []; from = [] }
+
+-- a report of one table with the columns a and b, and of parameters that its metadata has or that are given beside it
+abbrev report : (own given : ParametersValue) → ReportValue
+report own given =
+    report_with (record { base_url = None; taxonomy = [] }) [] [] no_level
+    (record { id = codes "p"; columns = plain (codes "a") ∷ plain (codes "b") ∷ []; row_id_column = None; level = no_level } ∷ [])
+    (record { id = codes "t"; url = codes "t.csv"; is_optional = false; template = 0; parameters = (codes "z", codes "1") ∷ [] } ∷ [])
+    (own, given)
+
+columns_by_name : map (column_named (report [] []) 0) (codes "a" ∷ codes "b" ∷ codes "c" ∷ []) ≡ Some 0 ∷ Some 1 ∷ None ∷ []
+columns_by_name = refl
+
+-- the table's before the metadata's, and the metadata's before those that are given
+parameters_in_order : map (parameter_of (report ((codes "y", codes "2") ∷ []) ((codes "x", codes "3") ∷ (codes "y", codes "4") ∷ (codes "z", codes "5") ∷ [])) 0)
+    (codes "z" ∷ codes "y" ∷ codes "x" ∷ codes "w" ∷ []) ≡ Some (codes "1") ∷ Some (codes "2") ∷ Some (codes "3") ∷ None ∷ []
+parameters_in_order = refl
