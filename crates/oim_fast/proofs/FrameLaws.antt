@@ -9,10 +9,9 @@ use Rattle.oim_report.specs.declared.data.Level.{Level}
 use Rattle.oim_report.specs.declared.data.Written.{Written}
 use Rattle.oim_report.specs.declared.kind.Kind.{Kind}
 use Rattle.oim_report.specs.Readers.{template_of}
-use Rattle.oim_resolve.specs.Cell.{meaning_at}
 use Rattle.oim_resolve.specs.Facts.{is_dropped}
 use Rattle.oim_resolve.specs.Values.{side_of, value}
-use Rattle.oim_resolve.specs.Written.{group_named, levels}
+use Rattle.oim_resolve.specs.Written.{group_named, group_of_cell, levels}
 use Rattle.oim_rows.specs.RowFacts.{TableHeaderValue}
 use Rattle.oim_row.specs.Answers.{dimension_json}
 use Rattle.oim_fast.specs.state.FrameTexts.{FrameValue, Segment, frame_dimensions, with_part, with_value}
@@ -77,14 +76,14 @@ module _ (x : RowValue) (c : ℕ) where
 
   -- the groups that a row's cells name are those that are chosen
   groups_are : (gs : List ℕ) (os : List Choice) → All (λ g. g < length (columns_in x.header)) gs → Chooses x gs os
-      → flat_map (λ g. option_to_list (group_named (column_in x.header g) (meaning_at (cell_in x c) g))) gs ≡ groups_chosen x.header gs os
+      → flat_map (λ g. option_to_list (group_of_cell (cell_in x c) g)) gs ≡ groups_chosen x.header gs os
   groups_are [] [] within h = refl
   groups_are [] (o ∷ os) within h = absurd h
   groups_are (g ∷ gs) [] within h = absurd h
   groups_are (g ∷ gs) (o ∷ os) within h =
       let text = text_is x c g (within 0 g (omega arith)) in
       let one = ap (λ t. group_named (column_in x.header g) (meaning_of t)) text ∙ said g _ o h.1 (known o h.0) in
-      ap (λ q. option_to_list q ++ flat_map (λ k. option_to_list (group_named (column_in x.header k) (meaning_at (cell_in x c) k))) gs) one
+      ap (λ q. option_to_list q ++ flat_map (λ k. option_to_list (group_of_cell (cell_in x c) k)) gs) one
       ∙ ap (λ q. option_to_list (group_at (column_in x.header g).groups o) ++ q) (groups_are gs os (λ k d lt. within (suc k) d (omega arith)) h.2)
 
   pub levels_are : (os : List Choice) → All (λ g. g < length (columns_in x.header)) (column_in x.header c).from → Chooses x (column_in x.header c).from os

@@ -1,14 +1,13 @@
 -- What levels write gives in a row what the definition says: the constant where rows say nothing of it, else what its reference names.
 use Rattle.std.proofs.Common.{◌≡◌, ◌<◌, ◌^◌, ℕ, List, [], ◌∷◌, length, Option, Some, None, refl, sym, ap, ◌∙◌, arith, zero-add}
 use Rattle.std.specs.Prelude.{decimal}
-use Rattle.std.specs.List.{position}
 use Rattle.std.specs.Option.{option_map, option_map_or, option_and_then, option_or, unwrap_or}
 use Rattle.std.specs.Str.{bytes_eq}
 use Rattle.std.proofs.lemmas.List.FromFn.{get_or-map-range_with_len}
 use Rattle.std.proofs.lemmas.List.Quantifiers.{position-Some}
 use Rattle.oim_cells.specs.Cells.{Meaning, meaning_of}
 use Rattle.oim_cells.specs.Cells as m
-use Rattle.oim_report.specs.Readers.{no_column, parameter_of}
+use Rattle.oim_report.specs.Readers.{column_named, no_column, parameter_of}
 use Rattle.oim_report.specs.declared.data.Column.{Column as AColumn}
 use Rattle.oim_report.specs.declared.data.Written.{Written}
 use Rattle.oim_report.specs.declared.data.Written.TheVariants as w
@@ -47,7 +46,7 @@ module _ (x : RowValue) (c : ℕ) where
   pub text_is : (i : ℕ) → i < length (columns_in x.header) → text_at cell i ≡ field_or_empty x.fields (source_of_column x.header.columns i)
   text_is i b = get_or-map-range_with_len (cell_at x.header.columns x.fields) 0 (length (columns_in x.header)) i i [] b (zero-add i)
 
-  named_text : (n : List ℕ) (o : Option ℕ) → position (λ (k : AColumn). bytes_eq k.id n) (columns_in x.header) ≡ o
+  named_text : (n : List ℕ) (o : Option ℕ) → column_named x.header.report x.header.table n ≡ o
       → not_empty (field_or_empty x.fields (option_and_then (source_of_column x.header.columns) o)) ≡ option_and_then (λ i. not_empty (text_at cell i)) o
   named_text n None e = refl
   named_text n (Some i) e = ap not_empty (sym (text_is i (position-Some (λ (k : AColumn). bytes_eq k.id n) (columns_in x.header) i no_column e).0))
@@ -56,7 +55,7 @@ module _ (x : RowValue) (c : ℕ) where
   referred_at : (n : List ℕ) (o : Option ℕ) → place_named x.header n ≡ o → referred cell n ≡ option_map_or meaning_of (option_or (not_empty (field_or_empty x.fields o)) (parameter n)) m.Absent
   referred_at n o e =
       sym (ap (λ t. option_map_or meaning_of (option_or t (parameter n)) m.Absent)
-      (ap (λ p. not_empty (field_or_empty x.fields p)) (sym e) ∙ named_text n (position (λ (k : AColumn). bytes_eq k.id n) (columns_in x.header)) refl))
+      (ap (λ p. not_empty (field_or_empty x.fields p)) (sym e) ∙ named_text n (column_named x.header.report x.header.table n) refl))
 
   named_constant : (n : List ℕ) → place_named x.header n ≡ None → referred cell n ≡ option_map_or meaning_of (parameter n) m.Absent
   named_constant n e = referred_at n None e

@@ -16,7 +16,7 @@ use Rattle.std.proofs.lemmas.Grind.{flat_map-append}
 use Rattle.std.proofs.lemmas.Slice.Eq.{bytes_eq-Decides}
 use Rattle.oim_names.specs.Lookup.{value_at}
 use Rattle.oim_report.specs.ReportValue.{ReportValue}
-use Rattle.oim_report.specs.Readers.{column_of, template_of}
+use Rattle.oim_report.specs.Readers.{template_of}
 use Rattle.oim_report.specs.declared.data.Level.{Level}
 use Rattle.oim_report.specs.declared.data.Written.{Written}
 use Rattle.oim_resolve.specs.Cell.{Cell, column}

@@ -1,15 +1,13 @@
 -- What a reference names whose meaning each row of a table gives. (xBRL-CSV 1.0, column and parameter references)
 use Rattle.std.specs.Prelude.{ℕ, List, [], ◌∷◌, Option, Some, None, decimal}
-use Rattle.std.specs.List.{position}
 use Rattle.std.specs.Option.{option_map, option_and_then, unwrap_or}
-use Rattle.std.specs.Str.{bytes_eq}
-use Rattle.oim_report.specs.Readers.{parameter_of}
+use Rattle.oim_report.specs.Readers.{column_named, parameter_of}
 use Rattle.oim_report.specs.declared.data.Written.{Written}
 use Rattle.oim_report.specs.declared.data.Written.TheVariants as w
 use Rattle.oim_report.specs.declared.data.WrittenDecimals.{WrittenDecimals}
 use Rattle.oim_report.specs.declared.data.WrittenDecimals.TheVariants as d
 use Rattle.oim_rows.specs.RowFacts.{TableHeaderValue, field_or_empty, source_of_column}
-use Rattle.oim_row.specs.Rows.{RowValue, columns_in}
+use Rattle.oim_row.specs.Rows.{RowValue}
 use Rattle.oim_row.specs.declared.source.Source.{Source}
 use Rattle.oim_row.specs.declared.source.Source.TheVariants as seen
 
@@ -34,7 +32,7 @@ source_text x (Column place parameter) = cell_or_parameter (field_or_empty x.fie
 
 -- the place in the header of the column of a name
 abbrev pub place_named : TableHeaderValue → List ℕ → Option ℕ
-place_named f n = option_and_then (source_of_column f.columns) (position (λ k. bytes_eq k.id n) (columns_in f))
+place_named f n = option_and_then (source_of_column f.columns) (column_named f.report f.table n)
 
 -- what a reference to a name names, where the header has its column. Else each row has the parameter alone
 abbrev pub source_named : TableHeaderValue → List ℕ → Option SourceValue

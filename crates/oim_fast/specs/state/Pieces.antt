@@ -1,5 +1,5 @@
 -- The text of a fact in pieces: what each dimension that the levels of a cell write adds to it. (xBRL-JSON 1.0, a fact object)
-use Rattle.std.specs.Prelude.{◌≡◌, ℕ, Bool, true, ◌||◌, List, [], ◌∷◌, ◌++◌, codes, is_ok, if◌then◌else◌}
+use Rattle.std.specs.Prelude.{◌≡◌, ℕ, Bool, true, ◌||◌, List, [], ◌∷◌, ◌++◌, codes, is_ok, if◌then◌else◌, unwrap_or}
 use Rattle.std.specs.List.{All, flat_map}
 use Rattle.std.specs.Option.{option_map_or}
 use Rattle.oim_cells.specs.Cells.{Meaning, meaning_of}
@@ -17,7 +17,7 @@ use Rattle.oim_report.specs.declared.kind.Kind.{Kind}
 use Rattle.oim_resolve.specs.Cell.{Cell}
 use Rattle.oim_resolve.specs.Facts.{entry_given, is_dropped, role_of, value_read}
 use Rattle.oim_resolve.specs.state.ProgramLevels.{named}
-use Rattle.oim_resolve.specs.Values.{Fixed, Read, Stated, side_of, value}
+use Rattle.oim_resolve.specs.Values.{Fixed, Read, Stated, literal_of, side_of, value}
 use Rattle.oim_resolve.specs.Written.{written}
 use Rattle.oim_rows.specs.RowFacts.{TableHeaderValue}
 use Rattle.oim_row.specs.Answers.{dimension_json}
@@ -55,14 +55,14 @@ AreSound c k es = All (λ e. is_sound_dimension c.report k e.0 (side_of e.1) (va
 abbrev pub parameter_meaning : TableHeaderValue → List ℕ → Meaning
 parameter_meaning f n = option_map_or meaning_of (parameter_of f.report f.table n) m.Absent
 
--- the meaning of what is written where rows say nothing of it: of a literal, or of a parameter
+-- what a reference means where rows say nothing of it: the parameter of its name
+abbrev pub constant_reference : TableHeaderValue → Written → Meaning
+constant_reference f (w.Named n s) = parameter_meaning f n
+constant_reference f _ = m.Absent
+
+-- the meaning of what is written where rows say nothing of it: the literal, else what the reference means
 abbrev pub constant_meaning : TableHeaderValue → Written → Meaning
-constant_meaning f w.Nil = m.Nil
-constant_meaning f w.Empty = m.Empty
-constant_meaning f (w.Text t) = m.Text t
-constant_meaning f (w.Named n s) = parameter_meaning f n
-constant_meaning f (w.RowNumber s) = m.Absent
-constant_meaning f w.Absent = m.Absent
+constant_meaning f x = unwrap_or (literal_of x) (constant_reference f x)
 
 -- what decimals state where rows say nothing of them
 abbrev pub constant_stated : TableHeaderValue → WrittenDecimals → Stated

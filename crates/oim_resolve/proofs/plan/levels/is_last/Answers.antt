@@ -1,4 +1,4 @@
-use Rattle.std.proofs.Common.{◌≡◌, ◌-◌, suc, length, true, sym, ◌∙◌, arith}
+use Rattle.std.proofs.Common.{◌≡◌, ◌-◌, suc, length, sym, ◌∙◌, arith}
 use Rattle.oim_resolve.proofs.Names.{above_last}
 use Rattle.oim_resolve.proofs.plan.levels.is_last.Goals as goal
 
