@@ -3,6 +3,7 @@ use Rattle.std.proofs.Common.{◌≡◌, ℕ, List, [], ◌∷◌, Some, None, t
 use Rattle.serde_json.specs.Data.{Data, boolean, number, unsigned, negative, string, array, object, no_items, item, Members, no_members, member}
 use Rattle.oim_cells.specs.Cells.{meaning_of, accuracy_of}
 use Rattle.oim_cells.specs.declared.cells.Accuracy.TheVariants.{Infinite, Places}
+use Rattle.oim_report.specs.Readers.{no_level}
 use Rattle.oim_report.specs.declared.data.Column.{Column}
 use Rattle.oim_report.specs.declared.data.ColumnKind.TheVariants.{Fact, Groups, Comment, Plain}
 use Rattle.oim_report.specs.declared.data.Level.{Level}
@@ -69,16 +70,13 @@ kinds :
 kinds = refl
 
 -- LEVELS
-no_level : Level
-no_level = record { dimensions = []; decimals = None }
-
 level : level_of (two (codes "decimals") (number (unsigned 2)) (codes "dimensions") (two (codes "entity") (string (codes "x")) (codes "unit") (string (codes "$u"))))
     ≡ record { dimensions = (codes "entity", written.Text (codes "x")) ∷ (codes "unit", written.Named (codes "u") Whole) ∷ []; decimals = Some (decimals.Fixed (Places (pos 2))) }
 unfolding level_of strip_front reference_of meaning_of
 level = refl
 
 level_of_nothing : level_of nothing ≡ no_level
-unfolding level_of no_level
+unfolding level_of
 level_of_nothing = refl
 
 -- COLUMNS: the first takes groups from the two others, and names one of them twice
@@ -103,17 +101,17 @@ facts = refl
 -- decimals and propertiesFrom of a column that is not a fact column are not read
 property_groups : column_of columns (codes "g") groups
     ≡ record { id = codes "g"; kind = Groups; level = no_level; groups = (codes "usd", record { dimensions = []; decimals = Some (decimals.Fixed (Places (pos 0))) }) ∷ []; from = [] }
-unfolding column_of level_of columns takes groups no_level
+unfolding column_of level_of columns takes groups
 property_groups = refl
 
 plain : column_of columns (codes "p") (two (codes "decimals") (number (unsigned 7)) (codes "propertiesFrom") (array (item (string (codes "g")) no_items)))
     ≡ record { id = codes "p"; kind = Plain; level = no_level; groups = []; from = [] }
-unfolding column_of columns no_level
+unfolding column_of columns
 plain = refl
 
 comments : column_of columns (codes "c") (two (codes "comment") (boolean true) (codes "decimals") (number (unsigned 7)))
     ≡ record { id = codes "c"; kind = Comment; level = no_level; groups = []; from = [] }
-unfolding column_of columns no_level
+unfolding column_of columns
 comments = refl
 
 -- TEMPLATES AND TABLES
@@ -128,7 +126,7 @@ template :
       row_id_column = Some 1;
       level = record { dimensions = []; decimals = Some (decimals.Fixed (Places (pos 3))) };
     }
-unfolding template_of column_of level_of no_level
+unfolding template_of column_of level_of
 template = refl
 
 -- the columns of a template take groups from its own columns
@@ -138,7 +136,7 @@ unfolding template_of column_of columns takes groups
 groups_taken = refl
 
 empty_template : template_of (codes "p") (one (codes "columns") nothing) ≡ record { id = codes "p"; columns = []; row_id_column = None; level = no_level }
-unfolding template_of level_of no_level
+unfolding template_of level_of
 empty_template = refl
 
 -- three tables: one has the template of its own name, one names another, and one is optional and has parameters
@@ -191,7 +189,7 @@ unfolding value report_of report
 parameters = refl
 
 other_parts : (value.level ≡ no_level) × (value.types ≡ []) × (value.tables ≡ tables_of report) × (value.templates ≡ templates_of report)
-unfolding value report_of report level_of no_level
+unfolding value report_of report level_of
 other_parts = (refl, refl, refl, refl)
 
 -- READERS: a table's parameter hides the report's, and each table has its own template

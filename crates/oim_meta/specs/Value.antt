@@ -6,6 +6,7 @@ use Rattle.serde_json.specs.Data.{Data, null, Items, Members, no_members, member
 use Rattle.serde_json.specs.Find.{get, as_bool, as_str}
 use Rattle.oim_report.specs.Types.{TypesValue}
 use Rattle.oim_report.specs.Parameters.{ParametersValue}
+use Rattle.oim_report.specs.Readers.{no_level}
 use Rattle.oim_report.specs.ReportValue.{ReportValue}
 use Rattle.oim_report.specs.declared.data.Info.{Info}
 use Rattle.oim_report.specs.declared.data.Level.{Level}
@@ -39,9 +40,6 @@ level_of d = record { dimensions = map_members named_dimension (section (codes "
 abbrev pub named_level : List ℕ → Data → List ℕ × Level
 named_level name d = (name, level_of d)
 
-abbrev pub nothing_written : Level
-nothing_written = record { dimensions = []; decimals = None }
-
 -- the place of a name among members, counted from 0
 abbrev pub place_of : List ℕ → Members → ℕ
 place_of name no_members = 0
@@ -70,9 +68,9 @@ kind_of c =
 -- what a column writes; only that of a fact column is read
 abbrev pub column_level : ColumnKind → Data → Level
 column_level Fact c = level_of c
-column_level Groups c = nothing_written
-column_level Comment c = nothing_written
-column_level Plain c = nothing_written
+column_level Groups c = no_level
+column_level Comment c = no_level
+column_level Plain c = no_level
 
 abbrev pub groups_of : ColumnKind → Data → List (List ℕ × Level)
 groups_of Fact c = []
