@@ -25,7 +25,7 @@ use Rattle.oim_entries.specs.declared.fault.MetaFault.TheVariants as meta
 use Rattle.oim_report.specs.declared.limits.Limits.{Limits}
 use Rattle.oim_files.specs.Metadata.{in_json, json_of, read_as, report_in, report_result, unless_fault, url_in, url_result}
 
-json_is : (bytes : List ℕ) (d : Data) → IsJson bytes d → json_of bytes ≡ Some d
+pub json_is : (bytes : List ℕ) (d : Data) → IsJson bytes d → json_of bytes ≡ Some d
 json_is bytes d is = ap (λ b. if b then read (after_mark bytes) else None) (is_utf8-from_IsUtf8 (after_mark bytes) is.0) ∙ is.1
 
 json_by : (bytes : List ℕ) (b : Bool) (o : Option Data) → is_utf8 (after_mark bytes) ≡ b → read (after_mark bytes) ≡ o → HasNoJson bytes → (if b then o else None) ≡ None

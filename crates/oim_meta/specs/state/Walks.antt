@@ -1,8 +1,9 @@
 -- What a walk over a metadata knows and holds, as its definitions take it.
-use Rattle.std.specs.Prelude.{ℕ, List, Option, option_map}
+use Rattle.std.specs.Prelude.{ℕ, List, Option, String, option_map}
+use Rattle.std.specs.declared.alloc.Global.{Global}
 use Rattle.serde_json.specs.Data.{Data, Members}
 use Rattle.serde_json.specs.View.{view, members_view}
-use Rattle.serde_json.specs.declared.map.Map.{Map}
+use Rattle.serde_json.specs.declared.value.Value.{Value}
 use Rattle.oim_meta.specs.declared.build.names.Names.{Names}
 use Rattle.oim_meta.specs.declared.findings.Finding.{Finding}
 use Rattle.oim_meta.specs.declared.walk.Walk.{Walk}
@@ -15,9 +16,9 @@ use Rattle.oim_meta.specs.Walk.{in_column, in_members}
 abbrev pub known_to : Walk → Known
 known_to w = record { limits = w.limits; given = w.given.now; types = w.types.now; names = w.names.now }
 
--- what is found in each member of an object
-abbrev pub in_each : (List ℕ → Data → List Finding) → Map → List Finding
-in_each find object = in_members find (members_view object.entries)
+-- what is found in each of the entries that an object has
+abbrev pub in_each : (List ℕ → Data → List Finding) → List (String Global × Value) → List Finding
+in_each find entries = in_members find (members_view entries)
 
 -- the members whose names are held
 abbrev pub members_of : Names → Members

@@ -126,7 +126,7 @@ impl<'a> Walk<'a> {
     ) -> Result<Vec<(Text, Written)>, AllocError>
         ensures value { IfOk result (λ made. made.items ≡ map_members named_dimension (members_view members.now.entries)) }
         ensures found { OnOk result (findings.new
-            ≡ findings.old ++ in_each (in_dimension (known_to self.now) (part_path here.entry)) members.now) }
+            ≡ findings.old ++ in_each (in_dimension (known_to self.now) (part_path here.entry)) members.now.entries) }
     {
         let mut made = Vec::with_capacity(self.alloc, members.len())?;
         for (key, value) in members.iter() {

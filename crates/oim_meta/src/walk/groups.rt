@@ -46,7 +46,7 @@ impl<'a> Walk<'a> {
     ) -> Result<Vec<(Text, Level)>, AllocError>
         ensures value { IfOk result (λ made. made.items ≡ map_members named_level (members_view groups.now.entries)) }
         ensures found { OnOk result (findings.new
-            ≡ findings.old ++ in_each (in_group (known_to self.now) column.entry.0.now column.entry.1.now) groups.now) }
+            ≡ findings.old ++ in_each (in_group (known_to self.now) column.entry.0.now column.entry.1.now) groups.now.entries) }
     {
         let mut made = Vec::with_capacity(self.alloc, groups.len())?;
         for (name, value) in groups.iter() {

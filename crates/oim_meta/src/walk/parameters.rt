@@ -76,7 +76,7 @@ impl<'a> Walk<'a> {
     ) -> Result<Vec<(Text, Text)>, AllocError>
         ensures value { IfOk result (λ made. made.items ≡ map_members named_text (members_view members.now.entries)) }
         ensures found { OnOk result (findings.new
-            ≡ findings.old ++ in_each (in_parameter (part_path here.entry)) members.now) }
+            ≡ findings.old ++ in_each (in_parameter (part_path here.entry)) members.now.entries) }
     {
         let mut made = Vec::with_capacity(self.alloc, members.len())?;
         for (name, value) in members.iter() {
@@ -120,7 +120,7 @@ impl<'a> Walk<'a> {
     }
 
     fn find_given_in<'v>(&self, members: &'v Map<String, Value>, findings: &mut Findings<'v>)
-        ensures { findings.new ≡ findings.old ++ in_each (in_given self.now.given.now) members.now }
+        ensures { findings.new ≡ findings.old ++ in_each (in_given self.now.given.now) members.now.entries }
     {
         for (name, value) in members.iter() {
             self.find_given_name(name.as_str(), value, findings);

@@ -140,7 +140,7 @@ impl<'a> Walk<'a> {
         ensures value { IfOk result (λ made. made.items
             ≡ map_members (table_of (members_of templates.now.names)) (members_view tables.now.entries)) }
         ensures found { OnOk result (findings.new
-            ≡ findings.old ++ in_each (in_table (value_of templates.now)) tables.now) }
+            ≡ findings.old ++ in_each (in_table (value_of templates.now)) tables.now.entries) }
     {
         let mut made = Vec::with_capacity(self.alloc, tables.len())?;
         for (name, value) in tables.iter() {

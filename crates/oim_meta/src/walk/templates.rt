@@ -137,7 +137,7 @@ impl<'a> Walk<'a> {
     ) -> Result<Vec<Template>, AllocError>
         ensures value { IfOk result (λ made. made.items ≡ map_members template_of (members_view templates.now.entries)) }
         ensures found { OnOk result (findings.new
-            ≡ findings.old ++ in_each (in_template (known_to self.now)) templates.now) }
+            ≡ findings.old ++ in_each (in_template (known_to self.now)) templates.now.entries) }
     {
         let mut made = Vec::with_capacity(self.alloc, templates.len())?;
         for (name, value) in templates.iter() {
