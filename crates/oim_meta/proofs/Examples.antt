@@ -13,7 +13,7 @@ use Rattle.oim_report.specs.declared.data.WrittenDecimals.TheVariants as decimal
 use Rattle.oim_report.specs.ReportValue.{ReportValue}
 use Rattle.oim_meta.specs.Prefixes.{prefixes_of}
 use Rattle.oim_report.specs.Readers.{table_of as table_at, template_of as template_at, column_of as column_at, parameter_of}
-use Rattle.oim_meta.specs.Written.{strip_front, strip_back, reference_of, written_of}
+use Rattle.oim_meta.specs.Written.{strip_front, strip_back, name_and_side, written_of}
 use Rattle.oim_meta.specs.Decimals.{decimals_of, text_decimals}
 use Rattle.oim_meta.specs.Value.{kind_of, level_of, column_of, template_of, table_of, tables_of, templates_of, info_of, report_of}
 
@@ -32,21 +32,21 @@ literals :
     map (written_of (codes "entity")) ([] ∷ codes "#none" ∷ codes "#nil" ∷ codes "#empty" ∷ codes "##x" ∷ codes "x$" ∷ codes "$$x" ∷ codes "$$" ∷ codes "$$$" ∷ [])
     ≡ written.Absent ∷ written.Absent ∷ written.Nil ∷ written.Empty ∷ written.Text (codes "#x") ∷ written.Text (codes "x$") ∷ written.Text (codes "$x")
     ∷ written.Text (codes "$") ∷ written.Text (codes "$$") ∷ []
-unfolding strip_front strip_back reference_of meaning_of
+unfolding strip_front strip_back name_and_side meaning_of
 literals = refl
 
 -- references: only at the key period do they have a side
 references :
     map (written_of (codes "unit")) (codes "$a" ∷ codes "$rowNumber" ∷ codes "$year@start" ∷ codes "$rowNumber@end" ∷ [])
     ≡ written.Named (codes "a") Whole ∷ written.RowNumber Whole ∷ written.Named (codes "year@start") Whole ∷ written.Named (codes "rowNumber@end") Whole ∷ []
-unfolding strip_front strip_back reference_of
+unfolding strip_front strip_back name_and_side
 references = refl
 
 sides :
     map (written_of (codes "period")) (codes "$a" ∷ codes "$a@start" ∷ codes "$a@end" ∷ codes "$rowNumber@start" ∷ codes "$rowNumber@end" ∷ codes "$rowNumber" ∷ codes "a@end" ∷ [])
     ≡ written.Named (codes "a") Whole ∷ written.Named (codes "a") Start ∷ written.Named (codes "a") End ∷ written.RowNumber Start ∷ written.RowNumber End
     ∷ written.RowNumber Whole ∷ written.Text (codes "a@end") ∷ []
-unfolding strip_front strip_back reference_of meaning_of
+unfolding strip_front strip_back name_and_side meaning_of
 sides = refl
 
 -- DECIMALS
@@ -72,7 +72,7 @@ kinds = refl
 -- LEVELS
 level : level_of (two (codes "decimals") (number (unsigned 2)) (codes "dimensions") (two (codes "entity") (string (codes "x")) (codes "unit") (string (codes "$u"))))
     ≡ record { dimensions = (codes "entity", written.Text (codes "x")) ∷ (codes "unit", written.Named (codes "u") Whole) ∷ []; decimals = Some (decimals.Fixed (Places (pos 2))) }
-unfolding level_of strip_front reference_of meaning_of
+unfolding level_of strip_front name_and_side meaning_of
 level = refl
 
 level_of_nothing : level_of nothing ≡ no_level

@@ -4,7 +4,7 @@ use Rattle.std.specs.Prelude.{ℕ, List, [], Bool, true, false, not, ◌||◌, �
 use Rattle.serde_json.specs.Data.{Data, Items, Members}
 use Rattle.serde_json.specs.Find.{get, as_array, as_bool}
 use Rattle.oim_names.specs.Names.{is_identifier, is_ncname}
-use Rattle.oim_meta.specs.Members.{is_text, is_object, text_at, section, any_member, any_item, if_there, no_object_or}
+use Rattle.oim_meta.specs.Members.{is_text, is_object, text_at, flag_at, section, any_member, any_item, if_there, no_object_or}
 use Rattle.oim_meta.specs.Order.{repeats_text}
 use Rattle.oim_names.specs.PlainPath.{is_plain_path}
 
@@ -129,7 +129,7 @@ abbrev pub is_groups : Data → Bool
 is_groups c = is_some (get (codes "propertyGroups") c)
 
 abbrev pub is_comment : Data → Bool
-is_comment c = if_there (λ d. unwrap_or (as_bool d) false) (get (codes "comment") c)
+is_comment c = flag_at (codes "comment") c
 
 -- a column of two or three kinds
 abbrev pub is_mixed_column : List ℕ → Data → Bool

@@ -3,9 +3,10 @@
 ghost use Rattle.std.specs.Prelude.{◌≡◌, ◌++◌, IfOk, OnOk, codes};
 ghost use Rattle.serde_json.specs.View.{view, members_view};
 ghost use Rattle.oim_meta.specs.BadDimensions.{is_core as core_key, is_typed as typed, is_dimension as dimension_kind, kind_named, is_bad_meaning};
-ghost use Rattle.oim_meta.specs.BadDimensions.{name_in, is_bad_text, is_bad_dimension};
+ghost use Rattle.oim_meta.specs.BadDimensions.{is_bad_text, is_bad_dimension};
 ghost use Rattle.oim_meta.specs.Members.{map_members, section};
 ghost use Rattle.oim_meta.specs.Value.{named_dimension};
+ghost use Rattle.oim_meta.specs.Written.{name_and_side};
 ghost use Rattle.oim_meta.specs.state.Places.{part_path};
 ghost use Rattle.oim_meta.specs.Walk.{in_dimension, in_dimensions};
 ghost use Rattle.oim_meta.specs.state.Walks.{in_each, known_to};
@@ -52,9 +53,9 @@ fn bad_literal(kind: Option<Kind>, text: &str) -> bool
     }
 }
 
-#[tactic(auto, unfolding(crate::specs::BadDimensions::name_in))]
+#[tactic(auto, unfolding(crate::specs::Written::name_and_side))]
 fn name_of<'a>(key: &str, name: &'a str) -> &'a str
-    ensures { result.now ≡ name_in key.now name.now }
+    ensures { result.now ≡ (name_and_side key.now name.now).0 }
 {
     if key != "period" {
         return name;
