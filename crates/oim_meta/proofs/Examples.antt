@@ -35,6 +35,14 @@ literals :
 unfolding strip_front strip_back name_and_side meaning_of
 literals = refl
 
+-- the name and the side of a reference; a name may be empty here, which is a fault
+names_and_sides :
+    (map (name_and_side (codes "period")) (codes "a" ∷ codes "a@start" ∷ codes "a@end" ∷ codes "a@start@end" ∷ codes "@start" ∷ [])
+    ≡ (codes "a", Whole) ∷ (codes "a", Start) ∷ (codes "a", End) ∷ (codes "a@start", End) ∷ ([], Start) ∷ [])
+    × (name_and_side (codes "unit") (codes "a@start") ≡ (codes "a@start", Whole))
+unfolding name_and_side strip_back
+names_and_sides = (refl, refl)
+
 -- references: only at the key period do they have a side
 references :
     map (written_of (codes "unit")) (codes "$a" ∷ codes "$rowNumber" ∷ codes "$year@start" ∷ codes "$rowNumber@end" ∷ [])

@@ -173,7 +173,7 @@ by_name kind key rest name side l n h =
     let one = front_some (codes "$") rest in
     let two = front_lacks 36 [] rest l in (
       ap (is_bad_by_dollar kind key (codes "$" ++ rest)) one ∙ ap (is_bad_reference key rest) two
-      ∙ ap (λ (r : List ℕ × Side). not (is_identifier r.0)) n ∙ ap not h,
+          ∙ ap (λ (r : List ℕ × Side). not (is_identifier r.0)) n ∙ ap not h,
       ap (by_dollar key (codes "$" ++ rest)) one ∙ ap (unless_dollar key rest) two ∙ ap (λ (r : List ℕ × Side). named r.0 r.1) n,
     )
 

@@ -38,7 +38,7 @@ fields_in text ranges = map (field_in text) ranges
 abbrev pub IsFirstRecord : List ℕ → Record → List ℕ → Type 0
 IsFirstRecord text fields rest = records_left state.StartRecord text ≡ fields ∷ records_left state.StartRecord rest
 
--- what is read of a text that may by now be another: no record is left, or it is the first one, behind which the place is
+-- the first record of a text is read, whose bytes may be others by now, and a place behind it is found; or none is left
 abbrev pub ReadsFirst : List ℕ → Record → List ℕ → Option ℕ → Type 0
 ReadsFirst old fields now None = records_left state.StartRecord old ≡ []
 ReadsFirst old fields now (Some next) = IsFirstRecord old fields (drop next now)
