@@ -1,13 +1,13 @@
 -- What is wrong with each part of a metadata, and where, in the order of the walk (xBRL-CSV 1.0: table templates, columns, property groups,
 -- dimensions and decimals). What is not an object has no members, and what is not a list no items, so nothing is found inside it.
-use Rattle.std.specs.Prelude.{ℕ, List, [], ◌∷◌, ◌++◌, Bool, true, not, ◌||◌, ◌&&◌, bytes_eq, unwrap_or, option_map, codes}
+use Rattle.std.specs.Prelude.{ℕ, List, [], ◌∷◌, ◌++◌, Bool, not, ◌||◌, ◌&&◌, bytes_eq, codes}
 use Rattle.serde_json.specs.Data.{Data, Members, no_members, member}
 use Rattle.serde_json.specs.Find.{get}
 use Rattle.oim_names.specs.Names.{is_identifier}
 use Rattle.oim_entries.specs.declared.fault.MetaFault.TheVariants.{BadIdentifier, BadTemplate, ColumnKinds, UnknownColumn, BadDimension, BadDecimals, TooLarge}
 use Rattle.oim_meta.specs.declared.findings.Finding.{Finding}
 use Rattle.oim_meta.specs.Known.{Known}
-use Rattle.oim_meta.specs.Members.{section, if_there}
+use Rattle.oim_meta.specs.Members.{section, if_there, absent_or}
 use Rattle.oim_meta.specs.Faults.{is_no_object, is_no_flag, is_no_text, is_fact, is_mixed_column, has_bad_section, has_bad_sources}
 use Rattle.oim_meta.specs.BadDimensions.{is_bad_dimension}
 use Rattle.oim_meta.specs.BadDecimals.{has_bad_decimals_there}
@@ -70,7 +70,7 @@ in_column known t template name c =
 
 -- columns is absent or not an object
 abbrev pub lacks_columns : Data → Bool
-lacks_columns t = unwrap_or (option_map is_no_object (get (codes "columns") t)) true
+lacks_columns t = absent_or is_no_object (get (codes "columns") t)
 
 -- a template itself, apart from what it writes and its columns
 unfoldable pub in_template_itself : List ℕ → Data → List Finding

@@ -1,5 +1,5 @@
 -- What is wrong with a metadata, and where, in the order of the walk (xBRL-CSV 1.0: documentInfo, links, metadata).
-use Rattle.std.specs.Prelude.{ℕ, List, [], ◌∷◌, ◌++◌, true, unwrap_or, option_map, Option, Some, None, codes}
+use Rattle.std.specs.Prelude.{ℕ, List, [], ◌∷◌, ◌++◌, Option, Some, None, codes}
 use Rattle.serde_json.specs.Data.{Data}
 use Rattle.serde_json.specs.Find.{get}
 use Rattle.oim_entries.specs.declared.fault.MetaFault.TheVariants.{NotReport, BadNamespaces, BadTaxonomy, Unsupported}
@@ -10,7 +10,7 @@ use Rattle.oim_report.specs.Types.{TypesValue}
 use Rattle.oim_meta.specs.Known.{Known, known_of}
 use Rattle.oim_meta.specs.Members.{section, if_there}
 use Rattle.oim_meta.specs.Order.{repeats_text}
-use Rattle.oim_meta.specs.Faults.{has_no_report, is_bad_prefix, is_no_empty_list, is_no_empty_object, is_no_object, is_no_text, is_no_texts}
+use Rattle.oim_meta.specs.Faults.{has_no_report, is_bad_prefix, is_no_empty_list, is_no_empty_object, is_no_object, is_no_text, lacks_taxonomy}
 use Rattle.oim_meta.specs.Findings.{found}
 use Rattle.oim_meta.specs.Paths.{document_path}
 use Rattle.oim_meta.specs.Walk.{in_level, in_members, in_templates}
@@ -30,7 +30,7 @@ in_namespaces i =
 -- the document information apart from its type
 unfoldable pub in_info : Data → List Finding
 in_info i =
-    in_namespaces i ++ found BadTaxonomy (document_path ++ codes "taxonomy" ∷ []) (unwrap_or (option_map is_no_texts (get (codes "taxonomy") i)) true)
+    in_namespaces i ++ found BadTaxonomy (document_path ++ codes "taxonomy" ∷ []) (lacks_taxonomy i)
     ++ found BadTaxonomy (document_path ++ codes "baseURL" ∷ []) (if_there is_no_text (get (codes "baseURL") i))
     ++ found Unsupported (document_path ++ codes "extends" ∷ []) (if_there is_no_empty_list (get (codes "extends") i))
 
