@@ -50,7 +50,7 @@ reads_value limits next bytes d l is = reads_small limits next bytes l ∙ ap (i
 
 pub says_url : (limits : Limits) (bytes : List ℕ) (url : Option (List ℕ)) → SaysUrl limits bytes url → url_result limits bytes ≡ Ok url
 says_url limits bytes url h =
-    reads_value limits url_in bytes h.1.0 h.0 h.1.1 ∙ ap (λ f. unless_fault f (text_at (codes "parameterURL") h.1.0)) h.1.2 ∙ ap Ok (sym h.1.3)
+    reads_value limits url_in bytes h.1.0 h.0 h.1.1 ∙ ap (λ f. unless_fault f (text_at (codes "parameterURL") h.1.0)) h.1.2.0 ∙ ap Ok (sym h.1.2.1)
 
 pub says_report : (limits : Limits) (given : ParametersValue) (types : TypesValue) (bytes : List ℕ) (r : ReportValue)
     → SaysReport limits given types bytes r → report_result limits given types bytes ≡ Ok r

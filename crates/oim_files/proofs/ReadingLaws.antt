@@ -112,7 +112,11 @@ module _ (limits : Limits) (bytes : List ℕ) where
   url = text_at (codes "parameterURL")
 
   pub url_law : (name : Option (List ℕ)) → (url_result limits bytes ≡ Ok name) ↔ SaysUrl limits bytes name
-  url_law name = (said limits first_url_fault url bytes name, says_url limits bytes name)
+  url_law name = (
+    λ h. let s = said limits first_url_fault url bytes name h in
+    (s.0, (s.1.0, s.1.1, (s.1.2, s.1.3))),
+    says_url limits bytes name,
+  )
 
   refuses_url : (f : MetaFault) → Refuses limits first_url_fault url bytes f → IsUrlFault limits bytes f
   refuses_url meta.TooLarge h = by (too_large limits first_url_fault url bytes h)
