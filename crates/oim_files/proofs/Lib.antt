@@ -1,4 +1,5 @@
 mod FolderFacts
 mod MetadataFacts
+mod ReadingLaws
 mod StepFacts
 mod Examples

@@ -25,7 +25,7 @@ use Rattle.oim_entries.specs.declared.fault.MetaFault.TheVariants as meta
 use Rattle.oim_report.specs.declared.limits.Limits.{Limits}
 use Rattle.oim_files.specs.Metadata.{in_json, json_of, read_as, report_in, report_result, unless_fault, url_in, url_result}
 
-json_is : (bytes : List ℕ) (d : Data) → IsJson bytes d → json_of bytes ≡ Some d
+pub json_is : (bytes : List ℕ) (d : Data) → IsJson bytes d → json_of bytes ≡ Some d
 json_is bytes d is = ap (λ b. if b then read (after_mark bytes) else None) (is_utf8-from_IsUtf8 (after_mark bytes) is.0) ∙ is.1
 
 json_by : (bytes : List ℕ) (b : Bool) (o : Option Data) → is_utf8 (after_mark bytes) ≡ b → read (after_mark bytes) ≡ o → HasNoJson bytes → (if b then o else None) ≡ None
@@ -50,7 +50,7 @@ reads_value limits next bytes d l is = reads_small limits next bytes l ∙ ap (i
 
 pub says_url : (limits : Limits) (bytes : List ℕ) (url : Option (List ℕ)) → SaysUrl limits bytes url → url_result limits bytes ≡ Ok url
 says_url limits bytes url h =
-    reads_value limits url_in bytes h.1.0 h.0 h.1.1 ∙ ap (λ f. unless_fault f (text_at (codes "parameterURL") h.1.0)) h.1.2 ∙ ap Ok (sym h.1.3)
+    reads_value limits url_in bytes h.1.0 h.0 h.1.1 ∙ ap (λ f. unless_fault f (text_at (codes "parameterURL") h.1.0)) h.1.2.0 ∙ ap Ok (sym h.1.2.1)
 
 pub says_report : (limits : Limits) (given : ParametersValue) (types : TypesValue) (bytes : List ℕ) (r : ReportValue)
     → SaysReport limits given types bytes r → report_result limits given types bytes ≡ Ok r

@@ -1,19 +1,16 @@
 -- What a walk finds of each fault in the document as a whole: exactly what the test for the fault says.
 use Rattle.std.proofs.Common.{◌≡◌, ◌∙◌, Option, Some, None, Bool, true, false, ◌||◌, ◌&&◌, refl, codes}
-use Rattle.std.specs.Prelude.{option_map, option_and_then, unwrap_or}
+use Rattle.std.specs.Prelude.{option_and_then, unwrap_or}
 use Rattle.serde_json.specs.Data.{Data, null, boolean, number, string, array, object, Members, no_members}
 use Rattle.serde_json.specs.Find.{get, as_object}
 use Rattle.oim_entries.specs.declared.fault.MetaFault.{MetaFault}
 use Rattle.oim_entries.specs.declared.fault.MetaFault.TheVariants.{NotReport, BadNamespaces, BadTaxonomy, Unsupported}
 use Rattle.oim_meta.specs.Members.{section, any_member, if_there, no_object_or}
 use Rattle.oim_meta.specs.Order.{repeats_text}
-use Rattle.oim_meta.specs.Faults.{has_no_report, has_bad_namespaces, has_bad_taxonomy, has_bad_prefix, is_unsupported, is_bad_prefix, is_no_object, is_no_text, is_no_texts, is_no_empty_list, is_no_empty_object}
+use Rattle.oim_meta.specs.Faults.{has_no_report, has_bad_namespaces, has_bad_taxonomy, has_bad_prefix, is_unsupported, is_bad_prefix, is_no_object, is_no_text, lacks_taxonomy, is_no_empty_list, is_no_empty_object}
 use Rattle.oim_meta.specs.FindingPlaces.{has}
 use Rattle.oim_meta.specs.WalkReport.{in_prefix, in_namespaces, in_info, in_info_in, in_document}
 use Rattle.oim_meta.proofs.FaultSteps.{w, two, here, each, none, nor, off, first, last, or-same}
-
-abbrev lacks_taxonomy : Data → Bool
-lacks_taxonomy i = unwrap_or (option_map is_no_texts (get (codes "taxonomy") i)) true
 
 abbrev extends_another : Data → Bool
 extends_another i = if_there is_no_empty_list (get (codes "extends") i)
@@ -35,7 +32,7 @@ module _ (e : MetaFault) where
 
   abbrev pub document : Data → Bool
   document d =
-      (w e NotReport && has_no_report d) || unwrap_or (option_map info (get (codes "documentInfo") d)) false || (w e Unsupported && has_links d)
+      (w e NotReport && has_no_report d) || if_there info (get (codes "documentInfo") d) || (w e Unsupported && has_links d)
 
   find_namespaces : (i : Data) → has e (in_namespaces i) ≡ namespaces i
   unfolding in_namespaces
@@ -52,7 +49,7 @@ module _ (e : MetaFault) where
       (two e _ _ _ _ (two e _ _ _ _ (find_namespaces i) (here e BadTaxonomy _ (lacks_taxonomy i)))
       (here e BadTaxonomy _ (if_there is_no_text (get (codes "baseURL") i)))) (here e Unsupported _ (extends_another i))
 
-  find_info_in : (o : Option Data) → has e (in_info_in o) ≡ unwrap_or (option_map info o) false
+  find_info_in : (o : Option Data) → has e (in_info_in o) ≡ if_there info o
   unfolding in_info_in
   find_info_in None = refl
   find_info_in (Some i) = find_info i
@@ -69,7 +66,7 @@ module _ (e : MetaFault) where
   no_info : w e BadNamespaces ≡ false → w e BadTaxonomy ≡ false → w e Unsupported ≡ false → (i : Data) → info i ≡ false
   no_info n t u i = nor _ _ (nor _ _ (nor _ _ (no_namespaces n i) (off _ _ t)) (off _ _ t)) (off _ _ u)
 
-  no_info_in : w e BadNamespaces ≡ false → w e BadTaxonomy ≡ false → w e Unsupported ≡ false → (o : Option Data) → unwrap_or (option_map info o) false ≡ false
+  no_info_in : w e BadNamespaces ≡ false → w e BadTaxonomy ≡ false → w e Unsupported ≡ false → (o : Option Data) → if_there info o ≡ false
   no_info_in n t u None = refl
   no_info_in n t u (Some i) = no_info n t u i
 
@@ -96,7 +93,7 @@ bad_namespaces_of : (i : Data) → info BadNamespaces i ≡ has_bad_namespaces i
 unfolding has_bad_namespaces
 bad_namespaces_of i = first _ _ refl ∙ first _ _ refl ∙ first _ _ refl ∙ prefixes_or (get (codes "namespaces") i)
 
-bad_namespaces_in : (o : Option Data) → unwrap_or (option_map (info BadNamespaces) o) false ≡ if_there has_bad_namespaces o
+bad_namespaces_in : (o : Option Data) → if_there (info BadNamespaces) o ≡ if_there has_bad_namespaces o
 bad_namespaces_in None = refl
 bad_namespaces_in (Some i) = bad_namespaces_of i
 
@@ -107,7 +104,7 @@ bad_taxonomy_of : (i : Data) → info BadTaxonomy i ≡ has_bad_taxonomy i
 unfolding has_bad_taxonomy
 bad_taxonomy_of i = first _ _ refl ∙ or-same _ _ _ _ (last _ _ (no_namespaces BadTaxonomy refl i)) refl
 
-bad_taxonomy_in : (o : Option Data) → unwrap_or (option_map (info BadTaxonomy) o) false ≡ if_there has_bad_taxonomy o
+bad_taxonomy_in : (o : Option Data) → if_there (info BadTaxonomy) o ≡ if_there has_bad_taxonomy o
 bad_taxonomy_in None = refl
 bad_taxonomy_in (Some i) = bad_taxonomy_of i
 
@@ -117,7 +114,7 @@ bad_taxonomy d = first _ _ refl ∙ bad_taxonomy_in (get (codes "documentInfo") 
 extends_of : (i : Data) → info Unsupported i ≡ extends_another i
 extends_of i = last _ _ (first _ _ refl ∙ first _ _ refl ∙ no_namespaces Unsupported refl i)
 
-extends_in : (o : Option Data) → unwrap_or (option_map (info Unsupported) o) false ≡ if_there is_no_empty_list (option_and_then (get (codes "extends")) o)
+extends_in : (o : Option Data) → if_there (info Unsupported) o ≡ if_there is_no_empty_list (option_and_then (get (codes "extends")) o)
 extends_in None = refl
 extends_in (Some i) = extends_of i
 

@@ -3,6 +3,7 @@ use Rattle.std.proofs.Common.{◌≡◌, ℕ, List, [], ◌∷◌, Some, None, t
 use Rattle.serde_json.specs.Data.{Data, boolean, number, unsigned, negative, string, array, object, no_items, item, Members, no_members, member}
 use Rattle.oim_cells.specs.Cells.{meaning_of, accuracy_of}
 use Rattle.oim_cells.specs.declared.cells.Accuracy.TheVariants.{Infinite, Places}
+use Rattle.oim_report.specs.Readers.{no_level}
 use Rattle.oim_report.specs.declared.data.Column.{Column}
 use Rattle.oim_report.specs.declared.data.ColumnKind.TheVariants.{Fact, Groups, Comment, Plain}
 use Rattle.oim_report.specs.declared.data.Level.{Level}
@@ -12,7 +13,7 @@ use Rattle.oim_report.specs.declared.data.WrittenDecimals.TheVariants as decimal
 use Rattle.oim_report.specs.ReportValue.{ReportValue}
 use Rattle.oim_meta.specs.Prefixes.{prefixes_of}
 use Rattle.oim_report.specs.Readers.{table_of as table_at, template_of as template_at, column_of as column_at, parameter_of}
-use Rattle.oim_meta.specs.Written.{strip_front, strip_back, reference_of, written_of}
+use Rattle.oim_meta.specs.Written.{strip_front, strip_back, name_and_side, written_of}
 use Rattle.oim_meta.specs.Decimals.{decimals_of, text_decimals}
 use Rattle.oim_meta.specs.Value.{kind_of, level_of, column_of, template_of, table_of, tables_of, templates_of, info_of, report_of}
 
@@ -31,21 +32,29 @@ literals :
     map (written_of (codes "entity")) ([] ∷ codes "#none" ∷ codes "#nil" ∷ codes "#empty" ∷ codes "##x" ∷ codes "x$" ∷ codes "$$x" ∷ codes "$$" ∷ codes "$$$" ∷ [])
     ≡ written.Absent ∷ written.Absent ∷ written.Nil ∷ written.Empty ∷ written.Text (codes "#x") ∷ written.Text (codes "x$") ∷ written.Text (codes "$x")
     ∷ written.Text (codes "$") ∷ written.Text (codes "$$") ∷ []
-unfolding strip_front strip_back reference_of meaning_of
+unfolding strip_front strip_back name_and_side meaning_of
 literals = refl
+
+-- the name and the side of a reference; a name may be empty here, which is a fault
+names_and_sides :
+    (map (name_and_side (codes "period")) (codes "a" ∷ codes "a@start" ∷ codes "a@end" ∷ codes "a@start@end" ∷ codes "@start" ∷ [])
+    ≡ (codes "a", Whole) ∷ (codes "a", Start) ∷ (codes "a", End) ∷ (codes "a@start", End) ∷ ([], Start) ∷ [])
+    × (name_and_side (codes "unit") (codes "a@start") ≡ (codes "a@start", Whole))
+unfolding name_and_side strip_back
+names_and_sides = (refl, refl)
 
 -- references: only at the key period do they have a side
 references :
     map (written_of (codes "unit")) (codes "$a" ∷ codes "$rowNumber" ∷ codes "$year@start" ∷ codes "$rowNumber@end" ∷ [])
     ≡ written.Named (codes "a") Whole ∷ written.RowNumber Whole ∷ written.Named (codes "year@start") Whole ∷ written.Named (codes "rowNumber@end") Whole ∷ []
-unfolding strip_front strip_back reference_of
+unfolding strip_front strip_back name_and_side
 references = refl
 
 sides :
     map (written_of (codes "period")) (codes "$a" ∷ codes "$a@start" ∷ codes "$a@end" ∷ codes "$rowNumber@start" ∷ codes "$rowNumber@end" ∷ codes "$rowNumber" ∷ codes "a@end" ∷ [])
     ≡ written.Named (codes "a") Whole ∷ written.Named (codes "a") Start ∷ written.Named (codes "a") End ∷ written.RowNumber Start ∷ written.RowNumber End
     ∷ written.RowNumber Whole ∷ written.Text (codes "a@end") ∷ []
-unfolding strip_front strip_back reference_of meaning_of
+unfolding strip_front strip_back name_and_side meaning_of
 sides = refl
 
 -- DECIMALS
@@ -69,16 +78,13 @@ kinds :
 kinds = refl
 
 -- LEVELS
-no_level : Level
-no_level = record { dimensions = []; decimals = None }
-
 level : level_of (two (codes "decimals") (number (unsigned 2)) (codes "dimensions") (two (codes "entity") (string (codes "x")) (codes "unit") (string (codes "$u"))))
     ≡ record { dimensions = (codes "entity", written.Text (codes "x")) ∷ (codes "unit", written.Named (codes "u") Whole) ∷ []; decimals = Some (decimals.Fixed (Places (pos 2))) }
-unfolding level_of strip_front reference_of meaning_of
+unfolding level_of strip_front name_and_side meaning_of
 level = refl
 
 level_of_nothing : level_of nothing ≡ no_level
-unfolding level_of no_level
+unfolding level_of
 level_of_nothing = refl
 
 -- COLUMNS: the first takes groups from the two others, and names one of them twice
@@ -103,17 +109,17 @@ facts = refl
 -- decimals and propertiesFrom of a column that is not a fact column are not read
 property_groups : column_of columns (codes "g") groups
     ≡ record { id = codes "g"; kind = Groups; level = no_level; groups = (codes "usd", record { dimensions = []; decimals = Some (decimals.Fixed (Places (pos 0))) }) ∷ []; from = [] }
-unfolding column_of level_of columns takes groups no_level
+unfolding column_of level_of columns takes groups
 property_groups = refl
 
 plain : column_of columns (codes "p") (two (codes "decimals") (number (unsigned 7)) (codes "propertiesFrom") (array (item (string (codes "g")) no_items)))
     ≡ record { id = codes "p"; kind = Plain; level = no_level; groups = []; from = [] }
-unfolding column_of columns no_level
+unfolding column_of columns
 plain = refl
 
 comments : column_of columns (codes "c") (two (codes "comment") (boolean true) (codes "decimals") (number (unsigned 7)))
     ≡ record { id = codes "c"; kind = Comment; level = no_level; groups = []; from = [] }
-unfolding column_of columns no_level
+unfolding column_of columns
 comments = refl
 
 -- TEMPLATES AND TABLES
@@ -128,7 +134,7 @@ template :
       row_id_column = Some 1;
       level = record { dimensions = []; decimals = Some (decimals.Fixed (Places (pos 3))) };
     }
-unfolding template_of column_of level_of no_level
+unfolding template_of column_of level_of
 template = refl
 
 -- the columns of a template take groups from its own columns
@@ -138,7 +144,7 @@ unfolding template_of column_of columns takes groups
 groups_taken = refl
 
 empty_template : template_of (codes "p") (one (codes "columns") nothing) ≡ record { id = codes "p"; columns = []; row_id_column = None; level = no_level }
-unfolding template_of level_of no_level
+unfolding template_of level_of
 empty_template = refl
 
 -- three tables: one has the template of its own name, one names another, and one is optional and has parameters
@@ -191,7 +197,7 @@ unfolding value report_of report
 parameters = refl
 
 other_parts : (value.level ≡ no_level) × (value.types ≡ []) × (value.tables ≡ tables_of report) × (value.templates ≡ templates_of report)
-unfolding value report_of report level_of no_level
+unfolding value report_of report level_of
 other_parts = (refl, refl, refl, refl)
 
 -- READERS: a table's parameter hides the report's, and each table has its own template

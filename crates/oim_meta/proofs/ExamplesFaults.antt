@@ -17,11 +17,11 @@ use Rattle.oim_report.specs.declared.kind.Kind.{Kind}
 use Rattle.oim_report.specs.declared.typed_name.TypedName.{TypedName}
 use Rattle.oim_report.specs.declared.kind.Kind.TheVariants.{Number, Text, Boolean, Date, Name, Other, Explicit, Typed}
 use Rattle.oim_report.specs.Types.{TypesValue}
-use Rattle.oim_meta.specs.Written.{strip_front, strip_back}
+use Rattle.oim_meta.specs.Written.{strip_front, strip_back, name_and_side}
 use Rattle.oim_names.specs.PlainPath.{is_plain_path}
 use Rattle.oim_meta.specs.Faults.{has_no_report, has_bad_namespaces, has_bad_taxonomy, is_unsupported, has_bad_identifier, has_bad_shape, has_mixed_column, has_unknown_template}
 use Rattle.oim_meta.specs.UnknownColumn.{has_unknown_column}
-use Rattle.oim_meta.specs.BadDimensions.{is_dimension, is_typed, name_in, is_bad_dimension, has_bad_dimensions}
+use Rattle.oim_meta.specs.BadDimensions.{is_dimension, is_typed, is_bad_dimension, has_bad_dimensions}
 use Rattle.oim_meta.specs.BadDecimals.{is_decimals, has_bad_decimals}
 use Rattle.oim_meta.specs.BadParameters.{has_bad_parameter, has_bad_parameter_url}
 use Rattle.oim_meta.specs.Counts.{has_too_many}
@@ -263,28 +263,28 @@ unfolding is_bad_key is_bad_dimension strip_front meaning_of qname_of is_ncname 
 no_dimensions = refl
 
 written_values : list_any (is_bad_at (codes "entity")) ([] ∷ codes "x" ∷ codes "#none" ∷ codes "##x" ∷ codes "$a" ∷ codes "$rowNumber" ∷ codes "$$" ∷ codes "$$#foo" ∷ codes "$$1" ∷ []) ≡ false
-unfolding is_bad_at is_bad_dimension name_in strip_front strip_back meaning_of qname_of is_identifier is_plain_char is_ncname is_name_char is_name_start chars is_utf8 encode
+unfolding is_bad_at is_bad_dimension name_and_side strip_front strip_back meaning_of qname_of is_identifier is_plain_char is_ncname is_name_char is_name_start chars is_utf8 encode
 written_values = refl
 
 bad_values : list_all (is_bad_at (codes "entity")) (codes "#foo" ∷ codes "#nil" ∷ codes "#empty" ∷ codes "$" ∷ codes "$1" ∷ codes "$a.b" ∷ codes "$a@start" ∷ codes "$a@end" ∷ []) ≡ true
-unfolding is_bad_at is_bad_dimension name_in strip_front strip_back meaning_of qname_of is_identifier is_plain_char is_ncname is_name_char is_name_start chars is_utf8 encode
+unfolding is_bad_at is_bad_dimension name_and_side strip_front strip_back meaning_of qname_of is_identifier is_plain_char is_ncname is_name_char is_name_start chars is_utf8 encode
 bad_values = refl
 
 periods : list_any (is_bad_at (codes "period")) (codes "$a" ∷ codes "$a@start" ∷ codes "$a@end" ∷ codes "$rowNumber@end" ∷ []) ≡ false
-unfolding is_bad_at is_bad_dimension name_in strip_front strip_back meaning_of qname_of is_identifier is_plain_char is_ncname is_name_char is_name_start chars is_utf8 encode
+unfolding is_bad_at is_bad_dimension name_and_side strip_front strip_back meaning_of qname_of is_identifier is_plain_char is_ncname is_name_char is_name_start chars is_utf8 encode
 periods = refl
 
 bad_periods : list_all (is_bad_at (codes "period")) (codes "$@start" ∷ codes "$@end" ∷ codes "$a@middle" ∷ codes "$a@start@end" ∷ codes "$a@end@start" ∷ codes "#nil" ∷ []) ≡ true
-unfolding is_bad_at is_bad_dimension name_in strip_front strip_back meaning_of qname_of is_identifier is_plain_char is_ncname is_name_char is_name_start chars is_utf8 encode
+unfolding is_bad_at is_bad_dimension name_and_side strip_front strip_back meaning_of qname_of is_identifier is_plain_char is_ncname is_name_char is_name_start chars is_utf8 encode
 bad_periods = refl
 
 -- only typed dimensions can be nil or the empty text
 typed_values : list_any (is_bad_at (codes "p:T")) (codes "#nil" ∷ codes "#empty" ∷ []) ≡ false
-unfolding is_bad_at is_bad_dimension name_in strip_front strip_back meaning_of qname_of is_identifier is_plain_char is_ncname is_name_char is_name_start chars is_utf8 encode
+unfolding is_bad_at is_bad_dimension name_and_side strip_front strip_back meaning_of qname_of is_identifier is_plain_char is_ncname is_name_char is_name_start chars is_utf8 encode
 typed_values = refl
 
 explicit_values : list_all (is_bad_at (codes "p:E")) (codes "#nil" ∷ codes "#empty" ∷ []) ≡ true
-unfolding is_bad_at is_bad_dimension name_in strip_front strip_back meaning_of qname_of is_identifier is_plain_char is_ncname is_name_char is_name_start chars is_utf8 encode
+unfolding is_bad_at is_bad_dimension name_and_side strip_front strip_back meaning_of qname_of is_identifier is_plain_char is_ncname is_name_char is_name_start chars is_utf8 encode
 explicit_values = refl
 
 no_text : is_bad_dimension types prefixes (codes "entity") null ≡ true

@@ -13,9 +13,9 @@ use Rattle.oim_entries.specs.declared.fault.MetaFault.TheVariants.{NotReport, Ba
 use Rattle.oim_entries.specs.declared.fault.MetaFault.TheVariants.{UnknownTemplate, UnknownColumn, BadDimension, BadDecimals, BadParameter, TooLarge, Syntax}
 use Rattle.oim_meta.specs.declared.findings.Finding.{Finding}
 use Rattle.oim_meta.specs.declared.refusal.Refusal.TheVariants.{Found}
-use Rattle.oim_meta.specs.Written.{strip_front}
+use Rattle.oim_meta.specs.Written.{strip_front, name_and_side}
 use Rattle.oim_meta.specs.Faults.{has_no_report}
-use Rattle.oim_meta.specs.BadDimensions.{is_bad_dimension, name_in}
+use Rattle.oim_meta.specs.BadDimensions.{is_bad_dimension}
 use Rattle.oim_meta.specs.BadDecimals.{is_decimals}
 use Rattle.oim_meta.specs.BadParameters.{has_bad_parameter_url}
 use Rattle.oim_meta.specs.Paths.{Path}
@@ -137,7 +137,7 @@ places_in_info :
     × Stands (with_info (codes "extends") (list (text (codes "m.json")))) Unsupported (codes "documentInfo" ∷ codes "extends" ∷ [])
 unfolding walked first in_metadata in_document in_info_in in_info in_namespaces in_parts in_level in_dimensions in_templates in_template in_template_itself in_columns in_column in_column_itself
     in_sources in_column_level in_groups in_group in_tables in_table in_table_itself in_parameters in_own_parameters has_no_report has_bad_parameter_url is_bad_dimension is_decimals
-    name_in meaning_of is_plain_path accuracy_of strip_front qname_of is_identifier is_plain_char is_ncname is_name_char is_name_start chars is_utf8 encode
+    name_and_side meaning_of is_plain_path accuracy_of strip_front qname_of is_identifier is_plain_char is_ncname is_name_char is_name_start chars is_utf8 encode
 places_in_info = (refl, refl, refl, refl, refl, refl, refl, refl, refl)
 
 -- LINKS, and what the report itself writes
@@ -152,7 +152,7 @@ places_in_report :
     × Stands (report (codes "decimals") null) BadDecimals (codes "decimals" ∷ [])
 unfolding walked first in_metadata in_document in_info_in in_info in_namespaces in_parts in_level in_dimensions in_templates in_template in_template_itself in_columns in_column in_column_itself
     in_sources in_column_level in_groups in_group in_tables in_table in_table_itself in_parameters in_own_parameters has_no_report has_bad_parameter_url is_bad_dimension is_decimals
-    name_in meaning_of is_plain_path accuracy_of strip_front qname_of is_identifier is_plain_char is_ncname is_name_char is_name_start chars is_utf8 encode
+    name_and_side meaning_of is_plain_path accuracy_of strip_front qname_of is_identifier is_plain_char is_ncname is_name_char is_name_start chars is_utf8 encode
 places_in_report = (refl, refl, refl, refl)
 
 -- TABLE TEMPLATES
@@ -177,7 +177,7 @@ places_in_templates :
     × Stands (columns (object (member (codes "a") nothing (member (codes "b") nothing (member (codes "c") nothing no_members))))) TooLarge (codes "tableTemplates" ∷ codes "p" ∷ codes "columns" ∷ [])
 unfolding walked first in_metadata in_document in_info_in in_info in_namespaces in_parts in_level in_dimensions in_templates in_template in_template_itself in_columns in_column in_column_itself
     in_sources in_column_level in_groups in_group in_tables in_table in_table_itself in_parameters in_own_parameters has_no_report has_bad_parameter_url is_bad_dimension is_decimals
-    name_in meaning_of is_plain_path accuracy_of strip_front qname_of is_identifier is_plain_char is_ncname is_name_char is_name_start chars is_utf8 encode
+    name_and_side meaning_of is_plain_path accuracy_of strip_front qname_of is_identifier is_plain_char is_ncname is_name_char is_name_start chars is_utf8 encode
 places_in_templates = (refl, refl, refl, refl, refl, refl, refl, refl, refl)
 
 -- COLUMNS
@@ -202,7 +202,7 @@ places_in_columns :
     × Stands (column (two (codes "decimals") null (codes "dimensions") nothing)) BadDecimals (codes "tableTemplates" ∷ codes "p" ∷ codes "columns" ∷ codes "c" ∷ codes "decimals" ∷ [])
 unfolding walked first in_metadata in_document in_info_in in_info in_namespaces in_parts in_level in_dimensions in_templates in_template in_template_itself in_columns in_column in_column_itself
     in_sources in_column_level in_groups in_group in_tables in_table in_table_itself in_parameters in_own_parameters has_no_report has_bad_parameter_url is_bad_dimension is_decimals
-    name_in meaning_of is_plain_path accuracy_of strip_front qname_of is_identifier is_plain_char is_ncname is_name_char is_name_start chars is_utf8 encode
+    name_and_side meaning_of is_plain_path accuracy_of strip_front qname_of is_identifier is_plain_char is_ncname is_name_char is_name_start chars is_utf8 encode
 places_in_columns = (refl, refl, refl, refl, refl, refl, refl, refl, refl)
 
 -- PROPERTY GROUPS
@@ -221,7 +221,7 @@ places_in_groups :
     × Stands (group (one (codes "decimals") null)) BadDecimals (codes "tableTemplates" ∷ codes "p" ∷ codes "columns" ∷ codes "c" ∷ codes "propertyGroups" ∷ codes "g" ∷ codes "decimals" ∷ [])
 unfolding walked first in_metadata in_document in_info_in in_info in_namespaces in_parts in_level in_dimensions in_templates in_template in_template_itself in_columns in_column in_column_itself
     in_sources in_column_level in_groups in_group in_tables in_table in_table_itself in_parameters in_own_parameters has_no_report has_bad_parameter_url is_bad_dimension is_decimals
-    name_in meaning_of is_plain_path accuracy_of strip_front qname_of is_identifier is_plain_char is_ncname is_name_char is_name_start chars is_utf8 encode
+    name_and_side meaning_of is_plain_path accuracy_of strip_front qname_of is_identifier is_plain_char is_ncname is_name_char is_name_start chars is_utf8 encode
 places_in_groups = (refl, refl, refl, refl, refl, refl)
 
 -- TABLES
@@ -248,7 +248,7 @@ places_in_tables :
     × Stands (table_with (codes "parameters") (one (codes "a") null)) BadParameter (codes "tables" ∷ codes "t" ∷ codes "parameters" ∷ codes "a" ∷ [])
 unfolding walked first in_metadata in_document in_info_in in_info in_namespaces in_parts in_level in_dimensions in_templates in_template in_template_itself in_columns in_column in_column_itself
     in_sources in_column_level in_groups in_group in_tables in_table in_table_itself in_parameters in_own_parameters has_no_report has_bad_parameter_url is_bad_dimension is_decimals
-    name_in meaning_of is_plain_path accuracy_of strip_front qname_of is_identifier is_plain_char is_ncname is_name_char is_name_start chars is_utf8 encode
+    name_and_side meaning_of is_plain_path accuracy_of strip_front qname_of is_identifier is_plain_char is_ncname is_name_char is_name_start chars is_utf8 encode
 places_in_tables = (refl, refl, refl, refl, refl, refl, refl, refl, refl, refl)
 
 -- PARAMETERS of the report
@@ -263,7 +263,7 @@ places_in_parameters :
     × Stands (report (codes "parameterURL") (text (codes "../p.csv"))) BadParameter (codes "parameterURL" ∷ [])
 unfolding walked first in_metadata in_document in_info_in in_info in_namespaces in_parts in_level in_dimensions in_templates in_template in_template_itself in_columns in_column in_column_itself
     in_sources in_column_level in_groups in_group in_tables in_table in_table_itself in_parameters in_own_parameters has_no_report has_bad_parameter_url is_bad_dimension is_decimals
-    name_in meaning_of is_plain_path accuracy_of strip_front qname_of is_identifier is_plain_char is_ncname is_name_char is_name_start chars is_utf8 encode
+    name_and_side meaning_of is_plain_path accuracy_of strip_front qname_of is_identifier is_plain_char is_ncname is_name_char is_name_start chars is_utf8 encode
 places_in_parameters = (refl, refl, refl, refl)
 
 -- TWO FAULTS
@@ -274,7 +274,7 @@ first_of_two :
     × Stands (columns (two (codes "c") null (codes "d") null)) BadTemplate (codes "tableTemplates" ∷ codes "p" ∷ codes "columns" ∷ codes "c" ∷ [])
 unfolding walked first in_metadata in_document in_info_in in_info in_namespaces in_parts in_level in_dimensions in_templates in_template in_template_itself in_columns in_column in_column_itself
     in_sources in_column_level in_groups in_group in_tables in_table in_table_itself in_parameters in_own_parameters has_no_report has_bad_parameter_url is_bad_dimension is_decimals
-    name_in meaning_of is_plain_path accuracy_of strip_front qname_of is_identifier is_plain_char is_ncname is_name_char is_name_start chars is_utf8 encode
+    name_and_side meaning_of is_plain_path accuracy_of strip_front qname_of is_identifier is_plain_char is_ncname is_name_char is_name_start chars is_utf8 encode
 first_of_two = (refl, refl)
 
 -- TWO PLACES of one fault: the first of them in the order of the walk
@@ -299,7 +299,7 @@ first_place :
     BadTemplate (codes "tables" ∷ codes "t" ∷ codes "template" ∷ [])
 unfolding walked first in_metadata in_document in_info_in in_info in_namespaces in_parts in_level in_dimensions in_templates in_template in_template_itself in_columns in_column in_column_itself
     in_sources in_column_level in_groups in_group in_tables in_table in_table_itself in_parameters in_own_parameters has_no_report has_bad_parameter_url is_bad_dimension is_decimals
-    name_in meaning_of is_plain_path accuracy_of strip_front qname_of is_identifier is_plain_char is_ncname is_name_char is_name_start chars is_utf8 encode
+    name_and_side meaning_of is_plain_path accuracy_of strip_front qname_of is_identifier is_plain_char is_ncname is_name_char is_name_start chars is_utf8 encode
 first_place = (refl, refl, refl, refl, refl)
 
 -- ALL PLACES: the columns that are no objects, in the order of the walk; nothing in a report as it should be
@@ -310,7 +310,7 @@ all_places :
     × (walked (table (one (codes "url") (text (codes "t.csv")))) ≡ []) × (walked (column (one (codes "dimensions") nothing)) ≡ [])
 unfolding walked in_metadata in_document in_info_in in_info in_namespaces in_parts in_level in_dimensions in_templates in_template in_template_itself in_columns in_column in_column_itself
     in_sources in_column_level in_groups in_group in_tables in_table in_table_itself in_parameters in_own_parameters has_no_report has_bad_parameter_url is_bad_dimension is_decimals
-    name_in meaning_of is_plain_path accuracy_of strip_front qname_of is_identifier is_plain_char is_ncname is_name_char is_name_start chars is_utf8 encode
+    name_and_side meaning_of is_plain_path accuracy_of strip_front qname_of is_identifier is_plain_char is_ncname is_name_char is_name_start chars is_utf8 encode
 all_places = (refl, refl, refl, refl, refl, refl)
 
 -- WHAT HAS NO PLACE: text that is not JSON is a fault of the whole, at no key

@@ -16,7 +16,7 @@ use Rattle.oim_meta.specs.FirstFault.{has_fault, first_fault}
 use Rattle.oim_meta.specs.Findings.{sooner, first_of}
 use Rattle.oim_meta.specs.FindingPlaces.{IsFirst, has, is_of, places_of}
 use Rattle.oim_meta.specs.Paths.{Path}
-use Rattle.oim_meta.specs.Prefixes.{prefixes_of}
+use Rattle.oim_meta.specs.Known.{known_of}
 use Rattle.oim_meta.specs.WalkReport.{in_document, in_parts, in_metadata}
 use Rattle.oim_meta.proofs.FirstFinding.{is_first}
 use Rattle.oim_meta.proofs.LeastFault.{is_least}
@@ -109,9 +109,9 @@ module _ (limits : Limits) (given : ParametersValue) (types : TypesValue) (d : D
   pub document_is_first : (x : Finding) → first_of (in_document d) ≡ Some x → first_of (in_metadata limits given types d) ≡ Some x
   unfolding in_metadata
   document_is_first x h =
-      fold-append sooner None (in_document d) (in_parts limits given types (prefixes_of d) d)
-      ∙ ap (λ o. fold sooner o (in_parts limits given types (prefixes_of d) d)) h
-      ∙ kept x (in_parts limits given types (prefixes_of d) d) (λ e less. parts_are_later limits given types d x.fault e (has_first (in_document d) x h) less)
+      fold-append sooner None (in_document d) (in_parts (known_of limits given types d) d)
+      ∙ ap (λ o. fold sooner o (in_parts (known_of limits given types d) d)) h
+      ∙ kept x (in_parts (known_of limits given types d) d) (λ e less. parts_are_later limits given types d x.fault e (has_first (in_document d) x h) less)
 
   -- the first finding is of the first fault
   pub first_found : (o : Option Finding) → first_of (in_metadata limits given types d) ≡ o → first_fault limits given types d ≡ option_map (λ (x : Finding). x.fault) o

@@ -73,16 +73,12 @@ one_of_three false false true p = (λ h. (Comment, λ i. absurd cc, λ i. absurd
 one_of_three false false false p = (λ h. (Plain, λ i. absurd cc, λ i. absurd cc, λ i. let no = p.1 i in absurd cc), λ k. refl)
 
 comment : (c : Data) → (is_comment c ≡ true) ↔ IsComment c
-comment c = by (get (codes "comment") c)
+comment c = flag (option_and_then as_bool (get (codes "comment") c))
   where
     flag : (b : Option Bool) → (unwrap_or b false ≡ true) ↔ (b ≡ Some true)
     flag None = (λ h. absurd cc, λ h. absurd cc)
     flag (Some true) = (λ h. refl, λ h. refl)
     flag (Some false) = (λ h. absurd cc, λ h. absurd cc)
-
-    by : (o : Option Data) → (unwrap_or (option_map (λ d. unwrap_or (as_bool d) false) o) false ≡ true) ↔ (option_and_then as_bool o ≡ Some true)
-    by None = (λ h. absurd cc, λ h. absurd cc)
-    by (Some d) = flag (as_bool d)
 
 kind : (name : List ℕ) (c : Data) → Refutes (is_mixed_column name c) (IsOfOneKind name c)
 kind name c = one_of_three (is_fact c) (is_groups c) (is_comment c) (comment c)

@@ -2,16 +2,15 @@
 use Rattle.std.proofs.Common.{◌≡◌, ◌∙◌, ◌≤◌, ◌<◌, [], Bool, true, false, ◌||◌, refl, sym, ap, arith, codes}
 use Rattle.std.specs.Prelude.{nat_lt}
 use Rattle.serde_json.specs.Data.{Data}
-use Rattle.oim_names.specs.Bindings.{Bindings}
 use Rattle.oim_report.specs.declared.limits.Limits.{Limits}
 use Rattle.oim_report.specs.Parameters.{ParametersValue}
 use Rattle.oim_report.specs.Types.{TypesValue}
 use Rattle.oim_entries.specs.declared.fault.MetaFault.{MetaFault}
 use Rattle.oim_entries.specs.declared.fault.MetaFault.TheVariants.{Syntax, NotReport, BadNamespaces, BadTaxonomy, Unsupported, BadIdentifier, BadTemplate, ColumnKinds, UnknownTemplate}
 use Rattle.oim_entries.specs.declared.fault.MetaFault.TheVariants.{UnknownColumn, BadDimension, BadDecimals, BadParameter, BadTypes, TooLarge, Memory, Read}
+use Rattle.oim_meta.specs.Known.{Known, known_of}
 use Rattle.oim_meta.specs.Members.{section, any_member}
 use Rattle.oim_entries.specs.FaultNames.{fault_number}
-use Rattle.oim_meta.specs.Prefixes.{prefixes_of}
 use Rattle.oim_meta.specs.Faults.{any_column, has_bad_identifier, has_bad_shape, has_mixed_column, is_bad_key}
 use Rattle.oim_meta.specs.BadDimensions.{has_bad_dimensions}
 use Rattle.oim_meta.specs.BadDecimals.{has_bad_decimals}
@@ -41,91 +40,91 @@ parameter_order true true g u = refl
 parameter_order true false g u = refl
 parameter_order false b g u = ap (λ x. x || g || u) (sym (first b false refl))
 
-module _ (limits : Limits) (given : ParametersValue) (types : TypesValue) (names : Bindings) (e : MetaFault) where
+module _ (known : Known) (e : MetaFault) where
   -- what a walk finds of a fault in the parts, as one test
   abbrev parts : Data → Bool
-  parts d = level limits types names e d || templates limits types names e d || tables e limits d || own e given d
+  parts d = level known e d || templates known e d || tables e known.limits d || own e known.given d
 
-  find_parts : (d : Data) → has e (in_parts limits given types names d) ≡ parts d
+  find_parts : (d : Data) → has e (in_parts known d) ≡ parts d
   unfolding in_parts
   find_parts d =
-      two e _ _ _ _ (two e _ _ _ _ (two e _ _ _ _ (find_level limits types names e [] d) (find_templates limits types names e d)) (find_tables e limits d))
-      (find_own e given d)
+      two e _ _ _ _ (two e _ _ _ _ (two e _ _ _ _ (find_level known e [] d) (find_templates known e d)) (find_tables e known.limits d))
+      (find_own e known.given d)
 
   no_parts : w e BadIdentifier ≡ false → w e BadTemplate ≡ false → w e ColumnKinds ≡ false → w e UnknownTemplate ≡ false → w e UnknownColumn ≡ false
       → w e BadDimension ≡ false → w e BadDecimals ≡ false → w e BadParameter ≡ false → w e TooLarge ≡ false → (d : Data) → parts d ≡ false
   no_parts i s k t u m c p l d =
-      nor _ _ (nor _ _ (nor _ _ (no_level limits types names e s m c d) (no_templates limits types names e i s k u m c l d)) (no_tables e i s t p l limits d))
-      (no_own e p given d)
+      nor _ _ (nor _ _ (nor _ _ (no_level known e s m c d) (no_templates known e i s k u m c l d)) (no_tables e i s t p l known.limits d))
+      (no_own e p known.given d)
 
 module _ (limits : Limits) (given : ParametersValue) (types : TypesValue) (d : Data) where
   abbrev these : MetaFault → Bool
-  these e = parts limits given types (prefixes_of d) e d
+  these e = parts (known_of limits given types d) e d
 
   identifier : these BadIdentifier ≡ has_bad_identifier d
   unfolding has_bad_identifier
   identifier =
       let e = BadIdentifier in
-      let names = prefixes_of d in
+      let known = known_of limits given types d in
       first _ _ (no_own e refl given d)
-      ∙ or-same _ _ _ _ (last _ _ (no_level limits types names e refl refl refl d) ∙ identifiers limits types names d) (table_identifiers limits d)
+      ∙ or-same _ _ _ _ (last _ _ (no_level known e refl refl refl d) ∙ identifiers known d) (table_identifiers limits d)
       ∙ swap-last (any_member is_bad_key (section (codes "tableTemplates") d)) (any_column is_bad_key d) (any_member is_bad_key (section (codes "tables") d))
 
   shape : these BadTemplate ≡ has_bad_shape d
   unfolding has_bad_shape
   shape =
       let e = BadTemplate in
-      let names = prefixes_of d in
+      let known = known_of limits given types d in
       first _ _ (no_own e refl given d)
-      ∙ or-same _ _ _ _ (or-same _ _ _ _ (shape_level limits types names d) (shapes limits types names d)) (table_shapes limits d)
+      ∙ or-same _ _ _ _ (or-same _ _ _ _ (shape_level known d) (shapes known d)) (table_shapes limits d)
 
   kinds : these ColumnKinds ≡ has_mixed_column d
   unfolding has_mixed_column
   kinds =
       let e = ColumnKinds in
-      let names = prefixes_of d in
-      first _ _ (no_own e refl given d) ∙ first _ _ (no_tables e refl refl refl refl refl limits d) ∙ last _ _ (no_level limits types names e refl refl refl d)
-      ∙ mixed_kinds limits types names d
+      let known = known_of limits given types d in
+      first _ _ (no_own e refl given d) ∙ first _ _ (no_tables e refl refl refl refl refl limits d) ∙ last _ _ (no_level known e refl refl refl d)
+      ∙ mixed_kinds known d
 
   template_known : these UnknownTemplate ≡ has_fault limits given types d UnknownTemplate
   template_known =
       let e = UnknownTemplate in
-      let names = prefixes_of d in
+      let known = known_of limits given types d in
       first _ _ (no_own e refl given d)
-      ∙ last _ _ (nor _ _ (no_level limits types names e refl refl refl d) (no_templates limits types names e refl refl refl refl refl refl refl d))
+      ∙ last _ _ (nor _ _ (no_level known e refl refl refl d) (no_templates known e refl refl refl refl refl refl refl d))
       ∙ unknown_templates limits d
 
   column_known : these UnknownColumn ≡ has_unknown_column d
   unfolding has_unknown_column
   column_known =
       let e = UnknownColumn in
-      let names = prefixes_of d in
-      first _ _ (no_own e refl given d) ∙ first _ _ (no_tables e refl refl refl refl refl limits d) ∙ last _ _ (no_level limits types names e refl refl refl d)
-      ∙ unknown_columns limits types names d
+      let known = known_of limits given types d in
+      first _ _ (no_own e refl given d) ∙ first _ _ (no_tables e refl refl refl refl refl limits d) ∙ last _ _ (no_level known e refl refl refl d)
+      ∙ unknown_columns known d
 
   dimensions : these BadDimension ≡ has_bad_dimensions types d
   unfolding has_bad_dimensions
   dimensions =
       let e = BadDimension in
-      let names = prefixes_of d in
+      let known = known_of limits given types d in
       first _ _ (no_own e refl given d) ∙ first _ _ (no_tables e refl refl refl refl refl limits d)
-      ∙ or-same _ _ _ _ (dimension_level limits types names d) (template_dimensions limits types names d)
+      ∙ or-same _ _ _ _ (dimension_level known d) (template_dimensions known d)
 
   decimals : these BadDecimals ≡ has_bad_decimals d
   unfolding has_bad_decimals
   decimals =
       let e = BadDecimals in
-      let names = prefixes_of d in
+      let known = known_of limits given types d in
       first _ _ (no_own e refl given d) ∙ first _ _ (no_tables e refl refl refl refl refl limits d)
-      ∙ or-same _ _ _ _ (decimals_level limits types names d) (template_decimals limits types names d)
+      ∙ or-same _ _ _ _ (decimals_level known d) (template_decimals known d)
 
   parameters : these BadParameter ≡ has_bad_parameter given d
   unfolding has_bad_parameter
   parameters =
       let e = BadParameter in
-      let names = prefixes_of d in
+      let known = known_of limits given types d in
       or-same _ _ _ _
-      (last _ _ (nor _ _ (no_level limits types names e refl refl refl d) (no_templates limits types names e refl refl refl refl refl refl refl d))
+      (last _ _ (nor _ _ (no_level known e refl refl refl d) (no_templates known e refl refl refl refl refl refl refl d))
       ∙ table_parameters limits d) (own_parameters given d)
       ∙ parameter_order (any_member (λ _ t. has_bad_parameters t) (section (codes "tables") d)) (has_bad_parameters d)
       (any_member (is_given given) (section (codes "parameters") d)) (has_bad_parameter_url d)
@@ -134,15 +133,15 @@ module _ (limits : Limits) (given : ParametersValue) (types : TypesValue) (d : D
   unfolding has_too_many
   counts =
       let e = TooLarge in
-      let names = prefixes_of d in
+      let known = known_of limits given types d in
       first _ _ (no_own e refl given d)
-      ∙ or-same _ _ _ _ (last _ _ (no_level limits types names e refl refl refl d) ∙ too_many_columns limits types names d) (too_many_tables limits d)
+      ∙ or-same _ _ _ _ (last _ _ (no_level known e refl refl refl d) ∙ too_many_columns known d) (too_many_tables limits d)
       ∙ or-swap (any_member (has_too_many_columns limits.columns) (section (codes "tableTemplates") d)) (nat_lt limits.tables (count_of (section (codes "tables") d)))
 
   -- a fault that no part has
   never : (e : MetaFault) → w e BadIdentifier ≡ false → w e BadTemplate ≡ false → w e ColumnKinds ≡ false → w e UnknownTemplate ≡ false → w e UnknownColumn ≡ false
       → w e BadDimension ≡ false → w e BadDecimals ≡ false → w e BadParameter ≡ false → w e TooLarge ≡ false → these e ≡ false
-  never e i s k t u m c p l = no_parts limits given types (prefixes_of d) e i s k t u m c p l d
+  never e i s k t u m c p l = no_parts (known_of limits given types d) e i s k t u m c p l d
 
   by_fault : (e : MetaFault) → (document e d || these e) ≡ has_fault limits given types d e
   by_fault Syntax = nor _ _ (no_document Syntax refl refl refl refl d) (never Syntax refl refl refl refl refl refl refl refl refl)
@@ -166,7 +165,7 @@ module _ (limits : Limits) (given : ParametersValue) (types : TypesValue) (d : D
   -- a walk finds a fault exactly where the test for it passes
   pub all_found : (e : MetaFault) → has e (in_metadata limits given types d) ≡ has_fault limits given types d e
   unfolding in_metadata
-  all_found e = two e _ _ _ _ (find_document e d) (find_parts limits given types (prefixes_of d) e d) ∙ by_fault e
+  all_found e = two e _ _ _ _ (find_document e d) (find_parts (known_of limits given types d) e d) ∙ by_fault e
 
   -- the faults of the document have numbers up to 5, and those of the parts greater ones
   low : (e : MetaFault) → document e d ≡ true → fault_number e ≤ 5
@@ -208,8 +207,8 @@ module _ (limits : Limits) (given : ParametersValue) (types : TypesValue) (d : D
   high Read h = absurd (omega (arith, h))
 
   -- the parts have no fault with a lower number than one of the document
-  pub parts_are_later : (f e : MetaFault) → has f (in_document d) ≡ true → fault_number e < fault_number f → has e (in_parts limits given types (prefixes_of d) d) ≡ false
+  pub parts_are_later : (f e : MetaFault) → has f (in_document d) ≡ true → fault_number e < fault_number f → has e (in_parts (known_of limits given types d) d) ≡ false
   parts_are_later f e found less =
       let up = low f (sym (find_document f d) ∙ found) in
       let far : fault_number e < 5 = omega (arith, up, less) in
-      find_parts limits given types (prefixes_of d) e d ∙ high e far
+      find_parts (known_of limits given types d) e d ∙ high e far

@@ -17,12 +17,13 @@ use Rattle.oim_cells.specs.Cells.{Meaning, meaning_of}
 use Rattle.oim_cells.specs.Cells as meaning
 use Rattle.oim_report.specs.declared.kind.Kind.{Kind}
 use Rattle.oim_report.specs.declared.kind.Kind.TheVariants as kind
+use Rattle.oim_report.specs.declared.data.Side.{Side}
 use Rattle.oim_report.specs.declared.data.Side.TheVariants.{Whole, Start, End}
 use Rattle.oim_report.specs.declared.data.Written.{Written}
 use Rattle.oim_report.specs.declared.data.Written.TheVariants.{Text}
-use Rattle.oim_meta.specs.BadDimensions.{is_bad_meaning, front_name, name_in, is_bad_reference, is_bad_by_dollar, is_bad_text}
+use Rattle.oim_meta.specs.BadDimensions.{is_bad_meaning, is_bad_reference, is_bad_by_dollar, is_bad_text}
 use Rattle.oim_meta.specs.Writes.{IsLiteral, absent, nil, empty, text, Writes, literal, doubled, reference, at_start, at_end}
-use Rattle.oim_meta.specs.Written.{strip_front, strip_back, named, or_whole, reference_of, literal_by, unless_dollar, by_dollar, written_of}
+use Rattle.oim_meta.specs.Written.{strip_front, strip_back, named, or_whole, name_and_side, reference_of, literal_by, unless_dollar, by_dollar, written_of}
 
 -- a text without a mark, and with it
 lacks_not : (m : ℕ) (a b : List ℕ) → Lacks m (a ++ m ∷ b) → ⊥
@@ -144,41 +145,36 @@ end_not_start name = by (strip_back (codes "@start") (name ++ codes "@end")) ref
         absurd (omega (arith, same))
 
 -- a reference by its name
-name_whole : (key name : List ℕ) → is_identifier name ≡ true → (name_in key name ≡ name) × (reference_of key name ≡ named name Whole)
-unfolding name_in reference_of
+name_whole : (key name : List ℕ) → is_identifier name ≡ true → name_and_side key name ≡ (name, Whole)
+unfolding name_and_side
 name_whole key name h = by (bytes_eq key (codes "period")) (back_lacks 64 (codes "start") name (lacks_at name h)) (back_lacks 64 (codes "end") name (lacks_at name h))
   where
     by : (b : Bool) → strip_back (codes "@start") name ≡ None → strip_back (codes "@end") name ≡ None
-        → ((if b then front_name name (strip_back (codes "@start") name) (strip_back (codes "@end") name) else name) ≡ name)
-        × ((if b then or_whole name (strip_back (codes "@start") name) (strip_back (codes "@end") name) else named name Whole) ≡ named name Whole)
-    by true s e = (rw (s, e) refl, rw (s, e) refl)
-    by false s e = (refl, refl)
+        → (if b then or_whole name (strip_back (codes "@start") name) (strip_back (codes "@end") name) else (name, Whole)) ≡ (name, Whole)
+    by true s e = rw (s, e) refl
+    by false s e = refl
 
-name_at_start : (name : List ℕ)
-    → (name_in (codes "period") (name ++ codes "@start") ≡ name) × (reference_of (codes "period") (name ++ codes "@start") ≡ named name Start)
-unfolding name_in reference_of
-name_at_start name = let s = back_some (codes "@start") name in (rw s refl, rw s refl)
+name_at_start : (name : List ℕ) → name_and_side (codes "period") (name ++ codes "@start") ≡ (name, Start)
+unfolding name_and_side
+name_at_start name = rw (back_some (codes "@start") name) refl
 
-name_at_end : (name : List ℕ)
-    → (name_in (codes "period") (name ++ codes "@end") ≡ name) × (reference_of (codes "period") (name ++ codes "@end") ≡ named name End)
-unfolding name_in reference_of
-name_at_end name =
-    let s = end_not_start name in
-    let e = back_some (codes "@end") name in
-    (rw (s, e) refl, rw (s, e) refl)
+name_at_end : (name : List ℕ) → name_and_side (codes "period") (name ++ codes "@end") ≡ (name, End)
+unfolding name_and_side
+name_at_end name = rw (end_not_start name, back_some (codes "@end") name) refl
 
 -- a reference that is a name, perhaps with a side, is not bad
 IsGood : Option Kind → List ℕ → List ℕ → Written → Type 0
 IsGood kind key t value = (is_bad_text kind key t ≡ false) × (written_of key t ≡ value)
 
-by_name : (kind : Option Kind) (key rest name : List ℕ) (value : Written) → Lacks 36 rest → name_in key rest ≡ name → reference_of key rest ≡ value
-    → is_identifier name ≡ true → IsGood kind key (codes "$" ++ rest) value
+by_name : (kind : Option Kind) (key rest name : List ℕ) (side : Side) → Lacks 36 rest → name_and_side key rest ≡ (name, side) → is_identifier name ≡ true
+    → IsGood kind key (codes "$" ++ rest) (named name side)
 unfolding IsGood
-by_name kind key rest name value l n r h =
+by_name kind key rest name side l n h =
     let one = front_some (codes "$") rest in
     let two = front_lacks 36 [] rest l in (
-      ap (is_bad_by_dollar kind key (codes "$" ++ rest)) one ∙ ap (is_bad_reference key rest) two ∙ rw (n, h) refl,
-      ap (by_dollar key (codes "$" ++ rest)) one ∙ ap (unless_dollar key rest) two ∙ r,
+      ap (is_bad_by_dollar kind key (codes "$" ++ rest)) one ∙ ap (is_bad_reference key rest) two
+          ∙ ap (λ (r : List ℕ × Side). not (is_identifier r.0)) n ∙ ap not h,
+      ap (by_dollar key (codes "$" ++ rest)) one ∙ ap (unless_dollar key rest) two ∙ ap (λ (r : List ℕ × Side). named r.0 r.1) n,
     )
 
 good_literal : {kind : Option Kind} {m : Meaning} {value : Written} → IsLiteral kind m value → (is_bad_meaning kind m ≡ false) × (literal_by m ≡ value)
@@ -199,15 +195,13 @@ writes_good (doubled kind key rest) =
       ap (is_bad_by_dollar kind key (codes "$$" ++ rest)) one ∙ ap (is_bad_reference key (codes "$" ++ rest)) two,
       ap (by_dollar key (codes "$$" ++ rest)) one ∙ ap (unless_dollar key (codes "$" ++ rest)) two,
     )
-writes_good (reference kind key name h) = let n = name_whole key name h in by_name kind key name name (named name Whole) (lacks_dollar name h) n.0 n.1 h
+writes_good (reference kind key name h) = by_name kind key name name Whole (lacks_dollar name h) (name_whole key name h) h
 writes_good (at_start kind name h) =
-    let n = name_at_start name in
     let l = lacks_joined 36 name (codes "@start") (lacks_dollar name h) (refl, (refl, (refl, (refl, (refl, (refl, tt)))))) in
-    by_name kind (codes "period") (name ++ codes "@start") name (named name Start) l n.0 n.1 h
+    by_name kind (codes "period") (name ++ codes "@start") name Start l (name_at_start name) h
 writes_good (at_end kind name h) =
-    let n = name_at_end name in
     let l = lacks_joined 36 name (codes "@end") (lacks_dollar name h) (refl, (refl, (refl, (refl, tt)))) in
-    by_name kind (codes "period") (name ++ codes "@end") name (named name End) l n.0 n.1 h
+    by_name kind (codes "period") (name ++ codes "@end") name End l (name_at_end name) h
 
 -- a text that is not bad writes what the functions say
 literal_from : (k : Option Kind) (m : Meaning) → is_bad_meaning k m ≡ false → IsLiteral k m (literal_by m)
@@ -218,31 +212,33 @@ literal_from k (meaning.Text t) h = text k t
 literal_from k m h = absurd cc
 
 sides_from : (k : Option Kind) (rest : List ℕ) (s e : Option (List ℕ)) → strip_back (codes "@start") rest ≡ s → strip_back (codes "@end") rest ≡ e
-    → is_identifier (front_name rest s e) ≡ true → Writes k (codes "period") (codes "$" ++ rest) (or_whole rest s e)
+    → is_identifier (or_whole rest s e).0 ≡ true → Writes k (codes "period") (codes "$" ++ rest) (named (or_whole rest s e).0 (or_whole rest s e).1)
 sides_from k rest (Some front) e p q h =
     subst (λ t. Writes k (codes "period") (codes "$" ++ t) (named front Start)) (sym (back_is (codes "@start") rest front p)) (at_start k front h)
 sides_from k rest None (Some front) p q h =
     subst (λ t. Writes k (codes "period") (codes "$" ++ t) (named front End)) (sym (back_is (codes "@end") rest front q)) (at_end k front h)
 sides_from k rest None None p q h = reference k (codes "period") rest h
 
-reference_from : (k : Option Kind) (key rest : List ℕ) → is_identifier (name_in key rest) ≡ true → Writes k key (codes "$" ++ rest) (reference_of key rest)
-unfolding name_in reference_of
+-- the name and the side, by whether there may be one
+abbrev parts : List ℕ → Bool → List ℕ × Side
+parts rest b = if b then or_whole rest (strip_back (codes "@start") rest) (strip_back (codes "@end") rest) else (rest, Whole)
+
+reference_from : (k : Option Kind) (key rest : List ℕ) → is_identifier (name_and_side key rest).0 ≡ true → Writes k key (codes "$" ++ rest) (reference_of key rest)
+unfolding name_and_side
 reference_from k key rest h = by (bytes_eq key (codes "period")) refl h
   where
-    by : (b : Bool) → bytes_eq key (codes "period") ≡ b
-        → is_identifier (if b then front_name rest (strip_back (codes "@start") rest) (strip_back (codes "@end") rest) else rest) ≡ true
-        → Writes k key (codes "$" ++ rest) (if b then or_whole rest (strip_back (codes "@start") rest) (strip_back (codes "@end") rest) else named rest Whole)
+    by : (b : Bool) → bytes_eq key (codes "period") ≡ b → is_identifier (parts rest b).0 ≡ true
+        → Writes k key (codes "$" ++ rest) (named (parts rest b).0 (parts rest b).1)
     by true e i =
         let w = sides_from k rest (strip_back (codes "@start") rest) (strip_back (codes "@end") rest) refl refl i in
-        subst (λ y. Writes k y (codes "$" ++ rest) (or_whole rest (strip_back (codes "@start") rest) (strip_back (codes "@end") rest)))
-        (sym ((bytes_eq-Decides key (codes "period")).0 e)) w
+        subst (λ y. Writes k y (codes "$" ++ rest) (named (parts rest true).0 (parts rest true).1)) (sym ((bytes_eq-Decides key (codes "period")).0 e)) w
     by false e i = reference k key rest i
 
 dollar_from : (k : Option Kind) (key rest : List ℕ) (o : Option (List ℕ)) → strip_front (codes "$") rest ≡ o → is_bad_reference key rest o ≡ false
     → Writes k key (codes "$" ++ rest) (unless_dollar key rest o)
 dollar_from k key rest (Some more) e h =
     subst (λ t. Writes k key (codes "$" ++ t) (Text t)) (sym (front_is (codes "$") rest more e)) (doubled k key more)
-dollar_from k key rest None e h = reference_from k key rest (by (is_identifier (name_in key rest)) h)
+dollar_from k key rest None e h = reference_from k key rest (by (is_identifier (name_and_side key rest).0) h)
   where
     by : (b : Bool) → not b ≡ false → b ≡ true
     by true g = refl

@@ -1,5 +1,5 @@
 -- Decimals that are not well-formed (xBRL-CSV 1.0: decimals).
-use Rattle.std.specs.Prelude.{ℕ, List, Bool, not, ◌||◌, ◌&&◌, bytes_eq, Option, Some, None, is_some, option_map, unwrap_or, codes, false}
+use Rattle.std.specs.Prelude.{ℕ, List, Bool, not, ◌||◌, ◌&&◌, bytes_eq, Option, Some, None, is_some, codes}
 use Rattle.serde_json.specs.Data.{Data}
 use Rattle.serde_json.specs.Find.{get, as_str}
 use Rattle.oim_cells.specs.Cells.{accuracy_of}
@@ -20,7 +20,7 @@ is_decimals_text s = is_decimals_by_dollar s (strip_front (codes "$") s)
 
 -- a whole number of 32 bits, or such a text
 unfoldable pub is_decimals : Data → Bool
-is_decimals d = is_some (whole_of d) || unwrap_or (option_map is_decimals_text (as_str d)) false
+is_decimals d = is_some (whole_of d) || if_there is_decimals_text (as_str d)
 
 -- decimals of one level that are not well-formed
 abbrev pub has_bad_decimals_there : Data → Bool

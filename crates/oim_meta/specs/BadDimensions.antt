@@ -1,5 +1,5 @@
 -- Dimensions that are not well-formed (xBRL-CSV 1.0: dimensions and their values; special values; references).
-use Rattle.std.specs.Prelude.{ℕ, List, Bool, true, false, not, ◌||◌, ◌&&◌, bytes_eq, Option, Some, None, option_and_then, codes, if◌then◌else◌}
+use Rattle.std.specs.Prelude.{ℕ, List, Bool, true, false, not, ◌||◌, ◌&&◌, bytes_eq, Option, Some, None, option_and_then, codes}
 use Rattle.serde_json.specs.Data.{Data}
 use Rattle.oim_names.specs.Bindings.{Bindings}
 use Rattle.oim_names.specs.Names.{is_identifier}
@@ -12,7 +12,7 @@ use Rattle.oim_report.specs.declared.kind.Kind.TheVariants.{Number, Text, Boolea
 use Rattle.oim_meta.specs.Members.{is_text, text_of, section, any_member}
 use Rattle.oim_meta.specs.Levels.{any_level}
 use Rattle.oim_meta.specs.Prefixes.{prefixes_of}
-use Rattle.oim_meta.specs.Written.{strip_front, strip_back}
+use Rattle.oim_meta.specs.Written.{strip_front, name_and_side}
 
 -- a core dimension
 abbrev pub is_core : List ℕ → Bool
@@ -53,19 +53,10 @@ is_bad_meaning kind meaning.Empty = not (is_typed kind)
 is_bad_meaning kind (meaning.Text t) = false
 is_bad_meaning kind meaning.Unknown = true
 
-abbrev pub front_name : List ℕ → Option (List ℕ) → Option (List ℕ) → List ℕ
-front_name name (Some front) end = front
-front_name name None (Some front) = front
-front_name name None None = name
-
--- the name in a reference; only at the key period can it have a side
-unfoldable pub name_in : List ℕ → List ℕ → List ℕ
-name_in key name = if bytes_eq key (codes "period") then front_name name (strip_back (codes "@start") name) (strip_back (codes "@end") name) else name
-
 -- after a dollar sign: a second one begins a literal text; anything else must be a reference
 abbrev pub is_bad_reference : List ℕ → List ℕ → Option (List ℕ) → Bool
 is_bad_reference key rest (Some doubled) = false
-is_bad_reference key rest None = not (is_identifier (name_in key rest))
+is_bad_reference key rest None = not (is_identifier (name_and_side key rest).0)
 
 abbrev pub is_bad_by_dollar : Option Kind → List ℕ → List ℕ → Option (List ℕ) → Bool
 is_bad_by_dollar kind key s (Some rest) = is_bad_reference key rest (strip_front (codes "$") rest)

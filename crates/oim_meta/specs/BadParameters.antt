@@ -1,11 +1,11 @@
 -- Parameters that are not well-formed (xBRL-CSV 1.0: parameters of report and tables, parameterURL).
-use Rattle.std.specs.Prelude.{ℕ, List, Bool, true, not, ◌||◌, is_some, option_map, unwrap_or, codes}
+use Rattle.std.specs.Prelude.{ℕ, List, Bool, not, ◌||◌, is_some, codes}
 use Rattle.serde_json.specs.Data.{Data}
 use Rattle.serde_json.specs.Find.{get, as_str}
 use Rattle.oim_names.specs.Lookup.{value_at}
 use Rattle.oim_names.specs.Names.{is_identifier}
 use Rattle.oim_report.specs.Parameters.{ParametersValue}
-use Rattle.oim_meta.specs.Members.{is_text, section, any_member, if_there, no_object_or}
+use Rattle.oim_meta.specs.Members.{is_text, section, any_member, if_there, no_object_or, absent_or}
 use Rattle.oim_names.specs.PlainPath.{is_plain_path}
 
 -- a name that is not an identifier, or a value that is not a text
@@ -22,7 +22,7 @@ is_given given name _ = is_some (value_at name given)
 
 -- a value that is not a text of a plain path
 abbrev pub is_no_plain_path : Data → Bool
-is_no_plain_path d = unwrap_or (option_map (λ path. not (is_plain_path path)) (as_str d)) true
+is_no_plain_path d = absent_or (λ path. not (is_plain_path path)) (as_str d)
 
 -- the parameters file's name is not a plain path
 unfoldable pub has_bad_parameter_url : Data → Bool

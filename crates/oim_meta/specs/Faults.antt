@@ -1,16 +1,16 @@
 -- The faults of a metadata's document, templates and tables (xBRL-CSV 1.0: documentInfo, table templates, columns, tables).
 -- What is not an object has no members, and what is not a list no items, so nothing is wrong inside it.
-use Rattle.std.specs.Prelude.{ℕ, List, [], Bool, true, false, not, ◌||◌, ◌&&◌, bytes_eq, Option, option_map, option_and_then, unwrap_or, is_some, is_none, codes}
+use Rattle.std.specs.Prelude.{ℕ, List, [], Bool, true, not, ◌||◌, ◌&&◌, bytes_eq, Option, option_and_then, unwrap_or, is_some, is_none, codes}
 use Rattle.serde_json.specs.Data.{Data, Items, Members}
 use Rattle.serde_json.specs.Find.{get, as_array, as_bool}
 use Rattle.oim_names.specs.Names.{is_identifier, is_ncname}
-use Rattle.oim_meta.specs.Members.{is_text, is_object, text_at, section, any_member, any_item, if_there, no_object_or}
+use Rattle.oim_meta.specs.Members.{is_text, is_object, text_at, flag_at, section, any_member, any_item, if_there, no_object_or, absent_or}
 use Rattle.oim_meta.specs.Order.{repeats_text}
 use Rattle.oim_names.specs.PlainPath.{is_plain_path}
 
 -- documentType is that of xBRL-CSV
 abbrev pub is_csv : Data → Bool
-is_csv i = unwrap_or (option_map (λ t. bytes_eq t (codes "https://xbrl.org/2021/xbrl-csv")) (text_at (codes "documentType") i)) false
+is_csv i = if_there (λ t. bytes_eq t (codes "https://xbrl.org/2021/xbrl-csv")) (text_at (codes "documentType") i)
 
 -- 2: documentInfo or its documentType is absent or another
 unfoldable pub has_no_report : Data → Bool
@@ -27,21 +27,28 @@ has_bad_prefix ms = any_member is_bad_prefix ms || repeats_text ms
 unfoldable pub has_bad_namespaces : Data → Bool
 has_bad_namespaces i = if_there (no_object_or has_bad_prefix) (get (codes "namespaces") i)
 
+abbrev pub is_no_text : Data → Bool
+is_no_text d = not (is_text d)
+
 -- some item is not a text
 abbrev pub has_no_text : Items → Bool
-has_no_text = any_item (λ d. not (is_text d))
+has_no_text = any_item is_no_text
 
 -- a value that is not a list of texts
 abbrev pub is_no_texts : Data → Bool
-is_no_texts d = unwrap_or (option_map has_no_text (as_array d)) true
+is_no_texts d = absent_or has_no_text (as_array d)
+
+-- taxonomy is absent or not a list of texts
+abbrev pub lacks_taxonomy : Data → Bool
+lacks_taxonomy i = absent_or is_no_texts (get (codes "taxonomy") i)
 
 -- 4, in documentInfo: taxonomy is absent or not a list of texts, or baseURL is not a text
 unfoldable pub has_bad_taxonomy : Data → Bool
-has_bad_taxonomy i = unwrap_or (option_map is_no_texts (get (codes "taxonomy") i)) true || if_there (λ d. not (is_text d)) (get (codes "baseURL") i)
+has_bad_taxonomy i = lacks_taxonomy i || if_there is_no_text (get (codes "baseURL") i)
 
 -- a value that is not an empty list
 abbrev pub is_no_empty_list : Data → Bool
-is_no_empty_list d = unwrap_or (option_map (any_item (λ _. true)) (as_array d)) true
+is_no_empty_list d = absent_or (any_item (λ _. true)) (as_array d)
 
 abbrev pub is_anything : List ℕ → Data → Bool
 is_anything _ _ = true
@@ -70,9 +77,6 @@ any_column p d = any_member (λ _ template. any_member p (section (codes "column
 unfoldable pub has_bad_identifier : Data → Bool
 has_bad_identifier d =
     any_member is_bad_key (section (codes "tableTemplates") d) || any_member is_bad_key (section (codes "tables") d) || any_column is_bad_key d
-
-abbrev pub is_no_text : Data → Bool
-is_no_text d = not (is_text d)
 
 abbrev pub is_no_object : Data → Bool
 is_no_object d = not (is_object d)
@@ -105,7 +109,7 @@ is_bad_column _ c =
 
 -- columns is absent or not an object, or a column has the wrong shape
 abbrev pub has_bad_columns : Data → Bool
-has_bad_columns t = unwrap_or (option_map (no_object_or (any_member is_bad_column)) (get (codes "columns") t)) true
+has_bad_columns t = absent_or (no_object_or (any_member is_bad_column)) (get (codes "columns") t)
 
 -- a template of the wrong shape; a value that is not an object has no columns
 abbrev pub is_bad_template : List ℕ → Data → Bool
@@ -113,7 +117,7 @@ is_bad_template _ t = has_bad_columns t || has_bad_section t || if_there is_no_t
 
 -- url is absent or not a plain path
 abbrev pub lacks_url : Data → Bool
-lacks_url t = unwrap_or (option_map (λ url. not (is_plain_path url)) (text_at (codes "url") t)) true
+lacks_url t = absent_or (λ url. not (is_plain_path url)) (text_at (codes "url") t)
 
 -- a table of the wrong shape; a value that is not an object has no url
 abbrev pub is_bad_table : List ℕ → Data → Bool
@@ -129,7 +133,7 @@ abbrev pub is_groups : Data → Bool
 is_groups c = is_some (get (codes "propertyGroups") c)
 
 abbrev pub is_comment : Data → Bool
-is_comment c = if_there (λ d. unwrap_or (as_bool d) false) (get (codes "comment") c)
+is_comment c = flag_at (codes "comment") c
 
 -- a column of two or three kinds
 abbrev pub is_mixed_column : List ℕ → Data → Bool

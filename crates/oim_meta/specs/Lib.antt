@@ -17,6 +17,7 @@ pub mod Counts
 pub mod UnknownColumn
 pub mod FirstFault
 pub mod FaultOrder
+pub mod Known
 pub mod Walk
 pub mod WalkTables
 pub mod WalkReport

@@ -9,6 +9,10 @@ use Rattle.oim_meta.specs.Members.{text_of, section, map_members}
 abbrev pub bindings_of : Members → Bindings
 bindings_of = map_members (λ prefix uri. (prefix, text_of uri))
 
--- the prefixes that documentInfo gives
+-- the document information, or nothing
+abbrev pub document_info : Data → Data
+document_info d = unwrap_or (get (codes "documentInfo") d) null
+
+-- the prefixes that it gives
 abbrev pub prefixes_of : Data → Bindings
-prefixes_of d = bindings_of (section (codes "namespaces") (unwrap_or (get (codes "documentInfo") d) null))
+prefixes_of d = bindings_of (section (codes "namespaces") (document_info d))

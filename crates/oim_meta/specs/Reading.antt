@@ -73,7 +73,7 @@ IsUrlFaultOf d f = first_url_fault d ≡ Some f
 
 -- the name of the parameters file that the bytes say, if any
 abbrev pub SaysUrl : Limits → List ℕ → Option (List ℕ) → Type 0
-SaysUrl limits bytes url = (length bytes ≤ limits.metadata) × ((d : Data) × IsJson bytes d × (first_url_fault d ≡ None) × (url ≡ text_at (codes "parameterURL") d))
+SaysUrl limits bytes url = (length bytes ≤ limits.metadata) × ((d : Data) × IsJson bytes d × IsUrlOf d url)
 
 abbrev pub HasFirstUrlFault : Limits → List ℕ → MetaFault → Type 0
 HasFirstUrlFault limits bytes f = (length bytes ≤ limits.metadata) × ((d : Data) × IsJson bytes d × (first_url_fault d ≡ Some f))

@@ -1,6 +1,6 @@
 -- References to columns that a template does not define, or not as property group columns (xBRL-CSV 1.0: rowIdColumn and propertiesFrom). What is
 -- not an object has no members, and what is not a list no items.
-use Rattle.std.specs.Prelude.{ℕ, List, Bool, true, false, not, ◌||◌, ◌&&◌, Option, option_map, option_and_then, unwrap_or, is_none, codes}
+use Rattle.std.specs.Prelude.{ℕ, List, Bool, true, false, not, ◌||◌, ◌&&◌, Option, option_and_then, is_none, codes}
 use Rattle.serde_json.specs.Data.{Data}
 use Rattle.serde_json.specs.Find.{get, as_str}
 use Rattle.oim_report.specs.Readers.{holds_facts}
@@ -28,11 +28,11 @@ lacks_groups t name = not (if_there (λ c. is_groups (kind_of c)) (column_at t n
 
 -- rowIdColumn names no column
 abbrev pub has_unknown_row_id : Data → Bool
-has_unknown_row_id t = unwrap_or (option_map (lacks_column t) (text_at (codes "rowIdColumn") t)) false
+has_unknown_row_id t = if_there (lacks_column t) (text_at (codes "rowIdColumn") t)
 
 -- a text that names no property group column
 abbrev pub is_unknown_source : Data → Data → Bool
-is_unknown_source t d = unwrap_or (option_map (lacks_groups t) (as_str d)) false
+is_unknown_source t d = if_there (lacks_groups t) (as_str d)
 
 -- propertiesFrom of a fact column has a text that names no property group column
 abbrev pub has_unknown_source : Data → Data → Bool

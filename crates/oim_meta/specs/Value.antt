@@ -1,11 +1,12 @@
 -- The report that a metadata without faults spells out (xBRL-CSV 1.0: metadata, table templates,
 -- columns and tables). The members of a JSON object are in byte order of name.
-use Rattle.std.specs.Prelude.{ℕ, suc, List, [], ◌∷◌, ◌++◌, Bool, false, bytes_eq, nat_eq, fold, Option, Some, None, option_map, option_and_then, unwrap_or, is_some, codes, if◌then◌else◌}
+use Rattle.std.specs.Prelude.{ℕ, suc, List, [], ◌∷◌, ◌++◌, bytes_eq, nat_eq, fold, Option, Some, None, option_map, unwrap_or, codes, if◌then◌else◌}
 use Rattle.std.specs.List.{list_any}
-use Rattle.serde_json.specs.Data.{Data, null, Items, Members, no_members, member}
-use Rattle.serde_json.specs.Find.{get, as_bool, as_str}
+use Rattle.serde_json.specs.Data.{Data, Items, Members, no_members, member}
+use Rattle.serde_json.specs.Find.{get, as_str}
 use Rattle.oim_report.specs.Types.{TypesValue}
 use Rattle.oim_report.specs.Parameters.{ParametersValue}
+use Rattle.oim_report.specs.Readers.{no_level}
 use Rattle.oim_report.specs.ReportValue.{ReportValue}
 use Rattle.oim_report.specs.declared.data.Info.{Info}
 use Rattle.oim_report.specs.declared.data.Level.{Level}
@@ -15,15 +16,11 @@ use Rattle.oim_report.specs.declared.data.ColumnKind.TheVariants.{Fact, Groups, 
 use Rattle.oim_report.specs.declared.data.Table.{Table}
 use Rattle.oim_report.specs.declared.data.Template.{Template}
 use Rattle.oim_report.specs.declared.data.Written.{Written}
-use Rattle.oim_meta.specs.Members.{text_of, text_at, section, items_at, map_members, map_items}
-use Rattle.oim_meta.specs.Faults.{template_name}
-use Rattle.oim_meta.specs.Prefixes.{prefixes_of}
+use Rattle.oim_meta.specs.Members.{text_of, text_at, flag_at, section, items_at, map_members, map_items}
+use Rattle.oim_meta.specs.Faults.{is_fact, is_groups, is_comment, template_name}
+use Rattle.oim_meta.specs.Prefixes.{document_info, prefixes_of}
 use Rattle.oim_meta.specs.Written.{written_of}
 use Rattle.oim_meta.specs.Decimals.{decimals_of}
-
--- the truth value at a key; false if there is none
-abbrev pub flag_at : List ℕ → Data → Bool
-flag_at k d = unwrap_or (option_and_then as_bool (get k d)) false
 
 -- a name with its text
 abbrev pub named_text : List ℕ → Data → List ℕ × List ℕ
@@ -38,9 +35,6 @@ level_of d = record { dimensions = map_members named_dimension (section (codes "
 
 abbrev pub named_level : List ℕ → Data → List ℕ × Level
 named_level name d = (name, level_of d)
-
-abbrev pub nothing_written : Level
-nothing_written = record { dimensions = []; decimals = None }
 
 -- the place of a name among members, counted from 0
 abbrev pub place_of : List ℕ → Members → ℕ
@@ -62,17 +56,17 @@ places_of columns names = fold (add_place columns) [] (map_items as_str names)
 -- a column with dimensions, even empty, is a fact column; else one with propertyGroups is a property group column
 abbrev pub kind_of : Data → ColumnKind
 kind_of c =
-    if is_some (get (codes "dimensions") c) then Fact
-    else if is_some (get (codes "propertyGroups") c) then Groups
-    else if flag_at (codes "comment") c then Comment
+    if is_fact c then Fact
+    else if is_groups c then Groups
+    else if is_comment c then Comment
     else Plain
 
 -- what a column writes; only that of a fact column is read
 abbrev pub column_level : ColumnKind → Data → Level
 column_level Fact c = level_of c
-column_level Groups c = nothing_written
-column_level Comment c = nothing_written
-column_level Plain c = nothing_written
+column_level Groups c = no_level
+column_level Comment c = no_level
+column_level Plain c = no_level
 
 abbrev pub groups_of : ColumnKind → Data → List (List ℕ × Level)
 groups_of Fact c = []
@@ -117,9 +111,6 @@ tables_of d = map_members (table_of (section (codes "tableTemplates") d)) (secti
 
 abbrev pub templates_of : Data → List Template
 templates_of d = map_members template_of (section (codes "tableTemplates") d)
-
-abbrev pub document_info : Data → Data
-document_info d = unwrap_or (get (codes "documentInfo") d) null
 
 abbrev pub info_of : Data → Info
 info_of i = record { base_url = text_at (codes "baseURL") i; taxonomy = map_items text_of (items_at (codes "taxonomy") i) }

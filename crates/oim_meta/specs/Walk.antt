@@ -1,15 +1,13 @@
 -- What is wrong with each part of a metadata, and where, in the order of the walk (xBRL-CSV 1.0: table templates, columns, property groups,
 -- dimensions and decimals). What is not an object has no members, and what is not a list no items, so nothing is found inside it.
-use Rattle.std.specs.Prelude.{ℕ, List, [], ◌∷◌, ◌++◌, Bool, true, not, ◌||◌, ◌&&◌, bytes_eq, unwrap_or, option_map, codes}
+use Rattle.std.specs.Prelude.{ℕ, List, [], ◌∷◌, ◌++◌, Bool, not, ◌||◌, ◌&&◌, bytes_eq, codes}
 use Rattle.serde_json.specs.Data.{Data, Members, no_members, member}
 use Rattle.serde_json.specs.Find.{get}
-use Rattle.oim_names.specs.Bindings.{Bindings}
 use Rattle.oim_names.specs.Names.{is_identifier}
 use Rattle.oim_entries.specs.declared.fault.MetaFault.TheVariants.{BadIdentifier, BadTemplate, ColumnKinds, UnknownColumn, BadDimension, BadDecimals, TooLarge}
 use Rattle.oim_meta.specs.declared.findings.Finding.{Finding}
-use Rattle.oim_report.specs.declared.limits.Limits.{Limits}
-use Rattle.oim_report.specs.Types.{TypesValue}
-use Rattle.oim_meta.specs.Members.{section, if_there}
+use Rattle.oim_meta.specs.Known.{Known}
+use Rattle.oim_meta.specs.Members.{section, if_there, absent_or}
 use Rattle.oim_meta.specs.Faults.{is_no_object, is_no_flag, is_no_text, is_fact, is_mixed_column, has_bad_section, has_bad_sources}
 use Rattle.oim_meta.specs.BadDimensions.{is_bad_dimension}
 use Rattle.oim_meta.specs.BadDecimals.{has_bad_decimals_there}
@@ -24,27 +22,27 @@ in_members p no_members = []
 in_members p (member k d ms) = p k d ++ in_members p ms
 
 -- a dimension of the part at a path
-abbrev pub in_dimension : TypesValue → Bindings → Path → List ℕ → Data → List Finding
-in_dimension types names here key d = found BadDimension (here ++ codes "dimensions" ∷ key ∷ []) (is_bad_dimension types names key d)
+abbrev pub in_dimension : Known → Path → List ℕ → Data → List Finding
+in_dimension known here key d = found BadDimension (here ++ codes "dimensions" ∷ key ∷ []) (is_bad_dimension known.types known.names key d)
 
 -- the dimensions of a part
-unfoldable pub in_dimensions : TypesValue → Bindings → Path → Data → List Finding
-in_dimensions types names here d =
-    found BadTemplate (here ++ codes "dimensions" ∷ []) (has_bad_section d) ++ in_members (in_dimension types names here) (section (codes "dimensions") d)
+unfoldable pub in_dimensions : Known → Path → Data → List Finding
+in_dimensions known here d =
+    found BadTemplate (here ++ codes "dimensions" ∷ []) (has_bad_section d) ++ in_members (in_dimension known here) (section (codes "dimensions") d)
 
 -- what a level writes
-unfoldable pub in_level : TypesValue → Bindings → Path → Data → List Finding
-in_level types names here d = in_dimensions types names here d ++ found BadDecimals (here ++ codes "decimals" ∷ []) (has_bad_decimals_there d)
+unfoldable pub in_level : Known → Path → Data → List Finding
+in_level known here d = in_dimensions known here d ++ found BadDecimals (here ++ codes "decimals" ∷ []) (has_bad_decimals_there d)
 
 -- a property group of a column of a template
-unfoldable pub in_group : TypesValue → Bindings → List ℕ → List ℕ → List ℕ → Data → List Finding
-in_group types names t c name g = found BadTemplate (group_path t c name) (bytes_eq name [] || is_no_object g) ++ in_level types names (group_path t c name) g
+unfoldable pub in_group : Known → List ℕ → List ℕ → List ℕ → Data → List Finding
+in_group known t c name g = found BadTemplate (group_path t c name) (bytes_eq name [] || is_no_object g) ++ in_level known (group_path t c name) g
 
 -- the property groups of a column
-unfoldable pub in_groups : TypesValue → Bindings → List ℕ → List ℕ → Data → List Finding
-in_groups types names t c d =
+unfoldable pub in_groups : Known → List ℕ → List ℕ → Data → List Finding
+in_groups known t c d =
     found BadTemplate (column_path t c ++ codes "propertyGroups" ∷ []) (if_there is_no_object (get (codes "propertyGroups") d))
-    ++ in_members (in_group types names t c) (section (codes "propertyGroups") d)
+    ++ in_members (in_group known t c) (section (codes "propertyGroups") d)
 
 -- a column itself, apart from what it writes and takes
 unfoldable pub in_column_itself : List ℕ → List ℕ → Data → List Finding
@@ -61,18 +59,18 @@ in_sources t template name c =
     ++ found UnknownColumn (column_path t name ++ codes "propertiesFrom" ∷ []) (has_unknown_source template c)
 
 -- what a column writes; decimals are looked at only in a fact column
-unfoldable pub in_column_level : TypesValue → Bindings → Path → Data → List Finding
-in_column_level types names here c =
-    in_dimensions types names here c ++ found BadDecimals (here ++ codes "decimals" ∷ []) (is_fact c && has_bad_decimals_there c)
+unfoldable pub in_column_level : Known → Path → Data → List Finding
+in_column_level known here c =
+    in_dimensions known here c ++ found BadDecimals (here ++ codes "decimals" ∷ []) (is_fact c && has_bad_decimals_there c)
 
 -- a column of a template
-unfoldable pub in_column : TypesValue → Bindings → List ℕ → Data → List ℕ → Data → List Finding
-in_column types names t template name c =
-    in_column_itself t name c ++ in_sources t template name c ++ in_column_level types names (column_path t name) c ++ in_groups types names t name c
+unfoldable pub in_column : Known → List ℕ → Data → List ℕ → Data → List Finding
+in_column known t template name c =
+    in_column_itself t name c ++ in_sources t template name c ++ in_column_level known (column_path t name) c ++ in_groups known t name c
 
 -- columns is absent or not an object
 abbrev pub lacks_columns : Data → Bool
-lacks_columns t = unwrap_or (option_map is_no_object (get (codes "columns") t)) true
+lacks_columns t = absent_or is_no_object (get (codes "columns") t)
 
 -- a template itself, apart from what it writes and its columns
 unfoldable pub in_template_itself : List ℕ → Data → List Finding
@@ -83,18 +81,18 @@ in_template_itself name t =
     ++ found UnknownColumn (template_path name ++ codes "rowIdColumn" ∷ []) (has_unknown_row_id t)
 
 -- the columns of a template, and how many there are
-unfoldable pub in_columns : Limits → TypesValue → Bindings → List ℕ → Data → List Finding
-in_columns limits types names name t =
-    found TooLarge (template_path name ++ codes "columns" ∷ []) (has_too_many_columns limits.columns name t)
-    ++ in_members (in_column types names name t) (section (codes "columns") t)
+unfoldable pub in_columns : Known → List ℕ → Data → List Finding
+in_columns known name t =
+    found TooLarge (template_path name ++ codes "columns" ∷ []) (has_too_many_columns known.limits.columns name t)
+    ++ in_members (in_column known name t) (section (codes "columns") t)
 
 -- a table template
-unfoldable pub in_template : Limits → TypesValue → Bindings → List ℕ → Data → List Finding
-in_template limits types names name t =
-    in_template_itself name t ++ in_level types names (template_path name) t ++ in_columns limits types names name t
+unfoldable pub in_template : Known → List ℕ → Data → List Finding
+in_template known name t =
+    in_template_itself name t ++ in_level known (template_path name) t ++ in_columns known name t
 
 -- the templates of a metadata
-unfoldable pub in_templates : Limits → TypesValue → Bindings → Data → List Finding
-in_templates limits types names d =
+unfoldable pub in_templates : Known → Data → List Finding
+in_templates known d =
     found BadTemplate (codes "tableTemplates" ∷ []) (if_there is_no_object (get (codes "tableTemplates") d))
-    ++ in_members (in_template limits types names) (section (codes "tableTemplates") d)
+    ++ in_members (in_template known) (section (codes "tableTemplates") d)

@@ -1,17 +1,16 @@
 -- What is wrong with a metadata, and where, in the order of the walk (xBRL-CSV 1.0: documentInfo, links, metadata).
-use Rattle.std.specs.Prelude.{ℕ, List, [], ◌∷◌, ◌++◌, true, unwrap_or, option_map, Option, Some, None, codes}
+use Rattle.std.specs.Prelude.{ℕ, List, [], ◌∷◌, ◌++◌, Option, Some, None, codes}
 use Rattle.serde_json.specs.Data.{Data}
 use Rattle.serde_json.specs.Find.{get}
-use Rattle.oim_names.specs.Bindings.{Bindings}
 use Rattle.oim_entries.specs.declared.fault.MetaFault.TheVariants.{NotReport, BadNamespaces, BadTaxonomy, Unsupported}
 use Rattle.oim_meta.specs.declared.findings.Finding.{Finding}
 use Rattle.oim_report.specs.declared.limits.Limits.{Limits}
 use Rattle.oim_report.specs.Parameters.{ParametersValue}
 use Rattle.oim_report.specs.Types.{TypesValue}
+use Rattle.oim_meta.specs.Known.{Known, known_of}
 use Rattle.oim_meta.specs.Members.{section, if_there}
 use Rattle.oim_meta.specs.Order.{repeats_text}
-use Rattle.oim_meta.specs.Prefixes.{prefixes_of}
-use Rattle.oim_meta.specs.Faults.{has_no_report, is_bad_prefix, is_no_empty_list, is_no_empty_object, is_no_object, is_no_text, is_no_texts}
+use Rattle.oim_meta.specs.Faults.{has_no_report, is_bad_prefix, is_no_empty_list, is_no_empty_object, is_no_object, is_no_text, lacks_taxonomy}
 use Rattle.oim_meta.specs.Findings.{found}
 use Rattle.oim_meta.specs.Paths.{document_path}
 use Rattle.oim_meta.specs.Walk.{in_level, in_members, in_templates}
@@ -31,7 +30,7 @@ in_namespaces i =
 -- the document information apart from its type
 unfoldable pub in_info : Data → List Finding
 in_info i =
-    in_namespaces i ++ found BadTaxonomy (document_path ++ codes "taxonomy" ∷ []) (unwrap_or (option_map is_no_texts (get (codes "taxonomy") i)) true)
+    in_namespaces i ++ found BadTaxonomy (document_path ++ codes "taxonomy" ∷ []) (lacks_taxonomy i)
     ++ found BadTaxonomy (document_path ++ codes "baseURL" ∷ []) (if_there is_no_text (get (codes "baseURL") i))
     ++ found Unsupported (document_path ++ codes "extends" ∷ []) (if_there is_no_empty_list (get (codes "extends") i))
 
@@ -47,11 +46,10 @@ in_document d =
     ++ in_info_in (get (codes "documentInfo") d)
     ++ found Unsupported (codes "links" ∷ []) (if_there is_no_empty_object (get (codes "links") d))
 
--- the parts of a metadata with these prefixes: what the report itself writes, its templates, tables and parameters
-unfoldable pub in_parts : Limits → ParametersValue → TypesValue → Bindings → Data → List Finding
-in_parts limits given types names d =
-    in_level types names [] d ++ in_templates limits types names d ++ in_tables limits d ++ in_own_parameters given d
+-- the parts of a metadata: what the report itself writes, its templates, tables and parameters
+unfoldable pub in_parts : Known → Data → List Finding
+in_parts known d = in_level known [] d ++ in_templates known d ++ in_tables known.limits d ++ in_own_parameters known.given d
 
 -- a metadata
 unfoldable pub in_metadata : Limits → ParametersValue → TypesValue → Data → List Finding
-in_metadata limits given types d = in_document d ++ in_parts limits given types (prefixes_of d) d
+in_metadata limits given types d = in_document d ++ in_parts (known_of limits given types d) d

@@ -43,11 +43,14 @@ in_table_itself name t =
     ++ found BadTemplate (table_path name ++ codes "template" ∷ []) (if_there is_no_text (get (codes "template") t))
     ++ found BadTemplate (table_path name ++ codes "optional" ∷ []) (if_there is_no_flag (get (codes "optional") t))
 
+-- the template that a table names, by the templates of its report
+abbrev pub in_named_template : Option Data → List ℕ → Data → List Finding
+in_named_template templates name t = found UnknownTemplate (table_path name ++ codes "template" ∷ []) (lacks_template_of templates name t)
+
 -- a table, by the templates of its report
 unfoldable pub in_table : Option Data → List ℕ → Data → List Finding
 in_table templates name t =
-    in_table_itself name t ++ found UnknownTemplate (table_path name ++ codes "template" ∷ []) (lacks_template_of templates name t)
-    ++ in_parameters (table_path name) t
+    in_table_itself name t ++ in_named_template templates name t ++ in_parameters (table_path name) t
 
 -- the tables of a metadata, and how many there are
 unfoldable pub in_tables : Limits → Data → List Finding

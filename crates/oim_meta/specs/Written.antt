@@ -21,15 +21,19 @@ strip_back p s = if ends_with nat_eq s p then Some (take (length s - length p) s
 abbrev pub named : List ℕ → Side → Written
 named name side = if bytes_eq name (codes "rowNumber") then RowNumber side else Named name side
 
-abbrev pub or_whole : List ℕ → Option (List ℕ) → Option (List ℕ) → Written
-or_whole name (Some front) end = named front Start
-or_whole name None (Some front) = named front End
-or_whole name None None = named name Whole
+abbrev pub or_whole : List ℕ → Option (List ℕ) → Option (List ℕ) → List ℕ × Side
+or_whole text (Some front) end = (front, Start)
+or_whole text None (Some front) = (front, End)
+or_whole text None None = (text, Whole)
 
--- a reference without its dollar sign; only at the key period can it have a side
-unfoldable pub reference_of : List ℕ → List ℕ → Written
-reference_of key name =
-    if bytes_eq key (codes "period") then or_whole name (strip_back (codes "@start") name) (strip_back (codes "@end") name) else named name Whole
+-- a reference without its dollar sign: a name and a side; only at the key period can it have one
+unfoldable pub name_and_side : List ℕ → List ℕ → List ℕ × Side
+name_and_side key text =
+    if bytes_eq key (codes "period") then or_whole text (strip_back (codes "@start") text) (strip_back (codes "@end") text) else (text, Whole)
+
+-- what such a reference writes
+abbrev pub reference_of : List ℕ → List ℕ → Written
+reference_of key text = named (name_and_side key text).0 (name_and_side key text).1
 
 -- a literal by its meaning; an unknown one is a fault
 abbrev pub literal_by : Meaning → Written

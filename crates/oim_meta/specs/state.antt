@@ -1,4 +1,5 @@
 pub mod Places
+pub mod Walks
 pub mod Reading
 pub mod Order
 pub mod Refusals

@@ -3,7 +3,8 @@
 ghost use Rattle.std.specs.Prelude.{◌≡◌, ◌++◌, IfOk, false, codes};
 ghost use Rattle.serde_json.specs.View.{view};
 ghost use Rattle.oim_meta.specs.Members.{section, map_members};
-ghost use Rattle.oim_meta.specs.Value.{document_info, info_of, level_of, named_text, report_of, tables_of, templates_of};
+ghost use Rattle.oim_meta.specs.Prefixes.{document_info};
+ghost use Rattle.oim_meta.specs.Value.{info_of, level_of, named_text, report_of, tables_of, templates_of};
 ghost use Rattle.oim_meta.specs.Faults.{has_bad_identifier, has_unknown_template};
 ghost use Rattle.oim_meta.specs.Order.{IsInOrder};
 ghost use Rattle.oim_meta.specs.Prefixes.{prefixes_of};

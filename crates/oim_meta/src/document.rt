@@ -1,9 +1,9 @@
 //! What is wrong with the document as a whole: its type, its namespaces, its taxonomy, and what is not supported.
 
-ghost use Rattle.std.specs.Prelude.{◌≡◌, ◌++◌, codes, true, OnOk, option_map, unwrap_or};
+ghost use Rattle.std.specs.Prelude.{◌≡◌, ◌++◌, codes, true, OnOk};
 ghost use Rattle.serde_json.specs.Find.{get};
 ghost use Rattle.serde_json.specs.View.{view, items_view, members_view};
-ghost use Rattle.oim_meta.specs.Faults.{is_anything, is_bad_prefix, is_csv, has_no_report, is_no_texts as not_texts};
+ghost use Rattle.oim_meta.specs.Faults.{is_anything, is_bad_prefix, is_csv, has_no_report, lacks_taxonomy as without_taxonomy};
 ghost use Rattle.oim_meta.specs.Faults.{is_no_empty_list as not_empty_list, is_no_empty_object as not_empty_object};
 ghost use Rattle.oim_meta.specs.Members.{any_item, any_member, if_there};
 ghost use Rattle.oim_meta.specs.Walk.{in_members};
@@ -94,7 +94,7 @@ fn find_namespaces<'v>(
 }
 
 fn lacks_taxonomy(info: &Value) -> bool
-    ensures { result ≡ unwrap_or (option_map not_texts (get (codes "taxonomy") (view info.now))) true }
+    ensures { result ≡ without_taxonomy (view info.now) }
 {
     match info.get("taxonomy") {
         Some(taxonomy) => is_no_texts(taxonomy),

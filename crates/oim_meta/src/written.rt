@@ -31,7 +31,7 @@ fn named(alloc: Global, name: &str, side: Side) -> Result<Written, AllocError>
     }
 }
 
-#[tactic(auto, unfolding(crate::specs::Written::reference_of))]
+#[tactic(auto, unfolding(crate::specs::Written::name_and_side))]
 fn reference(alloc: Global, key: &str, name: &str) -> Result<Written, AllocError>
     ensures { IfOk result (λ made. made ≡ reference_of key.now name.now) }
 {

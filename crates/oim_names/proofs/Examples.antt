@@ -4,7 +4,7 @@ use Rattle.std.specs.List.{list_all, list_any}
 use Rattle.std.specs.Str.{chars, is_utf8}
 use lib.Utf8.{encode}
 use Rattle.oim_names.specs.Names.{is_name_start, is_name_char, is_plain_char, is_ncname, is_identifier, is_row_identifier}
-use Rattle.oim_names.specs.Bindings.{Bindings, bound, uri_of, has_uri}
+use Rattle.oim_names.specs.Bindings.{Bindings, bound, is_bound, uri_of, has_uri}
 use Rattle.oim_names.specs.QName.{qname_of, sqname_of}
 use Rattle.oim_names.specs.Unit.{unit_of}
 use Rattle.oim_names.specs.Language.{is_letter, is_letter_or_digit, language_of}
@@ -90,6 +90,14 @@ uris = refl
 uris_there : map (has_uri prefixes) (codes "http://www.xbrl.org/2003/instance" ∷ codes "http://example.com/EG" ∷ codes "eg" ∷ []) ≡ true ∷ false ∷ false ∷ []
 unfolding prefixes bound
 uris_there = refl
+
+-- a prefix alone, a URI alone, both of different bindings, and neither
+bound_already :
+    is_bound prefixes (codes "eg") (codes "u") ∷ is_bound prefixes (codes "e") (codes "http://example.com/eg") ∷ is_bound prefixes (codes "eg") (codes "http://www.xbrl.org/2003/instance")
+    ∷ is_bound prefixes (codes "e") (codes "u") ∷ []
+    ≡ true ∷ true ∷ true ∷ false ∷ []
+unfolding prefixes bound
+bound_already = refl
 
 -- QUALIFIED NAMES
 qnames :

@@ -1,5 +1,5 @@
 -- Prefixes with their URIs (the namespaces of Open Information Model 1.0), as a list in byte order of prefix.
-use Rattle.std.specs.Prelude.{◌≡◌, ℕ, List, ◌∷◌, ◌++◌, Option, Some, Bool, true, filter, if◌then◌else◌}
+use Rattle.std.specs.Prelude.{◌≡◌, ℕ, List, ◌∷◌, ◌++◌, Option, Some, is_some, Bool, true, ◌||◌, filter, if◌then◌else◌}
 use Rattle.std.specs.List.{AllByRecursion, list_any, IsDistinct}
 use Rattle.std.specs.List.Sorted.{IsStrictlySortedBy}
 use Rattle.std.specs.Map.{keys_of, values_of}
@@ -39,6 +39,10 @@ Extends b prefix uri new = (other : List ℕ) → uri_of new other ≡ (if bytes
 -- the URI is bound to some prefix
 abbrev pub has_uri : Bindings → List ℕ → Bool
 has_uri b uri = list_any (λ e. bytes_eq e.1 uri) b
+
+-- the prefix or the URI is already bound
+abbrev pub is_bound : Bindings → (prefix uri : List ℕ) → Bool
+is_bound b prefix uri = is_some (uri_of b prefix) || has_uri b uri
 
 -- one text stands before another in byte order
 abbrev pub is_before : List ℕ → List ℕ → Bool

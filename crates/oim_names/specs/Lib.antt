@@ -1,4 +1,5 @@
 pub mod Lookup
+pub mod Items
 pub mod Bindings
 pub mod QName
 pub mod Names

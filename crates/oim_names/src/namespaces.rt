@@ -1,10 +1,10 @@
 //! Namespaces: prefixes with their URIs.
 
-ghost use Rattle.std.specs.Prelude.{◌≡◌, ◌↔◌, ◌<◌, [], option_map, length, true, false, ◌||◌, is_some, OnOk, OnErr, Err, Some, slice_get};
+ghost use Rattle.std.specs.Prelude.{◌≡◌, ◌↔◌, ◌<◌, [], option_map, length, true, false, OnOk, OnErr, Err, Some, slice_get};
 ghost use Rattle.std.specs.List.{prefix_len};
 ghost use Rattle.oim_names.specs.Names.{is_ncname as ncname};
 ghost use Rattle.oim_names.specs.Fault.{number_of, name_of};
-ghost use Rattle.oim_names.specs.Bindings.{AreInOrder, HaveOwnUris, HaveNames, uri_of, has_uri as uri_in, is_before, bound, Extends, IsNamespaces};
+ghost use Rattle.oim_names.specs.Bindings.{AreInOrder, HaveOwnUris, HaveNames, uri_of, has_uri as uri_in, is_bound, is_before, bound, Extends, IsNamespaces};
 
 use crate::is_ncname;
 use crate::text::{Items, Text, find_in_order};
@@ -163,8 +163,7 @@ impl Namespaces {
     /// already bound, else with `Memory` where memory runs out. A call that fails changes nothing.
     pub fn add(&mut self, prefix: &str, uri: &str) -> Result<(), NameFault>
         ensures bad_prefix { (result ≡ Err NameFault.BadPrefix) ↔ (ncname prefix.now ≡ false) }
-        ensures repeated { (result ≡ Err NameFault.Repeated)
-            ↔ ((ncname prefix.now ≡ true) × ((is_some (uri_of self.old prefix.now) || uri_in self.old uri.now) ≡ true)) }
+        ensures repeated { (result ≡ Err NameFault.Repeated) ↔ ((ncname prefix.now ≡ true) × (is_bound self.old prefix.now uri.now ≡ true)) }
         ensures ok { OnOk result (self.new ≡ bound self.old prefix.now uri.now) }
         ensures extends { OnOk result (Extends self.old prefix.now uri.now self.new) }
         ensures err { OnErr result (self.new ≡ self.old) }

@@ -1,16 +1,15 @@
 //! Texts and lists. Contracts see a text as its bytes, and a list as its items.
 
-ghost use Rattle.std.specs.Prelude.{bytes_eq, ◌^◌, ◌==◌, ◌≡◌, ◌++◌, ◌∷◌, [], ◌<◌, ◌≤◌, length, Some, IfOk, is_ok, if◌then◌else◌, slice_get};
+ghost use Rattle.std.specs.Prelude.{bytes_eq, ◌==◌, ◌≡◌, ◌++◌, ◌∷◌, [], ◌<◌, ◌≤◌, length, Some, IfOk, is_ok, if◌then◌else◌, slice_get};
 ghost use Rattle.std.specs.List.{insert as inserted};
 ghost use Rattle.std.specs.Option.{option_map};
 ghost use Rattle.std.specs.String.{string_bytes};
 ghost use Rattle.std.specs.Cmp.{on_per, partial_equiv_from_equiv};
 ghost use Rattle.std.specs.Cmp.Lexicographic.{nat_list_eq_equiv, slice_cmp};
-ghost use Rattle.std.specs.Iterator.Runs.{EveryRun, ItemsMapTo};
-ghost use Rattle.std.specs.Slice.Iter.{iter_rest, iter_steps};
 ghost use Rattle.std.specs.List.Sorted.{IsStrictlySortedBy};
 ghost use Rattle.std.specs.Map.{keys_of};
 ghost use Rattle.std.specs.Ordering.{nat_cmp};
+ghost use Rattle.oim_names.specs.Items.{GoesOver};
 ghost use Rattle.oim_names.specs.Lookup.{value_at};
 
 use std::alloc::{AllocError, AllocFailed, Global};
@@ -194,8 +193,7 @@ impl<T> Items<T> {
 
     /// Goes over the items.
     pub fn iter(&self) -> slice::Iter<'_, T>
-        ensures { (iter_rest result ≡ self.now) × (length (iter_rest result) < 2 ^ 64)
-            × EveryRun (iter_steps {A = T}) (λ p. ItemsMapTo p (λ x. x.now) (iter_rest p.from)) }
+        ensures { GoesOver self.now result }
     {
         self.items.as_slice().iter()
     }
@@ -213,8 +211,7 @@ impl<'a, T> IntoIterator for &'a Items<T> {
 
     type IntoIter = slice::Iter<'a, T>;
 
-    ghost into_iter_gives = { λ v it. (iter_rest it ≡ v.now) × (length (iter_rest it) < 2 ^ 64)
-        × EveryRun (iter_steps {A = T}) (λ p. ItemsMapTo p (λ x. x.now) (iter_rest p.from)) };
+    ghost into_iter_gives = { λ v it. GoesOver v.now it };
 
     fn into_iter(self) -> slice::Iter<'a, T> {
         self.as_slice().iter()

@@ -6,6 +6,7 @@ use Rattle.oim_period.specs.Calendar.{days_of_years, days_of_months, day_number,
 use Rattle.oim_period.specs.Dates.{is_date_text}
 use Rattle.oim_period.specs.Digits.{one_at, two_at, four_at}
 use Rattle.oim_period.specs.Periods.{instant, duration, found, first_some, moment_by, moment_of, days_by, days_of, whole_days, in_order, pair_of, duration_of, without}
+use Rattle.oim_period.specs.state.Reads.{AreDigits}
 use Rattle.oim_period.specs.Periods.{period_of, start_of, end_of, first_number, year_of, month_of, date_in_year, day_text, moment_text, period_text}
 
 -- the written form of what a text means
@@ -39,6 +40,10 @@ clocks = (refl, refl, refl)
 no_clocks : (is_clock 24 0 1 ≡ false) × (is_clock 24 1 0 ≡ false) × (is_clock 25 0 0 ≡ false) × (is_clock 0 60 0 ≡ false) × (is_clock 0 0 60 ≡ false)
 unfolding is_clock
 no_clocks = (refl, refl, refl, refl, refl)
+
+-- THE DIGITS of a year, with zeros in front of a low one
+digits_of_years : AreDigits 2007 50 48 48 55 × AreDigits 45 48 48 52 53
+digits_of_years = ((refl, refl, refl, refl), (refl, refl, refl, refl))
 
 -- WRITTEN DATES, up to the last day of the year 9999
 written_dates : list_all is_date_text (codes "2024-02-29" ∷ codes "0001-01-01" ∷ codes "9999-12-31" ∷ codes "2000-02-29" ∷ []) ≡ true

@@ -3,17 +3,12 @@ use Rattle.std.proofs.Common.{◌≡◌, ℕ, ◌+◌, ◌*◌, ◌/◌, ◌%◌
 use Rattle.oim_period.specs.Calendar.{day_number, IsDate, IsClock}
 use Rattle.oim_period.specs.Digits.{digit}
 use Rattle.oim_period.specs.Table.{IsDay, date, IsTime, clock}
-
-pub record IsYearText (y a b c d : ℕ) : Type 0 where
-  pub a_is : a ≡ digit (y / 100 / 10)
-  pub b_is : b ≡ digit (y / 100 % 10)
-  pub c_is : c ≡ digit (y % 100 / 10)
-  pub d_is : d ≡ digit (y % 100 % 10)
+use Rattle.oim_period.specs.state.Reads.{AreDigits}
 
 pub of_date : {x : List ℕ} {k : ℕ} → IsDay x k → (a b c d m n t u : ℕ) → x ≡ a ∷ b ∷ c ∷ d ∷ 45 ∷ m ∷ n ∷ 45 ∷ t ∷ u ∷ []
-    → (year : ℕ) × (month : ℕ) × (day : ℕ) × IsDate year month day × IsYearText year a b c d × (m ≡ digit (month / 10)) × (n ≡ digit (month % 10))
+    → (year : ℕ) × (month : ℕ) × (day : ℕ) × IsDate year month day × AreDigits year a b c d × (m ≡ digit (month / 10)) × (n ≡ digit (month % 10))
     × (t ≡ digit (day / 10)) × (u ≡ digit (day % 10)) × (k ≡ day_number year month day)
-of_date (date year month day r) a b c d m n t u e = (year, month, day, r, record { a_is = cc; b_is = cc; c_is = cc; d_is = cc }, cc, cc, cc, cc, refl)
+of_date (date year month day r) a b c d m n t u e = (year, month, day, r, (cc, cc, cc, cc), cc, cc, cc, cc, refl)
 
 pub of_time : {x : List ℕ} {k : ℕ} → IsTime x k → (a b c d e f : ℕ) → x ≡ a ∷ b ∷ 58 ∷ c ∷ d ∷ 58 ∷ e ∷ f ∷ []
     → (hour : ℕ) × (minute : ℕ) × (second : ℕ) × IsClock hour minute second × (a ≡ digit (hour / 10)) × (b ≡ digit (hour % 10)) × (c ≡ digit (minute / 10))

@@ -1,11 +1,10 @@
 //! The parts of a period's text: dates, times of day and whole days.
 
-ghost use Rattle.std.specs.Prelude.{◌≡◌, ℕ, ◌↔◌, ◌+◌, ◌*◌, ◌/◌, ◌%◌, ◌<◌, ◌≤◌, Some, IsSome, IfSome, length};
+ghost use Rattle.std.specs.Prelude.{◌≡◌, ℕ, ◌↔◌, ◌+◌, ◌*◌, ◌<◌, ◌≤◌, Some, IsSome, IfSome, length};
 ghost use Rattle.oim_period.specs.Calendar.{IsYear, IsClock, day_limit};
-ghost use Rattle.oim_period.specs.Digits.{digit};
 ghost use Rattle.oim_period.specs.Table.{IsDay, IsTime, IsDays};
 ghost use Rattle.oim_period.specs.Reads.{IsOnly};
-ghost use Rattle.oim_period.specs.state.Reads.{IsRead};
+ghost use Rattle.oim_period.specs.state.Reads.{AreDigits, IsRead};
 
 use crate::calendar;
 use crate::days::Days;
@@ -13,10 +12,7 @@ use crate::short_form::{self, two_digits};
 
 /// The year from 1 to 9999 that four digits write. `None` for any other bytes.
 fn year(thousands: u8, hundreds: u8, tens: u8, units: u8) -> Option<u16>
-    ensures exact { (n : ℕ) → (result ≡ Some n)
-        ↔ (IsYear n
-        × (thousands ≡ digit (n / 100 / 10)) × (hundreds ≡ digit (n / 100 % 10))
-        × (tens ≡ digit (n % 100 / 10)) × (units ≡ digit (n % 100 % 10))) }
+    ensures exact { (n : ℕ) → (result ≡ Some n) ↔ (IsYear n × AreDigits n thousands hundreds tens units) }
     ensures bound { IfSome result IsYear }
 {
     let century = two_digits(thousands, hundreds)? as u16;

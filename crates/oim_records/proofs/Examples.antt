@@ -10,7 +10,7 @@ use Rattle.oim_records.specs.state.Bits.{differ, is_odd_below, is_set}
 use Rattle.oim_records.specs.state.Blocks.{block_scanned, but, cut_behind, cut_rows_behind, firsts, is_opener, led, may_open, rows_behind}
 use Rattle.oim_records.specs.state.Bytes.{ends_field, ends_line, is_quote, joins_field, is_unquoted, is_ascii, is_high}
 use Rattle.oim_records.specs.Cuts.{ended, is_between, state_after}
-use Rattle.oim_records.specs.state.Fields.{IsReadTo, IsWithin, fields_in}
+use Rattle.oim_records.specs.state.Fields.{IsReadTo, IsWithin, ReadsFirst, fields_in}
 use Rattle.oim_records.specs.Grids.{Record, grid, records_left}
 use Rattle.oim_records.specs.PieceTaking.{bytes_left}
 use Rattle.oim_records.specs.Pieces.{unread}
@@ -51,6 +51,15 @@ empty_lines = refl
 no_records : (grid [] ≡ []) × (grid (codes "\r\n\n\r") ≡ [])
 unfolding records_left records_from next_record strip_bom
 no_records = (refl, refl)
+
+-- THE FIRST RECORD: none is left behind the ends of lines; else the place is the one behind its line
+none_first : ReadsFirst (codes "\r\n\n") [] (codes "\r\n\n") None
+unfolding records_left records_from next_record
+none_first = refl
+
+one_first : ReadsFirst (codes "\na,b\nc") (codes "a" ∷ codes "b" ∷ []) (codes "\na,b\nc") (Some 5)
+unfolding records_left records_from next_record
+one_first = refl
 
 -- FIELDS (2.3 and 2.4): spaces are part of a field; records may differ in length; an empty field is one
 spaces : grid (codes " a , b\n") ≡ (codes " a " ∷ codes " b" ∷ []) ∷ []

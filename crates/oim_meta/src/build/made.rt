@@ -7,7 +7,8 @@ ghost use Rattle.serde_json.specs.View.{view, items_view, members_view};
 ghost use Rattle.oim_meta.specs.Members.{items_at, map_members, map_items, text_of as text_in};
 ghost use Rattle.oim_meta.specs.Order.{names_of};
 ghost use Rattle.oim_report.specs.Rising.{IsRising};
-ghost use Rattle.oim_meta.specs.Value.{flag_at, named_text};
+ghost use Rattle.oim_meta.specs.Members.{flag_at};
+ghost use Rattle.oim_meta.specs.Value.{named_text};
 
 use oim_names::{Items, Text};
 use serde_json::{Map, Value};

@@ -1,11 +1,12 @@
 //! Columns of a template: what they say, and what is wrong with them.
 
 ghost use Rattle.std.specs.Prelude.{◌≡◌, ◌++◌, IfOk, OnOk};
-ghost use Rattle.serde_json.specs.View.{view, members_view};
+ghost use Rattle.serde_json.specs.View.{view};
 ghost use Rattle.oim_meta.specs.Members.{map_members};
 ghost use Rattle.oim_meta.specs.state.Places.{part_path};
 ghost use Rattle.oim_meta.specs.Value.{column_level as level_in, groups_of as groups_in, column_of};
-ghost use Rattle.oim_meta.specs.Walk.{in_column, in_column_itself, in_column_level, in_groups, in_members};
+ghost use Rattle.oim_meta.specs.Walk.{in_column_itself, in_column_level, in_groups, in_members};
+ghost use Rattle.oim_meta.specs.state.Walks.{in_column_of, known_to, members_of};
 
 use crate::findings::Findings;
 use crate::place::Part;
@@ -52,7 +53,7 @@ impl<'a> Walk<'a> {
     ) -> Result<Level, AllocError>
         ensures value { IfOk result (λ made. made ≡ level_in kind (view value.now)) }
         ensures found { OnOk result (findings.new
-            ≡ findings.old ++ in_column_level self.now.types.now self.now.names.now (part_path here.entry) (view value.now)) }
+            ≡ findings.old ++ in_column_level (known_to self.now) (part_path here.entry) (view value.now)) }
     {
         let dimensions = self.dimensions(here, value, findings)?;
         findings.add_if(
@@ -81,7 +82,7 @@ impl<'a> Walk<'a> {
     ) -> Result<Items<(Text, Level)>, AllocError>
         ensures value { IfOk result (λ made. made ≡ groups_in kind (view value.now)) }
         ensures found { OnOk result (findings.new
-            ≡ findings.old ++ in_groups self.now.types.now self.now.names.now column.entry.0.now column.entry.1.now (view value.now)) }
+            ≡ findings.old ++ in_groups (known_to self.now) column.entry.0.now column.entry.1.now (view value.now)) }
     {
         let groups = self.groups(column, value, findings)?;
         match kind {
@@ -100,9 +101,9 @@ impl<'a> Walk<'a> {
         value: &'v Value,
         findings: &mut Findings<'v>,
     ) -> Result<Column, AllocError>
-        ensures value { IfOk result (λ made. made ≡ column_of (members_view columns.now.names.members.now.entries) place.entry.1.now (view value.now)) }
+        ensures value { IfOk result (λ made. made ≡ column_of (members_of columns.now.names) place.entry.1.now (view value.now)) }
         ensures found { OnOk result (findings.new
-            ≡ findings.old ++ in_column self.now.types.now self.now.names.now place.entry.0.now (view columns.now.value.now) place.entry.1.now (view value.now)) }
+            ≡ findings.old ++ in_column_of self.now columns.now place.entry.0.now place.entry.1.now (view value.now)) }
     {
         find(place.0, place.1, value, findings);
         columns.find_sources(place, value, findings);
@@ -127,10 +128,9 @@ impl<'a> Walk<'a> {
         findings: &mut Findings<'v>,
     ) -> Result<Vec<Column>, AllocError>
         ensures value { IfOk result (λ made. made.items
-            ≡ map_members (column_of (members_view columns.now.names.members.now.entries)) (members_view columns.now.names.members.now.entries)) }
+            ≡ map_members (column_of (members_of columns.now.names)) (members_of columns.now.names)) }
         ensures found { OnOk result (findings.new
-            ≡ findings.old ++ in_members (in_column self.now.types.now self.now.names.now template.now (view columns.now.value.now))
-            (members_view columns.now.names.members.now.entries)) }
+            ≡ findings.old ++ in_members (in_column_of self.now columns.now template.now) (members_of columns.now.names)) }
     {
         let mut made = Vec::with_capacity(self.alloc, columns.names.members.len())?;
         for (name, value) in columns.names.members.iter() {

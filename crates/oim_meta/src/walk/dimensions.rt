@@ -3,11 +3,13 @@
 ghost use Rattle.std.specs.Prelude.{◌≡◌, ◌++◌, IfOk, OnOk, codes};
 ghost use Rattle.serde_json.specs.View.{view, members_view};
 ghost use Rattle.oim_meta.specs.BadDimensions.{is_core as core_key, is_typed as typed, is_dimension as dimension_kind, kind_named, is_bad_meaning};
-ghost use Rattle.oim_meta.specs.BadDimensions.{name_in, is_bad_text, is_bad_dimension};
+ghost use Rattle.oim_meta.specs.BadDimensions.{is_bad_text, is_bad_dimension};
 ghost use Rattle.oim_meta.specs.Members.{map_members, section};
 ghost use Rattle.oim_meta.specs.Value.{named_dimension};
+ghost use Rattle.oim_meta.specs.Written.{name_and_side};
 ghost use Rattle.oim_meta.specs.state.Places.{part_path};
-ghost use Rattle.oim_meta.specs.Walk.{in_dimension, in_dimensions, in_members};
+ghost use Rattle.oim_meta.specs.Walk.{in_dimension, in_dimensions};
+ghost use Rattle.oim_meta.specs.state.Walks.{in_each, known_to};
 ghost use Rattle.oim_cells.specs.Cells.{meaning_of};
 
 use crate::findings::Findings;
@@ -51,9 +53,9 @@ fn bad_literal(kind: Option<Kind>, text: &str) -> bool
     }
 }
 
-#[tactic(auto, unfolding(crate::specs::BadDimensions::name_in))]
+#[tactic(auto, unfolding(crate::specs::Written::name_and_side))]
 fn name_of<'a>(key: &str, name: &'a str) -> &'a str
-    ensures { result.now ≡ name_in key.now name.now }
+    ensures { result.now ≡ (name_and_side key.now name.now).0 }
 {
     if key != "period" {
         return name;
@@ -106,7 +108,7 @@ impl<'a> Walk<'a> {
     ) -> Result<(Text, Written), AllocError>
         ensures value { IfOk result (λ made. made ≡ named_dimension key.now (view value.now)) }
         ensures found { OnOk result (findings.new
-            ≡ findings.old ++ in_dimension self.now.types.now self.now.names.now (part_path here.entry) key.now (view value.now)) }
+            ≡ findings.old ++ in_dimension (known_to self.now) (part_path here.entry) key.now (view value.now)) }
     {
         findings.add_if(
             self.is_bad(key, value),
@@ -125,7 +127,7 @@ impl<'a> Walk<'a> {
     ) -> Result<Vec<(Text, Written)>, AllocError>
         ensures value { IfOk result (λ made. made.items ≡ map_members named_dimension (members_view members.now.entries)) }
         ensures found { OnOk result (findings.new
-            ≡ findings.old ++ in_members (in_dimension self.now.types.now self.now.names.now (part_path here.entry)) (members_view members.now.entries)) }
+            ≡ findings.old ++ in_each (in_dimension (known_to self.now) (part_path here.entry)) members.now.entries) }
     {
         let mut made = Vec::with_capacity(self.alloc, members.len())?;
         for (key, value) in members.iter() {
@@ -144,7 +146,7 @@ impl<'a> Walk<'a> {
     ) -> Result<Items<(Text, Written)>, AllocError>
         ensures value { IfOk result (λ made. made ≡ map_members named_dimension (section (codes "dimensions") (view part.now))) }
         ensures found { OnOk result (findings.new
-            ≡ findings.old ++ in_dimensions self.now.types.now self.now.names.now (part_path here.entry) (view part.now)) }
+            ≡ findings.old ++ in_dimensions (known_to self.now) (part_path here.entry) (view part.now)) }
     {
         let place = here.at("dimensions");
         findings.add_if(

@@ -4,7 +4,8 @@ ghost use Rattle.std.specs.Prelude.{◌≡◌, ◌++◌, IfOk, OnOk, codes};
 ghost use Rattle.serde_json.specs.View.{view, members_view};
 ghost use Rattle.oim_meta.specs.Members.{map_members, section};
 ghost use Rattle.oim_meta.specs.Value.{named_level};
-ghost use Rattle.oim_meta.specs.Walk.{in_group, in_groups, in_members};
+ghost use Rattle.oim_meta.specs.Walk.{in_group, in_groups};
+ghost use Rattle.oim_meta.specs.state.Walks.{in_each, known_to};
 
 use crate::findings::Findings;
 use crate::lookup::object_at;
@@ -28,7 +29,7 @@ impl<'a> Walk<'a> {
     ) -> Result<(Text, Level), AllocError>
         ensures value { IfOk result (λ made. made ≡ named_level name.now (view value.now)) }
         ensures found { OnOk result (findings.new
-            ≡ findings.old ++ in_group self.now.types.now self.now.names.now column.entry.0.now column.entry.1.now name.now (view value.now)) }
+            ≡ findings.old ++ in_group (known_to self.now) column.entry.0.now column.entry.1.now name.now (view value.now)) }
     {
         let here = Part::Group(column.0, column.1, name);
         let is_bad = name == "" || !value.is_object();
@@ -45,7 +46,7 @@ impl<'a> Walk<'a> {
     ) -> Result<Vec<(Text, Level)>, AllocError>
         ensures value { IfOk result (λ made. made.items ≡ map_members named_level (members_view groups.now.entries)) }
         ensures found { OnOk result (findings.new
-            ≡ findings.old ++ in_members (in_group self.now.types.now self.now.names.now column.entry.0.now column.entry.1.now) (members_view groups.now.entries)) }
+            ≡ findings.old ++ in_each (in_group (known_to self.now) column.entry.0.now column.entry.1.now) groups.now.entries) }
     {
         let mut made = Vec::with_capacity(self.alloc, groups.len())?;
         for (name, value) in groups.iter() {
@@ -64,7 +65,7 @@ impl<'a> Walk<'a> {
     ) -> Result<Items<(Text, Level)>, AllocError>
         ensures value { IfOk result (λ made. made ≡ map_members named_level (section (codes "propertyGroups") (view value.now))) }
         ensures found { OnOk result (findings.new
-            ≡ findings.old ++ in_groups self.now.types.now self.now.names.now column.entry.0.now column.entry.1.now (view value.now)) }
+            ≡ findings.old ++ in_groups (known_to self.now) column.entry.0.now column.entry.1.now (view value.now)) }
     {
         let here = Part::Column(column.0, column.1);
         findings.add_if(

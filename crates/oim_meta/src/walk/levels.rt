@@ -5,9 +5,11 @@ ghost use Rattle.serde_json.specs.Find.{get};
 ghost use Rattle.serde_json.specs.View.{view};
 ghost use Rattle.oim_meta.specs.Decimals.{decimals_of};
 ghost use Rattle.oim_meta.specs.BadDecimals.{is_decimals_text as decimals_text, is_decimals as decimals_value, has_bad_decimals_there};
-ghost use Rattle.oim_meta.specs.Value.{level_of, nothing_written};
+ghost use Rattle.oim_report.specs.Readers.{no_level as empty_level};
+ghost use Rattle.oim_meta.specs.Value.{level_of};
 ghost use Rattle.oim_meta.specs.state.Places.{part_path};
 ghost use Rattle.oim_meta.specs.Walk.{in_level};
+ghost use Rattle.oim_meta.specs.state.Walks.{known_to};
 
 use crate::decimals::{whole, written_decimals};
 use crate::findings::Findings;
@@ -64,7 +66,7 @@ pub(crate) fn decimals(alloc: Global, level: &Value) -> Result<Option<WrittenDec
 
 /// A level that writes nothing.
 pub(crate) fn no_level(alloc: Global) -> Level
-    ensures { result ≡ nothing_written }
+    ensures { result ≡ empty_level }
 {
     Level {
         dimensions: Items::new(alloc),
@@ -83,7 +85,7 @@ impl<'a> Walk<'a> {
     ) -> Result<Level, AllocError>
         ensures value { IfOk result (λ made. made ≡ level_of (view value.now)) }
         ensures found { OnOk result (findings.new
-            ≡ findings.old ++ in_level self.now.types.now self.now.names.now (part_path here.entry) (view value.now)) }
+            ≡ findings.old ++ in_level (known_to self.now) (part_path here.entry) (view value.now)) }
     {
         let dimensions = self.dimensions(here, value, findings)?;
         findings.add_if(

@@ -8,6 +8,7 @@ ghost use Rattle.oim_meta.specs.state.Places.{part_path};
 ghost use Rattle.oim_meta.specs.Value.{named_text};
 ghost use Rattle.oim_meta.specs.Walk.{in_members};
 ghost use Rattle.oim_meta.specs.WalkTables.{in_given, in_own_parameters, in_parameter, in_parameters};
+ghost use Rattle.oim_meta.specs.state.Walks.{in_each};
 
 use crate::build::made::text_of;
 use crate::findings::Findings;
@@ -75,7 +76,7 @@ impl<'a> Walk<'a> {
     ) -> Result<Vec<(Text, Text)>, AllocError>
         ensures value { IfOk result (λ made. made.items ≡ map_members named_text (members_view members.now.entries)) }
         ensures found { OnOk result (findings.new
-            ≡ findings.old ++ in_members (in_parameter (part_path here.entry)) (members_view members.now.entries)) }
+            ≡ findings.old ++ in_each (in_parameter (part_path here.entry)) members.now.entries) }
     {
         let mut made = Vec::with_capacity(self.alloc, members.len())?;
         for (name, value) in members.iter() {
@@ -119,7 +120,7 @@ impl<'a> Walk<'a> {
     }
 
     fn find_given_in<'v>(&self, members: &'v Map<String, Value>, findings: &mut Findings<'v>)
-        ensures { findings.new ≡ findings.old ++ in_members (in_given self.now.given.now) (members_view members.now.entries) }
+        ensures { findings.new ≡ findings.old ++ in_each (in_given self.now.given.now) members.now.entries }
     {
         for (name, value) in members.iter() {
             self.find_given_name(name.as_str(), value, findings);

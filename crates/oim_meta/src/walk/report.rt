@@ -5,6 +5,7 @@ ghost use Rattle.serde_json.specs.View.{view};
 ghost use Rattle.oim_meta.specs.Members.{section, map_members};
 ghost use Rattle.oim_meta.specs.Value.{level_of, named_text, tables_of, templates_of};
 ghost use Rattle.oim_meta.specs.WalkReport.{in_parts};
+ghost use Rattle.oim_meta.specs.state.Walks.{known_to};
 
 use crate::findings::Findings;
 use crate::place::Part;
@@ -36,7 +37,7 @@ impl<'a> Walk<'a> {
         ensures tables { IfOk result (λ made. made.tables ≡ tables_of (view report.now)) }
         ensures parameters { IfOk result (λ made. made.parameters ≡ map_members named_text (section (codes "parameters") (view report.now))) }
         ensures found { OnOk result (findings.new
-            ≡ findings.old ++ in_parts self.now.limits self.now.given.now self.now.types.now self.now.names.now (view report.now)) }
+            ≡ findings.old ++ in_parts (known_to self.now) (view report.now)) }
     {
         let level = self.level(Part::Report, report, findings)?;
         let templates = self.templates(report, findings)?;

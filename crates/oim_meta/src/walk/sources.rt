@@ -1,12 +1,13 @@
 //! The columns that a column takes properties from.
 
 ghost use Rattle.std.specs.Prelude.{◌≡◌, ◌++◌, IfOk, option_map};
-ghost use Rattle.serde_json.specs.View.{view, items_view, members_view};
+ghost use Rattle.serde_json.specs.View.{view, items_view};
 ghost use Rattle.oim_meta.specs.Faults.{has_bad_sources};
 ghost use Rattle.oim_meta.specs.Members.{any_item};
 ghost use Rattle.oim_meta.specs.UnknownColumn.{column_at as column_named, lacks_groups as groups_lack, is_unknown_source, has_unknown_source};
 ghost use Rattle.oim_meta.specs.Value.{sources_of as sources_in};
 ghost use Rattle.oim_meta.specs.Walk.{in_sources};
+ghost use Rattle.oim_meta.specs.state.Walks.{members_of};
 
 use crate::build::names::Names;
 use crate::build::places::places;
@@ -119,7 +120,7 @@ impl<'v> Columns<'v> {
 
     fn named_sources(&self, alloc: Global, column: &Value) -> Result<Items<usize>, AllocError>
         ensures { IfOk result
-            (λ made. made ≡ sources_in (members_view self.now.names.members.now.entries) ColumnKind.Fact (view column.now)) }
+            (λ made. made ≡ sources_in (members_of self.now.names) ColumnKind.Fact (view column.now)) }
     {
         match list_at(column, "propertiesFrom") {
             Some(names) => Ok(Items::from_vec(places(alloc, &self.names, names)?)),
@@ -135,7 +136,7 @@ impl<'v> Columns<'v> {
         column: &Value,
     ) -> Result<Items<usize>, AllocError>
         ensures { IfOk result
-            (λ made. made ≡ sources_in (members_view self.now.names.members.now.entries) kind (view column.now)) }
+            (λ made. made ≡ sources_in (members_of self.now.names) kind (view column.now)) }
     {
         match kind {
             ColumnKind::Fact => self.named_sources(alloc, column),

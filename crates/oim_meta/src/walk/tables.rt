@@ -1,17 +1,15 @@
 //! Tables: what they say, and what is wrong with them.
 
-ghost use Rattle.std.specs.Prelude.{◌≡◌, ◌++◌, ◌∷◌, [], IfOk, OnOk, option_map, codes};
+ghost use Rattle.std.specs.Prelude.{◌≡◌, ◌++◌, IfOk, OnOk, codes};
 ghost use Rattle.serde_json.specs.Data.{no_members};
 ghost use Rattle.serde_json.specs.Find.{get};
 ghost use Rattle.serde_json.specs.View.{view, members_view};
 ghost use Rattle.oim_meta.specs.Faults.{lacks_template_of, lacks_url as without_url};
 ghost use Rattle.oim_meta.specs.Members.{map_members, section};
-ghost use Rattle.oim_entries.specs.declared.fault.MetaFault.TheVariants.{UnknownTemplate};
-ghost use Rattle.oim_meta.specs.Findings.{found};
-ghost use Rattle.oim_meta.specs.Paths.{table_path};
 ghost use Rattle.oim_meta.specs.Value.{table_of, tables_of};
 ghost use Rattle.oim_meta.specs.Walk.{in_members};
-ghost use Rattle.oim_meta.specs.WalkTables.{in_table, in_table_itself, in_tables};
+ghost use Rattle.oim_meta.specs.WalkTables.{in_named_template, in_table, in_table_itself, in_tables};
+ghost use Rattle.oim_meta.specs.state.Walks.{in_each, members_of, value_of};
 
 use crate::build::made::flag;
 use crate::build::names::Names;
@@ -46,7 +44,7 @@ struct Templates<'v> {
 impl<'v> Templates<'v> {
     /// Whether the template of a table is not there.
     fn lacks(&self, name: &str, table: &Value) -> bool
-        ensures { result ≡ lacks_template_of (option_map (λ v. view v.now) self.now.value) name.now (view table.now) }
+        ensures { result ≡ lacks_template_of (value_of self.now) name.now (view table.now) }
     {
         let template = text_at(table, "template").unwrap_or(name);
         match self.value {
@@ -63,9 +61,7 @@ fn find_template<'v>(
     table: &Value,
     findings: &mut Findings<'v>,
 )
-    ensures { findings.new ≡ findings.old
-        ++ found UnknownTemplate (table_path name.now ++ codes "template" ∷ [])
-        (lacks_template_of (option_map (λ v. view v.now) templates.now.value) name.now (view table.now)) }
+    ensures { findings.new ≡ findings.old ++ in_named_template (value_of templates.now) name.now (view table.now) }
 {
     findings.add_if(
         templates.lacks(name, table),
@@ -118,9 +114,9 @@ impl<'a> Walk<'a> {
         value: &'v Value,
         findings: &mut Findings<'v>,
     ) -> Result<Table, AllocError>
-        ensures value { IfOk result (λ made. made ≡ table_of (members_view templates.now.names.members.now.entries) name.now (view value.now)) }
+        ensures value { IfOk result (λ made. made ≡ table_of (members_of templates.now.names) name.now (view value.now)) }
         ensures found { OnOk result (findings.new
-            ≡ findings.old ++ in_table (option_map (λ v. view v.now) templates.now.value) name.now (view value.now)) }
+            ≡ findings.old ++ in_table (value_of templates.now) name.now (view value.now)) }
     {
         find(name, value, findings);
         find_template(templates, name, value, findings);
@@ -142,9 +138,9 @@ impl<'a> Walk<'a> {
         findings: &mut Findings<'v>,
     ) -> Result<Vec<Table>, AllocError>
         ensures value { IfOk result (λ made. made.items
-            ≡ map_members (table_of (members_view templates.now.names.members.now.entries)) (members_view tables.now.entries)) }
+            ≡ map_members (table_of (members_of templates.now.names)) (members_view tables.now.entries)) }
         ensures found { OnOk result (findings.new
-            ≡ findings.old ++ in_members (in_table (option_map (λ v. view v.now) templates.now.value)) (members_view tables.now.entries)) }
+            ≡ findings.old ++ in_each (in_table (value_of templates.now)) tables.now.entries) }
     {
         let mut made = Vec::with_capacity(self.alloc, tables.len())?;
         for (name, value) in tables.iter() {
@@ -161,9 +157,9 @@ impl<'a> Walk<'a> {
         findings: &mut Findings<'v>,
     ) -> Result<Items<Table>, AllocError>
         ensures value { IfOk result (λ made. made
-            ≡ map_members (table_of (members_view templates.now.names.members.now.entries)) (section (codes "tables") (view report.now))) }
+            ≡ map_members (table_of (members_of templates.now.names)) (section (codes "tables") (view report.now))) }
         ensures found { OnOk result (findings.new
-            ≡ findings.old ++ in_members (in_table (option_map (λ v. view v.now) templates.now.value)) (section (codes "tables") (view report.now))) }
+            ≡ findings.old ++ in_members (in_table (value_of templates.now)) (section (codes "tables") (view report.now))) }
     {
         match object_at(report, "tables") {
             Some(tables) => Ok(Items::from_vec(self.tables_in(templates, tables, findings)?)),

@@ -5,7 +5,8 @@ ghost use Rattle.serde_json.specs.View.{view, members_view};
 ghost use Rattle.oim_meta.specs.Members.{map_members};
 ghost use Rattle.oim_meta.specs.UnknownColumn.{has_unknown_row_id};
 ghost use Rattle.oim_meta.specs.Value.{columns_of, row_id_of, template_of, templates_of};
-ghost use Rattle.oim_meta.specs.Walk.{in_columns, in_members, in_template, in_template_itself, in_templates, lacks_columns as without_columns};
+ghost use Rattle.oim_meta.specs.Walk.{in_columns, in_template, in_template_itself, in_templates, lacks_columns as without_columns};
+ghost use Rattle.oim_meta.specs.state.Walks.{in_each, known_to};
 
 use crate::build::names::Names;
 use crate::build::places::place_at;
@@ -91,7 +92,7 @@ impl<'a> Walk<'a> {
     ) -> Result<Items<Column>, AllocError>
         ensures value { IfOk result (λ made. made ≡ columns_of (view value.now)) }
         ensures found { OnOk result (findings.new
-            ≡ findings.old ++ in_columns self.now.limits self.now.types.now self.now.names.now template.now (view value.now)) }
+            ≡ findings.old ++ in_columns (known_to self.now) template.now (view value.now)) }
     {
         let is_too_many = count_at(value, "columns") > self.limits.columns;
         let place = Part::Template(template).at("columns");
@@ -116,7 +117,7 @@ impl<'a> Walk<'a> {
     ) -> Result<Template, AllocError>
         ensures value { IfOk result (λ made. made ≡ template_of name.now (view value.now)) }
         ensures found { OnOk result (findings.new
-            ≡ findings.old ++ in_template self.now.limits self.now.types.now self.now.names.now name.now (view value.now)) }
+            ≡ findings.old ++ in_template (known_to self.now) name.now (view value.now)) }
     {
         find(name, value, findings);
         let level = self.level(Part::Template(name), value, findings)?;
@@ -136,7 +137,7 @@ impl<'a> Walk<'a> {
     ) -> Result<Vec<Template>, AllocError>
         ensures value { IfOk result (λ made. made.items ≡ map_members template_of (members_view templates.now.entries)) }
         ensures found { OnOk result (findings.new
-            ≡ findings.old ++ in_members (in_template self.now.limits self.now.types.now self.now.names.now) (members_view templates.now.entries)) }
+            ≡ findings.old ++ in_each (in_template (known_to self.now)) templates.now.entries) }
     {
         let mut made = Vec::with_capacity(self.alloc, templates.len())?;
         for (name, value) in templates.iter() {
@@ -154,7 +155,7 @@ impl<'a> Walk<'a> {
     ) -> Result<Items<Template>, AllocError>
         ensures value { IfOk result (λ made. made ≡ templates_of (view report.now)) }
         ensures found { OnOk result (findings.new
-            ≡ findings.old ++ in_templates self.now.limits self.now.types.now self.now.names.now (view report.now)) }
+            ≡ findings.old ++ in_templates (known_to self.now) (view report.now)) }
     {
         findings.add_if(
             is_no_object_at(report, "tableTemplates"),

@@ -1,9 +1,15 @@
--- What the readers of a period's parts answer, where a duration starts and ends, and the date of a day.
-use Rattle.std.specs.Prelude.{◌≡◌, ℕ, ◌≤◌, Option, None, Some, ℤ, pos}
+-- What the readers of a period's parts take and answer, where a duration starts and ends, and the date of a day.
+use Rattle.std.specs.Prelude.{◌≡◌, ℕ, ◌/◌, ◌%◌, ◌≤◌, Option, None, Some, ℤ, pos}
 use Rattle.oim_period.specs.Calendar.{day_limit, IsDate, day_number}
+use Rattle.oim_period.specs.Digits.{digit}
 use Rattle.oim_period.specs.declared.days.Days.{Days}
 use Rattle.oim_period.specs.declared.period.Span.{Span}
 use Rattle.oim_period.specs.Reads.{seconds_of}
+
+-- these four characters are the digits of a number
+abbrev pub AreDigits : ℕ → (thousands hundreds tens units : ℕ) → Type 0
+AreDigits n thousands hundreds tens units =
+    (thousands ≡ digit (n / 100 / 10)) × (hundreds ≡ digit (n / 100 % 10)) × (tens ≡ digit (n % 100 / 10)) × (units ≡ digit (n % 100 % 10))
 
 -- the answer is the one pair of days that the relation has, or none where the day after them is not in the years that a text may name
 abbrev pub IsRead : (ℕ → ℕ → Type 0) → Option Days → Type 0

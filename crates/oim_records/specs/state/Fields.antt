@@ -1,5 +1,5 @@
 -- What one field of a text is: the machine of the `csv` crate, read on from its start to its end.
-use Rattle.std.specs.Prelude.{◌≡◌, ◌<◌, ◌≤◌, ℕ, List, [], ◌∷◌, ◌++◌, true, drop, length, map, slice_index, slice_range}
+use Rattle.std.specs.Prelude.{◌≡◌, ◌<◌, ◌≤◌, ℕ, List, [], ◌∷◌, ◌++◌, Option, Some, None, true, drop, length, map, slice_index, slice_range}
 use Rattle.std.specs.List.{All}
 use Rattle.csv.specs.Machine.{next_record}
 use Rattle.csv.specs.Reading.{default_config}
@@ -37,6 +37,11 @@ fields_in text ranges = map (field_in text) ranges
 -- the first record of a text, and the text behind it, whose records are those that are left
 abbrev pub IsFirstRecord : List ℕ → Record → List ℕ → Type 0
 IsFirstRecord text fields rest = records_left state.StartRecord text ≡ fields ∷ records_left state.StartRecord rest
+
+-- the first record of a text is read, whose bytes may be others by now, and a place behind it is found; or none is left
+abbrev pub ReadsFirst : List ℕ → Record → List ℕ → Option ℕ → Type 0
+ReadsFirst old fields now None = records_left state.StartRecord old ≡ []
+ReadsFirst old fields now (Some next) = IsFirstRecord old fields (drop next now)
 
 -- the fields of a record up to a place where the next one begins
 pub record IsReadTo (old now : List ℕ) (ranges : List FieldRange) (from start : ℕ) : Type 0 where

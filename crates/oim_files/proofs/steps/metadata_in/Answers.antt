@@ -13,7 +13,7 @@ returns-in-Ok-parameter_url c = record {
       let within = subst (λ l. Reads l c.as_slice.result.now (view c.in-Ok.metadata)) c.profile.ensures c.in-Ok.ensures.json in
       let reads = subst (λ xs. Reads profile xs (view c.in-Ok.metadata)) c.as_slice.ensures.value within in
       let named = subst (λ url. IsUrlOf (view c.in-Ok.metadata) url) (sym c.text_of.ensures) c.in-Ok-parameter_url.ensures.value in
-      let is = says_url profile c.args.bytes.items c.text_of.result (reads.0, (view c.in-Ok.metadata, reads.1, named.0, named.1)) in
+      let is = says_url profile c.args.bytes.items c.text_of.result (reads.0, (view c.in-Ok.metadata, reads.1, named)) in
       ((looks_value (url_result profile c.args.bytes.items) c.text_of.result is).0, (reads, is));
 }
 

@@ -33,11 +33,11 @@ returns-in_ok-day-in-45-clause-exact c =
     let d₃ = (told₃ n).0 refl in
     let p : List ℕ = get_or s 0 0 ∷ get_or s 1 0 ∷ get_or s 2 0 ∷ get_or s 3 0 ∷ 45 ∷ get_or s 5 0 ∷ get_or s 6 0 ∷ 45 ∷ get_or s 8 0 ∷ get_or s 9 0 ∷ [] in
     let e : s ≡ p = text_from_reads s p (omega arith) (refl, (refl, (refl, (refl, (omega arith, (refl, (refl, (omega arith, (refl, (refl, tt)))))))))) in
-    let written : s ≡ date_text y m n = text_from_reads s (date_text y m n) (omega arith) (d.1, (d.2, (d.3, (d.4, (omega arith, (d₂.1, (d₂.2, (omega arith, (d₃.1, (d₃.2, tt)))))))))) in
+    let written : s ≡ date_text y m n = text_from_reads s (date_text y m n) (omega arith) (d.1.0, (d.1.1, (d.1.2, (d.1.3, (omega arith, (d₂.1, (d₂.2, (omega arith, (d₃.1, (d₃.2, tt)))))))))) in
     only_by (IsDay s) c.day_number.result (day_number y m n) (IsDate y m n) (λ w. rw written (date y m n w))
     (λ k w. let i = of_date w _ _ _ _ _ _ _ _ e in
     let most = month_length-most i.0 i.1 in
-    let a = (told i.0).1 (omega arith, i.4.a_is, i.4.b_is, i.4.c_is, i.4.d_is) in
+    let a = (told i.0).1 (omega arith, i.4) in
     let b = (told₂ i.1).1 (omega arith, i.5, i.6) in
     let f = (told₃ i.2).1 (omega arith, i.7, i.8) in
     let same : i.0 ≡ y = cc in let same₂ : i.1 ≡ m = cc in let same₃ : i.2 ≡ n = cc in

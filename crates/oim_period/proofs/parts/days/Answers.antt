@@ -13,8 +13,8 @@ returns-in_ok-year-in-len4-up c =
     let told = c.in_ok-year-in-len4-up.ensures.exact in
     let d = (told y).0 refl in
     let r = rw (rest_is s 4) at c.in_year.ensures in
-    let written : s ≡ four y ++ drop 4 s = four_first s y (omega arith) (record { a_is = d.1; b_is = d.2; c_is = d.3; d_is = d.4 }) in
+    let written : s ≡ four y ++ drop 4 s = four_first s y (omega arith) d.1 in
     read_through (InYear y (drop 4 s)) (IsDays s) c.in_year.result
     (λ f a p. rw written (in_year y (drop 4 s) f a d.0 p))
-    (λ f a w. let i = of_short w c.if-text-eq22.false in let e = (told i.0).1 (i.1, i.2.a_is, i.2.b_is, i.2.c_is, i.2.d_is) in let same : i.0 ≡ y = cc in rw same at i.3)
+    (λ f a w. let i = of_short w c.if-text-eq22.false in let e = (told i.0).1 (i.1, i.2) in let same : i.0 ≡ y = cc in rw same at i.3)
     r

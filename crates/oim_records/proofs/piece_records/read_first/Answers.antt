@@ -1,4 +1,4 @@
-use Rattle.std.proofs.Common.{◌≡◌, ◌++◌, ◌∙◌, sym, ap, subst, arith, drop, take, length, length-take-le}
+use Rattle.std.proofs.Common.{◌≡◌, ◌++◌, ◌∙◌, sym, subst, arith, drop, take, length, length-take-le}
 use Rattle.std.proofs.lemmas.List.{take_at}
 use Rattle.oim_records.specs.state.Fields.{IsFirstRecord, fields_in}
 use Rattle.oim_records.proofs.FieldLaws.{line-starts}

@@ -3,11 +3,12 @@ use Rattle.serde_json.specs.View.{members_view}
 use Rattle.oim_meta.specs.Members.{map_members}
 use Rattle.oim_meta.specs.Value.{template_of}
 use Rattle.oim_meta.specs.Walk.{in_template, in_members}
+use Rattle.oim_meta.specs.state.Walks.{known_to}
 use Rattle.oim_meta.proofs.walk.Walk.templates_in.Given as goal
 
 -- what is made and found so far, and what the rest gives, are the whole
 abbrev pub invariant-loop-name : goal.invariant-loop-name
 invariant-loop-name l =
-    let wrong = in_template l.self.limits l.self.types.now l.self.names.now in
+    let wrong = in_template (known_to l.self) in
     (l.made.items ++ map_members template_of (members_view l.name-iterator) ≡ map_members template_of (members_view l.templates.entries))
     × (l.findings ++ in_members wrong (members_view l.name-iterator) ≡ l.fn.findings ++ in_members wrong (members_view l.templates.entries))

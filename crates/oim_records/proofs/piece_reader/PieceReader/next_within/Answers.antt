@@ -1,4 +1,4 @@
-use Rattle.std.proofs.Common.{◌≡◌, ◌∙◌, sym, ap, subst, arith, drop, take, []}
+use Rattle.std.proofs.Common.{◌≡◌, sym, ap, subst, arith, drop, take, []}
 use Rattle.std.specs.Io.KnownBytes.{IsAtEnd, prepend_known}
 use Rattle.oim_records.specs.PieceTaking.{TakesBytes, TextLeft, bytes_left}
 use Rattle.oim_records.proofs.NoneEnds.{no-cut}
