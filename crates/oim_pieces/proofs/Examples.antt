@@ -15,8 +15,8 @@ use Rattle.oim_rows.specs.declared.fault.TableKind.TheVariants as kind
 use Rattle.oim_decode.specs.Apart.{Apart, apart_from}
 use Rattle.oim_pieces.specs.state.Comings.{Comes}
 use Rattle.oim_pieces.specs.state.Cutting.{IsOver, TakesRows, left_over}
-use Rattle.oim_pieces.specs.Flights.{FewerSteps, IsEnd, steps_for, steps_left}
-use Rattle.oim_pieces.specs.state.Flights.{AreChained, FlyingPiece, GivesJoined, IsEndOfTable, IsFront, IsPieceAnswer, KeepsStream, NoMoreSteps, fault_or_left, first_row_of, rows_in, rows_left, steps_in, stream_in}
+use Rattle.oim_pieces.specs.Flights.{FewerSteps, GivesBlocks, IsEnd, steps_for, steps_left}
+use Rattle.oim_pieces.specs.state.Flights.{AreChained, FlyingPiece, GivesJoined, IsEndOfTable, IsFront, IsPieceAnswer, KeepsStream, NoMoreSteps, ReadsJoined, fault_or_left, first_row_of, rows_in, rows_left, steps_in, stream_in}
 use Rattle.oim_pieces.specs.declared.decoded.Asked.{Asked}
 use Rattle.oim_pieces.specs.declared.flying.Coming.TheVariants.{Here, Thread}
 
@@ -113,6 +113,17 @@ one = record { rows = [] ∷ []; fault = None }
 
 behind_a_piece : (fault_or_left None (Some one) ≡ Some one) × (fault_or_left (Some read) (Some one) ≡ Some (ending (Some read))) × (fault_or_left (Some read) None ≡ Some (ending (Some read)))
 behind_a_piece = (refl, refl, refl)
+
+-- one row was read, which has no facts
+row_given : GivesBlocks 0 one ([] ∷ []) (Some (ending None))
+row_given = record { rows = [] ∷ []; reads = inl (refl, refl); answers = refl }
+
+-- the first of two rows was joined, and the second is left; or its fault is
+first_of_two : ReadsJoined 0 (record { rows = [] ∷ [] ∷ []; fault = None }) one (Some one)
+first_of_two = inl (refl, refl)
+
+first_and_a_failure : ReadsJoined 0 (record { rows = [] ∷ [] ∷ []; fault = None }) (record { rows = [] ∷ []; fault = Some read }) (Some one)
+first_and_a_failure = inr (([] ∷ [], refl), read, inl refl, refl)
 
 -- rows of a joined piece, whose fault ends the table
 joined_to_its_fault : GivesJoined (record { rows = [] ∷ []; fault = Some read }) (Some one) ([] ∷ []) (Some (ending (Some read)))

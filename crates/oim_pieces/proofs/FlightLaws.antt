@@ -17,7 +17,7 @@ use Rattle.oim_decode.specs.Blocks.{ReadsRows}
 use Rattle.oim_decode.specs.PieceAnswers.{IsJoined, IsPieceDecoded, fault_or_next}
 use Rattle.oim_decode.proofs.JoinLaws.{piece_is_read}
 use Rattle.oim_pieces.specs.state.Cutting.{CutterLeft, IsOver, TakesRows}
-use Rattle.oim_pieces.specs.state.Flights.{AreChained, FlightLeft, FlyingPiece, IsEndOfTable, IsFront, IsPieceAnswer, KeepsStream, fault_or_left, first_row_of, rows_in, rows_left, stream_in}
+use Rattle.oim_pieces.specs.state.Flights.{AreChained, FlightLeft, FlyingPiece, IsEndOfTable, IsFront, IsPieceAnswer, KeepsStream, ReadsJoined, fault_or_left, first_row_of, rows_in, rows_left, stream_in}
 
 -- COUNTS
 
@@ -93,7 +93,7 @@ next-behind g ids ids' n m (Some e) rest at same = refl
 
 pub front_read : (g : TableHeaderValue) (ids ids' : List Field) (f : FlyingPiece) (fs : List FlyingPiece) (next : ℕ) (left : Option (List Record)) (s : Stream)
     → AreChained g (f ∷ fs) next → IsFront f ids s ids'
-    → IfSome (rows_left g ids (f ∷ fs) next left) (λ whole. ReadsRows g.table whole s.rows (fault_or_left s.fault (rows_left g ids' fs next left)))
+    → IfSome (rows_left g ids (f ∷ fs) next left) (λ whole. ReadsJoined g.table whole s (rows_left g ids' fs next left))
 front_read g ids ids' f fs next None s chain front = tt
 front_read g ids ids' f fs next (Some rest) s chain front =
     let a = front.answer in
@@ -101,7 +101,7 @@ front_read g ids ids' f fs next (Some rest) s chain front =
     let joined : IsJoined g f.first ids a s = subst (λ (x : TableHeaderValue). IsJoined x f.first ids a s) chain.0 front.joined in
     let read = piece_is_read g f.first ids f.rows (rows_in fs ++ rest) a s decoded joined in
     let left = next-behind g (ids ++ a.ids) ids' (f.first + length f.rows) (first_row_of fs next) s.fault (rows_in fs ++ rest) chain.1 (λ none. sym (front.behind none)) in
-    subst (λ (t : List Record). ReadsRows g.table (stream_from g f.first ids t) s.rows (fault_or_left s.fault (Some (stream_from g (first_row_of fs next) ids' (rows_in fs ++ rest)))))
+    subst (λ (t : List Record). ReadsJoined g.table (stream_from g f.first ids t) s (Some (stream_from g (first_row_of fs next) ids' (rows_in fs ++ rest))))
     (sym (append_assoc f.rows (rows_in fs) rest))
     (subst (λ o. ReadsRows g.table (stream_from g f.first ids (f.rows ++ (rows_in fs ++ rest))) s.rows o) left read)
 
@@ -125,12 +125,12 @@ answer_same g g' first first' rows rows' a is header at same =
 -- the first of the pieces under way was joined, and the others stay
 pub joined_front : (old : FlightLeft) (g g' : TableHeaderValue) (ids ids' : List Field) (f : FlyingPiece) (all fs : List FlyingPiece) (cutter : CutterLeft) (s : Stream)
     → record { header = g; ids = ids; pieces = all; cutter = cutter } ≡ old → all ≡ f ∷ fs → g.table ≡ cutter.table → AreChained g all cutter.next → IsFront f ids s ids'
-    → g' ≡ g → IfSome (stream_in old) (λ whole. ReadsRows old.cutter.table whole s.rows (fault_or_left s.fault (stream_in (record { header = g'; ids = ids'; pieces = fs; cutter = cutter }))))
+    → g' ≡ g → IfSome (stream_in old) (λ whole. ReadsJoined old.cutter.table whole s (stream_in (record { header = g'; ids = ids'; pieces = fs; cutter = cutter })))
 joined_front old g g' ids ids' f all fs cutter s view is table chain front same =
     let next = cutter.next in
     let left = cutter.left in
     let read = front_read g ids ids' f fs next left s (subst (λ l. AreChained g l next) is chain) front in
-    let placed = subst (λ t. IfSome (rows_left g ids (f ∷ fs) next left) (λ whole. ReadsRows t whole s.rows (fault_or_left s.fault (rows_left g ids' fs next left)))) table read in
-    let whole = subst (λ l. IfSome (rows_left g ids l next left) (λ whole. ReadsRows cutter.table whole s.rows (fault_or_left s.fault (rows_left g ids' fs next left)))) (sym is) placed in
-    let new = subst (λ (h : TableHeaderValue). IfSome (rows_left g ids all next left) (λ whole. ReadsRows cutter.table whole s.rows (fault_or_left s.fault (rows_left h ids' fs next left)))) (sym same) whole in
-    subst (λ (v : FlightLeft). IfSome (stream_in v) (λ whole. ReadsRows v.cutter.table whole s.rows (fault_or_left s.fault (rows_left g' ids' fs next left)))) view new
+    let placed = subst (λ t. IfSome (rows_left g ids (f ∷ fs) next left) (λ whole. ReadsJoined t whole s (rows_left g ids' fs next left))) table read in
+    let whole = subst (λ l. IfSome (rows_left g ids l next left) (λ whole. ReadsJoined cutter.table whole s (rows_left g ids' fs next left))) (sym is) placed in
+    let new = subst (λ (h : TableHeaderValue). IfSome (rows_left g ids all next left) (λ whole. ReadsJoined cutter.table whole s (rows_left h ids' fs next left))) (sym same) whole in
+    subst (λ (v : FlightLeft). IfSome (stream_in v) (λ whole. ReadsJoined v.cutter.table whole s (rows_left g' ids' fs next left))) view new

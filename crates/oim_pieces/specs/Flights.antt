@@ -1,7 +1,7 @@
 -- What is left of a table that is read in pieces, its end or its fault, and how many steps there are yet.
 use Rattle.std.specs.Prelude.{◌≡◌, ◌+◌, ◌<◌, ⊤, ℕ, List, [], length, Option, Some, None, option_map, Result, Ok, Err}
 use Rattle.oim_resolve.specs.FactParts.{FactParts as Fact}
-use Rattle.oim_rows.specs.Streams.{Stream}
+use Rattle.oim_rows.specs.Streams.{Stream, facts_of_rows}
 use Rattle.oim_rows.specs.declared.fault.TableFault.{TableFault}
 use Rattle.oim_decode.specs.Blocks.{GivesBlock}
 
@@ -20,9 +20,9 @@ IsEnd end (Ok (Some blocks)) = ⊥
 IsEnd end (Ok None) = end ≡ None
 IsEnd end (Err e) = end ≡ Some e
 
--- an answer where this stream was left: some rows of it were read, and the answer is over all of their facts, of which none waits
-abbrev pub GivesPiece : PiecesLeft → Stream → Result (Option (List Fact)) TableFault → PiecesLeft → Type 0
-GivesPiece old s answer new = GivesBlock old.table [] s answer [] new.left
+-- blocks are the answer where this stream was left: some rows of it were read, whose facts they have, and this is left
+abbrev pub GivesBlocks : ℕ → Stream → List (List Fact) → Option Stream → Type 0
+GivesBlocks table s blocks left = GivesBlock table [] s (Ok (Some (facts_of_rows blocks))) [] left
 
 -- how much there is yet to do: a step for each byte that is not cut, and one for each piece under way
 abbrev pub steps_for : ℕ → Option (List ℕ) → Option ℕ

@@ -1,12 +1,12 @@
 //! The facts of a table, piece by piece.
 
-ghost use Rattle.std.specs.Prelude.{◌≡◌, ◌⊎◌, ◌≤◌, ◌<◌, IfErr, IfNone, IfOk, IfSome, IsSome, None, OnSome, Ok, Err, Some, length};
-ghost use Rattle.oim_decode.specs.Blocks.{KeepsAnswer};
+ghost use Rattle.std.specs.Prelude.{◌≡◌, ◌⊎◌, ◌≤◌, ◌<◌, [], IfErr, IfNone, IfOk, IfSome, IsSome, None, OnSome, Ok, Err, Some, length};
+ghost use Rattle.oim_decode.specs.Blocks.{GivesBlock, KeepsAnswer};
 ghost use Rattle.oim_records.specs.Grids.{grid};
 ghost use Rattle.oim_rows.specs.Header.{file_fault, file_header_fault};
-ghost use Rattle.oim_rows.specs.Streams.{IsOutside, ending, facts_of_rows, stream_of};
+ghost use Rattle.oim_rows.specs.Streams.{IsOutside, ending, stream_of};
 ghost use Rattle.oim_rows.specs.declared.fault.TableKind.TheVariants as kind;
-ghost use Rattle.oim_pieces.specs.Flights.{FewerSteps, GivesPiece, IsEnd, steps_left};
+ghost use Rattle.oim_pieces.specs.Flights.{FewerSteps, GivesBlocks, IsEnd, steps_left};
 ghost use Rattle.oim_pieces.specs.state.Flights.{GivesJoined};
 
 use crate::flight::Flight;
@@ -111,9 +111,9 @@ impl<'a, R: Read + Drop> TablePieces<'a, R> {
         scope: &Scope<'a, E>,
         rt: &'a T,
     ) -> Result<Option<Vec<Block>>, TableFault>
-        ensures blocks { IfSome self.old.left (λ s. IfOk result (λ o. IfSome o (λ blocks. GivesPiece self.old s (Ok (Some (facts_of_rows blocks.items))) self.new))) }
-        ensures end { IfSome self.old.left (λ s. IfOk result (λ o. IfNone o (GivesPiece self.old s (Ok None) self.new))) }
-        ensures fault { IfSome self.old.left (λ s. IfErr result (λ e. GivesPiece self.old s (Err e) self.new)) }
+        ensures blocks { IfSome self.old.left (λ s. IfOk result (λ o. IfSome o (λ blocks. GivesBlocks self.old.table s blocks.items self.new.left))) }
+        ensures end { IfSome self.old.left (λ s. IfOk result (λ o. IfNone o (GivesBlock self.old.table [] s (Ok None) [] self.new.left))) }
+        ensures fault { IfSome self.old.left (λ s. IfErr result (λ e. GivesBlock self.old.table [] s (Err e) [] self.new.left)) }
 
         // What holds of any reader.
         ensures kept { KeepsAnswer result self.new.answered }

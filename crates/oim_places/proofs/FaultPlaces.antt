@@ -14,9 +14,9 @@ use Rattle.oim_decode.specs.Blocks.{GivesBlock, ReadsRows}
 use Rattle.oim_rows.specs.Streams.{IsOutside, Stream, ending, stream_of}
 use Rattle.oim_rows.specs.declared.fault.TableFault.{TableFault}
 use Rattle.oim_places.specs.Reports.{IsReportOf}
-use Rattle.oim_places.specs.FaultPlaces.{HasRecordOf, HasRow, IsPlaceAt, IsRowAt, IsTableFault, column_text, fault_of_file, is_of_file, row_or_empty, unknown_place}
+use Rattle.oim_places.specs.FaultPlaces.{EndsStream, HasRecordOf, HasRow, IsPlaceAt, IsRowAt, IsTableFault, column_text, fault_of_file, is_of_file, row_or_empty, unknown_place}
 use Rattle.oim_places.specs.FolderFiles.{FoundAt, HoldsAt}
-use Rattle.oim_places.specs.state.FaultPlaces.{EndsStream, ReadsFault}
+use Rattle.oim_places.specs.state.FaultPlaces.{ReadsFault}
 use Rattle.oim_places.specs.LineNumbers.{IsLineOf}
 use Rattle.oim_places.specs.declared.fault_places.FaultPlace.{FaultPlace}
 use Rattle.oim_places.specs.declared.records.RowAgain.{RowAgain}

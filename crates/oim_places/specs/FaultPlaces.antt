@@ -3,7 +3,7 @@ use Rattle.std.specs.Prelude.{◌≡◌, ◌⊎◌, ℕ, zero, suc, Bool, true, 
 use Rattle.csv.specs.Records.{field_at, fields_of}
 use Rattle.oim_records.specs.Grids.{Field, Record, grid}
 use Rattle.oim_files.specs.Metadata.{profile}
-use Rattle.oim_rows.specs.Streams.{IsOutside, table_stream}
+use Rattle.oim_rows.specs.Streams.{IsOutside, Stream, table_stream}
 use Rattle.oim_rows.specs.declared.fault.TableFault.{TableFault}
 use Rattle.oim_rows.specs.declared.fault.TableKind.{TableKind}
 use Rattle.oim_rows.specs.declared.fault.TableKind.TheVariants as kind
@@ -75,13 +75,21 @@ is_of_file kind.NoThread = true
 abbrev pub unknown_place : FaultPlace
 unknown_place = record { line = None; header = []; cell = [] }
 
--- the first fault of the table whose file has these bytes
-abbrev pub fault_of_file : ReportValue → (table : ℕ) → List ℕ → Option TableFault
-fault_of_file report table bytes = (table_stream report table profile.rows (Some bytes)).fault
+-- the stream of the table whose file has these bytes
+abbrev pub stream_of_file : ReportValue → (table : ℕ) → List ℕ → Stream
+stream_of_file report table bytes = table_stream report table profile.rows (Some bytes)
 
--- this is that fault, or one that comes from outside the table
+-- the first fault of that table
+abbrev pub fault_of_file : ReportValue → (table : ℕ) → List ℕ → Option TableFault
+fault_of_file report table bytes = (stream_of_file report table bytes).fault
+
+-- the fault of a table's stream as it is found by reading: a reader may fail and memory may run out
+abbrev pub EndsStream : (table : ℕ) → Stream → TableFault → Type 0
+EndsStream table s f = IsOutside table f ⊎ (s.fault ≡ Some f)
+
+-- the same of the table's file
 abbrev pub IsTableFault : ReportValue → (table : ℕ) → List ℕ → TableFault → Type 0
-IsTableFault report table bytes f = IsOutside table f ⊎ (fault_of_file report table bytes ≡ Some f)
+IsTableFault report table bytes f = EndsStream table (stream_of_file report table bytes) f
 
 -- the table's file has these bytes and the fault, and these are its header and the fault's record
 abbrev pub HasRecordOf : ReportValue → TableFault → RowAgain → List ℕ → Type 0
@@ -92,13 +100,13 @@ abbrev pub IsPlaceIn : (row column : ℕ) → FaultPlace → List ℕ → Type 0
 IsPlaceIn row column p bytes = (p.header ≡ (stands_at bytes row column).header) × (p.cell ≡ (stands_at bytes row column).cell)
     × IsLineOf row bytes p.line
 
--- the file has the fault, and what stands there is that of its place
-abbrev pub HasPlaceIn : ReportValue → TableFault → FaultPlace → List ℕ → Type 0
-HasPlaceIn report f p bytes = (fault_of_file report f.table bytes ≡ Some f) × IsPlaceIn f.row f.column p bytes
+-- the fault has a place in the file at this path, which has it, its first; and this holds of the bytes
+abbrev pub HasFaultIn : Files → List ℕ → ReportValue → TableFault → (List ℕ → Type 0) → Type 0
+HasFaultIn files path report f holds = (is_of_file f.kind ≡ false) × FoundIn files path (λ bytes. (fault_of_file report f.table bytes ≡ Some f) × holds bytes)
 
--- the place is that of the fault in the file at this path, which has it there
+-- what stands there is that of the place
 abbrev pub IsPlaceAt : Files → List ℕ → ReportValue → TableFault → FaultPlace → Type 0
-IsPlaceAt files path report f p = (is_of_file f.kind ≡ false) × FoundIn files path (HasPlaceIn report f p)
+IsPlaceAt files path report f p = HasFaultIn files path report f (IsPlaceIn f.row f.column p)
 
 -- the path of a table's file, in the folder of the metadata's path
 abbrev pub IsTablePath : List ℕ → ReportValue → ℕ → List ℕ → Type 0

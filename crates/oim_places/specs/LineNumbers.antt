@@ -42,9 +42,12 @@ begins Field b = false
 begins Quoted b = false
 begins Quote b = false
 
--- the line of the byte behind this one; the number is one of 64 bits
+-- the line of the byte behind one in a line, which stands behind a CR or not: LF behind CR ends no other. The number is one of 64 bits
+abbrev pub line_behind_byte : ℕ → Bool → ℕ → ℕ
+line_behind_byte line after_cr b = if ends_line b && not (after_cr && nat_eq b 10) then min (line + 1) (2 ^ 64 - 1) else line
+
 abbrev pub line_after : LineCounter → ℕ → ℕ
-line_after c b = if ends_line b && not (c.after_cr && nat_eq b 10) then min (c.line + 1) (2 ^ 64 - 1) else c.line
+line_after c b = line_behind_byte c.line c.after_cr b
 
 -- the counter one byte on, before the record begins
 abbrev pub one_byte_on : LineCounter → ℕ → LineCounter
@@ -79,7 +82,7 @@ IsLineOf number bytes line = IfSome line (λ n. line_of_record number bytes ≡ 
 
 -- the line of the byte behind one more, and whether a CR stands before it
 abbrev pub next_line : ℕ × Bool → ℕ → ℕ × Bool
-next_line at b = (if ends_line b && not (at.1 && nat_eq b 10) then min (at.0 + 1) (2 ^ 64 - 1) else at.0, nat_eq b 13)
+next_line at b = (line_behind_byte at.0 at.1 b, nat_eq b 13)
 
 -- the line at which a text begins that stands behind these bytes
 abbrev pub line_behind : List ℕ → ℕ

@@ -4,8 +4,8 @@ ghost use Rattle.std.specs.Prelude.{◌≡◌, ◌<◌, [], IfOk, IfSome, length
 ghost use Rattle.csv.specs.Records.{fields_of};
 ghost use Rattle.oim_records.specs.Grids.{grid};
 ghost use Rattle.oim_records.specs.Reads.{TakesRecord};
-ghost use Rattle.oim_places.specs.FaultPlaces.{HasRow, IsTableFault};
-ghost use Rattle.oim_places.specs.state.FaultPlaces.{EndsStream, FileHasRow, TakesNth};
+ghost use Rattle.oim_places.specs.FaultPlaces.{EndsStream, HasRow, IsTableFault};
+ghost use Rattle.oim_places.specs.state.FaultPlaces.{FileHasRow, TakesNth};
 
 use csv::ByteRecord;
 use oim_decode::TableBlocks;

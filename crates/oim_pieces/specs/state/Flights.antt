@@ -7,6 +7,7 @@ use Rattle.oim_rows.specs.RowFacts.{TableHeaderValue}
 use Rattle.oim_rows.specs.Streams.{IsOutside, Stream, ending, facts_of_rows, stream_from}
 use Rattle.oim_rows.specs.declared.fault.TableFault.{TableFault}
 use Rattle.oim_decode.specs.Apart.{Apart}
+use Rattle.oim_decode.specs.Blocks.{ReadsRows}
 use Rattle.oim_decode.specs.PieceAnswers.{IsJoined, IsPieceDecoded}
 use Rattle.oim_pieces.specs.state.Cutting.{CutterLeft}
 use Rattle.oim_pieces.specs.Flights.{steps_for}
@@ -55,11 +56,15 @@ abbrev pub KeepsStream : Option Stream → Option Stream → Type 0
 KeepsStream old new = IfSome old (λ s. new ≡ Some s)
 
 -- what is left behind a piece: nothing but its fault, or what comes next
-abbrev pub behind : Option TableFault → Option Stream → Option Stream
+abbrev pub fault_or_left : Option TableFault → Option Stream → Option Stream
 fault_or_left None next = next
 fault_or_left (Some e) next = Some (ending (Some e))
 
--- these rows have the facts of a piece that was joined, and of the stream that was left behind it this is left: nothing but the fault of the piece, if it has one
+-- the rows of a piece that was joined were read from this stream, and behind it this is left, unless it has a fault
+abbrev pub ReadsJoined : ℕ → Stream → Stream → Option Stream → Type 0
+ReadsJoined table whole joined left = ReadsRows table whole joined.rows (fault_or_left joined.fault left)
+
+-- these rows have the facts of a piece that was joined, and behind it is left what was left before, unless it has a fault
 abbrev pub GivesJoined : Stream → Option Stream → List (List Fact) → Option Stream → Type 0
 GivesJoined joined before rows after = (facts_of_rows rows ≡ facts_of_rows joined.rows) × (after ≡ fault_or_left joined.fault before)
 

@@ -1,8 +1,7 @@
 -- How the record of a table's fault is found in the files.
-use Rattle.std.specs.Prelude.{◌≡◌, ◌⊎◌, ◌+◌, ℕ, List, Option, Some, IfSome, drop, slice_get}
+use Rattle.std.specs.Prelude.{◌≡◌, ◌+◌, ℕ, List, Option, Some, IfSome, drop, slice_get}
 use Rattle.oim_records.specs.Grids.{Record, grid}
 use Rattle.oim_report.specs.ReportValue.{ReportValue}
-use Rattle.oim_rows.specs.Streams.{IsOutside, Stream}
 use Rattle.oim_rows.specs.declared.fault.TableFault.{TableFault}
 use Rattle.oim_places.specs.FaultPlaces.{HasRow, IsTableFault}
 
@@ -17,7 +16,3 @@ ReadsFault told report f bytes = (told ≡ Some bytes) × IsTableFault report f.
 -- the record so many places behind the next one, and those that are left behind it
 abbrev pub TakesNth : List Record → ℕ → Record → Option (List Record) → Type 0
 TakesNth left before row after = (slice_get left before ≡ Some row) × (after ≡ Some (drop (before + 1) left))
-
--- the fault of a table's stream as it is found by reading: a reader may fail and memory may run out
-abbrev pub EndsStream : (table : ℕ) → Stream → TableFault → Type 0
-EndsStream table s f = IsOutside table f ⊎ (s.fault ≡ Some f)
