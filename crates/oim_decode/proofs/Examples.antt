@@ -147,7 +147,7 @@ another_fault (inl h) = let numbers : 30 ≡ 21 = ap number_found h.0 in absurd 
 another_fault (inr h) = absurd (omega (arith, h.1))
 
 -- an end or a fault is answered again
-answered_again : KeepsAnswer {A = ℕ} (Ok None) (Some None) × KeepsAnswer {A = ℕ} (Err failed) (Some (Some failed)) × KeepsAnswer (Ok (Some 7)) None
+answered_again : KeepsAnswer {A = ℕ} (Ok None) (Some None) × KeepsAnswer {A = ℕ} (Err failed) (Some (Some failed)) × KeepsAnswer {A = ℕ} (Ok (Some 7)) None
     × (KeepsAnswer {A = ℕ} (Ok None) None → ⊥) × (KeepsAnswer {A = ℕ} (Err failed) (Some None) → ⊥)
 answered_again = (refl, refl, tt, λ h. absurd (cc h), λ h. absurd (cc h))
 
