@@ -8,9 +8,9 @@ use Rattle.csv.specs.Records.{field_at}
 use Rattle.oim_names.specs.Names.{is_row_identifier}
 use Rattle.oim_records.specs.Grids.{Field, Record}
 use Rattle.oim_resolve.specs.FactParts.{FactParts as Fact}
-use Rattle.oim_decode.specs.Apart.{Apart, apart_from, apart_row, cut_at, id_in, joined, repeated_from, repeated_id}
+use Rattle.oim_decode.specs.Apart.{Apart, apart_from, apart_row, cut_at, id_in, joined_piece, repeated_from, repeated_id}
 use Rattle.oim_rows.specs.Header.{fault_at, is_empty, or_else}
-use Rattle.oim_decode.specs.Pieces.{PieceThenRest, RowsInPieces, behind, pieces_from, records_of, stream_then}
+use Rattle.oim_decode.specs.Pieces.{PieceThenRest, RowsInPieces, pieces_from, records_of, stream_then, stream_until}
 use Rattle.oim_rows.specs.RowFacts.{TableHeaderValue, checked, facts_from, id_fault, id_place_of, ids_after, limit_fault, ragged_fault, row_fault, row_of, row_result, text_fault}
 use Rattle.oim_rows.specs.Streams.{Stream, ending, row_in_front, stream_from}
 use Rattle.oim_rows.specs.WholeTable.{ids_of}
@@ -81,13 +81,13 @@ cut_first g n a = ap (λ m. ending (Some (repeated_id g m))) (add-zero n)
 
 -- a row with an identifier in front
 joined_id : (g : TableHeaderValue) (n : ℕ) (before : List Field) (own : Option TableFault) (facts : Result (List Fact) TableFault) (f : Field) (rest : Apart)
-    → joined g n before (apart_row own facts (f ∷ []) rest)
-    ≡ row_in_front (checked (or_else own (if list_any (bytes_eq f) before then Some (repeated_id g n) else None)) facts) (joined g (n + 1) (before ++ f ∷ []) rest)
+    → joined_piece g n before (apart_row own facts (f ∷ []) rest)
+    ≡ row_in_front (checked (or_else own (if list_any (bytes_eq f) before then Some (repeated_id g n) else None)) facts) (joined_piece g (n + 1) (before ++ f ∷ []) rest)
 joined_id g n before (Some e) facts f rest = refl
 joined_id g n before None (Err e) f rest = by (list_any (bytes_eq f) before)
   where
     by : (b : Bool) → cut_at g n (if b then Some 0 else None) (record { rows = []; ids = f ∷ []; fault = Some e })
-        ≡ row_in_front (checked (if b then Some (repeated_id g n) else None) (Err e)) (joined g (n + 1) (before ++ f ∷ []) rest)
+        ≡ row_in_front (checked (if b then Some (repeated_id g n) else None) (Err e)) (joined_piece g (n + 1) (before ++ f ∷ []) rest)
     by true = cut_first g n (record { rows = []; ids = f ∷ []; fault = Some e })
     by false = refl
 joined_id g n before None (Ok facts) f rest = by (list_any (bytes_eq f) before)
@@ -96,13 +96,13 @@ joined_id g n before None (Ok facts) f rest = by (list_any (bytes_eq f) before)
     whole = record { rows = facts ∷ rest.rows; ids = f ∷ rest.ids; fault = rest.fault }
 
     by : (b : Bool) → cut_at g n (if b then Some 0 else repeated_from 1 (before ++ f ∷ []) rest.ids) whole
-        ≡ row_in_front (checked (if b then Some (repeated_id g n) else None) (Ok facts)) (joined g (n + 1) (before ++ f ∷ []) rest)
+        ≡ row_in_front (checked (if b then Some (repeated_id g n) else None) (Ok facts)) (joined_piece g (n + 1) (before ++ f ∷ []) rest)
     by true = cut_first g n whole
     by false = ap (λ o. cut_at g n o whole) (repeated_shifts 0 (before ++ f ∷ []) rest.ids) ∙ cut_later g n facts (f ∷ rest.ids) rest (repeated_from 0 (before ++ f ∷ []) rest.ids)
 
 -- a row in front where the table has no identifiers
 joined_plain : (g : TableHeaderValue) (n : ℕ) (before : List Field) (own : Option TableFault) (facts : Result (List Fact) TableFault) (rest : Apart) → rest.ids ≡ []
-    → joined g n before (apart_row own facts [] rest) ≡ row_in_front (checked own facts) (joined g (n + 1) before rest)
+    → joined_piece g n before (apart_row own facts [] rest) ≡ row_in_front (checked own facts) (joined_piece g (n + 1) before rest)
 joined_plain g n before (Some e) facts rest none = refl
 joined_plain g n before None (Err e) rest none = refl
 joined_plain g n before None (Ok facts) rest none = rw none refl
@@ -119,10 +119,10 @@ no_ids g n (r ∷ rows) is = by (row_fault g n [] r) (facts_from g.report g.tabl
 
 joined_row : (g : TableHeaderValue) (n : ℕ) (before : List Field) (own : Option TableFault) (facts : Result (List Fact) TableFault) (r : Record) (rest : Apart) (o : Option ℕ) → id_place_of g ≡ o
     → (id_place_of g ≡ None → rest.ids ≡ [])
-    → joined g n before (apart_row own facts (id_in o r) rest) ≡ row_in_front (checked (or_else own (repeats_at g.table o n before r)) facts) (joined g (n + 1) (before ++ id_in o r) rest)
+    → joined_piece g n before (apart_row own facts (id_in o r) rest) ≡ row_in_front (checked (or_else own (repeats_at g.table o n before r)) facts) (joined_piece g (n + 1) (before ++ id_in o r) rest)
 joined_row g n before own facts r rest None is none =
-    joined_plain g n before own facts rest (none is) ∙ ap (λ f. row_in_front (checked f facts) (joined g (n + 1) before rest)) (plain own)
-    ∙ ap (λ ids. row_in_front (checked (or_else own None) facts) (joined g (n + 1) ids rest)) (sym (append-nil before))
+    joined_plain g n before own facts rest (none is) ∙ ap (λ f. row_in_front (checked f facts) (joined_piece g (n + 1) before rest)) (plain own)
+    ∙ ap (λ ids. row_in_front (checked (or_else own None) facts) (joined_piece g (n + 1) ids rest)) (sym (append-nil before))
   where
     plain : (a : Option TableFault) → a ≡ or_else a None
     plain None = refl
@@ -130,10 +130,10 @@ joined_row g n before own facts r rest None is none =
 joined_row g n before own facts r rest (Some p) is none =
     joined_id g n before own facts (unwrap_or (field_at r p) []) rest
     ∙ ap (λ q. row_in_front (checked (or_else own (if list_any (bytes_eq (unwrap_or (field_at r p) [])) before then Some (fault_at g.table n (unwrap_or q 0 + 1) kind.RepeatedRowId) else None)) facts)
-    (joined g (n + 1) (before ++ unwrap_or (field_at r p) [] ∷ []) rest)) is
+    (joined_piece g (n + 1) (before ++ unwrap_or (field_at r p) [] ∷ []) rest)) is
 
 -- A stream is the join of its rows, decoded apart
-pub stream_joined : (g : TableHeaderValue) (n : ℕ) (ids : List Field) (rows : List Record) → stream_from g n ids rows ≡ joined g n ids (apart_from g n rows)
+pub stream_joined : (g : TableHeaderValue) (n : ℕ) (ids : List Field) (rows : List Record) → stream_from g n ids rows ≡ joined_piece g n ids (apart_from g n rows)
 unfolding stream_from apart_from
 stream_joined g n ids [] = refl
 stream_joined g n ids (r ∷ rows) =
@@ -141,7 +141,7 @@ stream_joined g n ids (r ∷ rows) =
     let rest = apart_from g (n + 1) rows in
     ap (λ o. row_in_front (checked o facts) (stream_from g (n + 1) (ids_after (id_place_of g) ids r) rows)) (row_fault-apart g n ids r)
     ∙ ap (row_in_front (checked (or_else (row_fault g n [] r) (repeats_at g.table (id_place_of g) n ids r)) facts))
-    (stream_joined g (n + 1) (ids_after (id_place_of g) ids r) rows ∙ ap (λ before. joined g (n + 1) before rest) (ids_and (id_place_of g) ids r))
+    (stream_joined g (n + 1) (ids_after (id_place_of g) ids r) rows ∙ ap (λ before. joined_piece g (n + 1) before rest) (ids_and (id_place_of g) ids r))
     ∙ sym (joined_row g n ids (row_fault g n [] r) facts r rest (id_place_of g) refl (no_ids g (n + 1) rows))
 
 -- ROWS BEHIND ROWS
@@ -158,7 +158,7 @@ in_front_of_both : (a : Result (List Fact) TableFault) (s t : Stream) → row_in
 in_front_of_both (Err e) s t = refl
 in_front_of_both (Ok facts) s t = by s.fault refl
   where
-    by : (f : Option TableFault) → s.fault ≡ f → row_in_front (Ok facts) (behind s.fault s t) ≡ behind s.fault (row_in_front (Ok facts) s) t
+    by : (f : Option TableFault) → s.fault ≡ f → row_in_front (Ok facts) (stream_until s.fault s t) ≡ stream_until s.fault (row_in_front (Ok facts) s) t
     by None e = rw e refl
     by (Some x) e = rw e refl
 
@@ -194,7 +194,7 @@ whole_ids g n (r ∷ rows) none = by (row_fault g n [] r) (facts_from g.report g
     by None (Ok facts) none ids = ap (λ t. id_in (id_place_of g) r ++ t) (ids none) ∙ more (id_place_of g)
 
 -- a piece with a fault has one where it is joined
-joined_ends : (g : TableHeaderValue) (n : ℕ) (before : List Field) (a : Apart) (e : TableFault) → a.fault ≡ Some e → (x : TableFault) × ((joined g n before a).fault ≡ Some x)
+joined_ends : (g : TableHeaderValue) (n : ℕ) (before : List Field) (a : Apart) (e : TableFault) → a.fault ≡ Some e → (x : TableFault) × ((joined_piece g n before a).fault ≡ Some x)
 joined_ends g n before a e is = by (repeated_from 0 before a.ids)
   where
     by : (o : Option ℕ) → (x : TableFault) × ((cut_at g n o a).fault ≡ Some x)
@@ -206,11 +206,11 @@ then_ends s t u e is = rw is refl
 
 -- behind a piece, what comes next is read with the identifiers of the piece
 pub piece_then : (g : TableHeaderValue) (n : ℕ) (ids : List Field) (p : List Record) (next : List Field → Stream)
-    → stream_then (joined g n ids (apart_from g n p)) (next (ids ++ ids_of (id_place_of g) p)) ≡ stream_then (joined g n ids (apart_from g n p)) (next (ids ++ (apart_from g n p).ids))
+    → stream_then (joined_piece g n ids (apart_from g n p)) (next (ids ++ ids_of (id_place_of g) p)) ≡ stream_then (joined_piece g n ids (apart_from g n p)) (next (ids ++ (apart_from g n p).ids))
 piece_then g n ids p next = by (apart_from g n p).fault refl
   where
     s : Stream
-    s = joined g n ids (apart_from g n p)
+    s = joined_piece g n ids (apart_from g n p)
 
     by : (o : Option TableFault) → (apart_from g n p).fault ≡ o → stream_then s (next (ids ++ ids_of (id_place_of g) p)) ≡ stream_then s (next (ids ++ (apart_from g n p).ids))
     by None is = ap (λ t. stream_then s (next (ids ++ t))) (sym (whole_ids g n p is))
@@ -228,7 +228,7 @@ unfolding pieces_from stream_from
 rows_in_pieces g n ids [] = refl
 rows_in_pieces g n ids (p ∷ ps) =
     piece_then_rest g n ids p (records_of ps)
-    ∙ ap (stream_then (joined g n ids (apart_from g n p))) (rows_in_pieces g (n + length p) (ids ++ (apart_from g n p).ids) ps)
+    ∙ ap (stream_then (joined_piece g n ids (apart_from g n p))) (rows_in_pieces g (n + length p) (ids ++ (apart_from g n p).ids) ps)
 
 pub then_assoc : (s t u : Stream) → stream_then (stream_then s t) u ≡ stream_then s (stream_then t u)
 then_assoc s t u = by s.rows t.rows s.fault t.fault

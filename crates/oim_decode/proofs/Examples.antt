@@ -13,9 +13,9 @@ use Rattle.oim_rows.specs.Header.{fault_at, file_fault}
 use Rattle.oim_rows.specs.Streams.{ending}
 use Rattle.oim_rows.specs.declared.fault.TableFault.{TableFault}
 use Rattle.oim_rows.specs.declared.fault.TableKind.TheVariants as kind
-use Rattle.oim_decode.specs.state.RowTexts.{AddsFacts, facts_in}
-use Rattle.oim_decode.specs.Blocks.{AnswersFacts, GivesFound, IsBehind, LeavesNone, ReadsRows}
-use Rattle.oim_decode.specs.state.Blocks.{AddsNone, CountsRow, TakesOne, has_row, left_of, turns_left}
+use Rattle.oim_decode.specs.state.RowTexts.{AddsFacts, facts_of_answer}
+use Rattle.oim_decode.specs.Blocks.{AnswersFacts, GivesFound, IsBehind, KeepsAnswer, LeavesNone, ReadsRows}
+use Rattle.oim_decode.specs.state.Blocks.{AddsNone, CountsRow, TakesOne, end_or_left, has_row, turns_left}
 use Rattle.oim_decode.specs.Heads.{header_in, table_header_in}
 use Rattle.oim_decode.specs.state.Heads.{mark}
 
@@ -25,17 +25,16 @@ a = record { id = codes "a"; value = None; decimals = None; dimensions = [] }
 abbrev b : Fact
 b = record { id = codes "b"; value = None; decimals = None; dimensions = [] }
 
--- a row may have no facts
 -- a settled table has nothing left but its ending
-ended : left_of (Some None) (Some (record { rows = (a ∷ []) ∷ []; fault = None })) ≡ Some (ending None)
+ended : end_or_left (Some None) (Some (record { rows = (a ∷ []) ∷ []; fault = None })) ≡ Some (ending None)
 ended = refl
 
 -- also where that is a fault; one that is still read has its rows
 abbrev failed : TableFault
 failed = file_fault 0 kind.Read
 
-left_then : (left_of None (Some (record { rows = (a ∷ []) ∷ []; fault = None })) ≡ Some (record { rows = (a ∷ []) ∷ []; fault = None }))
-    × (left_of (Some (Some failed)) None ≡ Some (ending (Some failed)))
+left_then : (end_or_left None (Some (record { rows = (a ∷ []) ∷ []; fault = None })) ≡ Some (record { rows = (a ∷ []) ∷ []; fault = None }))
+    × (end_or_left (Some (Some failed)) None ≡ Some (ending (Some failed)))
 left_then = (refl, refl)
 
 -- two rows and the end behind them are looked for, or nothing
@@ -83,7 +82,7 @@ facts_lost_for_memory : AnswersFacts 0 (a ∷ []) (Err (file_fault 0 kind.Memory
 facts_lost_for_memory = (refl, refl, inr refl)
 
 -- ROWS. The facts of an answer are added to others; none are with a fault
-a_row_added : (facts_in (Ok (a ∷ b ∷ [])) ≡ a ∷ b ∷ []) × (facts_in (Err failed) ≡ [])
+a_row_added : (facts_of_answer (Ok (a ∷ b ∷ [])) ≡ a ∷ b ∷ []) × (facts_of_answer (Err failed) ≡ [])
 a_row_added = (refl, refl)
 
 two_facts_added : AddsFacts 0 (Ok (a ∷ b ∷ [])) (b ∷ []) (b ∷ a ∷ b ∷ []) (Ok tt)
@@ -146,6 +145,11 @@ found_and_forgotten h = absurd (cc h)
 another_fault : GivesFound 0 [] (Some twice) (Err failed) (Some (Some failed)) → ⊥
 another_fault (inl h) = let numbers : 30 ≡ 21 = ap number_found h.0 in absurd (omega (arith, numbers))
 another_fault (inr h) = absurd (omega (arith, h.1))
+
+-- an end or a fault is answered again
+answered_again : KeepsAnswer {A = ℕ} (Ok None) (Some None) × KeepsAnswer {A = ℕ} (Err failed) (Some (Some failed)) × KeepsAnswer {A = ℕ} (Ok (Some 7)) None
+    × (KeepsAnswer {A = ℕ} (Ok None) None → ⊥) × (KeepsAnswer {A = ℕ} (Err failed) (Some None) → ⊥)
+answered_again = (refl, refl, tt, λ h. absurd (cc h), λ h. absurd (cc h))
 
 waits_for_ever : LeavesNone (Err failed) (a ∷ []) → ⊥
 waits_for_ever h = absurd (cc h)

@@ -15,12 +15,13 @@ use Rattle.oim_report.specs.declared.kind.Kind.TheVariants as type
 use Rattle.oim_resolve.specs.Facts.{cell_result, fact_of, rest_faults}
 use Rattle.oim_resolve.specs.FactParts.{FactParts as Fact}
 use Rattle.oim_resolve.specs.declared.fact.CellFault.TheVariants as cell
-use Rattle.oim_decode.specs.Apart.{Apart, apart_from, apart_row, cut_at, id_in, joined, repeated_from, repeated_id}
+use Rattle.oim_decode.specs.Apart.{Apart, apart_from, apart_row, cut_at, id_in, joined_piece, repeated_from, repeated_id}
 use Rattle.oim_rows.specs.Header.{fault_at, file_fault}
-use Rattle.oim_decode.specs.PieceAnswers.{IsJoined, apart_then, left_behind, refused}
-use Rattle.oim_decode.specs.state.PieceAnswers.{AddsApart, AddsRowFacts, EndsRows, StepsRow, TakesRow, no_rows}
+use Rattle.oim_decode.specs.PieceAnswers.{IsJoined, apart_then, fault_or_next, refused}
+use Rattle.oim_decode.specs.state.PieceAnswers.{AddsApart, EndsRows, StepsRow, TakesRow, no_rows}
 use Rattle.oim_decode.specs.state.RowEnds.{counts_from, stretches}
-use Rattle.oim_decode.specs.Pieces.{AreCut, EndsBetween, behind, pieces_from, records_of, stream_then}
+use Rattle.oim_decode.specs.state.RowTexts.{AddsRowFacts}
+use Rattle.oim_decode.specs.Pieces.{AreCut, EndsBetween, pieces_from, records_of, stream_then, stream_until}
 use Rattle.oim_rows.specs.RowFacts.{TableHeaderValue}
 use Rattle.oim_rows.specs.Streams.{Stream, ending}
 use Rattle.oim_rows.specs.declared.fault.TableKind.TheVariants as kind
@@ -89,17 +90,17 @@ came_before = (refl, refl, refl)
 repeated_row : repeated_id header 7 ≡ fault_at 0 7 2 kind.RepeatedRowId
 repeated_row = refl
 
-within_a_piece : joined header 1 [] both ≡ record { rows = (note (codes "a") (codes "x") ∷ []) ∷ []; fault = Some (fault_at 0 2 2 kind.RepeatedRowId) }
+within_a_piece : joined_piece header 1 [] both ≡ record { rows = (note (codes "a") (codes "x") ∷ []) ∷ []; fault = Some (fault_at 0 2 2 kind.RepeatedRowId) }
 within_a_piece = refl
 
-across_pieces : joined header 5 (codes "a" ∷ []) (record { rows = [] ∷ []; ids = codes "a" ∷ []; fault = None }) ≡ ending (Some (fault_at 0 5 2 kind.RepeatedRowId))
+across_pieces : joined_piece header 5 (codes "a" ∷ []) (record { rows = [] ∷ []; ids = codes "a" ∷ []; fault = None }) ≡ ending (Some (fault_at 0 5 2 kind.RepeatedRowId))
 across_pieces = refl
 
 -- before the fault of the row's cells, and before that of a later row
-before_the_cells : joined header 5 (codes "a" ∷ []) (record { rows = []; ids = codes "a" ∷ []; fault = Some (fault_at 0 5 1 (kind.Cell cell.BadNumber)) }) ≡ ending (Some (fault_at 0 5 2 kind.RepeatedRowId))
+before_the_cells : joined_piece header 5 (codes "a" ∷ []) (record { rows = []; ids = codes "a" ∷ []; fault = Some (fault_at 0 5 1 (kind.Cell cell.BadNumber)) }) ≡ ending (Some (fault_at 0 5 2 kind.RepeatedRowId))
 before_the_cells = refl
 
-no_repetition : joined header 5 (codes "b" ∷ []) both ≡ cut_at header 5 (Some 1) both
+no_repetition : joined_piece header 5 (codes "b" ∷ []) both ≡ cut_at header 5 (Some 1) both
 no_repetition = refl
 
 -- ONE BEHIND THE OTHER: nothing comes behind a fault
@@ -107,7 +108,7 @@ abbrev one : Stream
 one = record { rows = [] ∷ []; fault = None }
 
 behind_a_fault : (stream_then (ending (Some (fault_at 0 5 0 kind.Ragged))) one ≡ ending (Some (fault_at 0 5 0 kind.Ragged))) × (stream_then one one ≡ record { rows = [] ∷ [] ∷ []; fault = None })
-    × (behind None one (ending (Some (fault_at 0 5 0 kind.Ragged))) ≡ record { rows = [] ∷ []; fault = Some (fault_at 0 5 0 kind.Ragged) })
+    × (stream_until None one (ending (Some (fault_at 0 5 0 kind.Ragged))) ≡ record { rows = [] ∷ []; fault = Some (fault_at 0 5 0 kind.Ragged) })
 behind_a_fault = (refl, refl, refl)
 
 in_two_pieces : pieces_from header 1 [] ((line [] (codes "a") ∷ []) ∷ (line [] (codes "b") ∷ line [] (codes "a") ∷ []) ∷ [])
@@ -159,7 +160,7 @@ piece_ends = (inl refl, inl refl)
 joined_or_refused : IsJoined header 5 (codes "a" ∷ []) first (ending (Some (fault_at 0 5 2 kind.RepeatedRowId))) × IsJoined header 5 [] first (ending (Some (file_fault 0 kind.Memory)))
 joined_or_refused = (inl refl, inr refl)
 
-left_of_a_table : (left_behind None one ≡ one) × (left_behind (Some (fault_at 0 5 0 kind.Ragged)) one ≡ ending (Some (fault_at 0 5 0 kind.Ragged)))
+left_of_a_table : (fault_or_next None one ≡ one) × (fault_or_next (Some (fault_at 0 5 0 kind.Ragged)) one ≡ ending (Some (fault_at 0 5 0 kind.Ragged)))
 left_of_a_table = (refl, refl)
 
 -- where the facts of rows end, and rows in stretches

@@ -17,7 +17,7 @@ use Rattle.oim_rows.specs.declared.fault.TableFault.{TableFault}
 use Rattle.oim_decode.specs.Apart.{Apart, apart_from}
 use Rattle.oim_decode.specs.Heads.{table_header_in}
 use Rattle.oim_decode.specs.state.Heads.{mark}
-use Rattle.oim_decode.specs.PieceAnswers.{IsDecoded, refused}
+use Rattle.oim_decode.specs.PieceAnswers.{IsPieceDecoded, refused}
 
 -- BYTES
 
@@ -123,6 +123,6 @@ one_read old false new takes = takes.1 ∙ sym (ap (drop 1) takes.0)
 -- MEMORY
 
 -- no row, since memory was refused
-pub refused_decoded : (g : TableHeaderValue) (n : ℕ) (rs : List Record) (a : Apart) → a ≡ refused g.table → IsDecoded g n rs a
+pub refused_decoded : (g : TableHeaderValue) (n : ℕ) (rs : List Record) (a : Apart) → a ≡ refused g.table → IsPieceDecoded g n rs a
 unfolding apart_from
 refused_decoded g n rs a is = inr (record { front = []; rest = rs; split = refl; good = refl; is = is })

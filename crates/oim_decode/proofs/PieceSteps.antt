@@ -11,7 +11,7 @@ use Rattle.oim_rows.specs.RowFacts.{TableHeaderValue, facts_from, id_fault, id_p
 use Rattle.oim_rows.specs.declared.fault.TableFault.{TableFault}
 use Rattle.oim_rows.specs.declared.fault.TableKind.TheVariants as kind
 use Rattle.oim_decode.specs.Apart.{Apart, apart_from, apart_row, id_in}
-use Rattle.oim_decode.specs.PieceAnswers.{IsDecoded, PieceLeft, apart_then, refused}
+use Rattle.oim_decode.specs.PieceAnswers.{IsPieceDecoded, PieceLeft, apart_then, refused}
 use Rattle.oim_decode.specs.state.PieceAnswers.{AddsApart, EndsRows, StepsRow, TakesRow, cells_apart, no_rows}
 
 abbrev pub answer : List (List Fact) → List Field → Option TableFault → Apart
@@ -102,13 +102,13 @@ one_decoded g first rs n (r ∷ rest) new before after (done, split, is, number,
     one more = omega (arith, more, number)
 
 pub all_decoded : (g : TableHeaderValue) (first : ℕ) (rs : List Record) (n : ℕ) (old : List Record) (before after : Apart) → HasDecoded g first rs n old before → EndsRows g n old before after
-    → IsDecoded g first rs after
+    → IsPieceDecoded g first rs after
 all_decoded g first rs n old before after (done, split, is, number, good) ends = by ends
   where
     fine : (apart_from g first done).fault ≡ None
     fine = ap (λ (b : Apart). b.fault) (sym is) ∙ good
 
-    by : AddsApart g.table before (apart_from g n old) after → IsDecoded g first rs after
+    by : AddsApart g.table before (apart_from g n old) after → IsPieceDecoded g first rs after
     by (inl whole) =
         inl (whole ∙ ap (λ b. apart_then b (apart_from g n old)) is ∙ ap (λ k. apart_then (apart_from g first done) (apart_from g k old)) number
         ∙ sym (apart_append g first done old fine) ∙ ap (apart_from g first) (sym split))
@@ -144,7 +144,7 @@ ids_within g n (r ∷ rows) small = by (row_fault g n [] r) refl (facts_from g.r
     by None is (Ok facts) more =
         omega (arith, more (omega (arith, within_limit g n [] r is)), one_id (id_place_of g) r, length-append (id_in (id_place_of g) r) (apart_from g (n + 1) rows).ids)
 
-pub decoded_within : (g : TableHeaderValue) (n : ℕ) (rs : List Record) (a : Apart) → n ≤ g.limit + 1 → IsDecoded g n rs a → n + length a.ids ≤ g.limit + 2
+pub decoded_within : (g : TableHeaderValue) (n : ℕ) (rs : List Record) (a : Apart) → n ≤ g.limit + 1 → IsPieceDecoded g n rs a → n + length a.ids ≤ g.limit + 2
 decoded_within g n rs a small (inl is) = subst (λ (b : Apart). n + length b.ids ≤ g.limit + 2) (sym is) (ids_within g n rs small)
 decoded_within g n rs a small (inr h) =
     let same : length a.ids ≡ length (apart_from g n h.front).ids = ap (λ (b : Apart). length b.ids) (h.is ∙ then_fault (apart_from g n h.front) (file_fault g.table kind.Memory)) in

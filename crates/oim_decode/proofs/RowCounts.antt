@@ -12,9 +12,9 @@ use Rattle.oim_rows.specs.declared.fault.TableFault.{TableFault}
 use Rattle.oim_rows.specs.declared.fault.TableKind.TheVariants as kind
 use Rattle.oim_decode.specs.Apart.{Apart, apart_row, id_in}
 use Rattle.oim_decode.specs.PieceAnswers.{apart_then, refused}
-use Rattle.oim_decode.specs.state.PieceAnswers.{AddsRowFacts, cells_apart, no_rows}
+use Rattle.oim_decode.specs.state.PieceAnswers.{cells_apart, no_rows}
 use Rattle.oim_decode.specs.state.RowEnds.{counts_from, stretches}
-use Rattle.oim_decode.specs.state.RowTexts.{AddsFacts, facts_in}
+use Rattle.oim_decode.specs.state.RowTexts.{AddsFacts, AddsRowFacts, facts_of_answer}
 use Rattle.oim_decode.proofs.PieceSteps.{answer, then_fault}
 
 -- the facts of one row more
@@ -46,7 +46,7 @@ row_counted before after facts ends ends' rows rows' count is marks more all so 
 
 -- the answer for a row's facts is that for one row more
 pub adds_row_facts : (table : ℕ) (answer : Result (List Fact) TableFault) (before after : List Fact) (rows rows' : List (List Fact)) (r : Result (Unit {0}) TableFault)
-    → AddsFacts table answer before after (Ok tt) → rows' ≡ rows ++ facts_in answer ∷ [] → AddsRowFacts table answer rows rows' (Ok tt)
+    → AddsFacts table answer before after (Ok tt) → rows' ≡ rows ++ facts_of_answer answer ∷ [] → AddsRowFacts table answer rows rows' (Ok tt)
 adds_row_facts table answer before after rows rows' r adds more = (adds.0, more)
 
 -- STRETCHES
@@ -59,18 +59,18 @@ closed full last =
 -- a row behind those of the stretches before
 pub adds_behind : (table : ℕ) (answer : Result (List Fact) TableFault) (front before after : List (List Fact)) (r : Result (Unit {0}) TableFault) → AddsRowFacts table answer before after r
     → AddsRowFacts table answer (front ++ before) (front ++ after) r
-adds_behind table answer front before after (Ok u) (is, more) = (is, ap (λ t. front ++ t) more ∙ sym (append_assoc front before (facts_in answer ∷ [])))
+adds_behind table answer front before after (Ok u) (is, more) = (is, ap (λ t. front ++ t) more ∙ sym (append_assoc front before (facts_of_answer answer ∷ [])))
 adds_behind table answer front before after (Err e) (same, or) = (ap (λ t. front ++ t) same, or)
 
 -- ANSWERS
 
 -- a good row
-pub adds_good : (x : RowValue) (before : Apart) (rows : List (List Fact)) (ids : List Field) → facts_of_row x ≡ Ok (facts_in (facts_of_row x))
-    → rows ≡ before.rows ++ facts_in (facts_of_row x) ∷ [] → ids ≡ before.ids ++ id_in (id_place_of x.header) x.fields
+pub adds_good : (x : RowValue) (before : Apart) (rows : List (List Fact)) (ids : List Field) → facts_of_row x ≡ Ok (facts_of_answer (facts_of_row x))
+    → rows ≡ before.rows ++ facts_of_answer (facts_of_row x) ∷ [] → ids ≡ before.ids ++ id_in (id_place_of x.header) x.fields
     → answer rows ids None ≡ apart_then before (cells_apart x)
 adds_good x before rows ids good more kept =
     let id = id_in (id_place_of x.header) x.fields in
-    let facts = facts_in (facts_of_row x) in
+    let facts = facts_of_answer (facts_of_row x) in
     ap (λ (r : List (List Fact)). answer r ids None) more
     ∙ ap (λ (i : List Field). answer (before.rows ++ facts ∷ []) i None) (kept ∙ ap (λ t. before.ids ++ t) (sym (append-nil id)))
     ∙ ap (λ a. apart_then before (apart_row None a id no_rows)) (sym good)

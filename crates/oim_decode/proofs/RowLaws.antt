@@ -17,7 +17,7 @@ use Rattle.oim_rows.specs.state.Streams.{early_row_answer}
 use Rattle.oim_rows.proofs.StreamLaws.{gives_end, gives_fault, gives_row, outside}
 use Rattle.oim_rows.specs.declared.fault.TableFault.{TableFault}
 use Rattle.oim_decode.specs.state.Blocks.{AddsNone, AddsRow, CountsRow, TakesOne, has_row}
-use Rattle.oim_decode.specs.state.RowTexts.{AddsFacts, facts_in}
+use Rattle.oim_decode.specs.state.RowTexts.{AddsFacts, facts_of_answer}
 
 pub known : {A : Type 0} (o : Option A) → IfSome o (λ _. Unit {0})
 known None = tt
@@ -54,8 +54,8 @@ pub no_id : (o : Option ℕ) (ids : List Field) (r : Record) → o ≡ None → 
 no_id o ids r is = sym (ap (λ q. ids_after q ids r) is)
 
 -- facts that are an answer are those in it
-pub is_given : (answer : Result (List Fact) TableFault) (facts : List Fact) → answer ≡ Ok facts → answer ≡ Ok (facts_in answer)
-is_given answer facts is = is ∙ ap (λ a. Ok (facts_in a)) (sym is)
+pub is_given : (answer : Result (List Fact) TableFault) (facts : List Fact) → answer ≡ Ok facts → answer ≡ Ok (facts_of_answer answer)
+is_given answer facts is = is ∙ ap (λ a. Ok (facts_of_answer a)) (sym is)
 
 -- what a read record adds
 pub adds_end : (table n : ℕ) (g : TableHeaderValue) (ids : List Field) (before : List Fact) (old new : Option (List Record)) (r : Record) (after : Option Stream) → TakesRecord old false r new
@@ -74,11 +74,11 @@ adds_outside n g ids before None e after outside = tt
 adds_outside n g ids before (Some rs) e after outside = (refl, inl outside)
 
 pub adds_row : (n : ℕ) (g : TableHeaderValue) (ids ids2 : List Field) (before now : List Fact) (old new : Option (List Record)) (r : Record) → TakesRecord old true r new
-    → (row_result g n ids r ≡ Ok (facts_in (row_result g n ids r))) × (now ≡ before ++ facts_in (row_result g n ids r)) → ids2 ≡ ids_after (id_place_of g) ids r
+    → (row_result g n ids r ≡ Ok (facts_of_answer (row_result g n ids r))) × (now ≡ before ++ facts_of_answer (row_result g n ids r)) → ids2 ≡ ids_after (id_place_of g) ids r
     → IfSome (option_map (stream_from g n ids) old) (λ s. AddsRow g.table s before now (Ok true) (option_map (stream_from g (n + 1) ids2) new))
 adds_row n g ids ids2 before now None new r took added kept = tt
 adds_row n g ids ids2 before now (Some rs) new r took added kept =
-    (facts_in (row_result g n ids r), added.1, gives_row n g ids ids2 (Some rs) new r (facts_in (row_result g n ids r)) took (inr (sym added.0)) kept)
+    (facts_of_answer (row_result g n ids r), added.1, gives_row n g ids ids2 (Some rs) new r (facts_of_answer (row_result g n ids r)) took (inr (sym added.0)) kept)
 
 -- a row's own fault is its answer
 pub own_fault : (g : TableHeaderValue) (n : ℕ) (ids : List Field) (r : Record) (e : TableFault) → row_fault g n ids r ≡ Some e → OrNoMemory g.table (Err e) (row_result g n ids r)

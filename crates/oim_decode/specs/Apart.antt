@@ -51,5 +51,5 @@ cut_at g n None a = record { rows = a.rows; fault = a.fault }
 cut_at g n (Some k) a = record { rows = take k a.rows; fault = Some (repeated_id g (n + k)) }
 
 -- what a piece from row n on gives where the rows before it have these identifiers
-abbrev pub joined : TableHeaderValue → ℕ → List Field → Apart → Stream
-joined g n before a = cut_at g n (repeated_from 0 before a.ids) a
+abbrev pub joined_piece : TableHeaderValue → ℕ → List Field → Apart → Stream
+joined_piece g n before a = cut_at g n (repeated_from 0 before a.ids) a

@@ -39,8 +39,8 @@ pub record GivesBlock (table : ℕ) (before : List Fact) (s : Stream) (result : 
   pub reads : ReadsRows table s rows left
   pub answers : AnswersFacts table (before ++ facts_of_rows rows) result pending left
 
--- what is answered again after an answer
-abbrev pub KeepsAnswer : Result (Option (List Fact)) TableFault → Option (Option TableFault) → Type 0
+-- an end or a fault is what is answered again
+abbrev pub KeepsAnswer : {A : Type 0} → Result (Option A) TableFault → Option (Option TableFault) → Type 0
 KeepsAnswer (Ok (Some block)) answered = ⊤
 KeepsAnswer (Ok None) answered = answered ≡ Some None
 KeepsAnswer (Err e) answered = answered ≡ Some (Some e)

@@ -6,24 +6,25 @@ use Rattle.csv.specs.declared.parser.State.TheVariants as state
 use Rattle.oim_records.specs.Cuts.{is_between, state_after}
 use Rattle.oim_records.specs.Grids.{Field, Record, records_left}
 use Rattle.oim_report.specs.ReportValue.{ReportValue}
-use Rattle.oim_decode.specs.Apart.{apart_from, joined}
+use Rattle.oim_decode.specs.Apart.{apart_from, joined_piece}
 use Rattle.oim_rows.specs.Header.{header_fault}
 use Rattle.oim_rows.specs.RowFacts.{TableHeaderValue}
 use Rattle.oim_rows.specs.Streams.{Stream, ending, table_header_of, stream_from, table_stream}
 use Rattle.oim_rows.specs.declared.fault.TableFault.{TableFault}
 
-abbrev pub behind : Option TableFault → Stream → Stream → Stream
-behind None s t = record { rows = s.rows ++ t.rows; fault = t.fault }
-behind (Some e) s t = s
+-- a stream up to this fault, or, where there is none, to its end, and what comes behind it there
+abbrev pub stream_until : Option TableFault → Stream → Stream → Stream
+stream_until None s t = record { rows = s.rows ++ t.rows; fault = t.fault }
+stream_until (Some e) s t = s
 
 -- a stream, and what comes behind it unless it has a fault
 abbrev pub stream_then : Stream → Stream → Stream
-stream_then s t = behind s.fault s t
+stream_then s t = stream_until s.fault s t
 
 -- the pieces from row n on, where the rows before them have these identifiers
 unfoldable pub pieces_from : TableHeaderValue → ℕ → List Field → List (List Record) → Stream
 pieces_from g n ids [] = ending None
-pieces_from g n ids (p ∷ ps) = stream_then (joined g n ids (apart_from g n p)) (pieces_from g (n + length p) (ids ++ (apart_from g n p).ids) ps)
+pieces_from g n ids (p ∷ ps) = stream_then (joined_piece g n ids (apart_from g n p)) (pieces_from g (n + length p) (ids ++ (apart_from g n p).ids) ps)
 
 -- the records of pieces, piece after piece
 abbrev pub records_of : List (List Record) → List Record
@@ -38,7 +39,7 @@ abbrev pub PieceThenRest : Type 0
 PieceThenRest =
     (g : TableHeaderValue) (n : ℕ) (ids : List Field) (piece rest : List Record)
     → stream_from g n ids (piece ++ rest)
-    ≡ stream_then (joined g n ids (apart_from g n piece)) (stream_from g (n + length piece) (ids ++ (apart_from g n piece).ids) rest)
+    ≡ stream_then (joined_piece g n ids (apart_from g n piece)) (stream_from g (n + length piece) (ids ++ (apart_from g n piece).ids) rest)
 
 -- the bytes end between two records, unless none come behind them
 abbrev pub EndsBetween : List (List ℕ) → List ℕ → Type 0

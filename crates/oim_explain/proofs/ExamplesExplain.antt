@@ -4,19 +4,24 @@ use Rattle.std.specs.Borrow.{Bor}
 use Rattle.std.specs.Prelude.{codes}
 use Rattle.std.specs.Str.{chars}
 use lib.Utf8.{encode}
-use Rattle.oim_explain.specs.Explanations.{explanation_of, place_lines, place_of, sources_of}
+use Rattle.oim_explain.specs.Explanations.{explanation_of, place_lines, place_shown, source_lines, url_place}
 use Rattle.oim_explain.specs.declared.explanation.Explanation.{Explanation}
 
 -- ---- a place in the metadata
 
 -- the file as a whole, its name without control characters, and a place in it
-whole_file : place_of (codes "r/meta.json") [] ≡ codes "r/meta.json"
+whole_file : place_shown (codes "r/meta.json") [] ≡ codes "r/meta.json"
 unfolding chars encode
 whole_file = refl
 
-place_in_it : place_of (codes "r/meta.json") (codes "tables" ∷ codes "t" ∷ []) ≡ codes "/tables/t"
+place_in_it : place_shown (codes "r/meta.json") (codes "tables" ∷ codes "t" ∷ []) ≡ codes "/tables/t"
 unfolding chars encode
 place_in_it = refl
+
+-- the name of the parameters file
+place_of_the_name : place_shown (codes "r/meta.json") url_place ≡ codes "/parameterURL"
+unfolding chars encode
+place_of_the_name = refl
 
 -- ---- the lines of an explanation
 
@@ -57,11 +62,11 @@ three_lines : place_lines misspelt
 three_lines = refl
 
 -- no place elsewhere, no line
-no_source : sources_of [] ≡ []
+no_source : source_lines [] ≡ []
 no_source = refl
 
 -- a line for each place elsewhere, in their order
-two_sources : sources_of (codes "t1.csv, line 2, cell 3: \"net\"" ∷ codes "p.csv, line 2, cell 2: \"EUR\"" ∷ [])
+two_sources : source_lines (codes "t1.csv, line 2, cell 3: \"net\"" ∷ codes "p.csv, line 2, cell 2: \"EUR\"" ∷ [])
     ≡ codes "    t1.csv, line 2, cell 3: \"net\"" ++ lf ++ codes "    p.csv, line 2, cell 2: \"EUR\"" ++ lf
 two_sources = refl
 

@@ -13,11 +13,11 @@ use Rattle.oim_meta.specs.declared.findings.Finding.{Finding}
 use Rattle.oim_report.specs.Parameters.{ParametersValue}
 use Rattle.oim_report.specs.Types.{TypesValue}
 use Rattle.oim_report.specs.declared.limits.Limits.{Limits}
-use Rattle.oim_explain.specs.Explanations.{ExplainsMetadata, HasOther, place_of}
+use Rattle.oim_explain.specs.Explanations.{ExplainsMetadata, HasOther, place_shown}
 use Rattle.oim_explain.specs.declared.explanation.Explanation.{Explanation}
 
 pub explains_finding : {E : Type 0} (limits : Limits) (given : ParametersValue) (types : TypesValue) (path bytes : List ℕ) (f : MetaFault) (x : Finding) (r : Result (Option Explanation) E)
-    → IsFinding limits given types bytes x → IfOk r (λ o. IfSome o (λ e. (x.fault ≡ f) × (e.place ≡ place_of path x.place)))
+    → IsFinding limits given types bytes x → IfOk r (λ o. IfSome o (λ e. (x.fault ≡ f) × (e.place ≡ place_shown path x.place)))
     → IfOk r (λ o. IfSome o (ExplainsMetadata limits given types path bytes f))
 explains_finding limits given types path bytes f x (Ok (Some e)) found h =
     record { place = x.place; found = inl (subst (λ g. IsFinding limits given types bytes (finding g x.place)) h.0 found); named = h.1 }

@@ -18,23 +18,23 @@ use Rattle.oim_explain.specs.declared.explanation.Explanation.{Explanation}
 -- ---- texts
 
 -- the lines of the places elsewhere that a fault comes from
-abbrev pub sources_of : List (List ℕ) → List ℕ
-sources_of [] = []
-sources_of (s ∷ more) = (codes "    " ++ (s ++ 10 ∷ [])) ++ sources_of more
+abbrev pub source_lines : List (List ℕ) → List ℕ
+source_lines [] = []
+source_lines (s ∷ more) = (codes "    " ++ (s ++ 10 ∷ [])) ++ source_lines more
 
 -- the lines of an explanation
 abbrev pub place_lines : Explanation → List ℕ
 place_lines e = codes "    " ++ (e.place ++ (10 ∷ codes "    " ++ (e.found ++ (10 ∷ codes "    " ++ (e.cause.now ++ 10 ∷ [])))))
 
 abbrev pub explanation_of : Explanation → List ℕ
-explanation_of e = place_lines e ++ sources_of e.sources
+explanation_of e = place_lines e ++ source_lines e.sources
 
 -- ---- the metadata
 
 -- a place in the metadata file at this path; no keys lead to the file as a whole
-abbrev pub place_of : List ℕ → Path → List ℕ
-place_of path [] = shown path
-place_of path (key ∷ keys) = pointer_of (key ∷ keys)
+abbrev pub place_shown : List ℕ → Path → List ℕ
+place_shown path [] = shown path
+place_shown path (key ∷ keys) = pointer_of (key ∷ keys)
 
 -- the place of the name of the parameters file
 abbrev pub url_place : Path
@@ -48,7 +48,7 @@ HasBadUrl limits bytes f place = (f ≡ refused.BadParameter) × IsUrlFault limi
 pub record ExplainsMetadata (limits : Limits) (given : ParametersValue) (types : TypesValue) (path bytes : List ℕ) (f : MetaFault) (e : Explanation) : Type 0 where
   pub place : Path
   pub found : IsFinding limits given types bytes (finding f place) ⊎ HasBadUrl limits bytes f place
-  pub named : e.place ≡ place_of path place
+  pub named : e.place ≡ place_shown path place
 
 -- another fault comes first
 pub record Other (limits : Limits) (given : ParametersValue) (types : TypesValue) (bytes : List ℕ) (f : MetaFault) : Type 0 where

@@ -1,22 +1,22 @@
 -- Where an explanation says that the fault of a table is: at its file as a whole, or at a line and a cell of it.
-use Rattle.std.specs.Prelude.{◌≡◌, ◌⊎◌, ◌≤◌, ℕ, false, List, Option, Some, IfSome, length}
+use Rattle.std.specs.Prelude.{◌≡◌, ◌⊎◌, ◌≤◌, ℕ, List, Option, IfSome, length}
 use Rattle.oim_files.specs.Folders.{Files}
 use Rattle.oim_report.specs.ReportValue.{ReportValue}
 use Rattle.oim_rows.specs.declared.fault.TableFault.{TableFault}
-use Rattle.oim_places.specs.FaultPlaces.{FoundIn, IsTablePath, column_place, fault_in, is_of_file}
+use Rattle.oim_places.specs.FaultPlaces.{HasFaultIn, IsTablePath, column_place}
 use Rattle.oim_places.specs.FilePlaces.{place_text}
-use Rattle.oim_places.specs.LineNumbers.{line_of_record}
+use Rattle.oim_places.specs.LineNumbers.{IsLineOf}
 use Rattle.oim_places.specs.Shown.{shown}
 use Rattle.oim_explain.specs.Explanations.{explanation_of}
 use Rattle.oim_explain.specs.declared.explanation.Explanation.{Explanation}
 
 -- the text names the fault's cell by its column, and its row by the line at which it begins in these bytes, if that is known
 abbrev pub NamesPlace : List ℕ → TableFault → List ℕ → List ℕ → Type 0
-NamesPlace path f bytes text = (line : Option ℕ) × IfSome line (λ n. line_of_record f.row bytes ≡ Some n) × (text ≡ place_text path line (column_place f.column))
+NamesPlace path f bytes text = (line : Option ℕ) × IsLineOf f.row bytes line × (text ≡ place_text path line (column_place f.column))
 
 -- the explanation is of the file at this path as a whole, or its place is that of the fault in the file, which has it there, its first
 abbrev pub ExplainsAt : Files → List ℕ → ReportValue → TableFault → Explanation → Type 0
-ExplainsAt files path report f e = (e.place ≡ shown path) ⊎ ((is_of_file f.kind ≡ false) × FoundIn files path (λ bytes. (fault_in report f.table bytes ≡ Some f) × NamesPlace path f bytes e.place))
+ExplainsAt files path report f e = (e.place ≡ shown path) ⊎ HasFaultIn files path report f (λ bytes. NamesPlace path f bytes e.place)
 
 -- the same for a table of a report whose metadata is at this path; a table that is not there is explained at the metadata
 abbrev pub ExplainsTable : Files → List ℕ → ReportValue → TableFault → Explanation → Type 0

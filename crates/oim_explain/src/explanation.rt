@@ -1,7 +1,7 @@
 //! An explanation of a fault, and its lines.
 
 ghost use Rattle.std.specs.Prelude.{◌≡◌, IfOk, string_bytes};
-ghost use Rattle.oim_explain.specs.Explanations.{explanation_of, sources_of};
+ghost use Rattle.oim_explain.specs.Explanations.{explanation_of, source_lines};
 
 use oim_names::{Items, Text};
 use std::alloc::{AllocError, Global};
@@ -23,7 +23,7 @@ pub struct Explanation {
 
 /// The lines of the places elsewhere.
 fn sources_text(alloc: Global, sources: &[Text]) -> Result<String, AllocError>
-    ensures { IfOk result (λ s. string_bytes s ≡ sources_of sources.now) }
+    ensures { IfOk result (λ s. string_bytes s ≡ source_lines sources.now) }
 {
     let mut lines = String::new(alloc);
     for source in sources {

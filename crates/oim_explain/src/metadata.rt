@@ -9,7 +9,7 @@ ghost use Rattle.oim_meta.specs.Refusals.{IsFirstOf};
 ghost use Rattle.oim_meta.specs.WalkReport.{in_metadata};
 ghost use Rattle.oim_entries.specs.declared.fault.MetaFault.TheVariants as refused;
 ghost use Rattle.oim_files.specs.Metadata.{profile};
-ghost use Rattle.oim_explain.specs.Explanations.{ExplainsMetadata, HasBadUrl, HasOther, place_of, url_place};
+ghost use Rattle.oim_explain.specs.Explanations.{ExplainsMetadata, HasBadUrl, HasOther, place_shown, url_place};
 
 use crate::causes::cause;
 use crate::explanation::Explanation;
@@ -22,7 +22,7 @@ use std::alloc::{AllocError, Global};
 
 /// A place in the metadata file at this path: the file for no keys.
 fn place(alloc: Global, path: &str, keys: &[Text]) -> Result<Text, AllocError>
-    ensures { IfOk result (λ t. t ≡ place_of path.now keys.now) }
+    ensures { IfOk result (λ t. t ≡ place_shown path.now keys.now) }
 {
     if keys.is_empty() {
         shown(alloc, path)
@@ -105,7 +105,7 @@ fn of_finding(
     bytes: &[u8],
     finding: &Finding,
 ) -> Result<Explanation, AllocError>
-    ensures { IfOk result (λ e. e.place ≡ place_of path.now finding.now.place) }
+    ensures { IfOk result (λ e. e.place ≡ place_shown path.now finding.now.place) }
 {
     let place = place(alloc, path, finding.place.as_slice())?;
     let (found, cause) = told(alloc, bytes, finding)?;
@@ -138,7 +138,7 @@ fn of_parameter_url(
     metadata: &Metadata,
 ) -> Result<Option<Explanation>, AllocError>
     requires { Reads profile bytes.now (view metadata.now) }
-    ensures { IfOk result (λ o. IfSome o (λ e. HasBadUrl profile bytes.now refused.BadParameter url_place × (e.place ≡ place_of path.now url_place))) }
+    ensures { IfOk result (λ o. IfSome o (λ e. HasBadUrl profile bytes.now refused.BadParameter url_place × (e.place ≡ place_shown path.now url_place))) }
 {
     match metadata.parameter_url(alloc) {
         Err(MetaFault::BadParameter) => {
@@ -158,7 +158,7 @@ fn of_fault(
     fault: MetaFault,
     finding: &Finding,
 ) -> Result<Option<Explanation>, AllocError>
-    ensures some { IfOk result (λ o. IfSome o (λ e. (finding.now.fault ≡ fault) × (e.place ≡ place_of path.now finding.now.place))) }
+    ensures some { IfOk result (λ o. IfSome o (λ e. (finding.now.fault ≡ fault) × (e.place ≡ place_shown path.now finding.now.place))) }
     ensures none { IfOk result (λ o. IfNone o (¬ (finding.now.fault ≡ fault))) }
 {
     if finding.fault == fault {
@@ -223,7 +223,7 @@ pub(crate) fn of_unread(
     fault: MetaFault,
 ) -> Result<Option<Explanation>, AllocError>
     ensures known { IfOk result (λ _. ¬ (unread ≡ refused.Memory)) }
-    ensures some { IfOk result (λ o. IfSome o (λ e. (unread ≡ fault) × (e.place ≡ place_of path.now []))) }
+    ensures some { IfOk result (λ o. IfSome o (λ e. (unread ≡ fault) × (e.place ≡ place_shown path.now []))) }
     ensures none { IfOk result (λ o. IfNone o (¬ (unread ≡ fault))) }
 {
     if unread == MetaFault::Memory {

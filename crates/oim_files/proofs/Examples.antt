@@ -14,7 +14,7 @@ use Rattle.oim_records.specs.Grids.{records_left}
 use Rattle.oim_report.specs.ReportValue.{ReportValue}
 use Rattle.oim_report.specs.declared.limits.Limits.{Limits}
 use Rattle.oim_files.specs.Folders.{Files, first_at}
-use Rattle.oim_files.specs.Metadata.{json_of, profile, read_as, url_in}
+use Rattle.oim_files.specs.Metadata.{front_within, json_of, profile, read_as, url_in}
 use Rattle.oim_files.specs.Steps.{Stops, looking, metadata_steps, opening, parameters_steps, reading, step, steps, types_steps, value_or}
 use Rattle.oim_files.specs.declared.early_fault.EarlyFault.TheVariants as early
 use Rattle.oim_files.specs.declared.early_fault.Source.TheVariants as source
@@ -44,6 +44,10 @@ metadata_at_the_limit = refl
 
 metadata_past_the_limit : read_as {A = ℕ} two_bytes (λ _. Ok 0) (255 ∷ 255 ∷ 255 ∷ []) ≡ Err refused.TooLarge
 metadata_past_the_limit = refl
+
+-- one byte past the limit is read, and no byte behind it
+front_past_the_limit : front_within two_bytes (1 ∷ 2 ∷ 3 ∷ 4 ∷ []) ≡ 1 ∷ 2 ∷ 3 ∷ []
+front_past_the_limit = refl
 
 -- a byte-order mark is passed over, and a text that is not UTF-8 is not JSON
 json_after_a_mark : json_of (239 ∷ 187 ∷ 191 ∷ codes "null") ≡ json_of (codes "null")

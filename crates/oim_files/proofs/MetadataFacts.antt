@@ -23,7 +23,7 @@ use Rattle.oim_meta.specs.Value.{report_of}
 use Rattle.oim_entries.specs.declared.fault.MetaFault.{MetaFault}
 use Rattle.oim_entries.specs.declared.fault.MetaFault.TheVariants as meta
 use Rattle.oim_report.specs.declared.limits.Limits.{Limits}
-use Rattle.oim_files.specs.Metadata.{in_json, json_of, read_as, report_in, report_result, unless_fault, url_in, url_result}
+use Rattle.oim_files.specs.Metadata.{front_within, in_json, json_of, read_as, report_in, report_result, unless_fault, url_in, url_result}
 
 pub json_is : (bytes : List ℕ) (d : Data) → IsJson bytes d → json_of bytes ≡ Some d
 json_is bytes d is = ap (λ b. if b then read (after_mark bytes) else None) (is_utf8-from_IsUtf8 (after_mark bytes) is.0) ∙ is.1
@@ -124,17 +124,17 @@ module _ (limits : Limits) (given : ParametersValue) (types : TypesValue) (d : D
 
 -- bytes past the limit do not matter
 take_reads : {A : Type 0} (limits : Limits) (next : Data → Result A MetaFault) (bytes : List ℕ) (b : Bool) → nat_lt limits.metadata (length bytes) ≡ b
-    → read_as limits next (take (limits.metadata + 1) bytes) ≡ read_as limits next bytes
+    → read_as limits next (front_within limits bytes) ≡ read_as limits next bytes
 take_reads limits next bytes true long =
     let past = ltb-true limits.metadata (length bytes) long in
-    reads_large limits next (take (limits.metadata + 1) bytes) (omega (arith, length-take (limits.metadata + 1) bytes, past))
+    reads_large limits next (front_within limits bytes) (omega (arith, length-take (limits.metadata + 1) bytes, past))
     ∙ sym (reads_large limits next bytes past)
 take_reads limits next bytes false short =
     ap (read_as limits next) (take_all (limits.metadata + 1) bytes (omega (arith, ltb-false limits.metadata (length bytes) short)))
 
-pub url_taken : (limits : Limits) (bytes : List ℕ) → url_result limits (take (limits.metadata + 1) bytes) ≡ url_result limits bytes
+pub url_taken : (limits : Limits) (bytes : List ℕ) → url_result limits (front_within limits bytes) ≡ url_result limits bytes
 url_taken limits bytes = take_reads limits url_in bytes (nat_lt limits.metadata (length bytes)) refl
 
 pub report_taken : (limits : Limits) (given : ParametersValue) (types : TypesValue) (bytes : List ℕ)
-    → report_result limits given types (take (limits.metadata + 1) bytes) ≡ report_result limits given types bytes
+    → report_result limits given types (front_within limits bytes) ≡ report_result limits given types bytes
 report_taken limits given types bytes = take_reads limits (report_in limits given types) bytes (nat_lt limits.metadata (length bytes)) refl

@@ -40,8 +40,8 @@ use Rattle.oim_entries.specs.declared.fault.MetaFault.{MetaFault}
 use Rattle.oim_entries.specs.declared.fault.MetaFault.TheVariants as refused
 use Rattle.oim_files.proofs.MetadataFacts.{report_taken, url_taken}
 use Rattle.oim_files.specs.Folders.{Files}
-use Rattle.oim_files.specs.Metadata.{profile, report_result, url_result}
-use Rattle.oim_files.specs.Steps.{IsAmong, IsReport, Passes, Step, Stops, Takes, bytes_at, looking, metadata_steps, missing, opening, parameters_at, parameters_of, parameters_steps, reading, report_at, step, types_at, types_steps, url_at, value_or, wrong}
+use Rattle.oim_files.specs.Metadata.{front_within, profile, report_result, url_result}
+use Rattle.oim_files.specs.Steps.{IsAmong, IsParameters, IsReport, Passes, Step, Stops, Takes, TakesTo, bytes_at, front_at, looking, metadata_steps, missing, opening, parameters_at, parameters_of, parameters_steps, reading, report_at, step, types_at, types_steps, url_at, value_or, wrong}
 use Rattle.oim_files.specs.declared.early_fault.EarlyFault.{EarlyFault}
 use Rattle.oim_files.specs.declared.early_fault.EarlyFault.TheVariants as early
 use Rattle.oim_files.specs.declared.early_fault.Source.{Source}
@@ -123,7 +123,7 @@ IsOpened told r files path = Passes (opening files path ∷ []) × (told r ≡ S
 
 module _ {R A : Type 0} (told : R → Option (List ℕ)) (r : R) (s : Source) (read : List ℕ → Result A MetaFault) where
   abbrev Read : Files → List ℕ → Result A EarlyFault → Type 0
-  Read files path result = Takes {X = A} (opening files path ∷ reading s (read (bytes_at files path)) ∷ []) (λ a. read (bytes_at files path) ≡ Ok a) result
+  Read files path result = TakesTo {X = A} (opening files path ∷ reading s (read (bytes_at files path)) ∷ []) (read (bytes_at files path)) result
 
   value_read : (a : A) (answer : Result A MetaFault) → OrOutside (Ok a) answer → answer ≡ Ok a
   value_read a answer (inl e) = absurd (ok_no_err a refused.Read e)
@@ -167,14 +167,14 @@ abbrev unread : List EarlyFault
 unread = early.Report source.Report refused.Read ∷ early.Memory ∷ []
 
 abbrev pub IsMetadata : {V : Type 0} → (V → List ℕ) → Files → List ℕ → Result V EarlyFault → Type 0
-IsMetadata items files path result = Takes (metadata_steps files path) (λ v. items v ≡ take most (bytes_at files path)) result
+IsMetadata items files path result = Takes (metadata_steps files path) (λ v. items v ≡ front_at files path) result
 
 pub metadata_read : {R V : Type 0} (told : R → Option (List ℕ)) (r : R) (items : V → List ℕ) (known : Option Files) (path : List ℕ) (result : Result V EarlyFault)
-    → IfSome known (λ files. IsOpened told r files path) → IfSome (told r) (λ bytes. IfOk result (λ v. items v ≡ take most bytes)) → IfErr result (λ o. IsAmong o unread)
+    → IfSome known (λ files. IsOpened told r files path) → IfSome (told r) (λ bytes. IfOk result (λ v. items v ≡ front_within profile bytes)) → IfErr result (λ o. IsAmong o unread)
     → IfSome known (λ files. IsMetadata items files path result)
 metadata_read told r items None path result is bytes refusal = tt
 metadata_read told r items (Some files) path (Ok v) is bytes refusal =
-    ((is.0.0, (refl, tt)), subst (λ k. IfSome k (λ b. items v ≡ take most b)) is.1 bytes)
+    ((is.0.0, (refl, tt)), subst (λ k. IfSome k (λ b. items v ≡ front_within profile b)) is.1 bytes)
 metadata_read told r items (Some files) path (Err o) is bytes refusal =
     stops_later (opening files path ∷ []) (step None unread ∷ []) o is.0 (stops_at (step None unread) [] o (inr refusal))
 
@@ -185,23 +185,23 @@ metadata_none (Some files) path o s = stops_first (opening files path ∷ []) (s
 
 -- a reader read up to the limit
 pub read_most : {R : Type 0} (told : R → Option (List ℕ)) (r inner : R) (limit : ℕ) (start items : List ℕ) → inner ≡ r → limit ≡ most → start ≡ []
-    → IfSome (option_map (take limit) (told inner)) (λ xs. items ≡ start ++ xs) → IfSome (told r) (λ bytes. items ≡ take most bytes)
+    → IfSome (option_map (take limit) (told inner)) (λ xs. items ≡ start ++ xs) → IfSome (told r) (λ bytes. items ≡ front_within profile bytes)
 read_most told r inner limit start items same is empty h =
     let one = subst (λ x. IfSome (option_map (take limit) (told x)) (λ xs. items ≡ start ++ xs)) same h in
     let two = subst (λ k. IfSome (option_map (take k) (told r)) (λ xs. items ≡ start ++ xs)) is one in
     most_of (told r) (subst (λ s. IfSome (option_map (take most) (told r)) (λ xs. items ≡ s ++ xs)) empty two)
   where
-    most_of : (known : Option (List ℕ)) → IfSome (option_map (take most) known) (λ xs. items ≡ xs) → IfSome known (λ bytes. items ≡ take most bytes)
+    most_of : (known : Option (List ℕ)) → IfSome (option_map (take most) known) (λ xs. items ≡ xs) → IfSome known (λ bytes. items ≡ front_within profile bytes)
     most_of None e = tt
     most_of (Some bytes) e = e
 
 -- LOOKING AT WHAT WAS READ
 
 module _ {A : Type 0} (answer : Result A MetaFault) where
-  pub looks_value : (a : A) → answer ≡ Ok a → Takes {X = A} (looking answer ∷ []) (λ x. answer ≡ Ok x) (Ok a)
+  pub looks_value : (a : A) → answer ≡ Ok a → TakesTo {X = A} (looking answer ∷ []) answer (Ok a)
   looks_value a e = ((ap (wrong source.Report) e, tt), e)
 
-  pub looks_fault : (f : MetaFault) → (f ≡ refused.Memory) ⊎ (answer ≡ Err f) → Takes {X = A} (looking answer ∷ []) (λ x. answer ≡ Ok x) (Err (early.Report source.Report f))
+  pub looks_fault : (f : MetaFault) → (f ≡ refused.Memory) ⊎ (answer ≡ Err f) → TakesTo {X = A} (looking answer ∷ []) answer (Err (early.Report source.Report f))
   looks_fault f (inl e) = stops_at (looking answer) [] (early.Report source.Report f) (inr (inl (ap (early.Report source.Report) e)))
   looks_fault f (inr e) = stops_at (looking answer) [] (early.Report source.Report f) (inl (ap (wrong source.Report) e))
 
@@ -221,7 +221,7 @@ abbrev from_types : Files → (base meta types : List ℕ) → List Step
 from_types files base meta types = types_steps files types ++ from_url files base meta types
 
 abbrev pub HasRead : Files → List ℕ → List ℕ → Type 0
-HasRead files meta items = Passes (metadata_steps files meta) × (items ≡ take most (bytes_at files meta))
+HasRead files meta items = Passes (metadata_steps files meta) × (items ≡ front_at files meta)
 
 abbrev pub HasTypes : Files → List ℕ → TypesValue → Type 0
 HasTypes files types known = Passes (types_steps files types) × (types_at files types ≡ Ok known)
@@ -232,10 +232,10 @@ HasUrl items url = Passes (looking (url_result profile items) ∷ []) × (url_re
 abbrev pub HasParameters : Files → List ℕ → Option (List ℕ) → ParametersValue → Type 0
 HasParameters files base url given = Passes (parameters_steps files base url) × (parameters_at files base url ≡ Ok given)
 
-url_same : (files : Files) (meta items : List ℕ) → items ≡ take most (bytes_at files meta) → url_result profile items ≡ url_at files meta
+url_same : (files : Files) (meta items : List ℕ) → items ≡ front_at files meta → url_result profile items ≡ url_at files meta
 url_same files meta items is = ap (url_result profile) is ∙ url_taken profile (bytes_at files meta)
 
-url_named : (files : Files) (meta items : List ℕ) (url : Option (List ℕ)) → items ≡ take most (bytes_at files meta) → url_result profile items ≡ Ok url → value_or None (url_at files meta) ≡ url
+url_named : (files : Files) (meta items : List ℕ) (url : Option (List ℕ)) → items ≡ front_at files meta → url_result profile items ≡ Ok url → value_or None (url_at files meta) ≡ url
 url_named files meta items url is named = ap (value_or None) (sym (url_same files meta items is) ∙ named)
 
 module _ (files : Files) (base meta types : List ℕ) where
@@ -279,10 +279,10 @@ module _ (files : Files) (base meta types : List ℕ) where
 
   pub report_ends : (items : List ℕ) (known : TypesValue) (url : Option (List ℕ)) (given : ParametersValue) (result : Result ReportValue EarlyFault)
       → HasRead files meta items → HasTypes files types known → HasUrl items url → HasParameters files base url given
-      → Takes {X = ReportValue} (looking (report_result profile given known items) ∷ []) (λ r. report_result profile given known items ≡ Ok r) result
+      → TakesTo (looking (report_result profile given known items) ∷ []) (report_result profile given known items) result
       → IsReport files base meta types result
   report_ends items known url given result read typed named parameters takes =
-      last result (subst (λ w. Takes {X = ReportValue} (looking w ∷ []) (λ r. w ≡ Ok r) result) (report_same items known url given read typed named parameters) takes)
+      last result (subst (λ w. TakesTo {X = ReportValue} (looking w ∷ []) w result) (report_same items known url given read typed named parameters) takes)
     where
       looked : Passes (looking (url_at files meta) ∷ [])
       looked = subst (λ w. Passes (looking w ∷ [])) (url_same files meta items read.1) named.0
@@ -290,7 +290,7 @@ module _ (files : Files) (base meta types : List ℕ) where
       found : Passes (parameters_steps files base (value_or None (url_at files meta)))
       found = subst (λ u. Passes (parameters_steps files base u)) (sym (url_named files meta items url read.1 named.1)) parameters.0
 
-      last : (result : Result ReportValue EarlyFault) → Takes {X = ReportValue} (from_report files base meta types) (λ r. report_at files base meta types ≡ Ok r) result
+      last : (result : Result ReportValue EarlyFault) → TakesTo (from_report files base meta types) (report_at files base meta types) result
           → IsReport files base meta types result
       last (Ok r) takes = (
         passes_both (metadata_steps files meta) (from_types files base meta types) read.0
@@ -329,16 +329,13 @@ parameters_stop (Some files) base meta types items known url o read typed named 
 
 pub report_stop : (told : Option Files) (base meta types items : List ℕ) (known : TypesValue) (url : Option (List ℕ)) (given : ParametersValue) (result : Result ReportValue EarlyFault)
     → IfSome told (λ files. HasRead files meta items) → IfSome told (λ files. HasTypes files types known) → HasUrl items url → IfSome told (λ files. HasParameters files base url given)
-    → Takes {X = ReportValue} (looking (report_result profile given known items) ∷ []) (λ r. report_result profile given known items ≡ Ok r) result
+    → TakesTo (looking (report_result profile given known items) ∷ []) (report_result profile given known items) result
     → IfSome told (λ files. IsReport files base meta types result)
 report_stop None base meta types items known url given result read typed named parameters takes = tt
 report_stop (Some files) base meta types items known url given result read typed named parameters takes =
     report_ends files base meta types items known url given result read typed named parameters takes
 
 -- THE PARAMETERS FILE
-
-abbrev pub IsParameters : Files → List ℕ → Option (List ℕ) → Result ParametersValue EarlyFault → Type 0
-IsParameters files base url result = Takes {X = ParametersValue} (parameters_steps files base url) (λ p. parameters_at files base url ≡ Ok p) result
 
 pub no_parameters : (known : Option Files) (base : List ℕ) (url : Option (List ℕ)) (given : ParametersValue) → url ≡ None → given ≡ []
     → IfSome known (λ files. IsParameters files base url (Ok given))
@@ -352,8 +349,7 @@ no_path (Some files) base url o is =
 
 abbrev ReadAt : Files → List ℕ → Result ParametersValue EarlyFault → Type 0
 ReadAt files path result =
-    Takes {X = ParametersValue} (opening files path ∷ reading source.Parameters (parameters_result (grid (bytes_at files path))) ∷ []) (λ p.
-    parameters_result (grid (bytes_at files path)) ≡ Ok p) result
+    TakesTo (opening files path ∷ reading source.Parameters (parameters_result (grid (bytes_at files path))) ∷ []) (parameters_result (grid (bytes_at files path))) result
 
 pub at_path : (known : Option Files) (base url path : List ℕ) (result : Result ParametersValue EarlyFault) → path ≡ base ++ url → IfSome known (λ files. ReadAt files path result)
     → IfSome known (λ files. IsParameters files base (Some url) result)

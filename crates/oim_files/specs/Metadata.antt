@@ -1,5 +1,5 @@
 -- The limits of this profile, and the result of reading a metadata within limits: a value, or its first fault.
-use Rattle.std.specs.Prelude.{ℕ, List, length, nat_lt, if◌then◌else◌, Option, Some, None, Result, Ok, Err, codes}
+use Rattle.std.specs.Prelude.{ℕ, ◌+◌, List, length, take, nat_lt, if◌then◌else◌, Option, Some, None, Result, Ok, Err, codes}
 use Rattle.std.specs.Str.{is_utf8}
 use Rattle.serde_json.specs.Data.{Data}
 use Rattle.serde_json.specs.Read.{read}
@@ -17,6 +17,10 @@ use Rattle.oim_report.specs.declared.limits.Limits.{Limits}
 -- the limits of this profile
 abbrev pub profile : Limits
 profile = record { rows = 100_000_000; tables = 4_096; columns = 4_096; metadata = 67_108_864 }
+
+-- as much of a metadata as is read: its bytes up to one past the limit
+abbrev pub front_within : Limits → List ℕ → List ℕ
+front_within limits bytes = take (limits.metadata + 1) bytes
 
 -- the JSON value that the bytes are, after a byte order mark if there is one
 abbrev pub json_of : List ℕ → Option Data

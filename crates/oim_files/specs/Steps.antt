@@ -10,7 +10,7 @@ use Rattle.oim_entries.specs.TypesFile.{types_result}
 use Rattle.oim_entries.specs.declared.fault.MetaFault.{MetaFault}
 use Rattle.oim_entries.specs.declared.fault.MetaFault.TheVariants as refused
 use Rattle.oim_files.specs.Folders.{Files}
-use Rattle.oim_files.specs.Metadata.{profile, report_result, url_result}
+use Rattle.oim_files.specs.Metadata.{front_within, profile, report_result, url_result}
 use Rattle.oim_files.specs.declared.early_fault.EarlyFault.{EarlyFault}
 use Rattle.oim_files.specs.declared.early_fault.EarlyFault.TheVariants as early
 use Rattle.oim_files.specs.declared.early_fault.Source.{Source}
@@ -21,6 +21,10 @@ use Rattle.oim_files.specs.declared.early_fault.Source.TheVariants as source
 -- the bytes of the file at a path
 abbrev pub bytes_at : Files → List ℕ → List ℕ
 bytes_at files path = unwrap_or (files path) []
+
+-- as much of the metadata at a path as is read
+abbrev pub front_at : Files → List ℕ → List ℕ
+front_at files meta = front_within profile (bytes_at files meta)
 
 -- the value of a file, or an empty one if it has a fault
 abbrev pub value_or : {A : Type 0} → A → Result A MetaFault → A
@@ -127,6 +131,18 @@ abbrev pub Takes : {X : Type 0} → List Step → (X → Type 0) → Result X Ea
 Takes steps right (Ok x) = Passes steps × right x
 Takes steps right (Err o) = Stops steps o
 
+-- the same of the value that what was read gives
+abbrev pub TakesTo : {X : Type 0} → List Step → Result X MetaFault → Result X EarlyFault → Type 0
+TakesTo {X} steps answer result = Takes {X = X} steps (λ x. answer ≡ Ok x) result
+
+-- what the types table gives, or the step at which reading it ends
+abbrev pub IsTypes : Files → List ℕ → Result TypesValue EarlyFault → Type 0
+IsTypes files types result = TakesTo (types_steps files types) (types_at files types) result
+
+-- what the parameters file gives, or the step at which reading it ends
+abbrev pub IsParameters : Files → List ℕ → Option (List ℕ) → Result ParametersValue EarlyFault → Type 0
+IsParameters files base url result = TakesTo (parameters_steps files base url) (parameters_at files base url) result
+
 -- the report that the files give, or the step at which reading them ends
 abbrev pub IsReport : Files → (base meta types : List ℕ) → Result ReportValue EarlyFault → Type 0
-IsReport files base meta types result = Takes {X = ReportValue} (steps files base meta types) (λ r. report_at files base meta types ≡ Ok r) result
+IsReport files base meta types result = TakesTo (steps files base meta types) (report_at files base meta types) result

@@ -1,12 +1,12 @@
 //! The steps in which a report is read from its files. Each step reads a file, or fails with the early fault that
 //! names the file and its fault.
 
-ghost use Rattle.std.specs.Prelude.{◌≡◌, ◌≢◌, ◌⊎◌, ◌+◌, ◌++◌, [], ◌∷◌, IfErr, IfOk, IfSome, Ok, Some, option_map, string_bytes, take};
+ghost use Rattle.std.specs.Prelude.{◌≡◌, ◌≢◌, ◌⊎◌, ◌++◌, [], ◌∷◌, IfErr, IfOk, IfSome, Ok, Some, option_map, string_bytes};
 ghost use Rattle.std.specs.IoError.{error_kind};
 ghost use Rattle.serde_json.specs.View.{view};
 ghost use Rattle.oim_meta.specs.Reading.{Reads};
-ghost use Rattle.oim_files.specs.Metadata.{profile, report_in as said_in};
-ghost use Rattle.oim_files.specs.Steps.{IsAmong, IsReport, Takes, bytes_at, looking, metadata_steps, opening, parameters_at, parameters_steps, types_at, types_steps, url_of};
+ghost use Rattle.oim_files.specs.Metadata.{front_within, profile, report_in as said_in};
+ghost use Rattle.oim_files.specs.Steps.{IsAmong, IsParameters, IsReport, IsTypes, Takes, TakesTo, bytes_at, front_at, looking, metadata_steps, opening, url_of};
 ghost use Rattle.oim_files.specs.declared.early_fault.EarlyFault.TheVariants as early;
 ghost use Rattle.oim_files.specs.declared.early_fault.Source.TheVariants as source;
 ghost use Rattle.oim_entries.specs.declared.fault.MetaFault.TheVariants as refused;
@@ -71,7 +71,7 @@ fn unread(error: io::Error) -> EarlyFault
 
 /// The bytes of a metadata, up to one byte past the limit.
 fn bytes_of<R: Read + Drop>(alloc: Global, reader: R) -> Result<Vec<u8>, EarlyFault>
-    ensures bytes { IfSome (R.remaining reader) (λ bytes. IfOk result (λ v. v.items ≡ take (profile.metadata + 1) bytes)) }
+    ensures bytes { IfSome (R.remaining reader) (λ bytes. IfOk result (λ v. v.items ≡ front_within profile bytes)) }
     ensures refused { IfErr result (λ e. IsAmong e (early.Report source.Report refused.Read ∷ early.Memory ∷ [])) }
 {
     let mut bytes = Vec::new(alloc);
@@ -89,8 +89,7 @@ pub fn metadata_at<R: Read + Drop, F: Folder<R>>(
     path: &str,
 ) -> Result<Vec<u8>, EarlyFault>
     ensures same { F.files folder.new ≡ F.files folder.old }
-    ensures gives { IfSome (F.files folder.old) (λ files.
-        Takes (metadata_steps files path.now) (λ v. v.items ≡ take (profile.metadata + 1) (bytes_at files path.now)) result) }
+    ensures gives { IfSome (F.files folder.old) (λ files. Takes (metadata_steps files path.now) (λ v. v.items ≡ front_at files path.now) result) }
 {
     match opened(alloc, folder, path) {
         Ok(reader) => bytes_of(alloc, reader),
@@ -105,7 +104,7 @@ pub fn types_in<R: Read + Drop, F: Folder<R>>(
     path: &str,
 ) -> Result<Types, EarlyFault>
     ensures same { F.files folder.new ≡ F.files folder.old }
-    ensures gives { IfSome (F.files folder.old) (λ files. Takes (types_steps files path.now) (λ t. types_at files path.now ≡ Ok t) result) }
+    ensures gives { IfSome (F.files folder.old) (λ files. IsTypes files path.now result) }
 {
     let reader = match opened(alloc, folder, path) {
         Ok(reader) => reader,
@@ -125,8 +124,7 @@ fn parameters_of<R: Read + Drop, F: Folder<R>>(
     url: &str,
 ) -> Result<Parameters, EarlyFault>
     ensures same { F.files folder.new ≡ F.files folder.old }
-    ensures gives { IfSome (F.files folder.old) (λ files.
-        Takes (parameters_steps files base.now (Some url.now)) (λ p. parameters_at files base.now (Some url.now) ≡ Ok p) result) }
+    ensures gives { IfSome (F.files folder.old) (λ files. IsParameters files base.now (Some url.now) result) }
 {
     let Ok(path) = path_in(alloc, base, url) else {
         return Err(EarlyFault::Memory);
@@ -149,8 +147,7 @@ pub fn parameters_in<R: Read + Drop, F: Folder<R>>(
     url: Option<Text>,
 ) -> Result<Parameters, EarlyFault>
     ensures same { F.files folder.new ≡ F.files folder.old }
-    ensures gives { IfSome (F.files folder.old) (λ files.
-        Takes (parameters_steps files base.now url) (λ p. parameters_at files base.now url ≡ Ok p) result) }
+    ensures gives { IfSome (F.files folder.old) (λ files. IsParameters files base.now url result) }
 {
     match url {
         Some(url) => parameters_of(alloc, folder, base, url.as_str()),
@@ -170,7 +167,7 @@ fn text_of(string: Option<String>) -> Option<Text>
 
 /// The URL of the parameters file, if the metadata has one.
 pub fn url_in(alloc: Global, metadata: &[u8]) -> Result<Option<Text>, EarlyFault>
-    ensures gives { Takes (looking (url_of metadata.now) ∷ []) (λ u. url_of metadata.now ≡ Ok u) result }
+    ensures gives { TakesTo (looking (url_of metadata.now) ∷ []) (url_of metadata.now) result }
 {
     match parameter_url(alloc, metadata, &Limits::profile()) {
         Ok(url) => Ok(text_of(url)),
@@ -199,7 +196,7 @@ fn report_in(
     parameters: Parameters,
     types: Types,
 ) -> Result<Report, EarlyFault>
-    ensures gives { Takes (looking (said_in profile parameters types (view metadata)) ∷ []) (λ r. said_in profile parameters types (view metadata) ≡ Ok r) result }
+    ensures gives { TakesTo (looking (said_in profile parameters types (view metadata)) ∷ []) (said_in profile parameters types (view metadata)) result }
 {
     match metadata.report_at(alloc, parameters, types, Limits::profile()) {
         Ok(report) => Ok(report),

@@ -15,8 +15,8 @@ use Rattle.oim_rows.specs.declared.fault.TableKind.TheVariants as kind
 use Rattle.oim_decode.specs.Apart.{Apart, apart_from}
 use Rattle.oim_pieces.specs.state.Comings.{Comes}
 use Rattle.oim_pieces.specs.state.Cutting.{IsOver, TakesRows, left_over}
-use Rattle.oim_pieces.specs.Flights.{FewerSteps, IsEnd, KeepsEnd, steps_for}
-use Rattle.oim_pieces.specs.state.Flights.{AreChained, EndsWith, FlyingPiece, IsAnswer, IsFront, KeepsStream, NoMoreSteps, behind, first_of, rows_in, rows_left, steps_in, stream_in}
+use Rattle.oim_pieces.specs.Flights.{FewerSteps, GivesBlocks, IsEnd, steps_for, steps_left}
+use Rattle.oim_pieces.specs.state.Flights.{AreChained, FlyingPiece, GivesJoined, IsEndOfTable, IsFront, IsPieceAnswer, KeepsStream, NoMoreSteps, ReadsJoined, fault_or_left, first_row_of, rows_in, rows_left, steps_in, stream_in}
 use Rattle.oim_pieces.specs.declared.decoded.Asked.{Asked}
 use Rattle.oim_pieces.specs.declared.flying.Coming.TheVariants.{Here, Thread}
 
@@ -69,11 +69,11 @@ abbrev ids_of : List (List ℕ) → Apart
 ids_of [] = record { rows = []; ids = []; fault = None }
 ids_of (k ∷ ks) = record { rows = [] ∷ (ids_of ks).rows; ids = k ∷ (ids_of ks).ids; fault = None }
 
-answer_of_a_piece : IsAnswer header 4 (a ∷ b ∷ []) (ids_of (codes "k" ∷ codes "kk" ∷ []))
+answer_of_a_piece : IsPieceAnswer header 4 (a ∷ b ∷ []) (ids_of (codes "k" ∷ codes "kk" ∷ []))
 unfolding apart_from chars is_row_identifier is_plain_char is_ncname is_name_char is_name_start field_at is_utf8 lib.Utf8.encode
 answer_of_a_piece = record { decoded = inl refl; few = omega arith }
 
-too_many : IsAnswer header 4294967295 (a ∷ b ∷ []) (ids_of (codes "k" ∷ codes "kk" ∷ [])) → ⊥
+too_many : IsPieceAnswer header 4294967295 (a ∷ b ∷ []) (ids_of (codes "k" ∷ codes "kk" ∷ [])) → ⊥
 too_many h = let few : 4294967295 + 2 ≤ 4294967296 = h.few in absurd (omega (arith, few))
 
 -- PIECES: rows 4 and 5, then row 6, and what is cut next begins with row 7
@@ -89,7 +89,7 @@ chained = (refl, refl, (refl, refl, tt))
 not_chained : (AreChained header (front ∷ second ∷ []) 8 → ⊥) × (AreChained header (second ∷ front ∷ []) 7 → ⊥) × (AreChained (limited 8) (front ∷ []) 6 → ⊥)
 not_chained = (λ h. absurd (omega (arith, h.2.1)), λ h. absurd (omega (arith, h.1)), λ h. let limits : 9 ≡ 8 = ap (λ (g : TableHeaderValue). g.limit) h.0 in absurd (omega (arith, limits)))
 
-in_order : (first_of (front ∷ second ∷ []) 7 ≡ 4) × (first_of [] 7 ≡ 7) × (rows_in (front ∷ second ∷ []) ≡ a ∷ b ∷ c ∷ [])
+in_order : (first_row_of (front ∷ second ∷ []) 7 ≡ 4) × (first_row_of [] 7 ≡ 7) × (rows_in (front ∷ second ∷ []) ≡ a ∷ b ∷ c ∷ [])
 in_order = (refl, refl, refl)
 
 -- the rows of the pieces and then those behind them: a comes again as row 7, a row before them was c
@@ -111,10 +111,25 @@ kept = (refl, λ h. absurd (cc h))
 abbrev one : Stream
 one = record { rows = [] ∷ []; fault = None }
 
-behind_a_piece : (behind None (Some one) ≡ Some one) × (behind (Some read) (Some one) ≡ Some (ending (Some read))) × (behind (Some read) None ≡ Some (ending (Some read)))
+behind_a_piece : (fault_or_left None (Some one) ≡ Some one) × (fault_or_left (Some read) (Some one) ≡ Some (ending (Some read))) × (fault_or_left (Some read) None ≡ Some (ending (Some read)))
 behind_a_piece = (refl, refl, refl)
 
-ends : EndsWith 0 (Some (ending None)) None × EndsWith 0 (Some one) (Some read) × (EndsWith 0 (Some one) None → ⊥)
+-- one row was read, which has no facts
+row_given : GivesBlocks 0 one ([] ∷ []) (Some (ending None))
+row_given = record { rows = [] ∷ []; reads = inl (refl, refl); answers = refl }
+
+-- the first of two rows was joined, and the second is left; or its fault is
+first_of_two : ReadsJoined 0 (record { rows = [] ∷ [] ∷ []; fault = None }) one (Some one)
+first_of_two = inl (refl, refl)
+
+first_and_a_failure : ReadsJoined 0 (record { rows = [] ∷ [] ∷ []; fault = None }) (record { rows = [] ∷ []; fault = Some read }) (Some one)
+first_and_a_failure = inr (([] ∷ [], refl), read, inl refl, refl)
+
+-- rows of a joined piece, whose fault ends the table
+joined_to_its_fault : GivesJoined (record { rows = [] ∷ []; fault = Some read }) (Some one) ([] ∷ []) (Some (ending (Some read)))
+joined_to_its_fault = (refl, refl)
+
+ends : IsEndOfTable 0 (Some (ending None)) None × IsEndOfTable 0 (Some one) (Some read) × (IsEndOfTable 0 (Some one) None → ⊥)
 ends = (refl, inl refl, λ h. let counts : 1 ≡ 0 = ap (λ (s : Stream). length s.rows) h in absurd (omega (arith, counts)))
 
 -- AFTER THE END: the same again
@@ -130,13 +145,13 @@ failed = Err read
 ended_again : IsEnd None no_blocks × IsEnd (Some read) failed × (IsEnd (Some read) no_blocks → ⊥) × (IsEnd None failed → ⊥) × (IsEnd None some_blocks → ⊥)
 ended_again = (refl, refl, λ h. absurd (cc h), λ h. absurd (cc h), λ h. h)
 
-end_kept : KeepsEnd no_blocks (Some None) × KeepsEnd failed (Some (Some read)) × KeepsEnd some_blocks None × (KeepsEnd no_blocks None → ⊥) × (KeepsEnd failed (Some None) → ⊥)
-end_kept = (refl, refl, tt, λ h. absurd (cc h), λ h. absurd (cc h))
-
 -- STEPS: three bytes that are not cut, and pieces under way
 three_and_two : (steps_for 2 (Some (codes "kkk")) ≡ Some 5) × (steps_for 2 None ≡ None)
     × (steps_in (record { header = header; ids = []; pieces = front ∷ []; cutter = record { table = 0; limit = 6; next = 6; left = None; over = None; unread = Some (codes "kkk") } }) ≡ Some 4)
 three_and_two = (refl, refl, refl)
+
+steps_of_what_is_left : steps_left (record { table = 0; left = None; answered = None; under_way = 2; unread = Some (codes "kkk") }) ≡ Some 5
+steps_of_what_is_left = refl
 
 no_more : NoMoreSteps (Some 3) (Some 3) × NoMoreSteps None (Some 3) × (NoMoreSteps (Some 3) (Some 4) → ⊥) × (NoMoreSteps (Some 3) None → ⊥)
 no_more = (omega arith, tt, λ h. absurd (omega (arith, h)), λ h. h)

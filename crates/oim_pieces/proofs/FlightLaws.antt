@@ -14,10 +14,10 @@ use Rattle.oim_rows.specs.Streams.{Stream, ending, stream_from}
 use Rattle.oim_rows.specs.declared.fault.TableFault.{TableFault}
 use Rattle.oim_decode.specs.Apart.{Apart}
 use Rattle.oim_decode.specs.Blocks.{ReadsRows}
-use Rattle.oim_decode.specs.PieceAnswers.{IsDecoded, IsJoined, left_behind}
+use Rattle.oim_decode.specs.PieceAnswers.{IsJoined, IsPieceDecoded, fault_or_next}
 use Rattle.oim_decode.proofs.JoinLaws.{piece_is_read}
 use Rattle.oim_pieces.specs.state.Cutting.{CutterLeft, IsOver, TakesRows}
-use Rattle.oim_pieces.specs.state.Flights.{AreChained, EndsWith, FlightLeft, FlyingPiece, IsAnswer, IsFront, KeepsStream, behind, first_of, rows_in, rows_left, stream_in}
+use Rattle.oim_pieces.specs.state.Flights.{AreChained, FlightLeft, FlyingPiece, IsEndOfTable, IsFront, IsPieceAnswer, KeepsStream, ReadsJoined, fault_or_left, first_row_of, rows_in, rows_left, stream_in}
 
 -- COUNTS
 
@@ -40,7 +40,7 @@ rows_few xs = by (ends_at_end (state_after state.StartRecord xs)) (left-count st
 
 -- ONE MORE PIECE
 
-first-more : (fs : List FlyingPiece) (f : FlyingPiece) (next next' : ℕ) → f.first ≡ next → first_of (fs ++ f ∷ []) next' ≡ first_of fs next
+first-more : (fs : List FlyingPiece) (f : FlyingPiece) (next next' : ℕ) → f.first ≡ next → first_row_of (fs ++ f ∷ []) next' ≡ first_row_of fs next
 first-more [] f next next' at = at
 first-more (x ∷ fs) f next next' at = refl
 
@@ -60,7 +60,7 @@ module _ (g : TableHeaderValue) (ids : List Field) (fs : List FlyingPiece) where
   stream_more f next next' (Some records) (Some rest) at takes =
       let all : rows_in (fs ++ f ∷ []) ++ rest ≡ rows_in fs ++ records =
       ap (λ t. t ++ rest) (rows-more fs f) ∙ append_assoc (rows_in fs) f.rows rest ∙ ap (λ t. rows_in fs ++ t) (sym takes) in
-      ap (λ n. some (stream_from g n ids (rows_in (fs ++ f ∷ []) ++ rest))) (first-more fs f next next' at) ∙ ap (λ t. some (stream_from g (first_of fs next) ids t)) all
+      ap (λ n. some (stream_from g n ids (rows_in (fs ++ f ∷ []) ++ rest))) (first-more fs f next next' at) ∙ ap (λ t. some (stream_from g (first_row_of fs next) ids t)) all
     where
       some : Stream → Option Stream
       some s = Some s
@@ -68,7 +68,7 @@ module _ (g : TableHeaderValue) (ids : List Field) (fs : List FlyingPiece) where
   pub stream_kept : (next : ℕ) (left left' : Option (List Record)) → KeepsLeft left left' → KeepsStream (rows_left g ids fs next left) (rows_left g ids fs next left')
   stream_kept next None left' same = tt
   stream_kept next (Some xs) None same = absurd same
-  stream_kept next (Some xs) (Some ys) same = ap (λ t. some (stream_from g (first_of fs next) ids (rows_in fs ++ t))) same
+  stream_kept next (Some xs) (Some ys) same = ap (λ t. some (stream_from g (first_row_of fs next) ids (rows_in fs ++ t))) same
     where
       some : Stream → Option Stream
       some s = Some s
@@ -84,7 +84,7 @@ stream_then (Some s) b c ab bc = subst (λ o. KeepsStream o c) ab bc
 -- THE FIRST PIECE
 
 next-behind : (g : TableHeaderValue) (ids ids' : List Field) (n m : ℕ) (o : Option TableFault) (rest : List Record) → n ≡ m → (o ≡ None → ids ≡ ids')
-    → Some (left_behind o (stream_from g n ids rest)) ≡ behind o (Some (stream_from g m ids' rest))
+    → Some (fault_or_next o (stream_from g n ids rest)) ≡ fault_or_left o (Some (stream_from g m ids' rest))
 next-behind g ids ids' n m None rest at same = ap (λ k. some (stream_from g k ids rest)) at ∙ ap (λ l. some (stream_from g m l rest)) (same refl)
   where
     some : Stream → Option Stream
@@ -93,15 +93,15 @@ next-behind g ids ids' n m (Some e) rest at same = refl
 
 pub front_read : (g : TableHeaderValue) (ids ids' : List Field) (f : FlyingPiece) (fs : List FlyingPiece) (next : ℕ) (left : Option (List Record)) (s : Stream)
     → AreChained g (f ∷ fs) next → IsFront f ids s ids'
-    → IfSome (rows_left g ids (f ∷ fs) next left) (λ whole. ReadsRows g.table whole s.rows (behind s.fault (rows_left g ids' fs next left)))
+    → IfSome (rows_left g ids (f ∷ fs) next left) (λ whole. ReadsJoined g.table whole s (rows_left g ids' fs next left))
 front_read g ids ids' f fs next None s chain front = tt
 front_read g ids ids' f fs next (Some rest) s chain front =
     let a = front.answer in
-    let decoded : IsDecoded g f.first f.rows a = subst (λ (x : TableHeaderValue). IsDecoded x f.first f.rows a) chain.0 front.decoded in
+    let decoded : IsPieceDecoded g f.first f.rows a = subst (λ (x : TableHeaderValue). IsPieceDecoded x f.first f.rows a) chain.0 front.decoded in
     let joined : IsJoined g f.first ids a s = subst (λ (x : TableHeaderValue). IsJoined x f.first ids a s) chain.0 front.joined in
     let read = piece_is_read g f.first ids f.rows (rows_in fs ++ rest) a s decoded joined in
-    let left = next-behind g (ids ++ a.ids) ids' (f.first + length f.rows) (first_of fs next) s.fault (rows_in fs ++ rest) chain.1 (λ none. sym (front.behind none)) in
-    subst (λ (t : List Record). ReadsRows g.table (stream_from g f.first ids t) s.rows (behind s.fault (Some (stream_from g (first_of fs next) ids' (rows_in fs ++ rest)))))
+    let left = next-behind g (ids ++ a.ids) ids' (f.first + length f.rows) (first_row_of fs next) s.fault (rows_in fs ++ rest) chain.1 (λ none. sym (front.behind none)) in
+    subst (λ (t : List Record). ReadsJoined g.table (stream_from g f.first ids t) s (Some (stream_from g (first_row_of fs next) ids' (rows_in fs ++ rest))))
     (sym (append_assoc f.rows (rows_in fs) rest))
     (subst (λ o. ReadsRows g.table (stream_from g f.first ids (f.rows ++ (rows_in fs ++ rest))) s.rows o) left read)
 
@@ -112,25 +112,25 @@ none_left g n ids = refl
 
 -- no piece is under way, and no more is cut
 pub end_found : (table : ℕ) (g : TableHeaderValue) (ids : List Field) (next : ℕ) (left : Option (List Record)) (o : Option TableFault) → IsOver table left o
-    → EndsWith table (rows_left g ids [] next left) o
+    → IsEndOfTable table (rows_left g ids [] next left) o
 end_found table g ids next None None over = tt
 end_found table g ids next (Some records) None over = ap (stream_from g next ids) over ∙ none_left g next ids
 end_found table g ids next left (Some e) over = over
 
 -- what was asked for is what was promised
-pub answer_same : (g g' : TableHeaderValue) (first first' : ℕ) (rows rows' : List Record) (a : Apart) → IsAnswer g' first' rows' a → g' ≡ g → first' ≡ first → rows' ≡ rows → IsAnswer g first rows a
+pub answer_same : (g g' : TableHeaderValue) (first first' : ℕ) (rows rows' : List Record) (a : Apart) → IsPieceAnswer g' first' rows' a → g' ≡ g → first' ≡ first → rows' ≡ rows → IsPieceAnswer g first rows a
 answer_same g g' first first' rows rows' a is header at same =
-    subst (λ r. IsAnswer g first r a) same (subst (λ n. IsAnswer g n rows' a) at (subst (λ (x : TableHeaderValue). IsAnswer x first' rows' a) header is))
+    subst (λ r. IsPieceAnswer g first r a) same (subst (λ n. IsPieceAnswer g n rows' a) at (subst (λ (x : TableHeaderValue). IsPieceAnswer x first' rows' a) header is))
 
 -- the first of the pieces under way was joined, and the others stay
 pub joined_front : (old : FlightLeft) (g g' : TableHeaderValue) (ids ids' : List Field) (f : FlyingPiece) (all fs : List FlyingPiece) (cutter : CutterLeft) (s : Stream)
     → record { header = g; ids = ids; pieces = all; cutter = cutter } ≡ old → all ≡ f ∷ fs → g.table ≡ cutter.table → AreChained g all cutter.next → IsFront f ids s ids'
-    → g' ≡ g → IfSome (stream_in old) (λ whole. ReadsRows old.cutter.table whole s.rows (behind s.fault (stream_in (record { header = g'; ids = ids'; pieces = fs; cutter = cutter }))))
+    → g' ≡ g → IfSome (stream_in old) (λ whole. ReadsJoined old.cutter.table whole s (stream_in (record { header = g'; ids = ids'; pieces = fs; cutter = cutter })))
 joined_front old g g' ids ids' f all fs cutter s view is table chain front same =
     let next = cutter.next in
     let left = cutter.left in
     let read = front_read g ids ids' f fs next left s (subst (λ l. AreChained g l next) is chain) front in
-    let placed = subst (λ t. IfSome (rows_left g ids (f ∷ fs) next left) (λ whole. ReadsRows t whole s.rows (behind s.fault (rows_left g ids' fs next left)))) table read in
-    let whole = subst (λ l. IfSome (rows_left g ids l next left) (λ whole. ReadsRows cutter.table whole s.rows (behind s.fault (rows_left g ids' fs next left)))) (sym is) placed in
-    let new = subst (λ (h : TableHeaderValue). IfSome (rows_left g ids all next left) (λ whole. ReadsRows cutter.table whole s.rows (behind s.fault (rows_left h ids' fs next left)))) (sym same) whole in
-    subst (λ (v : FlightLeft). IfSome (stream_in v) (λ whole. ReadsRows v.cutter.table whole s.rows (behind s.fault (rows_left g' ids' fs next left)))) view new
+    let placed = subst (λ t. IfSome (rows_left g ids (f ∷ fs) next left) (λ whole. ReadsJoined t whole s (rows_left g ids' fs next left))) table read in
+    let whole = subst (λ l. IfSome (rows_left g ids l next left) (λ whole. ReadsJoined cutter.table whole s (rows_left g ids' fs next left))) (sym is) placed in
+    let new = subst (λ (h : TableHeaderValue). IfSome (rows_left g ids all next left) (λ whole. ReadsJoined cutter.table whole s (rows_left h ids' fs next left))) (sym same) whole in
+    subst (λ (v : FlightLeft). IfSome (stream_in v) (λ whole. ReadsJoined v.cutter.table whole s (rows_left g' ids' fs next left))) view new

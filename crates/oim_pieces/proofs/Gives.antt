@@ -5,14 +5,14 @@ use Rattle.oim_rows.specs.Header.{file_fault}
 use Rattle.oim_rows.specs.Streams.{IsOutside, Stream, ending, facts_of_rows}
 use Rattle.oim_rows.specs.declared.fault.TableFault.{TableFault}
 use Rattle.oim_rows.specs.declared.fault.TableKind.TheVariants as kind
-use Rattle.oim_decode.specs.Blocks.{GivesBlock, ReadsRows}
-use Rattle.oim_decode.specs.state.Blocks.{left_of}
+use Rattle.oim_decode.specs.Blocks.{GivesBlock, KeepsAnswer, ReadsRows}
+use Rattle.oim_decode.specs.state.Blocks.{end_or_left}
 use Rattle.oim_decode.proofs.Advances.{broken_off}
-use Rattle.oim_pieces.specs.Flights.{FewerSteps, IsEnd, KeepsEnd, steps_for}
-use Rattle.oim_pieces.specs.state.Flights.{EndsWith, KeepsStream, behind}
+use Rattle.oim_pieces.specs.Flights.{FewerSteps, IsEnd, steps_for}
+use Rattle.oim_pieces.specs.state.Flights.{IsEndOfTable, KeepsStream, fault_or_left}
 
 -- the end, or a fault, is kept
-pub end_kept : {A : Type 0} (r : Result (Option A) TableFault) (o : Option TableFault) → IsEnd o r → KeepsEnd r (Some o)
+pub end_kept : {A : Type 0} (r : Result (Option A) TableFault) (o : Option TableFault) → IsEnd o r → KeepsAnswer r (Some o)
 end_kept (Ok (Some v)) o is = absurd is
 end_kept (Ok None) o is = ap (λ p. one p) is
   where
@@ -24,7 +24,7 @@ end_kept (Err e) o is = ap (λ p. one p) is
     one p = Some p
 
 pub given_kept : {A : Type 0} (r : Result (Option A) TableFault) (answered : Option (Option TableFault)) → IfOk r (λ o. IsSome o) → IfErr r (λ e. answered ≡ Some (Some e))
-    → KeepsEnd r answered
+    → KeepsAnswer r answered
 given_kept (Ok (Some v)) answered some fault = tt
 given_kept (Ok None) answered some fault = absurd (cc some)
 given_kept (Err e) answered some fault = fault
@@ -47,16 +47,16 @@ moved (Err e) answered before under now unread left fewer so = tt
 
 module _ (table : ℕ) where
   -- the same end or fault again
-  pub again_ended : (left : Option Stream) (o : Option TableFault) → o ≡ None → IfSome (left_of (Some o) left) (λ s. GivesBlock table [] s (Ok None) [] (left_of (Some o) left))
-  again_ended left o is = subst (λ p. IfSome (left_of (Some p) left) (λ s. GivesBlock table [] s (Ok None) [] (left_of (Some p) left))) (sym is) (record {
+  pub again_ended : (left : Option Stream) (o : Option TableFault) → o ≡ None → IfSome (end_or_left (Some o) left) (λ s. GivesBlock table [] s (Ok None) [] (end_or_left (Some o) left))
+  again_ended left o is = subst (λ p. IfSome (end_or_left (Some p) left) (λ s. GivesBlock table [] s (Ok None) [] (end_or_left (Some p) left))) (sym is) (record {
     rows = [];
     reads = inl (refl, refl);
     answers = (refl, refl, refl);
   })
 
   pub again_failed : (left : Option Stream) (o : Option TableFault) (e : TableFault) → o ≡ Some e
-      → IfSome (left_of (Some o) left) (λ s. GivesBlock table [] s (Err e) [] (left_of (Some o) left))
-  again_failed left o e is = subst (λ p. IfSome (left_of (Some p) left) (λ s. GivesBlock table [] s (Err e) [] (left_of (Some p) left))) (sym is) (record {
+      → IfSome (end_or_left (Some o) left) (λ s. GivesBlock table [] s (Err e) [] (end_or_left (Some o) left))
+  again_failed left o e is = subst (λ p. IfSome (end_or_left (Some p) left) (λ s. GivesBlock table [] s (Err e) [] (end_or_left (Some p) left))) (sym is) (record {
     rows = [];
     reads = inl (refl, refl);
     answers = (refl, refl, inl refl);
@@ -68,40 +68,40 @@ module _ (table : ℕ) where
   piece-gives s rows facts left reads all = record { rows = rows; reads = reads; answers = sym all ∙ sym (append-nil facts) }
 
   pub piece_given : {V : Type 0} (facts : V → List Fact) (r : Result (Option V) TableFault) (old now next : Option Stream) (rows : List (List Fact)) (o : Option TableFault) (left : Option Stream)
-      → KeepsStream old now → IfSome now (λ whole. ReadsRows table whole rows (behind o next))
-      → IfOk r (λ p. IfSome p (λ v. (facts v ≡ facts_of_rows rows) × (left ≡ behind o next)))
+      → KeepsStream old now → IfSome now (λ whole. ReadsRows table whole rows (fault_or_left o next))
+      → IfOk r (λ p. IfSome p (λ v. (facts v ≡ facts_of_rows rows) × (left ≡ fault_or_left o next)))
       → IfSome old (λ s. IfOk r (λ p. IfSome p (λ v. GivesBlock table [] s (Ok (Some (facts v))) [] left)))
   piece_given facts r None now next rows o left kept read are = tt
   piece_given facts (Err e) (Some s) now next rows o left kept read are = tt
   piece_given facts (Ok None) (Some s) now next rows o left kept read are = tt
   piece_given facts (Ok (Some v)) (Some s) now next rows o left kept read are =
-      let reads : ReadsRows table s rows (behind o next) = subst (λ (p : Option Stream). IfSome p (λ whole. ReadsRows table whole rows (behind o next))) kept read in
+      let reads : ReadsRows table s rows (fault_or_left o next) = subst (λ (p : Option Stream). IfSome p (λ whole. ReadsRows table whole rows (fault_or_left o next))) kept read in
       piece-gives s rows (facts v) left (subst (λ p. ReadsRows table s rows p) (sym are.1) reads) are.0
 
   -- memory was refused for the blocks of a piece
   pub short_given : {A : Type 0} (r : Result A TableFault) (old now next : Option Stream) (rows : List (List Fact)) (o : Option TableFault) (left : Option Stream)
-      → KeepsStream old now → IfSome now (λ whole. ReadsRows table whole rows (behind o next))
+      → KeepsStream old now → IfSome now (λ whole. ReadsRows table whole rows (fault_or_left o next))
       → IfErr r (λ e. (e ≡ file_fault table kind.Memory) × (left ≡ Some (ending (Some e))))
       → IfSome old (λ s. IfErr r (λ e. GivesBlock table [] s (Err e) [] left))
   short_given r None now next rows o left kept read short = tt
   short_given (Ok a) (Some s) now next rows o left kept read short = tt
   short_given (Err e) (Some s) now next rows o left kept read short =
-      let reads : ReadsRows table s rows (behind o next) = subst (λ (p : Option Stream). IfSome p (λ whole. ReadsRows table whole rows (behind o next))) kept read in
+      let reads : ReadsRows table s rows (fault_or_left o next) = subst (λ (p : Option Stream). IfSome p (λ whole. ReadsRows table whole rows (fault_or_left o next))) kept read in
       record {
         rows = rows;
-        reads = subst (λ p. ReadsRows table s rows p) (sym short.1) (broken_off table s rows (behind o next) e reads (inr short.0));
+        reads = subst (λ p. ReadsRows table s rows p) (sym short.1) (broken_off table s rows (fault_or_left o next) e reads (inr short.0));
         answers = (refl, short.1, inr short.0);
       }
 
   -- the end
-  pub end_given : {V : Type 0} (r : Result (Option V) TableFault) (old now left : Option Stream) (o : Option TableFault) → KeepsStream old now → EndsWith table now o
+  pub end_given : {V : Type 0} (r : Result (Option V) TableFault) (old now left : Option Stream) (o : Option TableFault) → KeepsStream old now → IsEndOfTable table now o
       → IfOk r (λ p. IfNone p (o ≡ None) × IfSome p (λ _. ⊥)) → left ≡ Some (ending o)
       → IfSome old (λ s. IfOk r (λ p. IfNone p (GivesBlock table [] s (Ok None) [] left)))
   end_given r None now left o kept ends none is = tt
   end_given (Err e) (Some s) now left o kept ends none is = tt
   end_given (Ok (Some v)) (Some s) now left o kept ends none is = tt
   end_given (Ok None) (Some s) now left o kept ends none is =
-      let ended : EndsWith table (Some s) None = subst (λ (p : Option Stream). EndsWith table p None) kept (subst (λ p. EndsWith table now p) none.0 ends) in
+      let ended : IsEndOfTable table (Some s) None = subst (λ (p : Option Stream). IsEndOfTable table p None) kept (subst (λ p. IsEndOfTable table now p) none.0 ends) in
       let over : left ≡ Some (ending None) = is ∙ ap (λ p. one (ending p)) none.0 in
       record {
         rows = [];
@@ -112,12 +112,12 @@ module _ (table : ℕ) where
       one : Stream → Option Stream
       one t = Some t
 
-  pub fault_given : {A : Type 0} (r : Result A TableFault) (old now left : Option Stream) (o : Option TableFault) → EndsWith table now o → IfErr r (λ e. o ≡ Some e)
+  pub fault_given : {A : Type 0} (r : Result A TableFault) (old now left : Option Stream) (o : Option TableFault) → IsEndOfTable table now o → IfErr r (λ e. o ≡ Some e)
       → left ≡ Some (ending o) → IfSome old (λ s. IfErr r (λ e. GivesBlock table [] s (Err e) [] left))
   fault_given r None now left o ends some is = tt
   fault_given (Ok a) (Some s) now left o ends some is = tt
   fault_given (Err e) (Some s) now left o ends some is =
-      let outside : IsOutside table e = subst (λ p. EndsWith table now p) some ends in
+      let outside : IsOutside table e = subst (λ p. IsEndOfTable table now p) some ends in
       let over : left ≡ Some (ending (Some e)) = is ∙ ap (λ p. one (ending p)) some in
       record {
         rows = [];

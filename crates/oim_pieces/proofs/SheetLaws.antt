@@ -6,7 +6,7 @@ use Rattle.oim_rows.specs.RowFacts.{TableHeaderValue}
 use Rattle.oim_decode.specs.Apart.{Apart}
 use Rattle.oim_decode.specs.PieceAnswers.{refused}
 use Rattle.oim_decode.proofs.HeadLaws.{refused_decoded}
-use Rattle.oim_pieces.specs.state.Flights.{IsAnswer}
+use Rattle.oim_pieces.specs.state.Flights.{IsPieceAnswer}
 use Rattle.oim_pieces.specs.state.Sheets.{FitsPiece, IsAnswerIn, IsLine, IsOf, IsPiece, IsReadBy}
 use Rattle.oim_pieces.specs.declared.decoded.Asked.{Asked}
 use Rattle.oim_pieces.specs.declared.sheet.Question.{Question}
@@ -22,19 +22,19 @@ may_decode g (Some a) q reads fits = subst (λ (x : TableHeaderValue). q.asked.f
 
 -- its answer is that of what was asked
 pub decoded_here : (g : TableHeaderValue) (known : Option Asked) (q : Question) (answer : Apart) → IsReadBy g known → IfSome known (λ a. FitsPiece a (Ask q))
-    → IsAnswer g q.asked.first (records_left state.StartRecord q.bytes.items) answer → IsAnswerIn known answer
+    → IsPieceAnswer g q.asked.first (records_left state.StartRecord q.bytes.items) answer → IsAnswerIn known answer
 decoded_here g None q answer reads fits is = tt
 decoded_here g (Some a) q answer reads fits is = answer_same a.header.value g a.first q.asked.first a.rows.value (records_left state.StartRecord q.bytes.items) answer is (sym reads) fits.first fits.rows
 
 -- none comes, and memory was refused
 pub refused_here : (g : TableHeaderValue) (first : ℕ) (known : Option Asked) (answer : Apart) → IsReadBy g known → IfSome known (λ a. a.first ≡ first)
-    → ((rows : List Record) → IsAnswer g first rows answer) → IsAnswerIn known answer
+    → ((rows : List Record) → IsPieceAnswer g first rows answer) → IsAnswerIn known answer
 refused_here g first None answer reads at is = tt
 refused_here g first (Some a) answer reads at is = answer_same a.header.value g a.first first a.rows.value a.rows.value answer (is a.rows.value) (sym reads) (sym at) refl
 
 -- an answer came through the channel of the piece that was asked for
 pub of_asked : (asked : Asked) (known : Option Asked) (answer : Apart) → IsOf asked known → IsAnswerIn known answer
-    → IsAnswer asked.header.value asked.first asked.rows.value answer
+    → IsPieceAnswer asked.header.value asked.first asked.rows.value answer
 of_asked asked None answer same is = absurd same
 of_asked asked (Some a) answer same is =
     answer_same asked.header.value a.header.value asked.first a.first asked.rows.value a.rows.value answer is same.0 same.1 same.2
@@ -48,7 +48,7 @@ of_first asked None same = tt
 of_first asked (Some a) same = same.1
 
 -- memory was refused for a piece
-pub refused_answer : (g : TableHeaderValue) (first : ℕ) (rows : List Record) (a : Apart) → a ≡ refused g.table → first ≤ 4294967296 → IsAnswer g first rows a
+pub refused_answer : (g : TableHeaderValue) (first : ℕ) (rows : List Record) (a : Apart) → a ≡ refused g.table → first ≤ 4294967296 → IsPieceAnswer g first rows a
 refused_answer g first rows a is may = record {
   decoded = refused_decoded g first rows a is;
   few = let none : length a.ids ≡ 0 = ap (λ (x : Apart). length x.ids) is in omega (arith, none, may);

@@ -6,7 +6,7 @@ ghost use Rattle.oim_decode.specs.Heads.{table_header_in};
 ghost use Rattle.oim_records.specs.Grids.{records_left};
 ghost use Rattle.oim_rows.specs.Header.{file_header_fault};
 ghost use Rattle.oim_rows.specs.Streams.{IsOutside};
-ghost use Rattle.oim_pieces.specs.state.Flights.{IsAnswer};
+ghost use Rattle.oim_pieces.specs.state.Flights.{IsPieceAnswer};
 ghost use Rattle.oim_pieces.specs.state.Sheets.{FitsPiece, IsAnswerIn, IsOf, IsPiece, IsReadBy};
 
 use crate::cutter::CutPiece;
@@ -258,7 +258,7 @@ impl<'a> Crew<'a> {
     /// Decodes a piece here.
     fn decode(&mut self, question: Question<'a>) -> PieceAnswer
         requires { question.asked.first ≤ self.old.limit + 1 }
-        ensures answer { IsAnswer self.old question.entry.asked.first (records_left state.StartRecord question.entry.bytes.items) result }
+        ensures answer { IsPieceAnswer self.old question.entry.asked.first (records_left state.StartRecord question.entry.bytes.items) result }
         ensures same { self.new ≡ self.old }
     {
         let first = question.asked.first;

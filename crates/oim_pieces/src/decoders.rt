@@ -3,7 +3,7 @@
 ghost use Rattle.std.specs.Prelude.{◌≡◌, ◌≤◌, ◌<◌, List, IfSome, length};
 ghost use Rattle.oim_decode.specs.Heads.{table_header_in};
 ghost use Rattle.oim_records.specs.Grids.{Record};
-ghost use Rattle.oim_pieces.specs.state.Flights.{IsAnswer};
+ghost use Rattle.oim_pieces.specs.state.Flights.{IsPieceAnswer};
 
 use oim_decode::{FirstRecords, PieceAnswer, PieceDecoder};
 use oim_report::Report;
@@ -70,7 +70,7 @@ impl<'a> Decoders<'a> {
     /// The answer for a piece that none comes for, whose first row has this number: memory was refused.
     #[tactic(auto, using(crate::proofs::SheetLaws::refused_answer))]
     pub(crate) fn no_answer(&self, first: u32) -> PieceAnswer
-        ensures { (rows : List Record) → IsAnswer self.now first rows result }
+        ensures { (rows : List Record) → IsPieceAnswer self.now first rows result }
     {
         PieceAnswer::refused(self.alloc, self.table)
     }

@@ -1,14 +1,13 @@
 //! The pieces of a table that are under way.
 
 ghost use Rattle.std.specs.Prelude.{◌≡◌, ◌⊎◌, ◌-◌, ◌<◌, ◌≤◌, [], ◌∷◌, drop, IfNone, IfOk, IfErr, IfSome, None, OnSome, Some, length, true};
-ghost use Rattle.oim_decode.specs.Blocks.{ReadsRows};
 ghost use Rattle.oim_decode.specs.Heads.{table_header_in};
 ghost use Rattle.oim_records.specs.PieceTaking.{bytes_left};
 ghost use Rattle.oim_records.specs.Reads.{left_behind};
 ghost use Rattle.oim_rows.specs.Header.{file_header_fault};
 ghost use Rattle.oim_rows.specs.Streams.{IsOutside, ending, stream_of};
 ghost use Rattle.oim_pieces.specs.Flights.{FewerSteps};
-ghost use Rattle.oim_pieces.specs.state.Flights.{EndsWith, IsFront, KeepsStream, NoMoreSteps, behind, steps_in, stream_in};
+ghost use Rattle.oim_pieces.specs.state.Flights.{IsEndOfTable, IsFront, KeepsStream, NoMoreSteps, ReadsJoined, steps_in, stream_in};
 
 use crate::crew::Crew;
 use crate::cutter::Cutter;
@@ -250,8 +249,7 @@ impl<'a, R: Read + Drop> Flight<'a, R> {
     /// Joins the piece at the front, waiting for its answer. `None` where no piece is under way.
     #[tactic(auto, using(crate::proofs::StepLaws::steps_joined))]
     pub(crate) fn join_front<T: Wait>(&mut self, rt: &T) -> Option<JoinedPiece>
-        ensures some { IfSome (stream_in self.old) (λ whole. IfSome result (λ s.
-            ReadsRows self.old.cutter.table whole s.rows (behind s.fault (stream_in self.new)))) }
+        ensures some { IfSome (stream_in self.old) (λ whole. IfSome result (λ s. ReadsJoined self.old.cutter.table whole s (stream_in self.new))) }
         ensures none { IfNone result ((self.old.pieces ≡ []) × (self.new ≡ self.old)) }
         ensures steps { OnSome result (FewerSteps (steps_in self.old) (steps_in self.new)) }
         ensures table { self.new.cutter.table ≡ self.old.cutter.table }
@@ -286,7 +284,7 @@ impl<'a, R: Read + Drop> Flight<'a, R> {
     #[tactic(auto, using(crate::proofs::FlightLaws::none_left, crate::proofs::FlightLaws::end_found))]
     pub(crate) fn end(&self) -> Option<TableFault>
         requires { self.now.pieces ≡ [] }
-        ensures { EndsWith self.now.cutter.table (stream_in self.now) result }
+        ensures { IsEndOfTable self.now.cutter.table (stream_in self.now) result }
     {
         match self.cutter.over() {
             Some(end) => end,

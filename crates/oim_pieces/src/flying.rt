@@ -1,7 +1,7 @@
 //! A piece that is under way.
 
 ghost use Rattle.std.specs.Prelude.{◌≡◌, Some};
-ghost use Rattle.oim_pieces.specs.state.Flights.{IsAnswer};
+ghost use Rattle.oim_pieces.specs.state.Flights.{IsPieceAnswer};
 ghost use Rattle.oim_pieces.specs.state.Sheets.{IsOf};
 
 use crate::crew::Crew;
@@ -48,7 +48,7 @@ impl<'a> Model for Flying<'a> {
 impl<'a> Flying<'a> {
     /// The piece that was asked for, whose answer is here.
     pub(crate) fn here(asked: Asked<'a>, answer: PieceAnswer) -> Flying<'a>
-        requires { IsAnswer asked.header.value asked.first asked.rows.value answer }
+        requires { IsPieceAnswer asked.header.value asked.first asked.rows.value answer }
         ensures { (result.header ≡ asked.entry.header.value) × (result.first ≡ asked.entry.first) × (result.rows ≡ asked.entry.rows.value) }
     {
         Flying {
@@ -87,7 +87,7 @@ impl<'a> Flying<'a> {
     #[tactic(auto, using(crate::proofs::SheetLaws::of_asked, crate::proofs::SheetLaws::of_reads, crate::proofs::SheetLaws::of_first))]
     pub(crate) fn settle<T: Wait>(self, rt: &T, crew: &mut Crew<'a>) -> PieceAnswer
         requires { self.header ≡ crew.old }
-        ensures answer { IsAnswer self.entry.header self.entry.first self.entry.rows result }
+        ensures answer { IsPieceAnswer self.entry.header self.entry.first self.entry.rows result }
         ensures same { crew.new ≡ crew.old }
     {
         let Flying { asked, coming } = self;

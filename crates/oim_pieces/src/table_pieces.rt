@@ -1,13 +1,13 @@
 //! The facts of a table, piece by piece.
 
 ghost use Rattle.std.specs.Prelude.{◌≡◌, ◌⊎◌, ◌≤◌, ◌<◌, [], IfErr, IfNone, IfOk, IfSome, IsSome, None, OnSome, Ok, Err, Some, length};
-ghost use Rattle.oim_decode.specs.Blocks.{GivesBlock};
+ghost use Rattle.oim_decode.specs.Blocks.{GivesBlock, KeepsAnswer};
 ghost use Rattle.oim_records.specs.Grids.{grid};
 ghost use Rattle.oim_rows.specs.Header.{file_fault, file_header_fault};
-ghost use Rattle.oim_rows.specs.Streams.{IsOutside, ending, facts_of_rows, stream_of};
+ghost use Rattle.oim_rows.specs.Streams.{IsOutside, ending, stream_of};
 ghost use Rattle.oim_rows.specs.declared.fault.TableKind.TheVariants as kind;
-ghost use Rattle.oim_pieces.specs.Flights.{FewerSteps, IsEnd, KeepsEnd, steps_for};
-ghost use Rattle.oim_pieces.specs.state.Flights.{behind};
+ghost use Rattle.oim_pieces.specs.Flights.{FewerSteps, GivesBlocks, IsEnd, steps_left};
+ghost use Rattle.oim_pieces.specs.state.Flights.{GivesJoined};
 
 use crate::flight::Flight;
 use crate::helpers::Helpers;
@@ -37,7 +37,7 @@ pub struct TablePieces<'a, R: Read + Drop> {
 
 impl<'a, R: Read + Drop> Model for TablePieces<'a, R> {
     ghost use Rattle.std.specs.Prelude.{length};
-    ghost use Rattle.oim_decode.specs.state.Blocks.{left_of};
+    ghost use Rattle.oim_decode.specs.state.Blocks.{end_or_left};
     ghost use Rattle.oim_pieces.specs.Flights.{PiecesLeft};
     ghost use Rattle.oim_pieces.specs.state.Flights.{stream_in};
 
@@ -45,7 +45,7 @@ impl<'a, R: Read + Drop> Model for TablePieces<'a, R> {
 
     ghost view = { λ a. record {
       table = a.flight.cutter.table;
-      left = left_of a.settled (stream_in a.flight);
+      left = end_or_left a.settled (stream_in a.flight);
       answered = a.settled;
       under_way = length a.flight.pieces;
       unread = a.flight.cutter.unread;
@@ -111,18 +111,16 @@ impl<'a, R: Read + Drop> TablePieces<'a, R> {
         scope: &Scope<'a, E>,
         rt: &'a T,
     ) -> Result<Option<Vec<Block>>, TableFault>
-        ensures blocks { IfSome self.old.left (λ s. IfOk result (λ o. IfSome o (λ blocks.
-            GivesBlock self.old.table [] s (Ok (Some (facts_of_rows blocks.items))) [] self.new.left))) }
+        ensures blocks { IfSome self.old.left (λ s. IfOk result (λ o. IfSome o (λ blocks. GivesBlocks self.old.table s blocks.items self.new.left))) }
         ensures end { IfSome self.old.left (λ s. IfOk result (λ o. IfNone o (GivesBlock self.old.table [] s (Ok None) [] self.new.left))) }
         ensures fault { IfSome self.old.left (λ s. IfErr result (λ e. GivesBlock self.old.table [] s (Err e) [] self.new.left)) }
 
         // What holds of any reader.
-        ensures kept { KeepsEnd result self.new.answered }
+        ensures kept { KeepsAnswer result self.new.answered }
         ensures again { IfSome self.old.answered (λ end. IsEnd end result × (self.new ≡ self.old)) }
 
         // The blocks are those of a piece, of which there is none without a byte, or the last.
-        ensures moves { IfOk result (λ o. OnSome o (IsSome self.new.answered
-            ⊎ FewerSteps (steps_for self.old.under_way self.old.unread) (steps_for self.new.under_way self.new.unread))) }
+        ensures moves { IfOk result (λ o. OnSome o (IsSome self.new.answered ⊎ FewerSteps (steps_left self.old) (steps_left self.new))) }
 
         ensures same { self.new.table ≡ self.old.table }
     {
@@ -183,8 +181,7 @@ impl<'a, R: Read + Drop> TablePieces<'a, R> {
         rt: &T,
         joined: JoinedPiece,
     ) -> Result<Option<Vec<Block>>, TableFault>
-        ensures blocks { IfOk result (λ o. IfSome o (λ blocks.
-            (facts_of_rows blocks.items ≡ facts_of_rows joined.rows) × (self.new.left ≡ behind joined.fault self.old.left))) }
+        ensures blocks { IfOk result (λ o. IfSome o (λ blocks. GivesJoined joined self.old.left blocks.items self.new.left)) }
         ensures some { IfOk result (λ o. IsSome o) }
         ensures fault { IfErr result (λ e. (e ≡ file_fault self.old.table kind.Memory) × (self.new.left ≡ Some (ending (Some e)))) }
         ensures kept { IfErr result (λ e. self.new.answered ≡ Some (Some e)) }

@@ -3,7 +3,7 @@
 ghost use Rattle.std.specs.Prelude.{◌≡◌, ◌≤◌, ◌+◌, IfSome};
 ghost use Rattle.csv.specs.declared.parser.State.TheVariants as state;
 ghost use Rattle.oim_records.specs.Grids.{records_left};
-ghost use Rattle.oim_pieces.specs.state.Flights.{IsAnswer};
+ghost use Rattle.oim_pieces.specs.state.Flights.{IsPieceAnswer};
 ghost use Rattle.oim_pieces.specs.state.Sheets.{IsPiece, IsReadBy};
 
 use crate::bins::Bin;
@@ -101,7 +101,7 @@ impl<'a> Post<'a> {
     /// Decodes a piece in the memory of this thread.
     fn reply_to<T: Wait>(&mut self, rt: &T, question: Question<'a>) -> Reply
         requires { question.asked.first ≤ self.old.limit + 1 }
-        ensures answer { IsAnswer self.old question.entry.asked.first (records_left state.StartRecord question.entry.bytes.items) result.answer }
+        ensures answer { IsPieceAnswer self.old question.entry.asked.first (records_left state.StartRecord question.entry.bytes.items) result.answer }
         ensures same { self.new ≡ self.old }
     {
         let first = question.asked.first;

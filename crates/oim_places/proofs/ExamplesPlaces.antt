@@ -1,10 +1,18 @@
--- Worked cases of places: texts that are cut, JSON pointers, the lines of records.
-use Rattle.std.proofs.Common.{◌≡◌, List, ℕ, [], ◌∷◌, ◌++◌, Some, None, map, true, false, refl, replicate}
-use Rattle.std.specs.Prelude.{codes}
-use Rattle.std.specs.Str.{chars}
+-- Worked cases of places: texts that are cut, JSON pointers, the lines of records, the files of a folder.
+use Rattle.std.proofs.Common.{◌≡◌, List, ℕ, [], ◌∷◌, ◌++◌, Some, None, map, true, false, refl, replicate, ap, arith, inl, inr}
+use Rattle.std.specs.Prelude.{⊤, codes, if◌then◌else◌}
+use Rattle.std.specs.Str.{bytes_eq, chars}
 use Rattle.csv.specs.Reading.{strip_bom}
 use lib.Utf8.{encode}
-use Rattle.oim_places.specs.LineNumbers.{line_of_record}
+use Rattle.oim_files.specs.Folders.{Files}
+use Rattle.oim_rows.specs.FaultNames.{number_of}
+use Rattle.oim_rows.specs.Header.{fault_at, file_fault}
+use Rattle.oim_rows.specs.Streams.{ending}
+use Rattle.oim_rows.specs.declared.fault.TableFault.{TableFault}
+use Rattle.oim_rows.specs.declared.fault.TableKind.TheVariants as kind
+use Rattle.oim_places.specs.FaultPlaces.{EndsStream}
+use Rattle.oim_places.specs.FolderFiles.{FoundAt, HoldsAt}
+use Rattle.oim_places.specs.LineNumbers.{IsLineOf, line_of_record}
 use Rattle.oim_places.specs.Pointers.{pointer_of}
 use Rattle.oim_places.specs.Shown.{excerpt_of, is_unseen, shown}
 
@@ -114,6 +122,41 @@ behind_a_mark = refl
 no_such_record : line_of_record 2 (codes "a" ++ lf ++ codes "1" ++ lf) ≡ None
 unfolding strip_bom
 no_such_record = refl
+
+-- a line that is told is that of the record, where there is one, and none may be told
+line_told : IsLineOf 1 (codes "a" ++ lf ++ codes "1") (Some 2) × IsLineOf 1 (codes "a" ++ lf ++ codes "1") None × (IsLineOf 2 (codes "a" ++ lf ++ codes "1") (Some 2) → ⊥)
+unfolding strip_bom
+line_told = (refl, tt, λ h. absurd (cc h))
+
+-- ---- the files of a folder, which has one
+
+abbrev folder : Files
+folder path = if bytes_eq path (codes "t.csv") then Some (codes "a") else None
+
+-- what is found in a file is found where the file is there, and only there
+found_in_the_file : FoundAt (Some folder) (codes "t.csv") (λ bytes. bytes ≡ codes "a")
+found_in_the_file = (codes "a", refl, refl)
+
+found_in_no_file : FoundAt (Some folder) (codes "u.csv") (λ _. ⊤) → ⊥
+found_in_no_file h = absurd (cc h.1)
+
+-- what holds of a file holds where the file is there, and is nothing where it is not, or where the folder does not tell
+holds_of_the_file : HoldsAt (Some folder) (codes "t.csv") (λ bytes. bytes ≡ codes "a") × HoldsAt (Some folder) (codes "u.csv") (λ _. ⊥) × HoldsAt None (codes "t.csv") (λ _. ⊥)
+holds_of_the_file = (refl, tt, tt)
+
+-- ---- faults
+
+abbrev twice : TableFault
+twice = fault_at 0 2 1 kind.RepeatedRowId
+
+-- reading a table may end by the fault of its stream, or by one from outside, and by no other
+fault_of_a_stream : EndsStream 0 (ending (Some twice)) twice × EndsStream 0 (ending (Some twice)) (file_fault 0 kind.Read) × (EndsStream 0 (ending None) twice → ⊥)
+fault_of_a_stream = (inr refl, inl (inl refl), none)
+  where
+    none : EndsStream 0 (ending None) twice → ⊥
+    none (inl (inl e)) = let numbers : 30 ≡ 21 = ap (λ (f : TableFault). number_of f.kind) e in absurd (omega (arith, numbers))
+    none (inl (inr e)) = let numbers : 30 ≡ 42 = ap (λ (f : TableFault). number_of f.kind) e in absurd (omega (arith, numbers))
+    none (inr e) = absurd (cc e)
 
 -- a letter of two bytes, and U+00A1, which are seen
 shown_letters : shown (codes "a \\ z" ++ 195 ∷ 169 ∷ 194 ∷ 161 ∷ []) ≡ codes "a \\ z" ++ 195 ∷ 169 ∷ 194 ∷ 161 ∷ []

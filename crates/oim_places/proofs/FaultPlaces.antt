@@ -14,9 +14,10 @@ use Rattle.oim_decode.specs.Blocks.{GivesBlock, ReadsRows}
 use Rattle.oim_rows.specs.Streams.{IsOutside, Stream, ending, stream_of}
 use Rattle.oim_rows.specs.declared.fault.TableFault.{TableFault}
 use Rattle.oim_places.specs.Reports.{IsReportOf}
-use Rattle.oim_places.specs.FaultPlaces.{FoundIn, HasRecordOf, HasRow, IsFaultOf, IsPlaceAt, IsRowAt, fault_in, field_in, is_of_file, row_at, unknown_place}
-use Rattle.oim_places.specs.state.FaultPlaces.{EndsStream}
-use Rattle.oim_places.specs.LineNumbers.{line_of_record}
+use Rattle.oim_places.specs.FaultPlaces.{EndsStream, HasRecordOf, HasRow, IsPlaceAt, IsRowAt, IsTableFault, column_text, fault_of_file, is_of_file, row_or_empty, unknown_place}
+use Rattle.oim_places.specs.FolderFiles.{FoundAt, HoldsAt}
+use Rattle.oim_places.specs.state.FaultPlaces.{ReadsFault}
+use Rattle.oim_places.specs.LineNumbers.{IsLineOf}
 use Rattle.oim_places.specs.declared.fault_places.FaultPlace.{FaultPlace}
 use Rattle.oim_places.specs.declared.records.RowAgain.{RowAgain}
 
@@ -66,7 +67,7 @@ keeps_found table at (Some s) (Some rest) after before pending e same keeps give
 -- the fault behind the blocks of a file that was opened
 pub found_behind : (report : ReportValue) (table at limit : ℕ) (known : Option (List ℕ)) (left : Option Stream) (o : Option TableFault) → at ≡ table → limit ≡ profile.rows
     → IfSome known (λ bytes. left ≡ Some (stream_of report table limit (grid bytes))) → IfSome left (λ s. IfSome o (EndsStream at s))
-    → IfSome known (λ bytes. IfSome o (IsFaultOf report table bytes))
+    → IfSome known (λ bytes. IfSome o (IsTableFault report table bytes))
 found_behind report table at limit None left o same most is ends = tt
 found_behind report table at limit (Some bytes) left None same most is ends = tt
 found_behind report table at limit (Some bytes) left (Some e) same most is ends =
@@ -79,7 +80,7 @@ refused report table limit [] e is = ap ending is
 refused report table limit (r ∷ records) e is = rw is refl
 
 pub header_found : (report : ReportValue) (table : ℕ) (known : Option (List ℕ)) (e : TableFault)
-    → IfSome known (λ bytes. IsOutside table e ⊎ (file_header_fault report table (grid bytes) ≡ Some e)) → IfSome known (λ bytes. IsFaultOf report table bytes e)
+    → IfSome known (λ bytes. IsOutside table e ⊎ (file_header_fault report table (grid bytes) ≡ Some e)) → IfSome known (λ bytes. IsTableFault report table bytes e)
 header_found report table None e is = tt
 header_found report table (Some bytes) e (inl outside) = inl outside
 header_found report table (Some bytes) e (inr is) = inr (ap (λ (x : Stream). x.fault) (refused report table profile.rows (grid bytes) e is))
@@ -92,21 +93,21 @@ opened told reader None is = absurd is
 opened told reader (Some bytes) is = (bytes, refl, is)
 
 -- the file is opened once more, after its fault was found
-pub opened_again : {R : Type 0} (told : R → Option (List ℕ)) (one : R) (two : Option R) (known : Option Files) (path : List ℕ) (report : ReportValue) (table : ℕ) (f : TableFault)
-    → IfSome known (λ at. IsFileOf told (Some one) (at path)) → IfSome (told one) (λ bytes. IsFaultOf report table bytes f) → IfSome known (λ at. IsFileOf told two (at path))
-    → IfSome two (λ reader. IfSome known (λ files. FoundIn files path (λ bytes. (told reader ≡ Some bytes) × IsFaultOf report table bytes f)))
-opened_again told one None known path report table f first found second = tt
-opened_again told one (Some reader) None path report table f first found second = tt
-opened_again told one (Some reader) (Some files) path report table f first found second =
+pub opened_again : {R : Type 0} (told : R → Option (List ℕ)) (one : R) (two : Option R) (known : Option Files) (path : List ℕ) (report : ReportValue) (f : TableFault)
+    → IfSome known (λ at. IsFileOf told (Some one) (at path)) → IfSome (told one) (λ bytes. IsTableFault report f.table bytes f) → IfSome known (λ at. IsFileOf told two (at path))
+    → IfSome two (λ reader. FoundAt known path (ReadsFault (told reader) report f))
+opened_again told one None known path report f first found second = tt
+opened_again told one (Some reader) None path report f first found second = tt
+opened_again told one (Some reader) (Some files) path report f first found second =
     let before = opened told one (files path) first in
     let after = opened told reader (files path) second in
     let same : Some after.0 ≡ Some before.0 = sym after.1 ∙ before.1 in
-    (after.0, after.1, (after.2, subst (λ o. IfSome o (λ bytes. IsFaultOf report table bytes f)) (before.2 ∙ sym same) found))
+    (after.0, after.1, (after.2, subst (λ o. IfSome o (λ bytes. IsTableFault report f.table bytes f)) (before.2 ∙ sym same) found))
 
 pub with_record : {R E : Type 0} (told : R → Option (List ℕ)) (reader : R) (known : Option Files) (path : List ℕ) (report : ReportValue) (f : TableFault) (r : Result (Option RowAgain) E)
     → IfOk r (λ o. IfSome o (λ a. IfSome (told reader) (λ bytes. HasRow (grid bytes) f.row (fields_of a.header) (fields_of a.row))))
-    → IfSome known (λ files. FoundIn files path (λ bytes. (told reader ≡ Some bytes) × IsFaultOf report f.table bytes f))
-    → IfOk r (λ o. IfSome o (λ a. IfSome known (λ files. FoundIn files path (HasRecordOf report f (fields_of a.header) (fields_of a.row)))))
+    → FoundAt known path (ReadsFault (told reader) report f)
+    → IfOk r (λ o. IfSome o (λ a. FoundAt known path (HasRecordOf report f a)))
 with_record told reader known path report f (Err e) row found = tt
 with_record told reader known path report f (Ok None) row found = tt
 with_record told reader None path report f (Ok (Some a)) row found = tt
@@ -118,21 +119,21 @@ with_record told reader (Some files) path report f (Ok (Some a)) row found = (
 
 -- ---- what stands there
 
-row_is : (records : List Record) (number : ℕ) (row : Record) → IsRowAt records number row → row_at records number ≡ row
+row_is : (records : List Record) (number : ℕ) (row : Record) → IsRowAt records number row → row_or_empty records number ≡ row
 row_is records zero row is = sym is
 row_is records (suc number) row is = ap (λ o. unwrap_or o []) is
 
-inside : (report : ReportValue) (f : TableFault) (bytes : List ℕ) → is_of_file f.kind ≡ false → IsFaultOf report f.table bytes f → fault_in report f.table bytes ≡ Some f
+inside : (report : ReportValue) (f : TableFault) (bytes : List ℕ) → is_of_file f.kind ≡ false → IsTableFault report f.table bytes f → fault_of_file report f.table bytes ≡ Some f
 inside report f bytes is (inr found) = found
 inside report f bytes is (inl (inl e)) = absurd (let whole : is_of_file f.kind ≡ true = ap (λ (x : TableFault). is_of_file x.kind) e in cc)
 inside report f bytes is (inl (inr e)) = absurd (let whole : is_of_file f.kind ≡ true = ap (λ (x : TableFault). is_of_file x.kind) e in cc)
 
-pub place_found : (known : Option Files) (path : List ℕ) (report : ReportValue) (f : TableFault) (header row : Record) (p : FaultPlace) → is_of_file f.kind ≡ false
-    → IfSome known (λ files. FoundIn files path (HasRecordOf report f header row)) → p.header ≡ field_in header f.column → p.cell ≡ field_in row f.column
-    → IfSome known (λ files. IfSome (files path) (λ bytes. IfSome p.line (λ line. line_of_record f.row bytes ≡ Some line)))
+pub place_found : (known : Option Files) (path : List ℕ) (report : ReportValue) (f : TableFault) (a : RowAgain) (p : FaultPlace) → is_of_file f.kind ≡ false
+    → FoundAt known path (HasRecordOf report f a) → p.header ≡ column_text (fields_of a.header) f.column → p.cell ≡ column_text (fields_of a.row) f.column
+    → HoldsAt known path (λ bytes. IsLineOf f.row bytes p.line)
     → IfSome known (λ files. (p ≡ unknown_place) ⊎ IsPlaceAt files path report f p)
-place_found None path report f header row p is found h c l = tt
-place_found (Some files) path report f header row p is found h c l =
+place_found None path report f a p is found h c l = tt
+place_found (Some files) path report f a p is found h c l =
     let bytes = found.0 in
     let has = found.2 in
     inr (
@@ -143,9 +144,9 @@ place_found (Some files) path report f header row p is found h c l =
         (
           inside report f bytes is has.1,
           (
-            h ∙ ap (λ o. field_in (unwrap_or o []) f.column) (sym has.0.0),
-            c ∙ ap (λ r. field_in r f.column) (sym (row_is (grid bytes) f.row row has.0.1)),
-            subst (λ o. IfSome o (λ bytes. IfSome p.line (λ line. line_of_record f.row bytes ≡ Some line))) found.1 l,
+            h ∙ ap (λ o. column_text (unwrap_or o []) f.column) (sym has.0.0),
+            c ∙ ap (λ r. column_text r f.column) (sym (row_is (grid bytes) f.row (fields_of a.row) has.0.1)),
+            subst (λ o. IfSome o (λ bytes. IsLineOf f.row bytes p.line)) found.1 l,
           ),
         ),
       ),
@@ -154,15 +155,15 @@ place_found (Some files) path report f header row p is found h c l =
 -- the same of an answer, where the folder's files are those before the record was read
 pub places_found : {E : Type 0} (known before : Option Files) (path : List ℕ) (report : ReportValue) (f : TableFault) (found : Option RowAgain) (a : RowAgain) (r : Result FaultPlace E)
     → found ≡ Some a → is_of_file f.kind ≡ false → before ≡ known
-    → IfSome found (λ a. IfSome known (λ files. FoundIn files path (HasRecordOf report f (fields_of a.header) (fields_of a.row))))
-    → IfOk r (λ p. p.header ≡ field_in (fields_of a.header) f.column) → IfOk r (λ p. p.cell ≡ field_in (fields_of a.row) f.column)
-    → IfOk r (λ p. IfSome before (λ files. IfSome (files path) (λ bytes. IfSome p.line (λ line. line_of_record f.row bytes ≡ Some line))))
+    → IfSome found (λ a. FoundAt known path (HasRecordOf report f a))
+    → IfOk r (λ p. p.header ≡ column_text (fields_of a.header) f.column) → IfOk r (λ p. p.cell ≡ column_text (fields_of a.row) f.column)
+    → IfOk r (λ p. HoldsAt before path (λ bytes. IsLineOf f.row bytes p.line))
     → IfOk r (λ p. IfSome known (λ files. (p ≡ unknown_place) ⊎ IsPlaceAt files path report f p))
 places_found known before path report f found a (Err e) some is same has h c l = tt
 places_found known before path report f found a (Ok p) some is same has h c l =
-    place_found known path report f (fields_of a.header) (fields_of a.row) p is
-    (subst (λ o. IfSome o (λ a. IfSome known (λ files. FoundIn files path (HasRecordOf report f (fields_of a.header) (fields_of a.row))))) some has) h c
-    (subst (λ k. IfSome k (λ files. IfSome (files path) (λ bytes. IfSome p.line (λ line. line_of_record f.row bytes ≡ Some line)))) same l)
+    place_found known path report f a p is
+    (subst (λ o. IfSome o (λ a. FoundAt known path (HasRecordOf report f a))) some has) h c
+    (subst (λ k. HoldsAt k path (λ bytes. IsLineOf f.row bytes p.line)) same l)
 
 -- ---- the report
 

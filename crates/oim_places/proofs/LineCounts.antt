@@ -4,16 +4,16 @@ use Rattle.std.specs.Prelude.{⊤, fold, if◌then◌else◌}
 use Rattle.std.proofs.lemmas.List.Sums.{fold-append}
 use Rattle.csv.specs.Reading.{strip_bom}
 use Rattle.oim_records.specs.PieceTaking.{StripsMark, TakesBytes}
-use Rattle.oim_places.specs.LineNumbers.{after_byte, line_in, line_of_record, start_of}
+use Rattle.oim_places.specs.LineNumbers.{after_byte, counter_for, line_in, line_of_record}
 use Rattle.oim_places.specs.declared.line_number.LineCounter.{LineCounter}
 
 -- the counter has passed the bytes of a file that are not left, behind its byte-order mark
 abbrev pub CountsOn : ℕ → Option (List ℕ) → Option (List ℕ) → LineCounter → Type 0
 CountsOn number None left c = ⊤
 CountsOn number (Some bytes) None c = ⊥
-CountsOn number (Some bytes) (Some left) c = (passed : List ℕ) × (strip_bom bytes ≡ passed ++ left) × (c ≡ fold after_byte (start_of number) passed)
+CountsOn number (Some bytes) (Some left) c = (passed : List ℕ) × (strip_bom bytes ≡ passed ++ left) × (c ≡ fold after_byte (counter_for number) passed)
 
-pub counts_start : (number : ℕ) (known left : Option (List ℕ)) → StripsMark known left → CountsOn number known left (start_of number)
+pub counts_start : (number : ℕ) (known left : Option (List ℕ)) → StripsMark known left → CountsOn number known left (counter_for number)
 counts_start number None left strips = tt
 counts_start number (Some bytes) None strips = strips
 counts_start number (Some bytes) (Some left) strips = ([], sym strips, refl)
@@ -26,7 +26,7 @@ counts_more number (Some bytes) (Some left) None piece c counts takes = takes
 counts_more number (Some bytes) (Some left) (Some after) piece c counts takes = (
   counts.0 ++ piece,
   counts.1 ∙ ap (λ (t : List ℕ). counts.0 ++ t) takes.0 ∙ sym (append_assoc counts.0 piece after),
-  ap (λ (d : LineCounter). fold after_byte d piece) counts.2 ∙ sym (fold-append after_byte (start_of number) counts.0 piece),
+  ap (λ (d : LineCounter). fold after_byte d piece) counts.2 ∙ sym (fold-append after_byte (counter_for number) counts.0 piece),
 )
 
 -- once the record has begun nothing changes
@@ -46,7 +46,7 @@ pub counts_found : (number : ℕ) (known left : Option (List ℕ)) (c : LineCoun
 counts_found number None left c line counts e = tt
 counts_found number (Some bytes) None c line counts e = absurd counts
 counts_found number (Some bytes) (Some left) c line counts e =
-    let all : fold after_byte (start_of number) (strip_bom bytes) ≡ c =
-    ap (λ (t : List ℕ). fold after_byte (start_of number) t) counts.1 ∙ fold-append after_byte (start_of number) counts.0 left
+    let all : fold after_byte (counter_for number) (strip_bom bytes) ≡ c =
+    ap (λ (t : List ℕ). fold after_byte (counter_for number) t) counts.1 ∙ fold-append after_byte (counter_for number) counts.0 left
     ∙ ap (λ (d : LineCounter). fold after_byte d left) (sym counts.2) ∙ stays c left (has_line c line e) in
     ap line_in all ∙ e

@@ -5,13 +5,14 @@ use Rattle.csv.proofs.RoundTrip.{read-write-many}
 use Rattle.csv.specs.Writing.{default_writer, row_text}
 use Rattle.oim_records.specs.Grids.{Field, Record, grid}
 use Rattle.oim_records.specs.Reads.{IsFileOf, TakesRecord}
-use Rattle.oim_places.specs.FaultPlaces.{FoundIn, HasRow}
+use Rattle.oim_places.specs.FaultPlaces.{HasRow}
+use Rattle.oim_places.specs.FolderFiles.{FoundAt, FoundIn}
 use Rattle.oim_places.specs.state.FaultPlaces.{TakesNth}
-use Rattle.oim_places.specs.FaultRows.{IsTextOf}
+use Rattle.oim_places.specs.FaultRows.{IsRecordText}
 use Rattle.oim_files.specs.Folders.{Files}
 
 -- a record of at least two fields, as it is written
-pub text_of_record : (x y : Field) (more : Record) (text : List ℕ) → text ≡ row_text default_writer (x ∷ y ∷ more) → IsTextOf (x ∷ y ∷ more) text
+pub text_of_record : (x y : Field) (more : Record) (text : List ℕ) → text ≡ row_text default_writer (x ∷ y ∷ more) → IsRecordText (x ∷ y ∷ more) text
 text_of_record x y more text is = record { written = is; reads = λ later. rw is (read-write-many x y more later) }
 
 -- these are left behind n records
@@ -90,7 +91,7 @@ rows_of_file told records h r number (Err e) is has = tt
 -- the header and a row of the file that a reader was opened for
 pub has_row_in : {R : Type 0} (told : R → Option (List ℕ)) (reader : R) (known : Option Files) (path : List ℕ) (number : ℕ) (h r : Record)
     → IfSome known (λ at. IsFileOf told (Some reader) (at path)) → IfSome (told reader) (λ bytes. HasRow (grid bytes) number h r)
-    → IfSome known (λ files. FoundIn files path (λ bytes. HasRow (grid bytes) number h r))
+    → FoundAt known path (λ bytes. HasRow (grid bytes) number h r)
 has_row_in told reader None path number h r opens row = tt
 has_row_in told reader (Some files) path number h r opens row = by (files path) refl opens
   where

@@ -1,9 +1,9 @@
 -- What stands in the files of a report at the place of a table's fault: the line of its record, and the cells of the header and of the row.
-use Rattle.std.specs.Prelude.{◌≡◌, ◌⊎◌, ℕ, zero, suc, Bool, true, false, List, [], ◌++◌, Option, Some, None, IfSome, slice_get, unwrap_or}
-use Rattle.csv.specs.Records.{field_at}
+use Rattle.std.specs.Prelude.{◌≡◌, ◌⊎◌, ℕ, zero, suc, Bool, true, false, List, [], ◌++◌, Option, Some, None, slice_get, unwrap_or}
+use Rattle.csv.specs.Records.{field_at, fields_of}
 use Rattle.oim_records.specs.Grids.{Field, Record, grid}
 use Rattle.oim_files.specs.Metadata.{profile}
-use Rattle.oim_rows.specs.Streams.{IsOutside, table_stream}
+use Rattle.oim_rows.specs.Streams.{IsOutside, Stream, table_stream}
 use Rattle.oim_rows.specs.declared.fault.TableFault.{TableFault}
 use Rattle.oim_rows.specs.declared.fault.TableKind.{TableKind}
 use Rattle.oim_rows.specs.declared.fault.TableKind.TheVariants as kind
@@ -11,12 +11,14 @@ use Rattle.oim_report.specs.Readers.{table_of}
 use Rattle.oim_report.specs.ReportValue.{ReportValue}
 use Rattle.oim_files.specs.Folders.{Files, IsFolderOf}
 use Rattle.oim_places.specs.Cells.{as_text}
-use Rattle.oim_places.specs.LineNumbers.{line_of_record}
+use Rattle.oim_places.specs.FolderFiles.{FoundIn}
+use Rattle.oim_places.specs.LineNumbers.{IsLineOf, line_of_record}
 use Rattle.oim_places.specs.declared.fault_places.FaultPlace.{FaultPlace}
+use Rattle.oim_places.specs.declared.records.RowAgain.{RowAgain}
 
--- the record at a place, and the field in a column, which is counted from 1; nothing where there is none
-abbrev pub record_at : List Record → ℕ → Record
-record_at records number = unwrap_or (slice_get records number) []
+-- the record at a place, and what a column has in it, which is counted from 1; nothing where there is none
+abbrev pub record_or_empty : List Record → ℕ → Record
+record_or_empty records number = unwrap_or (slice_get records number) []
 
 abbrev pub column_place : ℕ → Option ℕ
 column_place zero = None
@@ -26,8 +28,8 @@ abbrev pub field_of : Record → Option ℕ → Field
 field_of fields None = []
 field_of fields (Some place) = unwrap_or (field_at fields place) []
 
-abbrev pub field_in : Record → ℕ → List ℕ
-field_in fields column = as_text (field_of fields (column_place column))
+abbrev pub column_text : Record → ℕ → List ℕ
+column_text fields column = as_text (field_of fields (column_place column))
 
 -- a record of these, by its number; the header, which has the number 0, is no row
 abbrev pub IsRowAt : List Record → ℕ → Record → Type 0
@@ -38,21 +40,17 @@ IsRowAt records (suc number) row = slice_get records (suc number) ≡ Some row
 abbrev pub HasRow : List Record → ℕ → Record → Record → Type 0
 HasRow records number header row = (slice_get records 0 ≡ Some header) × IsRowAt records number row
 
--- what is found in the file at a path of a folder, which is there
-abbrev pub FoundIn : Files → List ℕ → (List ℕ → Type 0) → Type 0
-FoundIn files path holds = (bytes : List ℕ) × (files path ≡ Some bytes) × holds bytes
-
--- the header is no row
-abbrev pub row_at : List Record → ℕ → Record
-row_at records zero = []
-row_at records (suc number) = record_at records (suc number)
+-- the same, but that the header is no row
+abbrev pub row_or_empty : List Record → ℕ → Record
+row_or_empty records zero = []
+row_or_empty records (suc number) = record_or_empty records (suc number)
 
 -- what a table's file has at a row and a column
 abbrev pub stands_at : List ℕ → (row column : ℕ) → FaultPlace
 stands_at bytes row column = record {
   line = line_of_record row bytes;
-  header = field_in (record_at (grid bytes) 0) column;
-  cell = field_in (row_at (grid bytes) row) column;
+  header = column_text (record_or_empty (grid bytes) 0) column;
+  cell = column_text (row_or_empty (grid bytes) row) column;
 }
 
 -- the fault is of a file as a whole, and has no place in it
@@ -77,30 +75,38 @@ is_of_file kind.NoThread = true
 abbrev pub unknown_place : FaultPlace
 unknown_place = record { line = None; header = []; cell = [] }
 
--- the first fault of the table whose file has these bytes
-abbrev pub fault_in : ReportValue → (table : ℕ) → List ℕ → Option TableFault
-fault_in report table bytes = (table_stream report table profile.rows (Some bytes)).fault
+-- the stream of the table whose file has these bytes
+abbrev pub stream_of_file : ReportValue → (table : ℕ) → List ℕ → Stream
+stream_of_file report table bytes = table_stream report table profile.rows (Some bytes)
+
+-- the first fault of that table
+abbrev pub fault_of_file : ReportValue → (table : ℕ) → List ℕ → Option TableFault
+fault_of_file report table bytes = (stream_of_file report table bytes).fault
+
+-- the fault of a table's stream as it is found by reading: a reader may fail and memory may run out
+abbrev pub EndsStream : (table : ℕ) → Stream → TableFault → Type 0
+EndsStream table s f = IsOutside table f ⊎ (s.fault ≡ Some f)
 
 -- the same of the table's file
-abbrev pub IsFaultOf : ReportValue → (table : ℕ) → List ℕ → TableFault → Type 0
-IsFaultOf report table bytes f = IsOutside table f ⊎ (fault_in report table bytes ≡ Some f)
+abbrev pub IsTableFault : ReportValue → (table : ℕ) → List ℕ → TableFault → Type 0
+IsTableFault report table bytes f = EndsStream table (stream_of_file report table bytes) f
 
 -- the table's file has these bytes and the fault, and these are its header and the fault's record
-abbrev pub HasRecordOf : ReportValue → TableFault → (header row : Record) → List ℕ → Type 0
-HasRecordOf report f header row bytes = HasRow (grid bytes) f.row header row × IsFaultOf report f.table bytes f
+abbrev pub HasRecordOf : ReportValue → TableFault → RowAgain → List ℕ → Type 0
+HasRecordOf report f again bytes = HasRow (grid bytes) f.row (fields_of again.header) (fields_of again.row) × IsTableFault report f.table bytes f
 
 -- what stands in the file at a row and a column, apart from the line if that is not known: a read for it may fail
 abbrev pub IsPlaceIn : (row column : ℕ) → FaultPlace → List ℕ → Type 0
 IsPlaceIn row column p bytes = (p.header ≡ (stands_at bytes row column).header) × (p.cell ≡ (stands_at bytes row column).cell)
-    × IfSome p.line (λ line. (stands_at bytes row column).line ≡ Some line)
+    × IsLineOf row bytes p.line
 
--- the file has the fault, and what stands there is that of its place
-abbrev pub HasPlaceIn : ReportValue → TableFault → FaultPlace → List ℕ → Type 0
-HasPlaceIn report f p bytes = (fault_in report f.table bytes ≡ Some f) × IsPlaceIn f.row f.column p bytes
+-- the fault has a place in the file at this path, which has it, its first; and this holds of the bytes
+abbrev pub HasFaultIn : Files → List ℕ → ReportValue → TableFault → (List ℕ → Type 0) → Type 0
+HasFaultIn files path report f holds = (is_of_file f.kind ≡ false) × FoundIn files path (λ bytes. (fault_of_file report f.table bytes ≡ Some f) × holds bytes)
 
--- the place is that of the fault in the file at this path, which has it there
+-- what stands there is that of the place
 abbrev pub IsPlaceAt : Files → List ℕ → ReportValue → TableFault → FaultPlace → Type 0
-IsPlaceAt files path report f p = (is_of_file f.kind ≡ false) × FoundIn files path (HasPlaceIn report f p)
+IsPlaceAt files path report f p = HasFaultIn files path report f (IsPlaceIn f.row f.column p)
 
 -- the path of a table's file, in the folder of the metadata's path
 abbrev pub IsTablePath : List ℕ → ReportValue → ℕ → List ℕ → Type 0

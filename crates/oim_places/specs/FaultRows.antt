@@ -30,6 +30,6 @@ abbrev pub ReadsAs : List ℕ → Record → Type 0
 ReadsAs text fields = (later : List ℕ) → next_record default_config state.StartRecord [] [] (text ++ later) ≡ Some (fields, state.StartRecord, later)
 
 -- the text that is written for a record, and that is read as it
-pub record IsTextOf (fields : Record) (text : List ℕ) : Type 0 where
+pub record IsRecordText (fields : Record) (text : List ℕ) : Type 0 where
   pub written : text ≡ row_text default_writer fields
   pub reads : ReadsAs text fields

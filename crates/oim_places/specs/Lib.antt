@@ -2,6 +2,7 @@ pub mod Cells
 pub mod FaultPlaces
 pub mod FaultRows
 pub mod FilePlaces
+pub mod FolderFiles
 pub mod LineNumbers
 pub mod Pointers
 pub mod Reports

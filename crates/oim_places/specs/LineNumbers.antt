@@ -1,6 +1,6 @@
 -- The line of a file at which a record begins. Records are those of `grid`: commas separate fields, inside quotes a quote is doubled, LF, CR or CRLF
 -- ends a record, and an empty line is none. A line ends with LF, CR or CRLF, also inside quotes.
-use Rattle.std.specs.Prelude.{◌≡◌, ◌≤◌, ◌++◌, drop, length, ℕ, ◌+◌, ◌-◌, ◌^◌, min, Bool, false, not, ◌&&◌, ◌||◌, nat_eq, List, ◌∷◌, Option, Some, None, fold, if◌then◌else◌}
+use Rattle.std.specs.Prelude.{◌≡◌, ◌≤◌, ◌++◌, drop, length, ℕ, ◌+◌, ◌-◌, ◌^◌, min, Bool, false, not, ◌&&◌, ◌||◌, nat_eq, List, ◌∷◌, Option, Some, None, IfSome, fold, if◌then◌else◌}
 use Rattle.csv.specs.Reading.{strip_bom}
 use Rattle.csv.specs.declared.parser.State.TheVariants as state
 use Rattle.oim_records.specs.Grids.{grid, records_left}
@@ -42,13 +42,16 @@ begins Field b = false
 begins Quoted b = false
 begins Quote b = false
 
--- the line of the byte behind this one; the number is one of 64 bits
-abbrev pub line_after : LineCounter → ℕ → ℕ
-line_after c b = if ends_line b && not (c.after_cr && nat_eq b 10) then min (c.line + 1) (2 ^ 64 - 1) else c.line
+-- the line of the byte behind one in a line, which stands behind a CR or not: LF behind CR ends no other. The number is one of 64 bits
+abbrev pub line_behind_byte : ℕ → Bool → ℕ → ℕ
+line_behind_byte line after_cr b = if ends_line b && not (after_cr && nat_eq b 10) then min (line + 1) (2 ^ 64 - 1) else line
 
--- before the record begins
-abbrev pub moved : LineCounter → ℕ → LineCounter
-moved c b = record {
+abbrev pub line_after : LineCounter → ℕ → ℕ
+line_after c b = line_behind_byte c.line c.after_cr b
+
+-- the counter one byte on, before the record begins
+abbrev pub one_byte_on : LineCounter → ℕ → LineCounter
+one_byte_on c b = record {
   spot = after_spot c.spot b;
   after_cr = nat_eq b 13;
   line = line_after c b;
@@ -58,23 +61,28 @@ moved c b = record {
 
 -- once it has begun nothing changes
 abbrev pub after_byte : LineCounter → ℕ → LineCounter
-after_byte c b = if c.has_begun then c else moved c b
+after_byte c b = if c.has_begun then c else one_byte_on c b
 
-abbrev pub start_of : ℕ → LineCounter
-start_of number = record { spot = Between; after_cr = false; line = 1; before = number; has_begun = false }
+-- the counter for the record with this number, before the first byte
+abbrev pub counter_for : ℕ → LineCounter
+counter_for number = record { spot = Between; after_cr = false; line = 1; before = number; has_begun = false }
 
 abbrev pub line_in : LineCounter → Option ℕ
 line_in c = if c.has_begun then Some c.line else None
 
 -- the line at which the record with this number begins, the header being 0
 abbrev pub line_of_record : ℕ → List ℕ → Option ℕ
-line_of_record number bytes = line_in (fold after_byte (start_of number) (strip_bom bytes))
+line_of_record number bytes = line_in (fold after_byte (counter_for number) (strip_bom bytes))
+
+-- the line, where one is told, is that at which this record begins
+abbrev pub IsLineOf : ℕ → List ℕ → Option ℕ → Type 0
+IsLineOf number bytes line = IfSome line (λ n. line_of_record number bytes ≡ Some n)
 
 -- ---- what a line is
 
 -- the line of the byte behind one more, and whether a CR stands before it
 abbrev pub next_line : ℕ × Bool → ℕ → ℕ × Bool
-next_line at b = (if ends_line b && not (at.1 && nat_eq b 10) then min (at.0 + 1) (2 ^ 64 - 1) else at.0, nat_eq b 13)
+next_line at b = (line_behind_byte at.0 at.1 b, nat_eq b 13)
 
 -- the line at which a text begins that stands behind these bytes
 abbrev pub line_behind : List ℕ → ℕ

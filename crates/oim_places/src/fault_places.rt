@@ -1,10 +1,12 @@
 //! What stands at the place of a fault of a table, whose file is read again.
 
-ghost use Rattle.std.specs.Prelude.{◌≡◌, ◌⊎◌, ◌<◌, IfOk, IfSome, Some, false, length, string_bytes, true};
+ghost use Rattle.std.specs.Prelude.{◌≡◌, ◌⊎◌, ◌<◌, IfOk, IfSome, false, length, string_bytes, true};
 ghost use Rattle.csv.specs.Records.{fields_of};
 ghost use Rattle.oim_places.specs.FaultPlaces as spec;
-ghost use Rattle.oim_places.specs.FaultPlaces.{FoundIn, HasRecordOf, IsFaultOf, IsPlaceAt, IsPlaceOf, IsTablePath, column_place, field_in, unknown_place};
-ghost use Rattle.oim_places.specs.LineNumbers.{line_of_record};
+ghost use Rattle.oim_places.specs.FaultPlaces.{HasRecordOf, IsPlaceAt, IsPlaceOf, IsTableFault, IsTablePath, column_place, column_text, unknown_place};
+ghost use Rattle.oim_places.specs.FolderFiles.{FoundAt, HoldsAt};
+ghost use Rattle.oim_places.specs.LineNumbers.{IsLineOf};
+ghost use Rattle.oim_places.specs.state.FaultPlaces.{ReadsFault};
 
 use crate::cells::field_as_text;
 use crate::file_places::line_again;
@@ -54,7 +56,7 @@ pub fn place_in_record(fault: &TableFault) -> Option<usize>
 /// Whether a table, whose file is read again, has this fault first.
 fn has_fault<R: Read + Drop>(alloc: Global, report: &Report, fault: &TableFault, reader: R) -> bool
     requires { (fault.now).table < length report.now.tables }
-    ensures { result ≡ true → IfSome (R.remaining reader) (λ bytes. IsFaultOf report.now (fault.now).table bytes fault.now) }
+    ensures { result ≡ true → IfSome (R.remaining reader) (λ bytes. IsTableFault report.now (fault.now).table bytes fault.now) }
 {
     match fault_again(alloc, report, fault.table, reader) {
         Some(found) => found == *fault,
@@ -72,8 +74,7 @@ fn with_fault<R: Read + Drop, F: Folder<R>>(
 ) -> Option<R>
     requires { (fault.now).table < length report.now.tables }
     ensures same { F.files folder.new ≡ F.files folder.old }
-    ensures fault { IfSome result (λ reader. IfSome (F.files folder.old) (λ files.
-        FoundIn files path.now (λ bytes. (R.remaining reader ≡ Some bytes) × IsFaultOf report.now (fault.now).table bytes fault.now))) }
+    ensures fault { IfSome result (λ reader. FoundAt (F.files folder.old) path.now (ReadsFault (R.remaining reader) report.now fault.now)) }
 {
     let Some(reader) = folder.open(path) else {
         return None;
@@ -95,8 +96,7 @@ pub fn record_again<R: Read + Drop, F: Folder<R>>(
 ) -> Result<Option<RowAgain>, AllocError>
     requires { (fault.now).table < length report.now.tables }
     ensures same { F.files folder.new ≡ F.files folder.old }
-    ensures row { IfOk result (λ o. IfSome o (λ a. IfSome (F.files folder.old) (λ files.
-        FoundIn files path.now (HasRecordOf report.now fault.now (fields_of a.header) (fields_of a.row))))) }
+    ensures row { IfOk result (λ o. IfSome o (λ a. FoundAt (F.files folder.old) path.now (HasRecordOf report.now fault.now a))) }
 {
     match with_fault(alloc, folder, path, report, fault) {
         Some(reader) => row_again(alloc, reader, fault.row as usize),
@@ -140,10 +140,9 @@ fn place_again<R: Read + Drop, F: Folder<R>>(
     cells: &RowAgain,
 ) -> Result<FaultPlace, AllocError>
     ensures same { F.files folder.new ≡ F.files folder.old }
-    ensures header { IfOk result (λ p. p.header ≡ field_in (fields_of cells.now.header) (fault.now).column) }
-    ensures cell { IfOk result (λ p. p.cell ≡ field_in (fields_of cells.now.row) (fault.now).column) }
-    ensures line { IfOk result (λ p. IfSome (F.files folder.old) (λ files. IfSome (files path.now) (λ bytes.
-        IfSome p.line (λ line. line_of_record (fault.now).row bytes ≡ Some line)))) }
+    ensures header { IfOk result (λ p. p.header ≡ column_text (fields_of cells.now.header) (fault.now).column) }
+    ensures cell { IfOk result (λ p. p.cell ≡ column_text (fields_of cells.now.row) (fault.now).column) }
+    ensures line { IfOk result (λ p. HoldsAt (F.files folder.old) path.now (λ bytes. IsLineOf (fault.now).row bytes p.line)) }
 {
     let line = line_again(alloc, folder, path, fault.row as usize);
     let column = place_in_record(fault);

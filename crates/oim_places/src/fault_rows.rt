@@ -4,7 +4,7 @@ ghost use Rattle.std.specs.Prelude.{◌≡◌, [], IfOk};
 ghost use Rattle.std.specs.Fmt.{decimal};
 ghost use Rattle.csv.specs.Records.{fields_of, partial_of};
 ghost use Rattle.csv.specs.Writing.{default_writer, row_text};
-ghost use Rattle.oim_places.specs.FaultRows.{IsTextOf, fault_fields, fault_names, line_field};
+ghost use Rattle.oim_places.specs.FaultRows.{IsRecordText, fault_fields, fault_names, line_field};
 ghost use Rattle.oim_places.specs.state.FaultRows.{PutsField};
 
 use crate::fault_places::FaultPlace;
@@ -14,7 +14,7 @@ use std::alloc::{AllocError, Global};
 
 /// The first record of the file: the names of the fields, with its line feed.
 pub fn fault_header() -> &'static str
-    ensures { IsTextOf fault_names result.now }
+    ensures { IsRecordText fault_names result.now }
 {
     "table,row,column,number,name,line,header,cell\n"
 }
@@ -84,7 +84,7 @@ pub fn fault_row(
     fault: &TableFault,
     place: &FaultPlace,
 ) -> Result<Vec<u8>, AllocError>
-    ensures { IfOk result (λ v. IsTextOf (fault_fields id.now fault.now place.now) v.items) }
+    ensures { IfOk result (λ v. IsRecordText (fault_fields id.now fault.now place.now) v.items) }
 {
     let mut row = ByteRecord::new(alloc);
     put_fields(alloc, &mut row, id, fault, place)?;

@@ -1,8 +1,9 @@
 //! A place in a file, and its line, for which the file is read again.
 
-ghost use Rattle.std.specs.Prelude.{◌≡◌, ◌++◌, IfOk, IfSome, Some, string_bytes};
+ghost use Rattle.std.specs.Prelude.{◌≡◌, ◌++◌, IfOk, string_bytes};
 ghost use Rattle.oim_places.specs.FilePlaces.{cell_part, line_part, place_text};
-ghost use Rattle.oim_places.specs.LineNumbers.{line_of_record};
+ghost use Rattle.oim_places.specs.FolderFiles.{HoldsAt};
+ghost use Rattle.oim_places.specs.LineNumbers.{IsLineOf};
 
 use crate::line_number::line_of;
 use crate::terminal::shown;
@@ -63,7 +64,7 @@ pub fn line_again<R: Read + Drop, F: Folder<R>>(
     number: usize,
 ) -> Option<u64>
     ensures same { F.files folder.new ≡ F.files folder.old }
-    ensures line { IfSome (F.files folder.old) (λ files. IfSome (files path.now) (λ bytes. IfSome result (λ line. line_of_record number bytes ≡ Some line))) }
+    ensures line { HoldsAt (F.files folder.old) path.now (λ bytes. IsLineOf number bytes result) }
 {
     match folder.open(path) {
         Some(reader) => line_of(alloc, reader, number),

@@ -2,7 +2,7 @@
 
 ghost use Rattle.std.specs.Prelude.{◌≡◌, IfSome, Some, fold};
 ghost use Rattle.oim_places.specs.LineNumbers as spec;
-ghost use Rattle.oim_places.specs.LineNumbers.{after_byte, after_spot, ends_line, line_of_record, start_of};
+ghost use Rattle.oim_places.specs.LineNumbers.{IsLineOf, after_byte, after_spot, counter_for, ends_line};
 
 use oim_records::PieceReader;
 use std::alloc::Global;
@@ -95,7 +95,7 @@ fn begins(spot: Spot, byte: u8) -> bool
 impl LineCounter {
     /// Looks for the record with this number, the header being 0, from the start of a file.
     pub(crate) fn of(number: usize) -> LineCounter
-        ensures { result ≡ start_of number }
+        ensures { result ≡ counter_for number }
     {
         LineCounter {
             spot: Spot::Between,
@@ -172,7 +172,7 @@ const PIECE: usize = 65_536;
 /// The line at which the record with this number begins, the header being 0. `None` if there is no such
 /// record, the reader fails, or memory runs out.
 pub(crate) fn line_of<R: Read + Drop>(alloc: Global, reader: R, number: usize) -> Option<u64>
-    ensures { IfSome (R.remaining reader) (λ bytes. IfSome result (λ line. line_of_record number bytes ≡ Some line)) }
+    ensures { IfSome (R.remaining reader) (λ bytes. IsLineOf number bytes result) }
 {
     let mut pieces = PieceReader::new(alloc, reader);
     if pieces.skip_mark().is_err() {

@@ -4,8 +4,8 @@ ghost use Rattle.std.specs.Prelude.{◌≡◌, ◌<◌, [], IfOk, IfSome, length
 ghost use Rattle.csv.specs.Records.{fields_of};
 ghost use Rattle.oim_records.specs.Grids.{grid};
 ghost use Rattle.oim_records.specs.Reads.{TakesRecord};
-ghost use Rattle.oim_places.specs.FaultPlaces.{HasRow, IsFaultOf};
-ghost use Rattle.oim_places.specs.state.FaultPlaces.{EndsStream, FileHasRow, TakesNth};
+ghost use Rattle.oim_places.specs.FaultPlaces.{EndsStream, HasRow, IsTableFault};
+ghost use Rattle.oim_places.specs.state.FaultPlaces.{FileHasRow, TakesNth};
 
 use csv::ByteRecord;
 use oim_decode::TableBlocks;
@@ -164,7 +164,7 @@ pub(crate) fn fault_again<R: Read + Drop>(
     reader: R,
 ) -> Option<TableFault>
     requires { table < length report.now.tables }
-    ensures { IfSome (R.remaining reader) (λ bytes. IfSome result (IsFaultOf report.now table bytes)) }
+    ensures { IfSome (R.remaining reader) (λ bytes. IfSome result (IsTableFault report.now table bytes)) }
 {
     match TableBlocks::open(alloc, report, table, reader, Limits::profile()) {
         Ok(mut blocks) => fault_behind(alloc, &mut blocks),

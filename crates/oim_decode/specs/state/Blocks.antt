@@ -17,9 +17,9 @@ pub record RowsUnread : Type 0 where
   pub unread : Option (List Record)
 
 -- the stream that is left of a table: its end once that was found, or else this one
-abbrev pub left_of : Option (Option TableFault) → Option Stream → Option Stream
-left_of None s = s
-left_of (Some end) s = Some (ending end)
+abbrev pub end_or_left : Option (Option TableFault) → Option Stream → Option Stream
+end_or_left None s = s
+end_or_left (Some end) s = Some (ending end)
 
 -- what is left of a table whose rows are read so far, whose facts are pending so, and whose end or fault was found so far
 abbrev pub blocks_left : RowsUnread → List Fact → Option (Option TableFault) → BlocksLeft
@@ -29,7 +29,7 @@ blocks_left rows facts settled = record {
   given = rows.given;
   pending = facts;
   answered = settled;
-  left = left_of settled rows.left;
+  left = end_or_left settled rows.left;
   unread = rows.unread;
 }
 

@@ -1,14 +1,10 @@
 -- How a piece is decoded, row after row.
-use Rattle.std.specs.Prelude.{◌≡◌, ◌⊎◌, ◌≤◌, Bool, true, false, List, [], ◌∷◌, ◌++◌, ℕ, None, Result, Ok, Err}
+use Rattle.std.specs.Prelude.{◌≡◌, ◌⊎◌, ◌≤◌, Bool, true, false, List, [], ◌∷◌, ◌++◌, ℕ, None}
 use Rattle.oim_records.specs.Grids.{Record}
-use Rattle.oim_resolve.specs.FactParts.{FactParts as Fact}
 use Rattle.oim_fast.specs.Facts.{facts_of_row}
 use Rattle.oim_row.specs.Rows.{RowValue}
 use Rattle.oim_rows.specs.RowFacts.{TableHeaderValue, id_place_of}
-use Rattle.oim_rows.specs.Streams.{OrNoMemory}
-use Rattle.oim_rows.specs.declared.fault.TableFault.{TableFault}
 use Rattle.oim_decode.specs.Apart.{Apart, apart_from, apart_row, id_in}
-use Rattle.oim_decode.specs.state.RowTexts.{facts_in}
 use Rattle.oim_decode.specs.PieceAnswers.{refused, apart_then}
 
 -- no row
@@ -22,11 +18,6 @@ cells_apart x = apart_row None (facts_of_row x) (id_in (id_place_of x.header) x.
 -- a row was added to those before it, or memory was refused for it
 abbrev pub AddsApart : ℕ → Apart → Apart → Apart → Type 0
 AddsApart table before one after = (after ≡ apart_then before one) ⊎ (after ≡ apart_then before (refused table))
-
--- the facts of a row were added to rows, or none were, with the row's fault or because memory was refused
-abbrev pub AddsRowFacts : ℕ → Result (List Fact) TableFault → List (List Fact) → List (List Fact) → Result (Unit {0}) TableFault → Type 0
-AddsRowFacts table answer before after (Ok u) = (answer ≡ Ok (facts_in answer)) × (after ≡ before ++ facts_in answer ∷ [])
-AddsRowFacts table answer before after (Err e) = (after ≡ before) × OrNoMemory table (Err e) answer
 
 -- row n, the first of the records left, was added to those before it and has no fault
 abbrev pub TakesRow : TableHeaderValue → ℕ → List Record → Apart → List Record → Apart → Type 0

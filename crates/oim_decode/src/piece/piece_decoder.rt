@@ -3,7 +3,7 @@
 ghost use Rattle.std.specs.Prelude.{◌≡◌, ◌≤◌, ◌+◌, [], IfOk, IfSome, None, drop, length};
 ghost use Rattle.csv.specs.declared.parser.State.TheVariants as state;
 ghost use Rattle.oim_records.specs.Grids.{records_left};
-ghost use Rattle.oim_decode.specs.PieceAnswers.{IsDecoded};
+ghost use Rattle.oim_decode.specs.PieceAnswers.{IsPieceDecoded};
 ghost use Rattle.oim_decode.specs.state.PieceAnswers.{StepsRow, no_rows};
 ghost use Rattle.oim_rows.specs.RowFacts.{row_fault};
 
@@ -106,7 +106,7 @@ impl PieceDecoder<'_> {
     /// Memory where memory is short.
     pub fn decode(&mut self, piece: Vec<u8>, first: u32) -> PieceAnswer
         requires { first ≤ self.old.header.limit + 1 }
-        ensures answer { IsDecoded self.old.header first (records_left state.StartRecord piece.items) result }
+        ensures answer { IsPieceDecoded self.old.header first (records_left state.StartRecord piece.items) result }
         ensures numbers { first + length result.ids ≤ 4294967296 }
         ensures header { self.new.header ≡ self.old.header }
     {
@@ -138,7 +138,7 @@ impl PieceDecoder<'_> {
 
     /// Decodes the rows behind the header in the head of the table. The answer is as that of `decode`.
     pub fn decode_head(&mut self, head: &FirstRecords) -> PieceAnswer
-        ensures answer { IsDecoded self.old.header 1 (drop 1 head.now) result }
+        ensures answer { IsPieceDecoded self.old.header 1 (drop 1 head.now) result }
         ensures numbers { 1 + length result.ids ≤ 4294967296 }
         ensures header { self.new.header ≡ self.old.header }
     {
@@ -163,7 +163,7 @@ impl PieceDecoder<'_> {
     /// Decodes the records that are left of the piece at hand.
     fn decode_left(&mut self, first: u32) -> PieceAnswer
         requires { first ≤ self.old.header.limit + 1 }
-        ensures answer { IsDecoded self.old.header first self.old.left result }
+        ensures answer { IsPieceDecoded self.old.header first self.old.left result }
         ensures numbers { first + length result.ids ≤ 4294967296 }
         ensures header { self.new.header ≡ self.old.header }
     {

@@ -3,8 +3,8 @@
 ghost use Rattle.std.specs.Prelude.{◌≡◌, ◌++◌, [], take};
 ghost use Rattle.oim_fast.specs.Facts.{facts_of_row};
 ghost use Rattle.oim_rows.specs.RowFacts.{IsTextRecord};
-ghost use Rattle.oim_decode.specs.state.PieceAnswers.{AddsRowFacts};
 ghost use Rattle.oim_decode.specs.state.RowEnds.{IsEndIn, stretches};
+ghost use Rattle.oim_decode.specs.state.RowTexts.{AddsRowFacts};
 
 use crate::piece::rooms::Rooms;
 use crate::piece::written_rows::WrittenRows;

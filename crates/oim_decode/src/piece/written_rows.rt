@@ -4,8 +4,7 @@ ghost use Rattle.std.specs.Prelude.{◌≡◌, ◌≤◌, ◌-◌, ◌∷◌, []
 ghost use Rattle.oim_fast.specs.Facts.{facts_of_row};
 ghost use Rattle.oim_rows.specs.RowFacts.{IsTextRecord};
 ghost use Rattle.oim_rows.specs.Streams.{facts_of_rows};
-ghost use Rattle.oim_decode.specs.state.PieceAnswers.{AddsRowFacts};
-ghost use Rattle.oim_decode.specs.state.RowTexts.{facts_in};
+ghost use Rattle.oim_decode.specs.state.RowTexts.{AddsRowFacts, facts_of_answer};
 
 use crate::table::fact_list::{first, none, then};
 use crate::table::pending_facts::PendingFacts;
@@ -51,7 +50,7 @@ struct OneRow<'a, 'b, 'r> {
 }
 
 impl Denotes<Items<Items<Fact>>> for OneRow<'_, '_, '_> {
-    ghost denoted = { λ t. facts_in (facts_of_row t.row.now) ∷ [] };
+    ghost denoted = { λ t. facts_of_answer (facts_of_row t.row.now) ∷ [] };
 }
 
 /// How many facts the first `count` rows have, where these are the ends of all rows.

@@ -3,7 +3,7 @@
 ghost use Rattle.std.specs.Prelude.{◌≡◌, ◌≤◌, [], IfOk, OnErr, OnOk, drop, length, take};
 ghost use Rattle.oim_fast.specs.Facts.{facts_of_row};
 ghost use Rattle.oim_rows.specs.RowFacts.{IsTextRecord};
-ghost use Rattle.oim_decode.specs.state.RowTexts.{AddsFacts, facts_in};
+ghost use Rattle.oim_decode.specs.state.RowTexts.{AddsFacts, facts_of_answer};
 
 use crate::table::fact_list::{first, none, rest, then};
 use crate::table::row_texts::RowTexts;
@@ -50,7 +50,7 @@ struct RowNote<'a, 'b, 'r> {
 }
 
 impl Denotes<Items<Fact>> for RowNote<'_, '_, '_> {
-    ghost denoted = { λ t. facts_in (facts_of_row t.row.now) };
+    ghost denoted = { λ t. facts_of_answer (facts_of_row t.row.now) };
 }
 
 /// How many bytes are made ready for texts of a length: none where there is memory for so many, else some more than these, so that they

@@ -2,11 +2,13 @@
 use Rattle.std.specs.Prelude.{◌≡◌, ◌++◌, ◌+◌, ◌≤◌, ⊤, ℕ, List, [], ◌∷◌, length, Option, Some, None, IfSome, option_map}
 use Rattle.std.specs.List.{flat_map}
 use Rattle.oim_records.specs.Grids.{Field, Record}
+use Rattle.oim_resolve.specs.FactParts.{FactParts as Fact}
 use Rattle.oim_rows.specs.RowFacts.{TableHeaderValue}
-use Rattle.oim_rows.specs.Streams.{IsOutside, Stream, ending, stream_from}
+use Rattle.oim_rows.specs.Streams.{IsOutside, Stream, ending, facts_of_rows, stream_from}
 use Rattle.oim_rows.specs.declared.fault.TableFault.{TableFault}
 use Rattle.oim_decode.specs.Apart.{Apart}
-use Rattle.oim_decode.specs.PieceAnswers.{IsDecoded, IsJoined}
+use Rattle.oim_decode.specs.Blocks.{ReadsRows}
+use Rattle.oim_decode.specs.PieceAnswers.{IsJoined, IsPieceDecoded}
 use Rattle.oim_pieces.specs.state.Cutting.{CutterLeft}
 use Rattle.oim_pieces.specs.Flights.{steps_for}
 
@@ -17,19 +19,19 @@ pub record FlyingPiece : Type 0 where
   pub rows : List Record
 
 -- the answer for a piece, none of whose identifiers is that of a row past 4,294,967,295
-pub record IsAnswer (g : TableHeaderValue) (first : ℕ) (rows : List Record) (a : Apart) : Type 0 where
-  pub decoded : IsDecoded g first rows a
+pub record IsPieceAnswer (g : TableHeaderValue) (first : ℕ) (rows : List Record) (a : Apart) : Type 0 where
+  pub decoded : IsPieceDecoded g first rows a
   pub few : first + length a.ids ≤ 4294967296
 
 -- the number of the first row of pieces, or, where there is none, of the next row
-abbrev pub first_of : List FlyingPiece → ℕ → ℕ
-first_of [] next = next
-first_of (f ∷ fs) next = f.first
+abbrev pub first_row_of : List FlyingPiece → ℕ → ℕ
+first_row_of [] next = next
+first_row_of (f ∷ fs) next = f.first
 
 -- the rows of pieces are numbered one after another, and all are read in one way
 abbrev pub AreChained : TableHeaderValue → List FlyingPiece → ℕ → Type 0
 AreChained g [] next = ⊤
-AreChained g (f ∷ fs) next = (f.header ≡ g) × (f.first + length f.rows ≡ first_of fs next) × AreChained g fs next
+AreChained g (f ∷ fs) next = (f.header ≡ g) × (f.first + length f.rows ≡ first_row_of fs next) × AreChained g fs next
 
 -- the rows of pieces, piece after piece
 abbrev pub rows_in : List FlyingPiece → List Record
@@ -44,7 +46,7 @@ pub record FlightLeft : Type 0 where
 
 -- the stream of the rows of pieces and of the records behind them, if these are known, where the rows before have these identifiers
 abbrev pub rows_left : TableHeaderValue → List Field → List FlyingPiece → ℕ → Option (List Record) → Option Stream
-rows_left g ids fs next left = option_map (λ records. stream_from g (first_of fs next) ids (rows_in fs ++ records)) left
+rows_left g ids fs next left = option_map (λ records. stream_from g (first_row_of fs next) ids (rows_in fs ++ records)) left
 
 abbrev pub stream_in : FlightLeft → Option Stream
 stream_in f = rows_left f.header f.ids f.pieces f.cutter.next f.cutter.left
@@ -54,14 +56,22 @@ abbrev pub KeepsStream : Option Stream → Option Stream → Type 0
 KeepsStream old new = IfSome old (λ s. new ≡ Some s)
 
 -- what is left behind a piece: nothing but its fault, or what comes next
-abbrev pub behind : Option TableFault → Option Stream → Option Stream
-behind None next = next
-behind (Some e) next = Some (ending (Some e))
+abbrev pub fault_or_left : Option TableFault → Option Stream → Option Stream
+fault_or_left None next = next
+fault_or_left (Some e) next = Some (ending (Some e))
+
+-- the rows of a piece that was joined were read from this stream, and behind it this is left, unless it has a fault
+abbrev pub ReadsJoined : ℕ → Stream → Stream → Option Stream → Type 0
+ReadsJoined table whole joined left = ReadsRows table whole joined.rows (fault_or_left joined.fault left)
+
+-- these rows have the facts of a piece that was joined, and behind it is left what was left before, unless it has a fault
+abbrev pub GivesJoined : Stream → Option Stream → List (List Fact) → Option Stream → Type 0
+GivesJoined joined before rows after = (facts_of_rows rows ≡ facts_of_rows joined.rows) × (after ≡ fault_or_left joined.fault before)
 
 -- the stream is at its end, or the fault comes from outside the table
-abbrev pub EndsWith : ℕ → Option Stream → Option TableFault → Type 0
-EndsWith table left None = IfSome left (λ s. s ≡ ending None)
-EndsWith table left (Some e) = IsOutside table e
+abbrev pub IsEndOfTable : ℕ → Option Stream → Option TableFault → Type 0
+IsEndOfTable table left None = IfSome left (λ s. s ≡ ending None)
+IsEndOfTable table left (Some e) = IsOutside table e
 
 abbrev pub steps_in : FlightLeft → Option ℕ
 steps_in f = steps_for (length f.pieces) f.cutter.unread
@@ -75,6 +85,6 @@ NoMoreSteps (Some n) (Some m) = m ≤ n
 -- the first of pieces under way was joined to rows with these identifiers
 pub record IsFront (piece : FlyingPiece) (ids : List Field) (s : Stream) (ids' : List Field) : Type 0 where
   pub answer : Apart
-  pub decoded : IsDecoded piece.header piece.first piece.rows answer
+  pub decoded : IsPieceDecoded piece.header piece.first piece.rows answer
   pub joined : IsJoined piece.header piece.first ids answer s
   pub behind : s.fault ≡ None → ids' ≡ ids ++ answer.ids

@@ -4,7 +4,7 @@ use Rattle.csv.specs.declared.parser.State.TheVariants as state
 use Rattle.oim_records.specs.Grids.{records_left}
 use Rattle.oim_rows.specs.RowFacts.{TableHeaderValue}
 use Rattle.oim_decode.specs.Apart.{Apart}
-use Rattle.oim_pieces.specs.state.Flights.{IsAnswer}
+use Rattle.oim_pieces.specs.state.Flights.{IsPieceAnswer}
 use Rattle.oim_pieces.specs.declared.decoded.Asked.{Asked}
 use Rattle.oim_pieces.specs.declared.sheet.Question.{Question}
 use Rattle.oim_pieces.specs.declared.sheet.Sheet.{Sheet}
@@ -24,7 +24,7 @@ asked_in (Answer r) = None
 -- what lies in the channel of a piece is that piece, or its answer
 abbrev pub FitsPiece : Asked → Sheet → Type 0
 FitsPiece a (Ask q) = IsPiece a q
-FitsPiece a (Answer r) = IsAnswer a.header.value a.first a.rows.value r.answer
+FitsPiece a (Answer r) = IsPieceAnswer a.header.value a.first a.rows.value r.answer
 
 -- it is known which piece a channel is of, and its table has this header
 abbrev pub IsReadBy : TableHeaderValue → Option Asked → Type 0
@@ -33,7 +33,7 @@ IsReadBy g (Some a) = a.header.value ≡ g
 
 -- an answer is that of the piece that a channel is of
 abbrev pub IsAnswerIn : Option Asked → Apart → Type 0
-IsAnswerIn known answer = IfSome known (λ a. IsAnswer a.header.value a.first a.rows.value answer)
+IsAnswerIn known answer = IfSome known (λ a. IsPieceAnswer a.header.value a.first a.rows.value answer)
 
 -- a channel is of the piece that was asked for
 abbrev pub IsOf : Asked → Option Asked → Type 0

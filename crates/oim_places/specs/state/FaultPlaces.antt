@@ -1,18 +1,18 @@
 -- How the record of a table's fault is found in the files.
-use Rattle.std.specs.Prelude.{◌≡◌, ◌⊎◌, ◌+◌, ℕ, List, Option, Some, IfSome, drop, slice_get}
+use Rattle.std.specs.Prelude.{◌≡◌, ◌+◌, ℕ, List, Option, Some, IfSome, drop, slice_get}
 use Rattle.oim_records.specs.Grids.{Record, grid}
-use Rattle.oim_rows.specs.Streams.{IsOutside, Stream}
+use Rattle.oim_report.specs.ReportValue.{ReportValue}
 use Rattle.oim_rows.specs.declared.fault.TableFault.{TableFault}
-use Rattle.oim_places.specs.FaultPlaces.{HasRow}
+use Rattle.oim_places.specs.FaultPlaces.{HasRow, IsTableFault}
 
 -- the header and the row of a number stand in the file of these bytes, where they are known
 abbrev pub FileHasRow : Option (List ℕ) → ℕ → Record → Record → Type 0
 FileHasRow file number header row = IfSome file (λ bytes. HasRow (grid bytes) number header row)
 
+-- a reader tells these bytes, which have the fault
+abbrev pub ReadsFault : Option (List ℕ) → ReportValue → TableFault → List ℕ → Type 0
+ReadsFault told report f bytes = (told ≡ Some bytes) × IsTableFault report f.table bytes f
+
 -- the record so many places behind the next one, and those that are left behind it
 abbrev pub TakesNth : List Record → ℕ → Record → Option (List Record) → Type 0
 TakesNth left before row after = (slice_get left before ≡ Some row) × (after ≡ Some (drop (before + 1) left))
-
--- the fault of a table's stream as it is found by reading: a reader may fail and memory may run out
-abbrev pub EndsStream : (table : ℕ) → Stream → TableFault → Type 0
-EndsStream table s f = IsOutside table f ⊎ (s.fault ≡ Some f)

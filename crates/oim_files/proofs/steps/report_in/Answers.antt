@@ -1,6 +1,6 @@
 use Rattle.std.proofs.Common.{◌≡◌, ◌∷◌, [], None, Ok, Err, subst, sym}
 use Rattle.oim_report.specs.ReportValue.{ReportValue}
-use Rattle.oim_files.specs.Steps.{Takes, looking}
+use Rattle.oim_files.specs.Steps.{TakesTo, looking}
 use Rattle.oim_files.specs.declared.early_fault.EarlyFault.TheVariants as early
 use Rattle.oim_files.specs.declared.early_fault.Source.TheVariants as source
 use Rattle.serde_json.specs.View.{view}
@@ -23,7 +23,7 @@ returns-in-Ok c = record {
 pub returns-in-Err : goal.returns-in-Err
 returns-in-Err c = record {
   gives =
-      subst (λ f. Takes {X = ReportValue} (looking (report_in profile c.args.parameters c.args.types (view c.args.metadata)) ∷ []) (λ r. report_in profile c.args.parameters c.args.types (view c.args.metadata) ≡ Ok r) (Err (early.Report source.Report f))) (sym c.fault.ensures)
+      subst (λ f. TakesTo (looking (report_in profile c.args.parameters c.args.types (view c.args.metadata)) ∷ []) (report_in profile c.args.parameters c.args.types (view c.args.metadata)) (Err (early.Report source.Report f))) (sym c.fault.ensures)
       (looks_fault (report_in profile c.args.parameters c.args.types (view c.args.metadata)) (fault_in c.in-Err.refusal)
       (value_refuses profile c.args.parameters c.args.types (view c.args.metadata) c.in-Err.refusal
       (subst (λ l. IsFirstOf (in_metadata l c.args.parameters c.args.types (view c.args.metadata)) c.in-Err.refusal) c.profile.ensures c.in-Err.ensures.fault)));

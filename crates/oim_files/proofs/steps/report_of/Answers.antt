@@ -2,7 +2,7 @@ use Rattle.std.proofs.Common.{◌≡◌, ◌∙◌, ◌∷◌, [], Ok, sym, subs
 use Rattle.serde_json.specs.View.{view}
 use Rattle.oim_report.specs.ReportValue.{ReportValue}
 use Rattle.oim_files.specs.Metadata.{profile, report_in}
-use Rattle.oim_files.specs.Steps.{Stops, Takes, looking, parameters_steps, types_steps}
+use Rattle.oim_files.specs.Steps.{Stops, TakesTo, looking, parameters_steps, types_steps}
 use Rattle.oim_files.proofs.MetadataFacts.{reads_value}
 use Rattle.oim_files.proofs.StepFacts.{HasParameters, HasTypes, metadata_stop, parameters_stop, report_stop, types_stop, url_stop}
 use Rattle.oim_files.proofs.steps.report_of.Goals as goal
@@ -44,7 +44,7 @@ returns-clause-gives g c =
     (c.in-Ok-metadata_in.ensures.gives.0, c.in-Ok-metadata_in.ensures.gives.1.1)
     (subst (λ k. IfSome k (λ files. HasParameters files c.args.base.now c.in-Ok-metadata_in.found.1 c.in-Ok-parameters_in.parameters))
     (c.in-Ok-types_in.ensures.same ∙ c.in-Ok.ensures.same) c.in-Ok-parameters_in.ensures.gives)
-    (subst (λ w. Takes {X = ReportValue} (looking w ∷ []) (λ r. w ≡ Ok r) c.report_in.result)
+    (subst (λ w. TakesTo {X = ReportValue} (looking w ∷ []) w c.report_in.result)
     (sym (reads_value profile (report_in profile c.in-Ok-parameters_in.parameters c.in-Ok-types_in.types) c.in-Ok.bytes.items (view c.in-Ok-metadata_in.found.0)
     c.in-Ok-metadata_in.ensures.gives.1.0.0 c.in-Ok-metadata_in.ensures.gives.1.0.1)) c.report_in.ensures.gives)
 

@@ -1,6 +1,6 @@
 use Rattle.std.proofs.Common.{ap, refl, sym, subst, ◌∙◌}
 use Rattle.oim_rows.specs.Streams.{facts_of_rows}
-use Rattle.oim_decode.specs.state.Blocks.{left_of}
+use Rattle.oim_decode.specs.state.Blocks.{end_or_left}
 use Rattle.oim_pieces.specs.Flights.{PiecesLeft}
 use Rattle.oim_pieces.specs.state.Flights.{KeepsStream, stream_in}
 use Rattle.oim_pieces.proofs.Gives.{fault_given, piece_given, short_given}
@@ -12,7 +12,7 @@ returns-in-Some-join_front-clause-blocks g c =
     let ahead = c.go_ahead.new.self in
     let joined = c.in-Some-join_front.joined in
     let kept = c.go_ahead.ensures.stream in
-    let old = ap (λ o. left_of o (stream_in flight)) (sym c.in-None.is) ∙ ap (λ (p : PiecesLeft). p.left) c.self.view_is in
+    let old = ap (λ o. end_or_left o (stream_in flight)) (sym c.in-None.is) ∙ ap (λ (p : PiecesLeft). p.left) c.self.view_is in
     let table = c.go_ahead.ensures.table ∙ ap (λ (p : PiecesLeft). p.table) c.self.view_is in
     let read = rw c.in-Some-join_front.is at c.join_front.ensures.some in
     let gave = rw c.in-None.is at c.give.ensures.blocks in
@@ -25,7 +25,7 @@ returns-in-Some-join_front-clause-fault g c =
     let ahead = c.go_ahead.new.self in
     let joined = c.in-Some-join_front.joined in
     let kept = c.go_ahead.ensures.stream in
-    let old = ap (λ o. left_of o (stream_in flight)) (sym c.in-None.is) ∙ ap (λ (p : PiecesLeft). p.left) c.self.view_is in
+    let old = ap (λ o. end_or_left o (stream_in flight)) (sym c.in-None.is) ∙ ap (λ (p : PiecesLeft). p.left) c.self.view_is in
     let table = c.go_ahead.ensures.table ∙ ap (λ (p : PiecesLeft). p.table) c.self.view_is in
     let read = rw c.in-Some-join_front.is at c.join_front.ensures.some in
     let short = rw (c.join_front.ensures.table ∙ table) at c.give.ensures.fault in

@@ -1,11 +1,11 @@
 use Rattle.std.proofs.Common.{◌≡◌, ◌⊎◌, ◌<◌, ◌≤◌, ◌-◌, IfSome, IsSome, None}
 use Rattle.oim_decode.specs.Blocks.{IsBehind}
-use Rattle.oim_decode.specs.state.Blocks.{HasRead, blocks_left, left_of, turns_left}
+use Rattle.oim_decode.specs.state.Blocks.{HasRead, blocks_left, end_or_left, turns_left}
 use Rattle.oim_decode.proofs.table.table_blocks.TableBlocks.fill.Given as goal
 
 abbrev pub invariant-loop-self : goal.invariant-loop-self
 invariant-loop-self g l = record {
-  reads : IfSome l.fn.self.left (λ s. HasRead l.fn.self.table s l.fn.self.pending l.self-inside.facts (left_of l.self-inside.settled l.self-inside.rows.left));
+  reads : IfSome l.fn.self.left (λ s. HasRead l.fn.self.table s l.fn.self.pending l.self-inside.facts (end_or_left l.self-inside.settled l.self-inside.rows.left));
   again : IsSome l.fn.self.answered → blocks_left l.self-inside.rows l.self-inside.facts l.self-inside.settled ≡ l.fn.self;
   table : l.self-inside.rows.header.table ≡ l.fn.self.table;
   limit : l.self-inside.rows.header.limit ≡ l.fn.self.limit;
