@@ -41,7 +41,7 @@ first_ids facts more own =
 prefix_ids : (facts all : List Fact) → IsPrefix facts all → HaveOwnIds all → HaveOwnIds facts
 prefix_ids facts all (more, is) own = first_ids facts more (subst (λ (l : List Fact). HaveOwnIds l) (sym is) own)
 
-no_facts : (all : List Fact) → IsPrefix [] all
+pub no_facts : (all : List Fact) → IsPrefix [] all
 no_facts all = (all, refl)
 
 -- behind all facts of a table
