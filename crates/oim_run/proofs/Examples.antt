@@ -7,7 +7,7 @@ use lib.Utf8.{encode}
 use Rattle.clap.proofs.OnLiterals.{clap_on_literals}
 use Rattle.clap.specs.Words.{Row, Text, fault_of, first_of, matches_of, one_of}
 use Rattle.clap.specs.declared.error.kind.ErrorKind.TheVariants as kind
-use Rattle.oim_convert.specs.Runs.{AreHistories, IsOuter}
+use Rattle.oim_convert.specs.Runs.{AreHistories, IsFromOutside}
 use Rattle.oim_convert.specs.declared.fault.ConvertFault.TheVariants as fault
 use Rattle.oim_json.specs.JsonText.{head_text}
 use Rattle.oim_json.specs.Sinks.{SinkView}
@@ -294,13 +294,13 @@ line_of_each_refused_table : line_of (outcome.Tables two_refused)
 unfolding digits
 line_of_each_refused_table = refl
 
-not_outer : IsOuter table.UnknownHeader → ⊥
-not_outer (inl e) = cc
-not_outer (inr (inl e)) = cc
-not_outer (inr (inr e)) = cc
+not_from_outside : IsFromOutside table.UnknownHeader → ⊥
+not_from_outside (inl e) = cc
+not_from_outside (inr (inl e)) = cc
+not_from_outside (inr (inr e)) = cc
 
 a_fault_of_the_table : AreDefined (unknown_header ∷ [])
-a_fault_of_the_table = (not_outer, tt)
+a_fault_of_the_table = (not_from_outside, tt)
 
 a_failed_read : AreDefined (fault_at 0 0 0 table.Read ∷ []) → ⊥
 a_failed_read defined = defined.0 (inl refl)

@@ -60,7 +60,7 @@ not_cut h all cut =
     let last = Ending (Refused cut.fault) ∷ [] in
     let ends : AreDefined (refusals (cut.before ++ last)) = subst (λ (l : List Item). AreDefined (refusals l)) cut.is all in
     let parts : AreDefined (refusals cut.before ++ refusals last) = subst (λ (l : List TableFault). AreDefined l) (all_refusals cut.before last) ends in
-    (defined_both (refusals cut.before) (refusals last) parts).1.0 cut.outer
+    (defined_both (refusals cut.before) (refusals last) parts).1.0 cut.outside
 
 pub uncut : (hs : List (List Item)) → AreDefined (refusals (all_of hs)) → AreUncut hs
 uncut [] all = tt

@@ -4,7 +4,7 @@ use Rattle.std.specs.Prelude.{⊤, ◌≡◌, ◌⊎◌, ◌+◌, ◌++◌, map,
 use mathlib.Core.List.{IsPrefix}
 use Rattle.std.specs.Io.KnownBytes.{Appends}
 use Rattle.oim_convert.specs.Answer.{IsAnswer, answer_text}
-use Rattle.oim_convert.specs.Runs.{AreHistories, IsLost, IsOuter}
+use Rattle.oim_convert.specs.Runs.{AreHistories, IsLost, IsFromOutside}
 use Rattle.oim_convert.specs.WrittenHistories.{WritesHistories}
 use Rattle.oim_convert.specs.declared.fault.ConvertFault.{ConvertFault}
 use Rattle.oim_convert.specs.declared.fault.ConvertFault.TheVariants as fault
@@ -33,7 +33,7 @@ refused_tables report faults = named_by (λ i. (table_of report i).id) faults
 -- no table ended because memory or threads ran out, or because a read failed
 abbrev pub AreDefined : List TableFault → Type 0
 AreDefined [] = ⊤
-AreDefined (e ∷ faults) = (¬ IsOuter e.kind) × AreDefined faults
+AreDefined (e ∷ faults) = (¬ IsFromOutside e.kind) × AreDefined faults
 
 -- what is written is a beginning of the text that the streams define, or all of it
 pub record Begins (layout : Layout) (report : ReportValue) (ss : List Stream) (old new : SinkView) : Type 0 where
