@@ -50,7 +50,7 @@ IsToldBy out faults ending.FaultsAreRead ran o = IsUnwrittenAt faults ran o
 abbrev pub RunsTo : Option Files → Settings → (old new : Option (List ℕ)) → Outcome → Type 0
 RunsTo told s old new o =
     IfSome told (λ files. Buffered (EndsOver files s.meta s.types s.workers s.ring s.layout) old new o)
-    × Buffered (Leaves (range_fault s.workers s.ring)) old new o
+    × Buffered (Leaves s.workers (range_fault s.workers s.ring)) old new o
 
 -- one output is opened, standard output or the file at the path, one run is made to it, and it is ended; nothing else is done with any
 pub record RunsOnce (runs : (old new : Option (List ℕ)) → Outcome → Type 0) (out faults path : Option (List ℕ)) (before after : Option (List Deed)) (o : Outcome) : Type 0 where

@@ -62,7 +62,7 @@ pub fn run_to<R: Read + Drop + Send, F: Folder<R>, T: Threads + Wait + Sync, W: 
         (W.contents to) (W.contents result.1) result.0) }
 
     // For every folder: what each outcome leaves behind.
-    ensures leaves { Buffered (Leaves (range_fault settings.now.workers settings.now.ring)) (W.contents to) (W.contents result.1) result.0 }
+    ensures leaves { Buffered (Leaves settings.now.workers (range_fault settings.now.workers settings.now.ring)) (W.contents to) (W.contents result.1) result.0 }
 {
     let Ok(waiting) = Vec::with_capacity(alloc, ROOM) else {
         return (no_memory(), to);

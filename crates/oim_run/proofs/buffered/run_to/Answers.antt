@@ -27,7 +27,7 @@ returns-clause-ends g c =
 pub returns-clause-leaves : goal.returns-clause-leaves
 returns-clause-leaves g c =
     let held = c.run-outcome.new.sink in
-    behind (Leaves (range_fault c.args.settings.now.workers c.args.settings.now.ring)) _
+    behind (Leaves c.args.settings.now.workers (range_fault c.args.settings.now.workers c.args.settings.now.ring)) _
     (sink_at held.mark (told_behind (g.W.Write.contents held.first.value) (g.W.Write.contents held.writer) held.waiting.items))
     c.run-outcome.result c.after_flush.result c.finish-writer.result.1
     (g.W.Write.contents c.args.to) (g.W.Write.contents held.first.value) (g.W.Write.contents c.finish-writer.result.0)
