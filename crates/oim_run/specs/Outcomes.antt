@@ -4,6 +4,7 @@ use Rattle.std.specs.Prelude.{⊤, ◌≡◌, ◌⊎◌, ◌<◌, ◌+◌, ◌++
 use mathlib.Core.List.{IsPrefix}
 use Rattle.std.specs.Io.KnownBytes.{Appends}
 use Rattle.oim_convert.specs.Answer.{IsAnswer, answer_text, streams}
+use Rattle.oim_convert.specs.Files.{AreFilesOf}
 use Rattle.oim_convert.specs.Histories.{AreDecoded, AreUnserved}
 use Rattle.oim_convert.specs.Runs.{IsFromOutside, IsLost, early_fault}
 use Rattle.oim_convert.specs.WrittenHistories.{WritesHistories}
@@ -109,10 +110,11 @@ EndsAs workers layout None report ss old new (outcome.Output w) = (faults : List
 EndsAs workers layout None report ss old new (outcome.Run f) = Breaks workers layout report old new f
 EndsAs workers layout None report ss old new o = ⊥
 
--- the same of a report whose tables have these files, by this course
-abbrev pub ConvertsBy : Course → ReportValue → List (Option (List ℕ)) → SinkView → SinkView → Outcome → Type 0
-ConvertsBy c report files old new o =
-    EndsAs c.workers c.layout (early_fault c.workers c.ring (length files) (length report.tables)) report (streams report c.limits.rows files) old new o
+-- the same by a course, of a report whose tables have the files that these readers tell
+abbrev pub ConvertsBy : {R : Type 0} → (R → Option (List ℕ)) → Course → ReportValue → List (Option R) → SinkView → SinkView → Outcome → Type 0
+ConvertsBy told c report readers old new o =
+    (files : List (Option (List ℕ))) → AreFilesOf told readers files
+    → EndsAs c.workers c.layout (early_fault c.workers c.ring (length files) (length report.tables)) report (streams report c.limits.rows files) old new o
 
 -- a run that broke off, whatever the readers: memory ran out or the settings are out of range, and nothing is written; or the end of a ring
 -- was lost, the settings are in range, and there is more than one worker
@@ -130,3 +132,7 @@ Leaves workers range old new (outcome.CannotRead path) = Unwritten old new
 Leaves workers range old new (outcome.CannotWrite path) = ⊥
 Leaves workers range old new (outcome.Run f) = LeavesRun workers range old new f
 Leaves workers range old new (outcome.Output w) = (range ≡ None) × (new.mark ≡ mark_of w)
+
+-- the same of a conversion by a course, where there are so many readers and tables
+abbrev pub LeavesBy : Course → (readers tables : ℕ) → SinkView → SinkView → Outcome → Type 0
+LeavesBy c readers tables old new o = Leaves c.workers (early_fault c.workers c.ring readers tables) old new o

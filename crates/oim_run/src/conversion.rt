@@ -1,10 +1,9 @@
 //! Converting a report whose tables are given by readers.
 
-ghost use Rattle.std.specs.Prelude.{◌≡◌, ◌≤◌, ◌<◌, ℕ, List, [], Option, None, IfOk, false, length, slice_set, true, vec_capacity};
-ghost use Rattle.oim_convert.specs.Files.{AreFilesOf};
+ghost use Rattle.std.specs.Prelude.{◌≡◌, ◌≤◌, ◌<◌, ℕ, [], None, IfOk, false, length, slice_set, true, vec_capacity};
 ghost use Rattle.oim_convert.specs.Runs.{early_fault};
 ghost use Rattle.oim_convert.specs.Serial.{AreFew};
-ghost use Rattle.oim_run.specs.Outcomes.{ConvertsBy, Leaves};
+ghost use Rattle.oim_run.specs.Outcomes.{ConvertsBy, LeavesBy};
 ghost use Rattle.oim_run.specs.state.Courses.{reader_fault};
 ghost use Rattle.oim_run.specs.state.Naming.{outcome_alone, outcome_by, with_names, name_in, table_ids};
 
@@ -145,10 +144,8 @@ pub fn convert_report<R: Read + Drop + Send, T: Threads + Wait + Sync, W: Sink>(
     sink: &mut W,
 ) -> Outcome
     requires { course.limits.rows ≤ 4294967294 }
-    ensures ends { (files : List (Option (List ℕ))) → AreFilesOf R.remaining readers.items files
-        → ConvertsBy course report.now files (W.seen sink.old) (W.seen sink.new) result }
-    ensures leaves { Leaves course.workers (early_fault course.workers course.ring (length readers.items) (length report.now.tables))
-        (W.seen sink.old) (W.seen sink.new) result }
+    ensures ends { ConvertsBy R.remaining course report.now readers.items (W.seen sink.old) (W.seen sink.new) result }
+    ensures leaves { LeavesBy course (length readers.items) (length report.now.tables) (W.seen sink.old) (W.seen sink.new) result }
 {
     let Course {
         workers,
