@@ -331,7 +331,7 @@ module _ (layout : Layout) (old new : SinkView) where
   not_lost_by_one lost = omega (arith, lost.0)
 
   lost_by_two : Leaves 2 None old new (outcome.Run fault.Lost)
-  lost_by_two = inr (inr (refl, (refl, omega arith)))
+  lost_by_two = inr (inr (refl, refl, omega arith))
 
   nothing_lost_by_one : Leaves 1 None old new (outcome.Run fault.Lost) → ⊥
   nothing_lost_by_one (inl memory) = let e = memory.0 in cc

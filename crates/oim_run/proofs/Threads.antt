@@ -165,7 +165,7 @@ module _ (workers : ℕ) (layout : Layout) (report : ReportValue) (tables : ℕ)
       → Writes layout report tables old new r → Leaves workers early old new (outcome_by names r)
   left None (Ok run) never several faults writes = ended_leaves run.drains.items run.faults.items run.end writes.merged
   left None (Err fault.Memory) never several faults writes = inl (refl, writes)
-  left None (Err fault.Lost) never several faults writes = inr (inr (refl, (refl, several refl)))
+  left None (Err fault.Lost) never several faults writes = inr (inr (refl, refl, several refl))
   left None (Err fault.BadWorkers) never several faults writes = absurd faults
   left None (Err fault.BadSize) never several faults writes = absurd faults
   left None (Err fault.WrongReaders) never several faults writes = absurd faults

@@ -25,7 +25,7 @@ GaveFile known report table limit facts answer = IfSome known (λ bytes. Gave ta
 
 -- the same of a table with this reader, or with none
 abbrev pub GaveTable : {R : Type 0} → (R → Option (List ℕ)) → ReportValue → ℕ → ℕ → Option R → List Fact → Result Endings.Ending WriteFault → Type 0
-GaveTable told report limit table reader facts answer =
+GaveTable told report table limit reader facts answer =
     (file : Option (List ℕ)) → IsFileOf told reader file → Gave table (table_stream report table limit file) facts answer
 
 -- the writer was given blocks, and of their facts this holds
