@@ -130,8 +130,8 @@ module _ {R : Type 0} (told : R → Option (List ℕ)) (report : ReportValue) (l
     next_read w e x s is took own same =
         let blocks = took.blocks in let last = blocks ++ Ending x ∷ [] in let hs = h.read.histories in
         let read = table_read table reader blocks x took.only own
-            (λ file one. let given = took.facts file one in let whole = table_stream report table limit file in
-            subst (IsGiven table whole (facts_in blocks)) (sym (same (given_own table whole (facts_in blocks) e given (own_table report table limit file)))) given) in
+        (λ file one. let given = took.facts file one in let whole = table_stream report table limit file in
+        subst (IsGiven table whole (facts_in blocks)) (sym (same (given_own table whole (facts_in blocks) e given (own_table report table limit file)))) given) in
         record {
           done = h.done ++ reader ∷ [];
           split = h.split ∙ sym (append_assoc h.done (reader ∷ []) left);
@@ -179,10 +179,10 @@ module _ {R : Type 0} (told : R → Option (List ℕ)) (report : ReportValue) (l
         let tail = tail_for v.layout (refusals (all_of hs)) in
         let longer = unfinished_extends v.layout (head_text report) w.items more in
         let whole : document v.layout (head_text report) hs ≡ text ++ (longer.0 ++ tail) =
-            ap (λ xs. unfinished v.layout (head_text report) xs ++ tail) (sym items.are) ∙ (ap (λ t. t ++ tail) longer.1 ∙ append_assoc text longer.0 tail) in
+        ap (λ xs. unfinished v.layout (head_text report) xs ++ tail) (sym items.are) ∙ (ap (λ t. t ++ tail) longer.1 ∙ append_assoc text longer.0 tail) in
         let here : Broke v.before now text x =
-            subst (λ h. Broke v.before now (unfinished v.layout h w.items) x) head
-            (subst (λ (s : SinkView). Broke v.before s (unfinished v.layout v.head w.items) x) left (subst (λ (z : WriterView). IsBroken z x) continues broke)) in (
+        subst (λ h. Broke v.before now (unfinished v.layout h w.items) x) head
+        (subst (λ (s : SinkView). Broke v.before s (unfinished v.layout v.head w.items) x) left (subst (λ (z : WriterView). IsBroken z x) continues broke)) in (
           refusals (all_of hs),
           record { histories = hs; are = items.read; merged = (refl, subst (λ t. Broke v.before now t x) (sym whole) (broke_before v.before now text (longer.0 ++ tail) x here)) },
         )

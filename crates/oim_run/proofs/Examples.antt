@@ -32,6 +32,7 @@ use Rattle.oim_run.specs.CommandLine.{AreLayouts, Words, command_line, is_given}
 use Rattle.oim_run.specs.Buffers.{flushed}
 use Rattle.oim_files.specs.Folders.{Files}
 use Rattle.oim_run.specs.Lines.{line_of, status_of, terminal_line_of, unprinted_status, words_status}
+use Rattle.oim_run.specs.state.Courses.{reader_fault}
 use Rattle.oim_run.specs.state.Naming.{outcome_at, table_ids}
 use Rattle.oim_run.specs.Outcomes.{AreDefined, AreHistoriesWith, Breaks, Leaves, WritesStreams, refused_tables}
 use Rattle.oim_run.specs.Runs.{range_fault, table_files}
@@ -234,6 +235,14 @@ largest_ring = refl
 
 ring_past_the_largest : range_fault 1 65537 ≡ Some fault.BadSize
 ring_past_the_largest = refl
+
+-- ---- settings in range
+
+as_many_readers_as_tables : reader_fault 2 2 ≡ None
+as_many_readers_as_tables = refl
+
+too_few_readers : reader_fault 1 2 ≡ Some fault.WrongReaders
+too_few_readers = refl
 
 -- ---- outcomes
 
