@@ -1,10 +1,11 @@
 -- The definitions on small worked cases.
 use Rattle.std.specs.Prelude.{◌≡◌, ℕ, Bool, true, false, List, [], ◌∷◌, ◌++◌, Option, Some, None, Ok, Err, map}
-use Rattle.std.proofs.Common.{arith, refl, codes, inl, inr}
+use Rattle.std.proofs.Common.{arith, refl, sym, ◌∙◌, codes, inl, inr}
+use Rattle.std.specs.Global.{Vec}
 use Rattle.std.specs.List.{IsDistinct}
 use Rattle.oim_json.specs.Document.{members, tail_text, text_after}
-use Rattle.oim_json.specs.JsonText.{decimals_text, dimension_text, escaped_byte, member_text, quoted, value_text}
-use Rattle.oim_json.specs.Sinks.{SinkView}
+use Rattle.oim_json.specs.JsonText.{decimals_text, dimension_text, escaped_byte, head_text, member_text, quoted, value_text}
+use Rattle.oim_json.specs.Sinks.{SinkView, Wrote}
 use Rattle.oim_json.specs.declared.layout.Layout.{Layout}
 use Rattle.oim_json.specs.declared.layout.Layout.TheVariants.{Compact, Lines}
 use Rattle.oim_json.specs.declared.mark.WriteFault.TheVariants as write
@@ -16,6 +17,7 @@ use Rattle.oim_report.specs.declared.data.Table.{Table}
 use Rattle.oim_resolve.specs.FactParts.{FactParts as Fact}
 use Rattle.oim_ring.specs.Ends.{ClosedView}
 use Rattle.oim_ring.specs.declared.item.Ending.TheVariants.{Closed, Refused}
+use Rattle.oim_ring.specs.declared.item.Item.{Item}
 use Rattle.oim_ring.specs.declared.item.Item.TheVariants.{Block, Ending}
 use Rattle.oim_rows.specs.Header.{fault_at, file_fault}
 use Rattle.oim_rows.specs.Streams.{Stream}
@@ -27,7 +29,9 @@ use Rattle.oim_convert.specs.Histories.{AreUnserved, IsDecoded, IsStream}
 use Rattle.oim_convert.specs.Identifiers.{WriteOwnIds}
 use Rattle.oim_convert.specs.Runs.{AreStreams, IsCut, early_fault}
 use Rattle.oim_convert.specs.state.Tasks.{Gives, placed}
-use Rattle.oim_convert.specs.Serial.{AreBelow, Leaves}
+use Rattle.oim_convert.specs.ReadAlone.{AreRead, IsEndingOf, IsRead}
+use Rattle.oim_convert.specs.Serial.{AreBelow, Leaves, WritesAlone}
+use Rattle.oim_convert.specs.Tasks.{IsKept}
 use Rattle.oim_convert.specs.declared.fault.ConvertFault.TheVariants as fault
 use Rattle.oim_convert.specs.declared.table_task.TableTask.{TableTask}
 use Rattle.oim_convert.specs.declared.table_task.TaskResult.{TaskResult}
@@ -126,7 +130,7 @@ unread = record {
 
 -- the history of a table whose reader failed is cut short
 unread_is_cut : IsCut (Block (first ∷ []) ∷ Ending (Refused (file_fault 0 kind.Read)) ∷ [])
-unread_is_cut = record { before = Block (first ∷ []) ∷ []; fault = file_fault 0 kind.Read; outer = inl refl; is = refl }
+unread_is_cut = record { before = Block (first ∷ []) ∷ []; fault = file_fault 0 kind.Read; outside = inl refl; is = refl }
 
 -- there was no thread for two tables
 unserved : AreUnserved 0 (whole ∷ broken ∷ []) ((Ending (Refused (file_fault 0 kind.NoThread)) ∷ []) ∷ (Ending (Refused (file_fault 1 kind.NoThread)) ∷ []) ∷ [])
@@ -245,6 +249,81 @@ module _ (old new : SinkView) where
 
   never_lost_on_one_thread : Leaves old new (Err fault.Lost) → ⊥
   never_lost_on_one_thread leaves = leaves
+
+-- TABLES THAT ONE THREAD READS
+
+fault_of_its_own : IsEndingOf 1 (Refused ragged) × IsEndingOf 1 Closed
+unfolding ragged
+fault_of_its_own = (refl, tt)
+
+fault_of_another_table : IsEndingOf 0 (Refused ragged) → ⊥
+unfolding ragged
+fault_of_another_table own = omega (arith, own)
+
+-- readers that do not tell their bytes
+abbrev silent : ℕ → Option (List ℕ)
+silent reader = None
+
+untold : (limit table reader : ℕ) (history : List Item) → IsKept silent three_tables limit true table (Some reader) history
+untold limit table reader history None told = absurd told
+untold limit table reader history (Some bytes) told = absurd (cc)
+
+-- any facts, and a fault of the table
+any_facts : IsRead silent three_tables 10 1 (Some 7) (Block (third ∷ []) ∷ Ending (Refused ragged) ∷ [])
+unfolding ragged
+any_facts = record {
+  facts = third ∷ [];
+  ending = Refused (fault_at 1 2 0 kind.Ragged);
+  is = record { before = Block (third ∷ []) ∷ []; blocks = refl; holds = refl; is = refl };
+  own = refl;
+  kept = untold 10 1 7 (Block (third ∷ []) ∷ Ending (Refused (fault_at 1 2 0 kind.Ragged)) ∷ []);
+}
+
+-- a table that has no file, and is not optional: this fault alone
+no_file_kept : IsKept silent three_tables 10 true 0 None (Ending (Refused (file_fault 0 kind.NoFile)) ∷ [])
+unfolding three_tables table_without_file
+no_file_kept None told = record {
+  facts = [];
+  ending = Refused (file_fault 0 kind.NoFile);
+  given = inl (refl, refl);
+  is = record { before = []; blocks = refl; holds = refl; is = refl };
+}
+no_file_kept (Some bytes) told = absurd told
+
+no_file_read : IsRead silent three_tables 10 0 None (Ending (Refused (file_fault 0 kind.NoFile)) ∷ [])
+no_file_read = record {
+  facts = [];
+  ending = Refused (file_fault 0 kind.NoFile);
+  is = record { before = []; blocks = refl; holds = refl; is = refl };
+  own = refl;
+  kept = no_file_kept;
+}
+
+-- the two, in table order
+two_read : AreRead silent three_tables 10 0 (None ∷ Some 7 ∷ []) ((Ending (Refused (file_fault 0 kind.NoFile)) ∷ []) ∷ (Block (third ∷ []) ∷ Ending (Refused ragged) ∷ []) ∷ [])
+two_read = (no_file_read, (any_facts, tt))
+
+one_history_for_each_reader :
+    (AreRead silent three_tables 10 0 (None ∷ []) [] → ⊥) × (AreRead silent three_tables 10 0 [] ((Ending Closed ∷ []) ∷ []) → ⊥)
+one_history_for_each_reader = (λ read. read, λ read. read)
+
+-- their document is the head alone, and each has its fault
+module _ (l : Layout) (old new : SinkView) (faults : Vec TableFault) where
+  two_refused : faults.items ≡ file_fault 0 kind.NoFile ∷ ragged ∷ [] → Wrote old new (text_after l (head_text three_tables) [] ++ [])
+      → WritesAlone silent l three_tables 10 (None ∷ Some 7 ∷ []) old new (Err (fault.Tables faults))
+  two_refused are wrote =
+      let some : ¬ (faults.items ≡ []) = λ none. (let e : file_fault 0 kind.NoFile ∷ ragged ∷ [] ≡ [] = sym are ∙ none in cc) in
+      record {
+        histories = (Ending (Refused (file_fault 0 kind.NoFile)) ∷ []) ∷ (Block (third ∷ []) ∷ Ending (Refused ragged) ∷ []) ∷ [];
+        are = two_read;
+        merged = (are, (some, wrote));
+      }
+
+  no_table_is_whole : Wrote old new (text_after l (head_text three_tables) [] ++ tail_text l) → WritesAlone silent l three_tables 10 [] old new (Ok tt)
+  no_table_is_whole wrote = record { histories = []; are = tt; merged = (refl, (refl, wrote)) }
+
+  never_lost_alone : WritesAlone silent l three_tables 10 [] old new (Err fault.Lost) → ⊥
+  never_lost_alone writes = writes
 
 -- TABLES AND RECEIPTS
 

@@ -1,6 +1,7 @@
 pub mod TableFiles
 pub mod StreamHistories
 pub mod SerialTables
+pub mod SerialLaws
 pub mod SentFacts
 pub mod PutBlocks
 pub mod OpeningLanes

@@ -24,7 +24,7 @@ use Rattle.oim_convert.specs.Tasks.{Each}
 use Rattle.oim_convert.specs.state.Tasks.{EachClosedFeed, IsTable}
 use Rattle.oim_convert.specs.state.Preparing.{HasTables}
 use Rattle.oim_convert.specs.Served.{AreServed, IsServed}
-use Rattle.oim_convert.specs.Runs.{AreHistories, AreStreams, AreThreaded, AreUncut, IsCut, IsOuter, IsRun, IsThreadless, Writes}
+use Rattle.oim_convert.specs.Runs.{AreHistories, AreStreams, AreThreaded, AreUncut, IsCut, IsFromOutside, IsRun, IsThreadless, Writes}
 use Rattle.oim_convert.specs.declared.fault.ConvertFault.{ConvertFault}
 use Rattle.oim_convert.specs.declared.table_task.TableTask.{TableTask}
 use Rattle.oim_convert.specs.declared.run.Run.{Run}
@@ -138,8 +138,8 @@ module _ {R : Type 0} (told : R → Option (List ℕ)) (report : ReportValue) (l
 
 -- HISTORIES THAT WERE NOT CUT SHORT
 
-cut_is : (facts : List Fact) (ending : Endings.Ending) (h : List Item) (table : ℕ) (k : TableKind) → IsOuter k → ending ≡ Refused (file_fault table k) → IsHistory facts ending h → IsCut h
-cut_is facts ending h table k outer e is = record { before = is.before; fault = file_fault table k; outer = outer; is = is.is ∙ ap (λ (x : Endings.Ending). is.before ++ Ending x ∷ []) e }
+cut_is : (facts : List Fact) (ending : Endings.Ending) (h : List Item) (table : ℕ) (k : TableKind) → IsFromOutside k → ending ≡ Refused (file_fault table k) → IsHistory facts ending h → IsCut h
+cut_is facts ending h table k outside e is = record { before = is.before; fault = file_fault table k; outside = outside; is = is.is ∙ ap (λ (x : Endings.Ending). is.before ++ Ending x ∷ []) e }
 
 uncut_given : (table : ℕ) (s : Stream) (facts : List Fact) (ending : Endings.Ending) (h : List Item) → IsGiven table s facts ending → IsHistory facts ending h → ¬ IsCut h → IsStream s h
 uncut_given table s facts ending h (inl whole) is uncut = stream_of_whole s facts ending h whole is
@@ -156,7 +156,7 @@ uncut_unserved : (i : ℕ) (ss : List Stream) (hs : List (List Item)) → AreUns
 uncut_unserved i [] [] all uncut = tt
 uncut_unserved i [] (h ∷ hs) all uncut = absurd all
 uncut_unserved i (s ∷ ss) [] all uncut = absurd all
-uncut_unserved i (s ∷ ss) (h ∷ hs) all uncut = absurd (uncut.0 (record { before = []; fault = file_fault i kind.NoThread; outer = inr (inr refl); is = all.0 }))
+uncut_unserved i (s ∷ ss) (h ∷ hs) all uncut = absurd (uncut.0 (record { before = []; fault = file_fault i kind.NoThread; outside = inr (inr refl); is = all.0 }))
 
 pub uncut_streams : (ss : List Stream) (hs : List (List Item)) → AreHistories ss hs → AreUncut hs → AreStreams ss hs
 uncut_streams ss hs (inl decoded) uncut = uncut_decoded 0 ss hs decoded uncut
@@ -186,14 +186,14 @@ own_end : (table : ℕ) (o : Option TableFault) (f : TableFault) → IsOwn table
 own_end table None f own e none = cc
 own_end table (Some a) f own e none = let same : a ≡ f = cc in not_both a f same own.0 none
 
-outer_end : (table : ℕ) (k : TableKind) (ending : Endings.Ending) (f : TableFault) → has_thread k ≡ true → ending ≡ Refused (file_fault table k) → ending ≡ Refused f → f.kind ≡ kind.NoThread → ⊥
-outer_end table k ending f own e is none = let both : Refused (file_fault table k) ≡ Refused f = sym e ∙ is in let same : file_fault table k ≡ f = cc in not_both (file_fault table k) f same own none
+outside_end : (table : ℕ) (k : TableKind) (ending : Endings.Ending) (f : TableFault) → has_thread k ≡ true → ending ≡ Refused (file_fault table k) → ending ≡ Refused f → f.kind ≡ kind.NoThread → ⊥
+outside_end table k ending f own e is none = let both : Refused (file_fault table k) ≡ Refused f = sym e ∙ is in let same : file_fault table k ≡ f = cc in not_both (file_fault table k) f same own none
 
 given_end : (table : ℕ) (s : Stream) (facts : List Fact) (ending : Endings.Ending) (f : TableFault) → IsGiven table s facts ending
     → IsOwn table s.fault → ending ≡ Refused f → f.kind ≡ kind.NoThread → ⊥
 given_end table s facts ending f (inl whole) own is none = own_end table s.fault f own (sym whole.1 ∙ is) none
-given_end table s facts ending f (inr (inl unread)) own is none = outer_end table kind.Read ending f refl unread.refused is none
-given_end table s facts ending f (inr (inr short)) own is none = outer_end table kind.Memory ending f refl short.refused is none
+given_end table s facts ending f (inr (inl unread)) own is none = outside_end table kind.Read ending f refl unread.refused is none
+given_end table s facts ending f (inr (inr short)) own is none = outside_end table kind.Memory ending f refl short.refused is none
 
 ending_is : (ending : Endings.Ending) (f : TableFault) → Ending ending ≡ Ending (Refused f) → ending ≡ Refused f
 ending_is ending f e = cc

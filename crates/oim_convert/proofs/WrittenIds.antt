@@ -41,7 +41,7 @@ first_ids facts more own =
 prefix_ids : (facts all : List Fact) → IsPrefix facts all → HaveOwnIds all → HaveOwnIds facts
 prefix_ids facts all (more, is) own = first_ids facts more (subst (λ (l : List Fact). HaveOwnIds l) (sym is) own)
 
-no_facts : (all : List Fact) → IsPrefix [] all
+pub no_facts : (all : List Fact) → IsPrefix [] all
 no_facts all = (all, refl)
 
 -- behind all facts of a table
@@ -90,7 +90,7 @@ decoded_first report limit i (file ∷ files) (h ∷ hs) all =
     let first = given_first i s d.facts d.ending (all_of hs) more d.given (decoded_first report limit (i + 1) files hs all.1) in
     subst (λ (fs : List Fact). IsPrefix fs (facts_of_tables report limit i (file ∷ files))) (sym (facts_with d.facts d.ending h (all_of hs) d.is)) first
 
-unserved_first : (i : ℕ) (ss : List Stream) (hs : List (List Item)) (all : List Fact) → AreUnserved i ss hs → IsPrefix (facts_before (all_of hs)) all
+pub unserved_first : (i : ℕ) (ss : List Stream) (hs : List (List Item)) (all : List Fact) → AreUnserved i ss hs → IsPrefix (facts_before (all_of hs)) all
 unserved_first i [] [] all are = no_facts all
 unserved_first i [] (h ∷ hs) all are = absurd are
 unserved_first i (s ∷ ss) [] all are = absurd are

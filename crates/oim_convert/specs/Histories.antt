@@ -42,13 +42,13 @@ pub record IsUnread (table : ℕ) (s : Stream) (facts : List Fact) (ending : End
   pub refused : ending ≡ Refused (file_fault table kind.Read)
 
 -- memory ran out: the facts are the first of the table
-pub record IsShort (table : ℕ) (s : Stream) (facts : List Fact) (ending : Endings.Ending) : Type 0 where
+pub record IsOutOfMemory (table : ℕ) (s : Stream) (facts : List Fact) (ending : Endings.Ending) : Type 0 where
   pub some : IsPrefix facts (facts_of s)
   pub refused : ending ≡ Refused (file_fault table kind.Memory)
 
 -- the facts that decoding a table gives, and the ending after them
 abbrev pub IsGiven : ℕ → Stream → List Fact → Endings.Ending → Type 0
-IsGiven table s facts ending = IsWhole s facts ending ⊎ IsUnread table s facts ending ⊎ IsShort table s facts ending
+IsGiven table s facts ending = IsWhole s facts ending ⊎ IsUnread table s facts ending ⊎ IsOutOfMemory table s facts ending
 
 -- the table was decoded: its history is its stream, or a beginning of it if the reader failed or memory ran out
 pub record IsDecoded (table : ℕ) (s : Stream) (history : List Item) : Type 0 where

@@ -6,6 +6,7 @@ pub mod Serial
 pub mod Served
 pub mod Histories
 pub mod Tasks
+pub mod ReadAlone
 pub mod Runs
 pub mod Identifiers
 pub mod WrittenHistories

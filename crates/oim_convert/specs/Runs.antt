@@ -54,14 +54,14 @@ AreStreams (s ∷ ss) [] = ⊥
 AreStreams (s ∷ ss) (h ∷ hs) = IsStream s h × AreStreams ss hs
 
 -- the faults that come from outside a table
-abbrev pub IsOuter : TableKind → Type 0
-IsOuter k = (k ≡ kind.Read) ⊎ (k ≡ kind.Memory) ⊎ (k ≡ kind.NoThread)
+abbrev pub IsFromOutside : TableKind → Type 0
+IsFromOutside k = (k ≡ kind.Read) ⊎ (k ≡ kind.Memory) ⊎ (k ≡ kind.NoThread)
 
 -- a failed read, or running out of memory or threads, ended the table
 pub record IsCut (history : List Item) : Type 0 where
   pub before : List Item
   pub fault : TableFault
-  pub outer : IsOuter fault.kind
+  pub outside : IsFromOutside fault.kind
   pub is : history ≡ before ++ Ending (Refused fault) ∷ []
 
 -- none of these ended any of the tables

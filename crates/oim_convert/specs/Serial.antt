@@ -1,5 +1,5 @@
 -- What the conversion on one thread does.
-use Rattle.std.specs.Prelude.{⊤, ◌≡◌, ◌<◌, ◌≤◌, ℕ, List, [], ◌∷◌, Result, Ok, Err, length}
+use Rattle.std.specs.Prelude.{⊤, ◌≡◌, ◌<◌, ◌≤◌, ℕ, List, [], ◌∷◌, Option, Result, Ok, Err, length}
 use Rattle.oim_json.specs.Sinks.{SinkView, Broke, Unwritten, mark_of}
 use Rattle.oim_json.specs.declared.layout.Layout.{Layout}
 use Rattle.oim_merge.specs.declared.progress.MergeEnd.TheVariants as end
@@ -8,6 +8,7 @@ use Rattle.oim_rows.specs.Streams.{Stream}
 use Rattle.oim_rows.specs.declared.fault.TableFault.{TableFault}
 use Rattle.oim_convert.specs.Answer.{IsAnswer, answer_text}
 use Rattle.oim_convert.specs.Histories.{AreDecoded}
+use Rattle.oim_convert.specs.ReadAlone.{AreRead}
 use Rattle.oim_convert.specs.WrittenHistories.{WritesHistories}
 use Rattle.oim_convert.specs.declared.fault.ConvertFault.{ConvertFault}
 use Rattle.oim_convert.specs.declared.fault.ConvertFault.TheVariants as fault
@@ -23,6 +24,21 @@ Converts layout report ss old new (Err fault.Memory) = Unwritten old new
 Converts layout report ss old new (Err fault.BadWorkers) = ⊥
 Converts layout report ss old new (Err fault.BadSize) = ⊥
 Converts layout report ss old new (Err fault.Lost) = ⊥
+
+-- whatever the readers tell, there are histories of their tables, and the faults, the end and the text are theirs. Ok: no table is refused, and
+-- the whole document is written. Tables: the fault of each refused table, and the unfinished document up to and including the first. Write: a
+-- beginning of the document. WrongReaders and Memory: nothing is written
+abbrev pub WritesAlone : {R : Type 0} → (R → Option (List ℕ)) → Layout → ReportValue → ℕ → List (Option R) → SinkView → SinkView → Result (Unit {0}) ConvertFault → Type 0
+WritesAlone told layout report limit readers old new (Ok u) = WritesHistories (AreRead told report limit 0 readers) layout report old new [] end.Complete
+WritesAlone told layout report limit readers old new (Err (fault.Tables faults)) =
+    WritesHistories (AreRead told report limit 0 readers) layout report old new faults.items end.Refused
+WritesAlone told layout report limit readers old new (Err (fault.Write w)) =
+    (faults : List TableFault) × WritesHistories (AreRead told report limit 0 readers) layout report old new faults (end.Write w)
+WritesAlone told layout report limit readers old new (Err fault.WrongReaders) = Unwritten old new
+WritesAlone told layout report limit readers old new (Err fault.Memory) = Unwritten old new
+WritesAlone told layout report limit readers old new (Err fault.BadWorkers) = ⊥
+WritesAlone told layout report limit readers old new (Err fault.BadSize) = ⊥
+WritesAlone told layout report limit readers old new (Err fault.Lost) = ⊥
 
 -- whatever the readers tell: a write fault is the mark that the sink has, and without one the mark is kept; nothing is written with
 -- WrongReaders and Memory; and the only other fault is Tables

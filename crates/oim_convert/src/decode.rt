@@ -1,9 +1,8 @@
 //! Decoding a table into its ring.
 
-ghost use Rattle.std.specs.Prelude.{◌≡◌, ◌≤◌, ◌<◌, ℕ, List, [], length, Option, None, IfSome};
+ghost use Rattle.std.specs.Prelude.{◌≡◌, ◌≤◌, ◌<◌, ℕ, [], length, None, IfSome, true};
 ghost use Rattle.oim_convert.specs.Answer.{ending_of};
-ghost use Rattle.oim_records.specs.Reads.{IsFileOf};
-ghost use Rattle.oim_convert.specs.Histories.{IsDecoded};
+ghost use Rattle.oim_convert.specs.Tasks.{IsKept};
 ghost use Rattle.oim_ring.specs.declared.item.Ending.TheVariants.{Refused};
 ghost use Rattle.oim_rows.specs.Header.{file_fault};
 ghost use Rattle.oim_rows.specs.Streams.{table_stream};
@@ -41,8 +40,7 @@ pub(crate) fn decode<R: Read + Drop, T: Threads + Wait>(
     requires rows { limits.rows ≤ 4294967294 }
     requires fresh { task.feed.sent ≡ [] }
     ensures ring { IfSome result (λ closed. closed.ring ≡ task.feed.ring) }
-    ensures history { IfSome result (λ closed. (file : Option (List ℕ)) → IsFileOf R.remaining task.reader file
-        → IsDecoded task.table (table_stream report.now task.table limits.rows file) closed.sent) }
+    ensures history { IfSome result (λ closed. IsKept R.remaining report.now limits.rows true task.table task.reader closed.sent) }
 {
     let TableTask {
         table,

@@ -12,6 +12,10 @@
 //! - `WrongReaders` is answered exactly if the number of readers is not the number of tables; with it
 //!   and with `Memory` nothing is written.
 //!
+//! Over any readers there is one history for each, in table order, with one ending, which is that table's
+//! own; that of a table whose own reader tells its bytes is decoded from these (`specs/ReadAlone.antt`). The
+//! faults, the end and the text are those of these histories.
+//!
 //! What is proved of `convert`, which works on threads, where it returns, for every number of workers,
 //! ring size and schedule:
 //!

@@ -5,13 +5,12 @@ ghost use Rattle.oim_json.specs.JsonText.{head_text};
 ghost use Rattle.oim_merge.specs.Histories.{refusals};
 ghost use Rattle.oim_merge.specs.Writers.{IsBroken};
 ghost use Rattle.oim_merge.specs.state.Writers.{Continues};
-ghost use Rattle.oim_rows.specs.Streams.{table_stream};
 ghost use Rattle.oim_convert.specs.Answer.{streams};
 ghost use Rattle.oim_convert.specs.Files.{AreFilesOf};
-ghost use Rattle.oim_records.specs.Reads.{IsFileOf};
-ghost use Rattle.oim_convert.specs.Serial.{AreFew, Converts, IsOfTables, Leaves};
+ghost use Rattle.oim_convert.specs.ReadAlone.{IsEndingOf};
+ghost use Rattle.oim_convert.specs.Serial.{AreFew, Converts, IsOfTables, Leaves, WritesAlone};
 ghost use Rattle.oim_convert.specs.state.Serial.{HasBegun};
-ghost use Rattle.oim_convert.specs.state.Steps.{Gave, GaveFile, ReadsTables, TookBlocks};
+ghost use Rattle.oim_convert.specs.state.Steps.{Gave, GaveFile, GaveTable, ReadsTables, TookBlocks};
 ghost use Rattle.oim_convert.specs.declared.fault.ConvertFault.TheVariants as fault;
 
 use crate::decode::{refused, without_file};
@@ -97,13 +96,24 @@ fn convert_table<R: Read + Drop, W: Sink>(
     requires rows { limits.rows ≤ 4294967294 }
     requires sink { writer.old.sink ≡ W.seen sink.old }
     ensures sink { writer.new.sink ≡ W.seen sink.new }
-    ensures took { TookBlocks writer.old writer.new (λ facts. (file : Option (List ℕ)) → IsFileOf R.remaining reader file
-        → Gave table (table_stream report.now table limits.rows file) facts result) }
+    ensures took { TookBlocks writer.old writer.new (λ facts. GaveTable R.remaining report.now table limits.rows reader facts result) }
     ensures broken { IfErr result (λ fault. IsBroken writer.new fault) }
 {
     match reader {
         None => Ok(without_file(report, table)),
         Some(reader) => convert_file(alloc, report, table, reader, limits, writer, sink),
+    }
+}
+
+/// The ending, with this table's number at its fault. What decodes a table says that its fault has that number only where the
+/// reader tells its bytes.
+fn numbered(table: usize, ending: Ending) -> Ending
+    ensures own { IsEndingOf table result }
+    ensures same { IsEndingOf table ending → result ≡ ending }
+{
+    match ending {
+        Ending::Closed => ending,
+        Ending::Refused(fault) => Ending::Refused(TableFault { table, ..fault }),
     }
 }
 
@@ -128,9 +138,7 @@ fn convert_tables<R: Read + Drop, W: Sink>(
     ensures continues { Continues writer.old writer.new }
     ensures broken { IfErr result (λ fault. IsBroken writer.new fault) }
     ensures faults { OnOk result (faults.new.items ≡ refusals writer.new.items) }
-    ensures few { OnOk result (length faults.new.items ≤ length readers.items) }
-    ensures reads { (files : List (Option (List ℕ))) → AreFilesOf R.remaining readers.items files
-        → ReadsTables (streams report.now limits.rows files) writer.new.items result }
+    ensures reads { ReadsTables R.remaining report.now limits.rows readers.items writer.new.items result }
 {
     if let Some(fault) = writer.fault() {
         return Err(fault);
@@ -138,7 +146,7 @@ fn convert_tables<R: Read + Drop, W: Sink>(
     let mut table = 0;
     for reader in readers {
         match convert_table(alloc, report, table, reader, limits, writer, sink) {
-            Ok(ending) => writer.end_table(ending, faults),
+            Ok(ending) => writer.end_table(numbered(table, ending), faults),
             Err(fault) => return Err(fault),
         }
         table += 1;
@@ -164,11 +172,8 @@ fn write_tables<R: Read + Drop, W: Sink>(
     requires room { length readers.items ≤ vec_capacity faults }
     requires begun { writer.items ≡ [] }
     requires sink { writer.sink ≡ W.seen sink.old }
-    ensures converts { (files : List (Option (List ℕ))) → AreFilesOf R.remaining readers.items files
-        → Converts writer.layout report.now (streams report.now limits.rows files) writer.before (W.seen sink.new) result }
-    ensures leaves { Leaves writer.before (W.seen sink.new) result }
+    ensures writes { WritesAlone R.remaining writer.layout report.now limits.rows readers.items writer.before (W.seen sink.new) result }
     ensures begun { HasBegun result }
-    ensures few { AreFew (length readers.items) result }
 {
     if let Err(fault) = convert_tables(
         alloc,
@@ -212,9 +217,11 @@ pub fn convert_serial<R: Read + Drop, W: Sink>(
     // What is written and answered, if the readers tell their bytes.
     ensures converts { (files : List (Option (List ℕ))) → AreFilesOf R.remaining readers.items files
         → Converts layout report.now (streams report.now limits.rows files) (W.seen sink.old) (W.seen sink.new) result }
-    ensures tables { (files : List (Option (List ℕ))) → AreFilesOf R.remaining readers.items files → IsOfTables (length report.now.tables) result }
 
-    // What holds for all readers.
+    // What holds for all readers: there is a history of each table, decoded from its file if its own reader tells that, whatever the
+    // others tell; and what is written and answered is that of these histories.
+    ensures writes { WritesAlone R.remaining layout report.now limits.rows readers.items (W.seen sink.old) (W.seen sink.new) result }
+    ensures tables { IsOfTables (length report.now.tables) result }
     ensures readers { (result ≡ Err fault.WrongReaders) ↔ (length readers.items ≢ length report.now.tables) }
     ensures leaves { Leaves (W.seen sink.old) (W.seen sink.new) result }
     ensures few { AreFew (length report.now.tables) result }

@@ -45,30 +45,31 @@ as_many told (r ∷ rs) [] are = absurd are
 as_many told (r ∷ rs) (f ∷ fs) are = ap suc (as_many told rs fs are.1)
 
 -- a conversion for which memory ran out while the names were made
-pub no_memory_ends : (layout : Layout) (early : Option ConvertFault) (report : ReportValue) (ss : List Stream) (sink : SinkView) → EndsAs layout early report ss sink sink (outcome.Run fault.Memory)
-no_memory_ends layout None report ss sink = (refl, keeps_same sink.told)
-no_memory_ends layout (Some f) report ss sink = (inr refl, (refl, keeps_same sink.told))
+pub no_memory_ends : (workers : ℕ) (layout : Layout) (early : Option ConvertFault) (report : ReportValue) (ss : List Stream) (sink : SinkView) → EndsAs workers layout early report ss sink sink (outcome.Run fault.Memory)
+no_memory_ends workers layout None report ss sink = (refl, keeps_same sink.told)
+no_memory_ends workers layout (Some f) report ss sink = (inr refl, (refl, keeps_same sink.told))
 
 pub converted : (layout : Layout) (workers ring readers limit : ℕ) (report : ReportValue) (files : List (Option (List ℕ))) (old new : SinkView)
     (r : Result Run ConvertFault) (names : List (List ℕ)) (o : Outcome)
     → names ≡ table_ids report → o ≡ outcome_by names r → readers ≡ length files
     → IfOk r (λ run. AreHistories (streams report limit files) run.drains.items)
     → IfOk r (λ run. AreUncut run.drains.items → AreStreams (streams report limit files) run.drains.items × IsAnswer layout report (streams report limit files) old new run.faults.items run.end)
+    → (early_fault workers ring readers (length report.tables) ≡ None → 1 < workers)
     → AnswersFault (early_fault workers ring readers (length report.tables)) r
     → Writes layout report (length report.tables) old new r
-    → EndsAs layout (early_fault workers ring (length files) (length report.tables)) report (streams report limit files) old new o
-converted layout workers ring readers limit report files old new r names o named is many histories headline faults writes =
-    subst (λ n. EndsAs layout (early_fault workers ring n (length report.tables)) report (streams report limit files) old new o) many
-    (subst (EndsAs layout (early_fault workers ring readers (length report.tables)) report (streams report limit files) old new) (sym is)
-    (answered layout report limit files old new names named (early_fault workers ring readers (length report.tables)) r
-    (never_lost workers ring readers (length report.tables)) histories headline faults writes))
+    → EndsAs workers layout (early_fault workers ring (length files) (length report.tables)) report (streams report limit files) old new o
+converted layout workers ring readers limit report files old new r names o named is many histories headline several faults writes =
+    subst (λ n. EndsAs workers layout (early_fault workers ring n (length report.tables)) report (streams report limit files) old new o) many
+    (subst (EndsAs workers layout (early_fault workers ring readers (length report.tables)) report (streams report limit files) old new) (sym is)
+    (answered workers layout report limit files old new names named (early_fault workers ring readers (length report.tables)) r
+    (never_lost workers ring readers (length report.tables)) several histories headline faults writes))
 
 -- a report whose tables each have a file or none
 run_ends : (layout : Layout) (workers ring : ℕ) (report : ReportValue) (files : List (Option (List ℕ))) (old new : SinkView) (o : Outcome) → length files ≡ length report.tables
-    → EndsAs layout (early_fault workers ring (length files) (length report.tables)) report (streams report profile.rows files) old new o
-    → EndsAs layout (range_fault workers ring) report (streams report profile.rows files) old new o
+    → EndsAs workers layout (early_fault workers ring (length files) (length report.tables)) report (streams report profile.rows files) old new o
+    → EndsAs workers layout (range_fault workers ring) report (streams report profile.rows files) old new o
 run_ends layout workers ring report files old new o many =
-    subst (λ early. EndsAs layout early report (streams report profile.rows files) old new o) (in_range workers ring (length files) (length report.tables) many)
+    subst (λ early. EndsAs workers layout early report (streams report profile.rows files) old new o) (in_range workers ring (length files) (length report.tables) many)
 
 length_map : {A B : Type 0} (f : A → B) (xs : List A) → length (map f xs) ≡ length xs
 length_map f [] = refl
@@ -126,21 +127,21 @@ stops None base meta types workers ring layout sink e o folder stop told = tt
 stops (Some files) base meta types workers ring layout sink e o folder stop told =
     record { base = base; folder = folder; ends = inl (record { fault = e; stops = stop; told = told }, (refl, keeps_same sink.told)) }
 
-early_left : (range : Option ConvertFault) (sink : SinkView) (e : EarlyFault) → Leaves range sink sink (outcome_of e)
-early_left range sink (early.Report s f) = (refl, keeps_same sink.told)
-early_left range sink (early.CannotRead path) = (refl, keeps_same sink.told)
-early_left range sink early.Memory = inl (refl, (refl, keeps_same sink.told))
+early_left : (workers : ℕ) (range : Option ConvertFault) (sink : SinkView) (e : EarlyFault) → Leaves workers range sink sink (outcome_of e)
+early_left workers range sink (early.Report s f) = (refl, keeps_same sink.told)
+early_left workers range sink (early.CannotRead path) = (refl, keeps_same sink.told)
+early_left workers range sink early.Memory = inl (refl, (refl, keeps_same sink.told))
 
-pub early_leaves : (range : Option ConvertFault) (sink : SinkView) (e : EarlyFault) (o : Outcome) → o ≡ outcome_of e → Leaves range sink sink o
-early_leaves range sink e o told = subst (Leaves range sink sink) (sym told) (early_left range sink e)
+pub early_leaves : (workers : ℕ) (range : Option ConvertFault) (sink : SinkView) (e : EarlyFault) (o : Outcome) → o ≡ outcome_of e → Leaves workers range sink sink o
+early_leaves workers range sink e o told = subst (Leaves workers range sink sink) (sym told) (early_left workers range sink e)
 
 -- the conversion of a report's tables
 pub tables_end : {R : Type 0} (told : R → Option (List ℕ)) (known : Option Files) (base : List ℕ) (workers ring : ℕ) (layout : Layout)
     (old new : SinkView) (o : Outcome) (report : ReportValue) (readers : List (Option R))
     → IfSome known (λ files. AreFilesOf told readers (table_files files base report))
     → ((files : List (Option (List ℕ))) → AreFilesOf told readers files
-    → EndsAs layout (early_fault workers ring (length files) (length report.tables)) report (streams report profile.rows files) old new o)
-    → IfSome known (λ files. EndsAs layout (range_fault workers ring) report (streams report profile.rows (table_files files base report)) old new o)
+    → EndsAs workers layout (early_fault workers ring (length files) (length report.tables)) report (streams report profile.rows files) old new o)
+    → IfSome known (λ files. EndsAs workers layout (range_fault workers ring) report (streams report profile.rows (table_files files base report)) old new o)
 tables_end told None base workers ring layout old new o report readers are converts = tt
 tables_end told (Some files) base workers ring layout old new o report readers are converts =
     let tables = table_files files base report in
@@ -148,17 +149,17 @@ tables_end told (Some files) base workers ring layout old new o report readers a
 
 -- the conversion for which memory ran out while the readers of its tables were made
 pub short_end : (known : Option Files) (base : List ℕ) (workers ring : ℕ) (layout : Layout) (sink : SinkView) (o : Outcome) (report : ReportValue) → o ≡ no_memory
-    → IfSome known (λ files. EndsAs layout (range_fault workers ring) report (streams report profile.rows (table_files files base report)) sink sink o)
+    → IfSome known (λ files. EndsAs workers layout (range_fault workers ring) report (streams report profile.rows (table_files files base report)) sink sink o)
 short_end None base workers ring layout sink o report none = tt
 short_end (Some files) base workers ring layout sink o report none =
     let tables = table_files files base report in
-    subst (EndsAs layout (range_fault workers ring) report (streams report profile.rows tables) sink sink) (sym none)
-    (no_memory_ends layout (range_fault workers ring) report (streams report profile.rows tables) sink)
+    subst (EndsAs workers layout (range_fault workers ring) report (streams report profile.rows tables) sink sink) (sym none)
+    (no_memory_ends workers layout (range_fault workers ring) report (streams report profile.rows tables) sink)
 
 -- a run that has its report
 pub runs : (known : Option Files) (base meta types : List ℕ) (workers ring : ℕ) (layout : Layout) (old new : SinkView) (o : Outcome) (report : ReportValue) → IsFolderOf base meta
     → IfSome known (λ files. IsReport files base meta types (Ok report))
-    → IfSome known (λ files. EndsAs layout (range_fault workers ring) report (streams report profile.rows (table_files files base report)) old new o)
+    → IfSome known (λ files. EndsAs workers layout (range_fault workers ring) report (streams report profile.rows (table_files files base report)) old new o)
     → IfSome known (λ files. EndsOver files meta types workers ring layout old new o)
 runs None base meta types workers ring layout old new o report folder is ends = tt
 runs (Some files) base meta types workers ring layout old new o report folder is ends =
@@ -170,19 +171,20 @@ runs (Some files) base meta types workers ring layout old new o report folder is
 
 -- what every outcome leaves behind
 pub converted_leaves : (layout : Layout) (workers ring readers : ℕ) (report : ReportValue) (old new : SinkView) (r : Result Run ConvertFault) (names : List (List ℕ)) (o : Outcome)
-    → o ≡ outcome_by names r → AnswersFault (early_fault workers ring readers (length report.tables)) r
+    → o ≡ outcome_by names r → (early_fault workers ring readers (length report.tables) ≡ None → 1 < workers)
+    → AnswersFault (early_fault workers ring readers (length report.tables)) r
     → Writes layout report (length report.tables) old new r
-    → Leaves (early_fault workers ring readers (length report.tables)) old new o
-converted_leaves layout workers ring readers report old new r names o is faults writes =
+    → Leaves workers (early_fault workers ring readers (length report.tables)) old new o
+converted_leaves layout workers ring readers report old new r names o is several faults writes =
     let early = early_fault workers ring readers (length report.tables) in
-    subst (Leaves early old new) (sym is) (left layout report (length report.tables) old new names early r (never_lost workers ring readers (length report.tables)) faults writes)
+    subst (Leaves workers early old new) (sym is) (left workers layout report (length report.tables) old new names early r (never_lost workers ring readers (length report.tables)) several faults writes)
 
-pub short_leaves : (range : Option ConvertFault) (sink : SinkView) (o : Outcome) → o ≡ no_memory → Leaves range sink sink o
-short_leaves range sink o none = subst (Leaves range sink sink) (sym none) (inl (refl, (refl, keeps_same sink.told)))
+pub short_leaves : (workers : ℕ) (range : Option ConvertFault) (sink : SinkView) (o : Outcome) → o ≡ no_memory → Leaves workers range sink sink o
+short_leaves workers range sink o none = subst (Leaves workers range sink sink) (sym none) (inl (refl, (refl, keeps_same sink.told)))
 
 pub run_leaves : (workers ring readers tables : ℕ) (old new : SinkView) (o : Outcome) → readers ≡ tables
-    → Leaves (early_fault workers ring readers tables) old new o → Leaves (range_fault workers ring) old new o
-run_leaves workers ring readers tables old new o many = subst (λ early. Leaves early old new o) (in_range workers ring readers tables many)
+    → Leaves workers (early_fault workers ring readers tables) old new o → Leaves workers (range_fault workers ring) old new o
+run_leaves workers ring readers tables old new o many = subst (λ early. Leaves workers early old new o) (in_range workers ring readers tables many)
 
 -- THROUGH A BUFFER
 

@@ -1,5 +1,5 @@
 -- The definitions on worked cases.
-use Rattle.std.proofs.Common.{◌≡◌, ◌++◌, ◌∷◌, [], ℕ, List, Some, None, true, false, codes, inl, inr, map, refl, if◌then◌else◌}
+use Rattle.std.proofs.Common.{arith, ◌≡◌, ◌++◌, ◌∷◌, [], ℕ, List, Some, None, true, false, codes, inl, inr, map, refl, if◌then◌else◌}
 use Rattle.std.specs.Fmt.{digits}
 use Rattle.std.specs.Borrow.{Bor}
 use Rattle.std.specs.Str.{bytes_eq, chars}
@@ -7,7 +7,8 @@ use lib.Utf8.{encode}
 use Rattle.clap.proofs.OnLiterals.{clap_on_literals}
 use Rattle.clap.specs.Words.{Row, Text, fault_of, first_of, matches_of, one_of}
 use Rattle.clap.specs.declared.error.kind.ErrorKind.TheVariants as kind
-use Rattle.oim_convert.specs.Runs.{AreHistories, IsOuter}
+use Rattle.oim_convert.specs.Histories.{AreDecoded}
+use Rattle.oim_convert.specs.Runs.{IsFromOutside}
 use Rattle.oim_convert.specs.declared.fault.ConvertFault.TheVariants as fault
 use Rattle.oim_json.specs.JsonText.{head_text}
 use Rattle.oim_json.specs.Sinks.{SinkView}
@@ -20,16 +21,20 @@ use Rattle.oim_report.specs.ReportValue.{ReportValue}
 use Rattle.oim_report.specs.declared.data.Table.{Table}
 use Rattle.oim_entries.specs.declared.fault.MetaFault.TheVariants as refused
 use Rattle.oim_resolve.specs.declared.fact.CellFault.TheVariants as cell
+use Rattle.oim_ring.specs.declared.item.Ending.TheVariants.{Refused}
 use Rattle.oim_ring.specs.declared.item.Item.{Item}
-use Rattle.oim_rows.specs.Header.{fault_at}
+use Rattle.oim_ring.specs.declared.item.Item.TheVariants.{Ending}
+use Rattle.oim_rows.specs.Header.{fault_at, file_fault}
+use Rattle.oim_rows.specs.Streams.{Stream}
 use Rattle.oim_rows.specs.declared.fault.TableFault.{TableFault}
 use Rattle.oim_rows.specs.declared.fault.TableKind.TheVariants as table
 use Rattle.oim_run.specs.CommandLine.{AreLayouts, Words, command_line, is_given}
 use Rattle.oim_run.specs.Buffers.{flushed}
 use Rattle.oim_files.specs.Folders.{Files}
 use Rattle.oim_run.specs.Lines.{line_of, status_of, terminal_line_of, unprinted_status, words_status}
+use Rattle.oim_run.specs.state.Courses.{reader_fault}
 use Rattle.oim_run.specs.state.Naming.{outcome_at, table_ids}
-use Rattle.oim_run.specs.Outcomes.{AreDefined, Gives, Leaves, refused_tables}
+use Rattle.oim_run.specs.Outcomes.{AreDefined, AreHistoriesWith, Breaks, Leaves, WritesStreams, refused_tables}
 use Rattle.oim_run.specs.Runs.{range_fault, table_files}
 use Rattle.oim_run.specs.Early.{outcome_of}
 use Rattle.oim_files.specs.declared.early_fault.EarlyFault.TheVariants as early
@@ -231,6 +236,14 @@ largest_ring = refl
 ring_past_the_largest : range_fault 1 65537 ≡ Some fault.BadSize
 ring_past_the_largest = refl
 
+-- ---- settings in range
+
+as_many_readers_as_tables : reader_fault 2 2 ≡ None
+as_many_readers_as_tables = refl
+
+too_few_readers : reader_fault 1 2 ≡ Some fault.WrongReaders
+too_few_readers = refl
+
 -- ---- outcomes
 
 abbrev bad_number : TableFault
@@ -294,32 +307,51 @@ line_of_each_refused_table : line_of (outcome.Tables two_refused)
 unfolding digits
 line_of_each_refused_table = refl
 
-not_outer : IsOuter table.UnknownHeader → ⊥
-not_outer (inl e) = cc
-not_outer (inr (inl e)) = cc
-not_outer (inr (inr e)) = cc
+not_from_outside : IsFromOutside table.UnknownHeader → ⊥
+not_from_outside (inl e) = cc
+not_from_outside (inr (inl e)) = cc
+not_from_outside (inr (inr e)) = cc
 
 a_fault_of_the_table : AreDefined (unknown_header ∷ [])
-a_fault_of_the_table = (not_outer, tt)
+a_fault_of_the_table = (not_from_outside, tt)
 
 a_failed_read : AreDefined (fault_at 0 0 0 table.Read ∷ []) → ⊥
 a_failed_read defined = defined.0 (inl refl)
 
 module _ (layout : Layout) (old new : SinkView) where
-  done_in_range : Leaves None old old outcome.Done
+  done_in_range : Leaves 1 None old old outcome.Done
   done_in_range = (refl, refl)
 
-  not_done_out_of_range : Leaves (range_fault 65 1) old new outcome.Done → ⊥
+  not_done_out_of_range : Leaves 65 (range_fault 65 1) old new outcome.Done → ⊥
   not_done_out_of_range leaves = let e = leaves.0 in cc
 
-  no_tables_without_a_fault : Leaves None old new (outcome.Tables []) → ⊥
+  no_tables_without_a_fault : Leaves 1 None old new (outcome.Tables []) → ⊥
   no_tables_without_a_fault leaves = leaves.2 refl
 
+  -- with one worker there is no thread that could be missing, and no ring
+  threads_missing_for_two : (s : Stream) → AreHistoriesWith 2 (s ∷ []) ((Ending (Refused (file_fault 0 table.NoThread)) ∷ []) ∷ [])
+  threads_missing_for_two s = inr (omega arith, (refl, tt))
+
+  no_thread_missing_for_one : (s : Stream) (hs : List (List Item)) → (AreDecoded 0 (s ∷ []) hs → ⊥) → AreHistoriesWith 1 (s ∷ []) hs → ⊥
+  no_thread_missing_for_one s hs other (inl decoded) = other decoded
+  no_thread_missing_for_one s hs other (inr none) = omega (arith, none.0)
+
+  not_lost_by_one : Breaks 1 layout report old new fault.Lost → ⊥
+  not_lost_by_one lost = omega (arith, lost.0)
+
+  lost_by_two : Leaves 2 None old new (outcome.Run fault.Lost)
+  lost_by_two = inr (inr (refl, refl, omega arith))
+
+  nothing_lost_by_one : Leaves 1 None old new (outcome.Run fault.Lost) → ⊥
+  nothing_lost_by_one (inl memory) = let e = memory.0 in cc
+  nothing_lost_by_one (inr (inl range)) = let e = range.0 in cc
+  nothing_lost_by_one (inr (inr lost)) = omega (arith, lost.2)
+
   -- a report without tables has no fault of a table
-  no_fault_without_a_table : Gives layout report [] old new (unknown_header ∷ []) end.Refused → ⊥
+  no_fault_without_a_table : WritesStreams 2 layout report [] old new (unknown_header ∷ []) end.Refused → ⊥
   no_fault_without_a_table given = by given.written.histories given.written.are given.written.merged
     where
-      by : (hs : List (List Item)) → AreHistories [] hs → Merges layout old new (head_text report) hs (unknown_header ∷ []) end.Refused → ⊥
+      by : (hs : List (List Item)) → AreHistoriesWith 2 [] hs → Merges layout old new (head_text report) hs (unknown_header ∷ []) end.Refused → ⊥
       by [] are merged = let e = merged.0 in cc
       by (h ∷ hs) (inl are) merged = are
-      by (h ∷ hs) (inr are) merged = are
+      by (h ∷ hs) (inr are) merged = are.1

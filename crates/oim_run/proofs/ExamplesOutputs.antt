@@ -168,13 +168,6 @@ not_kept_and_done once = absurd (cc told)
     told : outcome.Done ≡ outcome.Output write.Failed
     told = subst (λ (v : Outcome). IsToldBy (Some o_json) None ending.NotKept v outcome.Done) (sym ran) by
 
--- to an output that is open already, nothing but the run and its end is done
-run_into_an_open_output : RunsInto writes_x None None empty (Some (refused_path ∷ [])) (Some (refused_path ∷ Ended x outcome.Done ending.Kept ∷ [])) outcome.Done
-run_into_an_open_output = record { last = x; ran = outcome.Done; how = ending.Kept; run = (refl, refl); done = refl; told = refl }
-
-open_output_is_not_ended : RunsInto writes_x None None empty (Some (refused_path ∷ [])) (Some (refused_path ∷ [])) outcome.Done → ⊥
-open_output_is_not_ended into = let e = into.done in absurd (cc e)
-
 -- THE OUTPUT THAT THE WORDS NAME
 abbrev asked : Option (List ℕ) → Option (List ℕ) → Request
 asked out faults = record {
@@ -198,6 +191,13 @@ sink bs = sink_at marks.Fine (Some bs)
 -- a run of which is known only what each outcome leaves behind
 runs : RunsTo None (asked None None).settings empty x outcome.Done
 runs = (tt, inr (record { ended = outcome.Done; before = sink []; after = sink (codes "x"); fine = refl; run = (refl, refl); last = inl (refl, λ text e. e) }))
+
+-- to an output that is open already, nothing but the run and its end is done
+run_into_an_open_output : RunsInto None (asked None None) empty (Some (refused_path ∷ [])) (Some (refused_path ∷ Ended x outcome.Done ending.Kept ∷ [])) outcome.Done
+run_into_an_open_output = record { last = x; ran = outcome.Done; how = ending.Kept; run = runs; done = refl; told = refl }
+
+open_output_is_not_ended : RunsInto None (asked None None) empty (Some (refused_path ∷ [])) (Some (refused_path ∷ [])) outcome.Done → ⊥
+open_output_is_not_ended into = let e = into.done in absurd (cc e)
 
 -- standard output where the words name no file, and else that file
 to_standard_output : EndsFor None (asked None None) (Some []) (Some (deeds None x ending.Kept)) outcome.Done

@@ -3,10 +3,11 @@ use Rattle.std.specs.Prelude.{⊤, ◌≡◌, ◌≢◌, ◌≤◌, ℕ, suc, �
 use Rattle.std.proofs.Common.{arith, refl, sym, ap, ◌∙◌, subst, inl, inr, get_or-set_other}
 use Rattle.std.proofs.Math.ListN.{get_or-map}
 use Rattle.std.proofs.lemmas.List.{length-append}
-use Rattle.oim_convert.proofs.OwnFaults.{IsOwn, own_table}
+use Rattle.oim_convert.proofs.FaultTables.{given_table, one_at_most}
+use Rattle.oim_convert.proofs.OwnFaults.{own_table}
 use Rattle.oim_convert.proofs.StreamHistories.{refusals_with}
-use Rattle.oim_convert.specs.Answer.{ending_of, streams, streams_from}
-use Rattle.oim_convert.specs.Histories.{AreDecoded, AreUnserved, IsGiven}
+use Rattle.oim_convert.specs.Answer.{streams, streams_from}
+use Rattle.oim_convert.specs.Histories.{AreDecoded, AreUnserved}
 use Rattle.oim_convert.specs.Runs.{AreHistories}
 use Rattle.oim_merge.proofs.Writing.{all_refusals, blocks_refusals}
 use Rattle.oim_merge.specs.Histories.{all_of, refusals}
@@ -14,7 +15,6 @@ use Rattle.oim_merge.specs.Merging.{EndEach}
 use Rattle.oim_report.specs.Readers.{no_table, table_of}
 use Rattle.oim_report.specs.ReportValue.{ReportValue}
 use Rattle.oim_report.specs.declared.data.Table.{Table}
-use Rattle.oim_resolve.specs.FactParts.{FactParts as Fact}
 use Rattle.oim_ring.specs.Items.{EndsOnce}
 use Rattle.oim_ring.specs.declared.item.Ending as Endings
 use Rattle.oim_ring.specs.declared.item.Ending.TheVariants.{Closed, Refused}
@@ -35,18 +35,6 @@ Rises i (e ∷ faults) = (i ≤ e.table) × Rises (e.table + 1) faults
 rises_before : (i : ℕ) (faults : List TableFault) → Rises (i + 1) faults → Rises i faults
 rises_before i [] r = tt
 rises_before i (e ∷ faults) (le, later) = (omega (arith, le), later)
-
-refused_table : (e : Endings.Ending) (x y : TableFault) → e ≡ Refused x → e ≡ Refused y → x.table ≡ y.table
-refused_table e x y is also = let both : Refused x ≡ Refused y = sym is ∙ also in let same : x ≡ y = cc in ap (λ (z : TableFault). z.table) same
-
-own_ending : (table : ℕ) (o : Option TableFault) (x : TableFault) → IsOwn table o → ending_of o ≡ Refused x → x.table ≡ table
-own_ending table None x own is = absurd (cc)
-own_ending table (Some a) x own is = refused_table (Refused a) x a is refl ∙ own.1
-
-pub given_table : (table : ℕ) (s : Stream) (facts : List Fact) (e : Endings.Ending) (x : TableFault) → IsGiven table s facts e → IsOwn table s.fault → e ≡ Refused x → x.table ≡ table
-given_table table s facts e x (inl whole) own is = own_ending table s.fault x own (sym whole.1 ∙ is)
-given_table table s facts e x (inr (inl unread)) own is = refused_table e x _ is unread.refused
-given_table table s facts e x (inr (inr short)) own is = refused_table e x _ is short.refused
 
 ending_rises : (i : ℕ) (e : Endings.Ending) (faults : List TableFault) → ((x : TableFault) → e ≡ Refused x → x.table ≡ i) → Rises (i + 1) faults → Rises i (refusals (Ending e ∷ []) ++ faults)
 ending_rises i Closed faults own later = rises_before i faults later
@@ -96,10 +84,6 @@ names_are report limit files hs names faults named are is =
     (subst (λ (l : List TableFault). Rises 0 l) (sym is) (histories_rise report limit files hs are))
 
 -- THEIR NUMBER
-
-one_at_most : (e : Endings.Ending) → length (refusals (Ending e ∷ [])) ≤ 1
-one_at_most Closed = omega arith
-one_at_most (Refused x) = omega arith
 
 ended_once : (h : List Item) → EndsOnce h → length (refusals h) ≤ 1
 ended_once h once =

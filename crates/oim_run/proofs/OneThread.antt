@@ -1,10 +1,10 @@
 -- The end of a conversion on one thread, as an outcome.
-use Rattle.std.specs.Prelude.{◌≡◌, ◌≢◌, ◌↔◌, ℕ, ◌+◌, Bool, true, false, ◌==◌, if◌then◌else◌, List, [], ◌∷◌, Option, Some, None, Result, Ok, Err}
-use Rattle.std.proofs.Common.{refl, sym, ap, subst, inl, inr, append-nil, ◌∙◌}
+use Rattle.std.specs.Prelude.{◌≡◌, ◌≢◌, ◌↔◌, ℕ, Bool, true, false, ◌==◌, if◌then◌else◌, List, [], ◌∷◌, Option, Some, None, Result, Ok, Err}
+use Rattle.std.proofs.Common.{refl, sym, ap, subst, inl, inr, ◌∙◌}
 use Rattle.std.proofs.lemmas.Bool.{eq-eqb, eqb-true}
 use Rattle.oim_convert.proofs.RunHistories.{uncut_streams}
-use Rattle.oim_convert.proofs.StreamHistories.{streams_answer}
-use Rattle.oim_convert.specs.Answer.{IsAnswer, ending_of, histories_of, streams}
+use Rattle.oim_convert.proofs.StreamHistories.{streams_answer, streams_decoded}
+use Rattle.oim_convert.specs.Answer.{IsAnswer, histories_of, streams}
 use Rattle.oim_convert.specs.Histories.{AreDecoded}
 use Rattle.oim_convert.specs.Runs.{AreHistories}
 use Rattle.oim_convert.specs.Serial as serial
@@ -17,33 +17,16 @@ use Rattle.oim_merge.specs.Histories.{all_of, refusals}
 use Rattle.oim_merge.specs.declared.progress.MergeEnd.{MergeEnd}
 use Rattle.oim_merge.specs.declared.progress.MergeEnd.TheVariants as end
 use Rattle.oim_report.specs.ReportValue.{ReportValue}
-use Rattle.oim_ring.specs.declared.item.Item.TheVariants.{Block}
-use Rattle.oim_rows.specs.Streams.{Stream, facts_of}
+use Rattle.oim_rows.specs.Streams.{Stream}
 use Rattle.oim_rows.specs.declared.fault.TableFault.{TableFault}
 use Rattle.oim_run.proofs.Beginnings.{begun}
 use Rattle.oim_run.proofs.Names.{names_are}
 use Rattle.oim_run.proofs.Stopped.{stops}
 use Rattle.oim_run.proofs.Threads.{no_names, uncut}
+use Rattle.oim_run.specs.state.Courses.{reader_fault}
 use Rattle.oim_run.specs.state.Naming.{outcome_alone, with_names, table_ids}
-use Rattle.oim_run.specs.Outcomes.{AreDefined, EndsAs, Gives, Leaves, Refuses}
+use Rattle.oim_run.specs.Outcomes.{AreDefined, EndsAs, Leaves, Refuses, WritesStreams}
 use Rattle.oim_run.specs.declared.outcome.Outcome.{Outcome}
-
--- the fault of settings in range, for this many readers and tables
-abbrev pub early_alone : ℕ → ℕ → Option ConvertFault
-early_alone readers tables = if readers == tables then None else Some fault.WrongReaders
-
--- streams are histories of tables that were decoded whole
-decoded_streams : (i : ℕ) (ss : List Stream) → AreDecoded i ss (histories_of ss)
-decoded_streams i [] = tt
-decoded_streams i (s ∷ ss) = (
-  record {
-    facts = facts_of s;
-    ending = ending_of s.fault;
-    given = inl (refl, refl);
-    is = record { before = Block (facts_of s) ∷ []; blocks = refl; holds = append-nil (facts_of s); is = refl };
-  },
-  decoded_streams (i + 1) ss,
-)
 
 abbrev Answer : Type 0
 Answer = Result (Unit {0}) ConvertFault
@@ -60,21 +43,25 @@ module _ (readers tables : ℕ) (r : Answer) (told : AnswersReaders readers tabl
   is_wrong : (readers == tables) ≡ false → r ≡ Err fault.WrongReaders
   is_wrong other = told.1 (λ same. let both : true ≡ false = sym (eq-eqb readers tables same) ∙ other in cc)
 
-  found_as : (b : Bool) → (readers == tables) ≡ b → early_alone readers tables ≡ (if b then None else Some fault.WrongReaders)
+  found_as : (b : Bool) → (readers == tables) ≡ b → reader_fault readers tables ≡ (if b then None else Some fault.WrongReaders)
   found_as b is = ap (λ (c : Bool). if c then None else Some fault.WrongReaders) is
 
 -- HOW IT ENDS
 
-module _ (layout : Layout) (report : ReportValue) (limit : ℕ) (files : List (Option (List ℕ))) (old new : SinkView) (names : List (List ℕ)) (named : names ≡ table_ids report) where
+module _ (workers : ℕ) (layout : Layout) (report : ReportValue) (limit : ℕ) (files : List (Option (List ℕ))) (old new : SinkView) (names : List (List ℕ)) (named : names ≡ table_ids report) where
   abbrev said : List Stream
   said = streams report limit files
 
-  gives : (faults : List TableFault) (e : MergeEnd) → IsAnswer layout report said old new faults e → Gives layout report said old new faults e
+  gives : (faults : List TableFault) (e : MergeEnd) → IsAnswer layout report said old new faults e → WritesStreams workers layout report said old new faults e
   gives faults e is =
-      let written : WritesHistories (AreHistories said) layout report old new faults e = record { histories = histories_of said; are = inl (decoded_streams 0 said); merged = is } in
-      record { written = written; answer = λ _. is; begun = begun layout report said old new faults e written }
+      let written : WritesHistories (AreHistories said) layout report old new faults e = record { histories = histories_of said; are = inl (streams_decoded 0 said); merged = is } in
+      record {
+        written = record { histories = histories_of said; are = inl (streams_decoded 0 said); merged = is };
+        answer = λ _. is;
+        begun = begun layout report said old new faults e written;
+      }
 
-  refuses : (faults : List TableFault) → WritesHistories (AreDecoded 0 said) layout report old new faults end.Refused → Refuses layout report said old new (with_names names faults)
+  refuses : (faults : List TableFault) → WritesHistories (AreDecoded 0 said) layout report old new faults end.Refused → Refuses workers layout report said old new (with_names names faults)
   refuses faults r =
       let written : WritesHistories (AreHistories said) layout report old new faults end.Refused = record { histories = r.histories; are = inl r.are; merged = r.merged } in
       record {
@@ -82,7 +69,7 @@ module _ (layout : Layout) (report : ReportValue) (limit : ℕ) (files : List (O
         names = names_are report limit files r.histories names faults named (inl r.are) r.merged.0;
         stops = stops layout report limit files old new faults written;
         given = record {
-          written = written;
+          written = record { histories = r.histories; are = inl r.are; merged = r.merged };
           begun = begun layout report said old new faults end.Refused written;
           answer = λ all.
               let defined = subst (λ (l : List TableFault). AreDefined l) r.merged.0 all in
@@ -90,7 +77,7 @@ module _ (layout : Layout) (report : ReportValue) (limit : ℕ) (files : List (O
         };
       }
 
-  in_range : (r : Answer) → (r ≡ Err fault.WrongReaders → ⊥) → serial.Converts layout report said old new r → EndsAs layout None report said old new (outcome_alone names r)
+  in_range : (r : Answer) → (r ≡ Err fault.WrongReaders → ⊥) → serial.Converts layout report said old new r → EndsAs workers layout None report said old new (outcome_alone names r)
   in_range (Ok u) right is = gives [] end.Complete is
   in_range (Err (fault.Tables faults)) right is = refuses faults.items is
   in_range (Err (fault.Write w)) right is = let faults = refusals (all_of (histories_of said)) in (faults, gives faults (end.Write w) (refl, is))
@@ -101,10 +88,10 @@ module _ (layout : Layout) (report : ReportValue) (limit : ℕ) (files : List (O
   in_range (Err fault.Lost) right is = absurd is
 
   abbrev EndsBy : Option ConvertFault → Outcome → Type 0
-  EndsBy early o = EndsAs layout early report said old new o
+  EndsBy early o = EndsAs workers layout early report said old new o
 
   ends_by : (readers tables : ℕ) (r : Answer) → AnswersReaders readers tables r → serial.Converts layout report said old new r
-      → (b : Bool) → (readers == tables) ≡ b → EndsBy (early_alone readers tables) (outcome_alone names r)
+      → (b : Bool) → (readers == tables) ≡ b → EndsBy (reader_fault readers tables) (outcome_alone names r)
   ends_by readers tables r told is true same =
       subst (λ (e : Option ConvertFault). EndsBy e (outcome_alone names r)) (sym (found_as readers tables r told true same)) (in_range r (not_wrong readers tables r told same) is)
   ends_by readers tables r told is false other =
@@ -112,18 +99,18 @@ module _ (layout : Layout) (report : ReportValue) (limit : ℕ) (files : List (O
       subst (λ (e : Option ConvertFault). EndsBy e (outcome_alone names r)) (sym (found_as readers tables r told false other))
       (inl (ap (outcome_alone names) wrong), subst (serial.Converts layout report said old new) wrong is)
 
-  pub alone_ends : (readers tables : ℕ) (early : Option ConvertFault) (r : Answer) (o : Outcome) → early ≡ early_alone readers tables → o ≡ outcome_alone names r
+  pub alone_ends : (readers tables : ℕ) (early : Option ConvertFault) (r : Answer) (o : Outcome) → early ≡ reader_fault readers tables → o ≡ outcome_alone names r
       → AnswersReaders readers tables r → serial.Converts layout report said old new r → EndsBy early o
   alone_ends readers tables early r o found ending told is =
       subst (λ (e : Option ConvertFault). EndsBy e o) (sym found)
-      (subst (EndsBy (early_alone readers tables)) (sym ending) (ends_by readers tables r told is (readers == tables) refl))
+      (subst (EndsBy (reader_fault readers tables)) (sym ending) (ends_by readers tables r told is (readers == tables) refl))
 
 -- WHAT IT LEAVES BEHIND
 
-module _ (layout : Layout) (report : ReportValue) (old new : SinkView) (names : List (List ℕ)) where
-  left_in_range : (r : Answer) → (r ≡ Err fault.WrongReaders → ⊥) → serial.Leaves old new r → Leaves None old new (outcome_alone names r)
+module _ (workers : ℕ) (layout : Layout) (report : ReportValue) (old new : SinkView) (names : List (List ℕ)) where
+  left_in_range : (r : Answer) → (r ≡ Err fault.WrongReaders → ⊥) → serial.Leaves old new r → Leaves workers None old new (outcome_alone names r)
   left_in_range (Ok u) right is = (refl, is)
-  left_in_range (Err (fault.Tables faults)) right is = (refl, is.0, λ none. is.1 (no_names layout report 0 old new names faults.items none))
+  left_in_range (Err (fault.Tables faults)) right is = (refl, is.0, λ none. is.1 (no_names workers layout report 0 old new names faults.items none))
   left_in_range (Err (fault.Write w)) right is = (refl, is)
   left_in_range (Err fault.WrongReaders) right is = absurd (right refl)
   left_in_range (Err fault.Memory) right is = inl (refl, is)
@@ -132,16 +119,16 @@ module _ (layout : Layout) (report : ReportValue) (old new : SinkView) (names : 
   left_in_range (Err fault.Lost) right is = absurd is
 
   left_by : (readers tables : ℕ) (r : Answer) → AnswersReaders readers tables r → serial.Leaves old new r
-      → (b : Bool) → (readers == tables) ≡ b → Leaves (early_alone readers tables) old new (outcome_alone names r)
+      → (b : Bool) → (readers == tables) ≡ b → Leaves workers (reader_fault readers tables) old new (outcome_alone names r)
   left_by readers tables r told is true same =
-      subst (λ (e : Option ConvertFault). Leaves e old new (outcome_alone names r)) (sym (found_as readers tables r told true same)) (left_in_range r (not_wrong readers tables r told same) is)
+      subst (λ (e : Option ConvertFault). Leaves workers e old new (outcome_alone names r)) (sym (found_as readers tables r told true same)) (left_in_range r (not_wrong readers tables r told same) is)
   left_by readers tables r told is false other =
       let wrong = is_wrong readers tables r told other in
-      subst (λ (e : Option ConvertFault). Leaves e old new (outcome_alone names r)) (sym (found_as readers tables r told false other))
-      (subst (λ (o : Outcome). Leaves (Some fault.WrongReaders) old new o) (sym (ap (outcome_alone names) wrong)) (inr (inl (refl, subst (serial.Leaves old new) wrong is))))
+      subst (λ (e : Option ConvertFault). Leaves workers e old new (outcome_alone names r)) (sym (found_as readers tables r told false other))
+      (subst (λ (o : Outcome). Leaves workers (Some fault.WrongReaders) old new o) (sym (ap (outcome_alone names) wrong)) (inr (inl (refl, subst (serial.Leaves old new) wrong is))))
 
-  pub alone_leaves : (readers tables : ℕ) (early : Option ConvertFault) (r : Answer) (o : Outcome) → early ≡ early_alone readers tables → o ≡ outcome_alone names r
-      → AnswersReaders readers tables r → serial.Leaves old new r → Leaves early old new o
+  pub alone_leaves : (readers tables : ℕ) (early : Option ConvertFault) (r : Answer) (o : Outcome) → early ≡ reader_fault readers tables → o ≡ outcome_alone names r
+      → AnswersReaders readers tables r → serial.Leaves old new r → Leaves workers early old new o
   alone_leaves readers tables early r o found ending told is =
-      subst (λ (e : Option ConvertFault). Leaves e old new o) (sym found)
-      (subst (Leaves (early_alone readers tables) old new) (sym ending) (left_by readers tables r told is (readers == tables) refl))
+      subst (λ (e : Option ConvertFault). Leaves workers e old new o) (sym found)
+      (subst (Leaves workers (reader_fault readers tables) old new) (sym ending) (left_by readers tables r told is (readers == tables) refl))

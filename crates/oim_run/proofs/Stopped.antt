@@ -2,10 +2,10 @@
 use Rattle.std.specs.Prelude.{◌≡◌, ℕ, ◌+◌, List, [], ◌∷◌, ◌++◌, Option, Some, None, length}
 use Rattle.std.proofs.Common.{arith, refl, sym, ap, ◌∙◌, subst, inl, inr, append-nil, append_assoc}
 use mathlib.Core.List.{IsPrefix}
+use Rattle.oim_convert.proofs.FaultTables.{given_table}
 use Rattle.oim_convert.proofs.OwnFaults.{IsOwn, own_table}
-use Rattle.oim_convert.proofs.SerialTables.{first_nothing}
 use Rattle.oim_convert.proofs.StreamHistories.{facts_with, refusals_with}
-use Rattle.oim_convert.proofs.WrittenIds.{first_rows}
+use Rattle.oim_convert.proofs.WrittenIds.{first_rows, no_facts}
 use Rattle.oim_convert.specs.Answer.{ending_of, streams, streams_from}
 use Rattle.oim_convert.specs.Histories.{AreDecoded, AreUnserved, IsGiven}
 use Rattle.oim_convert.specs.Runs.{AreHistories}
@@ -27,8 +27,7 @@ use Rattle.oim_rows.specs.Header.{file_fault}
 use Rattle.oim_rows.specs.Streams.{Stream, facts_of, table_stream}
 use Rattle.oim_rows.specs.declared.fault.TableFault.{TableFault}
 use Rattle.oim_rows.specs.declared.fault.TableKind.TheVariants as kind
-use Rattle.oim_run.proofs.Names.{given_table}
-use Rattle.oim_run.specs.Outcomes.{StopsAt, StopsInTable, facts_of_tables}
+use Rattle.oim_run.specs.Outcomes.{StopsAt, StopsInTable, facts_of_streams}
 
 -- ONE TABLE
 
@@ -58,7 +57,7 @@ goes_on i s ss facts items whole f at = record {
   sound = (whole.1, at.sound);
   first = at.first;
   some = at.some;
-  facts = ap (λ l. l ++ facts_before items) whole.0 ∙ (ap (λ l. facts_of s ++ l) at.facts ∙ sym (append_assoc (facts_of s) (facts_of_tables at.before) at.first));
+  facts = ap (λ l. l ++ facts_before items) whole.0 ∙ (ap (λ l. facts_of s ++ l) at.facts ∙ sym (append_assoc (facts_of s) (facts_of_streams at.before) at.first));
 }
 
 ends_or_goes : (i : ℕ) (s : Stream) (ss : List Stream) (facts : List Fact) (e : Endings.Ending) (items : List Item) → IsGiven i s facts e → IsOwn i s.fault
@@ -115,7 +114,7 @@ unserved_stop i (s ∷ ss) (h ∷ hs) all f rest is =
       place = omega (arith, place);
       sound = tt;
       first = [];
-      some = first_nothing (facts_of s);
+      some = no_facts (facts_of s);
       facts = refl;
     })
 

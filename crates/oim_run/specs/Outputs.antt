@@ -1,12 +1,13 @@
 -- Where a document goes, what is done with its output, which outcome its run has, and what is said of it.
 use Rattle.std.specs.Prelude.{◌≡◌, ◌⊎◌, ◌≤◌, Bool, true, false, ℕ, List, [], ◌∷◌, ◌++◌, Option, Some, None, IfSome}
 use Rattle.oim_files.specs.Folders.{Files}
+use Rattle.oim_json.specs.declared.layout.Layout.TheVariants as layout
 use Rattle.oim_run.specs.Buffers.{Buffered, flushed}
 use Rattle.oim_run.specs.CommandLine.{IsInput}
 use Rattle.oim_run.specs.Early.{no_memory}
 use Rattle.oim_run.specs.Lines.{line_of, status_of, terminal_line_of}
 use Rattle.oim_run.specs.Outcomes.{Leaves}
-use Rattle.oim_run.specs.Runs.{EndsOver, range_fault}
+use Rattle.oim_run.specs.Runs.{EndsOver, files_of, range_fault}
 use Rattle.oim_run.specs.declared.ending.Ending.{Ending}
 use Rattle.oim_run.specs.declared.ending.Ending.TheVariants as ending
 use Rattle.oim_run.specs.declared.outcome.Outcome.{Outcome}
@@ -50,7 +51,12 @@ IsToldBy out faults ending.FaultsAreRead ran o = IsUnwrittenAt faults ran o
 abbrev pub RunsTo : Option Files → Settings → (old new : Option (List ℕ)) → Outcome → Type 0
 RunsTo told s old new o =
     IfSome told (λ files. Buffered (EndsOver files s.meta s.types s.workers s.ring s.layout) old new o)
-    × Buffered (Leaves (range_fault s.workers s.ring)) old new o
+    × Buffered (Leaves s.workers (range_fault s.workers s.ring)) old new o
+
+-- a run over a folder in memory of the metadata, the types table and one table, each with its path, by one worker with a ring of one block, in the compact
+-- layout
+abbrev pub RunsHeld : (meta types table : List ℕ × List ℕ) → (old new : Option (List ℕ)) → Outcome → Type 0
+RunsHeld meta types table old new o = Buffered (EndsOver (files_of (meta ∷ types ∷ table ∷ [])) meta.0 types.0 1 1 layout.Compact) old new o
 
 -- one output is opened, standard output or the file at the path, one run is made to it, and it is ended; nothing else is done with any
 pub record RunsOnce (runs : (old new : Option (List ℕ)) → Outcome → Type 0) (out faults path : Option (List ℕ)) (before after : Option (List Deed)) (o : Outcome) : Type 0 where

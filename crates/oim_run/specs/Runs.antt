@@ -37,7 +37,7 @@ pub record Converted (files : Files) (base meta types : List ℕ) (workers ring 
   pub report : ReportValue
   pub passed : Passes (steps files base meta types)
   pub given : report_at files base meta types ≡ Ok report
-  pub ends : EndsAs layout (range_fault workers ring) report (streams report profile.rows (table_files files base report)) old new o
+  pub ends : EndsAs workers layout (range_fault workers ring) report (streams report profile.rows (table_files files base report)) old new o
 
 -- how a run over these files ends, where the base is the folder of the metadata's path: at a step before the conversion, and then nothing is
 -- written, or as the conversion does

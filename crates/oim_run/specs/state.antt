@@ -1,3 +1,4 @@
 pub mod Naming
 pub mod Buffers
+pub mod Courses
 pub mod Outputs

@@ -1,10 +1,9 @@
 //! Runs that write their document to a writer through a buffer, which is flushed at the end.
 
-ghost use Rattle.std.specs.Prelude.{◌≡◌, IfSome, if◌then◌else◌};
+ghost use Rattle.std.specs.Prelude.{◌≡◌, if◌then◌else◌};
 ghost use Rattle.oim_json.specs.declared.mark.WriteFault.TheVariants as writes;
-ghost use Rattle.oim_run.specs.Buffers.{Buffered, flushed};
-ghost use Rattle.oim_run.specs.Outcomes.{Leaves};
-ghost use Rattle.oim_run.specs.Runs.{EndsOver, range_fault};
+ghost use Rattle.oim_run.specs.Buffers.{flushed};
+ghost use Rattle.oim_run.specs.Outputs.{RunsTo};
 ghost use Rattle.oim_run.specs.declared.outcome.Outcome.TheVariants as outcomes;
 
 use crate::buffer::Buffer;
@@ -56,13 +55,9 @@ pub fn run_to<R: Read + Drop + Send, F: Folder<R>, T: Threads + Wait + Sync, W: 
     folder: &mut F,
     to: W,
 ) -> (Outcome, W)
-    // For a folder that tells its files: how the run ends, and what the writer then holds.
-    ensures ends { IfSome (F.files folder.old) (λ files.
-        Buffered (EndsOver files settings.now.meta settings.now.types settings.now.workers settings.now.ring settings.now.layout)
-        (W.contents to) (W.contents result.1) result.0) }
-
-    // For every folder: what each outcome leaves behind.
-    ensures leaves { Buffered (Leaves (range_fault settings.now.workers settings.now.ring)) (W.contents to) (W.contents result.1) result.0 }
+    // For a folder that tells its files: how the run ends, and what the writer then holds. For every folder: what each outcome
+    // leaves behind.
+    ensures { RunsTo (F.files folder.old) settings.now (W.contents to) (W.contents result.1) result.0 }
 {
     let Ok(waiting) = Vec::with_capacity(alloc, ROOM) else {
         return (no_memory(), to);

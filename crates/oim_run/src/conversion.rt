@@ -1,13 +1,11 @@
 //! Converting a report whose tables are given by readers.
 
-ghost use Rattle.std.specs.Prelude.{◌≡◌, ◌≤◌, ◌<◌, ℕ, List, [], Option, Some, None, IfOk, true, ◌==◌, if◌then◌else◌, length, slice_set, vec_capacity};
-ghost use Rattle.oim_convert.specs.Answer.{streams};
-ghost use Rattle.oim_convert.specs.Files.{AreFilesOf};
+ghost use Rattle.std.specs.Prelude.{◌≡◌, ◌≤◌, ◌<◌, ℕ, [], None, IfOk, false, length, slice_set, true, vec_capacity};
 ghost use Rattle.oim_convert.specs.Runs.{early_fault};
 ghost use Rattle.oim_convert.specs.Serial.{AreFew};
-ghost use Rattle.oim_convert.specs.declared.fault.ConvertFault.TheVariants as convert_faults;
+ghost use Rattle.oim_run.specs.Outcomes.{ConvertsBy, LeavesBy};
+ghost use Rattle.oim_run.specs.state.Courses.{reader_fault};
 ghost use Rattle.oim_run.specs.state.Naming.{outcome_alone, outcome_by, with_names, name_in, table_ids};
-ghost use Rattle.oim_run.specs.Outcomes.{EndsAs, Leaves};
 
 use crate::outcome::Outcome;
 use oim_convert::{ConvertFault, LARGEST_RING, Run, convert, convert_serial};
@@ -122,8 +120,8 @@ fn ending_alone(
 
 /// Whether a conversion works on one thread: it has one worker, and no fault of its settings is due.
 fn is_alone(workers: usize, ring: usize) -> bool
-    ensures { result ≡ true → (readers tables : ℕ)
-        → early_fault workers ring readers tables ≡ (if readers == tables then None else Some convert_faults.WrongReaders) }
+    ensures alone { result ≡ true → (readers tables : ℕ) → early_fault workers ring readers tables ≡ reader_fault readers tables }
+    ensures others { result ≡ false → (readers tables : ℕ) → early_fault workers ring readers tables ≡ None → 1 < workers }
 {
     workers == 1 && ring >= 1 && ring <= LARGEST_RING
 }
@@ -134,9 +132,9 @@ fn is_alone(workers: usize, ring: usize) -> bool
 /// 4,294,967,294.
 ///
 /// The answer is how the conversion ended. It is the same for every number of workers, ring size and
-/// schedule, apart from failed reads and running out of memory or threads. The names that the outcome
-/// needs, and the room for a list of refused tables, are made first; if memory runs out for them the
-/// outcome is `Memory`, and nothing is written. It waits for its workers.
+/// schedule, apart from failed reads and running out of memory or threads; one worker alone needs no
+/// thread. The names that the outcome needs, and the room for a list of refused tables, are made first; if
+/// memory runs out for them the outcome is `Memory`, and nothing is written. It waits for its workers.
 pub fn convert_report<R: Read + Drop + Send, T: Threads + Wait + Sync, W: Sink>(
     rt: &T,
     alloc: Global,
@@ -146,11 +144,8 @@ pub fn convert_report<R: Read + Drop + Send, T: Threads + Wait + Sync, W: Sink>(
     sink: &mut W,
 ) -> Outcome
     requires { course.limits.rows ≤ 4294967294 }
-    ensures ends { (files : List (Option (List ℕ))) → AreFilesOf R.remaining readers.items files
-        → EndsAs course.layout (early_fault course.workers course.ring (length files) (length report.now.tables)) report.now (streams report.now course.limits.rows files)
-        (W.seen sink.old) (W.seen sink.new) result }
-    ensures leaves { Leaves (early_fault course.workers course.ring (length readers.items) (length report.now.tables))
-        (W.seen sink.old) (W.seen sink.new) result }
+    ensures ends { ConvertsBy R.remaining course report.now readers.items (W.seen sink.old) (W.seen sink.new) result }
+    ensures leaves { LeavesBy course (length readers.items) (length report.now.tables) (W.seen sink.old) (W.seen sink.new) result }
 {
     let Course {
         workers,

@@ -1,7 +1,7 @@
 //! One run, to standard output or to the file that the words name.
 
 ghost use Rattle.std.specs.Prelude.{◌≡◌, ◌⊎◌, ℕ, List, [], ◌∷◌, Option, Some, None, option_map};
-ghost use Rattle.oim_run.specs.Outputs.{Deed, Did, Ended, EndsFor, IntoFile, Opened, RunsTo};
+ghost use Rattle.oim_run.specs.Outputs.{Deed, Did, Ended, EndsFor, IntoFile, Opened};
 ghost use Rattle.oim_run.specs.state.Outputs.{RunsInto};
 
 use crate::buffered::run_to;
@@ -47,8 +47,7 @@ fn run_into<R: Read + Drop + Send, F: Folder<R>, T: Threads + Wait + Sync, W: Wr
     outputs: &mut O,
     to: W,
 ) -> Outcome
-    ensures { RunsInto (RunsTo (F.files folder.old) request.now.settings) request.now.settings.out request.now.faults
-        (W.contents to) (O.done outputs.old) (O.done outputs.new) result }
+    ensures { RunsInto (F.files folder.old) request.now (W.contents to) (O.done outputs.old) (O.done outputs.new) result }
 {
     let (ran, writer) = run_to(rt, alloc, &request.settings, folder, to);
     let how = outputs.end(writer, &ran);

@@ -1,12 +1,11 @@
 //! A run, from the files of a folder to a document.
 
 ghost use Rattle.std.specs.Prelude.{◌≡◌, IfSome, IfErr, IfOk, length};
-ghost use Rattle.oim_convert.specs.Answer.{streams};
 ghost use Rattle.oim_convert.specs.Files.{AreFilesOf};
-ghost use Rattle.oim_files.specs.Metadata.{profile};
 ghost use Rattle.oim_run.specs.Early as spec;
-ghost use Rattle.oim_run.specs.Outcomes.{EndsAs, Leaves};
+ghost use Rattle.oim_run.specs.Outcomes.{Leaves};
 ghost use Rattle.oim_run.specs.Runs.{EndsOver, range_fault, table_files};
+ghost use Rattle.oim_run.specs.state.Courses.{EndsIn};
 
 use crate::conversion::{Course, convert_report};
 use crate::early::{ended_early, no_memory};
@@ -56,10 +55,8 @@ fn run_tables<R: Read + Drop + Send, F: Folder<R>, T: Threads + Wait + Sync, W: 
     report: &Report,
     sink: &mut W,
 ) -> Outcome
-    ensures ends { IfSome (F.files folder.old) (λ files.
-        EndsAs settings.now.layout (range_fault settings.now.workers settings.now.ring) report.now (streams report.now profile.rows (table_files files base.now report.now))
-        (W.seen sink.old) (W.seen sink.new) result) }
-    ensures leaves { Leaves (range_fault settings.now.workers settings.now.ring) (W.seen sink.old) (W.seen sink.new) result }
+    ensures ends { IfSome (F.files folder.old) (λ files. EndsIn files base.now report.now settings.now (W.seen sink.old) (W.seen sink.new) result) }
+    ensures leaves { Leaves settings.now.workers (range_fault settings.now.workers settings.now.ring) (W.seen sink.old) (W.seen sink.new) result }
 {
     match find_tables(alloc, folder, base, report) {
         Ok(readers) => {
@@ -96,7 +93,8 @@ fn run_tables<R: Read + Drop + Send, F: Folder<R>, T: Threads + Wait + Sync, W: 
 /// `Report` with its source. `Run` has `BadWorkers` exactly if there is no early fault, memory does not
 /// run out and the number of workers is not 1 to 64, `BadSize` if that number is but the ring's size is
 /// not 1 to 65,536, and `Lost` if the token of a ring was lost: the document of some facts is then
-/// written, or a beginning of it, and no clause says of which.
+/// written, or a beginning of it, and no clause says of which. With one worker there is neither `NoThread`
+/// nor `Lost`.
 pub fn run<R: Read + Drop + Send, F: Folder<R>, T: Threads + Wait + Sync, W: Sink>(
     rt: &T,
     alloc: Global,
@@ -110,7 +108,7 @@ pub fn run<R: Read + Drop + Send, F: Folder<R>, T: Threads + Wait + Sync, W: Sin
         (W.seen sink.old) (W.seen sink.new) result) }
 
     // For every folder: what each outcome leaves behind.
-    ensures leaves { Leaves (range_fault settings.now.workers settings.now.ring) (W.seen sink.old) (W.seen sink.new) result }
+    ensures leaves { Leaves settings.now.workers (range_fault settings.now.workers settings.now.ring) (W.seen sink.old) (W.seen sink.new) result }
 {
     let meta = settings.meta.as_str();
     let types = settings.types.as_str();

@@ -1,17 +1,18 @@
 -- What each part of a conversion on one thread gives to the writer.
-use Rattle.std.specs.Prelude.{◌≡◌, ℕ, true, List, Option, Some, Result, Ok, Err, IfSome}
+use Rattle.std.specs.Prelude.{◌≡◌, ℕ, true, List, ◌++◌, Option, Some, Result, Ok, Err, IfSome}
 use mathlib.Core.List.{IsPrefix}
 use Rattle.oim_json.specs.declared.mark.WriteFault.{WriteFault}
-use Rattle.oim_merge.specs.Histories.{all_of, facts_before}
+use Rattle.oim_merge.specs.Histories.{all_of}
 use Rattle.oim_merge.specs.Writers.{WriterView, given}
+use Rattle.oim_records.specs.Reads.{IsFileOf}
 use Rattle.oim_report.specs.ReportValue.{ReportValue}
 use Rattle.oim_resolve.specs.FactParts.{FactParts as Fact}
 use Rattle.oim_ring.specs.Items.{blocks_only}
 use Rattle.oim_ring.specs.declared.item.Ending as Endings
 use Rattle.oim_ring.specs.declared.item.Item.{Item}
 use Rattle.oim_rows.specs.Streams.{Stream, facts_of, table_stream}
-use Rattle.oim_convert.specs.Answer.{histories_of}
-use Rattle.oim_convert.specs.Histories.{AreDecoded, IsGiven, facts_in}
+use Rattle.oim_convert.specs.Histories.{IsGiven, facts_in}
+use Rattle.oim_convert.specs.ReadAlone.{AreRead}
 
 -- the facts that a table with this stream gave, and its ending; or a write failed after the first of its facts
 abbrev pub Gave : ℕ → Stream → List Fact → Result Endings.Ending WriteFault → Type 0
@@ -22,6 +23,11 @@ Gave table s facts (Err w) = IsPrefix facts (facts_of s)
 abbrev pub GaveFile : Option (List ℕ) → ReportValue → ℕ → ℕ → List Fact → Result Endings.Ending WriteFault → Type 0
 GaveFile known report table limit facts answer = IfSome known (λ bytes. Gave table (table_stream report table limit (Some bytes)) facts answer)
 
+-- the same of a table with this reader, or with none
+abbrev pub GaveTable : {R : Type 0} → (R → Option (List ℕ)) → ReportValue → ℕ → ℕ → Option R → List Fact → Result Endings.Ending WriteFault → Type 0
+GaveTable told report table limit reader facts answer =
+    (file : Option (List ℕ)) → IsFileOf told reader file → Gave table (table_stream report table limit file) facts answer
+
 -- the writer was given blocks, and of their facts this holds
 pub record TookBlocks (old new : WriterView) (Holds : List Fact → Type 0) : Type 0 where
   pub blocks : List Item
@@ -29,13 +35,13 @@ pub record TookBlocks (old new : WriterView) (Holds : List Fact → Type 0) : Ty
   pub is : new ≡ given old blocks new.sink
   pub facts : Holds (facts_in blocks)
 
--- the items are the histories of tables with these streams, each whole or cut short
-pub record AreItemsOf (ss : List Stream) (items : List Item) : Type 0 where
+-- the items are those of the histories of these readers' tables
+pub record AreItemsOf {R : Type 0} (told : R → Option (List ℕ)) (report : ReportValue) (limit : ℕ) (readers : List (Option R)) (items : List Item) : Type 0 where
   pub histories : List (List Item)
-  pub decoded : AreDecoded 0 ss histories
+  pub read : AreRead told report limit 0 readers histories
   pub are : items ≡ all_of histories
 
--- the items that tables with these streams gave; or a write failed after the first of the report's facts
-abbrev pub ReadsTables : List Stream → List Item → Result (Unit {0}) WriteFault → Type 0
-ReadsTables ss items (Ok u) = AreItemsOf ss items
-ReadsTables ss items (Err w) = IsPrefix (facts_before items) (facts_before (all_of (histories_of ss)))
+-- the items that the tables of these readers gave; or, where a write failed, the first of such items
+abbrev pub ReadsTables : {R : Type 0} → (R → Option (List ℕ)) → ReportValue → ℕ → List (Option R) → List Item → Result (Unit {0}) WriteFault → Type 0
+ReadsTables told report limit readers items (Ok u) = AreItemsOf told report limit readers items
+ReadsTables told report limit readers items (Err w) = (more : List Item) × AreItemsOf told report limit readers (items ++ more)

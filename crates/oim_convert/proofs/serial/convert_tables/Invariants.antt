@@ -1,9 +1,8 @@
 use Rattle.std.proofs.Common.{◌≡◌, ◌≤◌, ◌+◌, length}
-use Rattle.std.specs.Prelude.{List, ℕ, Option, vec_len, vec_capacity}
+use Rattle.std.specs.Prelude.{vec_len, vec_capacity}
 use Rattle.std.specs.Vec.Iter.{into_iter_items}
 use Rattle.oim_merge.specs.Histories.{refusals}
 use Rattle.oim_merge.specs.state.Writers.{Continues}
-use Rattle.oim_convert.specs.Files.{AreFilesOf}
 use Rattle.oim_convert.proofs.SerialTables.{HasRead}
 use Rattle.oim_convert.proofs.serial.convert_tables.Given as goal
 
@@ -15,6 +14,5 @@ invariant-loop-reader g l = record {
   faults : l.faults.items ≡ refusals l.writer.items;
   count : vec_len l.faults ≤ l.table;
   room : length l.report.tables ≤ vec_capacity l.faults;
-  read : (files : List (Option (List ℕ))) → AreFilesOf g.R.Read.remaining l.fn.readers.items files
-      → HasRead g.R.Read.remaining l.report l.limits.rows l.table l.writer.items (into_iter_items l.reader-iterator) files;
+  read : HasRead g.R.Read.remaining l.report l.limits.rows l.table l.writer.items l.fn.readers.items (into_iter_items l.reader-iterator);
 }

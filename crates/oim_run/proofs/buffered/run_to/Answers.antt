@@ -7,28 +7,23 @@ use Rattle.oim_run.specs.Outcomes.{Leaves}
 use Rattle.oim_run.specs.Runs.{range_fault}
 use Rattle.oim_run.proofs.buffered.run_to.Goals as goal
 
-pub returns-in_default-clause-ends : goal.returns-in_default-clause-ends
-returns-in_default-clause-ends g c = no_buffer (g.F.Folder.files c.args.folder.now) c.args.settings.now.meta c.args.settings.now.types
-    c.args.settings.now.workers c.args.settings.now.ring c.args.settings.now.layout c.no_memory.result (g.W.Write.contents c.args.to) c.no_memory.ensures
+pub returns-in_default : goal.returns-in_default
+returns-in_default g c = (
+  no_buffer (g.F.Folder.files c.args.folder.now) c.args.settings.now.meta c.args.settings.now.types
+      c.args.settings.now.workers c.args.settings.now.ring c.args.settings.now.layout c.no_memory.result (g.W.Write.contents c.args.to) c.no_memory.ensures,
+  inl (c.no_memory.ensures, keeps_same (g.W.Write.contents c.args.to)),
+)
 
-pub returns-in_default-clause-leaves : goal.returns-in_default-clause-leaves
-returns-in_default-clause-leaves g c = inl (c.no_memory.ensures, keeps_same (g.W.Write.contents c.args.to))
-
-pub returns-clause-ends : goal.returns-clause-ends
-returns-clause-ends g c =
+pub returns : goal.returns
+returns g c =
     let held = c.run-outcome.new.sink in
-    behind_told (g.F.Folder.files c.args.folder.now) c.args.settings.now.meta c.args.settings.now.types c.args.settings.now.workers
-    c.args.settings.now.ring c.args.settings.now.layout _
-    (sink_at held.mark (told_behind (g.W.Write.contents held.first.value) (g.W.Write.contents held.writer) held.waiting.items))
-    c.run-outcome.result c.after_flush.result c.finish-writer.result.1
-    (g.W.Write.contents c.args.to) (g.W.Write.contents held.first.value) (g.W.Write.contents c.finish-writer.result.0)
-    c.new-buffer.ensures.fine c.new-buffer.ensures.told c.run-outcome.ensures.ends c.finish-writer.ensures.all c.finish-writer.ensures.some c.after_flush.ensures
-
-pub returns-clause-leaves : goal.returns-clause-leaves
-returns-clause-leaves g c =
-    let held = c.run-outcome.new.sink in
-    behind (Leaves (range_fault c.args.settings.now.workers c.args.settings.now.ring)) _
-    (sink_at held.mark (told_behind (g.W.Write.contents held.first.value) (g.W.Write.contents held.writer) held.waiting.items))
-    c.run-outcome.result c.after_flush.result c.finish-writer.result.1
-    (g.W.Write.contents c.args.to) (g.W.Write.contents held.first.value) (g.W.Write.contents c.finish-writer.result.0)
-    c.new-buffer.ensures.fine c.new-buffer.ensures.told c.run-outcome.ensures.leaves c.finish-writer.ensures.all c.finish-writer.ensures.some c.after_flush.ensures
+    let after = sink_at held.mark (told_behind (g.W.Write.contents held.first.value) (g.W.Write.contents held.writer) held.waiting.items) in (
+      behind_told (g.F.Folder.files c.args.folder.now) c.args.settings.now.meta c.args.settings.now.types c.args.settings.now.workers
+          c.args.settings.now.ring c.args.settings.now.layout _ after c.run-outcome.result c.after_flush.result c.finish-writer.result.1
+          (g.W.Write.contents c.args.to) (g.W.Write.contents held.first.value) (g.W.Write.contents c.finish-writer.result.0)
+          c.new-buffer.ensures.fine c.new-buffer.ensures.told c.run-outcome.ensures.ends c.finish-writer.ensures.all c.finish-writer.ensures.some c.after_flush.ensures,
+      behind (Leaves c.args.settings.now.workers (range_fault c.args.settings.now.workers c.args.settings.now.ring)) _ after
+          c.run-outcome.result c.after_flush.result c.finish-writer.result.1
+          (g.W.Write.contents c.args.to) (g.W.Write.contents held.first.value) (g.W.Write.contents c.finish-writer.result.0)
+          c.new-buffer.ensures.fine c.new-buffer.ensures.told c.run-outcome.ensures.leaves c.finish-writer.ensures.all c.finish-writer.ensures.some c.after_flush.ensures,
+    )

@@ -31,7 +31,7 @@ returns-in-Err-clause-ends g c =
 
 pub returns-in-Err-clause-leaves : goal.returns-in-Err-clause-leaves
 returns-in-Err-clause-leaves g c =
-    early_leaves (range_fault c.args.settings.now.workers c.args.settings.now.ring) (g.W.Sink.seen c.args.sink.now)
+    early_leaves c.args.settings.now.workers (range_fault c.args.settings.now.workers c.args.settings.now.ring) (g.W.Sink.seen c.args.sink.now)
     c.in-Err.fault c.ended_early.result c.ended_early.ensures
 
 pub returns-in-Ok-clause-ends : goal.returns-in-Ok-clause-ends
@@ -48,7 +48,7 @@ returns-in-Ok-clause-ends g c =
     let base = c.folder_of-base.result.now in
     named told meta _ types _ workers ring layout old new c.run_tables.result c.as_str-meta.ensures c.as_str-types.ensures
     (runs told base meta types workers ring layout old new c.run_tables.result report c.folder_of-base.ensures c.in-Ok.ensures.gives
-    (subst (λ k. IfSome k (λ files. EndsAs layout (range_fault workers ring) report (streams report profile.rows (table_files files base report)) old new c.run_tables.result))
+    (subst (λ k. IfSome k (λ files. EndsAs workers layout (range_fault workers ring) report (streams report profile.rows (table_files files base report)) old new c.run_tables.result))
     c.in-Ok.ensures.same c.run_tables.ensures.ends))
 
 pub returns-in-Ok-clause-leaves : goal.returns-in-Ok-clause-leaves

@@ -17,7 +17,7 @@ returns-in-Ok-clause-ends g c =
     let new = g.W.Sink.seen c.convert_report.new.sink in
     tables_end g.R.Read.remaining told c.args.base.now workers ring layout old new c.convert_report.result report c.in-Ok.readers.items c.in-Ok.ensures.finds
     (λ files are.
-    subst (λ l. EndsAs layout (early_fault workers ring (length files) (length report.tables)) report (streams report l.rows files) old new c.convert_report.result) c.profile.ensures
+    subst (λ l. EndsAs workers layout (early_fault workers ring (length files) (length report.tables)) report (streams report l.rows files) old new c.convert_report.result) c.profile.ensures
     (c.convert_report.ensures.ends files are))
 
 pub returns-in-Ok-clause-leaves : goal.returns-in-Ok-clause-leaves
@@ -34,5 +34,5 @@ returns-in-Err-clause-ends g c =
 
 pub returns-in-Err-clause-leaves : goal.returns-in-Err-clause-leaves
 returns-in-Err-clause-leaves g c =
-    short_leaves (range_fault c.args.settings.now.workers c.args.settings.now.ring) (g.W.Sink.seen c.args.sink.now)
+    short_leaves c.args.settings.now.workers (range_fault c.args.settings.now.workers c.args.settings.now.ring) (g.W.Sink.seen c.args.sink.now)
     c.in-Err.outcome c.in-Err.ensures.short

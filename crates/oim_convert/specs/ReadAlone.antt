@@ -1,0 +1,31 @@
+-- The histories of a report's tables that one thread reads, by the readers of their files.
+use Rattle.std.specs.Prelude.{⊤, ◌≡◌, ℕ, ◌+◌, true, List, [], ◌∷◌, Option}
+use Rattle.oim_report.specs.ReportValue.{ReportValue}
+use Rattle.oim_resolve.specs.FactParts.{FactParts as Fact}
+use Rattle.oim_ring.specs.declared.item.Ending as Endings
+use Rattle.oim_ring.specs.declared.item.Ending.TheVariants.{Closed, Refused}
+use Rattle.oim_ring.specs.declared.item.Item.{Item}
+use Rattle.oim_convert.specs.Histories.{IsHistory}
+use Rattle.oim_convert.specs.Tasks.{IsKept}
+
+-- the fault of the ending, if it has one, is of this table
+abbrev pub IsEndingOf : ℕ → Endings.Ending → Type 0
+IsEndingOf table Closed = ⊤
+IsEndingOf table (Refused fault) = fault.table ≡ table
+
+module _ {R : Type 0} where
+  -- the history of a table that was read: blocks, and then one ending of this table. It is decoded from the file of the table's reader, if that
+  -- tells its bytes
+  pub record IsRead (told : R → Option (List ℕ)) (report : ReportValue) (limit table : ℕ) (reader : Option R) (history : List Item) : Type 0 where
+    pub facts : List Fact
+    pub ending : Endings.Ending
+    pub is : IsHistory facts ending history
+    pub own : IsEndingOf table ending
+    pub kept : IsKept told report limit true table reader history
+
+  -- one history for each reader, in order, where the first is of table i
+  abbrev pub AreRead : (R → Option (List ℕ)) → ReportValue → ℕ → ℕ → List (Option R) → List (List Item) → Type 0
+  AreRead told report limit i [] [] = ⊤
+  AreRead told report limit i [] (h ∷ hs) = ⊥
+  AreRead told report limit i (r ∷ rs) [] = ⊥
+  AreRead told report limit i (r ∷ rs) (h ∷ hs) = IsRead told report limit i r h × AreRead told report limit (i + 1) rs hs
