@@ -1,11 +1,11 @@
 -- The place of a name among things whose names rise.
 use Rattle.std.proofs.Common.{◌≡◌, ℕ, zero, suc, ◌+◌, ◌<◌, List, [], ◌∷◌, length, map, get_or, Bool, Some, None, Result, Ok, Err, false, true, cond, refl, sym, ap, subst, ◌∙◌, inl, inr, arith, Ordering, ltb}
-use Rattle.std.specs.Prelude.{MatchResult, not, if◌then◌else◌}
+use Rattle.std.specs.Prelude.{MatchResult}
 use Rattle.std.specs.List.{position, position_or_len}
 use Rattle.std.specs.Str.{bytes_eq}
 use Rattle.std.specs.Ordering.{nat_cmp, is_eq, is_lt, ordering_index, ordering_reverse}
 use Rattle.std.specs.declared.cmp.Ordering.TheVariants.{Less, Greater}
-use Rattle.std.specs.Cmp.Lexicographic.{nat_list_eq_equiv, slice_cmp}
+use Rattle.std.specs.Cmp.Lexicographic.{slice_cmp}
 use Rattle.std.specs.List.Sorted.{IsNonDecreasingBy, IsSearchInRange, IsPartitionPoint, IsBinarySearchResult}
 use Rattle.std.proofs.lemmas.Cmp.{nat_list_cmp_total}
 use Rattle.std.proofs.lemmas.List.{get_or-map, length-map}

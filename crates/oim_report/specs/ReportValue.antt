@@ -1,5 +1,5 @@
 -- What the metadata of a report says, with its parameters and its types.
-use Rattle.std.specs.Prelude.{ℕ, List, ◌++◌}
+use Rattle.std.specs.Prelude.{List, ◌++◌}
 use Rattle.oim_names.specs.Bindings.{Bindings}
 use Rattle.oim_report.specs.Parameters.{ParametersValue}
 use Rattle.oim_report.specs.Types.{TypesValue}
