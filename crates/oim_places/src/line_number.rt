@@ -119,7 +119,7 @@ impl LineCounter {
 
     /// The counter behind one more byte, before the record begins.
     fn moved(self, byte: u8) -> LineCounter
-        ensures { result ≡ spec.moved self byte }
+        ensures { result ≡ spec.one_byte_on self byte }
     {
         LineCounter {
             spot: after(self.spot, byte),
