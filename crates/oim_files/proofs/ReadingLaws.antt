@@ -114,7 +114,7 @@ module _ (limits : Limits) (bytes : List ℕ) where
   pub url_law : (name : Option (List ℕ)) → (url_result limits bytes ≡ Ok name) ↔ SaysUrl limits bytes name
   url_law name = (
     λ h. let s = said limits first_url_fault url bytes name h in
-    (s.0, (s.1.0, s.1.1, (s.1.2, s.1.3))),
+        (s.0, (s.1.0, s.1.1, (s.1.2, s.1.3))),
     says_url limits bytes name,
   )
 

@@ -1,5 +1,5 @@
 -- What a walk finds of each fault in the document as a whole: exactly what the test for the fault says.
-use Rattle.std.proofs.Common.{◌≡◌, ◌∙◌, Option, Some, None, Bool, true, false, ◌||◌, ◌&&◌, refl, codes}
+use Rattle.std.proofs.Common.{◌≡◌, ◌∙◌, Option, Some, None, Bool, false, ◌||◌, ◌&&◌, refl, codes}
 use Rattle.std.specs.Prelude.{option_and_then, unwrap_or}
 use Rattle.serde_json.specs.Data.{Data, null, boolean, number, string, array, object, Members, no_members}
 use Rattle.serde_json.specs.Find.{get, as_object}

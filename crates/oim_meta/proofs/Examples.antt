@@ -6,7 +6,6 @@ use Rattle.oim_cells.specs.declared.cells.Accuracy.TheVariants.{Infinite, Places
 use Rattle.oim_report.specs.Readers.{no_level}
 use Rattle.oim_report.specs.declared.data.Column.{Column}
 use Rattle.oim_report.specs.declared.data.ColumnKind.TheVariants.{Fact, Groups, Comment, Plain}
-use Rattle.oim_report.specs.declared.data.Level.{Level}
 use Rattle.oim_report.specs.declared.data.Side.TheVariants.{Whole, Start, End}
 use Rattle.oim_report.specs.declared.data.Written.TheVariants as written
 use Rattle.oim_report.specs.declared.data.WrittenDecimals.TheVariants as decimals

@@ -1,6 +1,6 @@
 -- The tests for namespaces, identifiers, kinds of columns and templates pass exactly where a part is not as it should be.
 use Rattle.std.proofs.Common.{◌≡◌, ℕ, List, refl, codes, Some, None, Option, Bool, true, false, not, ◌&&◌, ◌||◌}
-use Rattle.std.specs.Prelude.{◌↔◌, IsSomeAnd, unwrap_or, option_and_then, option_map, bytes_eq}
+use Rattle.std.specs.Prelude.{◌↔◌, IsSomeAnd, unwrap_or, option_and_then, bytes_eq}
 use Rattle.std.specs.Bool.{Decides}
 use Rattle.std.proofs.lemmas.Slice.Eq.{bytes_eq-Decides}
 use Rattle.serde_json.specs.Data.{Data, Members}
