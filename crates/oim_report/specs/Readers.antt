@@ -14,7 +14,7 @@ use Rattle.oim_report.specs.declared.data.Table.{Table}
 use Rattle.oim_report.specs.declared.data.Template.{Template}
 use Rattle.oim_report.specs.declared.kind.Kind.{Kind}
 
--- the parts at a place that is out of range
+-- a level that writes nothing, and the other parts at a place that is out of range
 abbrev pub no_level : Level
 no_level = record { dimensions = []; decimals = None }
 
