@@ -1,5 +1,5 @@
 -- What the answer of a conversion on one thread says, by the histories of its tables.
-use Rattle.std.specs.Prelude.{◌≡◌, ℕ, ◌+◌, false, ◌<◌, ◌≤◌, List, [], ◌∷◌, ◌++◌, Option, Result, Ok, Err, length}
+use Rattle.std.specs.Prelude.{◌≡◌, ℕ, ◌+◌, false, ◌≤◌, List, [], ◌∷◌, ◌++◌, Option, Result, Ok, Err, length}
 use Rattle.std.proofs.Common.{refl, sym, ap, ◌∙◌, subst, append_assoc, append-nil, arith, inl, inr}
 use Rattle.std.proofs.lemmas.List.{length-append}
 use mathlib.Core.List.{IsPrefix}

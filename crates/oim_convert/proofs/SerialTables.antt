@@ -6,7 +6,6 @@ use mathlib.Core.List.{IsPrefix}
 use Rattle.oim_json.proofs.Writes.{broke_before}
 use Rattle.oim_json.specs.JsonText.{head_text}
 use Rattle.oim_json.specs.Sinks.{SinkView, Broke}
-use Rattle.oim_json.specs.declared.layout.Layout.{Layout}
 use Rattle.oim_json.specs.declared.mark.WriteFault.{WriteFault}
 use Rattle.oim_merge.proofs.Writing.{all_refusals, blocks_refusals, given_more, given_nothing, unfinished_extends}
 use Rattle.oim_merge.specs.Histories.{all_of, document, refusals, tail_for, unfinished}
