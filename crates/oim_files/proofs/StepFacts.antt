@@ -41,7 +41,7 @@ use Rattle.oim_entries.specs.declared.fault.MetaFault.TheVariants as refused
 use Rattle.oim_files.proofs.MetadataFacts.{report_taken, url_taken}
 use Rattle.oim_files.specs.Folders.{Files}
 use Rattle.oim_files.specs.Metadata.{front_within, profile, report_result, url_result}
-use Rattle.oim_files.specs.Steps.{IsAmong, IsParameters, IsReport, Passes, Step, Stops, Takes, TakesTo, bytes_at, front_at, looking, metadata_steps, missing, opening, parameters_at, parameters_of, parameters_steps, reading, report_at, step, types_at, types_steps, url_at, value_or, wrong}
+use Rattle.oim_files.specs.Steps.{GivesReport, IsAmong, IsParameters, Passes, Step, Stops, Takes, TakesTo, bytes_at, front_at, looking, metadata_steps, missing, opening, parameters_at, parameters_of, parameters_steps, reading, report_at, step, types_at, types_steps, url_at, value_or, wrong}
 use Rattle.oim_files.specs.declared.early_fault.EarlyFault.{EarlyFault}
 use Rattle.oim_files.specs.declared.early_fault.EarlyFault.TheVariants as early
 use Rattle.oim_files.specs.declared.early_fault.Source.{Source}
@@ -239,16 +239,16 @@ url_named : (files : Files) (meta items : List ℕ) (url : Option (List ℕ)) �
 url_named files meta items url is named = ap (value_or None) (sym (url_same files meta items is) ∙ named)
 
 module _ (files : Files) (base meta types : List ℕ) where
-  pub metadata_stops : (o : EarlyFault) → Stops (metadata_steps files meta) o → IsReport files base meta types (Err o)
+  pub metadata_stops : (o : EarlyFault) → Stops (metadata_steps files meta) o → GivesReport files base meta types (Err o)
   metadata_stops o s = stops_first (metadata_steps files meta) (from_types files base meta types) o s
 
-  pub types_stops : (items : List ℕ) (o : EarlyFault) → HasRead files meta items → Stops (types_steps files types) o → IsReport files base meta types (Err o)
+  pub types_stops : (items : List ℕ) (o : EarlyFault) → HasRead files meta items → Stops (types_steps files types) o → GivesReport files base meta types (Err o)
   types_stops items o read s =
       stops_later (metadata_steps files meta) (from_types files base meta types) o read.0
       (stops_first (types_steps files types) (from_url files base meta types) o s)
 
   pub url_stops : (items : List ℕ) (known : TypesValue) (o : EarlyFault) → HasRead files meta items → HasTypes files types known
-      → Stops (looking (url_result profile items) ∷ []) o → IsReport files base meta types (Err o)
+      → Stops (looking (url_result profile items) ∷ []) o → GivesReport files base meta types (Err o)
   url_stops items known o read typed s =
       stops_later (metadata_steps files meta) (from_types files base meta types) o read.0
       (stops_later (types_steps files types) (from_url files base meta types) o typed.0
@@ -256,7 +256,7 @@ module _ (files : Files) (base meta types : List ℕ) where
       (subst (λ w. Stops (looking w ∷ []) o) (url_same files meta items read.1) s)))
 
   pub parameters_stops : (items : List ℕ) (known : TypesValue) (url : Option (List ℕ)) (o : EarlyFault) → HasRead files meta items → HasTypes files types known → HasUrl items url
-      → Stops (parameters_steps files base url) o → IsReport files base meta types (Err o)
+      → Stops (parameters_steps files base url) o → GivesReport files base meta types (Err o)
   parameters_stops items known url o read typed named s =
       stops_later (metadata_steps files meta) (from_types files base meta types) o read.0
       (stops_later (types_steps files types) (from_url files base meta types) o typed.0
@@ -280,7 +280,7 @@ module _ (files : Files) (base meta types : List ℕ) where
   pub report_ends : (items : List ℕ) (known : TypesValue) (url : Option (List ℕ)) (given : ParametersValue) (result : Result ReportValue EarlyFault)
       → HasRead files meta items → HasTypes files types known → HasUrl items url → HasParameters files base url given
       → TakesTo (looking (report_result profile given known items) ∷ []) (report_result profile given known items) result
-      → IsReport files base meta types result
+      → GivesReport files base meta types result
   report_ends items known url given result read typed named parameters takes =
       last result (subst (λ w. TakesTo {X = ReportValue} (looking w ∷ []) w result) (report_same items known url given read typed named parameters) takes)
     where
@@ -291,7 +291,7 @@ module _ (files : Files) (base meta types : List ℕ) where
       found = subst (λ u. Passes (parameters_steps files base u)) (sym (url_named files meta items url read.1 named.1)) parameters.0
 
       last : (result : Result ReportValue EarlyFault) → TakesTo (from_report files base meta types) (report_at files base meta types) result
-          → IsReport files base meta types result
+          → GivesReport files base meta types result
       last (Ok r) takes = (
         passes_both (metadata_steps files meta) (from_types files base meta types) read.0
             (passes_both (types_steps files types) (from_url files base meta types) typed.0
@@ -307,30 +307,30 @@ module _ (files : Files) (base meta types : List ℕ) where
 
 -- the same, for a folder that tells its files
 pub metadata_stop : (told : Option Files) (base meta types : List ℕ) (o : EarlyFault) → IfSome told (λ files. Stops (metadata_steps files meta) o)
-    → IfSome told (λ files. IsReport files base meta types (Err o))
+    → IfSome told (λ files. GivesReport files base meta types (Err o))
 metadata_stop None base meta types o s = tt
 metadata_stop (Some files) base meta types o s = metadata_stops files base meta types o s
 
 pub types_stop : (told : Option Files) (base meta types items : List ℕ) (o : EarlyFault) → IfSome told (λ files. HasRead files meta items)
-    → IfSome told (λ files. Stops (types_steps files types) o) → IfSome told (λ files. IsReport files base meta types (Err o))
+    → IfSome told (λ files. Stops (types_steps files types) o) → IfSome told (λ files. GivesReport files base meta types (Err o))
 types_stop None base meta types items o read s = tt
 types_stop (Some files) base meta types items o read s = types_stops files base meta types items o read s
 
 pub url_stop : (told : Option Files) (base meta types items : List ℕ) (known : TypesValue) (o : EarlyFault) → IfSome told (λ files. HasRead files meta items)
-    → IfSome told (λ files. HasTypes files types known) → Stops (looking (url_result profile items) ∷ []) o → IfSome told (λ files. IsReport files base meta types (Err o))
+    → IfSome told (λ files. HasTypes files types known) → Stops (looking (url_result profile items) ∷ []) o → IfSome told (λ files. GivesReport files base meta types (Err o))
 url_stop None base meta types items known o read typed s = tt
 url_stop (Some files) base meta types items known o read typed s = url_stops files base meta types items known o read typed s
 
 pub parameters_stop : (told : Option Files) (base meta types items : List ℕ) (known : TypesValue) (url : Option (List ℕ)) (o : EarlyFault) → IfSome told (λ files. HasRead files meta items)
     → IfSome told (λ files. HasTypes files types known) → HasUrl items url → IfSome told (λ files. Stops (parameters_steps files base url) o)
-    → IfSome told (λ files. IsReport files base meta types (Err o))
+    → IfSome told (λ files. GivesReport files base meta types (Err o))
 parameters_stop None base meta types items known url o read typed named s = tt
 parameters_stop (Some files) base meta types items known url o read typed named s = parameters_stops files base meta types items known url o read typed named s
 
 pub report_stop : (told : Option Files) (base meta types items : List ℕ) (known : TypesValue) (url : Option (List ℕ)) (given : ParametersValue) (result : Result ReportValue EarlyFault)
     → IfSome told (λ files. HasRead files meta items) → IfSome told (λ files. HasTypes files types known) → HasUrl items url → IfSome told (λ files. HasParameters files base url given)
     → TakesTo (looking (report_result profile given known items) ∷ []) (report_result profile given known items) result
-    → IfSome told (λ files. IsReport files base meta types result)
+    → IfSome told (λ files. GivesReport files base meta types result)
 report_stop None base meta types items known url given result read typed named parameters takes = tt
 report_stop (Some files) base meta types items known url given result read typed named parameters takes =
     report_ends files base meta types items known url given result read typed named parameters takes

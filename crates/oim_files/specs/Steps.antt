@@ -144,5 +144,5 @@ abbrev pub IsParameters : Files → List ℕ → Option (List ℕ) → Result Pa
 IsParameters files base url result = TakesTo (parameters_steps files base url) (parameters_at files base url) result
 
 -- the report that the files give, or the step at which reading them ends
-abbrev pub IsReport : Files → (base meta types : List ℕ) → Result ReportValue EarlyFault → Type 0
-IsReport files base meta types result = TakesTo (steps files base meta types) (report_at files base meta types) result
+abbrev pub GivesReport : Files → (base meta types : List ℕ) → Result ReportValue EarlyFault → Type 0
+GivesReport files base meta types result = TakesTo (steps files base meta types) (report_at files base meta types) result

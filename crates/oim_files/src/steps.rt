@@ -6,7 +6,7 @@ ghost use Rattle.std.specs.IoError.{error_kind};
 ghost use Rattle.serde_json.specs.View.{view};
 ghost use Rattle.oim_meta.specs.Reading.{Reads};
 ghost use Rattle.oim_files.specs.Metadata.{front_within, profile, report_in as said_in};
-ghost use Rattle.oim_files.specs.Steps.{IsAmong, IsParameters, IsReport, IsTypes, Takes, TakesTo, bytes_at, front_at, looking, metadata_steps, opening, url_of};
+ghost use Rattle.oim_files.specs.Steps.{GivesReport, IsAmong, IsParameters, IsTypes, Takes, TakesTo, bytes_at, front_at, looking, metadata_steps, opening, url_of};
 ghost use Rattle.oim_files.specs.declared.early_fault.EarlyFault.TheVariants as early;
 ghost use Rattle.oim_files.specs.declared.early_fault.Source.TheVariants as source;
 ghost use Rattle.oim_entries.specs.declared.fault.MetaFault.TheVariants as refused;
@@ -218,7 +218,7 @@ pub fn report_of<R: Read + Drop, F: Folder<R>>(
     types: &str,
 ) -> Result<Report, EarlyFault>
     ensures same { F.files folder.new ≡ F.files folder.old }
-    ensures gives { IfSome (F.files folder.old) (λ files. IsReport files base.now meta.now types.now result) }
+    ensures gives { IfSome (F.files folder.old) (λ files. GivesReport files base.now meta.now types.now result) }
 {
     let bytes = match metadata_at(alloc, folder, meta) {
         Ok(bytes) => bytes,

@@ -3,9 +3,8 @@ use Rattle.std.proofs.Common.{◌≡◌, ◌∙◌, ◌⊎◌, ℕ, zero, suc, L
 use Rattle.std.specs.Prelude.{⊤}
 use Rattle.csv.specs.Records.{fields_of}
 use Rattle.oim_files.specs.Folders.{Files, IsFolderOf}
-use Rattle.oim_records.specs.Reads.{IsFileOf}
 use Rattle.oim_files.specs.Metadata.{profile}
-use Rattle.oim_files.specs.Steps.{IsReport}
+use Rattle.oim_files.specs.Steps.{GivesReport}
 use Rattle.oim_records.specs.Grids.{Record, grid}
 use Rattle.oim_report.specs.ReportValue.{ReportValue}
 use Rattle.oim_resolve.specs.FactParts.{FactParts as Fact}
@@ -14,9 +13,8 @@ use Rattle.oim_decode.specs.Blocks.{GivesBlock, ReadsRows}
 use Rattle.oim_rows.specs.Streams.{IsOutside, Stream, ending, stream_of}
 use Rattle.oim_rows.specs.declared.fault.TableFault.{TableFault}
 use Rattle.oim_places.specs.Reports.{IsReportOf}
-use Rattle.oim_places.specs.FaultPlaces.{EndsStream, HasRecordOf, HasRow, IsPlaceAt, IsRowAt, IsTableFault, column_text, fault_of_file, is_of_file, row_or_empty, unknown_place}
+use Rattle.oim_places.specs.FaultPlaces.{EndsStream, HasRecordOf, IsPlaceAt, IsRowAt, IsTableFault, column_text, fault_of_file, is_of_file, row_or_empty, unknown_place}
 use Rattle.oim_places.specs.FolderFiles.{FoundAt, HoldsAt}
-use Rattle.oim_places.specs.state.FaultPlaces.{ReadsFault}
 use Rattle.oim_places.specs.LineNumbers.{IsLineOf}
 use Rattle.oim_places.specs.declared.fault_places.FaultPlace.{FaultPlace}
 use Rattle.oim_places.specs.declared.records.RowAgain.{RowAgain}
@@ -85,38 +83,6 @@ header_found report table None e is = tt
 header_found report table (Some bytes) e (inl outside) = inl outside
 header_found report table (Some bytes) e (inr is) = inr (ap (λ (x : Stream). x.fault) (refused report table profile.rows (grid bytes) e is))
 
--- ---- the file
-
--- a reader of a folder's file tells its bytes
-opened : {R : Type 0} (told : R → Option (List ℕ)) (reader : R) (file : Option (List ℕ)) → IsFileOf told (Some reader) file → (bytes : List ℕ) × (file ≡ Some bytes) × (told reader ≡ Some bytes)
-opened told reader None is = absurd is
-opened told reader (Some bytes) is = (bytes, refl, is)
-
--- the file is opened once more, after its fault was found
-pub opened_again : {R : Type 0} (told : R → Option (List ℕ)) (one : R) (two : Option R) (known : Option Files) (path : List ℕ) (report : ReportValue) (f : TableFault)
-    → IfSome known (λ at. IsFileOf told (Some one) (at path)) → IfSome (told one) (λ bytes. IsTableFault report f.table bytes f) → IfSome known (λ at. IsFileOf told two (at path))
-    → IfSome two (λ reader. FoundAt known path (ReadsFault (told reader) report f))
-opened_again told one None known path report f first found second = tt
-opened_again told one (Some reader) None path report f first found second = tt
-opened_again told one (Some reader) (Some files) path report f first found second =
-    let before = opened told one (files path) first in
-    let after = opened told reader (files path) second in
-    let same : Some after.0 ≡ Some before.0 = sym after.1 ∙ before.1 in
-    (after.0, after.1, (after.2, subst (λ o. IfSome o (λ bytes. IsTableFault report f.table bytes f)) (before.2 ∙ sym same) found))
-
-pub with_record : {R E : Type 0} (told : R → Option (List ℕ)) (reader : R) (known : Option Files) (path : List ℕ) (report : ReportValue) (f : TableFault) (r : Result (Option RowAgain) E)
-    → IfOk r (λ o. IfSome o (λ a. IfSome (told reader) (λ bytes. HasRow (grid bytes) f.row (fields_of a.header) (fields_of a.row))))
-    → FoundAt known path (ReadsFault (told reader) report f)
-    → IfOk r (λ o. IfSome o (λ a. FoundAt known path (HasRecordOf report f a)))
-with_record told reader known path report f (Err e) row found = tt
-with_record told reader known path report f (Ok None) row found = tt
-with_record told reader None path report f (Ok (Some a)) row found = tt
-with_record told reader (Some files) path report f (Ok (Some a)) row found = (
-  found.0,
-  found.1,
-  (subst (λ o. IfSome o (λ bytes. HasRow (grid bytes) f.row (fields_of a.header) (fields_of a.row))) found.2.0 row, found.2.1),
-)
-
 -- ---- what stands there
 
 row_is : (records : List Record) (number : ℕ) (row : Record) → IsRowAt records number row → row_or_empty records number ≡ row
@@ -167,7 +133,7 @@ places_found known before path report f found a (Ok p) some is same has h c l =
 
 -- ---- the report
 
-pub report_is : (known : Option Files) (base meta types : List ℕ) (r : ReportValue) → IsFolderOf base meta → IfSome known (λ files. IsReport files base meta types (Ok r))
+pub report_is : (known : Option Files) (base meta types : List ℕ) (r : ReportValue) → IsFolderOf base meta → IfSome known (λ files. GivesReport files base meta types (Ok r))
     → IfSome known (λ files. IsReportOf files meta types r)
 report_is None base meta types r folder is = tt
 report_is (Some files) base meta types r folder is = (base, folder, is.1)

@@ -4,12 +4,10 @@ use Rattle.std.proofs.lemmas.Option.{IfSome_then, slice_get_past}
 use Rattle.csv.proofs.RoundTrip.{read-write-many}
 use Rattle.csv.specs.Writing.{default_writer, row_text}
 use Rattle.oim_records.specs.Grids.{Field, Record, grid}
-use Rattle.oim_records.specs.Reads.{IsFileOf, TakesRecord}
+use Rattle.oim_records.specs.Reads.{TakesRecord}
 use Rattle.oim_places.specs.FaultPlaces.{HasRow}
-use Rattle.oim_places.specs.FolderFiles.{FoundAt, FoundIn}
 use Rattle.oim_places.specs.state.FaultPlaces.{TakesNth}
 use Rattle.oim_places.specs.FaultRows.{IsRecordText}
-use Rattle.oim_files.specs.Folders.{Files}
 
 -- a record of at least two fields, as it is written
 pub text_of_record : (x y : Field) (more : Record) (text : List ℕ) → text ≡ row_text default_writer (x ∷ y ∷ more) → IsRecordText (x ∷ y ∷ more) text
@@ -87,14 +85,3 @@ pub rows_of_file : {E : Type 0} (told : Option (List ℕ)) (records : Option (Li
 rows_of_file None records h r number (Ok found) is has = λ yes. tt
 rows_of_file (Some bytes) records h r number (Ok found) is has = λ yes. subst (λ o. IfSome o (λ left. HasRow left number h r)) is (has yes)
 rows_of_file told records h r number (Err e) is has = tt
-
--- the header and a row of the file that a reader was opened for
-pub has_row_in : {R : Type 0} (told : R → Option (List ℕ)) (reader : R) (known : Option Files) (path : List ℕ) (number : ℕ) (h r : Record)
-    → IfSome known (λ at. IsFileOf told (Some reader) (at path)) → IfSome (told reader) (λ bytes. HasRow (grid bytes) number h r)
-    → FoundAt known path (λ bytes. HasRow (grid bytes) number h r)
-has_row_in told reader None path number h r opens row = tt
-has_row_in told reader (Some files) path number h r opens row = by (files path) refl opens
-  where
-    by : (o : Option (List ℕ)) → files path ≡ o → IsFileOf told (Some reader) o → FoundIn files path (λ bytes. HasRow (grid bytes) number h r)
-    by None e is = absurd is
-    by (Some bytes) e is = (bytes, e, subst (λ k. IfSome k (λ bytes. HasRow (grid bytes) number h r)) is row)

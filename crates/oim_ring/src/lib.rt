@@ -46,6 +46,3 @@ pub use drain::{Drain, Drained};
 pub use feed::{CloseFault, Closed, Feed};
 pub use item::{Ending, Item};
 pub use opening::{LARGEST_RING, Lanes, lane};
-
-#[cfg(test)]
-mod tests;

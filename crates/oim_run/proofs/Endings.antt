@@ -28,7 +28,7 @@ use Rattle.oim_files.specs.Folders.{Files, IsFolderOf, first_at}
 use Rattle.oim_run.specs.state.Naming.{outcome_by, table_ids}
 use Rattle.oim_run.specs.Outcomes.{EndsAs, Leaves}
 use Rattle.oim_run.specs.Runs.{EndsOver, files_of, range_fault, table_file, table_files}
-use Rattle.oim_files.specs.Steps.{IsReport}
+use Rattle.oim_files.specs.Steps.{GivesReport}
 use Rattle.oim_files.specs.declared.early_fault.EarlyFault.{EarlyFault}
 use Rattle.oim_files.specs.declared.early_fault.EarlyFault.TheVariants as early
 use Rattle.oim_run.specs.Early.{no_memory, outcome_of}
@@ -121,7 +121,7 @@ over_held p q r a b x metadata types table P one two three given =
 
 -- a run that stops before the conversion
 pub stops : (known : Option Files) (base meta types : List ℕ) (workers ring : ℕ) (layout : Layout) (sink : SinkView) (e : EarlyFault) (o : Outcome) → IsFolderOf base meta
-    → IfSome known (λ files. IsReport files base meta types (Err e)) → o ≡ outcome_of e
+    → IfSome known (λ files. GivesReport files base meta types (Err e)) → o ≡ outcome_of e
     → IfSome known (λ files. EndsOver files meta types workers ring layout sink sink o)
 stops None base meta types workers ring layout sink e o folder stop told = tt
 stops (Some files) base meta types workers ring layout sink e o folder stop told =
@@ -158,7 +158,7 @@ short_end (Some files) base workers ring layout sink o report none =
 
 -- a run that has its report
 pub runs : (known : Option Files) (base meta types : List ℕ) (workers ring : ℕ) (layout : Layout) (old new : SinkView) (o : Outcome) (report : ReportValue) → IsFolderOf base meta
-    → IfSome known (λ files. IsReport files base meta types (Ok report))
+    → IfSome known (λ files. GivesReport files base meta types (Ok report))
     → IfSome known (λ files. EndsAs workers layout (range_fault workers ring) report (streams report profile.rows (table_files files base report)) old new o)
     → IfSome known (λ files. EndsOver files meta types workers ring layout old new o)
 runs None base meta types workers ring layout old new o report folder is ends = tt

@@ -3,10 +3,10 @@
 
 ghost use Rattle.oim_ring.specs.Limits.{IsRingSize};
 
-use crate::{CloseFault, Drain, Ending, Feed, Item, Lanes};
 use oim_json::{Block, block_of};
 use oim_names::{Items, Text};
 use oim_resolve::Fact;
+use oim_ring::{CloseFault, Drain, Ending, Feed, Item, Lanes};
 use std::alloc::{AllocError, Global};
 use std::sync::Wait;
 use std::sync::atomic::{AtomicUsize, Ordering};
