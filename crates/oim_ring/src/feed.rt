@@ -210,6 +210,11 @@ impl Feed {
         self.backlog.wait(rt);
     }
 
+    /// Whether `wait_for_turn` would wait now. No clause says so.
+    pub fn is_held(&self) -> bool {
+        self.backlog.is_held()
+    }
+
     /// Whether the writer has reached this feed's table. No clause says so.
     pub fn is_reached(&self) -> bool {
         self.backlog.is_reached()
@@ -224,11 +229,5 @@ impl Feed {
     /// A vector that a feed or a drain of the report gave back, with what it held, if one is kept. No clause says which.
     pub fn kept_room<R: Wait>(&self, rt: &R) -> Option<Vec<u8>> {
         self.backlog.kept_room(rt)
-    }
-
-    /// Whether `wait_for_turn` would wait now.
-    #[cfg(test)]
-    pub(crate) fn is_held(&self) -> bool {
-        self.backlog.is_held()
     }
 }
