@@ -1,5 +1,5 @@
 -- The masks of a block, by the Bools of its bytes.
-use Rattle.std.proofs.Common.{◌≡◌, ℕ, suc, ◌+◌, ◌^◌, ◌<◌, Bool, true, false, cond, List, map, length, get_or, refl, sym, ap, ap₂, ◌∙◌, subst, arith}
+use Rattle.std.proofs.Common.{◌≡◌, ℕ, zero, suc, ◌+◌, ◌^◌, ◌<◌, ◌≤◌, Bool, true, false, cond, List, map, length, get_or, refl, sym, ap, ap₂, ◌∙◌, subst, arith}
 use Rattle.std.specs.Prelude.{◌&&◌}
 use Rattle.std.specs.Simd.Lanes.{mask_l}
 use Rattle.std.proofs.Math.ListN.{get_or-map}
@@ -10,7 +10,7 @@ use Rattle.oim_records.specs.state.Blocks.{but, firsts, is_opener}
 use Rattle.oim_records.specs.state.Bytes.{ends_line, is_quote}
 use Rattle.oim_records.proofs.BlockLists.{end-at, first-at, inside-along, length-firsts, length-line_ends, length-strays, stray-at}
 use Rattle.oim_records.proofs.BlockWalks.{insides, line_ends, strays}
-use Rattle.oim_records.proofs.WordBits.{Shows, differ_comm, differ_swap, flip, mask-shown, moved-in, set-and, set-but, set-mask_l, set-xor, shl}
+use Rattle.oim_records.proofs.WordBits.{Shows, differ_comm, differ_swap, flip, mask-shown, moved-in, set-and, set-but, set-mask_l, set-none, set-xor, shl}
 
 moved-small : (m : ℕ) (b : Bool) → bit_or (shl 1 m) (cond b 1 0) < 2 ^ 64
 moved-small m b = or_lt 64 (shl 1 m) (cond b 1 0) (omega arith) (at b)
@@ -41,6 +41,19 @@ inside-shown inside xs quotes odd all long is up same k lt =
         here (suc i) l ∙ differ_swap (is_odd_below quotes (suc i)) (is_set quotes (suc i)) inside
         ∙ ap (λ b. differ b (is_set quotes (suc i))) (sym (here i (omega arith)))
 
+-- of no quotes an odd number is never seen
+odd-none : (n : ℕ) → n ≤ 64 → is_odd_below 0 n ≡ false
+unfolding is_odd_below
+odd-none zero le = refl
+odd-none (suc k) le = ap₂ differ (odd-none k (omega arith)) (set-none k (omega arith))
+
+-- where no quote is among the bytes, all are inside quotes, or none
+pub plain-shown : (inside : Bool) (xs : List ℕ) (quotes all : ℕ) → length xs ≡ 64 → quotes ≡ mask_l (map is_quote xs) → quotes ≡ 0
+    → ((k : ℕ) → k < 64 → is_set all k ≡ inside) → Shows all (insides inside xs)
+plain-shown inside xs quotes all long is none same k lt =
+    sym (set-xor 0 all k ∙ ap (λ b. differ b (is_set all k)) (set-none k lt))
+    ∙ inside-shown inside xs quotes 0 all long is (λ i l. set-none i l ∙ sym (ap (λ n. is_odd_below n (i + 1)) none ∙ odd-none (i + 1) (omega arith))) same k lt
+
 -- the quotes that would open quotes where none can
 pub strays-masked : (inside ready : Bool) (xs : List ℕ) (quotes openers m : ℕ) → length xs ≡ 64 → quotes ≡ mask_l (map is_quote xs) → openers ≡ mask_l (map is_opener xs)
     → quotes < 2 ^ 64 → Shows m (insides inside xs) → bit_and (bit_and quotes m) (flip (bit_or (shl 1 openers) (cond ready 1 0))) ≡ mask_l (strays inside ready xs)
@@ -52,6 +65,15 @@ strays-masked inside ready xs quotes openers m long is starts small shows =
   where
     before : ℕ
     before = bit_or (shl 1 openers) (cond ready 1 0)
+
+-- no quotes open quotes
+pub no-strays : (inside ready : Bool) (xs : List ℕ) (quotes m : ℕ) → length xs ≡ 64 → quotes ≡ mask_l (map is_quote xs) → quotes ≡ 0
+    → Shows m (insides inside xs) → mask_l (strays inside ready xs) ≡ 0
+no-strays inside ready xs quotes m long is none shows =
+    let starts = mask_l (map is_opener xs) in
+    let before = bit_or (shl 1 starts) (cond ready 1 0) in
+    let masked = strays-masked inside ready xs quotes starts m long is refl (omega (arith, none)) shows in
+    omega (arith, and_le_l (bit_and quotes m) (flip before), and_le_l quotes m, none, masked)
 
 -- the ends of lines outside quotes
 pub ends-masked : (inside : Bool) (xs : List ℕ) (lines m : ℕ) → length xs ≡ 64 → lines ≡ mask_l (map ends_line xs) → lines < 2 ^ 64 → m < 2 ^ 64 → Shows m (insides inside xs)
