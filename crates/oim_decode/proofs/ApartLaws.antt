@@ -20,7 +20,7 @@ use Rattle.oim_rows.specs.declared.fault.TableKind.TheVariants as kind
 -- A ROW
 
 -- the fault of an identifier that came before
-abbrev repeats_at : ℕ → Option ℕ → ℕ → List Field → Record → Option TableFault
+abbrev pub repeats_at : ℕ → Option ℕ → ℕ → List Field → Record → Option TableFault
 repeats_at table None n before r = None
 repeats_at table (Some p) n before r = if list_any (bytes_eq (unwrap_or (field_at r p) [])) before then Some (fault_at table n (p + 1) kind.RepeatedRowId) else None
 
@@ -41,7 +41,7 @@ id_fault-apart g (Some p) n before r = by (is_empty f) (is_row_identifier f) (li
     by false false a = refl
 
 -- the fault of a row apart from its cells: what it has by itself, and then an identifier that came before
-row_fault-apart : (g : TableHeaderValue) (n : ℕ) (before : List Field) (r : Record) → row_fault g n before r ≡ or_else (row_fault g n [] r) (repeats_at g.table (id_place_of g) n before r)
+pub row_fault-apart : (g : TableHeaderValue) (n : ℕ) (before : List Field) (r : Record) → row_fault g n before r ≡ or_else (row_fault g n [] r) (repeats_at g.table (id_place_of g) n before r)
 row_fault-apart g n before r =
     by (ragged_fault g n r) (text_fault g n r) (limit_fault g n) (id_fault g (id_place_of g) n [] r) (id_fault g (id_place_of g) n before r)
     (repeats_at g.table (id_place_of g) n before r) (id_fault-apart g (id_place_of g) n before r)

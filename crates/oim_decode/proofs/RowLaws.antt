@@ -7,9 +7,9 @@ use Rattle.oim_resolve.specs.FactParts.{FactParts as Fact}
 use Rattle.oim_fast.specs.Facts.{facts_of_row}
 use Rattle.oim_row.specs.Rows.{RowValue}
 use Rattle.oim_rows.specs.RowFacts.{IsTextRecord, field_or_empty, TableHeaderValue, checked, facts_from, id_fault, id_place_of, ids_after, is_not_text, limit_fault, ragged_fault, row_fault, row_of, row_result, text_fault}
-use Rattle.oim_rows.specs.state.RowFacts.{IsNewId}
 use Rattle.oim_rows.specs.Header.{fault_at, or_else}
 use Rattle.oim_rows.specs.declared.fault.TableKind.TheVariants as kind
+use Rattle.std.specs.Prelude.{if◌then◌else◌, not}
 use Rattle.std.specs.List.{list_any, position_from}
 use Rattle.std.specs.Str.{bytes_eq}
 use Rattle.oim_rows.specs.Streams.{OrNoMemory, Stream, IsOutside, fault_of_read, stream_from}
@@ -18,6 +18,7 @@ use Rattle.oim_rows.proofs.StreamLaws.{gives_end, gives_fault, gives_row, outsid
 use Rattle.oim_rows.specs.declared.fault.TableFault.{TableFault}
 use Rattle.oim_decode.specs.state.Blocks.{AddsNone, AddsRow, CountsRow, TakesOne, has_row}
 use Rattle.oim_decode.specs.state.RowTexts.{AddsFacts, facts_of_answer}
+use Rattle.oim_decode.proofs.ApartLaws.{repeats_at, row_fault-apart}
 
 pub known : {A : Type 0} (o : Option A) → IfSome o (λ _. Unit {0})
 known None = tt
@@ -43,9 +44,40 @@ text_row g n ids r none =
     by None that = refl
     by (Some p) that = cc that
 
--- the identifier at a place
-pub new_id : (o : Option ℕ) (p : ℕ) (ids : List Field) (r : Record) (id : Field) → o ≡ Some p → id ≡ field_or_empty r (Some p) → IsNewId o ids r → list_any (bytes_eq id) ids ≡ false
-new_id o p ids r id is text new = rw text (rw is at new)
+-- what a row has by itself comes before what it has by its identifier
+own_first : (g : TableHeaderValue) (n : ℕ) (ids : List Field) (r : Record) (e : TableFault) → row_fault g n [] r ≡ Some e → row_fault g n ids r ≡ Some e
+own_first g n ids r e is = row_fault-apart g n ids r ∙ ap (λ o. or_else o (repeats_at g.table (id_place_of g) n ids r)) is
+
+-- the fault of a row that has none by itself: that its identifier came before
+repeats_alone : (g : TableHeaderValue) (o : Option ℕ) (n : ℕ) (ids : List Field) (r : Record) → row_fault g n [] r ≡ None → id_place_of g ≡ o → row_fault g n ids r ≡ repeats_at g.table o n ids r
+repeats_alone g o n ids r none is =
+    row_fault-apart g n ids r ∙ ap (λ q. or_else q (repeats_at g.table (id_place_of g) n ids r)) none ∙ ap (λ q. repeats_at g.table q n ids r) is
+
+-- without a column for identifiers none comes twice
+pub new_without : (g : TableHeaderValue) (n : ℕ) (ids : List Field) (r : Record) → row_fault g n [] r ≡ None → id_place_of g ≡ None → row_fault g n ids r ≡ None
+new_without g n ids r none is = repeats_alone g None n ids r none is
+
+-- whether the identifier at a place came before
+module _ (g : TableHeaderValue) (n p : ℕ) (ids : List Field) (r : Record) (id : Field) (none : row_fault g n [] r ≡ None) (is : id_place_of g ≡ Some p) (text : id ≡ field_or_empty r (Some p)) where
+  told : (b : Bool) → list_any (bytes_eq id) ids ≡ b → row_fault g n ids r ≡ (if b then Some (fault_at g.table n (p + 1) kind.RepeatedRowId) else None)
+  told b came =
+      repeats_alone g (Some p) n ids r none is
+      ∙ ap (λ (f : Field). if list_any (bytes_eq f) ids then Some (fault_at g.table n (p + 1) kind.RepeatedRowId) else None) (sym text)
+      ∙ ap (λ c. if c then Some (fault_at g.table n (p + 1) kind.RepeatedRowId) else None) came
+
+  pub new_id : true ≡ not (list_any (bytes_eq id) ids) → row_fault g n ids r ≡ None
+  new_id came = told false (by (list_any (bytes_eq id) ids) came)
+    where
+      by : (b : Bool) → true ≡ not b → b ≡ false
+      by true no = cc no
+      by false yes = refl
+
+  pub repeated_id : false ≡ not (list_any (bytes_eq id) ids) → row_fault g n ids r ≡ Some (fault_at g.table n (p + 1) kind.RepeatedRowId)
+  repeated_id came = told true (by (list_any (bytes_eq id) ids) came)
+    where
+      by : (b : Bool) → false ≡ not b → b ≡ true
+      by true yes = refl
+      by false no = cc no
 
 pub kept_id : (o : Option ℕ) (p : ℕ) (ids after : List Field) (r : Record) (id : Field) → o ≡ Some p → id ≡ field_or_empty r (Some p) → after ≡ ids ++ id ∷ [] → after ≡ ids_after o ids r
 kept_id o p ids after r id is text more = more ∙ ap (λ (x : Field). ids ++ x ∷ []) text ∙ ap (λ q. ids_after q ids r) (sym is)
@@ -104,7 +136,7 @@ bad_row_taken table (Some rs) new r e took = inl (one_taken rs r new took)
 -- an answer that a row has before its cells are read: the reader's fault, the end, or a fault of the row itself
 module _ (n : ℕ) (g : TableHeaderValue) (ids : List Field) (r : Record) (answer : Result Bool TableFault) where
   pub adds_early : (found : Result Bool ReadFault) (before : List Fact) (old new : Option (List Record)) (after : Option Stream) → IfOk found (λ b. TakesRecord old b r new)
-      → Some answer ≡ option_map has_row (early_row_answer g n ids found r)
+      → Some answer ≡ option_map has_row (early_row_answer g n [] found r)
       → IfSome (option_map (stream_from g n ids) old) (λ s. AddsRow g.table s before before answer after)
   adds_early (Err f) before old new after took is =
       let same : answer ≡ Err (fault_of_read g.table f) = cc is in
@@ -112,14 +144,14 @@ module _ (n : ℕ) (g : TableHeaderValue) (ids : List Field) (r : Record) (answe
   adds_early (Ok false) before old new after took is =
       let same : answer ≡ Ok false = cc is in
       rw same (adds_end g.table n g ids before old new r after took)
-  adds_early (Ok true) before old new after took is = by (row_fault g n ids r) refl is
+  adds_early (Ok true) before old new after took is = by (row_fault g n [] r) refl is
     where
-      by : (o : Option TableFault) → row_fault g n ids r ≡ o → Some answer ≡ option_map has_row (option_map Err o)
+      by : (o : Option TableFault) → row_fault g n [] r ≡ o → Some answer ≡ option_map has_row (option_map Err o)
           → IfSome (option_map (stream_from g n ids) old) (λ s. AddsRow g.table s before before answer after)
       by None own is = absurd (cc is)
       by (Some e) own is =
           let same : answer ≡ Err e = cc is in
-          rw same (adds_fault n g ids before before old new r e after took refl (own_fault g n ids r e own))
+          rw same (adds_fault n g ids before before old new r e after took refl (own_fault g n ids r e (own_first g n ids r e own)))
 
   -- then no row is counted
   pub none_counted : (found : Result Bool ReadFault) (limit given : ℕ) → Some answer ≡ option_map has_row (early_row_answer g n ids found r) → CountsRow limit answer given given

@@ -9,3 +9,4 @@ pub mod Colons
 pub mod Examples
 pub mod Searches
 pub mod AsciiNames
+pub mod ByteTables

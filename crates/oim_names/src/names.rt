@@ -16,6 +16,17 @@ static NAME_BYTES: [u8; 256] = *b"\
     ,,,,,,,,,,,,,,,,,,,,,,,,,,,,,,,,\
     ,,,,,,,,,,,,,,,,,,,,,,,,,,,,,,,,";
 
+// The same without the point.
+static PLAIN_BYTES: [u8; 256] = *b"\
+    ,,,,,,,,,,,,,,,,,,,,,,,,,,,,,,,,\
+    ,,,,,,,,,,,,,-,,0123456789,,,,,,\
+    ,ABCDEFGHIJKLMNOPQRSTUVWXYZ,,,,_\
+    ,abcdefghijklmnopqrstuvwxyz,,,,,\
+    ,,,,,,,,,,,,,,,,,,,,,,,,,,,,,,,,\
+    ,,,,,,,,,,,,,,,,,,,,,,,,,,,,,,,,\
+    ,,,,,,,,,,,,,,,,,,,,,,,,,,,,,,,,\
+    ,,,,,,,,,,,,,,,,,,,,,,,,,,,,,,,,";
+
 /// Whether a character may begin a name.
 #[tactic(auto, unfolding(crate::specs::Names::is_name_start))]
 #[inline(always)]
@@ -68,12 +79,11 @@ fn is_ascii_name_char(byte: u8) -> bool
 }
 
 /// Whether a byte is an ASCII character that may stand in an identifier.
-#[tactic(auto, unfolding(crate::specs::Names::is_plain_char))]
 #[inline(always)]
 fn is_ascii_plain_char(byte: u8) -> bool
     ensures { result ≡ (nat_lt byte 128 && plain_char byte) }
 {
-    is_ascii_name_char(byte) && byte != b'.'
+    PLAIN_BYTES[byte as usize] != b','
 }
 
 /// Whether all bytes are ASCII characters that may stand in a name.
@@ -155,6 +165,7 @@ fn is_ascii_row_identifier(text: &str) -> bool
 }
 
 /// Whether a text is an NCName, by its characters.
+#[inline(never)]
 fn is_ncname_by_chars(text: &str) -> bool
     ensures { result ≡ ncname text.now }
 {
@@ -166,6 +177,7 @@ fn is_ncname_by_chars(text: &str) -> bool
 }
 
 /// Whether a text is an identifier, by its characters.
+#[inline(never)]
 fn is_identifier_by_chars(text: &str) -> bool
     ensures { result ≡ identifier text.now }
 {
@@ -177,6 +189,7 @@ fn is_identifier_by_chars(text: &str) -> bool
 }
 
 /// Whether a text is the identifier of a row, by its characters.
+#[inline(never)]
 fn is_row_identifier_by_chars(text: &str) -> bool
     ensures { result ≡ row_identifier text.now }
 {

@@ -15,7 +15,7 @@ use Rattle.oim_rows.specs.declared.fault.TableKind.TheVariants as kind
 use Rattle.oim_decode.specs.Apart.{Apart, apart_from}
 use Rattle.oim_pieces.specs.state.Comings.{Comes}
 use Rattle.oim_pieces.specs.state.Cutting.{IsOver, TakesRows, left_over}
-use Rattle.oim_pieces.specs.Flights.{FewerSteps, GivesBlocks, IsEnd, steps_for, steps_left}
+use Rattle.oim_pieces.specs.Flights.{FewerSteps, GivesBlocks, steps_for, steps_left}
 use Rattle.oim_pieces.specs.state.Flights.{AreChained, FlyingPiece, GivesJoined, IsEndOfTable, IsFront, IsPieceAnswer, KeepsStream, NoMoreSteps, ReadsJoined, fault_or_left, first_row_of, rows_in, rows_left, steps_in, stream_in}
 use Rattle.oim_pieces.specs.declared.decoded.Asked.{Asked}
 use Rattle.oim_pieces.specs.declared.flying.Coming.TheVariants.{Here, Thread}
@@ -131,19 +131,6 @@ joined_to_its_fault = (refl, refl)
 
 ends : IsEndOfTable 0 (Some (ending None)) None × IsEndOfTable 0 (Some one) (Some read) × (IsEndOfTable 0 (Some one) None → ⊥)
 ends = (refl, inl refl, λ h. let counts : 1 ≡ 0 = ap (λ (s : Stream). length s.rows) h in absurd (omega (arith, counts)))
-
--- AFTER THE END: the same again
-abbrev no_blocks : Result (Option ℕ) TableFault
-no_blocks = Ok None
-
-abbrev some_blocks : Result (Option ℕ) TableFault
-some_blocks = Ok (Some 7)
-
-abbrev failed : Result (Option ℕ) TableFault
-failed = Err read
-
-ended_again : IsEnd None no_blocks × IsEnd (Some read) failed × (IsEnd (Some read) no_blocks → ⊥) × (IsEnd None failed → ⊥) × (IsEnd None some_blocks → ⊥)
-ended_again = (refl, refl, λ h. absurd (cc h), λ h. absurd (cc h), λ h. h)
 
 -- STEPS: three bytes that are not cut, and pieces under way
 three_and_two : (steps_for 2 (Some (codes "kkk")) ≡ Some 5) × (steps_for 2 None ≡ None)

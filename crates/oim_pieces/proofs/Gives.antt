@@ -2,26 +2,19 @@
 use Rattle.std.proofs.Common.{◌≡◌, ◌⊎◌, ◌++◌, ℕ, List, [], Option, Some, None, IfSome, IfNone, IfOk, IfErr, IsSome, Result, Ok, Err, refl, sym, ap, subst, ◌∙◌, append-nil, inl, inr}
 use Rattle.oim_resolve.specs.FactParts.{FactParts as Fact}
 use Rattle.oim_rows.specs.Header.{file_fault}
-use Rattle.oim_rows.specs.Streams.{IsOutside, Stream, ending, facts_of_rows}
+use Rattle.oim_rows.specs.Streams.{IsOutside, Stream, answer_of, ending, facts_of_rows}
 use Rattle.oim_rows.specs.declared.fault.TableFault.{TableFault}
 use Rattle.oim_rows.specs.declared.fault.TableKind.TheVariants as kind
 use Rattle.oim_decode.specs.Blocks.{GivesBlock, KeepsAnswer, ReadsRows}
 use Rattle.oim_decode.specs.state.Blocks.{end_or_left}
 use Rattle.oim_decode.proofs.Advances.{broken_off}
-use Rattle.oim_pieces.specs.Flights.{FewerSteps, IsEnd, steps_for}
+use Rattle.oim_pieces.specs.Flights.{FewerSteps, steps_for}
 use Rattle.oim_pieces.specs.state.Flights.{IsEndOfTable, KeepsStream, fault_or_left}
 
 -- the end, or a fault, is kept
-pub end_kept : {A : Type 0} (r : Result (Option A) TableFault) (o : Option TableFault) → IsEnd o r → KeepsAnswer r (Some o)
-end_kept (Ok (Some v)) o is = absurd is
-end_kept (Ok None) o is = ap (λ p. one p) is
-  where
-    one : Option TableFault → Option (Option TableFault)
-    one p = Some p
-end_kept (Err e) o is = ap (λ p. one p) is
-  where
-    one : Option TableFault → Option (Option TableFault)
-    one p = Some p
+pub end_kept : {A : Type 0} (r : Result (Option A) TableFault) (o : Option TableFault) → r ≡ answer_of o → KeepsAnswer r (Some o)
+end_kept r None is = rw is refl
+end_kept r (Some e) is = rw is refl
 
 pub given_kept : {A : Type 0} (r : Result (Option A) TableFault) (answered : Option (Option TableFault)) → IfOk r (λ o. IsSome o) → IfErr r (λ e. answered ≡ Some (Some e))
     → KeepsAnswer r answered
@@ -30,10 +23,9 @@ given_kept (Ok None) answered some fault = absurd (cc some)
 given_kept (Err e) answered some fault = fault
 
 -- no blocks are given
-pub none_given : {A : Type 0} (r : Result (Option A) TableFault) (o : Option TableFault) (P : Type 0) → IsEnd o r → IfOk r (λ p. IfSome p (λ _. P))
-none_given (Ok (Some v)) o P is = absurd is
-none_given (Ok None) o P is = tt
-none_given (Err e) o P is = tt
+pub none_given : {A : Type 0} (r : Result (Option A) TableFault) (o : Option TableFault) (P : Type 0) → r ≡ answer_of o → IfOk r (λ p. IfSome p (λ _. P))
+none_given r None P is = rw is tt
+none_given r (Some e) P is = rw is tt
 
 -- a piece was joined, and its blocks were given
 pub moved : {A : Type 0} (r : Result (Option A) TableFault) (answered : Option (Option TableFault)) (before : Option ℕ) (under now : ℕ) (unread left : Option (List ℕ))

@@ -14,12 +14,6 @@ pub record PiecesLeft : Type 0 where
   pub under_way : ℕ
   pub unread : Option (List ℕ)
 
--- an answer is this end, or this fault
-abbrev pub IsEnd : {A : Type 0} → Option TableFault → Result (Option A) TableFault → Type 0
-IsEnd end (Ok (Some blocks)) = ⊥
-IsEnd end (Ok None) = end ≡ None
-IsEnd end (Err e) = end ≡ Some e
-
 -- blocks are the answer where this stream was left: some rows of it were read, whose facts they have, and this is left
 abbrev pub GivesBlocks : ℕ → Stream → List (List Fact) → Option Stream → Type 0
 GivesBlocks table s blocks left = GivesBlock table [] s (Ok (Some (facts_of_rows blocks))) [] left

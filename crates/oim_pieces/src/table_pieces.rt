@@ -4,9 +4,9 @@ ghost use Rattle.std.specs.Prelude.{◌≡◌, ◌⊎◌, ◌≤◌, ◌<◌, []
 ghost use Rattle.oim_decode.specs.Blocks.{GivesBlock, KeepsAnswer};
 ghost use Rattle.oim_records.specs.Grids.{grid};
 ghost use Rattle.oim_rows.specs.Header.{file_fault, file_header_fault};
-ghost use Rattle.oim_rows.specs.Streams.{IsOutside, ending, stream_of};
+ghost use Rattle.oim_rows.specs.Streams.{IsOutside, answer_of as answer_at_end, ending, stream_of};
 ghost use Rattle.oim_rows.specs.declared.fault.TableKind.TheVariants as kind;
-ghost use Rattle.oim_pieces.specs.Flights.{FewerSteps, GivesBlocks, IsEnd, steps_left};
+ghost use Rattle.oim_pieces.specs.Flights.{FewerSteps, GivesBlocks, steps_left};
 ghost use Rattle.oim_pieces.specs.state.Flights.{GivesJoined};
 
 use crate::flight::Flight;
@@ -117,7 +117,7 @@ impl<'a, R: Read + Drop> TablePieces<'a, R> {
 
         // What holds of any reader.
         ensures kept { KeepsAnswer result self.new.answered }
-        ensures again { IfSome self.old.answered (λ end. IsEnd end result × (self.new ≡ self.old)) }
+        ensures again { IfSome self.old.answered (λ end. (result ≡ answer_at_end end) × (self.new ≡ self.old)) }
 
         // The blocks are those of a piece, of which there is none without a byte, or the last.
         ensures moves { IfOk result (λ o. OnSome o (IsSome self.new.answered ⊎ FewerSteps (steps_left self.old) (steps_left self.new))) }
@@ -217,7 +217,7 @@ impl<'a, R: Read + Drop> TablePieces<'a, R> {
 fn answer_of(end: Option<TableFault>) -> Result<Option<Vec<Block>>, TableFault>
     ensures ok { IfOk result (λ o. IfNone o (end ≡ None) × IfSome o (λ _. ⊥)) }
     ensures err { IfErr result (λ e. end ≡ Some e) }
-    ensures end { IsEnd end result }
+    ensures end { result ≡ answer_at_end end }
 {
     match end {
         None => Ok(None),

@@ -265,7 +265,7 @@ answers_of_rows = (refl, refl)
 kept_answers : (kept_answer (Ok (Some [])) ≡ None) × (kept_answer (Ok None) ≡ Some None) × (kept_answer (Err (file_fault 0 kind.Read)) ≡ Some (Some (file_fault 0 kind.Read)))
 kept_answers = (refl, refl, refl)
 
-answers_again : (answer_of None ≡ Ok None) × (answer_of (Some (file_fault 0 kind.Read)) ≡ Err (file_fault 0 kind.Read))
+answers_again : (answer_of {A = List Fact} None ≡ Ok None) × (answer_of {A = List Fact} (Some (file_fault 0 kind.Read)) ≡ Err (file_fault 0 kind.Read))
 answers_again = (refl, refl)
 
 rows_left : (left_of None reading 1 [] (Some []) ≡ Some (ending None)) × (left_of None reading 1 [] None ≡ None) × (left_of (Some None) reading 1 [] (Some []) ≡ None)

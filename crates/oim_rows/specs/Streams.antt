@@ -87,7 +87,8 @@ kept_answer (Ok (Some facts)) = None
 kept_answer (Ok None) = Some None
 kept_answer (Err e) = Some (Some e)
 
-abbrev pub answer_of : Option TableFault → Result (Option (List Fact)) TableFault
+-- the answer of a table that has ended: its end, or its fault
+abbrev pub answer_of : {A : Type 0} → Option TableFault → Result (Option A) TableFault
 answer_of None = Ok None
 answer_of (Some e) = Err e
 

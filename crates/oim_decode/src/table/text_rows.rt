@@ -1,11 +1,10 @@
 //! The rows of one table that are not read yet.
 
-ghost use Rattle.std.specs.Prelude.{◌≡◌, ◌⊎◌, ◌≤◌, ◌<◌, ◌+◌, [], IfErr, IfOk, IfSome, None, OnErr, OnOk, Some, length, option_map, true};
+ghost use Rattle.std.specs.Prelude.{◌≡◌, ◌⊎◌, ◌≤◌, ◌<◌, ◌+◌, [], Err, IfErr, IfOk, IfSome, None, OnErr, OnOk, Some, length, option_map, true};
 ghost use Rattle.oim_records.specs.Grids.{grid};
 ghost use Rattle.oim_rows.specs.Header.{file_header_fault};
 ghost use Rattle.oim_rows.specs.RowFacts.{id_place_of, ids_after, row_fault, row_result};
-ghost use Rattle.oim_rows.specs.state.RowFacts.{IsNewId};
-ghost use Rattle.oim_rows.specs.Streams.{stream_of};
+ghost use Rattle.oim_rows.specs.Streams.{OrNoMemory, stream_of};
 ghost use Rattle.oim_rows.specs.state.Streams.{early_row_answer};
 ghost use Rattle.oim_decode.specs.state.Blocks.{AddsNone, AddsRow, CountsRow, TakesOne, has_row};
 ghost use Rattle.oim_decode.specs.state.Heads.{IsHeaderFault};
@@ -17,8 +16,10 @@ use itoa::Buffer;
 use oim_fast::TableRow;
 use oim_records::{Fields, ReadFault, RecordReader};
 use oim_report::Report;
-use oim_rows::{RowIds, TableFault, TableHeader, TableKind, fault_of_read, whole_fault};
-use std::alloc::{AllocError, Global};
+use oim_rows::{
+    RowId, RowIds, TableFault, TableHeader, TableKind, fault_at_place, fault_of_read, whole_fault,
+};
+use std::alloc::Global;
 use std::io::Read;
 use std::marker::Model;
 
@@ -31,11 +32,13 @@ pub(crate) struct TextRows<'a, R: Read + Drop> {
     texts: RowTexts<'a>,
     records: RecordReader<R>,
     ids: RowIds,
+    // stays empty: a row's own faults are looked for with no identifiers, and its identifier among `ids` as it joins them
+    no_ids: RowIds,
     given: u32,
 }
 
 impl<'a, R: Read + Drop> Model for TextRows<'a, R> {
-    ghost use Rattle.std.specs.Prelude.{◌≡◌, ◌≤◌, ◌<◌, ◌^◌, ◌-◌, ◌+◌, option_map};
+    ghost use Rattle.std.specs.Prelude.{◌≡◌, ◌≤◌, ◌<◌, ◌^◌, ◌-◌, ◌+◌, [], option_map};
     ghost use Rattle.oim_rows.specs.Streams.{stream_from};
     ghost use Rattle.oim_decode.specs.state.Blocks.{RowsUnread};
 
@@ -48,7 +51,7 @@ impl<'a, R: Read + Drop> Model for TextRows<'a, R> {
       unread = a.records.left;
     } };
 
-    ghost invariant = { λ a. (a.texts ≡ a.header) × (a.given ≤ a.header.limit) × (a.header.limit < 2 ^ 32 - 1) };
+    ghost invariant = { λ a. (a.texts ≡ a.header) × (a.no_ids ≡ []) × (a.given ≤ a.header.limit) × (a.header.limit < 2 ^ 32 - 1) };
 }
 
 impl<'a, R: Read + Drop> TextRows<'a, R> {
@@ -87,6 +90,7 @@ impl<'a, R: Read + Drop> TextRows<'a, R> {
             texts,
             records,
             ids: RowIds::new(alloc),
+            no_ids: RowIds::new(alloc),
             given: 0,
         })
     }
@@ -121,7 +125,13 @@ impl<R: Read + Drop> TextRows<'_, R> {
     {
         let found = self.records.read();
         let number = self.given + 1;
-        if let Some(answer) = early_answer(&self.header, number, &self.ids, found, &self.records) {
+        if let Some(answer) = early_answer(
+            &self.header,
+            number,
+            &self.no_ids,
+            found,
+            &self.records,
+        ) {
             return answer;
         }
         let fields = self.records.fields();
@@ -147,20 +157,21 @@ impl<R: Read + Drop> TextRows<'_, R> {
     }
 }
 
-/// What the reader's answer for row `number` gives without memory: the reader's own fault, the end, or a
-/// fault of the row itself. None where the row's cells are to be read.
+/// What the reader's answer for row `number` gives without memory and without the rows before: the reader's own fault, the end, or a
+/// fault of the row itself. None where the row's identifier and its cells are to be read.
 fn early_answer<R: Read + Drop>(
     header: &TableHeader<'_>,
     number: u32,
-    ids: &RowIds,
+    no_ids: &RowIds,
     found: Result<bool, ReadFault>,
     records: &RecordReader<R>,
 ) -> Option<Result<bool, TableFault>>
-    ensures { result ≡ option_map has_row (early_row_answer header.now number ids.now found records.now.fields) }
+    requires { no_ids.now ≡ [] }
+    ensures { result ≡ option_map has_row (early_row_answer header.now number [] found records.now.fields) }
 {
     match found {
         Ok(true) => {
-            let fault = header.fault_of_record(number, ids, records)?;
+            let fault = header.fault_of_record(number, no_ids, records)?;
             Some(Err(fault))
         }
         Ok(false) => Some(Ok(false)),
@@ -168,21 +179,37 @@ fn early_answer<R: Read + Drop>(
     }
 }
 
-/// Adds the identifier of a row to those before it, where its table has a column for them. Fails where memory is short, and then
-/// nothing is added.
-fn keep_id(alloc: Global, row: &TableRow<'_, '_>, ids: &mut RowIds) -> Result<(), AllocError>
-    requires { IsNewId (id_place_of row.now.header) ids.old row.now.fields }
+/// Adds the identifier of a row to those before it, where its table has a column for them. Apart from its cells and the rows before it the row
+/// has no fault.
+///
+/// Fails with RepeatedRowId where a row before it has the same, and with Memory where memory is short. Then nothing is added.
+fn keep_id(alloc: Global, row: &TableRow<'_, '_>, ids: &mut RowIds) -> Result<(), TableFault>
+    requires { row_fault row.now.header row.now.number [] row.now.fields ≡ None }
+    ensures new { OnOk result (row_fault row.now.header row.now.number ids.old row.now.fields ≡ None) }
     ensures added { OnOk result (ids.new ≡ ids_after (id_place_of row.now.header) ids.old row.now.fields) }
+    ensures fault { IfErr result (λ fault. OrNoMemory row.now.header.table (Err fault) (row_result row.now.header row.now.number ids.old row.now.fields)) }
     ensures same { OnErr result (ids.new ≡ ids.old) }
 {
-    if let Some(place) = row.header().id_place() {
-        ids.push(alloc, row.text_at(Some(place)))?;
+    let Some(place) = row.header().id_place() else {
+        return Ok(());
+    };
+    let Ok(id) = RowId::new(alloc, row.text_at(Some(place))) else {
+        return Err(whole_fault(row.table(), TableKind::Memory));
+    };
+    match ids.add(id) {
+        Ok(true) => Ok(()),
+        Ok(false) => Err(fault_at_place(
+            row.table(),
+            row.number(),
+            place,
+            TableKind::RepeatedRowId,
+        )),
+        Err(_) => Err(whole_fault(row.table(), TableKind::Memory)),
     }
-    Ok(())
 }
 
-/// Adds the facts of a row to others. Apart from its cells the row has no fault. Where it is refused, its identifier may have joined
-/// those before it, and nothing else.
+/// Adds the facts of a row to others. Apart from its cells and the rows before it the row has no fault. Where it is refused, its identifier may
+/// have joined those before it, and nothing else.
 fn add_row<'a>(
     alloc: Global,
     texts: &mut RowTexts<'a>,
@@ -193,14 +220,12 @@ fn add_row<'a>(
 ) -> Result<(), TableFault>
     requires header { row.now.header ≡ texts.old }
     requires fields { fields.now ≡ row.now.fields }
-    requires row { row_fault row.now.header row.now.number ids.old row.now.fields ≡ None }
+    requires row { row_fault row.now.header row.now.number [] row.now.fields ≡ None }
     ensures facts { AddsFacts row.now.header.table (row_result row.now.header row.now.number ids.old row.now.fields) facts.old facts.new result }
     ensures ids { OnOk result (ids.new ≡ ids_after (id_place_of row.now.header) ids.old row.now.fields) }
     ensures refused { OnErr result ((ids.new ≡ ids.old) ⊎ (ids.new ≡ ids_after (id_place_of row.now.header) ids.old row.now.fields)) }
     ensures same { texts.new ≡ texts.old }
 {
-    if keep_id(alloc, row, ids).is_err() {
-        return Err(whole_fault(row.table(), TableKind::Memory));
-    }
+    keep_id(alloc, row, ids)?;
     facts.push_row(alloc, texts, row, fields)
 }

@@ -1,4 +1,4 @@
-use Rattle.std.proofs.Common.{◌+◌, ◌∙◌, None, option_map, sym}
+use Rattle.std.proofs.Common.{◌+◌, ◌∙◌, [], None, option_map, sym}
 use Rattle.oim_rows.specs.Streams.{stream_from}
 use Rattle.oim_rows.proofs.StreamLaws.{when_ok}
 use Rattle.oim_decode.proofs.Cuts.{all_text}
@@ -17,15 +17,15 @@ returns-in-Some-clause-next g c =
 pub unreachable-requires : goal.unreachable-requires
 unreachable-requires g c =
     let a = c.self.inside in
-    let early = not_early (a.given + 1) a.header a.ids c.read-found.new.self.fields c.read-found.result (sym c.early_answer.ensures ∙ c.in_default.is) in
-    let all = all_text 0 c.read-found.new.self.fields (text_row a.header (a.given + 1) a.ids c.read-found.new.self.fields early.1) in
+    let early = not_early (a.given + 1) a.header [] c.read-found.new.self.fields c.read-found.result (sym c.early_answer.ensures ∙ c.in_default.is) in
+    let all = all_text 0 c.read-found.new.self.fields (text_row a.header (a.given + 1) [] c.read-found.new.self.fields early.1) in
     let none = rw c.in_default-text_fields.is at c.text_fields.ensures in
     none all
 
 pub returns-in-Ok-clause-next : goal.returns-in-Ok-clause-next
 returns-in-Ok-clause-next g c =
     let a = c.self.inside in
-    let early = not_early (a.given + 1) a.header a.ids c.read-found.new.self.fields c.read-found.result (sym c.early_answer.ensures ∙ c.in_default.is) in
+    let early = not_early (a.given + 1) a.header [] c.read-found.new.self.fields c.read-found.result (sym c.early_answer.ensures ∙ c.in_default.is) in
     let took = rw early.0 at c.read-found.ensures.takes in
     rw (← c.self.view_is)
     (row_adds c.new-row.result a.header (a.given + 1) a.ids c.add_row.new.ids c.in-Some-text_fields.texts c.read-found.new.self.fields c.args.facts.now c.add_row.new.facts
@@ -34,7 +34,7 @@ returns-in-Ok-clause-next g c =
 pub returns-in-Err-clause-next : goal.returns-in-Err-clause-next
 returns-in-Err-clause-next g c =
     let a = c.self.inside in
-    let early = not_early (a.given + 1) a.header a.ids c.read-found.new.self.fields c.read-found.result (sym c.early_answer.ensures ∙ c.in_default.is) in
+    let early = not_early (a.given + 1) a.header [] c.read-found.new.self.fields c.read-found.result (sym c.early_answer.ensures ∙ c.in_default.is) in
     let took = rw early.0 at c.read-found.ensures.takes in
     rw (← c.self.view_is)
     (row_fails c.new-row.result a.header (a.given + 1) a.ids c.in-Some-text_fields.texts c.read-found.new.self.fields c.args.facts.now c.add_row.new.facts
