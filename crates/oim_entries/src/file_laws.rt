@@ -22,6 +22,6 @@ pub fn fault_is_of_earliest_record()
 
 /// The types of a table say of a name just what its records say, by the words that the header chose.
 pub fn types_are_of_all_records()
-    ensures { (words : Words) (rs : List Record) (types : TypesValue) → all_of (types_file words) 0 [] rs ≡ Ok types
-        → (uri local : List ℕ) → kind_in types uri local ≡ kind_said words rs uri local }
+    ensures { (w : Words) (rs : List Record) (types : TypesValue) → all_of (types_file w) 0 [] rs ≡ Ok types
+        → (u n : List ℕ) → kind_in types u n ≡ kind_said w rs u n }
 {}

@@ -20,6 +20,6 @@ pub fn first_finding_is_least()
 
 /// A walk over a metadata finds a fault exactly where the test for the fault passes.
 pub fn a_walk_finds_all_faults()
-    ensures { (limits : LimitsValue) (given : ParametersValue) (types : TypesValue) (d : Data) (e : Fault)
-        → has e (in_metadata limits given types d) ≡ has_fault limits given types d e }
+    ensures { (l : LimitsValue) (given : ParametersValue) (types : TypesValue) (d : Data) (e : Fault)
+        → has e (in_metadata l given types d) ≡ has_fault l given types d e }
 {}

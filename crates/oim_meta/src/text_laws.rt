@@ -9,8 +9,8 @@ ghost use Rattle.oim_meta.specs.Written.{written_of};
 
 /// A dimension's text is a fault exactly where it writes no value. Any other text writes one value, which the report has.
 pub fn a_text_writes_one_value()
-    ensures value { (kind : Option Kind) (key text : List ℕ) (value : Written)
-        → Writes kind key text value ↔ ((is_bad_text kind key text ≡ false) × (written_of key text ≡ value)) }
-    ensures fault { (kind : Option Kind) (key text : List ℕ)
-        → (is_bad_text kind key text ≡ true) ↔ ((value : Written) → Writes kind key text value → ⊥) }
+    ensures value { (k : Option Kind) (key text : List ℕ) (v : Written)
+        → Writes k key text v ↔ ((is_bad_text k key text ≡ false) × (written_of key text ≡ v)) }
+    ensures fault { (k : Option Kind) (key text : List ℕ)
+        → (is_bad_text k key text ≡ true) ↔ ((v : Written) → Writes k key text v → ⊥) }
 {}

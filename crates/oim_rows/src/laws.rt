@@ -20,8 +20,8 @@ pub fn stream_is_of_all_rows()
 /// facts of each row before the first bad one and that row's fault. So each contract that names the
 /// stream speaks of all rows at once.
 pub fn table_stream_is_of_all_rows()
-    ensures { (report : ReportValue) (table limit : ℕ) (file : Option (List ℕ)) (s : Stream)
-        → (IsTableStream report table limit file s ↔ (s ≡ table_stream report table limit file)) }
+    ensures { (r : ReportValue) (table limit : ℕ) (file : Option (List ℕ)) (s : Stream)
+        → (IsTableStream r table limit file s ↔ (s ≡ table_stream r table limit file)) }
 {}
 
 /// No two facts of a report have one identifier, whatever files its tables have: the facts of all its

@@ -135,6 +135,7 @@ impl<'a> TableHeader<'a> {
     }
 
     /// The same of a row whose fields are known to be text, none of which is tested again.
+    #[inline(always)]
     pub fn fault_of_texts(
         &self,
         number: u32,

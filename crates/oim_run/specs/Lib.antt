@@ -1,4 +1,5 @@
 pub mod Buffers
+pub mod BuiltIn
 pub mod CommandLine
 pub mod Early
 pub mod Lines

@@ -2,7 +2,8 @@
 
 ghost use Rattle.std.specs.Prelude.{◌≡◌, IfOk};
 ghost use Rattle.oim_json.specs.declared.layout.Layout.TheVariants as layouts;
-ghost use Rattle.oim_run.specs.Outputs.{RunsHeld, RunsTold};
+ghost use Rattle.oim_run.specs.BuiltIn.{RunsBuiltIn};
+ghost use Rattle.oim_run.specs.Outputs.{RunsTold};
 
 use crate::buffered::run_to;
 use crate::early::no_memory;
@@ -74,8 +75,7 @@ fn held_settings(alloc: Global) -> Result<Settings, AllocError>
 /// Converts the built-in report to a writer through a buffer, as [`run_to`] does with a folder of its files. The answer is how that
 /// ended, and the writer.
 pub fn convert_to<T: Threads + Wait + Sync, W: Write>(rt: &T, alloc: Global, to: W) -> (Outcome, W)
-    ensures { RunsHeld (META_PATH.now, METADATA.now) (TYPES_PATH.now, TYPES.now) (TABLE_PATH.now, TABLE.now)
-        (W.contents to) (W.contents result.1) result.0 }
+    ensures { RunsBuiltIn (W.contents to) (W.contents result.1) result.0 }
 {
     let Ok(settings) = held_settings(alloc) else {
         return (no_memory(), to);
@@ -96,8 +96,7 @@ pub fn held_told<T: Threads + Wait + Sync, W: Write, L: Teller>(
     to: W,
     teller: &mut L,
 ) -> (u8, W)
-    ensures { RunsTold (RunsHeld (META_PATH.now, METADATA.now) (TYPES_PATH.now, TYPES.now) (TABLE_PATH.now, TABLE.now))
-        (W.contents to) (W.contents result.1) (L.terminal teller.old) (L.said teller.old) (L.said teller.new) result.0 }
+    ensures { RunsTold RunsBuiltIn (W.contents to) (W.contents result.1) (L.terminal teller.old) (L.said teller.old) (L.said teller.new) result.0 }
 {
     let (outcome, writer) = convert_to(rt, alloc, to);
     (tell(teller, alloc, &outcome), writer)

@@ -168,8 +168,8 @@ fn with<'a>(
     arg: Arg<'a>,
 ) -> Result<Command<'a>, AllocError>
     requires { arg.global ≡ false }
-    ensures { (before : App) (rule : Rule) → IfOk command.entry (λ c. app_of c ≡ before) → rule_of arg.entry ≡ rule
-        → IfOk result (λ c. app_of c ≡ with_rule before rule) }
+    ensures { (app : App) (rule : Rule) → IfOk command.entry (λ c. app_of c ≡ app) → rule_of arg.entry ≡ rule
+        → IfOk result (λ c. app_of c ≡ with_rule app rule) }
 {
     match command {
         Ok(command) => command.arg(arg),
