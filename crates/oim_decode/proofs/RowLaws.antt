@@ -6,12 +6,10 @@ use Rattle.oim_records.specs.declared.read_fault.ReadFault.{ReadFault}
 use Rattle.oim_resolve.specs.FactParts.{FactParts as Fact}
 use Rattle.oim_fast.specs.Facts.{facts_of_row}
 use Rattle.oim_row.specs.Rows.{RowValue}
-use Rattle.oim_rows.specs.RowFacts.{IsTextRecord, field_or_empty, TableHeaderValue, checked, facts_from, id_fault, id_place_of, ids_after, is_not_text, limit_fault, ragged_fault, row_fault, row_of, row_result, text_fault}
+use Rattle.oim_rows.specs.RowFacts.{IsTextRecord, TableHeaderValue, checked, facts_from, id_fault, id_place_of, ids_after, is_not_text, limit_fault, ragged_fault, row_fault, row_of, row_result, text_fault}
 use Rattle.oim_rows.specs.Header.{fault_at, or_else}
 use Rattle.oim_rows.specs.declared.fault.TableKind.TheVariants as kind
-use Rattle.std.specs.Prelude.{if◌then◌else◌, not}
-use Rattle.std.specs.List.{list_any, position_from}
-use Rattle.std.specs.Str.{bytes_eq}
+use Rattle.std.specs.List.{position_from}
 use Rattle.oim_rows.specs.Streams.{OrNoMemory, Stream, IsOutside, fault_of_read, stream_from}
 use Rattle.oim_rows.specs.state.Streams.{early_row_answer}
 use Rattle.oim_rows.proofs.StreamLaws.{gives_end, gives_fault, gives_row, outside}
@@ -19,10 +17,6 @@ use Rattle.oim_rows.specs.declared.fault.TableFault.{TableFault}
 use Rattle.oim_decode.specs.state.Blocks.{AddsNone, AddsRow, CountsRow, TakesOne, has_row}
 use Rattle.oim_decode.specs.state.RowTexts.{AddsFacts, facts_of_answer}
 use Rattle.oim_decode.proofs.ApartLaws.{repeats_at, row_fault-apart}
-
-pub known : {A : Type 0} (o : Option A) → IfSome o (λ _. Unit {0})
-known None = tt
-known (Some x) = tt
 
 -- apart from its cells a row has no fault
 pub adds_answer : (x : RowValue) (ids : List Field) (before after : List Fact) (result : Result (Unit {0}) TableFault) → row_fault x.header x.number ids x.fields ≡ None
@@ -47,47 +41,6 @@ text_row g n ids r none =
 -- what a row has by itself comes before what it has by its identifier
 own_first : (g : TableHeaderValue) (n : ℕ) (ids : List Field) (r : Record) (e : TableFault) → row_fault g n [] r ≡ Some e → row_fault g n ids r ≡ Some e
 own_first g n ids r e is = row_fault-apart g n ids r ∙ ap (λ o. or_else o (repeats_at g.table (id_place_of g) n ids r)) is
-
--- the fault of a row that has none by itself: that its identifier came before
-repeats_alone : (g : TableHeaderValue) (o : Option ℕ) (n : ℕ) (ids : List Field) (r : Record) → row_fault g n [] r ≡ None → id_place_of g ≡ o → row_fault g n ids r ≡ repeats_at g.table o n ids r
-repeats_alone g o n ids r none is =
-    row_fault-apart g n ids r ∙ ap (λ q. or_else q (repeats_at g.table (id_place_of g) n ids r)) none ∙ ap (λ q. repeats_at g.table q n ids r) is
-
--- without a column for identifiers none comes twice
-pub new_without : (g : TableHeaderValue) (n : ℕ) (ids : List Field) (r : Record) → row_fault g n [] r ≡ None → id_place_of g ≡ None → row_fault g n ids r ≡ None
-new_without g n ids r none is = repeats_alone g None n ids r none is
-
--- whether the identifier at a place came before
-module _ (g : TableHeaderValue) (n p : ℕ) (ids : List Field) (r : Record) (id : Field) (none : row_fault g n [] r ≡ None) (is : id_place_of g ≡ Some p) (text : id ≡ field_or_empty r (Some p)) where
-  told : (b : Bool) → list_any (bytes_eq id) ids ≡ b → row_fault g n ids r ≡ (if b then Some (fault_at g.table n (p + 1) kind.RepeatedRowId) else None)
-  told b came =
-      repeats_alone g (Some p) n ids r none is
-      ∙ ap (λ (f : Field). if list_any (bytes_eq f) ids then Some (fault_at g.table n (p + 1) kind.RepeatedRowId) else None) (sym text)
-      ∙ ap (λ c. if c then Some (fault_at g.table n (p + 1) kind.RepeatedRowId) else None) came
-
-  pub new_id : true ≡ not (list_any (bytes_eq id) ids) → row_fault g n ids r ≡ None
-  new_id came = told false (by (list_any (bytes_eq id) ids) came)
-    where
-      by : (b : Bool) → true ≡ not b → b ≡ false
-      by true no = cc no
-      by false yes = refl
-
-  pub repeated_id : false ≡ not (list_any (bytes_eq id) ids) → row_fault g n ids r ≡ Some (fault_at g.table n (p + 1) kind.RepeatedRowId)
-  repeated_id came = told true (by (list_any (bytes_eq id) ids) came)
-    where
-      by : (b : Bool) → false ≡ not b → b ≡ true
-      by true yes = refl
-      by false no = cc no
-
-pub kept_id : (o : Option ℕ) (p : ℕ) (ids after : List Field) (r : Record) (id : Field) → o ≡ Some p → id ≡ field_or_empty r (Some p) → after ≡ ids ++ id ∷ [] → after ≡ ids_after o ids r
-kept_id o p ids after r id is text more = more ∙ ap (λ (x : Field). ids ++ x ∷ []) text ∙ ap (λ q. ids_after q ids r) (sym is)
-
-pub no_id : (o : Option ℕ) (ids : List Field) (r : Record) → o ≡ None → ids ≡ ids_after o ids r
-no_id o ids r is = sym (ap (λ q. ids_after q ids r) is)
-
--- facts that are an answer are those in it
-pub is_given : (answer : Result (List Fact) TableFault) (facts : List Fact) → answer ≡ Ok facts → answer ≡ Ok (facts_of_answer answer)
-is_given answer facts is = is ∙ ap (λ a. Ok (facts_of_answer a)) (sym is)
 
 -- what a read record adds
 pub adds_end : (table n : ℕ) (g : TableHeaderValue) (ids : List Field) (before : List Fact) (old new : Option (List Record)) (r : Record) (after : Option Stream) → TakesRecord old false r new

@@ -226,6 +226,8 @@ fn add_row<'a>(
     ensures refused { OnErr result ((ids.new ≡ ids.old) ⊎ (ids.new ≡ ids_after (id_place_of row.now.header) ids.old row.now.fields)) }
     ensures same { texts.new ≡ texts.old }
 {
-    keep_id(alloc, row, ids)?;
-    facts.push_row(alloc, texts, row, fields)
+    match keep_id(alloc, row, ids) {
+        Ok(()) => facts.push_row(alloc, texts, row, fields),
+        Err(fault) => Err(fault),
+    }
 }
