@@ -165,4 +165,4 @@ same_one c later e = e ∙ ap (λ (n : ℕ). record c { last = later.last; last_
 pub same_two : (c one two : FactColumn) → one ≡ record c { last = one.last } → two ≡ record one { last_of_kind = two.last_of_kind } → two ≡ record c { last = two.last; last_of_kind = two.last_of_kind }
 same_two c one two p q =
     q ∙ ap (λ (k : FactColumn). record k { last_of_kind = two.last_of_kind }) p
-    ∙ ap (λ (n : ℕ). record c { last = n; last_of_kind = two.last_of_kind }) (sym (ap (λ (k : FactColumn). k.last) q))
+    ∙ ap (λ (n : List ℕ). record c { last = n; last_of_kind = two.last_of_kind }) (sym (ap (λ (k : FactColumn). k.last) q))

@@ -52,15 +52,6 @@ fn is_name_char(c: char) -> bool
         || matches!(c, '-' | '.' | '0'..='9' | '\u{B7}' | '\u{300}'..='\u{36F}' | '\u{203F}'..='\u{2040}')
 }
 
-/// Whether a character may stand in an identifier: it may stand in a name and is not a point.
-#[tactic(auto, unfolding(crate::specs::Names::is_plain_char))]
-#[inline(always)]
-fn is_plain_char(c: char) -> bool
-    ensures { result ≡ plain_char c }
-{
-    is_name_char(c) && c != '.'
-}
-
 /// Whether a byte is an ASCII character that may begin a name.
 #[tactic(auto, unfolding(crate::specs::Names::is_name_start))]
 #[inline(always)]
@@ -84,6 +75,19 @@ fn is_ascii_plain_char(byte: u8) -> bool
     ensures { result ≡ (nat_lt byte 128 && plain_char byte) }
 {
     PLAIN_BYTES[byte as usize] != b','
+}
+
+/// Whether a character may stand in an identifier: it may stand in a name and is not a point.
+#[tactic(auto, unfolding(crate::specs::Names::is_plain_char))]
+#[inline(always)]
+fn is_plain_char(c: char) -> bool
+    ensures { result ≡ plain_char c }
+{
+    if c.is_ascii() {
+        is_ascii_plain_char(c as u8)
+    } else {
+        is_name_char(c)
+    }
 }
 
 /// Whether all bytes are ASCII characters that may stand in a name.

@@ -1,8 +1,9 @@
 -- The masks of a block, by the Bools of its bytes.
 use Rattle.std.proofs.Common.{◌≡◌, ℕ, zero, suc, ◌+◌, ◌^◌, ◌<◌, ◌≤◌, Bool, true, false, cond, List, map, length, get_or, refl, sym, ap, ap₂, ◌∙◌, subst, arith}
-use Rattle.std.specs.Prelude.{◌&&◌}
+use Rattle.std.specs.Prelude.{◌&&◌, ◌||◌}
 use Rattle.std.specs.Simd.Lanes.{mask_l}
 use Rattle.std.proofs.Math.ListN.{get_or-map}
+use Rattle.std.proofs.lemmas.List.{length-map}
 use Rattle.std.proofs.lemmas.Nat.{and_le_l, or_lt}
 use lib.Bits.{bit_and, bit_or, bit_xor}
 use Rattle.oim_records.specs.state.Bits.{differ, is_odd_below, is_set}
@@ -10,7 +11,7 @@ use Rattle.oim_records.specs.state.Blocks.{but, firsts, is_opener}
 use Rattle.oim_records.specs.state.Bytes.{ends_line, is_quote}
 use Rattle.oim_records.proofs.BlockLists.{end-at, first-at, inside-along, length-firsts, length-line_ends, length-strays, stray-at}
 use Rattle.oim_records.proofs.BlockWalks.{insides, line_ends, strays}
-use Rattle.oim_records.proofs.WordBits.{Shows, differ_comm, differ_swap, flip, mask-shown, moved-in, set-and, set-but, set-mask_l, set-none, set-xor, shl}
+use Rattle.oim_records.proofs.WordBits.{Shows, differ_comm, differ_swap, flip, mask-shown, moved-in, set-and, set-but, set-mask_l, set-none, set-or, set-xor, shl}
 
 moved-small : (m : ℕ) (b : Bool) → bit_or (shl 1 m) (cond b 1 0) < 2 ^ 64
 moved-small m b = or_lt 64 (shl 1 m) (cond b 1 0) (omega arith) (at b)
@@ -22,6 +23,19 @@ moved-small m b = or_lt 64 (shl 1 m) (cond b 1 0) (omega arith) (at b)
 -- the bits of a mask of bytes
 pub marked : (p : ℕ → Bool) → p 0 ≡ false → (xs : List ℕ) (m k : ℕ) → m ≡ mask_l (map p xs) → is_set m k ≡ p (get_or xs k 0)
 marked p none xs m k is = ap (λ n. is_set n k) is ∙ set-mask_l (map p xs) k ∙ subst (λ d. get_or (map p xs) k d ≡ p (get_or xs k 0)) none (get_or-map p xs k 0)
+
+-- the bytes that pass one of two tests
+pub either-marked : (p q r : ℕ → Bool) → p 0 ≡ false → q 0 ≡ false → ((c : ℕ) → (p c || q c) ≡ r c) → (xs : List ℕ) (a b : ℕ) → length xs ≡ 64 → a < 2 ^ 64 → b < 2 ^ 64
+    → a ≡ mask_l (map p xs) → b ≡ mask_l (map q xs) → bit_or a b ≡ mask_l (map r xs)
+either-marked p q r pn qn same xs a b long sa sb ia ib = mask-shown (bit_or a b) (map r xs) (or_lt 64 a b sa sb) (length-map xs r ∙ long) shows
+  where
+    none : r 0 ≡ false
+    none = sym (same 0) ∙ ap₂ (λ x y. x || y) pn qn
+
+    shows : (k : ℕ) → k < 64 → is_set (bit_or a b) k ≡ get_or (map r xs) k false
+    shows k lt =
+        set-or a b k ∙ ap₂ (λ x y. x || y) (marked p pn xs a k ia) (marked q qn xs b k ib) ∙ same (get_or xs k 0)
+        ∙ sym (subst (λ d. get_or (map r xs) k d ≡ r (get_or xs k 0)) none (get_or-map r xs k 0))
 
 -- what is inside quotes
 pub inside-shown : (inside : Bool) (xs : List ℕ) (quotes odd all : ℕ) → length xs ≡ 64 → quotes ≡ mask_l (map is_quote xs)

@@ -1,6 +1,9 @@
 //! The rows of one table that are not read yet.
 
 ghost use Rattle.std.specs.Prelude.{◌≡◌, ◌⊎◌, ◌≤◌, ◌<◌, ◌+◌, [], Err, IfErr, IfOk, IfSome, None, OnErr, OnOk, Some, length, option_map, true};
+ghost use Rattle.std.specs.Prelude.{◌++◌, ◌∷◌, false, not, if◌then◌else◌};
+ghost use Rattle.std.specs.List.{list_any};
+ghost use Rattle.std.specs.Str.{bytes_eq};
 ghost use Rattle.oim_records.specs.Grids.{grid};
 ghost use Rattle.oim_rows.specs.Header.{file_header_fault};
 ghost use Rattle.oim_rows.specs.RowFacts.{id_place_of, ids_after, row_fault, row_result};
@@ -19,7 +22,7 @@ use oim_report::Report;
 use oim_rows::{
     RowId, RowIds, TableFault, TableHeader, TableKind, fault_at_place, fault_of_read, whole_fault,
 };
-use std::alloc::Global;
+use std::alloc::{AllocError, Global};
 use std::io::Read;
 use std::marker::Model;
 
@@ -179,24 +182,40 @@ fn early_answer<R: Read + Drop>(
     }
 }
 
+/// Adds an identifier to those before it, if none of these is the same, and says whether it did. Fails where memory is short and none is the same,
+/// and then nothing is added.
+fn join_id(alloc: Global, text: &str, ids: &mut RowIds) -> Result<bool, AllocError>
+    ensures added { IfOk result (λ added. added ≡ not (list_any (bytes_eq text.now) ids.old)) }
+    ensures new { OnErr result (list_any (bytes_eq text.now) ids.old ≡ false) }
+    ensures ids { IfOk result (λ added. ids.new ≡ (if added then ids.old ++ text.now ∷ [] else ids.old)) }
+    ensures same { OnErr result (ids.new ≡ ids.old) }
+{
+    let added = match RowId::new(alloc, text) {
+        Ok(id) => ids.add(id),
+        Err(short) => Err(short),
+    };
+    if added.is_err() && ids.has(text) {
+        return Ok(false);
+    }
+    added
+}
+
 /// Adds the identifier of a row to those before it, where its table has a column for them. Apart from its cells and the rows before it the row
 /// has no fault.
 ///
-/// Fails with RepeatedRowId where a row before it has the same, and with Memory where memory is short. Then nothing is added.
+/// Fails with RepeatedRowId where a row before it has the same, and else with Memory where memory is short. Then nothing is added.
 fn keep_id(alloc: Global, row: &TableRow<'_, '_>, ids: &mut RowIds) -> Result<(), TableFault>
     requires { row_fault row.now.header row.now.number [] row.now.fields ≡ None }
     ensures new { OnOk result (row_fault row.now.header row.now.number ids.old row.now.fields ≡ None) }
     ensures added { OnOk result (ids.new ≡ ids_after (id_place_of row.now.header) ids.old row.now.fields) }
     ensures fault { IfErr result (λ fault. OrNoMemory row.now.header.table (Err fault) (row_result row.now.header row.now.number ids.old row.now.fields)) }
+    ensures own { IfSome (row_fault row.now.header row.now.number ids.old row.now.fields) (λ fault. result ≡ Err fault) }
     ensures same { OnErr result (ids.new ≡ ids.old) }
 {
     let Some(place) = row.header().id_place() else {
         return Ok(());
     };
-    let Ok(id) = RowId::new(alloc, row.text_at(Some(place))) else {
-        return Err(whole_fault(row.table(), TableKind::Memory));
-    };
-    match ids.add(id) {
+    match join_id(alloc, row.text_at(Some(place)), ids) {
         Ok(true) => Ok(()),
         Ok(false) => Err(fault_at_place(
             row.table(),
@@ -222,6 +241,7 @@ fn add_row<'a>(
     requires fields { fields.now ≡ row.now.fields }
     requires row { row_fault row.now.header row.now.number [] row.now.fields ≡ None }
     ensures facts { AddsFacts row.now.header.table (row_result row.now.header row.now.number ids.old row.now.fields) facts.old facts.new result }
+    ensures own { IfSome (row_fault row.now.header row.now.number ids.old row.now.fields) (λ fault. result ≡ Err fault) }
     ensures ids { OnOk result (ids.new ≡ ids_after (id_place_of row.now.header) ids.old row.now.fields) }
     ensures refused { OnErr result ((ids.new ≡ ids.old) ⊎ (ids.new ≡ ids_after (id_place_of row.now.header) ids.old row.now.fields)) }
     ensures same { texts.new ≡ texts.old }

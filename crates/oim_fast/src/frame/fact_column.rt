@@ -20,6 +20,9 @@ use oim_rows::TableHeader;
 use oim_text::{TextBuffer, put_escaped};
 use std::alloc::{AllocError, Global};
 
+/// How many of the frames that a column had last are guessed.
+pub(crate) const GUESSES: usize = 4;
+
 /// A column of facts: its place in the template and in the header, and the columns of property groups that it takes from, by
 /// their places among those of the table.
 #[derive(Drop)]
@@ -30,8 +33,9 @@ pub(crate) struct FactColumn<'a> {
     pub(crate) groups: Vec<usize>,
     /// The text of a fact from the dot before the column's identifier to the brace of its object.
     pub(crate) lead: TextBuffer,
-    /// The places of the frames that it had last: without and with a kind. Each is a guess, and is tested.
-    pub(crate) last: usize,
+    /// The places of the frames that it had last: without a kind, by a number of the group that the row names, and with one. Each is a
+    /// guess, and is tested.
+    pub(crate) last: [usize; GUESSES],
     pub(crate) last_of_kind: usize,
 }
 
@@ -104,7 +108,7 @@ fn fact_column<'a>(
         level: &column.level,
         groups,
         lead,
-        last: usize::MAX,
+        last: [usize::MAX; GUESSES],
         last_of_kind: usize::MAX,
     }))
 }

@@ -12,7 +12,7 @@ ghost use Rattle.oim_row.specs.References.{Grows};
 ghost use Rattle.oim_fast.specs.state.StillHolds.{HoldsStill, HoldsWith};
 ghost use Rattle.oim_row.specs.state.Rows.{cell_in};
 
-use crate::frame::fact_column::{FactColumn, kind_number};
+use crate::frame::fact_column::{FactColumn, GUESSES, kind_number};
 use crate::frame::frame::{Body, Frame};
 use crate::frame::frame_maker::FrameMaker;
 use crate::frame::frame_text::FrameText;
@@ -80,6 +80,21 @@ fn is_for(
         return false;
     }
     are_chosen(frame.choices.as_slice(), column.groups.as_slice(), cells)
+}
+
+/// Which guess is that of the row at hand, by the group that it names in the first of a column's columns of groups.
+#[inline(always)]
+fn guess_of(groups: &[usize], cells: &GroupCells<'_>) -> usize
+    requires { All (λ p. p < length cells.now.list.items) groups.now }
+    ensures { result < 4 }
+{
+    match groups {
+        [first, ..] => match cells.choice(*first) {
+            Choice::Group(group) => group & (GUESSES - 1),
+            Choice::Nothing | Choice::Unknown => GUESSES - 1,
+        },
+        [] => 0,
+    }
 }
 
 impl Frames {
@@ -209,14 +224,16 @@ impl Frames {
         ensures frames { All (IsFrame row.now.header (keys_in maker.new)) self.new.list.items }
         ensures column { column.new ≡ record column.old { last = column.new.last } }
     {
-        if self.is_at(column.last, column, &maker.cells, None) {
-            return Ok(Some(column.last));
+        let guess = guess_of(column.groups.as_slice(), &maker.cells);
+        let last = column.last[guess];
+        if self.is_at(last, column, &maker.cells, None) {
+            return Ok(Some(last));
         }
         if column.has_unknown(&maker.cells) {
             return Ok(None);
         }
         let place = self.place(alloc, row, column, None, maker)?;
-        column.last = place;
+        column.last[guess] = place;
         Ok(Some(place))
     }
 
