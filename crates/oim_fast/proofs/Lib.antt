@@ -1,4 +1,5 @@
 pub mod PartLaws
+pub mod OneDigit
 pub mod FrameTextLaws
 pub mod RowLaws
 pub mod PieceLaws

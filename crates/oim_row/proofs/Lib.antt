@@ -1,4 +1,5 @@
 pub mod Texts
+pub mod SameEnds
 pub mod AnswerLaws
 pub mod Refreshed
 pub mod Growth

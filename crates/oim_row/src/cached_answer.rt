@@ -9,6 +9,7 @@ ghost use Rattle.oim_row.specs.state.Reading.{IsTypedAnswer};
 
 use crate::answer::Answer;
 use crate::purpose::Purpose;
+use crate::words::is_same;
 use oim_cells::meaning;
 use oim_report::Report;
 use std::alloc::{AllocError, Global};
@@ -42,7 +43,7 @@ impl CachedAnswer {
         ensures kept { result ≡ true → self.now.is_kept ≡ true }
         ensures text { result ≡ true → string_bytes self.now.text ≡ text.now }
     {
-        self.is_kept && self.text.as_str() == text
+        self.is_kept && is_same(self.text.as_str(), text)
     }
 
     /// Reads a text, in place of the text that was kept. A long one is not kept. Fails where memory is short, and then says nothing.

@@ -15,6 +15,7 @@ ghost use Rattle.oim_row.specs.Rows.{column_in, columns_in};
 use crate::group_hints::GroupHints;
 use crate::source::place_in;
 use crate::table_row::TableRow;
+use crate::words::is_same;
 use oim_cells::{CellMeaning, meaning};
 use oim_names::Text;
 use oim_report::Level;
@@ -96,11 +97,11 @@ impl<'a> GroupCell<'a> {
         ensures { (column : ColumnValue) → self.now.groups.now ≡ column.groups → Says column (a_text name.now) result }
     {
         if let Choice::Group(place) = self.choice {
-            if place < self.groups.len() && self.groups[place].0.as_str() == name {
+            if place < self.groups.len() && is_same(self.groups[place].0.as_str(), name) {
                 return Choice::Group(place);
             }
         }
-        if guess < self.groups.len() && self.groups[guess].0.as_str() == name {
+        if guess < self.groups.len() && is_same(self.groups[guess].0.as_str(), name) {
             return Choice::Group(guess);
         }
         place_of(self.groups, name)

@@ -38,6 +38,7 @@ mod references;
 mod source;
 mod table_row;
 mod text_places;
+mod words;
 
 pub use answer::{Answer, put_decimals};
 pub use group_cells::{Choice, GroupCell, GroupCells};

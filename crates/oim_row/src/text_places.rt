@@ -1,7 +1,8 @@
 //! Where the texts of a reference may be kept.
 
-ghost use Rattle.std.specs.Prelude.{◌+◌, ◌<◌, ◌≤◌, length};
+ghost use Rattle.std.specs.Prelude.{◌<◌};
 
+use crate::words::{half_word_at, word_at};
 use std::alloc::{AllocError, Global};
 
 /// How many places there are where few texts come back, and how many at most.
@@ -25,31 +26,6 @@ pub(crate) struct TextPlaces {
     count: u32,
     first: u32,
     later: u32,
-}
-
-/// Eight bytes of a text as a number.
-#[inline(always)]
-fn word_at(text: &[u8], at: usize) -> u64
-    requires { at + 8 ≤ length text.now }
-{
-    u64::from_le_bytes([
-        text[at],
-        text[at + 1],
-        text[at + 2],
-        text[at + 3],
-        text[at + 4],
-        text[at + 5],
-        text[at + 6],
-        text[at + 7],
-    ])
-}
-
-/// Four bytes of a text as a number.
-#[inline(always)]
-fn half_word_at(text: &[u8], at: usize) -> u64
-    requires { at + 4 ≤ length text.now }
-{
-    u64::from(u32::from_le_bytes([text[at], text[at + 1], text[at + 2], text[at + 3]]))
 }
 
 /// A number for the words that a long text begins with.
@@ -81,7 +57,9 @@ fn bytes_of(text: &[u8]) -> u64 {
         };
     }
     if len >= 4 {
-        return half_word_at(text, 0) ^ half_word_at(text, len - 4).rotate_left(27) ^ (len as u64);
+        let first = u64::from(half_word_at(text, 0));
+        let last = u64::from(half_word_at(text, len - 4));
+        return first ^ last.rotate_left(27) ^ (len as u64);
     }
     let mut number = len as u64;
     for i in 0..len {

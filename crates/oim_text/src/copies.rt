@@ -230,6 +230,32 @@ pub fn put_escaped_front(out: &mut TextBuffer, text: &[u8], len: usize) -> Resul
     put_part(out, &text[done..], len - done)
 }
 
+/// Copies the first `len` bytes of a text to a place in quotes, with escapes as JSON has them. Answers where they end.
+#[inline(always)]
+fn copy_quoted(room: &mut [u8], from: usize, text: &[u8], len: usize) -> usize
+    requires text { len ≤ length text.now }
+    requires room { from + 6 * len + 64 ≤ length room.old }
+    ensures bytes { Placed room.old room.new from (quoted (take len text.now)) result }
+    ensures few { result ≤ from + 6 * len + 2 }
+{
+    let at = copy_short(room, from, b"\"");
+    let at = copy_escaped(room, at, text, len);
+    copy_short(room, at, b"\"")
+}
+
+/// Appends the first bytes of a text in quotes, escaped. Fails where memory is short.
+#[inline(always)]
+fn put_quoted_part(out: &mut TextBuffer, text: &[u8], len: usize) -> Result<(), AllocError>
+    requires text { len ≤ length text.now }
+    requires few { len ≤ 1024 }
+    ensures { OnOk result (out.new.items ≡ out.old.items ++ quoted (take len text.now)) }
+{
+    make_room(&mut out.room, out.len, 6 * len + 3 * AT_ONCE)?;
+    let end = copy_quoted(&mut out.room, out.len, text, len);
+    out.len = end;
+    Ok(())
+}
+
 /// Appends the first `len` bytes of a text in quotes, escaped. Fails where memory is short.
 #[inline(always)]
 #[tactic(auto, using(std::proofs::Common::append_assoc), unfolding(oim_json::specs::JsonText::quoted))]
@@ -237,6 +263,9 @@ pub fn put_quoted_front(out: &mut TextBuffer, text: &[u8], len: usize) -> Result
     requires { len ≤ length text.now }
     ensures { OnOk result (out.new.items ≡ out.old.items ++ quoted (take len text.now)) }
 {
+    if len <= PART {
+        return put_quoted_part(out, text, len);
+    }
     out.push(b'"')?;
     put_escaped_front(out, text, len)?;
     out.push(b'"')?;

@@ -1,6 +1,6 @@
 //! Writing a fact.
 
-ghost use Rattle.std.specs.Prelude.{◌≡◌, ◌+◌, ◌-◌, ◌*◌, ◌<◌, ◌≤◌, ◌++◌, ◌∷◌, [], IfSome, MatchOption, OnOk, Some, codes, flat_map, length, take, true};
+ghost use Rattle.std.specs.Prelude.{◌≡◌, ◌+◌, ◌-◌, ◌*◌, ◌<◌, ◌≤◌, ◌++◌, ◌∷◌, [], IfSome, MatchOption, OnOk, Some, codes, flat_map, length, pos, take, true};
 ghost use Rattle.std.specs.List.{list_all};
 ghost use mathlib.Core.List.{IsPrefix};
 ghost use Rattle.oim_json.specs.JsonText.{decimals_text, escaped_byte, value_text};
@@ -23,8 +23,31 @@ use oim_text::{
 };
 use std::alloc::AllocError;
 
-/// Writes a number of decimals, with a comma behind it. Answers where it ends.
+/// Writes a byte. Answers where it ends.
 #[inline(always)]
+fn write_byte(room: &mut [u8], at: usize, byte: u8) -> usize
+    requires { at < length room.old }
+    ensures { Placed room.old room.new at (byte ∷ []) result }
+{
+    room[at] = byte;
+    at + 1
+}
+
+/// Writes a number of decimals from 0 to 9, with a comma behind it. Answers where it ends.
+#[inline(always)]
+fn write_digit(room: &mut [u8], from: usize, digit: u8) -> usize
+    requires room { from + 32 ≤ length room.old }
+    requires digit { digit < 10 }
+    ensures bytes { Placed room.old room.new from (decimals_text (Some (pos digit))) result }
+    ensures few { result ≤ from + 32 }
+{
+    let at = copy_short(room, from, b"\"decimals\":");
+    let end = write_byte(room, at, b'0' + digit);
+    write_byte(room, end, b',')
+}
+
+/// Writes a number of decimals, with a comma behind it. Answers where it ends.
+#[inline(never)]
 fn write_places(room: &mut [u8], from: usize, places: i32) -> usize
     requires { from + 32 ≤ length room.old }
     ensures bytes { Placed room.old room.new from (decimals_text (Some places)) result }
@@ -46,7 +69,10 @@ fn write_accuracy(room: &mut [u8], from: usize, accuracy: Accuracy) -> usize
     ensures few { result ≤ from + 32 }
 {
     match accuracy {
-        Accuracy::Places(places) => write_places(room, from, places),
+        Accuracy::Places(places) => match u8::try_from(places) {
+            Ok(digit) if digit < 10 => write_digit(room, from, digit),
+            _ => write_places(room, from, places),
+        },
         Accuracy::Infinite => from,
     }
 }
@@ -145,16 +171,6 @@ fn write_text(kind: Kind, value: &Value<'_>, room: &mut [u8], from: usize) -> us
     } else {
         copy_escaped(room, from, value.bytes, value.len)
     }
-}
-
-/// Writes a byte. Answers where it ends.
-#[inline(always)]
-fn write_byte(room: &mut [u8], at: usize, byte: u8) -> usize
-    requires { at < length room.old }
-    ensures { Placed room.old room.new at (byte ∷ []) result }
-{
-    room[at] = byte;
-    at + 1
 }
 
 /// Writes the value and the end of the fact.

@@ -1,6 +1,6 @@
 //! What the cell of a fact says.
 
-ghost use Rattle.std.specs.Prelude.{◌≡◌, ◌≤◌, ℕ, List, Ok, Some, IfOk, IfSome, codes, false, length, take, true};
+ghost use Rattle.std.specs.Prelude.{◌≡◌, ◌≤◌, ℕ, List, Ok, Some, IfOk, IfSome, codes, drop, false, length, take, true};
 ghost use Rattle.oim_cells.specs.Cells.{meaning_of};
 ghost use Rattle.oim_rows.specs.RowFacts.{field_or_empty};
 ghost use Rattle.oim_report.specs.ReportValue.{ReportValue};
@@ -8,6 +8,7 @@ ghost use Rattle.oim_report.specs.declared.kind.Kind.{Kind as KindValue};
 ghost use Rattle.oim_report.specs.declared.kind.Kind.TheVariants.{Number as number_kind};
 ghost use Rattle.oim_resolve.specs.FactValues.{plain as plain_text, text_given};
 ghost use Rattle.oim_fast.specs.state.CellValues.{IsCellValue, IsValue};
+ghost use Rattle.oim_text.specs.Suffixes.{IsSuffix};
 
 use oim_cells::{Accuracy, CellMeaning, NumberKind, meaning};
 use oim_report::Kind;
@@ -83,6 +84,26 @@ fn stands_for_itself(kind: Kind) -> bool
     matches!(&kind, Kind::Text | Kind::Other)
 }
 
+/// What the suffix states that stands behind the first `end` bytes of the cell at a place, which are the first `len` of the bytes. None
+/// where there is no such suffix. Mostly it has one digit.
+#[inline(always)]
+fn accuracy_behind(
+    row: &TableRow<'_, '_>,
+    place: usize,
+    bytes: &[u8],
+    len: usize,
+    end: usize,
+) -> Option<Accuracy>
+    requires cell { take len bytes.now ≡ field_or_empty row.now.fields (Some place) }
+    requires within { (end ≤ len) × (len ≤ length bytes.now) }
+    ensures { IfSome result (IsSuffix (drop end (field_or_empty row.now.fields (Some place)))) }
+{
+    if len - end == 2 && bytes[end] == b'd' && bytes[end + 1].is_ascii_digit() {
+        return Some(Accuracy::Places(i32::from(bytes[end + 1] - b'0')));
+    }
+    suffix_behind(row.text_at(Some(place)), end)
+}
+
 /// The value of a number's cell at a place, where nothing stands round the numeral but a suffix. The first `len` of the bytes are the
 /// cell.
 #[inline(always)]
@@ -104,7 +125,7 @@ fn number<'r>(
     if end == len {
         return Some(plain(bytes, end, None));
     }
-    let accuracy = suffix_behind(row.text_at(Some(place)), end)?;
+    let accuracy = accuracy_behind(row, place, bytes, len, end)?;
     Some(plain(bytes, end, Some(accuracy)))
 }
 

@@ -28,4 +28,4 @@ returns c = λ report.
     let value : Value = record { bytes = c.args.bytes; len = end; accuracy = Some accuracy; is_nil = false } in
     subst (λ (v : Value). IsValue report (number_kind c.args.kind) (meaning_of cell) v) (sym c.plain-2.ensures)
     (number_found report c.args.kind cell bytes c.args.len value c.requires.cell c.requires.within refl refl c.numeral_len-end.ensures.within
-    (λ same long. suffix_split c.args.kind cell bytes _ suffix.text accuracy end same (omega (arith, long, c.numeral_len-end.ensures.within)) (c.numeral_len-end.ensures.numeral (omega arith)) (ap (drop end) c.text_at.ensures) suffix.marked suffix.states))
+    (λ same long. suffix_split c.args.kind cell bytes _ suffix.text accuracy end same (omega (arith, long, c.numeral_len-end.ensures.within)) (c.numeral_len-end.ensures.numeral (omega arith)) refl suffix.marked suffix.states))
