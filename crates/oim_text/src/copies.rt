@@ -139,8 +139,8 @@ fn copy_run(room: &mut [u8], at: usize, text: &[u8], left: usize) -> usize
     ensures stand { result ≤ prefix_len is_unescaped text.now }
     ensures within { (result ≤ left) × (result ≤ 32) }
 {
-    copy_chunk(room, at, text);
     let run = unescaped_len(text);
+    copy_chunk(room, at, text);
     if run < left { run } else { left }
 }
 

@@ -202,20 +202,18 @@ const MOST_BYTES: usize = 1 << 40;
 /// How many bytes of room a fact takes at most behind a text of `start` bytes, where a reference gives `most` and the value has
 /// `value`. None where they are too many to be counted.
 #[inline(always)]
+#[tactic(auto, using(std::proofs::lemmas::Nat::le_or_l, std::proofs::lemmas::Nat::le_or_r))]
 fn room_for(frame: &FrameText, most: u32, start: usize, value: usize) -> Option<usize>
     requires { value ≤ 1024 }
     ensures { IfSome result (λ room. start + fact_room frame.now most value ≤ room) }
 {
     let count = frame.runs.len();
-    let front = start.checked_add(frame.text.len())?;
-    if count >= MOST_RUNS {
+    let size = frame.text.len();
+    // Both are below the largest number, where no bit beyond it is set in either.
+    if count >= MOST_RUNS || start | size >= MOST_BYTES {
         return None;
     }
-    if front >= MOST_BYTES {
-        return None;
-    }
-    let references = count * (most as usize);
-    Some(front + references + 6 * value + 128)
+    Some(start + size + count * (most as usize) + 6 * value + 128)
 }
 
 /// Writes the fact of a frame from the dot behind the row's identifier on, and answers where it ends. None where it is not by the

@@ -1,4 +1,4 @@
-use Rattle.std.proofs.Common.{None, Some, false, refl, sym, subst, ap, arith, drop}
+use Rattle.std.proofs.Common.{None, Some, false, refl, sym, subst, arith}
 use Rattle.oim_cells.specs.Cells.{meaning_of}
 use Rattle.oim_rows.specs.RowFacts.{field_or_empty}
 use Rattle.oim_report.specs.declared.kind.Kind.TheVariants.{Number as number_kind}
