@@ -12,4 +12,4 @@ returns c =
     let segments : length t.segments ≡ length a.runs.items = ap (λ (q : FrameValue). length q.segments) (sym c.frame.view_is) ∙ segments_length a.text.items a.body a.runs.items in
     let count : c.len-count.result ≡ length t.segments = omega (arith, segments, c.len-count.ensures) in
     let products : c.len-count.result * c.args.most ≡ length t.segments * c.args.most = ap (λ n. n * c.args.most) count in
-    omega (arith, all, products, c.in_ok-front.ensures, c.len.ensures)
+    omega (arith, all, products, c.len-size.ensures)
