@@ -9,7 +9,8 @@ use Rattle.csv.specs.declared.parser.State.TheVariants as state
 use Rattle.oim_records.specs.Cuts.{is_between}
 use Rattle.oim_records.specs.Grids.{Field, Record, grid, records_left}
 use Rattle.oim_records.proofs.RecordLaws.{Holds, all_records, between-start, left-all}
-use Rattle.oim_places.specs.LineNumbers.{HasLine, LineLaw, after_byte, after_spot, begins, ends_line, line_in, line_of_record, next_line}
+use Rattle.oim_records.specs.Lines.{ends_line}
+use Rattle.oim_places.specs.LineNumbers.{HasLine, LineLaw, after_byte, after_spot, begins, line_in, line_of_record, next_line}
 use Rattle.oim_places.specs.declared.line_number.LineCounter.{LineCounter}
 use Rattle.oim_places.specs.declared.line_number.Spot.{Spot}
 use Rattle.oim_places.specs.declared.line_number.Spot.TheVariants.{Between, Start, Field as InField, Quoted, Quote}

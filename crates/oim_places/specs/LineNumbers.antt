@@ -1,15 +1,13 @@
 -- The line of a file at which a record begins. Records are those of `grid`: commas separate fields, inside quotes a quote is doubled, LF, CR or CRLF
 -- ends a record, and an empty line is none. A line ends with LF, CR or CRLF, also inside quotes.
-use Rattle.std.specs.Prelude.{◌≡◌, ◌≤◌, ◌++◌, drop, length, ℕ, ◌+◌, ◌-◌, ◌^◌, min, Bool, false, not, ◌&&◌, ◌||◌, nat_eq, List, ◌∷◌, Option, Some, None, IfSome, fold, if◌then◌else◌}
+use Rattle.std.specs.Prelude.{◌≡◌, ◌≤◌, ◌++◌, drop, length, ℕ, ◌+◌, ◌-◌, ◌^◌, min, Bool, false, not, ◌&&◌, nat_eq, List, ◌∷◌, Option, Some, None, IfSome, fold, if◌then◌else◌}
 use Rattle.csv.specs.Reading.{strip_bom}
 use Rattle.csv.specs.declared.parser.State.TheVariants as state
 use Rattle.oim_records.specs.Grids.{grid, records_left}
+use Rattle.oim_records.specs.Lines.{ends_line}
 use Rattle.oim_places.specs.declared.line_number.LineCounter.{LineCounter}
 use Rattle.oim_places.specs.declared.line_number.Spot.{Spot}
 use Rattle.oim_places.specs.declared.line_number.Spot.TheVariants.{Between, Start, Field, Quoted, Quote}
-
-abbrev pub ends_line : ℕ → Bool
-ends_line b = nat_eq b 10 || nat_eq b 13
 
 -- where the byte behind one stands that is no quote and outside of quotes
 abbrev pub after_plain : ℕ → Spot

@@ -1,8 +1,9 @@
 //! The line of a file at which a record begins, counted over its bytes.
 
 ghost use Rattle.std.specs.Prelude.{◌≡◌, IfSome, Some, fold};
+ghost use Rattle.oim_records.specs.Lines.{ends_line};
 ghost use Rattle.oim_places.specs.LineNumbers as spec;
-ghost use Rattle.oim_places.specs.LineNumbers.{IsLineOf, after_byte, after_spot, counter_for, ends_line};
+ghost use Rattle.oim_places.specs.LineNumbers.{IsLineOf, after_byte, after_spot, counter_for};
 
 use oim_records::PieceReader;
 use std::alloc::Global;

@@ -8,7 +8,8 @@ use Rattle.std.proofs.lemmas.Nat.{and_le_l, or_lt}
 use lib.Bits.{bit_and, bit_or, bit_xor}
 use Rattle.oim_records.specs.state.Bits.{differ, is_odd_below, is_set}
 use Rattle.oim_records.specs.state.Blocks.{but, firsts, is_opener}
-use Rattle.oim_records.specs.state.Bytes.{ends_line, is_quote}
+use Rattle.oim_records.specs.Lines.{ends_line}
+use Rattle.oim_records.specs.state.Bytes.{is_quote}
 use Rattle.oim_records.proofs.BlockLists.{end-at, first-at, inside-along, length-firsts, length-line_ends, length-strays, stray-at}
 use Rattle.oim_records.proofs.BlockWalks.{insides, line_ends, strays}
 use Rattle.oim_records.proofs.WordBits.{Shows, differ_comm, differ_swap, flip, mask-shown, moved-in, set-and, set-but, set-mask_l, set-none, set-or, set-xor, shl}

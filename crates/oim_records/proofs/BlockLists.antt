@@ -3,7 +3,8 @@ use Rattle.std.proofs.Common.{◌≡◌, ℕ, zero, suc, ◌<◌, Bool, false, L
 use Rattle.std.specs.Prelude.{◌&&◌}
 use Rattle.oim_records.specs.state.Bits.{differ}
 use Rattle.oim_records.specs.state.Blocks.{but, firsts, is_opener, led}
-use Rattle.oim_records.specs.state.Bytes.{ends_line, is_quote}
+use Rattle.oim_records.specs.Lines.{ends_line}
+use Rattle.oim_records.specs.state.Bytes.{is_quote}
 use Rattle.oim_records.specs.declared.place.Place.{Place}
 use Rattle.oim_records.proofs.BlockWalks.{insides, led_behind, line_ends, strays}
 

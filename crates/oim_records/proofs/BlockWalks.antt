@@ -5,7 +5,8 @@ use Rattle.std.specs.Simd.Lanes.{mask_l}
 use Rattle.std.proofs.lemmas.Bool.Decides.{eqb_tells}
 use Rattle.oim_records.specs.state.Bits.{differ}
 use Rattle.oim_records.specs.state.Blocks.{block_scanned, but, cut_behind, cut_rows_behind, is_opener, led, may_open, rows_behind}
-use Rattle.oim_records.specs.state.Bytes.{ends_line, is_quote}
+use Rattle.oim_records.specs.Lines.{ends_line}
+use Rattle.oim_records.specs.state.Bytes.{is_quote}
 use Rattle.oim_records.specs.state.Places.{ends_record, is_between, place_after}
 use Rattle.oim_records.specs.state.Runs.{is_quoted}
 use Rattle.oim_records.specs.state.Scans.{scan_after, scanned}

@@ -8,7 +8,8 @@ use Rattle.csv.specs.Reading.{records_from, strip_bom}
 use Rattle.csv.specs.declared.parser.State.TheVariants as state
 use Rattle.oim_records.specs.state.Bits.{differ, is_odd_below, is_set}
 use Rattle.oim_records.specs.state.Blocks.{block_scanned, but, cut_behind, cut_rows_behind, firsts, is_opener, led, may_open, rows_behind}
-use Rattle.oim_records.specs.state.Bytes.{ends_field, ends_line, is_quote, joins_field, is_unquoted, is_ascii, is_high}
+use Rattle.oim_records.specs.Lines.{ends_line}
+use Rattle.oim_records.specs.state.Bytes.{ends_field, is_quote, joins_field, is_unquoted, is_ascii, is_high}
 use Rattle.oim_records.specs.Cuts.{ended, is_between, state_after}
 use Rattle.oim_records.specs.state.Fields.{IsReadTo, IsWithin, ReadsFirst, fields_in}
 use Rattle.oim_records.specs.Grids.{Record, grid, records_left}

@@ -1,11 +1,11 @@
 -- What one field of a text is: the machine of the `csv` crate, read on from its start to its end.
-use Rattle.std.specs.Prelude.{◌≡◌, ◌<◌, ◌≤◌, ℕ, List, [], ◌∷◌, ◌++◌, Option, Some, None, true, drop, length, map, slice_index, slice_range}
-use Rattle.std.specs.List.{All}
+use Rattle.std.specs.Prelude.{◌≡◌, ◌≢◌, ◌+◌, ◌<◌, ◌≤◌, ℕ, List, [], ◌∷◌, ◌++◌, Option, Some, None, true, drop, length, map, slice_index, slice_range}
+use Rattle.std.specs.List.{All, prefix_len}
 use Rattle.csv.specs.Machine.{next_record}
 use Rattle.csv.specs.Reading.{default_config}
 use Rattle.csv.specs.declared.parser.State.{State}
 use Rattle.csv.specs.declared.parser.State.TheVariants as state
-use Rattle.oim_records.specs.state.Bytes.{ends_field}
+use Rattle.oim_records.specs.state.Bytes.{ends_field, joins_field}
 use Rattle.oim_records.specs.Grids.{Field, Record, records_left}
 use Rattle.oim_records.specs.declared.field.FieldRange.{FieldRange}
 
@@ -22,6 +22,12 @@ IsFieldEnd rest = 0 < length rest → ends_field (slice_index rest 0) ≡ true
 pub record IsFirstField (text : List ℕ) (value : Field) (rest : List ℕ) : Type 0 where
   pub reads : Joins state.StartField text value state.InField rest
   pub ends : IsFieldEnd rest
+
+-- the field that begins at a place has no quotes, and ends at another
+pub record IsPlainEnd (text : List ℕ) (start stop : ℕ) : Type 0 where
+  pub unquoted : slice_index text start ≢ 34
+  pub end : stop ≡ start + prefix_len joins_field (drop start text)
+  pub within : stop ≤ length text
 
 -- a range lies within the first n bytes
 abbrev pub IsWithin : ℕ → FieldRange → Type 0

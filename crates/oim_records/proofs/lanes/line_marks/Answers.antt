@@ -1,6 +1,6 @@
 use Rattle.std.proofs.Common.{arith}
 use Rattle.std.proofs.lemmas.Simd.{zip2_splat}
-use Rattle.oim_records.specs.state.Bytes.{ends_line}
+use Rattle.oim_records.specs.Lines.{ends_line}
 use Rattle.oim_records.proofs.Masks.{hit, either, masked}
 use Rattle.oim_records.proofs.lanes.line_marks.Goals as goal
 

@@ -3,7 +3,8 @@ use Rattle.std.specs.Prelude.{◌||◌, ◌==◌}
 use Rattle.std.proofs.lemmas.Nat.{or_lt}
 use lib.Bits.{bit_or}
 use Rattle.oim_records.specs.state.Blocks.{is_opener}
-use Rattle.oim_records.specs.state.Bytes.{ends_field, ends_line, is_comma, is_quote}
+use Rattle.oim_records.specs.Lines.{ends_line}
+use Rattle.oim_records.specs.state.Bytes.{ends_field, is_comma, is_quote}
 use Rattle.oim_records.proofs.BlockBits.{either-marked}
 use Rattle.oim_records.proofs.lanes.opener_marks.Goals as goal
 
