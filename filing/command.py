@@ -18,6 +18,7 @@ from .metadata import check_parts, merge
 from .origins import Origins
 from .outputs import refuse_outputs
 from .packages import Package, open_package
+from .parameter_list import parameter_list
 from .parameters import check_parameters, check_references, require_parameters
 from .prefixes import Renaming, lost_prefixes
 from .prepared import META, TYPES, Files, move_into, write_files
@@ -55,7 +56,7 @@ def attempt(words: List[str], program: str, progress: Progress, stopping: Stoppi
     try:
         wanted = asked(words)
         if wanted == "--help":
-            return help_told(), ""
+            return put_out(HELP), ""
         if wanted is not None:
             return run_program([program, wanted], stopping), ""
         return run(read_words(words), program, progress, stopping), ""
@@ -76,21 +77,26 @@ def tell(line: str) -> None:
             print(line, file=sys.stderr, flush=True)
 
 
-def help_told() -> int:
-    """Writes the help, without a buffer that would be written once more at the end where this fails."""
+def put_out(text: str) -> int:
+    """Writes a text to standard output, without a buffer that would be written once more at the end where this fails."""
+    left = text.encode(errors="surrogateescape")
     try:
-        os.write(1, HELP.encode())
+        while left:
+            left = left[os.write(1, left) :]
     except OSError as error:
         raise cannot_write("standard output", error) from None
     return 0
 
 
 def run(settings: Settings, program: str, progress: Progress, stopping: Stopping) -> int:
-    """Makes the two plain files, in the folder of `--prepare` or in a temporary one that xbrl-json reads."""
+    """Makes the two plain files, in the folder of `--prepare` or in a temporary one that xbrl-json reads; or tells of the parameters."""
     report, packages = open_inputs(settings)
     refuse_outputs(settings, packages, None)
     place = None if settings.prepare is None else place_of(settings.prepare)
     origins, files, types = join(report, packages, settings, progress)
+    if settings.parameters:
+        progress.clear()
+        return put_out(parameter_list(origins, files))
     refuse_outputs(settings, packages, files)
     progress.say("preparing the tables")
     if place is None:
@@ -149,10 +155,11 @@ def join(report: Found, packages: List[Package], settings: Settings, progress: P
     refuse_unknown_dimensions(origins, namespaces, kinds)
     files = Files(report, merged)
     files.require_parameters()
-    files.refuse_unread()
-    check_parameters(merged, renaming, files)
-    check_references(merged, files)
-    require_parameters(merged, files)
+    if not settings.parameters:  # who asks for them is to see what is missing or misspelt
+        files.refuse_unread()
+        check_parameters(merged, renaming, files)
+        check_references(merged, files)
+        require_parameters(merged, files)
     return origins, files, types_table(kinds, namespaces.values())
 
 

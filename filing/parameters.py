@@ -7,9 +7,9 @@ import csv
 import io
 import re
 from itertools import islice
-from typing import Iterator, List, Optional, Tuple
+from typing import Dict, Iterator, List, Optional, Tuple
 
-from .metadata import Merged, levels, objects
+from .metadata import Merged, Path, levels, objects
 from .packages import LARGEST_TEXT
 from .prefixes import Renaming
 from .prepared import Files
@@ -42,9 +42,7 @@ def check_references(merged: Merged, files: Files) -> None:
     columns = {name: columns_of(template) for name, template in objects(merged.value, "tableTemplates")}
     for name, owner in named:
         other = spelt.get(name.lower())
-        if other is None or name in given or name == ROW_NUMBER:
-            continue
-        template = next((it for it in (columns if owner is None else [owner]) if name not in columns[it]), None)
+        template = None if other is None or name in given else template_without(name, owner, columns)
         if template is not None:
             what = f"nothing refers to the parameter '{other}', and the template '{template}' refers to '${name}', which is no parameter"
             raise wrong(given[other], f"{what} and no column of it (names are compared exactly)")
@@ -103,20 +101,28 @@ def columns_of(template: Object) -> Object:
     return columns if isinstance(columns, dict) else {}
 
 
+def template_without(name: str, owner: Optional[str], columns: Dict[str, Object]) -> Optional[str]:
+    """The first template in which a reference is one to a parameter, which a template makes, or the report's own level (None): no column has the name."""
+    return None if name == ROW_NUMBER else next((it for it in (columns if owner is None else [owner]) if name not in columns[it]), None)
+
+
 def references(merged: Merged) -> Iterator[Tuple[str, Optional[str]]]:
     """Each name that is referred to, and the template that does; None for the report's own level, which all templates have."""
+    for name, path in placed_references(merged):
+        yield name, path[1] if path[0] == "tableTemplates" else None
+
+
+def placed_references(merged: Merged) -> Iterator[Tuple[str, Path]]:
+    """Each name of a column or parameter that the `dimensions` and `decimals` of an object refer to, and where."""
     for path, level in levels(merged.value):
-        for name in names_in(level):
-            yield name, path[1] if path else None
-
-
-def names_in(level: Object) -> Iterator[str]:
-    """The names of columns and parameters to which the `dimensions` and `decimals` of an object refer."""
-    dimensions = level.get("dimensions")
-    for key, text in (*(dimensions.items() if isinstance(dimensions, dict) else ()), ("decimals", level.get("decimals"))):
-        name = reference(key, text)
+        dimensions = level.get("dimensions")
+        for key, text in dimensions.items() if isinstance(dimensions, dict) else ():
+            name = reference(key, text)
+            if name is not None:
+                yield name, (*path, "dimensions", key)
+        name = reference("decimals", level.get("decimals"))
         if name is not None:
-            yield name
+            yield name, (*path, "decimals")
 
 
 def reference(key: str, text: Json) -> Optional[str]:

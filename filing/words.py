@@ -13,6 +13,7 @@ Converts a filing to xBRL-JSON: a report package, whose metadata may extend what
 
     {USAGE}
     xbrl-filing REPORT --taxonomy PACKAGE.. --prepare FOLDER
+    xbrl-filing REPORT --taxonomy PACKAGE.. --parameters
 
 It makes two plain files, a metadata file without `extends` and a types table, and hands them to xbrl-json.
 It is not proved: the guarantee of xbrl-json begins at the two plain files that it writes, which anyone can read.
@@ -20,6 +21,7 @@ It is not proved: the guarantee of xbrl-json begins at the two plain files that 
 REPORT                  a report package (a ZIP or an unpacked folder), or a metadata file
 --taxonomy PACKAGE..    taxonomy packages (ZIPs or folders); all words up to the next one that begins with `--`
 --prepare FOLDER        only makes FOLDER, which is new or empty: meta.json, types.csv, and the report's tables and parameters
+--parameters            only prints each parameter that has a value or is referred to, as CSV: its value, and where it is referred to
 --cache FOLDER          keeps there what the schemas say, so that the next filing of the same taxonomy starts at once
 --unpacked-limit BYTES  how much one ZIP may unpack to ({DEFAULT_LIMIT})
 -h, --help              prints help
@@ -47,6 +49,7 @@ class Settings:
         self.report = ""
         self.taxonomy: List[str] = []
         self.prepare: Optional[str] = None
+        self.parameters = False
         self.cache: Optional[str] = None
         self.limit = DEFAULT_LIMIT
         self.rest: List[str] = []
@@ -90,6 +93,10 @@ def read_words(words: List[str]) -> Settings:
             if "" in packages or not packages:
                 raise misuse("--taxonomy names no package")
             settings.taxonomy += packages
+        elif name == "--parameters":
+            if equals:
+                raise misuse("--parameters has no value")
+            settings.parameters = True
         elif name in OWN_WITH_VALUE:
             if not equals:
                 value = words[at] if at < len(words) and not words[at].startswith("--") and words[at] not in ASKING else ""
@@ -135,6 +142,9 @@ def take_other(settings: Settings, words: List[str], at: int) -> int:
 def checked(settings: Settings) -> Settings:
     if not settings.report:
         raise misuse("there is no REPORT" + (": all words behind --taxonomy are packages, so it stands before" if settings.taxonomy else ""))
-    if settings.prepare is not None and settings.rest:
-        raise misuse(f"with --prepare nothing is converted, so '{settings.rest[0]}' means nothing")
+    if settings.parameters and settings.prepare is not None:
+        raise misuse("--prepare and --parameters stand together, and each is a run of its own")
+    word = "--prepare" if settings.prepare is not None else "--parameters" if settings.parameters else None
+    if word is not None and settings.rest:
+        raise misuse(f"with {word} nothing is converted, so '{settings.rest[0]}' means nothing")
     return settings

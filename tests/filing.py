@@ -10,6 +10,7 @@ fails. The last line counts. Python 3.9 or later and Linux are needed.
 from __future__ import annotations
 
 import contextlib
+import csv
 import errno
 import io
 import json
@@ -2718,6 +2719,10 @@ def words(folder: Path) -> None:
         (["r", "--prepare", "--out", "x"], "--prepare needs a value"),
         (["r", "--prepare", "a", "--prepare", "b"], "--prepare stands twice"),
         (["r", "--prepare", "a", "--out", "b"], "with --prepare nothing is converted, so '--out' means nothing"),
+        (["r", "--parameters", "--out", "b"], "with --parameters nothing is converted, so '--out' means nothing"),
+        (["r", "--parameters", "--prepare", "b"], "--prepare and --parameters stand together, and each is a run of its own"),
+        (["r", "--parameters=b"], "--parameters has no value"),
+        (["r", "--parameters", "b"], "'b' is one word too many"),
         (["r", "--cache", ""], "--cache needs a value"),
         (["r", "--unpacked-limit", "8G"], "--unpacked-limit is a number of bytes, and '8G' is none"),
         (["r", "--unpacked-limit=-1"], "--unpacked-limit is a number of bytes, and '-1' is none"),
@@ -2752,6 +2757,59 @@ def words(folder: Path) -> None:
     case("words that xbrl-json refuses", (status, out, err.startswith("error: "), (folder / "doc.json").exists()), (2, b"", True, False))
     seen = start(["r", "--taxonomy", "t", "--out", "no/doc.json"], folder)
     case("an output that xbrl-json cannot make", seen, (3, b"", "xbrl-json: cannot write no/doc.json\n"))
+
+
+def listed(folder: Path, inputs: dict[str, Any], form: str) -> tuple[int, list[list[str]], str]:
+    """Status, the records of --parameters behind their header, and standard error of a run over a filing."""
+    shutil.rmtree(folder / "w", ignore_errors=True)
+    for label, files in zip(("r", "t0"), (inputs["report"], *inputs["taxonomies"])):
+        if form == "folder":
+            write(folder / "w" / label, files)
+        else:
+            (folder / "w").mkdir(exist_ok=True)
+            pack(folder / "w" / label, files)
+    before = listing(folder / "w")
+    status, out, err = start(["r", "--taxonomy", "t0", "--parameters"], folder / "w")
+    case(f"--parameters makes no file, {form}", listing(folder / "w"), before)
+    header, *rows = list(csv.reader(io.StringIO(out.decode(), newline=""), strict=True)) or [[]]
+    case(f"the header of --parameters, {form}", (header, out[-1:]), (["parameter", "value", "file", "references", "first reference"] if out else [], b"\n" if out else b""))
+    return status, rows, err
+
+
+def list_of_parameters(folder: Path) -> None:
+    """Each parameter with its values and its references: also one that nothing gives, and one to which nothing refers."""
+    module, file = "t0/reg/mod.json", "r/reports/p.csv"
+    columns = {
+        "k": {"propertyGroups": {"g": {"dimensions": {"unit": "$unit"}, "decimals": "$places"}}},
+        "cash": {"dimensions": {"concept": "eg:Cash", "unit": "$$unit", "eg:Region": "$note", "eg:Branch": "$rowNumber"}, "propertiesFrom": ["k"]},
+        "note": {},
+    }
+    of_all = {"dimensions": {"entity": "$entityID", "period": "$refPeriod@end"}, "decimals": "$places"}
+    parts = {"tableTemplates": {"t": {"columns": columns, "decimals": "$note"}}, **of_all}
+    group = f"{module}: tableTemplates.t.columns.k.propertyGroups.g"
+    for form in ("folder", "zip"):
+        given = filed_with('name,value\nentityID,lei:x\nUnit,"a,b"\nplaces,\n', tables={"t": {"url": "t.csv", "parameters": {"places": "2"}}}, **parts)
+        wanted = [
+            ["Unit", "a,b", file, "0", ""],
+            ["entityID", "lei:x", file, "1", f"{module}: dimensions.entity"],
+            ["places", "", file, "2", f"{module}: decimals"],
+            ["places", "2", module, "2", f"{module}: decimals"],
+            ["refPeriod", "", "", "1", f"{module}: dimensions.period"],
+            ["unit", "", "", "1", f"{group}.dimensions.unit"],
+        ]
+        case(f"--parameters, {form}", listed(folder, given, form), (0, wanted, ""))
+        two = {"t": {"columns": columns}, "u": {"columns": {"cash": {}, "entityID": {}, "refPeriod": {}, "places": {}}}}
+        some = filed_with("name,value\n", tableTemplates=two, dimensions={"entity": "$entityID"})
+        rows = [["entityID", "", "", "1", f"{module}: dimensions.entity"], ["places", "", "", "1", f"{group}.decimals"], ["unit", "", "", "1", f"{group}.dimensions.unit"]]
+        case(f"a name that is a column of one template alone, {form}", listed(folder, some, form), (0, rows, ""))
+        case(f"a name that is a column of all, {form}", listed(folder, filed_with("name,value\n", tableTemplates={"u": two["u"]}, **of_all), form), (0, [], ""))
+        case(f"no parameter at all, {form}", listed(folder, {"report": REPORT, "taxonomies": [TAXONOMY]}, form), (0, [], ""))
+        lost = listed(folder, {"report": {**REPORT, "reports/report.json": "{"}, "taxonomies": [TAXONOMY]}, form)
+        case(f"--parameters of no report, {form}", (lost[0], lost[1], lost[2].startswith("xbrl-filing: r/reports/report.json: ")), (1, [], True))
+    listed(folder, {"report": REPORT, "taxonomies": [TAXONOMY]}, "folder")
+    with open("/dev/full", "wb") as full:
+        done = subprocess.run([FILING, "r", "--taxonomy", "t0", "--parameters"], cwd=folder / "w", stdout=full, stderr=subprocess.PIPE, timeout=60)
+    case("--parameters that cannot be written", (done.returncode, done.stderr), (3, b"xbrl-filing: standard output: cannot write (No space left on device)\n"))
 
 
 def several_packages(folder: Path) -> None:
@@ -3370,6 +3428,7 @@ PARTS = (
     parameters_of_each_fact,
     facts_that_do_without_a_parameter,
     parameters_that_are_no_loss,
+    list_of_parameters,
     temporary_files,
     signals,
     a_signal_between_two_steps,

@@ -208,8 +208,10 @@ fn of_whole<R: Read + Drop, F: Folder<R>>(
     }
 }
 
-/// The explanation of a fault of the metadata, the types table or the parameters file, which are read again.
-fn explained<R: Read + Drop, F: Folder<R>>(
+/// The explanation of a fault of the metadata and the types table at these paths, or of the parameters file, which are
+/// read again. It says so where the fault is not there any more, or a file cannot be read again. Fails if memory runs out.
+/// No clause says this: tests show it.
+pub fn report_explanation<R: Read + Drop, F: Folder<R>>(
     alloc: Global,
     meta: &str,
     types: &str,
@@ -228,8 +230,8 @@ fn explained<R: Read + Drop, F: Folder<R>>(
 }
 
 /// The lines that explain a fault of the metadata and the types table at these paths, or of the parameters file, which
-/// are read again: three lines, four blanks deep, each with its line feed. They say so where the fault is not there
-/// any more, or a file cannot be read again. Fails if memory runs out. No clause says this: tests show it.
+/// are read again, as `report_explanation` gives it: three lines, four blanks deep, each with its line feed. Fails if
+/// memory runs out. No clause says this: tests show it.
 pub fn explain_report<R: Read + Drop, F: Folder<R>>(
     alloc: Global,
     meta: &str,
@@ -238,6 +240,6 @@ pub fn explain_report<R: Read + Drop, F: Folder<R>>(
     source: Source,
     fault: MetaFault,
 ) -> Result<String, AllocError> {
-    let explanation = explained(alloc, meta, types, folder, source, fault)?;
+    let explanation = report_explanation(alloc, meta, types, folder, source, fault)?;
     explanation_text(alloc, &explanation)
 }

@@ -12,7 +12,8 @@
 //! It passes on what `oim_places` says of the place of a fault and of the file of faults.
 //!
 //! What only tests show: the sentences, what an explanation says stands at a place, the places elsewhere that a fault
-//! comes from, what is said of a types table and a parameters file, and all that `explain_report` says, which has no clause.
+//! comes from, what is said of a types table and a parameters file, and all that `explain_report` and `report_explanation`
+//! say, which have no clause.
 //!
 //! A call:
 //!
@@ -35,14 +36,15 @@ mod files;
 mod levels;
 mod metadata;
 mod namespaces;
+mod numbers;
 mod sources;
 mod tables;
 
-pub use again::explain_report;
+pub use again::{explain_report, report_explanation};
 pub use explanation::{Explanation, explanation_text};
 pub use metadata::explain_metadata;
 pub use oim_places::{
     FaultPlace, ReportAgain, fault_header, fault_place, fault_row, lines_are_of_records,
-    report_again, shown,
+    report_again, report_fault_row, shown,
 };
 pub use tables::explain_table;

@@ -7,6 +7,7 @@ ghost use Rattle.oim_explain.specs.state.TablePlaces.{NamesPlaceIn};
 use crate::explanation::{Explanation, explanation_text};
 use crate::files::{changed, of_file};
 use crate::levels::{RowOfFault, place_of_text};
+use crate::numbers::wrong_numeral;
 use crate::sources::sources;
 use csv::ByteRecord;
 use oim_files::{Folder, folder_of};
@@ -227,6 +228,17 @@ fn elsewhere<R: Read + Drop, F: Folder<R>>(
     sources(alloc, folder, &row, kind)
 }
 
+/// What is wrong at a record of a table's file: of the cell of a number, what is wrong with that one.
+fn cause_in(fault: &TableFault, cells: &RowAgain) -> &'static str {
+    let known = match place_in_record(fault) {
+        Some(place) if fault.kind == TableKind::BadNumber => {
+            wrong_numeral(text_at(&cells.row, place).unwrap_or(""))
+        }
+        _ => None,
+    };
+    known.unwrap_or(fault.kind.explanation())
+}
+
 /// The explanation of a fault at a record of a table's file.
 fn at_record<R: Read + Drop, F: Folder<R>>(
     alloc: Global,
@@ -245,7 +257,7 @@ fn at_record<R: Read + Drop, F: Folder<R>>(
     Ok(Explanation {
         place: Text::new(place_in_file(alloc, table.path, line, place_in_record(fault))?),
         found: Text::new(found),
-        cause: fault.kind.explanation(),
+        cause: cause_in(fault, cells),
         sources,
     })
 }

@@ -9,12 +9,13 @@ use Rattle.csv.specs.Reading.{records_from, strip_bom}
 use Rattle.csv.specs.Records.{field_at}
 use Rattle.csv.specs.Writing.{default_writer, escaped, fields_text, is_blank, row_text}
 use Rattle.oim_records.specs.Grids.{records_left}
+use Rattle.oim_entries.specs.declared.fault.MetaFault.TheVariants as meta
 use Rattle.oim_resolve.specs.declared.fact.CellFault.TheVariants as cell
 use Rattle.oim_rows.specs.Header.{fault_at}
 use Rattle.oim_rows.specs.declared.fault.TableKind.TheVariants as table
 use Rattle.oim_places.specs.Cells.{as_text}
 use Rattle.oim_places.specs.FaultPlaces.{stands_at, unknown_place}
-use Rattle.oim_places.specs.FaultRows.{fault_fields, fault_names}
+use Rattle.oim_places.specs.FaultRows.{fault_fields, fault_names, report_fault_fields}
 
 abbrev lf : List ℕ
 lf = 10 ∷ []
@@ -24,34 +25,46 @@ quote = 34 ∷ []
 
 -- ---- the text of the file
 
-header : row_text default_writer fault_names ≡ codes "table,row,column,number,name,line,header,cell" ++ lf
+header : row_text default_writer fault_names ≡ codes "table,row,column,number,name,line,header,cell,place" ++ lf
 unfolding is_blank fields_text escaped
 header = refl
 
 -- the third line of a file: the second row, whose first cell is no number
 plain_record : row_text default_writer
     (fault_fields (codes "t1") (fault_at 0 2 1 (table.Cell cell.BadNumber)) (record { line = Some 3; header = codes "cash"; cell = codes "1x0" }))
-    ≡ codes "t1,2,1,40,BadNumber,3,cash,1x0" ++ lf
+    ≡ codes "t1,2,1,40,BadNumber,3,cash,1x0," ++ lf
 unfolding is_blank fields_text escaped digits
 plain_record = refl
 
 -- a file that is not there
-nothing_known : row_text default_writer (fault_fields (codes "t1") (fault_at 0 0 0 table.NoFile) unknown_place) ≡ codes "t1,0,0,20,NoFile,,," ++ lf
+nothing_known : row_text default_writer (fault_fields (codes "t1") (fault_at 0 0 0 table.NoFile) unknown_place) ≡ codes "t1,0,0,20,NoFile,,,," ++ lf
 unfolding is_blank fields_text escaped digits
 nothing_known = refl
 
 -- RFC 4180, section 2: a comma, a line feed and a quote call for quotes
 quoted_fields : row_text default_writer
     (fault_fields (codes "t1") (fault_at 0 2 1 (table.Cell cell.BadNumber)) (record { line = Some 3; header = codes "a" ++ lf; cell = codes "1," ++ quote ++ codes "2" }))
-    ≡ codes "t1,2,1,40,BadNumber,3," ++ quote ++ codes "a" ++ lf ++ quote ++ codes "," ++ quote ++ codes "1," ++ quote ++ quote ++ codes "2" ++ quote ++ lf
+    ≡ codes "t1,2,1,40,BadNumber,3," ++ quote ++ codes "a" ++ lf ++ quote ++ codes "," ++ quote ++ codes "1," ++ quote ++ quote ++ codes "2" ++ quote ++ codes "," ++ lf
 unfolding is_blank fields_text escaped digits
 quoted_fields = refl
 
 -- a blank and a backslash do not
 plain_fields : row_text default_writer (fault_fields (codes "t1") (fault_at 0 1 1 table.BadRowId) (record { line = Some 2; header = codes "k"; cell = codes " a\\b " }))
-    ≡ codes "t1,1,1,29,BadRowId,2,k, a\\b " ++ lf
+    ≡ codes "t1,1,1,29,BadRowId,2,k, a\\b ," ++ lf
 unfolding is_blank fields_text escaped digits
 plain_fields = refl
+
+-- a dimension of the metadata that the types table does not have: its place is a JSON pointer, and what stands there is JSON
+of_the_metadata : row_text default_writer (report_fault_fields meta.BadDimension (codes "/dimensions/eg:Regoin") (quote ++ codes "eg:North" ++ quote))
+    ≡ codes ",0,0,11,BadDimension,,," ++ quote ++ quote ++ quote ++ codes "eg:North" ++ quote ++ quote ++ quote ++ codes ",/dimensions/eg:Regoin" ++ lf
+unfolding is_blank fields_text escaped digits
+of_the_metadata = refl
+
+-- a record of the types table
+of_the_types : row_text default_writer (report_fault_fields meta.BadTypes (codes "t.csv, line 2, cell 3") (codes "integr"))
+    ≡ codes ",0,0,14,BadTypes,,,integr," ++ quote ++ codes "t.csv, line 2, cell 3" ++ quote ++ lf
+unfolding is_blank fields_text escaped digits
+of_the_types = refl
 
 -- ---- what stands at a place
 

@@ -1,5 +1,5 @@
--- The file of the faults of refused tables: a header, and a record of eight fields for each fault. A field stands in quotes where it needs them (RFC 4180,
--- section 2), and LF ends each record.
+-- The file of faults: a header, and a record of nine fields for each fault. A field stands in quotes where it needs them (RFC 4180, section 2), and LF ends
+-- each record.
 use Rattle.std.specs.Prelude.{◌≡◌, ℕ, List, [], ◌∷◌, ◌++◌, Option, Some, None, codes}
 use Rattle.std.specs.Fmt.{decimal}
 use Rattle.csv.specs.Machine.{next_record}
@@ -7,23 +7,30 @@ use Rattle.csv.specs.Reading.{default_config}
 use Rattle.csv.specs.Writing.{default_writer, row_text}
 use Rattle.csv.specs.declared.parser.State.TheVariants as state
 use Rattle.oim_records.specs.Grids.{Field, Record}
+use Rattle.oim_entries.specs.FaultNames.{fault_name, fault_number}
+use Rattle.oim_entries.specs.declared.fault.MetaFault.{MetaFault}
 use Rattle.oim_rows.specs.FaultNames.{name_of, number_of}
 use Rattle.oim_rows.specs.declared.fault.TableFault.{TableFault}
 use Rattle.oim_places.specs.declared.fault_places.FaultPlace.{FaultPlace}
 
 -- what the fields are
 abbrev pub fault_names : Record
-fault_names = codes "table" ∷ codes "row" ∷ codes "column" ∷ codes "number" ∷ codes "name" ∷ codes "line" ∷ codes "header" ∷ codes "cell" ∷ []
+fault_names = codes "table" ∷ codes "row" ∷ codes "column" ∷ codes "number" ∷ codes "name" ∷ codes "line" ∷ codes "header" ∷ codes "cell" ∷ codes "place" ∷ []
 
 -- a line's number, and nothing where it is not known
 abbrev pub line_field : Option ℕ → Field
 line_field None = []
 line_field (Some line) = decimal line
 
--- the fields of a fault of the table with this identifier, at whose place this stands
+-- the fields of a fault of the table with this identifier, at whose place this stands: row, line and column say the place
 abbrev pub fault_fields : List ℕ → TableFault → FaultPlace → Record
 fault_fields id f p =
-    id ∷ decimal f.row ∷ decimal f.column ∷ decimal (number_of f.kind) ∷ name_of f.kind ∷ line_field p.line ∷ p.header ∷ p.cell ∷ []
+    id ∷ decimal f.row ∷ decimal f.column ∷ decimal (number_of f.kind) ∷ name_of f.kind ∷ line_field p.line ∷ p.header ∷ p.cell ∷ [] ∷ []
+
+-- the fields of a fault of the metadata, the types table or the parameters file, which has no table, row or column: its place is a text, and so is what stands there
+abbrev pub report_fault_fields : MetaFault → List ℕ → List ℕ → Record
+report_fault_fields f place found =
+    [] ∷ decimal 0 ∷ decimal 0 ∷ decimal (fault_number f) ∷ fault_name f ∷ [] ∷ [] ∷ found ∷ place ∷ []
 
 -- the text is read as a record of these fields, whatever comes behind it
 abbrev pub ReadsAs : List ℕ → Record → Type 0

@@ -1,14 +1,15 @@
-//! The file of the faults of refused tables (`--faults`): its header, and a record for each fault.
+//! The file of faults (`--faults`): its header, and a record for each fault.
 
 ghost use Rattle.std.specs.Prelude.{◌≡◌, [], IfOk};
 ghost use Rattle.std.specs.Fmt.{decimal};
 ghost use Rattle.csv.specs.Records.{fields_of, partial_of};
 ghost use Rattle.csv.specs.Writing.{default_writer, row_text};
-ghost use Rattle.oim_places.specs.FaultRows.{IsRecordText, fault_fields, fault_names, line_field};
+ghost use Rattle.oim_places.specs.FaultRows.{IsRecordText, fault_fields, fault_names, line_field, report_fault_fields};
 ghost use Rattle.oim_places.specs.state.FaultRows.{PutsField};
 
 use crate::fault_places::FaultPlace;
 use csv::{ByteRecord, WriterBuilder};
+use oim_meta::MetaFault;
 use oim_rows::TableFault;
 use std::alloc::{AllocError, Global};
 
@@ -16,7 +17,7 @@ use std::alloc::{AllocError, Global};
 pub fn fault_header() -> &'static str
     ensures { IsRecordText fault_names result.now }
 {
-    "table,row,column,number,name,line,header,cell\n"
+    "table,row,column,number,name,line,header,cell,place\n"
 }
 
 /// The text of a record.
@@ -71,13 +72,36 @@ fn put_fields(
     row.push_field(fault.name().as_bytes())?;
     put_line(alloc, row, place.line)?;
     row.push_field(place.header.as_str().as_bytes())?;
-    row.push_field(place.cell.as_str().as_bytes())
+    row.push_field(place.cell.as_str().as_bytes())?;
+    row.push_field(b"")
+}
+
+/// Puts the fields of a record for a fault of the report's other files into an empty one.
+fn put_report_fields(
+    alloc: Global,
+    row: &mut ByteRecord,
+    fault: MetaFault,
+    place: &str,
+    found: &str,
+) -> Result<(), AllocError>
+    requires { (fields_of row.old ≡ []) × (partial_of row.old ≡ []) }
+    ensures { IfOk result (λ u. fields_of row.new ≡ report_fault_fields fault place.now found.now) }
+{
+    row.push_field(b"")?;
+    put_number(alloc, row, 0)?;
+    put_number(alloc, row, 0)?;
+    put_number(alloc, row, u64::from(fault.number()))?;
+    row.push_field(fault.name().as_bytes())?;
+    row.push_field(b"")?;
+    row.push_field(b"")?;
+    row.push_field(found.as_bytes())?;
+    row.push_field(place.as_bytes())
 }
 
 /// The record of the file for a fault of the table with this identifier, at whose place this stands: the
-/// table's identifier, the row, the column, the fault's number and name, the line, the header's cell and the
-/// row's cell, with its line feed. Commas separate fields, and one that has a comma, a quote, CR or LF stands
-/// in quotes, where a quote is doubled (RFC 4180). Fails if memory runs out.
+/// table's identifier, the row, the column, the fault's number and name, the line, the header's cell, the
+/// row's cell and an empty field, with its line feed. Commas separate fields, and one that has a comma, a quote,
+/// CR or LF stands in quotes, where a quote is doubled (RFC 4180). Fails if memory runs out.
 pub fn fault_row(
     alloc: Global,
     id: &str,
@@ -88,5 +112,21 @@ pub fn fault_row(
 {
     let mut row = ByteRecord::new(alloc);
     put_fields(alloc, &mut row, id, fault, place)?;
+    record_text(alloc, &row)
+}
+
+/// The record of the file for a fault of the metadata, the types table or the parameters file, which is at this place
+/// and where this stands: an empty field, 0 and 0 for table, row and column, the fault's number and name, two empty
+/// fields, what stands there and the place, with its line feed, as `fault_row` writes them. Fails if memory runs out.
+pub fn report_fault_row(
+    alloc: Global,
+    fault: MetaFault,
+    place: &str,
+    found: &str,
+) -> Result<Vec<u8>, AllocError>
+    ensures { IfOk result (λ v. IsRecordText (report_fault_fields fault place.now found.now) v.items) }
+{
+    let mut row = ByteRecord::new(alloc);
+    put_report_fields(alloc, &mut row, fault, place, found)?;
     record_text(alloc, &row)
 }

@@ -9,7 +9,7 @@
 //! - `report_again` gives the report that the files give (`specs/Reports.antt`);
 //! - the line of a record (`line_of_record`), which `line_again` gives, is that of its first byte (`lines_are_of_records`,
 //!   `specs/LineNumbers.antt`);
-//! - `fault_row` gives the record of a fault in the file of faults, which is read as its eight fields
+//! - `fault_row` and `report_fault_row` give the record of a fault in the file of faults, which is read as its nine fields
 //!   whatever comes behind it (`specs/FaultRows.antt`);
 //! - `shown` gives a text with an escape for each control character, and `excerpt` its first 80 characters
 //!   (`specs/Shown.antt`); `pointer` gives the JSON pointer of keys (`specs/Pointers.antt`), `place_in_file` the text of a
@@ -54,7 +54,7 @@ pub use excerpts::excerpt;
 pub use fault_places::{
     FaultPlace, fault_place, is_of_file, place_in_record, record_again, table_path,
 };
-pub use fault_rows::{fault_header, fault_row};
+pub use fault_rows::{fault_header, fault_row, report_fault_row};
 pub use file_places::{line_again, place_in_file};
 pub use json_values::{quoted, standing};
 pub use line_number::lines_are_of_records;

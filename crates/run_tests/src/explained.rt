@@ -6,7 +6,7 @@ use oim_rows::{TableFault, TableKind};
 use oim_run::{
     Explanation, FaultPlace, METADATA, ReportAgain, Source, TYPES, Texts, explain_metadata,
     explain_table, explanation_text, fault_header, fault_place, fault_row, lines_are_of_records,
-    report_again, table_line,
+    report_again, report_explanation, report_fault_row, table_line,
 };
 use std::alloc::{AllocError, Global};
 
@@ -18,11 +18,28 @@ fn explains_the_key(alloc: Global, folder: &mut Texts<'_>) -> Result<bool, Alloc
     Ok(text.as_str().starts_with(place))
 }
 
-/// Whether it is, over a folder.
+/// The record of that fault in the file of faults.
+fn row_of_the_key(alloc: Global, folder: &mut Texts<'_>) -> Result<Vec<u8>, AllocError> {
+    let fault = MetaFault::NotReport;
+    let told = report_explanation(alloc, "m.json", "t.csv", folder, Source::Report, fault)?;
+    report_fault_row(alloc, fault, told.place.as_str(), told.found.as_str())
+}
+
+/// Whether it has its place.
+fn writes_the_key(alloc: Global, folder: &mut Texts<'_>) -> bool {
+    match row_of_the_key(alloc, folder) {
+        Ok(row) => {
+            row.as_slice() == b",0,0,2,NotReport,,,(nothing),/documentInfo/documentType\n"
+        }
+        Err(_) => false,
+    }
+}
+
+/// Whether the fault is explained, and has its record, over a folder.
 fn explains_a_report(alloc: Global) -> bool {
     let files = [("m.json", b"{}".as_slice()), ("t.csv", TYPES.as_bytes())];
     let folder = &mut Texts { files: &files };
-    matches!(explains_the_key(alloc, folder), Ok(true))
+    matches!(explains_the_key(alloc, folder), Ok(true)) && writes_the_key(alloc, folder)
 }
 
 /// Whether an explanation has a text.
@@ -63,7 +80,7 @@ fn is_written(alloc: Global, place: &FaultPlace, record: &[u8]) -> bool {
 /// Whether it has a record where its place is not known.
 fn is_written_without_a_place(alloc: Global) -> bool {
     match FaultPlace::unknown(alloc) {
-        Ok(place) => is_written(alloc, &place, b"t1,1,1,40,BadNumber,,,\n"),
+        Ok(place) => is_written(alloc, &place, b"t1,1,1,40,BadNumber,,,,\n"),
         Err(_) => false,
     }
 }
@@ -71,7 +88,7 @@ fn is_written_without_a_place(alloc: Global) -> bool {
 /// Whether it has one with its place, which is read again.
 fn is_written_with_its_place(alloc: Global, folder: &mut Texts<'_>, again: &ReportAgain) -> bool {
     match fault_place(alloc, "m.json", folder, again, &FAULT) {
-        Ok(place) => is_written(alloc, &place, b"t1,1,1,40,BadNumber,2,cash,x\n"),
+        Ok(place) => is_written(alloc, &place, b"t1,1,1,40,BadNumber,2,cash,x,\n"),
         Err(_) => false,
     }
 }

@@ -1,5 +1,5 @@
-//! The file of the faults of refused tables (`--faults`), which is written once the run has ended. No contract says anything
-//! about the system's files.
+//! The file of faults (`--faults`), which is written once the run has ended. No contract says anything about the
+//! system's files.
 
 ghost use Rattle.std.specs.Prelude.{IfSome};
 ghost use Rattle.oim_run.specs.Outputs.{IsLeftUnwritten};
@@ -7,11 +7,13 @@ ghost use Rattle.oim_run.specs.Outputs.{IsLeftUnwritten};
 use crate::explain::Ordinary;
 use crate::new_file::{NewFile, replaced};
 use crate::target::Target;
+use oim_meta::MetaFault;
 use oim_names::Text;
 use oim_rows::TableFault;
 use oim_run::{
-    EarlyFault, FaultPlace, Outcome, ReportAgain, Request, Settings, cannot_write, fault_header,
-    fault_place, fault_row, report_again, status,
+    EarlyFault, FaultPlace, Outcome, ReportAgain, Request, Settings, Source, cannot_write,
+    fault_header, fault_place, fault_row, report_again, report_explanation, report_fault_row,
+    status,
 };
 use std::alloc::{AllocError, Global};
 use std::fs::OpenOptions;
@@ -128,7 +130,23 @@ fn write_rows<W: Write>(
     write_each(alloc, meta, folder, &report, tables, to)
 }
 
-/// Writes the header, and the records of the tables that a run with this outcome refused.
+/// Writes the record of a fault of the metadata, the types table or the parameters file, which are read again.
+fn write_report_row<W: Write>(
+    rt: &HostRuntime,
+    alloc: Global,
+    settings: &Settings,
+    source: Source,
+    fault: MetaFault,
+    to: &mut W,
+) -> io::Result<()> {
+    let folder = &mut Ordinary { rt };
+    let (meta, types) = (settings.meta.as_str(), settings.types.as_str());
+    let told = report_explanation(alloc, meta, types, folder, source, fault)?;
+    let row = report_fault_row(alloc, fault, told.place.as_str(), told.found.as_str())?;
+    to.write_all(row.as_slice())
+}
+
+/// Writes the header, and the records of the faults that a run with this outcome had.
 fn write_to<W: Write>(
     rt: &HostRuntime,
     alloc: Global,
@@ -138,8 +156,14 @@ fn write_to<W: Write>(
 ) -> io::Result<()> {
     let mut buffered = BufWriter::new(alloc, to)?;
     buffered.write_all(fault_header().as_bytes())?;
-    if let Outcome::Tables(tables) = outcome {
-        write_rows(rt, alloc, settings, tables.as_slice(), &mut buffered)?;
+    match outcome {
+        Outcome::Tables(tables) => {
+            write_rows(rt, alloc, settings, tables.as_slice(), &mut buffered)?;
+        }
+        Outcome::Report(source, fault) => {
+            write_report_row(rt, alloc, settings, *source, *fault, &mut buffered)?;
+        }
+        _ => {}
     }
     buffered.flush()
 }
@@ -193,7 +217,7 @@ fn write_file(
 }
 
 /// Writes the file of the faults, if the words name one, for a run that ended so with status 0 or 1: its header, and a
-/// record for each refused table. The file has that once it is whole, and is else as it was. The answer is
+/// record for each refused table, or for the fault of the report's other files. The file has that once it is whole, and is else as it was. The answer is
 /// that it cannot be written, if that is so.
 pub fn write_faults(
     rt: &HostRuntime,

@@ -8,4 +8,4 @@ pub returns : goal.returns
 unfolding is_blank fields_text escaped
 returns c =
     text_of_record (codes "table") (codes "row")
-    (codes "column" ∷ codes "number" ∷ codes "name" ∷ codes "line" ∷ codes "header" ∷ codes "cell" ∷ []) _ refl
+    (codes "column" ∷ codes "number" ∷ codes "name" ∷ codes "line" ∷ codes "header" ∷ codes "cell" ∷ codes "place" ∷ []) _ refl

@@ -1,0 +1,50 @@
+"""The list of `--parameters`: what each parameter of a filing is, and where it is referred to."""
+
+from __future__ import annotations
+
+import csv
+import io
+from typing import Dict, Iterator, List, Tuple
+
+from .metadata import Merged, Path, objects
+from .origins import Origins
+from .parameters import columns_of, parameters_of_file, parameters_of_metadata, placed_references, template_without
+from .prepared import Files
+
+HEADER = "parameter", "value", "file", "references", "first reference"
+
+
+def parameter_list(origins: Origins, files: Files) -> str:
+    """A CSV file: a record for each value of a parameter, and for each parameter without one to which something refers, in order of their names."""
+    text = io.StringIO()
+    writer = csv.writer(text, lineterminator="\n")
+    writer.writerow(HEADER)
+    writer.writerows(rows(origins, files))
+    return text.getvalue()
+
+
+def rows(origins: Origins, files: Files) -> Iterator[Tuple[str, str, str, int, str]]:
+    """Name, value, file, the number of references, and the first of them."""
+    places = references_to_parameters(origins.merged)
+    given = [*parameters_of_metadata(origins.merged), *parameters_of_file(files)]
+    missing = ((name, "", "") for name in places.keys() - {name for name, _, _ in given})
+    for name, value, label in sorted([*given, *missing]):
+        paths = places.get(name, [])
+        yield name, value, label, len(paths), shown(origins, paths[0]) if paths else ""
+
+
+def references_to_parameters(merged: Merged) -> Dict[str, List[Path]]:
+    """Where each name is referred to that is no column's there, so it is a parameter's, or nothing."""
+    columns = {name: columns_of(template) for name, template in objects(merged.value, "tableTemplates")}
+    places: Dict[str, List[Path]] = {}
+    for name, path in placed_references(merged):
+        owner = path[1] if path[0] == "tableTemplates" else None
+        if template_without(name, owner, columns) is not None:
+            places.setdefault(name, []).append(path)
+    return places
+
+
+def shown(origins: Origins, path: Path) -> str:
+    """A place as lines name it: the file, and the keys there."""
+    label, there = origins.own_path(path)
+    return f"{label}: {'.'.join(there)}"
