@@ -287,6 +287,11 @@ OPEN = {(*CASH, "dimensions", "concept"): "eg:Open"}
 MALFORMED = "an entity, unit, language or explicit member is not well-formed, or its prefix is not declared"
 NO_NAME = "the types table has no concept of this name, or its prefix is not declared"
 UNREAD = "the file cannot be opened or read to its end, or is a folder"
+NO_NUMERAL = "the cell of a number is not a numeral"
+OTHER_NUMERAL = "the concept's type takes no such numeral: an integer has no point, only a double an exponent"
+BAD_SUFFIX = "behind the d of a numeral stands neither a whole number of 32 bits nor INF"
+BEYOND = "INF and NaN are numbers that cannot be carried over"
+SEPARATORS = "a numeral has no separators of thousands, and its decimal sign is a point"
 UNKNOWN_SPECIAL = "a text begins with # and is not a special value"
 WITH_OPEN = TYPES + "http://example.com/eg,Open,boolean\n"
 # Of a table: what is edited in the metadata, its file, the place and the fault, the three lines behind the file's path, and those of the
@@ -295,7 +300,18 @@ TABLES: List[Tuple[Any, ...]] = [
     ({("tables", "t1", "url"): "no.csv"}, None, "0, 0 NoFile (20)", "r/no.csv", "(the whole file)", "a table that is not optional has no file"),
     ({("tables", "t1", "url"): "d"}, None, "0, 0 Read (21)", "r/d", "(the whole file)", UNREAD),
     ({}, "", "0, 0 NoHeader (22)", "r/t1.csv", "(the whole file)", "the file has no record at all"),
-    ({}, "cash,note\n1\u00a0000,a\n", "1, 1 BadNumber (40)", "r/t1.csv, line 2, cell 1", '"1\\u00a0000" in cash (eg:Cash) of row r_1', "the cell of a number is not a numeral"),
+    ({}, "cash,note\n1\u00a0000,a\n", "1, 1 BadNumber (40)", "r/t1.csv, line 2, cell 1", '"1\\u00a0000" in cash (eg:Cash) of row r_1', NO_NUMERAL),
+    *(
+        ({}, f'cash,note\n"{cell}",a\n', "1, 1 BadNumber (40)", "r/t1.csv, line 2, cell 1", f'"{cell}" in cash (eg:Cash) of row r_1', sentence)
+        for sentence, cells in (
+            (OTHER_NUMERAL, ("12.5", "1e3", "-1.5E-3", " 12.5 ", "12.5d2", ".5", "1.d-3")),
+            (BAD_SUFFIX, ("12d1.5", "12.50d1.5", "12d", "12dINFINITY", "12d+", "1e3dx", "12d3000000000", "12d1,5")),
+            (BEYOND, ("INF", "-INF", "+INF", "NaN", " INF ")),
+            (SEPARATORS, ("1,200", "1,200.50", "12,5", ",", "1,x")),
+            (NO_NUMERAL, ("1x0", "d2", "-", "x", "1 200", "inf", "INFd2", "1.2.3", "12D2", "##1")),
+        )
+        for cell in cells
+    ),
     ({}, "\ufeff\ufeffcash,note\n", "0, 1 UnknownHeader (23)", "r/t1.csv, line 1, cell 1", '"\\ufeffcash"', "a header cell does not name a column of the template"),
     ({}, "cash,no\x7fpe\n", "0, 2 UnknownHeader (23)", "r/t1.csv, line 1, cell 2", '"no\\x7fpe"', "a header cell does not name a column of the template"),
     ({}, "\r\n\ncash,note,cash\n", "0, 3 RepeatedHeader (24)", "r/t1.csv, line 3, cell 3", '"cash"', "a column stands twice in the header"),
@@ -437,7 +453,7 @@ TABLES: List[Tuple[Any, ...]] = [
         "2, 1 BadNumber (40)",
         "r/t1.csv, line 4, cell 1",
         '"1,200" in cash (eg:Cash) of row r_2',
-        "the cell of a number is not a numeral",
+        SEPARATORS,
     ),
     (
         OPEN,

@@ -26,8 +26,8 @@ from cases import case, told
 
 WORDS = ["r/m.json", "--types", "t.csv"]
 TYPES = "namespace,name,type\nhttp://example.com/eg,Cash,integer\nhttp://example.com/eg,Note,text\n"
-NAMES = ["table", "row", "column", "number", "name", "line", "header", "cell"]
-HEADER = b"table,row,column,number,name,line,header,cell\n"
+NAMES = ["table", "row", "column", "number", "name", "line", "header", "cell", "place"]
+HEADER = b"table,row,column,number,name,line,header,cell,place\n"
 CANNOT = (3, b"", "xbrl-json: cannot write {}\n")
 
 # A table's file (None: it is not there), and the fields of its fault behind the table's identifier, or nothing.
@@ -94,7 +94,7 @@ def held(folder: Path) -> Dict[str, Any]:
 def rows(folder: Path) -> None:
     """The records of refused tables, in table order."""
     tables = {f"t{at:02}": content for at, (content, _) in enumerate(TABLES)}
-    wanted = [NAMES] + [[f"t{at:02}", *fields] for at, (_, fields) in enumerate(TABLES) if fields]
+    wanted = [NAMES] + [[f"t{at:02}", *fields, ""] for at, (_, fields) in enumerate(TABLES) if fields]
     write(folder, tables)
     plain = run(folder)
     for words in (["--workers", "1"], ["--workers", "4"], ["--out", "o.json", "--whole"]):
@@ -108,7 +108,7 @@ def rows(folder: Path) -> None:
     ids = {f"u{at:03}": None for at in range(150)}
     write(folder, ids)
     run(folder, "--faults", "f.csv")
-    case("150 tables", records((folder / "f.csv").read_bytes()) == [NAMES] + [[it, "0", "0", "20", "NoFile", "", "", ""] for it in ids])
+    case("150 tables", records((folder / "f.csv").read_bytes()) == [NAMES] + [[it, "0", "0", "20", "NoFile", "", "", "", ""] for it in ids])
 
 
 def identifiers(folder: Path) -> None:
@@ -116,7 +116,7 @@ def identifiers(folder: Path) -> None:
     write(folder, {"\u00e9": b'cash\n"x,y"\n', "z": b"cash\ny\n"})
     run(folder, "--faults", "f.csv")
     content = (folder / "f.csv").read_bytes()
-    case("identifiers", content == HEADER + 'z,1,1,40,BadNumber,2,cash,y\n\u00e9,1,1,40,BadNumber,2,cash,"x,y"\n'.encode(), content)
+    case("identifiers", content == HEADER + 'z,1,1,40,BadNumber,2,cash,y,\n\u00e9,1,1,40,BadNumber,2,cash,"x,y",\n'.encode(), content)
 
 
 def ends(folder: Path) -> None:
@@ -142,7 +142,7 @@ def ends(folder: Path) -> None:
     stands("a document that cannot be written", 3, HEADER, "--out", "no/o.json")
     stands("a full disk", 3, HEADER, "--out", "/dev/full")
     write(folder, {"t1": b"cash\nx\n"})
-    stands("a refused table", 1, HEADER + b"t1,1,1,40,BadNumber,2,cash,x\n")
+    stands("a refused table", 1, HEADER + b"t1,1,1,40,BadNumber,2,cash,x,\n")
     stands("a refused table on a full disk", 3, HEADER, "--out", "/dev/full")
     write(folder, {"t1": b"cash\nx\n"}, links={"a": {}})
     stands("a fault of the metadata", 1, HEADER)
@@ -222,7 +222,7 @@ def outputs(folder: Path) -> None:
 def places(folder: Path) -> None:
     """Where the file may lie: in a link's place, in the place of a file with permissions, on no disk at all."""
     write(folder, {"t1": b"cash\nx\n"})
-    wanted = HEADER + b"t1,1,1,40,BadNumber,2,cash,x\n"
+    wanted = HEADER + b"t1,1,1,40,BadNumber,2,cash,x,\n"
     file, real = folder / "f.csv", folder / "real.csv"
     real.write_bytes(b"old" * 1000)
     real.chmod(0o640)
@@ -271,7 +271,7 @@ def read_once(folder: Path) -> None:
     threading.Thread(target=lambda: (folder / "r/t1.csv").write_bytes(b"cash\nx\n"), daemon=True).start()
     seen = run(folder, "--faults", "f.csv")
     content = (folder / "f.csv").read_bytes()
-    wanted = HEADER + b"t1,1,1,40,BadNumber,,,\nt2,1,1,40,BadNumber,2,cash,x\n"
+    wanted = HEADER + b"t1,1,1,40,BadNumber,,,,\nt2,1,1,40,BadNumber,2,cash,x,\n"
     case("a table from a pipe", seen[0] == 1 and content == wanted, seen, content)
     report = (folder / "r/m.json").read_bytes()
     (folder / "r/t1.csv").unlink()
@@ -281,7 +281,7 @@ def read_once(folder: Path) -> None:
     threading.Thread(target=lambda: (folder / "r/m.json").write_bytes(report), daemon=True).start()
     seen = run(folder, "--faults", "f.csv")
     content = (folder / "f.csv").read_bytes()
-    case("a metadata from a pipe", seen[0] == 1 and content == HEADER + b"t1,1,1,40,BadNumber,,,\nt2,1,1,40,BadNumber,,,\n", seen, content)
+    case("a metadata from a pipe", seen[0] == 1 and content == HEADER + b"t1,1,1,40,BadNumber,,,,\nt2,1,1,40,BadNumber,,,,\n", seen, content)
 
 
 def changed(folder: Path) -> None:
@@ -294,7 +294,7 @@ def changed(folder: Path) -> None:
             pipe.write(b"cash\n1\n")
         running.wait(timeout=60)
     content = (folder / "f.csv").read_bytes()
-    case("a table that has changed meanwhile", running.returncode == 1 and content == HEADER + b"t1,1,1,40,BadNumber,,,\n", content)
+    case("a table that has changed meanwhile", running.returncode == 1 and content == HEADER + b"t1,1,1,40,BadNumber,,,,\n", content)
 
 
 def main() -> int:

@@ -345,7 +345,8 @@ def a_whole_output_or_none(folder: Path, document: Document, pool: concurrent.fu
 
 
 FAULT = re.compile(r"xbrl-json: table (\w+), row (\d+), column (\d+): (\w+) \((\d+)\)")
-FAULT_HEADER = "table,row,column,number,name,line,header,cell"
+OF_THE_REPORT = re.compile(r"xbrl-json: (?:report|types|parameters): (\w+) \((\d+)\)")
+FAULT_HEADER = "table,row,column,number,name,line,header,cell,place"
 
 
 def says_as_the_lines(content: bytes | None, err: str) -> bool:
@@ -354,6 +355,7 @@ def says_as_the_lines(content: bytes | None, err: str) -> bool:
         return False
     header, *rows = content.decode().splitlines()
     said = [",".join((table, row, column, number, name)) for table, row, column, name, number in FAULT.findall(err)]
+    said += [f",0,0,{number},{name}" for name, number in OF_THE_REPORT.findall(err)]
     return header == FAULT_HEADER and [",".join(it.split(",")[:5]) for it in rows] == said
 
 
@@ -365,7 +367,7 @@ def a_file_of_faults_or_none(folder: Path, document: Document, pool: concurrent.
     faults, path = bad / "f.csv", str(bad / "counts")
     words = ["--faults", "f.csv", "--out", "out.json", "--workers", "1"]
     run(bad, "", words, path)
-    whole = f"{FAULT_HEADER}\nt2,1,2,40,BadNumber,2,cash,y\n"
+    whole = f"{FAULT_HEADER}\nt2,1,2,40,BadNumber,2,cash,y,\n"
     case("--faults, nothing refused", None if faults.read_text() == whole else faults.read_text())
     calls = called(path)
     calls["zero"] = calls["write"]
