@@ -93,10 +93,9 @@ def run(settings: Settings, program: str, progress: Progress, stopping: Stopping
     report, packages = open_inputs(settings)
     refuse_outputs(settings, packages, None)
     place = None if settings.prepare is None else place_of(settings.prepare)
-    origins, files, types = join(report, packages, settings, progress)
     if settings.parameters:
-        progress.clear()
-        return put_out(parameter_list(origins, files))
+        return tell_parameters(report, packages, progress)
+    origins, files, types = join(report, packages, settings, progress)
     refuse_outputs(settings, packages, files)
     progress.say("preparing the tables")
     if place is None:
@@ -123,6 +122,18 @@ def convert(origins: Origins, files: Files, types: bytes, settings: Settings, pr
         if more:
             tell(f"{NAME}: {printable(more)}")
         return status
+
+
+def tell_parameters(report: Found, packages: List[Package], progress: Progress) -> int:
+    """Prints the list of the parameters. No schema is read for it, and what is missing or misspelt is no reason to end."""
+    chain = Chain(report, Finder(report.package, packages))
+    check_parts(chain)
+    renaming = Renaming(lost_prefixes(chain), lambda name: False)
+    merged = merge(chain, renaming)
+    files = Files(report, merged)
+    files.require_parameters()
+    progress.clear()
+    return put_out(parameter_list(Origins(merged, chain, renaming), files))
 
 
 def open_inputs(settings: Settings) -> Tuple[Found, List[Package]]:
@@ -155,11 +166,10 @@ def join(report: Found, packages: List[Package], settings: Settings, progress: P
     refuse_unknown_dimensions(origins, namespaces, kinds)
     files = Files(report, merged)
     files.require_parameters()
-    if not settings.parameters:  # who asks for them is to see what is missing or misspelt
-        files.refuse_unread()
-        check_parameters(merged, renaming, files)
-        check_references(merged, files)
-        require_parameters(merged, files)
+    files.refuse_unread()
+    check_parameters(merged, renaming, files)
+    check_references(merged, files)
+    require_parameters(merged, files)
     return origins, files, types_table(kinds, namespaces.values())
 
 

@@ -2803,10 +2803,15 @@ def list_of_parameters(folder: Path) -> None:
         rows = [["entityID", "", "", "1", f"{module}: dimensions.entity"], ["places", "", "", "1", f"{group}.decimals"], ["unit", "", "", "1", f"{group}.dimensions.unit"]]
         case(f"a name that is a column of one template alone, {form}", listed(folder, some, form), (0, rows, ""))
         case(f"a name that is a column of all, {form}", listed(folder, filed_with("name,value\n", tableTemplates={"u": two["u"]}, **of_all), form), (0, [], ""))
+        no_schema = {**given, "taxonomies": [{it: text for it, text in files.items() if not it.endswith(".xsd")} for files in given["taxonomies"]]}
+        case(f"--parameters without the schemas, {form}", listed(folder, no_schema, form), (0, wanted, ""))
         case(f"no parameter at all, {form}", listed(folder, {"report": REPORT, "taxonomies": [TAXONOMY]}, form), (0, [], ""))
         lost = listed(folder, {"report": {**REPORT, "reports/report.json": "{"}, "taxonomies": [TAXONOMY]}, form)
         case(f"--parameters of no report, {form}", (lost[0], lost[1], lost[2].startswith("xbrl-filing: r/reports/report.json: ")), (1, [], True))
     listed(folder, {"report": REPORT, "taxonomies": [TAXONOMY]}, "folder")
+    (folder / "w/m.json").write_text(meta(INFO, dimensions={"unit": "$unit"}, tableTemplates={"t": TEMPLATE}, tables={"t": {"url": "t.csv"}}))
+    seen = start(["m.json", "--parameters"], folder / "w")
+    case("--parameters of a plain metadata", seen, (0, b"parameter,value,file,references,first reference\nunit,,,1,m.json: dimensions.unit\n", ""))
     with open("/dev/full", "wb") as full:
         done = subprocess.run([FILING, "r", "--taxonomy", "t0", "--parameters"], cwd=folder / "w", stdout=full, stderr=subprocess.PIPE, timeout=60)
     case("--parameters that cannot be written", (done.returncode, done.stderr), (3, b"xbrl-filing: standard output: cannot write (No space left on device)\n"))

@@ -8,6 +8,6 @@ complete -c xbrl-json -l whole -d 'FILE gets the document only once it is whole,
 complete -c xbrl-json -l layout -x -a 'compact lines' -d 'The document on one line, or with a line for each fact'
 complete -c xbrl-json -l progress -d 'Show on standard error how much is read and written'
 complete -c xbrl-json -l explain -d 'Say below each fault where it is and what stands there'
-complete -c xbrl-json -l faults -rF -d 'The file for the faults of refused tables, as CSV'
+complete -c xbrl-json -l faults -rF -d 'The file for the faults, as CSV'
 complete -c xbrl-json -s h -l help -d 'Print help'
 complete -c xbrl-json -s V -l version -d 'Print version'

@@ -26,7 +26,7 @@ pub struct Request {
     pub progress: bool,
     /// Whether standard error explains each fault to a person (`--explain`).
     pub explain: bool,
-    /// The path of the file for the faults of refused tables (`--faults`), `None` for no such file.
+    /// The path of the file for the faults (`--faults`), `None` for no such file.
     pub faults: Option<Text>,
 }
 

@@ -37,7 +37,7 @@ const PROGRESS_HELP: &str = "Show on standard error how much is read and written
 
 const EXPLAIN_HELP: &str = "Say below each fault where it is and what stands there";
 
-const FAULTS_HELP: &str = "The file for the faults of refused tables, as CSV";
+const FAULTS_HELP: &str = "The file for the faults, as CSV";
 
 /// The end of the help.
 const MORE_HELP: &str = r#"Example:
